@@ -1,0 +1,4 @@
+pub mod Extent
+pub mod Opcode
+pub mod Operation
+pub mod Refusal
