@@ -1,0 +1,154 @@
+-- what an operation leaves of a memory: bytes, and the words of every other granule
+use Rattle.std.proofs.Common.{◌≡◌, ◌≢◌, ℕ, ◌+◌, ◌-◌, ◌*◌, ◌/◌, ◌%◌, ◌<◌, ◌≤◌, ◌==◌, ◌⊎◌, inl, inr, Bool, true, false, cond, List, length, slice_range, refl, sym, ap, ◌∙◌, arith}
+use Rattle.std.proofs.lemmas.Bool.{and_parts, cases_lt, leb-true}
+use Rattle.chi_fields.specs.declared.kind.Kind.{Kind}
+use Rattle.chi_fields.specs.declared.kind.Op.{Op}
+use Rattle.chi_fields.specs.declared.kind.Kind.TheVariants.{Read, Write, Store, Load, Swap, Compare}
+use Rattle.chi_fields.specs.Extent.{Extent, IsRegion, granule_of, lies_in}
+use Rattle.chi_fields.specs.Operation.{IsLawful, IsLen, Operation, lane_of}
+use Rattle.chi_lanes.specs.After.{after, after_as, old, same_bytes}
+use Rattle.chi_lanes.specs.Bytes.{AreBytes}
+use Rattle.chi_lanes.specs.Combine.{combine}
+use Rattle.chi_lanes.specs.Memory.{Memory, IsMemory, granule_start, with_bytes, word, word_at}
+use Rattle.chi_lanes.specs.Packet.{cmp, sent, swp}
+use Rattle.chi_lanes.proofs.ByteLists.{AreBytes-slice_range}
+use Rattle.chi_lanes.proofs.CombineLemmas.{AreBytes-combine, length-combine}
+use Rattle.chi_lanes.proofs.MemoryLemmas.{AreBytes-bytes_from, IsMemory-with_bytes, IsMemory-with_enabled, length-bytes_from, word_at-outside, word_at-outside_enabled}
+use Rattle.chi_lanes.proofs.Operands.{IsPlaced, placed}
+use Rattle.chi_lanes.proofs.Runs.{length-slice_range}
+
+-- a granule that does not start where the operand's does lies below the operand or above it
+elsewhere : (addr len s : ℕ) → IsPlaced addr len → s % 8 ≡ 0 → s ≢ granule_start addr → (s + 8 ≤ addr) ⊎ (addr + len ≤ s)
+elsewhere addr len s place aligned other = elim (cases_lt s (granule_start addr)) [
+  | inl below ↦ let room = place.room in inl (omega arith)
+  | inr above ↦ let room = place.room in inr (omega arith)
+]
+
+-- the sent data is as long as the operand
+length-sent : (o : Operation) → IsLawful o → length (sent o.lanes (lane_of o.addr) o.len) ≡ o.len
+length-sent o is =
+    let place = placed o.addr o.len is.part is.aligned in
+    length-slice_range o.lanes (lane_of o.addr) o.len (rw is.packet place.packet)
+
+-- the old bytes are as many as the sent ones
+length-old : (o : Operation) → IsLawful o → (m : Memory) → length (old o m) ≡ length (sent o.lanes (lane_of o.addr) o.len)
+length-old o is m = length-bytes_from m o.addr o.len ∙ sym (length-sent o is)
+
+-- the window of two operands lies in the packet
+window_within : (l len : ℕ) → IsLen len → l < 16 → l - l % (2 * len) + 2 * len ≤ 16
+window_within l len part inside = elim part [
+  | inl one ↦ rw one (omega arith)
+  | inr (inl two) ↦ rw two (omega arith)
+  | inr (inr (inl four)) ↦ rw four (omega arith)
+  | inr (inr (inr eight)) ↦ rw eight (omega arith)
+]
+
+-- the swap value is as long as the operand
+length-swp : (lanes : List ℕ) (l len : ℕ) → length lanes ≡ 16 → IsLen len → l < 16 → length (swp lanes l len) ≡ len
+length-swp lanes l len whole part inside = by_half (l == l - l % (2 * len))
+  where
+    w : ℕ
+    w = l - l % (2 * len)
+
+    within : w + 2 * len ≤ 16
+    within = window_within l len part inside
+
+    twice : w + len + len ≡ w + 2 * len
+    twice = omega arith
+
+    by_half : (b : Bool) → length (cond b (slice_range lanes (w + len) (w + 2 * len)) (slice_range lanes w (w + len))) ≡ len
+    by_half true =
+        let room : w + len + len ≤ length lanes = rw whole (omega (arith, within)) in
+        ap (λ e. length (slice_range lanes (w + len) e)) (sym twice) ∙ length-slice_range lanes (w + len) len room
+    by_half false =
+        let room : w + len ≤ length lanes = rw whole (omega (arith, within)) in
+        length-slice_range lanes w len room
+
+-- the swap value is of bytes
+AreBytes-swp : (lanes : List ℕ) (l len : ℕ) → AreBytes lanes → AreBytes (swp lanes l len)
+AreBytes-swp lanes l len are = by_half (l == l - l % (2 * len))
+  where
+    w : ℕ
+    w = l - l % (2 * len)
+
+    by_half : (b : Bool) → AreBytes (cond b (slice_range lanes (w + len) (w + 2 * len)) (slice_range lanes w (w + len)))
+    by_half true = AreBytes-slice_range lanes (w + len) (w + 2 * len) are
+    by_half false = AreBytes-slice_range lanes w (w + len) are
+
+-- what an operation combines is of bytes
+AreBytes-combined : (op : Op) (o : Operation) (m : Memory) → IsMemory m → IsLawful o
+    → AreBytes (combine op o.endian (old o m) (sent o.lanes (lane_of o.addr) o.len))
+AreBytes-combined op o m is lawful =
+    let l = lane_of o.addr in
+    AreBytes-combine op o.endian (old o m) (sent o.lanes l o.len) (AreBytes-bytes_from m is o.addr o.len) (AreBytes-slice_range o.lanes l (l + o.len) lawful.bytes)
+
+-- and as long as the operand
+length-combined : (op : Op) (o : Operation) (m : Memory) → IsLawful o
+    → length (combine op o.endian (old o m) (sent o.lanes (lane_of o.addr) o.len)) ≡ o.len
+length-combined op o m lawful =
+    length-combine op o.endian (old o m) (sent o.lanes (lane_of o.addr) o.len) (length-old o lawful m) ∙ length-bytes_from m o.addr o.len
+
+-- an operation of any kind leaves a memory a memory
+IsMemory-after_as : (kind : Kind) (o : Operation) (m : Memory) → IsMemory m → IsLawful o → IsMemory (after_as kind o m)
+IsMemory-after_as Read o m is lawful = is
+IsMemory-after_as Write o m is lawful = IsMemory-with_enabled o.lanes o.enables m lawful.bytes is o.addr o.len
+IsMemory-after_as (Store op) o m is lawful = IsMemory-with_bytes m is o.addr _ (AreBytes-combined op o m is lawful)
+IsMemory-after_as (Load op) o m is lawful = IsMemory-with_bytes m is o.addr _ (AreBytes-combined op o m is lawful)
+IsMemory-after_as Swap o m is lawful =
+    let l = lane_of o.addr in
+    IsMemory-with_bytes m is o.addr (sent o.lanes l o.len) (AreBytes-slice_range o.lanes l (l + o.len) lawful.bytes)
+IsMemory-after_as Compare o m is lawful = by_test (same_bytes (old o m) (cmp o.lanes (lane_of o.addr) o.len))
+  where
+    by_test : (b : Bool) → IsMemory (cond b (with_bytes m o.addr (swp o.lanes (lane_of o.addr) o.len)) m)
+    by_test true = IsMemory-with_bytes m is o.addr (swp o.lanes (lane_of o.addr) o.len) (AreBytes-swp o.lanes (lane_of o.addr) o.len lawful.bytes)
+    by_test false = is
+
+-- a lawful operation leaves a memory a memory
+pub IsMemory-after : (o : Operation) (m : Memory) → IsMemory m → IsLawful o → IsMemory (after o m)
+IsMemory-after o m is lawful = IsMemory-after_as o.kind o m is lawful
+
+-- a write that is as long as the operand leaves the words of other granules
+written_other : (o : Operation) (m : Memory) (bs : List ℕ) (s : ℕ) → IsLawful o → length bs ≡ o.len → s % 8 ≡ 0 → s ≢ granule_start o.addr
+    → word_at (with_bytes m o.addr bs) s ≡ word_at m s
+written_other o m bs s lawful long aligned other =
+    let place = placed o.addr o.len lawful.part lawful.aligned in
+    word_at-outside m o.addr bs s (rw long (elsewhere o.addr o.len s place aligned other))
+
+-- an operation of any kind leaves the words of other granules
+word_at-after_as : (kind : Kind) (o : Operation) (m : Memory) (s : ℕ) → IsLawful o → s % 8 ≡ 0 → s ≢ granule_start o.addr
+    → word_at (after_as kind o m) s ≡ word_at m s
+word_at-after_as Read o m s lawful aligned other = refl
+word_at-after_as Write o m s lawful aligned other =
+    let place = placed o.addr o.len lawful.part lawful.aligned in
+    word_at-outside_enabled o.lanes o.enables m o.addr o.len s (elsewhere o.addr o.len s place aligned other)
+word_at-after_as (Store op) o m s lawful aligned other = written_other o m _ s lawful (length-combined op o m lawful) aligned other
+word_at-after_as (Load op) o m s lawful aligned other = written_other o m _ s lawful (length-combined op o m lawful) aligned other
+word_at-after_as Swap o m s lawful aligned other =
+    written_other o m (sent o.lanes (lane_of o.addr) o.len) s lawful (length-sent o lawful) aligned other
+word_at-after_as Compare o m s lawful aligned other = by_test (same_bytes (old o m) (cmp o.lanes (lane_of o.addr) o.len))
+  where
+    lane_below : lane_of o.addr < 16
+    lane_below = omega arith
+
+    by_test : (b : Bool) → word_at (cond b (with_bytes m o.addr (swp o.lanes (lane_of o.addr) o.len)) m) s ≡ word_at m s
+    by_test true =
+        written_other o m (swp o.lanes (lane_of o.addr) o.len) s lawful (length-swp o.lanes (lane_of o.addr) o.len lawful.packet lawful.part lane_below) aligned other
+    by_test false = refl
+
+-- a lawful operation leaves the word of every granule but its own
+pub word_at-after_other : (o : Operation) (m : Memory) (s : ℕ) → IsLawful o → s % 8 ≡ 0 → s ≢ granule_start o.addr
+    → word_at (after o m) s ≡ word_at m s
+word_at-after_other o m s lawful aligned other = word_at-after_as o.kind o m s lawful aligned other
+
+-- the start of a granule, in a region that begins on a line
+start_of_granule : (base addr g : ℕ) → base % 64 ≡ 0 → base ≤ addr → g ≢ (addr - base) / 8
+    → ((base + 8 * g) % 8 ≡ 0) × (base + 8 * g ≢ granule_start addr)
+start_of_granule base addr g line above other = (omega arith, λ same. other (omega arith))
+
+-- the same over a region in which the operation lies
+pub word-after_other : (o : Operation) (m : Memory) (region : Extent) (g : ℕ) → IsLawful o → IsRegion region
+    → lies_in o.addr o.len region ≡ true → g ≢ granule_of o.addr region → word (after o m) region g ≡ word m region g
+word-after_other o m region g lawful is_region fits other =
+    let above : region.base ≤ o.addr = leb-true region.base o.addr (and_parts _ _ fits).0 in
+    let start = start_of_granule region.base o.addr g is_region.line above other in
+    word_at-after_other o m (region.base + 8 * g) lawful start.0 start.1

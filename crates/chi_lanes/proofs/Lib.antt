@@ -1,0 +1,17 @@
+pub mod AfterLemmas
+pub mod AnswerLanes
+pub mod BitwiseLemmas
+pub mod ByteLists
+pub mod CombineLemmas
+pub mod Digits
+pub mod EnabledWrites
+pub mod Enables
+pub mod MaskedBytes
+pub mod Masks
+pub mod MemoryLemmas
+pub mod Reversed
+pub mod Runs
+pub mod SignedLemmas
+pub mod StdBytes
+pub mod SwapLemmas
+pub mod Operands

@@ -1,0 +1,15 @@
+//! Operations on the packed words of granules.
+#![tactic(auto)]
+
+mod byte_order;
+mod combined;
+mod kernels;
+mod operand;
+mod operation;
+mod packet;
+mod reply;
+
+pub use byte_order::swap_order;
+pub use kernels::{compare_half, extract, insert, lane_mask, swap_half};
+pub use operation::apply;
+pub use reply::Reply;
