@@ -1,0 +1,26 @@
+-- sets of requester numbers
+use Rattle.std.specs.Prelude.{◌≡◌, ℕ, ◌==◌, nat_lt, Bool, true, false, not, ◌&&◌, ◌||◌}
+
+-- the set of the numbers that pass a test
+abbrev pub Held : Type 0
+Held = ℕ → Bool
+
+abbrev pub nobody : Held
+nobody = λ _. false
+
+-- every number below this one
+abbrev pub below : ℕ → Held
+below n = λ r. nat_lt r n
+
+abbrev pub only : ℕ → Held
+only src = λ r. r == src
+
+abbrev pub without : ℕ → Held → Held
+without src held = λ r. held r && not (r == src)
+
+abbrev pub union : Held → Held → Held
+union held other = λ r. held r || other r
+
+-- both sets share no number
+abbrev pub Apart : Held → Held → Type 0
+Apart held other = (r : ℕ) → held r ≡ true → other r ≡ false

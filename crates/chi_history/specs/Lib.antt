@@ -1,0 +1,4 @@
+pub mod History
+pub mod Held
+pub mod Served
+pub mod Lines

@@ -1,0 +1,78 @@
+-- what the lines of a transcript tell of a history
+use Rattle.std.specs.Prelude.{◌≡◌, ℕ, ◌≤◌, ◌==◌, Bool, false, List, [], ◌∷◌, ◌++◌, ◌⊎◌, Option, None, Some, count_by}
+use Rattle.std.specs.List.{flat_map}
+use Rattle.chi_fields.specs.declared.refusal.Refusal.{Refusal}
+use Rattle.chi_fields.specs.declared.refusal.Refusal.TheVariants.{UnknownOpcode}
+use Rattle.chi_fields.specs.declared.request.Request.{Request}
+use Rattle.chi_fields.specs.Extent.{Extent, granule_of}
+use Rattle.chi_fields.specs.Operation.{Operation}
+use Rattle.chi_fields.specs.Refusal.{access, refusal}
+use Rattle.chi_lanes.specs.declared.reply.Reply.{Reply}
+use Rattle.chi_lanes.specs.After.{after, answer}
+use Rattle.chi_lanes.specs.Memory.{Memory}
+use Rattle.chi_history.specs.declared.entry.Entry.{Entry}
+use Rattle.chi_history.specs.declared.line.Line.{Line}
+use Rattle.chi_history.specs.declared.line.Line.TheVariants.{Completed, Refused, Retried}
+use Rattle.chi_history.specs.Served.{entry}
+
+-- the entry of a completed request, where it describes an access
+abbrev pub entry_of : Request → Reply → Option Operation → List Entry
+entry_of q reply None = []
+entry_of q reply (Some a) = entry q.src a reply ∷ []
+
+abbrev pub line_entries : Line → List Entry
+line_entries (Completed q reply) = entry_of q reply (access q)
+line_entries (Refused q fault) = []
+line_entries (Retried q) = []
+
+-- the entries of the completed requests, in order
+abbrev pub entries : List Line → List Entry
+entries lines = flat_map line_entries lines
+
+abbrev pub is_in_granule : Extent → ℕ → Option Operation → Bool
+is_in_granule region g None = false
+is_in_granule region g (Some a) = granule_of a.addr region == g
+
+-- the line is a RetryAck to a request for this granule
+abbrev pub is_retried : Extent → ℕ → Line → Bool
+is_retried region g (Completed q reply) = false
+is_retried region g (Refused q fault) = false
+is_retried region g (Retried q) = is_in_granule region g (access q)
+
+-- how many RetryAcks there were to requests for this granule
+abbrev pub retried : Extent → List Line → ℕ → ℕ
+retried region lines g = count_by (is_retried region g) lines
+
+-- What may be told of one request: its refusal alone; else its completion, or, where the home retries, a
+-- RetryAck.
+abbrev pub ToldOf : Option Refusal → ℕ → Request → List Line → Type 0
+ToldOf (Some fault) limit q piece = piece ≡ Refused q fault ∷ []
+ToldOf None limit q piece = ((reply : Reply) × (piece ≡ Completed q reply ∷ [])) ⊎ ((1 ≤ limit) × (piece ≡ Retried q ∷ []))
+
+-- the lines are one piece for each request, in order
+unfoldable pub Told : Extent → ℕ → List Request → List Line → Type 0
+Told region limit [] lines = lines ≡ []
+Told region limit (q ∷ qs) lines =
+    (piece : List Line) × (rest : List Line) × (lines ≡ piece ++ rest) × ToldOf (refusal q region) limit q piece × Told region limit qs rest
+
+-- the line of a request that meets this refusal, or describes this access, at a memory
+abbrev pub serial_line : Option Refusal → Option Operation → Request → Memory → Line
+serial_line (Some fault) a q m = Refused q fault
+serial_line None (Some a) q m = Completed q (answer a m)
+serial_line None None q m = Refused q UnknownOpcode
+
+-- the memory after it
+abbrev pub serial_after : Option Refusal → Option Operation → Memory → Memory
+serial_after (Some fault) a m = m
+serial_after None (Some a) m = after a m
+serial_after None None m = m
+
+-- the lines of requests that are worked one after another, from a memory on
+unfoldable pub serial : Extent → List Request → Memory → List Line
+serial region [] m = []
+serial region (q ∷ qs) m = serial_line (refusal q region) (access q) q m ∷ serial region qs (serial_after (refusal q region) (access q) m)
+
+-- the memory after these requests
+unfoldable pub serial_end : Extent → List Request → Memory → Memory
+serial_end region [] m = m
+serial_end region (q ∷ qs) m = serial_end region qs (serial_after (refusal q region) (access q) m)
