@@ -1,0 +1,6 @@
+pub mod Decimal
+pub mod OnScript
+pub mod OnText
+pub mod ValueLemmas
+pub mod Within
+pub mod Written

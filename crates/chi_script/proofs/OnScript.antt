@@ -1,0 +1,91 @@
+-- the scripts of worked texts, computed
+use Rattle.std.proofs.Common.{◌≡◌, [], ◌∷◌, codes, refl, Ok, Err}
+use Rattle.std.specs.Str.{is_utf8, chars}
+use Rattle.hex.proofs.OnLiterals.{hex_on_literals}
+use Rattle.serde_json.proofs.OnLiterals.{serde_json_on_literals}
+use Rattle.chi_fields.specs.declared.region.RegionFault.TheVariants.{BaseNotLineAligned, GranuleCount, EndPastAddresses}
+use Rattle.chi_script.specs.declared.fault.ScriptFault.TheVariants.{NotJson, NotObject, Missing, BadMember, RegionRefused}
+use Rattle.chi_script.specs.declared.member.Member.TheVariants.{Base, Requests, Src, Txn, Size, Lanes}
+use Rattle.chi_script.specs.Script.{script, json_value, object_script, requests_of, element_of, request_of, number_of}
+use Rattle.chi_script.proofs.OnText.{fetch_add}
+
+-- one fetch and add
+pub script-fetch_add : script (codes "{\"base\":4096,\"granules\":8,\"requests\":[{\"src\":0,\"txn\":1,\"op\":48,\"size\":3,\"addr\":4096,\"endian\":0,\"be\":255,\"lanes\":\"01000000000000000000000000000000\"}]}") 7
+    ≡ Ok (record { base = 4096; granules = 8 }, fetch_add ∷ [])
+unfolding serde_json_on_literals hex_on_literals is_utf8 chars script json_value object_script requests_of element_of request_of number_of
+script-fetch_add = refl
+
+-- no requests
+pub script-empty : script (codes "{\"base\":4096,\"granules\":8,\"requests\":[]}") 7 ≡ Ok (record { base = 4096; granules = 8 }, [])
+unfolding serde_json_on_literals is_utf8 chars script json_value object_script requests_of number_of
+script-empty = refl
+
+-- its last byte is missing
+pub script-cut : script (codes "{\"base\":4096,\"granules\":8,\"requests\":[]") 7 ≡ Err NotJson
+unfolding serde_json_on_literals is_utf8 chars script json_value
+script-cut = refl
+
+-- nothing at all
+pub script-nothing : script [] 7 ≡ Err NotJson
+unfolding serde_json_on_literals is_utf8 chars script json_value
+script-nothing = refl
+
+-- an array
+pub script-array : script (codes "[]") 7 ≡ Err NotObject
+unfolding serde_json_on_literals is_utf8 chars script json_value
+script-array = refl
+
+-- an object without members
+pub script-no_members : script (codes "{}") 7 ≡ Err (Missing Base)
+unfolding serde_json_on_literals is_utf8 chars script json_value object_script number_of
+script-no_members = refl
+
+-- a text in a number's place
+pub script-text_base : script (codes "{\"base\":\"4096\"}") 7 ≡ Err (BadMember Base)
+unfolding serde_json_on_literals is_utf8 chars script json_value object_script number_of
+script-text_base = refl
+
+-- the base comes before the granules
+pub script-two_wrong : script (codes "{\"granules\":null,\"base\":-1}") 7 ≡ Err (BadMember Base)
+unfolding serde_json_on_literals is_utf8 chars script json_value object_script number_of
+script-two_wrong = refl
+
+-- one granule too many
+pub script-nine_granules : script (codes "{\"base\":4096,\"granules\":9,\"requests\":[]}") 7 ≡ Err (RegionRefused GranuleCount)
+unfolding serde_json_on_literals is_utf8 chars script json_value object_script requests_of number_of
+script-nine_granules = refl
+
+-- the base's fault comes before that of the number of granules
+pub script-two_faults : script (codes "{\"base\":4097,\"granules\":0,\"requests\":[]}") 7 ≡ Err (RegionRefused BaseNotLineAligned)
+unfolding serde_json_on_literals is_utf8 chars script json_value object_script requests_of number_of
+script-two_faults = refl
+
+-- the end of the addresses
+pub script-past_end : script (codes "{\"base\":4503599627370496,\"granules\":1,\"requests\":[]}") 7 ≡ Err (RegionRefused EndPastAddresses)
+unfolding serde_json_on_literals is_utf8 chars script json_value object_script requests_of number_of
+script-past_end = refl
+
+-- an element that is no object, found before the region is tried
+pub script-element : script (codes "{\"base\":1,\"granules\":0,\"requests\":[7]}") 7 ≡ Err (BadMember Requests)
+unfolding serde_json_on_literals is_utf8 chars script json_value object_script requests_of element_of number_of
+script-element = refl
+
+-- a requester above the greatest one
+pub script-src : script (codes "{\"base\":4096,\"granules\":8,\"requests\":[{\"src\":3}]}") 2 ≡ Err (BadMember Src)
+unfolding serde_json_on_literals is_utf8 chars script json_value object_script requests_of element_of request_of number_of
+script-src = refl
+
+-- the same requester under a greater one, and the next member
+pub script-txn : script (codes "{\"base\":4096,\"granules\":8,\"requests\":[{\"src\":3}]}") 7 ≡ Err (Missing Txn)
+unfolding serde_json_on_literals is_utf8 chars script json_value object_script requests_of element_of request_of number_of
+script-txn = refl
+
+-- a size of eight
+pub script-size : script (codes "{\"base\":4096,\"granules\":8,\"requests\":[{\"src\":0,\"txn\":1,\"op\":48,\"size\":8}]}") 7 ≡ Err (BadMember Size)
+unfolding serde_json_on_literals is_utf8 chars script json_value object_script requests_of element_of request_of number_of
+script-size = refl
+
+-- a text of 31 hex digits
+pub script-lanes : script (codes "{\"base\":4096,\"granules\":8,\"requests\":[{\"src\":0,\"txn\":1,\"op\":48,\"size\":3,\"addr\":4096,\"endian\":0,\"be\":255,\"lanes\":\"0100000000000000000000000000000\"}]}") 7 ≡ Err (BadMember Lanes)
+unfolding serde_json_on_literals hex_on_literals is_utf8 chars script json_value object_script requests_of element_of request_of number_of
+script-lanes = refl

@@ -1,0 +1,5 @@
+pub mod Member
+pub mod Piece
+pub mod Script
+pub mod Transcript
+pub mod Written

@@ -1,0 +1,89 @@
+-- the script that a text is, or its first fault
+use Rattle.std.specs.Prelude.{ℕ, ◌-◌, ◌^◌, ◌==◌, nat_lt, nat_le, if◌then◌else◌, List, [], ◌∷◌, length, Option, None, Some, is_some, option_and_then, Result, Ok, Err}
+use Rattle.std.specs.Result.{result_ok}
+use Rattle.std.specs.Option.{ok_or}
+use Rattle.std.specs.Str.{is_utf8}
+use Rattle.hex.specs.Hex.{decode_sized}
+use Rattle.serde_json.specs.Data.{Data, Items, no_items, item}
+use Rattle.serde_json.specs.Find.{get, as_number, as_u64, as_str, as_array, as_object}
+use Rattle.serde_json.specs.Read.{read}
+use Rattle.chi_fields.specs.Extent.{Extent, region_of}
+use Rattle.chi_fields.specs.declared.region.RegionFault.{RegionFault}
+use Rattle.chi_fields.specs.declared.request.Request.{Request}
+use Rattle.chi_script.specs.Member.{member_name}
+use Rattle.chi_script.specs.declared.fault.ScriptFault.{ScriptFault}
+use Rattle.chi_script.specs.declared.fault.ScriptFault.TheVariants.{NotJson, NotObject, Missing, BadMember, TooManyRequests, RegionRefused}
+use Rattle.chi_script.specs.declared.fault.TheConstants.{MOST_REQUESTS}
+use Rattle.chi_script.specs.declared.member.Member.{Member}
+use Rattle.chi_script.specs.declared.member.Member.TheVariants.{Base, Granules, Requests, Src, Txn, Opcode, Size, Addr, Endian, Be, Lanes}
+
+-- the next step of the walk, where this one met no fault
+infixl 10 ◌>>=◌
+abbrev pub ◌>>=◌ : {A B E : Type 0} → Result A E → (A → Result B E) → Result B E
+Ok x >>= f = f x
+Err e >>= f = Err e
+
+abbrev pub up_to : ℕ → ℕ → Option ℕ
+up_to top n = if nat_le n top then Some n else None
+
+-- a whole number from 0 to a greatest one
+abbrev pub whole_number : ℕ → Data → Option ℕ
+whole_number top d = option_and_then (up_to top) (option_and_then as_u64 (as_number d))
+
+-- the sixteen bytes of a text of 32 hex digits
+abbrev pub lanes_of : Data → Option (List ℕ)
+lanes_of d = option_and_then (λ s. result_ok (decode_sized s 16)) (as_str d)
+
+-- a member: first that it is there, then that it is as stated
+abbrev pub member_by : {A : Type 0} → Member → (Data → Option A) → Data → Result A ScriptFault
+member_by m f d = do
+  value ← ok_or (get (member_name m) d) (Missing m)
+  ok_or (f value) (BadMember m)
+
+unfoldable pub number_of : Member → ℕ → Data → Result ℕ ScriptFault
+number_of m top d = member_by m (whole_number top) d
+
+-- a request, of a requester up to the greatest one
+unfoldable pub request_of : ℕ → Data → Result Request ScriptFault
+request_of top d = do
+  src ← number_of Src top d
+  txn ← number_of Txn 255 d
+  opcode ← number_of Opcode 255 d
+  size ← number_of Size 7 d
+  addr ← number_of Addr (2 ^ 64 - 1) d
+  endian ← number_of Endian 1 d
+  be ← number_of Be 65535 d
+  lanes ← member_by Lanes lanes_of d
+  Ok (record { src = src; txn = txn; opcode = opcode; size = size; addr = addr; endian = endian == 1; be = be; lanes = lanes })
+
+unfoldable pub element_of : ℕ → Data → Result Request ScriptFault
+element_of top d = if is_some (as_object d) then request_of top d else Err (BadMember Requests)
+
+unfoldable pub requests_of : ℕ → Items → Result (List Request) ScriptFault
+requests_of top no_items = Ok []
+requests_of top (item d ds) = do
+  request ← element_of top d
+  requests ← requests_of top ds
+  Ok (request ∷ requests)
+
+abbrev pub with_requests : Result Extent RegionFault → List Request → Result (Extent × List Request) ScriptFault
+with_requests (Ok region) requests = Ok (region, requests)
+with_requests (Err fault) requests = Err (RegionRefused fault)
+
+unfoldable pub object_script : ℕ → Data → Result (Extent × List Request) ScriptFault
+object_script top d = do
+  base ← number_of Base (2 ^ 64 - 1) d
+  granules ← number_of Granules 65535 d
+  elements ← member_by Requests as_array d
+  requests ← requests_of top elements
+  if nat_lt MOST_REQUESTS (length requests) then Err TooManyRequests else with_requests (region_of base granules) requests
+
+-- the value of a text, where it is JSON in UTF-8
+unfoldable pub json_value : List ℕ → Option Data
+json_value text = if is_utf8 text then read text else None
+
+-- the script that a text is, for requesters up to the greatest one, or the first fault
+unfoldable pub script : List ℕ → ℕ → Result (Extent × List Request) ScriptFault
+script text top = do
+  d ← ok_or (json_value text) NotJson
+  if is_some (as_object d) then object_script top d else Err NotObject

@@ -1,0 +1,74 @@
+//! Bytes to a writer, through a page.
+
+ghost use Rattle.std.specs.Prelude.{◌≡◌, [], ◌∷◌, OnOk};
+ghost use Rattle.chi_script.specs.Written.{Puts, Writes};
+
+use crate::page::Page;
+use std::io::Write;
+use thiserror::Error;
+
+/// Why a text was not written whole.
+///
+/// - `Failed`: a write answered a fault. One that was interrupted is a fault like any other.
+/// - `Stuck`: a write took no byte.
+///
+/// ```
+/// let fault = write_lines(&mut out, &lines).err(); // Some(WriteFault::Stuck)
+/// ```
+#[derive(Clone, Copy, Debug, PartialEq, Eq, Error)]
+pub enum WriteFault {
+    #[error("output could not be written")]
+    Failed,
+    #[error("output could not be written")]
+    Stuck,
+}
+
+// All bytes to the writer, in as many writes as it needs.
+fn put_all<W: Write>(to: &mut W, bytes: &[u8]) -> Result<(), WriteFault>
+    ensures { Puts (W.contents to.old) (W.contents to.new) result bytes.now }
+{
+    let mut at = 0;
+    'writing: while at < bytes.len() {
+        match to.write(&bytes[at..]) {
+            Ok(0) => return Err(WriteFault::Stuck),
+            Ok(n) => at += n,
+            Err(_) => return Err(WriteFault::Failed),
+        }
+    }
+    Ok(())
+}
+
+// What the page holds to the writer.
+pub(crate) fn put_page<W: Write>(to: &mut W, page: &mut Page) -> Result<(), WriteFault>
+    ensures writes { Writes (W.contents to.old) page.old (W.contents to.new) page.new result [] }
+    ensures empty { OnOk result (page.new ≡ []) }
+{
+    put_all(to, page.bytes())?;
+    page.clear();
+    Ok(())
+}
+
+// One byte to the page, and what the page held to the writer first where there is no room.
+fn put_byte<W: Write>(to: &mut W, page: &mut Page, byte: u8) -> Result<(), WriteFault>
+    ensures { Writes (W.contents to.old) page.old (W.contents to.new) page.new result (byte ∷ []) }
+{
+    if page.is_full() {
+        put_page(to, page)?;
+    }
+    page.push(byte);
+    Ok(())
+}
+
+// Some bytes to the page and the writer.
+pub(crate) fn put_bytes<W: Write>(
+    to: &mut W,
+    page: &mut Page,
+    bytes: &[u8],
+) -> Result<(), WriteFault>
+    ensures { Writes (W.contents to.old) page.old (W.contents to.new) page.new result bytes.now }
+{
+    'bytes: for byte in bytes {
+        put_byte(to, page, *byte)?;
+    }
+    Ok(())
+}

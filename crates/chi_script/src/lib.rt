@@ -1,0 +1,24 @@
+//! Scripts of requests and the transcripts of their work.
+#![tactic(auto)]
+
+mod device;
+mod fault;
+mod member;
+mod page;
+mod piece;
+mod script;
+mod transcript;
+mod walk;
+
+pub use device::WriteFault;
+pub use fault::{MOST_REQUESTS, ScriptFault};
+pub use member::Member;
+pub use script::{Script, read_script};
+pub use transcript::{write_lines, write_transcript};
+
+#[cfg(test)]
+mod script_tests;
+#[cfg(test)]
+mod script_text_tests;
+#[cfg(test)]
+mod transcript_tests;

@@ -1,0 +1,45 @@
+//! The members of a script.
+
+ghost use Rattle.std.specs.Prelude.{◌≡◌};
+ghost use Rattle.chi_script.specs.Member.{member_name};
+
+/// A member of a script's object, the first three, or of a request in it.
+#[derive(Clone, Copy, Debug, PartialEq, Eq)]
+pub enum Member {
+    Base,
+    Granules,
+    Requests,
+    Src,
+    Txn,
+    Opcode,
+    Size,
+    Addr,
+    Endian,
+    Be,
+    Lanes,
+}
+
+impl Member {
+    /// The member's name in the script.
+    ///
+    /// ```
+    /// let name = Member::Opcode.name(); // op
+    /// ```
+    pub fn name(self) -> &'static str
+        ensures { result.now ≡ member_name self }
+    {
+        match self {
+            Member::Base => "base",
+            Member::Granules => "granules",
+            Member::Requests => "requests",
+            Member::Src => "src",
+            Member::Txn => "txn",
+            Member::Opcode => "op",
+            Member::Size => "size",
+            Member::Addr => "addr",
+            Member::Endian => "endian",
+            Member::Be => "be",
+            Member::Lanes => "lanes",
+        }
+    }
+}

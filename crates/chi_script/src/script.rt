@@ -1,0 +1,122 @@
+//! Scripts and how one is read.
+
+ghost use Rattle.std.specs.Prelude.{◌≡◌, ◌≢◌, Some, None, IfOk, IfErr, Ok, Err};
+ghost use Rattle.serde_json.specs.View.{view};
+ghost use Rattle.chi_fields.specs.Extent.{region_of};
+ghost use Rattle.chi_script.specs.Script.{json_value, object_script, script};
+
+use crate::fault::{MOST_REQUESTS, ScriptFault};
+use crate::member::Member;
+use crate::walk::{number, requests};
+use chi_fields::{Region, Request};
+use serde_json::Value;
+use std::alloc::Global;
+use std::marker::Model;
+
+/// A region and at most 4,096 requests to the home that serves it. Only `read_script` makes one.
+#[derive(Debug, Drop)]
+pub struct Script {
+    region: Region,
+    requests: Vec<Request>,
+}
+
+impl Model for Script {
+    ghost use Rattle.std.specs.Prelude.{List};
+    ghost use Rattle.chi_fields.specs.Extent.{Extent};
+    ghost use Rattle.chi_fields.specs.declared.request.Request.{Request};
+
+    ghost Value = { Extent × List Request };
+
+    ghost view = { λ s. (s.region, s.requests.items) };
+}
+
+impl Script {
+    /// The region, which a home is opened on.
+    ///
+    /// ```
+    /// let base = script.region().base(); // 4096
+    /// ```
+    pub fn region(&self) -> Region
+        ensures { result ≡ self.now.0 }
+    {
+        self.region
+    }
+
+    /// The requests in the script's order, at most 4,096.
+    ///
+    /// ```
+    /// for request in script.requests() { .. }
+    /// ```
+    pub fn requests(&self) -> &[Request]
+        ensures { result.now ≡ self.now.1 }
+    {
+        self.requests.as_slice()
+    }
+}
+
+// The value of a text that is JSON in UTF-8.
+#[tactic(auto, unfolding(crate::specs::Script::json_value))]
+fn json(alloc: Global, text: &[u8]) -> Result<Value, ScriptFault>
+    ensures ok { IfOk result (λ v. json_value text.now ≡ Some (view v)) }
+    ensures fault { IfErr result (λ f. f ≢ ScriptFault.Memory → (f ≡ ScriptFault.NotJson) × (json_value text.now ≡ None)) }
+{
+    match Value::from_slice(alloc, text) {
+        Ok(value) => Ok(value),
+        Err(error) => {
+            if error.is_memory() {
+                Err(ScriptFault::Memory)
+            } else {
+                Err(ScriptFault::NotJson)
+            }
+        }
+    }
+}
+
+// The script that an object is.
+#[tactic(auto, unfolding(crate::specs::Script::object_script))]
+fn object_script(alloc: Global, object: &Value, top: u8) -> Result<Script, ScriptFault>
+    ensures ok { IfOk result (λ s. object_script top (view object.now) ≡ Ok s) }
+    ensures fault { IfErr result (λ f. f ≢ ScriptFault.Memory → object_script top (view object.now) ≡ Err f) }
+{
+    let base = number(object, Member::Base, u64::MAX)?;
+    let granules = number(object, Member::Granules, 65535)?;
+    let Some(value) = object.get(Member::Requests.name()) else {
+        return Err(ScriptFault::Missing(Member::Requests));
+    };
+    let Some(list) = value.as_array() else {
+        return Err(ScriptFault::BadMember(Member::Requests));
+    };
+    let requests = requests(alloc, list.as_slice(), top)?;
+    if requests.len() > MOST_REQUESTS {
+        return Err(ScriptFault::TooManyRequests);
+    }
+    match Region::new(base, granules as u16) {
+        Ok(region) => Ok(Script { region, requests }),
+        Err(fault) => Err(ScriptFault::RegionRefused(fault)),
+    }
+}
+
+/// The script that a text is, for requesters up to `top`, or its first fault.
+///
+/// The text is one JSON object in UTF-8. Its members are `base`, a whole number below 2^64, `granules`, one below
+/// 65536, and `requests`, an array of objects. Each of these has `src`, 0 to `top`; `txn` and `op`, 0 to 255;
+/// `size`, 0 to 7; `addr`, below 2^64; `endian`, 0 or 1; `be`, below 65536; and `lanes`, a text of 32 hex digits,
+/// lane 0 first. Further members are ignored.
+///
+/// `Memory` is answered where a growth is refused before a fault is met.
+///
+/// ```
+/// let script = read_script(alloc, b"{\"base\":4096,\"granules\":8,\"requests\":[]}", 7)?;
+/// ```
+#[tactic(auto, unfolding(crate::specs::Script::script))]
+pub fn read_script(alloc: Global, text: &[u8], top: u8) -> Result<Script, ScriptFault>
+    ensures ok { IfOk result (λ s. script text.now top ≡ Ok s) }
+    ensures fault { IfErr result (λ f. f ≢ ScriptFault.Memory → script text.now top ≡ Err f) }
+{
+    let value = json(alloc, text)?;
+    if value.is_object() {
+        object_script(alloc, &value, top)
+    } else {
+        Err(ScriptFault::NotObject)
+    }
+}

@@ -1,0 +1,164 @@
+//! Tests of the transcript's text, and of writers that fail.
+
+use crate::{WriteFault, write_lines, write_transcript};
+use chi_fields::{Refusal, Region, Request};
+use chi_history::Line;
+use chi_lanes::Reply;
+use std::alloc::Global;
+use std::io;
+use std::io::Write;
+use std::test::Fail;
+
+const FETCH_ADD: Request = Request {
+    src: 0,
+    txn: 1,
+    opcode: 0x30,
+    size: 3,
+    addr: 0x1000,
+    endian: false,
+    be: 0x00ff,
+    lanes: [1, 0, 0, 0, 0, 0, 0, 0, 0, 0, 0, 0, 0, 0, 0, 0],
+};
+
+const ZEROS: [u8; 16] = [0; 16];
+
+const FETCH_ADD_TEXT: &str =
+    "0 1 30 AtomicLoad.ADD 3 0000000000001000 data 00000000000000000000000000000000\nm 0000000000001000 0100000000000000\nm 0000000000001008 0000000000000000\nm 0000000000001010 0000000000000000\nm 0000000000001018 0000000000000000\nm 0000000000001020 0000000000000000\nm 0000000000001028 0000000000000000\nm 0000000000001030 0000000000000000\nm 0000000000001038 0000000000000000\n";
+
+// A writer that takes at most `each` bytes a call and `room` in all. Then it takes none, or fails.
+#[derive(Drop)]
+struct Device {
+    taken: Vec<u8>,
+    room: usize,
+    each: usize,
+    sticks: bool,
+    calls: usize,
+}
+
+impl Write for Device {
+    fn write(&mut self, buf: &[u8]) -> io::Result<usize> {
+        self.calls = self.calls.saturating_add(1);
+        let n = buf.len().min(self.room).min(self.each);
+        if n == 0 && !self.sticks {
+            return Err(io::Error::from(io::ErrorKind::Interrupted));
+        }
+        self.taken.extend_from_slice(&buf[..n])?;
+        self.room -= n;
+        Ok(n)
+    }
+
+    fn flush(&mut self) -> io::Result<()> {
+        Ok(())
+    }
+}
+
+fn make_device(alloc: Global, room: usize, each: usize, sticks: bool) -> Device {
+    Device {
+        taken: Vec::new(alloc),
+        room,
+        each,
+        sticks,
+        calls: 0,
+    }
+}
+
+// Writes the transcript of the fetch and add, or answers that its region is refused.
+fn write_fetch_add(to: &mut Device) -> Result<Result<(), WriteFault>, Fail> {
+    let region = Region::new(0x1000, 8)?;
+    let words = [1, 0, 0, 0, 0, 0, 0, 0];
+    if region.granules() != 8 {
+        return Err("the region has other granules".into());
+    }
+    let lines = [Line::Completed(FETCH_ADD, Reply::CompData(ZEROS))];
+    Ok(write_transcript(to, &lines, &region, &words))
+}
+
+#[test]
+fn retried_and_completed(rt: HostRuntime) -> Result<(), Fail> {
+    let mut completed = ZEROS;
+    completed[0] = 2;
+    let lines = [
+        Line::Retried(FETCH_ADD),
+        Line::Completed(FETCH_ADD, Reply::CompData(completed)),
+    ];
+    let mut to: Vec<u8> = Vec::new(rt.alloc());
+    write_lines(&mut to, &lines)?;
+    let want =
+        "0 1 30 AtomicLoad.ADD 3 0000000000001000 retry\n0 1 30 AtomicLoad.ADD 3 0000000000001000 data 02000000000000000000000000000000\n";
+    assert_eq!(rt; to.as_slice(), want.as_bytes());
+    Ok(())
+}
+
+#[test]
+fn refused_and_completed_without_data(rt: HostRuntime) -> Result<(), Fail> {
+    let swap = Request {
+        src: 7,
+        txn: 5,
+        opcode: 0x38,
+        addr: 0x0ffc,
+        ..FETCH_ADD
+    };
+    let store = Request {
+        src: 107,
+        txn: 255,
+        opcode: 0x2d,
+        ..FETCH_ADD
+    };
+    let lines = [
+        Line::Refused(swap, Refusal::Misaligned),
+        Line::Completed(store, Reply::Comp),
+    ];
+    let mut to: Vec<u8> = Vec::new(rt.alloc());
+    write_lines(&mut to, &lines)?;
+    let want =
+        "7 5 38 AtomicSwap 3 0000000000000ffc refused Misaligned\n107 255 2d AtomicStore.SMIN 3 0000000000001000 comp\n";
+    assert_eq!(rt; to.as_slice(), want.as_bytes());
+    Ok(())
+}
+
+#[test]
+fn failing_devices(rt: HostRuntime) -> Result<(), Fail> {
+    let mut fails = make_device(rt.alloc(), 10, 10, false);
+    assert_eq!(rt; write_fetch_add(&mut fails)?, Err(WriteFault::Failed));
+    assert_eq!(rt; fails.taken.as_slice(), b"0 1 30 Ato".as_slice());
+    let mut sticks = make_device(rt.alloc(), 10, 10, true);
+    assert_eq!(rt; write_fetch_add(&mut sticks)?, Err(WriteFault::Stuck));
+    assert_eq!(rt; sticks.taken.as_slice(), b"0 1 30 Ato".as_slice());
+    Ok(())
+}
+
+#[test]
+fn hostile_devices(rt: HostRuntime) -> Result<(), Fail> {
+    let whole = FETCH_ADD_TEXT.as_bytes();
+    for room in 0..whole.len() {
+        let mut fails = make_device(rt.alloc(), room, 7, false);
+        assert_eq!(rt; write_fetch_add(&mut fails)?, Err(WriteFault::Failed));
+        assert_eq!(rt; fails.taken.as_slice(), &whole[..room]);
+        let mut sticks = make_device(rt.alloc(), room, 7, true);
+        assert_eq!(rt; write_fetch_add(&mut sticks)?, Err(WriteFault::Stuck));
+        assert_eq!(rt; sticks.taken.as_slice(), &whole[..room]);
+    }
+    let mut slow = make_device(rt.alloc(), 4096, 1, false);
+    assert_eq!(rt; write_fetch_add(&mut slow)?, Ok(()));
+    assert_eq!(rt; slow.taken.as_slice(), whole);
+    Ok(())
+}
+
+#[test]
+fn few_writes(rt: HostRuntime) -> Result<(), Fail> {
+    let lines = [Line::Completed(FETCH_ADD, Reply::CompData(ZEROS)); 512];
+    let mut to = make_device(rt.alloc(), usize::MAX, usize::MAX, false);
+    write_lines(&mut to, &lines)?;
+    assert_eq!(rt; to.taken.len(), 512 * 79);
+    assert_eq!(rt; to.calls, 3);
+    Ok(())
+}
+
+#[test]
+fn write_fault_text(rt: HostRuntime) -> Result<(), Fail> {
+    for fault in [WriteFault::Failed, WriteFault::Stuck] {
+        let text = format!(in rt.alloc(); "{fault}")?;
+        assert_eq!(rt; text.as_str(), "output could not be written");
+    }
+    Ok(())
+}
