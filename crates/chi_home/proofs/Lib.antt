@@ -1,0 +1,3 @@
+pub mod WordsLemmas
+pub mod SerialLemmas
+pub mod EngineLemmas

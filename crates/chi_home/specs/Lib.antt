@@ -1,0 +1,3 @@
+pub mod Run
+pub mod Status
+pub mod Words

@@ -1,0 +1,41 @@
+//! Reads the whole input, up to a limit.
+
+ghost use Rattle.std.specs.Prelude.{◌≡◌, ◌<◌, ◌≤◌, length, vec_len, IfOk, IfSome, IsErrOf};
+ghost use Rattle.chi_home.specs.declared.input.TheConstants.{MOST_BYTES};
+
+use std::alloc::Global;
+use std::io::Read;
+
+/// The greatest number of bytes of a script.
+pub const MOST_BYTES: usize = 4_194_304;
+
+/// Why the input was not read.
+#[derive(Clone, Copy, Debug, PartialEq, Eq)]
+pub(crate) enum InputFault {
+    Read,
+    TooLong,
+    Memory,
+}
+
+/// Reads to the end of the input. Any fault of the reader ends it, also that a call was interrupted.
+pub(crate) fn read_input<R: Read>(alloc: Global, from: &mut R) -> Result<Vec<u8>, InputFault>
+    ensures within { IfOk result (λ input. vec_len input ≤ MOST_BYTES) }
+    ensures bytes { IfOk result (λ input. IfSome (R.remaining from.old) (λ bytes. input.items ≡ bytes)) }
+    ensures too_long { IsErrOf result InputFault.TooLong → IfSome (R.remaining from.old) (λ bytes. MOST_BYTES < length bytes) }
+{
+    let mut input = Vec::new(alloc);
+    let mut chunk = [0u8; 4096];
+    'filling: while input.len() <= MOST_BYTES {
+        let room = chunk.len().min(MOST_BYTES + 1 - input.len());
+        match from.read(&mut chunk[..room]) {
+            Ok(0) => return Ok(input),
+            Ok(n) => {
+                if input.extend_from_slice(&chunk[..n]).is_err() {
+                    return Err(InputFault::Memory);
+                }
+            }
+            Err(_) => return Err(InputFault::Read),
+        }
+    }
+    Err(InputFault::TooLong)
+}
