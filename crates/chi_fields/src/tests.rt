@@ -1,0 +1,249 @@
+//! Tests of decoding: which requests are accepted, as which access, and which refusal the others meet.
+
+use crate::{Access, Kind, Op, Refusal, Region, Request, decode};
+use std::test::Fail;
+
+const NO_DATA: [u8; 16] = [0; 16];
+
+const EACH_LANE: [u8; 16] = [0, 1, 2, 3, 4, 5, 6, 7, 8, 9, 10, 11, 12, 13, 14, 15];
+
+// A request of requester 0 with little-endian data.
+fn request(opcode: u8, size: u8, addr: u64, be: u16) -> Request {
+    Request {
+        src: 0,
+        txn: 0,
+        opcode,
+        size,
+        addr,
+        endian: false,
+        be,
+        lanes: NO_DATA,
+    }
+}
+
+// What a region of so many granules from 0x1000 on makes of a request.
+fn decoded(granules: u16, request: Request) -> Result<Result<Access, Refusal>, Fail> {
+    let region = Region::new(0x1000, granules)?;
+    Ok(decode(&request, &region))
+}
+
+// The refusal that a request meets in a region of 8 granules from 0x1000 on.
+fn refusal_of(opcode: u8, size: u8, addr: u64, be: u16) -> Result<Option<Refusal>, Fail> {
+    Ok(decoded(8, request(opcode, size, addr, be))?.err())
+}
+
+#[test]
+fn misaligned_then_outside(rt: HostRuntime) -> Result<(), Fail> {
+    for be in [0x0000, 0xff00, 0xffff] {
+        assert_eq!(rt; refusal_of(0x38, 3, 0x0ffc, be)?, Some(Refusal::Misaligned));
+        assert_eq!(rt;
+            refusal_of(0x38, 3, 0x0ff8, be)?,
+            Some(Refusal::OutOfRegion)
+        );
+    }
+    Ok(())
+}
+
+#[test]
+fn unknown_opcodes(rt: HostRuntime) -> Result<(), Fail> {
+    for opcode in [0x1d, 0x3a, 0xff] {
+        assert_eq!(rt;
+            refusal_of(opcode, 7, 0x0001, 0)?,
+            Some(Refusal::UnknownOpcode),
+            "{opcode}"
+        );
+    }
+    Ok(())
+}
+
+#[test]
+fn byte_enables_refused(rt: HostRuntime) -> Result<(), Fail> {
+    assert_eq!(rt;
+        refusal_of(0x1c, 1, 0x1000, 0x0004)?,
+        Some(Refusal::BadByteEnable)
+    );
+    assert_eq!(rt;
+        refusal_of(0x28, 1, 0x1000, 0x0001)?,
+        Some(Refusal::BadByteEnable)
+    );
+    Ok(())
+}
+
+#[test]
+fn compare_sizes_refused(rt: HostRuntime) -> Result<(), Fail> {
+    for size in [0, 5, 6] {
+        assert_eq!(rt;
+            refusal_of(0x39, size, 0x1000, 0)?,
+            Some(Refusal::SizeOutOfProfile),
+            "{size}"
+        );
+    }
+    for size in [7, 8] {
+        assert_eq!(rt;
+            refusal_of(0x39, size, 0x1000, 0)?,
+            Some(Refusal::ReservedSize),
+            "{size}"
+        );
+    }
+    Ok(())
+}
+
+#[test]
+fn compare_window_past_region(rt: HostRuntime) -> Result<(), Fail> {
+    let inside = decoded(1, request(0x39, 4, 0x1000, 0xffff))?;
+    assert_eq!(rt; inside.err(), None);
+    let outside = decoded(1, request(0x39, 4, 0x1008, 0xffff))?;
+    assert_eq!(rt; outside.err(), Some(Refusal::OutOfRegion));
+    Ok(())
+}
+
+// Each request lacks what the next refusal in the order asks for, and those after it where it can.
+#[test]
+fn refusals_in_order(rt: HostRuntime) -> Result<(), Fail> {
+    let requests = [
+        (0x05, 7, 0x0001, 0xffff, Some(Refusal::UnknownOpcode)),
+        (0x38, 7, 0x0001, 0xffff, Some(Refusal::ReservedSize)),
+        (0x38, 255, 0x0001, 0xffff, Some(Refusal::ReservedSize)),
+        (0x38, 6, 0x0001, 0xffff, Some(Refusal::SizeOutOfProfile)),
+        (0x04, 4, 0x1000, 0x0000, Some(Refusal::SizeOutOfProfile)),
+        (0x1c, 4, 0x1000, 0x0000, Some(Refusal::SizeOutOfProfile)),
+        (0x38, 1, 0x0001, 0xffff, Some(Refusal::Misaligned)),
+        (0x38, 1, 0x0002, 0xffff, Some(Refusal::OutOfRegion)),
+        (0x38, 1, 0x1040, 0x0003, Some(Refusal::OutOfRegion)),
+        (0x38, 1, 0x103e, 0xffff, Some(Refusal::BadByteEnable)),
+        (0x38, 1, 0x103e, 0xc000, None),
+    ];
+    for (opcode, size, addr, be, want) in requests {
+        assert_eq!(rt;
+            refusal_of(opcode, size, addr, be)?,
+            want,
+            "{opcode} {size} {addr}"
+        );
+    }
+    Ok(())
+}
+
+#[test]
+fn windows(rt: HostRuntime) -> Result<(), Fail> {
+    let windows = [
+        (0x39, 1, 0x1003, 0x000c),
+        (0x39, 2, 0x100c, 0xf000),
+        (0x39, 3, 0x1004, 0x00ff),
+        (0x39, 4, 0x1008, 0xffff),
+        (0x38, 2, 0x1008, 0x0f00),
+    ];
+    for (opcode, size, addr, be) in windows {
+        assert_eq!(rt; refusal_of(opcode, size, addr, be)?, None, "{be}");
+        let mut other = 1;
+        for _ in 0..16 {
+            assert_eq!(rt;
+                refusal_of(opcode, size, addr, be ^ other)?,
+                Some(Refusal::BadByteEnable),
+                "{be} and {other}"
+            );
+            other = other.wrapping_mul(2);
+        }
+    }
+    Ok(())
+}
+
+#[test]
+fn write_enables_part_of_window(rt: HostRuntime) -> Result<(), Fail> {
+    for be in [0x0000, 0x0040, 0x0080, 0x00c0] {
+        assert_eq!(rt; refusal_of(0x1c, 1, 0x1006, be)?, None, "{be}");
+    }
+    for be in [0x0001, 0x0020, 0x0060, 0x0100, 0x0180, 0x8000] {
+        assert_eq!(rt;
+            refusal_of(0x1c, 1, 0x1006, be)?,
+            Some(Refusal::BadByteEnable),
+            "{be}"
+        );
+    }
+    Ok(())
+}
+
+#[test]
+fn kinds_of_opcodes(rt: HostRuntime) -> Result<(), Fail> {
+    let ops = [
+        (0, Op::Add),
+        (1, Op::Clr),
+        (2, Op::Eor),
+        (3, Op::Set),
+        (4, Op::SMax),
+        (5, Op::SMin),
+        (6, Op::UMax),
+        (7, Op::UMin),
+    ];
+    let others = [
+        (0x04, Kind::Read),
+        (0x1c, Kind::Write),
+        (0x38, Kind::Swap),
+        (0x39, Kind::Compare),
+    ];
+    for (number, op) in ops {
+        let store = decoded(8, request(0x28 | number, 3, 0x1000, 0x00ff))??;
+        assert_eq!(rt; store.kind(), Kind::Store(op));
+        let load = decoded(8, request(0x30 | number, 3, 0x1000, 0x00ff))??;
+        assert_eq!(rt; load.kind(), Kind::Load(op));
+    }
+    for (opcode, kind) in others {
+        let access = decoded(8, request(opcode, 3, 0x1000, 0x00ff))??;
+        assert_eq!(rt; access.kind(), kind);
+    }
+    Ok(())
+}
+
+#[test]
+fn fields_of_access(rt: HostRuntime) -> Result<(), Fail> {
+    let big_endian_add = Request {
+        endian: true,
+        lanes: EACH_LANE,
+        ..request(0x30, 1, 0x1006, 0x00c0)
+    };
+    let access = decoded(8, big_endian_add)??;
+    assert_eq!(rt; access.kind(), Kind::Load(Op::Add));
+    assert_eq!(rt; access.addr(), 0x1006);
+    assert_eq!(rt; access.len(), 2);
+    assert_eq!(rt; access.endian(), true);
+    assert_eq!(rt; access.enables(), 0x00c0);
+    assert_eq!(rt; access.lanes(), EACH_LANE);
+    let compare = decoded(8, request(0x39, 4, 0x1008, 0xffff))??;
+    assert_eq!(rt; compare.len(), 8);
+    assert_eq!(rt; compare.endian(), false);
+    Ok(())
+}
+
+#[test]
+fn read_keeps_ignored_fields(rt: HostRuntime) -> Result<(), Fail> {
+    let read = Request {
+        endian: true,
+        lanes: EACH_LANE,
+        ..request(0x04, 0, 0x1003, 0x8421)
+    };
+    let access = decoded(8, read)??;
+    assert_eq!(rt; access.endian(), true);
+    assert_eq!(rt; access.enables(), 0x8421);
+    assert_eq!(rt; access.lanes(), EACH_LANE);
+    Ok(())
+}
+
+#[test]
+fn granules_of_accesses(rt: HostRuntime) -> Result<(), Fail> {
+    let accesses = [
+        (0x1000, 0x000f, 0),
+        (0x1004, 0x00f0, 0),
+        (0x1008, 0x0f00, 1),
+        (0x103c, 0xf000, 7),
+    ];
+    let region = Region::new(0x1000, 8)?;
+    for (addr, be, want) in accesses {
+        let access = decoded(8, request(0x38, 2, addr, be))??;
+        assert!(rt; access.fits(&region));
+        assert_eq!(rt; access.granule(&region), want, "at {addr}");
+    }
+    let third = decoded(8, request(0x38, 2, 0x1014, 0x00f0))??;
+    assert_eq!(rt; third.fits(&Region::new(0x1000, 3)?), true);
+    assert_eq!(rt; third.fits(&Region::new(0x1000, 2)?), false);
+    assert_eq!(rt; third.fits(&Region::new(0x1040, 8)?), false);
+    Ok(())
+}
