@@ -13,3 +13,8 @@ pub use byte_order::swap_order;
 pub use kernels::{compare_half, extract, insert, lane_mask, swap_half};
 pub use operation::apply;
 pub use reply::Reply;
+
+#[cfg(test)]
+mod kernel_tests;
+#[cfg(test)]
+mod tests;

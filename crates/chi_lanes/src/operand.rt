@@ -8,9 +8,9 @@ ghost use Rattle.chi_lanes.specs.Bytes.{little_bytes};
 ghost use Rattle.chi_lanes.specs.Memory.{Memory, IsMemory, granule_start, with_bytes, with_enabled, word_at};
 ghost use Rattle.chi_lanes.specs.Packet.{sent, swp};
 
-use crate::kernels::{compare_half, extract, insert, swap_half};
+use crate::kernels::{extract, insert, swap_half};
 use crate::packet::{enabled_mask, masked, packet_half, sent_value};
-use chi_fields::{Access, Kind};
+use chi_fields::Access;
 
 // The number of the operand's old bytes.
 #[inline]
