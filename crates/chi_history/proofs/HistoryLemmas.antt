@@ -1,6 +1,8 @@
 -- histories put together and taken apart
-use Rattle.std.proofs.Common.{◌≡◌, ℕ, ◌+◌, ◌<◌, Bool, true, false, ◌==◌, cond, List, [], ◌∷◌, ◌++◌, refl, sym, ap, ◌∙◌, true≢false, eqb-true, arith, ◌⊎◌, inl, inr}
-use Rattle.chi_lanes.specs.After.{after}
+use Rattle.std.proofs.Common.{IsTrue, ◌≡◌, ℕ, ◌+◌, ◌<◌, Bool, true, false, ◌==◌, cond, List, [], ◌∷◌, ◌++◌, refl, sym, ap, ◌∙◌, true≢false, eqb-true, arith, ◌⊎◌, inl, inr}
+use Rattle.chi_fields.specs.Extent.{lies_in}
+use Rattle.chi_fields.specs.Operation.{IsLawful}
+use Rattle.chi_lanes.specs.After.{after, answer}
 use Rattle.chi_lanes.specs.Memory.{Memory}
 use Rattle.chi_history.specs.declared.entry.Entry.{Entry}
 use Rattle.chi_history.specs.declared.opening.Opening.{Opening}
@@ -30,6 +32,12 @@ pub legal-back : (o : Opening) (m : Memory) (xs ys : List Entry) → IsLegalFrom
 unfolding end_from IsLegalFrom
 legal-back o m [] ys whole = whole
 legal-back o m (x ∷ xs) ys whole = legal-back o (after x.access m) xs ys whole.1
+
+-- what a legal history of one entry says of it
+pub legal_entry : (o : Opening) (m : Memory) (e : Entry) → IsLegalFrom o m (e ∷ [])
+    → (e.src < o.requesters) × IsTrue (lies_in e.access.addr e.access.len o.region) × (e.reply ≡ answer e.access m) × IsLawful e.access
+unfolding IsLegalFrom
+legal_entry o m e legal = legal.0
 
 pub free-append : (held : Held) (xs ys : List Entry) → IsFreeOf held xs → IsFreeOf held ys → IsFreeOf held (xs ++ ys)
 unfolding IsFreeOf

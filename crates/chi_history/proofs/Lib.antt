@@ -1,2 +1,16 @@
+pub mod CallerLemmas
+pub mod ExchangeLemmas
 pub mod HeldLemmas
 pub mod HistoryLemmas
+pub mod JoinLemmas
+pub mod NumbersLemmas
+pub mod RuleLemmas
+pub mod RuledLemmas
+pub mod SplitLemmas
+pub mod StepLemmas
+pub mod Steps
+pub mod ToldLemmas
+pub mod TryLemmas
+pub mod ViewLemmas
+pub mod ViewLists
+pub mod WordLemmas

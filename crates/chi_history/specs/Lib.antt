@@ -1,4 +1,9 @@
-pub mod History
 pub mod Held
-pub mod Served
+pub mod History
+pub mod Laws
 pub mod Lines
+pub mod Numbers
+pub mod Rule
+pub mod Served
+pub mod Told
+pub mod Views

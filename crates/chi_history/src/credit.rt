@@ -44,7 +44,7 @@ impl Credit {
     pub fn spend(self) -> u8
         ensures { result ≡ self }
     {
-        let Credit { src } = self;
-        src
+        let Credit { src: number } = self;
+        number
     }
 }

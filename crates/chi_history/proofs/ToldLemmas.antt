@@ -1,0 +1,95 @@
+-- what a caller has of what a step told
+use Rattle.std.proofs.Common.{◌≡◌, ℕ, ◌^◌, ◌<◌, true, IsTrue, List, [], ◌∷◌, ◌++◌, slice_index, bit_xor, refl, sym, ap, subst, ◌∙◌, zero-le}
+use Rattle.std.specs.Int.Bits.{xor_zero_r}
+use Rattle.chi_fields.specs.Extent.{Extent, IsRegion, granule_of, lies_in}
+use Rattle.chi_fields.specs.Operation.{IsLawful, Operation}
+use Rattle.chi_lanes.specs.declared.reply.Reply.{Reply}
+use Rattle.chi_lanes.specs.After.{after, answer}
+use Rattle.chi_lanes.specs.Memory.{Memory, IsMemory, word}
+use Rattle.chi_history.specs.declared.entry.Entry.{Entry}
+use Rattle.chi_history.specs.declared.opening.Opening.{Opening}
+use Rattle.chi_history.specs.declared.view.View.{View}
+use Rattle.chi_history.specs.History.{IsLegal, IsLegalFrom, end, opening_memory}
+use Rattle.chi_history.specs.Rule.{first_word, shown}
+use Rattle.chi_history.specs.Served.{Completes, entry}
+use Rattle.chi_history.specs.Told.{Adds, Answers, Applies, IsJoined, Replaces, Settles, next_entry}
+use Rattle.chi_history.specs.Views.{both, has}
+use Rattle.chi_history.proofs.HistoryLemmas.{legal-back, legal-front}
+use Rattle.chi_history.proofs.StepLemmas.{granule_below, unmasked}
+use Rattle.chi_history.proofs.ViewLemmas.{has-append}
+use Rattle.chi_history.proofs.WordLemmas.{IsMemory-end, word-opening_memory}
+
+-- the word that a store keeps, unmasked by the image, is the granule's
+pub read_word : (o : Opening) (h : List Entry) (g found : ℕ) → slice_index o.image g < 2 ^ 64 → found ≡ shown o h g
+    → bit_xor found (slice_index o.image g) ≡ word (end o h) o.region g
+read_word o h g found small is =
+    ap (bit_xor found) (sym (word-opening_memory o g small))
+    ∙ (ap (λ n. bit_xor n (first_word o g)) is ∙ unmasked (word (end o h) o.region g) (first_word o g))
+
+-- what the word of an operation becomes, as it is computed over the unmasked word
+pub applies : (o : Opening) (access : Operation) (found before result next : ℕ) → slice_index o.image (granule_of access.addr o.region) < 2 ^ 64
+    → lies_in access.addr access.len o.region ≡ true
+    → ((region : Extent) (m : Memory) → IsRegion region → IsMemory m → IsTrue (lies_in access.addr access.len region) → before ≡ word m region (granule_of access.addr region)
+    → result ≡ word (after access m) region (granule_of access.addr region))
+    → before ≡ bit_xor found (slice_index o.image (granule_of access.addr o.region)) → next ≡ bit_xor result (slice_index o.image (granule_of access.addr o.region))
+    → Applies o access found next
+applies o access found before result next small fits changed unmask mask m is_region is_memory at =
+    let g : ℕ = granule_of access.addr o.region in
+    let first : slice_index o.image g ≡ first_word o g = sym (word-opening_memory o g small) in
+    mask ∙ (λ i. bit_xor (changed o.region m is_region is_memory fits (unmask ∙ (ap (bit_xor found) first ∙ sym at)) i) (first i))
+
+-- and what is answered
+pub answers : (o : Opening) (access : Operation) (found before : ℕ) (reply : Reply) → slice_index o.image (granule_of access.addr o.region) < 2 ^ 64
+    → lies_in access.addr access.len o.region ≡ true
+    → ((region : Extent) (m : Memory) → IsRegion region → IsMemory m → IsTrue (lies_in access.addr access.len region) → before ≡ word m region (granule_of access.addr region)
+    → reply ≡ answer access m)
+    → before ≡ bit_xor found (slice_index o.image (granule_of access.addr o.region)) → Answers o access found reply
+answers o access found before reply small fits answered unmask m is_region is_memory at =
+    let g : ℕ = granule_of access.addr o.region in
+    let first : slice_index o.image g ≡ first_word o g = sym (word-opening_memory o g small) in
+    answered o.region m is_region is_memory fits (unmask ∙ (ap (bit_xor found) first ∙ sym at))
+
+-- an image's word that is 0 masks nothing
+pub unmasked_zero : (found first : ℕ) → first ≡ 0 → found ≡ bit_xor found first
+unmasked_zero found first none = sym (ap (bit_xor found) none ∙ xor_zero_r found)
+
+-- what was told of an entry that was added: its operation lies in the region, and is lawful
+added_fits : (v : View) (mid : List Entry) (src : ℕ) (access : Operation) (w : View) → Adds v mid src access w
+    → (lies_in access.addr access.len v.opening.region ≡ true) × IsLawful access
+unfolding IsLegalFrom
+added_fits v mid src access w adds =
+    let last = legal-back v.opening (opening_memory v.opening) (v.seen ++ mid) (next_entry v (v.seen ++ mid) src access ∷ []) adds.legal in
+    (last.0.1, last.0.3)
+
+-- an entry that was added where a word was found completes the request with the answer of that word
+pub added : (v : View) (mid : List Entry) (src : ℕ) (access : Operation) (w : View) (found : ℕ) (reply : Reply) → Adds v mid src access w
+    → found ≡ shown v.opening (v.seen ++ mid) (granule_of access.addr v.opening.region) → Answers v.opening access found reply
+    → Completes v.opening (has v.held) v.seen w.seen src access reply 0
+added v mid src access w found reply adds is answered =
+    let o : Opening = v.opening in
+    let h : List Entry = v.seen ++ mid in
+    let g : ℕ = granule_of access.addr o.region in
+    let legal : IsLegal o h = legal-front o (opening_memory o) h (next_entry v h src access ∷ []) adds.legal in
+    let at : word (end o h) o.region g ≡ bit_xor found (first_word o g) = sym (ap (λ n. bit_xor n (first_word o g)) is ∙ unmasked (word (end o h) o.region g) (first_word o g)) in
+    let told : reply ≡ answer access (end o h) = answered (end o h) adds.region (IsMemory-end o h legal) at in
+    (mid, ap (λ (z : View). z.seen) adds.now ∙ ap (λ (r : Reply). h ++ entry src access r ∷ []) (sym told), adds.free, zero-le)
+
+-- the exchange of all words, where they were as expected
+pub replaced : (v : View) (words : List ℕ) (src : ℕ) (access : Operation) (w : View) (reply : Reply) → Replaces v words src access w
+    → Answers v.opening access (slice_index words (granule_of access.addr v.opening.region)) reply
+    → Completes v.opening (has v.held) v.seen w.seen src access reply 0
+replaced v words src access w reply replaces answered =
+    let fit = added_fits v replaces.mid src access w replaces.adds in
+    let g : ℕ = granule_of access.addr v.opening.region in
+    added v replaces.mid src access w (slice_index words g) reply replaces.adds (replaces.words_are g (granule_below v.opening access fit.1 fit.0)) answered
+
+-- what the look after a merge tells
+pub joined : (v w u : View) → Settles (both v w) u → IsJoined v w u
+joined v w u settles = subst (λ (z : View). IsJoined v w z) (sym settles.now) (record {
+  now = refl;
+  apart = settles.joint.0;
+  held = has-append v.held w.held;
+  joins = settles.joint.1;
+  legal = settles.legal;
+  numbers = settles.numbers;
+})

@@ -1,0 +1,12 @@
+-- The numbers so far are those of the set below the next.
+use Rattle.std.proofs.Common.{◌≡◌, ◌≤◌}
+use Rattle.arrayvec.specs.ArrayVec.{array_vec_len}
+use Rattle.chi_history.specs.Held.{only}
+use Rattle.chi_history.specs.Numbers.{numbers_in}
+use Rattle.chi_history.proofs.numbers.Numbers.only.Given as goal
+
+abbrev pub invariant-numbers : goal.invariant-numbers
+invariant-numbers l = record {
+  room : array_vec_len l.items ≤ l.k;
+  listed : l.items.items ≡ numbers_in (only l.n) l.k;
+}
