@@ -1,0 +1,30 @@
+-- The first view is set to the opening's values.
+use Rattle.std.proofs.Common.{rules, [], subst, sym}
+use Rattle.crossbeam_utils.specs.Register.{Forks}
+use Rattle.crossbeam_utils.specs.Seq.{cell_view}
+use Rattle.chi_history.specs.declared.opening.Opening.{Opening}
+use Rattle.chi_history.specs.declared.view.View.{View}
+use Rattle.chi_history.specs.Rule.{Ruled}
+use Rattle.chi_history.specs.Views.{all_below, gone, knower}
+use Rattle.chi_history.proofs.RuledLemmas.{ruled_first}
+use Rattle.chi_lockstore.specs.Seats.{zero_opening}
+use Rattle.chi_lockstore.proofs.Line.{line_opens}
+use Rattle.chi_lockstore.proofs.steps.begin.Goals as goal
+
+pub ruled-requires : goal.ruled-requires
+ruled-requires g c = (search rules, (search rules, ruled_first 8))
+
+pub split_pass-spare-requires : goal.split_pass-spare-requires
+split_pass-spare-requires g c =
+    let o : Opening = zero_opening c.args._region.now c.args._requesters in
+    let v : View = cell_view c.in_ok-cell.pass in (
+      search rules,
+      (
+        search rules,
+        (
+          search rules,
+          subst (λ (z : Opening). Forks (Ruled 8) c.in_ok-cell.pass.id v (knower z (all_below z.requesters) []) gone) (sym c.requires.asked)
+              (line_opens o c.in_ok-cell.pass.id v (search rules) c.requires.region c.requires.room),
+        ),
+      ),
+    )

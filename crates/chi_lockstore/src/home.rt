@@ -1,0 +1,120 @@
+//! The locked store as a home.
+
+use crate::seat::LockSeat;
+use crate::serving::complete;
+use crate::steps::{give, look, take_in};
+use crate::store::LockStore;
+use chi_fields::{Access, Region};
+use chi_history::{Credit, Gate, Home, Numbers, Served};
+use chi_lanes::Reply;
+use std::marker::Brand;
+use std::sync::Wait;
+
+impl Home for LockStore {
+    ghost use Rattle.std.specs.Prelude.{◌≡◌};
+    ghost use Rattle.chi_history.specs.Views.{has};
+    ghost use Rattle.chi_lockstore.specs.Seats.{zero_opening, IsSeatOf};
+    ghost use Rattle.crossbeam_utils.specs.Seq.{cell_view};
+
+    type Seat = LockSeat;
+
+    ghost opening = { λ h. zero_opening h.region h.requesters };
+
+    ghost limit = { λ _. 0 };
+
+    ghost belongs = { λ h s. (s.pass.table_id ≡ h.cell.table.shared.table_id) × IsSeatOf (zero_opening h.region h.requesters) s.numbers (cell_view s.pass) };
+
+    ghost held = { λ s. has s.numbers };
+
+    ghost seen = { λ s. (cell_view s.pass).seen };
+
+    fn region(&self) -> Region {
+        self.region
+    }
+
+    fn requesters(&self) -> u8 {
+        self.requesters
+    }
+
+    fn holds(&self, seat: &LockSeat, src: u8) -> bool {
+        seat.numbers.has(src)
+    }
+
+    fn holds_all(&self, seat: &LockSeat) -> bool {
+        for src in 0..self.requesters {
+            if !seat.numbers.has(src) {
+                return false;
+            }
+        }
+        true
+    }
+
+    fn serve<R: Wait, G: Gate>(
+        &self,
+        rt: &R,
+        seat: &mut LockSeat,
+        src: u8,
+        access: &Access,
+        gate: &mut G,
+    ) -> Served {
+        gate.pause(1);
+        let reply = complete(
+            &self.cell,
+            rt,
+            &mut seat.pass,
+            src,
+            access,
+            &self.region,
+            self.requesters,
+        );
+        Served::Done { reply, lost: 0 }
+    }
+
+    fn serve_credited<R: Wait>(
+        &self,
+        rt: &R,
+        seat: &mut LockSeat,
+        credit: Credit,
+        access: &Access,
+    ) -> Reply {
+        let src = credit.spend();
+        complete(
+            &self.cell,
+            rt,
+            &mut seat.pass,
+            src,
+            access,
+            &self.region,
+            self.requesters,
+        )
+    }
+
+    fn split<R: Wait>(&self, _rt: &R, seat: &mut LockSeat, src: u8) -> LockSeat {
+        let pass = give::<Brand>(&self.cell, &mut seat.pass, src);
+        seat.numbers.remove(src);
+        LockSeat {
+            pass,
+            numbers: Numbers::only(src),
+        }
+    }
+
+    fn rejoin<R: Wait>(&self, rt: &R, seat: &mut LockSeat, other: LockSeat) {
+        let LockSeat { pass, numbers } = other;
+        take_in(&self.cell, rt, &mut seat.pass, pass);
+        seat.numbers.merge(numbers);
+    }
+
+    fn snapshot<R: Wait>(&self, rt: &R, seat: &mut LockSeat, words: &mut [u64]) {
+        let line = look(&self.cell, rt, &mut seat.pass);
+        let granules = usize::from(self.region.granules());
+        words.copy_from_slice(&line[..granules]);
+    }
+
+    fn return_credit(&self, credit: Credit) {
+        credit.spend();
+    }
+
+    ghost seen_is_legal = { λ h s b. b.1.legal };
+
+    ghost held_is_opened = { λ h s b. b.1.opened };
+}

@@ -1,0 +1,15 @@
+//! A home whose line of words stands in one cell under a lock.
+#![tactic(auto)]
+
+mod asked;
+mod home;
+mod rule;
+mod seat;
+mod serving;
+mod steps;
+mod store;
+#[cfg(test)]
+mod tests;
+
+pub use seat::LockSeat;
+pub use store::LockStore;

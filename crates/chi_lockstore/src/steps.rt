@@ -1,0 +1,102 @@
+//! The steps on the line: each takes effect at one moment, and tells the seat that took it what it learned.
+
+ghost use Rattle.std.specs.Prelude.{◌≡◌, ◌≤◌, ◌<◌, ℕ, [], true, IsTrue, IfOk, slice_index, MatchResult};
+ghost use Rattle.chi_fields.specs.Extent.{IsRegion, granule_of, lies_in};
+ghost use Rattle.chi_history.specs.Told.{Applies, Reads, Replaces, Settles};
+ghost use Rattle.chi_history.specs.Views.{all_below, alone, both, has, knower, rest_of};
+ghost use Rattle.chi_lockstore.specs.Seats.{zero_opening, IsAlone};
+ghost use Rattle.crossbeam_utils.specs.Seq.{IsSamePass, cell_view};
+
+use crate::asked::{Asks, Gives, Number, Opens, Sets, Tries};
+use crate::rule::{Cell, LinePass, Look, Settle, Whole, Words};
+use chi_fields::{Access, Region};
+use std::alloc::{AllocError, Global};
+use std::sync::Wait;
+
+/// A cell of zeros, and the pass of all requesters of this opening.
+pub(crate) fn begin<Q: Opens>(
+    alloc: Global,
+    _region: &Region,
+    _requesters: u8,
+) -> Result<(Cell, LinePass), AllocError>
+    requires asked { Q.opening ≡ zero_opening _region.now _requesters }
+    requires region { IsRegion _region.now }
+    requires room { _region.now.granules ≤ 8 }
+    ensures cell { IfOk result (λ r. r.1.table_id ≡ r.0.table.shared.table_id) }
+    ensures view { IfOk result (λ r. cell_view r.1 ≡ knower (zero_opening _region.now _requesters) (all_below _requesters) []) }
+{
+    let (cell, mut pass) = Cell::ruled(alloc, [0; 8])?;
+    let _spare = cell.split_pass::<Sets<Q>>(&mut pass);
+    Ok((cell, pass))
+}
+
+/// Exchanges the line for one with `next` in the operation's granule, where it is still `current`. Where it
+/// is not, the words found come back.
+pub(crate) fn try_once<Q: Asks, R: Wait>(
+    cell: &Cell,
+    rt: &R,
+    pass: &mut LinePass,
+    _src: u8,
+    _access: &Access,
+    _region: &Region,
+    granule: usize,
+    next: u64,
+    current: Words,
+) -> Result<Words, Words>
+    requires own { pass.old.table_id ≡ cell.now.table.shared.table_id }
+    requires asked { (_src ≡ Q.src) × (_access.now ≡ Q.access) × (current ≡ Q.current) }
+    requires seat { IsAlone (cell_view pass.old) }
+    requires region { _region.now ≡ (cell_view pass.old).opening.region }
+    requires holds { has (cell_view pass.old).held _src ≡ true }
+    requires fits { IsTrue (lies_in _access.now.addr _access.now.len _region.now) }
+    requires granule { granule ≡ granule_of _access.now.addr _region.now }
+    requires below { granule < 8 }
+    requires applies { Applies (cell_view pass.old).opening _access.now (slice_index current granule) next }
+    ensures own { IsSamePass pass.old pass.new }
+    ensures tried { MatchResult result
+        (λ _. Replaces (cell_view pass.old) current _src _access.now (cell_view pass.new))
+        (λ _. cell_view pass.new ≡ cell_view pass.old) }
+{
+    // It is read for what it tells: the access is lawful.
+    let _len = _access.len();
+    let mut new = current;
+    new[granule] = next;
+    cell.compare_exchange_as::<Tries<Q>, R>(rt, pass, current, new)
+}
+
+/// The words of the line. A seat that holds all numbers finds those of what it has seen.
+pub(crate) fn look<R: Wait>(cell: &Cell, rt: &R, pass: &mut LinePass) -> Words
+    requires own { pass.old.table_id ≡ cell.now.table.shared.table_id }
+    requires seat { IsAlone (cell_view pass.old) }
+    ensures own { IsSamePass pass.old pass.new }
+    ensures read { Reads (cell_view pass.old) result (cell_view pass.new) }
+{
+    cell.load_as::<Look, R>(rt, pass)
+}
+
+/// A pass for one of the numbers. The old pass keeps the others.
+pub(crate) fn give<Q: Number>(cell: &Cell, pass: &mut LinePass, _src: u8) -> LinePass
+    requires own { pass.old.table_id ≡ cell.now.table.shared.table_id }
+    requires asked { _src ≡ Q.number }
+    requires seat { IsAlone (cell_view pass.old) }
+    requires holds { has (cell_view pass.old).held _src ≡ true }
+    ensures own { IsSamePass pass.old pass.new × (result.table_id ≡ pass.old.table_id) }
+    ensures rest { cell_view pass.new ≡ rest_of _src (cell_view pass.old) }
+    ensures alone { cell_view result ≡ alone _src (cell_view pass.old) }
+{
+    cell.split_pass::<Gives<Q>>(pass)
+}
+
+/// Makes two passes one, and looks at the line: only this look tells how what both had seen goes together.
+pub(crate) fn take_in<R: Wait>(cell: &Cell, rt: &R, pass: &mut LinePass, mut other: LinePass)
+    requires own { pass.old.table_id ≡ cell.now.table.shared.table_id }
+    requires other_own { other.table_id ≡ cell.now.table.shared.table_id }
+    requires seat { IsAlone (cell_view pass.old) }
+    requires other_seat { IsAlone (cell_view other) }
+    ensures own { IsSamePass pass.old pass.new }
+    ensures settled { Settles (both (cell_view pass.old) (cell_view other)) (cell_view pass.new) }
+{
+    let free = cell.split_pass::<Whole>(&mut other);
+    cell.join_pass::<Whole>(pass, free);
+    cell.load_as::<Settle, R>(rt, pass);
+}
