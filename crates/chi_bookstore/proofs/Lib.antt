@@ -1,0 +1,6 @@
+pub mod Book
+pub mod Known
+pub mod Held
+pub mod Shown
+pub mod Leaves
+pub mod Adds

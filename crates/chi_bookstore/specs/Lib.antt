@@ -1,0 +1,6 @@
+pub mod About
+pub mod Plays
+pub mod Known
+pub mod Seats
+pub mod Faults
+pub mod Events

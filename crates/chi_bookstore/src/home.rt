@@ -1,0 +1,117 @@
+//! The lock-free home, as a home.
+
+use crate::rule::Ask;
+use crate::seat::BookSeat;
+use crate::steps::{give, read_one, take_in};
+use crate::store::BookStore;
+use crate::tries::try_until_done;
+use chi_fields::{Access, Region};
+use chi_history::{Credit, Gate, Home, Numbers, Served};
+use chi_lanes::Reply;
+use std::marker::Brand;
+use std::sync::Wait;
+
+impl Home for BookStore {
+    ghost use Rattle.chi_history.specs.Views.{has};
+    ghost use Rattle.chi_bookstore.specs.About.{about};
+    ghost use Rattle.chi_bookstore.specs.Seats.{IsSeatOf};
+
+    type Seat = BookSeat;
+
+    ghost opening = { λ home. about home.key };
+
+    ghost limit = { λ home. home.attempts };
+
+    ghost belongs = { IsSeatOf };
+
+    ghost held = { λ seat. has seat.numbers };
+
+    ghost seen = { λ seat. seat.table_seat.me.0.seen };
+
+    ghost seen_is_legal = { λ home seat own. own.known.legal };
+
+    ghost held_is_opened = { λ home seat own. own.opened };
+
+    fn region(&self) -> Region {
+        self.key.region
+    }
+
+    fn requesters(&self) -> u8 {
+        self.key.requesters
+    }
+
+    fn holds(&self, seat: &BookSeat, src: u8) -> bool {
+        seat.numbers.has(src)
+    }
+
+    fn holds_all(&self, seat: &BookSeat) -> bool {
+        for n in 0..self.key.requesters {
+            if !seat.numbers.has(n) {
+                return false;
+            }
+        }
+        true
+    }
+
+    fn serve<R: Wait, G: Gate>(
+        &self,
+        _rt: &R,
+        seat: &mut BookSeat,
+        src: u8,
+        access: &Access,
+        gate: &mut G,
+    ) -> Served {
+        self.attempt_gated(seat, src, access, gate)
+    }
+
+    fn serve_credited<R: Wait>(
+        &self,
+        rt: &R,
+        seat: &mut BookSeat,
+        credit: Credit,
+        access: &Access,
+    ) -> Reply {
+        let ask = Ask {
+            src: credit.spend(),
+            access: *access,
+        };
+        try_until_done(
+            rt,
+            &self.table,
+            self.key.image.as_slice(),
+            &self.key.region,
+            &mut seat.table_seat,
+            &ask,
+        )
+    }
+
+    fn split<R: Wait>(&self, _rt: &R, seat: &mut BookSeat, src: u8) -> BookSeat {
+        let table_seat = give::<Brand>(&self.table, &mut seat.table_seat, src);
+        seat.numbers.remove(src);
+        BookSeat {
+            table_seat,
+            numbers: Numbers::only(src),
+        }
+    }
+
+    fn rejoin<R: Wait>(&self, _rt: &R, seat: &mut BookSeat, other: BookSeat) {
+        let BookSeat {
+            table_seat,
+            numbers,
+        } = other;
+        take_in(&self.table, &mut seat.table_seat, table_seat);
+        seat.numbers.merge(numbers);
+    }
+
+    fn snapshot<R: Wait>(&self, _rt: &R, seat: &mut BookSeat, words: &mut [u64]) {
+        let image = self.key.image.as_slice();
+        for granule in 0..words.len() {
+            let found = read_one(&self.table, &mut seat.table_seat, granule);
+            words[granule] = found ^ image[granule];
+        }
+    }
+
+    fn return_credit(&self, credit: Credit) {
+        credit.spend();
+    }
+}

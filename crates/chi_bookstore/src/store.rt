@@ -1,0 +1,21 @@
+//! The lock-free home.
+
+ghost use Rattle.std.specs.Prelude.{◌≡◌, ◌<◌, ◌≤◌, length};
+
+use crate::rule::{BookTable, Key};
+
+/// A home whose memory is a row of words, one for each granule, that callers load and exchange.
+///
+/// Many threads may call it at once, each with a seat of its own. No call takes a lock.
+#[derive(Drop)]
+pub struct BookStore {
+    pub(crate) table: BookTable,
+    pub(crate) key: Key,
+    pub(crate) attempts: u8,
+    ghost key_is: { table.shared.key ≡ key },
+    ghost wide: { table.shared.table_id.words ≡ key.region.granules },
+    ghost imaged: { length key.image.items ≡ key.region.granules },
+    ghost some_granules: { 0 < key.region.granules },
+    ghost counted: { key.requesters ≤ 8 },
+    ghost some_attempts: { 1 ≤ attempts },
+}
