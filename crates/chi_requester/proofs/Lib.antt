@@ -1,0 +1,5 @@
+pub mod WorkLemmas
+pub mod SerialLemmas
+pub mod RunLemmas
+pub mod RaceLemmas
+pub mod PairLemmas

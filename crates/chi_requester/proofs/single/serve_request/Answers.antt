@@ -1,0 +1,22 @@
+-- a request is refused, done, or answered by RetryAck
+use Rattle.std.proofs.Common.{◌≡◌, None, Some, subst}
+use Rattle.chi_fields.specs.Extent.{Extent}
+use Rattle.chi_fields.specs.Refusal.{refusal}
+use Rattle.chi_requester.proofs.WorkLemmas.{worked_refused, worked_done, worked_retried}
+use Rattle.chi_requester.proofs.single.serve_request.Goals as goal
+
+pub returns-in-Err-clause-worked : goal.returns-in-Err-clause-worked
+returns-in-Err-clause-worked g c =
+    let P : Extent → Type 0 = λ region. refusal c.args.request.now region ≡ Some c.in-Err.refusal in
+    worked_refused _ _ _ _ _ _ (subst P c.region.ensures c.in-Err.ensures.decided)
+
+pub returns-in-Done-clause-worked : goal.returns-in-Done-clause-worked
+returns-in-Done-clause-worked g c =
+    let P : Extent → Type 0 = λ region. refusal c.args.request.now region ≡ None in
+    worked_done _ _ _ _ _ _ _ _ c.in-Done.lost c.requires.holds (subst P c.region.ensures c.in-Ok.ensures.decided.0) c.in-Ok.ensures.decided.1 c.in-Done.ensures.served.0
+
+pub returns-in-Retry-clause-worked : goal.returns-in-Retry-clause-worked
+returns-in-Retry-clause-worked g c =
+    let P : Extent → Type 0 = λ region. refusal c.args.request.now region ≡ None in
+    let served = c.in-Retry.ensures.served in
+    worked_retried _ _ _ _ _ _ _ c.in-Retry.lost c.requires.holds (subst P c.region.ensures c.in-Ok.ensures.decided.0) c.in-Ok.ensures.decided.1 served.0 served.1 served.2

@@ -1,0 +1,3 @@
+pub mod Work
+pub mod Serial
+pub mod Race

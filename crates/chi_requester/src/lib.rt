@@ -1,0 +1,13 @@
+//! Requesters and the work that they bring to a home.
+#![tactic(auto)]
+
+mod fault;
+mod racing;
+mod serial;
+mod single;
+mod working;
+
+pub use fault::WorkFault;
+pub use racing::{Race, race_two};
+pub use serial::run_serial;
+pub use working::work;

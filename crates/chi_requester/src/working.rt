@@ -1,0 +1,44 @@
+//! One requester's work.
+
+ghost use Rattle.std.specs.Prelude.{◌≡◌, true};
+ghost use Rattle.chi_requester.specs.Work.{IsWorkRun};
+
+use crate::fault::WorkFault;
+use crate::single::work_request;
+use chi_fields::Request;
+use chi_history::{Gate, Home, Line};
+use std::alloc::Allocator;
+use std::sync::Wait;
+
+/// Works the requests of the requester `src` in order, and skips the others.
+///
+/// Each is refused, or executed once, or answered by RetryAck. The credit of a RetryAck is given back.
+/// `Memory` comes before the request that it stops: the lines before it stay, and the requests from it on are
+/// not worked.
+///
+/// ```
+/// work(&home, rt, &mut seat, 1, script.requests(), &mut NoGate, &mut lines)?;
+/// ```
+pub fn work<H: Home, R: Wait, G: Gate, A: Allocator>(
+    home: &H,
+    rt: &R,
+    seat: &mut H::Seat,
+    src: u8,
+    requests: &[Request],
+    gate: &mut G,
+    lines: &mut Vec<Line, A>,
+) -> Result<(), WorkFault>
+    requires own { H.belongs home.now seat.old }
+    requires holds { H.held seat.old src ≡ true }
+    ensures own { H.belongs home.now seat.new }
+    ensures held { H.held seat.new ≡ H.held seat.old }
+    ensures worked { IsWorkRun result (H.opening home.now) (H.limit home.now) (H.held seat.old) src requests.now
+        (H.seen seat.old) (H.seen seat.new) lines.old.items lines.new.items }
+{
+    for request in requests {
+        if request.src == src {
+            work_request(home, rt, seat, request, gate, lines)?;
+        }
+    }
+    Ok(())
+}
