@@ -19,6 +19,7 @@ run: build
 	@$(PROGRAM) < $(SCRIPT)
 
 test:
+	.ci/credit_let_go
 	rt ci
 
 install: build
