@@ -1,7 +1,7 @@
 -- making a store, and cutting a view in two, keep the rule
-use Rattle.std.proofs.Common.{◌≡◌, ℕ, zero, suc, ◌≤◌, Bool, true, false, ◌&&◌, List, [], ◌∷◌, length, replicate, set, slice_index, refl, sym, ap, subst, ◌∙◌, inl, inr, true≢false, eqb-true}
-use Rattle.std.proofs.lemmas.Bool.{cases_lt, ltb-true}
-use Rattle.std.proofs.lemmas.List.{get_or-replicate, get_or_past, length-replicate}
+use Rattle.std.proofs.Common.{◌≡◌, ℕ, zero, suc, ◌≤◌, Bool, true, false, ◌&&◌, List, [], ◌∷◌, length, replicate, set, refl, sym, ap, subst, ◌∙◌, inl, inr, true≢false, eqb-true}
+use Rattle.std.proofs.lemmas.Bool.{ltb-true}
+use Rattle.std.proofs.lemmas.List.{length-replicate}
 use Rattle.std.specs.Int.Bits.{xor_self}
 use mathlib.Core.Logic.{dite}
 use mathlib.Core.Option as plain
@@ -22,6 +22,7 @@ use Rattle.chi_history.proofs.StepLemmas.{knows_all}
 use Rattle.chi_history.proofs.Steps.{Parts}
 use Rattle.chi_history.proofs.ViewLemmas.{Within, has-all_below, has-all_but, has-only, within_apart}
 use Rattle.chi_history.proofs.ViewLists.{at_last, at_longer, at_once, at_set, set_else}
+use Rattle.chi_history.proofs.WordLemmas.{zeros_are}
 
 -- a seat that was joined away knows
 pub knows_gone : (o : Opening) (h : List Entry) → Knows o h gone
@@ -117,13 +118,6 @@ moves count o id v words views kept at = (
 
     s : Stands count o h words views
     s = kept.1
-
--- zeros, however many
-zeros_are : (count g : ℕ) → slice_index (replicate count 0) g ≡ 0
-zeros_are count g = elim (cases_lt g count) [
-  | inl inside ↦ get_or-replicate count g 0 0 inside
-  | inr past ↦ get_or_past (replicate count 0) g 0 (rw (length-replicate {A = ℕ} count 0) past)
-]
 
 -- a list of one has one item
 pub one_at : (v u : View) (i : ℕ) → get_elem? (v ∷ []) i ≡ plain.some u → (i ≡ 0) × (v ≡ u)

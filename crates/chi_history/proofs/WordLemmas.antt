@@ -1,5 +1,7 @@
 -- the words that a history leaves in the granules of a region
-use Rattle.std.proofs.Common.{◌≡◌, ◌≢◌, ℕ, ◌+◌, ◌-◌, ◌*◌, ◌/◌, ◌%◌, ◌^◌, ◌<◌, ◌≤◌, Bool, true, false, not, ◌&&◌, List, [], ◌∷◌, ◌++◌, slice_index, refl, sym, ap, ◌∙◌, arith, ext_get_or, mod-eq_of_lt}
+use Rattle.std.proofs.Common.{◌≡◌, ◌≢◌, ℕ, ◌+◌, ◌-◌, ◌*◌, ◌/◌, ◌%◌, ◌^◌, ◌<◌, ◌≤◌, Bool, true, false, not, ◌&&◌, List, [], ◌∷◌, ◌++◌, replicate, slice_index, refl, sym, ap, ◌∙◌, inl, inr, arith, ext_get_or, mod-eq_of_lt}
+use Rattle.std.proofs.lemmas.Bool.{cases_lt}
+use Rattle.std.proofs.lemmas.List.{get_or-replicate, get_or_past, length-replicate}
 use Rattle.chi_fields.specs.Extent.{IsRegion, granule_of, lies_in}
 use Rattle.chi_fields.specs.Operation.{IsLawful}
 use Rattle.chi_lanes.specs.After.{after, same_bytes}
@@ -15,6 +17,13 @@ use Rattle.chi_history.specs.declared.opening.Opening.{Opening}
 use Rattle.chi_history.specs.Held.{nobody}
 use Rattle.chi_history.specs.History.{IsLegal, IsLegalFrom, end, end_from, hits, hits_from, one_if, opening_memory}
 use Rattle.chi_history.proofs.HistoryLemmas.{end_from-append}
+
+-- zeros, however many
+pub zeros_are : (count g : ℕ) → slice_index (replicate count 0) g ≡ 0
+zeros_are count g = elim (cases_lt g count) [
+  | inl inside ↦ get_or-replicate count g 0 0 inside
+  | inr past ↦ get_or_past (replicate count 0) g 0 (rw (length-replicate {A = ℕ} count 0) past)
+]
 
 -- the memory of an opening is one
 pub IsMemory-opening_memory : (o : Opening) → IsMemory (opening_memory o)

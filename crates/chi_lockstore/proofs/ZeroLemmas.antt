@@ -1,7 +1,5 @@
 -- a store that opens with zeros keeps the words of its memory as they are
-use Rattle.std.proofs.Common.{◌≡◌, ℕ, ◌<◌, true, List, [], ◌∷◌, ◌++◌, replicate, slice_index, bit_xor, sym, ap, subst, ◌∙◌, inl, inr, arith}
-use Rattle.std.proofs.lemmas.Bool.{cases_lt}
-use Rattle.std.proofs.lemmas.List.{get_or-replicate, get_or_past, length-replicate}
+use Rattle.std.proofs.Common.{◌≡◌, ℕ, ◌<◌, true, List, [], ◌∷◌, ◌++◌, replicate, slice_index, bit_xor, sym, ap, subst, ◌∙◌, arith}
 use Rattle.std.specs.Int.Bits.{xor_zero_r}
 use Rattle.chi_fields.specs.Extent.{Extent, IsRegion, granule_of, lies_in}
 use Rattle.chi_fields.specs.Operation.{Operation, IsLawful}
@@ -19,16 +17,9 @@ use Rattle.chi_history.specs.Told.{Applies, Reads, Replaces, next_entry}
 use Rattle.chi_history.specs.Views.{has, knower}
 use Rattle.chi_history.proofs.HistoryLemmas.{legal-front}
 use Rattle.chi_history.proofs.StepLemmas.{granule_below}
-use Rattle.chi_history.proofs.WordLemmas.{IsMemory-end, word-opening_memory}
+use Rattle.chi_history.proofs.WordLemmas.{IsMemory-end, word-opening_memory, zeros_are}
 use Rattle.chi_lockstore.specs.Seats.{Added, IsSeatOf, zero_opening}
 use Rattle.chi_lockstore.proofs.SeatLemmas.{seat_opening}
-
--- zeros, however many
-zeros_are : (count g : ℕ) → slice_index (replicate count 0) g ≡ 0
-zeros_are count g = elim (cases_lt g count) [
-  | inl inside ↦ get_or-replicate count g 0 0 inside
-  | inr past ↦ get_or_past (replicate count 0) g 0 (rw (length-replicate {A = ℕ} count 0) past)
-]
 
 -- each word at the opening is 0
 pub first_zero : (region : Extent) (requesters g : ℕ) → first_word (zero_opening region requesters) g ≡ 0
