@@ -13,5 +13,6 @@ mod store;
 mod tests;
 mod tries;
 
+pub use open::MOST_ATTEMPTS;
 pub use seat::BookSeat;
 pub use store::BookStore;

@@ -9,8 +9,11 @@ use crate::seat::BookSeat;
 use crate::steps::begin;
 use crate::store::BookStore;
 use chi_fields::Region;
-use chi_history::{Home, Numbers, OpenFault};
+use chi_history::{Home, MOST_NUMBERS, Numbers, OpenFault};
 use std::alloc::{AllocError, Global};
+
+/// The greatest number of tries that a request gets before it is answered by RetryAck.
+pub const MOST_ATTEMPTS: u8 = 16;
 
 // So many words of zero.
 fn zeros(alloc: Global, count: u16) -> Result<Vec<u64>, AllocError>
@@ -20,8 +23,8 @@ fn zeros(alloc: Global, count: u16) -> Result<Vec<u64>, AllocError>
 }
 
 impl BookStore {
-    /// Opens a home for so many requesters, 1 to 8, whose requests get at most so many tries, 1 to 16. Every
-    /// byte of the region is 0.
+    /// Opens a home for so many requesters, 1 to `MOST_NUMBERS`, whose requests get at most so many tries, 1 to
+    /// `MOST_ATTEMPTS`. Every byte of the region is 0.
     ///
     /// ```
     /// let (home, mut seat) = BookStore::open(rt.alloc(), region, 3, 4)?;
@@ -42,10 +45,10 @@ impl BookStore {
         ensures counts { IfOk result (λ _. IsRequesterCount requesters × IsAttemptCount attempts) }
         ensures refused { IfErr result (Meets requesters attempts) }
     {
-        if requesters < 1 || requesters > 8 {
+        if requesters < 1 || requesters > MOST_NUMBERS {
             return Err(OpenFault::RequesterCount);
         }
-        if attempts < 1 || attempts > 16 {
+        if attempts < 1 || attempts > MOST_ATTEMPTS {
             return Err(OpenFault::AttemptCount);
         }
         let Ok(image) = zeros(alloc, region.granules()) else {
