@@ -1,4 +1,4 @@
-//! What no clause says: a gate that interferes, each operation once, the refusals, and two real threads.
+//! What no clause says: each operation once, the refusals, and two real threads.
 
 ghost use Rattle.std.specs.Prelude.{◌≡◌, true, IsTrue};
 ghost use Rattle.chi_fields.specs.Extent.{lies_in};
@@ -7,11 +7,12 @@ ghost use Rattle.chi_bookstore.specs.Seats.{IsSeatOf};
 
 use crate::{BookSeat, BookStore};
 use chi_fields::{Access, Region, Request, decode};
-use chi_history::{Gate, Home, OpenFault, Served};
+use chi_history::{Home, OpenFault, Served};
 use chi_lanes::Reply;
-use std::marker::Model;
 use std::test::Fail;
 use std::thread::join;
+
+mod gates;
 
 // A request of size `2^size` at 0x1000 with this byte in lane 0.
 fn request(src: u8, opcode: u8, size: u8, be: u16, first: u8) -> Request
@@ -56,72 +57,6 @@ fn first_lane(reply: Option<Reply>) -> Option<u8> {
         Some(Reply::CompData(lanes)) => Some(lanes[0]),
         _ => None,
     }
-}
-
-// A gate that adds 1 at each pause.
-struct Adder<'a> {
-    home: &'a BookStore,
-    seat: BookSeat,
-    access: Access,
-}
-
-impl<'a> Model for Adder<'a> {
-    ghost use Rattle.std.specs.Prelude.{◌≡◌, ℕ, List, true};
-    ghost use Rattle.chi_fields.specs.Extent.{lies_in};
-    ghost use Rattle.chi_history.specs.Views.{has};
-    ghost use Rattle.chi_bookstore.specs.About.{about};
-    ghost use Rattle.chi_bookstore.specs.Seats.{IsSeatOf};
-
-    ghost Value = { List ℕ };
-
-    ghost view = { λ a. a.seat.numbers };
-
-    ghost invariant = { λ a. IsSeatOf a.home.now a.seat × (has a.seat.numbers 1 ≡ true)
-        × (lies_in a.access.addr a.access.len a.home.now.key.region ≡ true) };
-}
-
-impl Gate for Adder<'_> {
-    fn pause(&mut self, _try_no: u8) {
-        match self.home.attempt(&mut self.seat, 1, &self.access) {
-            Served::Done { reply: _, lost: _ } => {}
-            Served::Retry { credit, lost: _ } => self.home.return_credit(credit),
-        }
-    }
-}
-
-impl Drop for Adder<'_> {
-    fn drop(self) {
-        let Adder {
-            home: _,
-            seat: _,
-            access: _,
-        } = self;
-    }
-}
-
-#[test]
-fn interfering_gate_by_attempt_gated(rt: HostRuntime) -> Result<(), Fail> {
-    let region = Region::new(0x1000, 8)?;
-    let (home, mut seat) = BookStore::open(rt.alloc(), region, 2, 2)?;
-    let other = home.split(&rt, &mut seat, 1);
-    let add = decode(&request(1, 0x28, 3, 0x00ff, 1), &region)?;
-    let fetch = decode(&request(0, 0x30, 3, 0x00ff, 5), &region)?;
-    let mut gate = Adder {
-        home: &home,
-        seat: other,
-        access: add,
-    };
-    match home.attempt_gated(&mut seat, 0, &fetch, &mut gate) {
-        Served::Done { reply: _, lost: _ } => assert!(rt; false, "an exchange won"),
-        Served::Retry { credit, lost } => {
-            assert_eq!(rt; lost, 2);
-            assert_eq!(rt; credit.src(), 0);
-            home.return_credit(credit);
-        }
-    }
-    let read = reply_to(&home, &mut seat, &request(0, 0x04, 3, 0, 0));
-    assert_eq!(rt; first_lane(read), Some(2));
-    Ok(())
 }
 
 #[test]
