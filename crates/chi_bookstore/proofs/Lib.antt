@@ -4,3 +4,4 @@ pub mod Held
 pub mod Shown
 pub mod Leaves
 pub mod Adds
+pub mod LostTries

@@ -47,14 +47,6 @@ impl BookStore {
             src,
             access: *access,
         };
-        try_some(
-            &self.table,
-            self.key.image.as_slice(),
-            &self.key.region,
-            &mut seat.table_seat,
-            &ask,
-            gate,
-            self.attempts,
-        )
+        try_some(self, &mut seat.table_seat, &ask, gate, self.attempts)
     }
 }

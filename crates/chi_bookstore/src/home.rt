@@ -75,22 +75,16 @@ impl Home for BookStore {
             src: credit.spend(),
             access: *access,
         };
-        try_until_done(
-            rt,
-            &self.table,
-            self.key.image.as_slice(),
-            &self.key.region,
-            &mut seat.table_seat,
-            &ask,
-        )
+        try_until_done(rt, self, &mut seat.table_seat, &ask)
     }
 
     fn split<R: Wait>(&self, _rt: &R, seat: &mut BookSeat, src: u8) -> BookSeat {
         let table_seat = give::<Brand>(&self.table, &mut seat.table_seat, src);
+        let alone = Numbers::only(src);
         seat.numbers.remove(src);
         BookSeat {
             table_seat,
-            numbers: Numbers::only(src),
+            numbers: alone,
         }
     }
 
@@ -99,8 +93,8 @@ impl Home for BookStore {
             table_seat,
             numbers,
         } = other;
-        take_in(&self.table, &mut seat.table_seat, table_seat);
         seat.numbers.merge(numbers);
+        take_in(&self.table, &mut seat.table_seat, table_seat);
     }
 
     fn snapshot<R: Wait>(&self, _rt: &R, seat: &mut BookSeat, words: &mut [u64]) {

@@ -1,79 +1,68 @@
 //! Tries: a load and one compare-exchange, again where the exchange was lost.
 
-ghost use Rattle.std.specs.Prelude.{◌≡◌, ◌≤◌, true, IsTrue, MatchOption, length};
+ghost use Rattle.std.specs.Prelude.{◌≡◌, ◌≤◌, true, IsTrue, MatchOption};
 ghost use Rattle.chi_fields.specs.Extent.{lies_in};
 ghost use Rattle.chi_history.specs.Views.{has};
 ghost use Rattle.chi_history.specs.Served.{Completes, IsServed, Retries};
 ghost use Rattle.chi_bookstore.specs.About.{about};
 ghost use Rattle.chi_bookstore.specs.Known.{IsKnown};
 
-use crate::rule::{Ask, BookTable, TableSeat};
+use crate::rule::{Ask, TableSeat};
 use crate::steps::{exchange, look};
-use chi_fields::Region;
+use crate::store::BookStore;
 use chi_history::{Credit, Gate, NoGate, Served};
 use chi_lanes::{Reply, apply};
 use std::sync::Wait;
 
 // One try: the reply, or nothing where another's exchange came between.
 fn try_once<G: Gate>(
-    table: &BookTable,
-    image: &[u64],
-    region: &Region,
+    home: &BookStore,
     seat: &mut TableSeat,
     ask: &Ask,
     gate: &mut G,
     try_no: u8,
 ) -> Option<Reply>
-    requires own { seat.old.table_id ≡ table.now.shared.table_id }
-    requires known { IsKnown (about table.now.shared.key) seat.old.me.0 }
-    requires region { region.now ≡ table.now.shared.key.region }
-    requires image { image.now ≡ table.now.shared.key.image.items }
-    requires words { table.now.shared.table_id.words ≡ table.now.shared.key.region.granules }
-    requires long { length image.now ≡ region.now.granules }
+    requires own { seat.old.table_id ≡ home.now.table.shared.table_id }
+    requires known { IsKnown (about home.now.key) seat.old.me.0 }
     requires holds { has seat.old.me.0.held ask.now.src ≡ true }
-    requires fits { IsTrue (lies_in ask.now.access.addr ask.now.access.len region.now) }
+    requires fits { IsTrue (lies_in ask.now.access.addr ask.now.access.len home.now.key.region) }
     ensures own { (seat.new.table_id ≡ seat.old.table_id) × (seat.new.me.1 ≡ seat.old.me.1) }
-    ensures known { IsKnown (about table.now.shared.key) seat.new.me.0 }
+    ensures known { IsKnown (about home.now.key) seat.new.me.0 }
     ensures held { seat.new.me.0.held ≡ seat.old.me.0.held }
     ensures tried { MatchOption result
-        (Retries (about table.now.shared.key) (has seat.old.me.0.held) seat.old.me.0.seen seat.new.me.0.seen ask.now.access 1)
-        (λ reply. Completes (about table.now.shared.key) (has seat.old.me.0.held) seat.old.me.0.seen seat.new.me.0.seen ask.now.src ask.now.access reply 0) }
+        (Retries (about home.now.key) (has seat.old.me.0.held) seat.old.me.0.seen seat.new.me.0.seen ask.now.access 1)
+        (λ reply. Completes (about home.now.key) (has seat.old.me.0.held) seat.old.me.0.seen seat.new.me.0.seen ask.now.src ask.now.access reply 0) }
 {
-    let granule = ask.access.granule(region);
-    let found = look(table, seat, granule);
+    let image = home.key.image.as_slice();
+    let granule = ask.access.granule(&home.key.region);
+    let found = look(&home.table, seat, granule);
     gate.pause(try_no);
     let mask = image[granule];
     let (word, reply) = apply(found ^ mask, &ask.access);
-    let now = exchange(table, seat, granule, found, word ^ mask, ask);
+    let now = exchange(&home.table, seat, granule, found, word ^ mask, ask);
     if now == found { Some(reply) } else { None }
 }
 
 // At most so many tries.
 pub(crate) fn try_some<G: Gate>(
-    table: &BookTable,
-    image: &[u64],
-    region: &Region,
+    home: &BookStore,
     seat: &mut TableSeat,
     ask: &Ask,
     gate: &mut G,
     attempts: u8,
 ) -> Served
-    requires own { seat.old.table_id ≡ table.now.shared.table_id }
-    requires known { IsKnown (about table.now.shared.key) seat.old.me.0 }
-    requires region { region.now ≡ table.now.shared.key.region }
-    requires image { image.now ≡ table.now.shared.key.image.items }
-    requires words { table.now.shared.table_id.words ≡ table.now.shared.key.region.granules }
-    requires long { length image.now ≡ region.now.granules }
+    requires own { seat.old.table_id ≡ home.now.table.shared.table_id }
+    requires known { IsKnown (about home.now.key) seat.old.me.0 }
     requires holds { has seat.old.me.0.held ask.now.src ≡ true }
-    requires fits { IsTrue (lies_in ask.now.access.addr ask.now.access.len region.now) }
+    requires fits { IsTrue (lies_in ask.now.access.addr ask.now.access.len home.now.key.region) }
     requires some { 1 ≤ attempts }
     ensures own { (seat.new.table_id ≡ seat.old.table_id) × (seat.new.me.1 ≡ seat.old.me.1) }
-    ensures known { IsKnown (about table.now.shared.key) seat.new.me.0 }
+    ensures known { IsKnown (about home.now.key) seat.new.me.0 }
     ensures held { seat.new.me.0.held ≡ seat.old.me.0.held }
-    ensures served { IsServed (about table.now.shared.key) attempts (has seat.old.me.0.held) seat.old.me.0.seen seat.new.me.0.seen ask.now.src ask.now.access result }
+    ensures served { IsServed (about home.now.key) attempts (has seat.old.me.0.held) seat.old.me.0.seen seat.new.me.0.seen ask.now.src ask.now.access result }
 {
     'tries: for lost in 0..attempts {
-        if let Some(reply) = try_once(table, image, region, seat, ask, gate, lost + 1) {
+        if let Some(reply) = try_once(home, seat, ask, gate, lost + 1) {
             return Served::Done { reply, lost };
         }
     }
@@ -86,28 +75,22 @@ pub(crate) fn try_some<G: Gate>(
 // Tries until an exchange wins.
 pub(crate) fn try_until_done<R: Wait>(
     rt: &R,
-    table: &BookTable,
-    image: &[u64],
-    region: &Region,
+    home: &BookStore,
     seat: &mut TableSeat,
     ask: &Ask,
 ) -> Reply
-    requires own { seat.old.table_id ≡ table.now.shared.table_id }
-    requires known { IsKnown (about table.now.shared.key) seat.old.me.0 }
-    requires region { region.now ≡ table.now.shared.key.region }
-    requires image { image.now ≡ table.now.shared.key.image.items }
-    requires words { table.now.shared.table_id.words ≡ table.now.shared.key.region.granules }
-    requires long { length image.now ≡ region.now.granules }
+    requires own { seat.old.table_id ≡ home.now.table.shared.table_id }
+    requires known { IsKnown (about home.now.key) seat.old.me.0 }
     requires holds { has seat.old.me.0.held ask.now.src ≡ true }
-    requires fits { IsTrue (lies_in ask.now.access.addr ask.now.access.len region.now) }
+    requires fits { IsTrue (lies_in ask.now.access.addr ask.now.access.len home.now.key.region) }
     ensures own { (seat.new.table_id ≡ seat.old.table_id) × (seat.new.me.1 ≡ seat.old.me.1) }
-    ensures known { IsKnown (about table.now.shared.key) seat.new.me.0 }
+    ensures known { IsKnown (about home.now.key) seat.new.me.0 }
     ensures held { seat.new.me.0.held ≡ seat.old.me.0.held }
-    ensures done { Completes (about table.now.shared.key) (has seat.old.me.0.held) seat.old.me.0.seen seat.new.me.0.seen ask.now.src ask.now.access result 0 }
+    ensures done { Completes (about home.now.key) (has seat.old.me.0.held) seat.old.me.0.seen seat.new.me.0.seen ask.now.src ask.now.access result 0 }
 {
     let mut gate = NoGate;
     'tries: for _ in rt.forever() {
-        if let Some(reply) = try_once(table, image, region, seat, ask, &mut gate, 1) {
+        if let Some(reply) = try_once(home, seat, ask, &mut gate, 1) {
             return reply;
         }
     }

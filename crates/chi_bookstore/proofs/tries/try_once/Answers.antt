@@ -1,67 +1,69 @@
 -- A try: its load, and its exchange.
-use Rattle.std.proofs.Common.{rules, arith, true, ◌≡◌, ◌^◌, ◌<◌, ◌∙◌, sym, ap, subst, ℕ, List, slice_index, bit_xor}
-use Rattle.chi_fields.specs.Extent.{Extent, granule_of, lies_in}
+use Rattle.std.proofs.Common.{rules, arith, ◌≡◌, ◌^◌, ◌<◌, ◌∙◌, sym, ap, subst, ℕ, List, slice_index, bit_xor}
+use Rattle.chi_fields.specs.Extent.{granule_of}
 use Rattle.chi_fields.specs.Operation.{Operation}
 use Rattle.chi_history.specs.declared.opening.Opening.{Opening}
 use Rattle.chi_history.specs.declared.view.View.{View}
 use Rattle.chi_history.specs.Served.{Completes, Retries}
-use Rattle.chi_history.specs.Told.{Answers}
+use Rattle.chi_history.specs.Told.{Answers, Applies}
 use Rattle.chi_history.specs.Views.{has}
 use Rattle.chi_history.proofs.ToldLemmas.{answers, applies}
 use Rattle.chi_history.proofs.TryLemmas.{try_lost, try_won}
+use Rattle.chi_bookstore.specs.declared.rule.Key.{Key}
 use Rattle.chi_bookstore.specs.About.{about}
 use Rattle.chi_bookstore.proofs.Known.{held_try, known_opening, known_try}
 use Rattle.chi_bookstore.proofs.tries.try_once.Goals as goal
 
 pub exchange-now-requires-clause-applies : goal.exchange-now-requires-clause-applies
 exchange-now-requires-clause-applies g c =
-    let o : Opening = about c.args.table.now.shared.key in
+    let o : Opening = about c.args.home.now.key in
     let a : Operation = c.args.ask.now.access in
-    let at : ℕ = c.granule-granule.result in
     let found : ℕ = c.look-found.result in
-    let place : at ≡ granule_of a.addr o.region = c.granule-granule.ensures.value ∙ ap (granule_of a.addr) c.requires.region in
-    let mask : slice_index c.args.image.now at ≡ slice_index o.image (granule_of a.addr o.region) = λ i. slice_index (c.requires.image i) (place i) in
-    let fits : slice_index c.args.image.now (granule_of a.addr o.region) < 2 ^ 64 = omega (arith, c.type_inv.image (granule_of a.addr o.region)) in
-    let small : slice_index o.image (granule_of a.addr o.region) < 2 ^ 64 = subst (λ (xs : List ℕ). slice_index xs (granule_of a.addr o.region) < 2 ^ 64) c.requires.image fits in
-    applies o a found (bit_xor found (slice_index c.args.image.now at)) c.apply-word.result.0 (bit_xor c.apply-word.result.0 (slice_index c.args.image.now at)) small
-    (subst (λ (r : Extent). lies_in a.addr a.len r ≡ true) c.requires.region c.requires.fits) c.apply-word.ensures.changed (ap (bit_xor found) mask) (ap (bit_xor c.apply-word.result.0) mask)
+    let image : List ℕ = c.as_slice-image.result.now in
+    let at : ℕ = c.granule-granule.result in
+    let next : ℕ = bit_xor c.apply-word.result.0 (slice_index image at) in
+    let same : image ≡ o.image = search rules in
+    let mask : slice_index image at ≡ slice_index o.image (granule_of a.addr o.region) = λ i. slice_index (same i) (c.granule-granule.ensures.value i) in
+    let small : slice_index o.image (granule_of a.addr o.region) < 2 ^ 64 = omega arith in
+    subst (λ (k : Key). Applies (about k) a found next) (sym c.args.home.now.key_is)
+    (applies o a found (bit_xor found (slice_index image at)) c.apply-word.result.0 next small c.requires.fits c.apply-word.ensures.changed (ap (bit_xor found) mask)
+    (ap (bit_xor c.apply-word.result.0) mask))
 
 pub returns-then-now-found : goal.returns-then-now-found
 returns-then-now-found g c =
-    let o : Opening = about c.args.table.now.shared.key in
+    let o : Opening = about c.args.home.now.key in
     let v : View = c.args.seat.now.me.0 in
     let w : View = c.exchange-now.new.seat.me.0 in
     let a : Operation = c.args.ask.now.access in
-    let at : ℕ = c.granule-granule.result in
     let found : ℕ = c.look-found.result in
-    let same : v.opening ≡ o = known_opening o v c.requires.known in
-    let place : at ≡ granule_of a.addr o.region = c.granule-granule.ensures.value ∙ ap (granule_of a.addr) c.requires.region in
-    let mask : slice_index c.args.image.now at ≡ slice_index o.image (granule_of a.addr o.region) = λ i. slice_index (c.requires.image i) (place i) in
-    let fits : slice_index c.args.image.now (granule_of a.addr o.region) < 2 ^ 64 = omega (arith, c.type_inv.image (granule_of a.addr o.region)) in
-    let small : slice_index o.image (granule_of a.addr o.region) < 2 ^ 64 = subst (λ (xs : List ℕ). slice_index xs (granule_of a.addr o.region) < 2 ^ 64) c.requires.image fits in
+    let image : List ℕ = c.as_slice-image.result.now in
+    let at : ℕ = c.granule-granule.result in
+    let is : v.opening ≡ o = known_opening o v c.requires.known in
+    let same : image ≡ o.image = search rules in
+    let mask : slice_index image at ≡ slice_index o.image (granule_of a.addr o.region) = λ i. slice_index (same i) (c.granule-granule.ensures.value i) in
+    let small : slice_index o.image (granule_of a.addr o.region) < 2 ^ 64 = omega arith in
     let told : Answers o a found c.apply-word.result.1 =
-    answers o a found (bit_xor found (slice_index c.args.image.now at)) c.apply-word.result.1 small
-    (subst (λ (r : Extent). lies_in a.addr a.len r ≡ true) c.requires.region c.requires.fits) c.apply-word.ensures.answered (ap (bit_xor found) mask) in
+    answers o a found (bit_xor found (slice_index image at)) c.apply-word.result.1 small c.requires.fits c.apply-word.ensures.answered (ap (bit_xor found) mask) in
     let won =
     try_won v c.look-found.new.seat.me.0 w at found c.args.ask.now.src a c.exchange-now.result c.apply-word.result.1 c.look-found.ensures.looks
     c.exchange-now.ensures.exchanged c.if-now-found.true
-    (subst (λ (z : Opening × ℕ). Answers z.0 a z.1 c.apply-word.result.1) (λ i. (sym same i, sym c.if-now-found.true i)) told) in
+    (subst (λ (z : Opening × ℕ). Answers z.0 a z.1 c.apply-word.result.1) (λ i. (sym is i, sym c.if-now-found.true i)) told) in
     record {
       own = search rules;
       known = known_try o v w c.requires.known won.0;
       held = held_try v w won.0;
-      tried = subst (λ (z : Opening). Completes z (has v.held) v.seen w.seen c.args.ask.now.src a c.apply-word.result.1 0) same won.1;
+      tried = subst (λ (z : Opening). Completes z (has v.held) v.seen w.seen c.args.ask.now.src a c.apply-word.result.1 0) is won.1;
     }
 
 pub returns-else-now-found : goal.returns-else-now-found
 returns-else-now-found g c =
-    let o : Opening = about c.args.table.now.shared.key in
+    let o : Opening = about c.args.home.now.key in
     let v : View = c.args.seat.now.me.0 in
     let w : View = c.exchange-now.new.seat.me.0 in
     let a : Operation = c.args.ask.now.access in
     let at : ℕ = c.granule-granule.result in
-    let same : v.opening ≡ o = known_opening o v c.requires.known in
-    let place : at ≡ granule_of a.addr v.opening.region = c.granule-granule.ensures.value ∙ (ap (granule_of a.addr) c.requires.region ∙ ap (λ (z : Opening). granule_of a.addr z.region) (sym same)) in
+    let is : v.opening ≡ o = known_opening o v c.requires.known in
+    let place : at ≡ granule_of a.addr v.opening.region = c.granule-granule.ensures.value ∙ ap (λ (z : Opening). granule_of a.addr z.region) (sym is) in
     let lost =
     try_lost v c.look-found.new.seat.me.0 w at c.look-found.result c.args.ask.now.src a c.exchange-now.result place c.look-found.ensures.looks
     c.exchange-now.ensures.exchanged c.if-now-found.false in
@@ -69,5 +71,5 @@ returns-else-now-found g c =
       own = search rules;
       known = known_try o v w c.requires.known lost.0;
       held = held_try v w lost.0;
-      tried = subst (λ (z : Opening). Retries z (has v.held) v.seen w.seen a 1) same lost.1;
+      tried = subst (λ (z : Opening). Retries z (has v.held) v.seen w.seen a 1) is lost.1;
     }

@@ -29,7 +29,7 @@ returns-clause-own g c =
         table = c.give-table_seat.ensures.own.1 ∙ own.table;
         slots = ap (λ m. m.1) c.give-table_seat.ensures.alone;
         known = known_at o v (src ∷ []) one own.known one_is;
-        numbers = numbers_alone src c.only.result one c.only.ensures (ap (λ (z : View). z.held) one_is);
-        opened = only_under src c.args.self.now.key.requesters c.only.result c.only.ensures (own.opened src c.requires.holds);
+        numbers = numbers_alone src c.only-alone.result one c.only-alone.ensures (ap (λ (z : View). z.held) one_is);
+        opened = only_under src c.args.self.now.key.requesters c.only-alone.result c.only-alone.ensures (own.opened src c.requires.holds);
       },
     )
