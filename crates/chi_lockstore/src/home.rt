@@ -91,17 +91,18 @@ impl Home for LockStore {
 
     fn split<R: Wait>(&self, _rt: &R, seat: &mut LockSeat, src: u8) -> LockSeat {
         let pass = give::<Brand>(&self.cell, &mut seat.pass, src);
+        let alone = Numbers::only(src);
         seat.numbers.remove(src);
         LockSeat {
             pass,
-            numbers: Numbers::only(src),
+            numbers: alone,
         }
     }
 
     fn rejoin<R: Wait>(&self, rt: &R, seat: &mut LockSeat, other: LockSeat) {
         let LockSeat { pass, numbers } = other;
-        take_in(&self.cell, rt, &mut seat.pass, pass);
         seat.numbers.merge(numbers);
+        take_in(&self.cell, rt, &mut seat.pass, pass);
     }
 
     fn snapshot<R: Wait>(&self, rt: &R, seat: &mut LockSeat, words: &mut [u64]) {

@@ -18,6 +18,6 @@ returns-clause-own g c =
       ),
       (
         c.give-pass.ensures.own.1 ∙ c.requires.own.0,
-        seat_one o numbers c.only.result v c.args.src (cell_view c.give-pass.result) c.requires.own.1 c.requires.holds c.only.ensures c.give-pass.ensures.alone,
+        seat_one o numbers c.only-alone.result v c.args.src (cell_view c.give-pass.result) c.requires.own.1 c.requires.holds c.only-alone.ensures c.give-pass.ensures.alone,
       ),
     )
