@@ -12,7 +12,7 @@ use chi_fields::Region;
 use chi_history::{Home, MOST_NUMBERS, Numbers, OpenFault};
 use std::alloc::{AllocError, Global};
 
-/// The greatest number of tries that a request gets before it is answered by RetryAck.
+/// The greatest number of tries that a request gets before it is answered by RetryAck, which the profile sets.
 pub const MOST_ATTEMPTS: u8 = 16;
 
 // So many words of zero.
