@@ -1,4 +1,3 @@
-pub mod About
 pub mod Plays
 pub mod Known
 pub mod Seats

@@ -8,17 +8,17 @@ use crate::tries::try_until_done;
 use chi_fields::{Access, Region};
 use chi_history::{Credit, Gate, Home, Numbers, Served};
 use chi_lanes::Reply;
+use std::alloc::Allocator;
 use std::marker::Brand;
 use std::sync::Wait;
 
-impl Home for BookStore {
+impl<A: Allocator> Home for BookStore<A> {
     ghost use Rattle.chi_history.specs.Views.{has};
-    ghost use Rattle.chi_bookstore.specs.About.{about};
     ghost use Rattle.chi_bookstore.specs.Seats.{IsSeatOf};
 
     type Seat = BookSeat;
 
-    ghost opening = { λ home. about home.key };
+    ghost opening = { λ home. home.key };
 
     ghost limit = { λ home. home.attempts };
 
@@ -79,7 +79,7 @@ impl Home for BookStore {
     }
 
     fn split<R: Wait>(&self, _rt: &R, seat: &mut BookSeat, src: u8) -> BookSeat {
-        let table_seat = give::<Brand>(&self.table, &mut seat.table_seat, src);
+        let table_seat = give::<Brand, A>(&self.table, &mut seat.table_seat, src);
         let alone = Numbers::only(src);
         seat.numbers.remove(src);
         BookSeat {

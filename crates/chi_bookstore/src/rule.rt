@@ -3,8 +3,8 @@
 use atomic_table::{Join, Play, Seat, Split, Table, TableRule};
 use chi_fields::{Access, Region};
 use chi_history::View;
-use std::alloc::Global;
-use std::marker::{Brand, PhantomData};
+use std::alloc::Allocator;
+use std::marker::{Brand, Model, PhantomData};
 
 /// What an exchange is for: the access of one requester.
 #[derive(Clone, Copy)]
@@ -13,30 +13,37 @@ pub struct Ask {
     pub access: Access,
 }
 
-/// The values of an opening: the image is the words of the memory at the opening.
+/// The values of an opening: the image is the words of the memory at the opening. Contracts see an `Opening`.
 #[derive(Drop)]
-pub struct Key {
+pub struct Key<A: Allocator> {
     pub region: Region,
     pub requesters: u8,
-    pub image: Vec<u64>,
+    pub image: Vec<u64, A>,
+}
+
+impl<A: Allocator> Model for Key<A> {
+    ghost use Rattle.chi_history.specs.declared.opening.Opening.{Opening};
+
+    ghost Value = { Opening };
+
+    ghost view = { λ k. record { region = k.region; requesters = k.requesters; image = k.image.items } };
 }
 
 /// The words show the end of one history, and each seat has seen a prefix of it.
 pub struct BookRule;
 
-impl TableRule<Ask, View, Key> for BookRule {
+impl<A: Allocator> TableRule<Ask, View, Key<A>> for BookRule {
     ghost use Rattle.chi_history.specs.Rule.{Kept};
     ghost use Rattle.chi_history.specs.Views.{all_below, knower};
     ghost use Rattle.std.specs.Prelude.{[]};
-    ghost use Rattle.chi_bookstore.specs.About.{about};
 
-    ghost holds = { λ k s. Kept k.region.granules (about k) s.words s.views };
+    ghost holds = { λ k s. Kept k.region.granules k s.words s.views };
 
-    ghost first = { λ k. knower (about k) (all_below k.requesters) [] };
+    ghost first = { λ k. knower k (all_below k.requesters) [] };
 }
 
 /// The words. There are no slots: an exchange tells the rule what it is for.
-pub type BookTable = Table<Ask, View, Key, BookRule, Global>;
+pub type BookTable<A> = Table<Ask, View, Key<A>, BookRule, A>;
 
 /// What one caller knows of the words.
 pub type TableSeat = Seat<Ask, View>;

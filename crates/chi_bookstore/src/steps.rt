@@ -3,16 +3,18 @@ ghost use Rattle.std.specs.Prelude.{◌≡◌, ◌<◌, [], true, IsTrue, IfOk};
 ghost use Rattle.chi_fields.specs.Extent.{lies_in, granule_of};
 ghost use Rattle.chi_history.specs.Views.{all_below, alone, both, has, knower, rest_of};
 ghost use Rattle.chi_history.specs.Told.{Applies, Exchanges, Looks, ReadsAt, Settles};
-ghost use Rattle.chi_bookstore.specs.About.{about};
 
 use crate::rule::{
     Ask, BookTable, Gives, Glue, Key, Look, Number, ReadOne, Serve, Settle, TableSeat,
 };
-use std::alloc::{AllocError, Global};
+use std::alloc::{AllocError, Allocator};
 
 // The words at the opening, all zeros, and the first seat, which holds every number.
-pub(crate) fn begin(alloc: Global, key: &Key) -> Result<(BookTable, TableSeat), AllocError>
-    ensures { IfOk result (λ r. (r.1.table_id ≡ r.0.shared.table_id) × (r.0.shared.key ≡ key.now) × (r.0.shared.table_id.words ≡ key.now.region.granules) × (r.1.me ≡ (knower (about key.now) (all_below key.now.requesters) [], []))) }
+pub(crate) fn begin<A: Allocator + Copy>(
+    alloc: A,
+    key: &Key<A>,
+) -> Result<(BookTable<A>, TableSeat), AllocError>
+    ensures { IfOk result (λ r. (r.1.table_id ≡ r.0.shared.table_id) × (r.0.shared.key ≡ key.now) × (r.0.shared.table_id.words ≡ key.now.region.granules) × (r.1.me ≡ (knower key.now (all_below key.now.requesters) [], []))) }
 {
     let granules = usize::from(key.region.granules());
     let words = vec![in alloc; 0u64; granules]?;
@@ -20,9 +22,9 @@ pub(crate) fn begin(alloc: Global, key: &Key) -> Result<(BookTable, TableSeat), 
 }
 
 // The load of a try.
-pub(crate) fn look(table: &BookTable, seat: &mut TableSeat, granule: usize) -> u64
+pub(crate) fn look<A: Allocator>(table: &BookTable<A>, seat: &mut TableSeat, granule: usize) -> u64
     requires own { seat.old.table_id ≡ table.now.shared.table_id }
-    requires seat { seat.old.me.0 ≡ knower (about table.now.shared.key) seat.old.me.0.held seat.old.me.0.seen }
+    requires seat { seat.old.me.0 ≡ knower table.now.shared.key seat.old.me.0.held seat.old.me.0.seen }
     requires granule { granule < table.now.shared.key.region.granules }
     requires word { granule < table.now.shared.table_id.words }
     ensures own { (seat.new.table_id ≡ seat.old.table_id) × (seat.new.me.1 ≡ seat.old.me.1) }
@@ -32,8 +34,8 @@ pub(crate) fn look(table: &BookTable, seat: &mut TableSeat, granule: usize) -> u
 }
 
 // The exchange of a try: `next` for `first`. It answers the word that it found.
-pub(crate) fn exchange(
-    table: &BookTable,
+pub(crate) fn exchange<A: Allocator>(
+    table: &BookTable<A>,
     seat: &mut TableSeat,
     granule: usize,
     first: u64,
@@ -41,12 +43,12 @@ pub(crate) fn exchange(
     ask: &Ask,
 ) -> u64
     requires own { seat.old.table_id ≡ table.now.shared.table_id }
-    requires seat { seat.old.me.0 ≡ knower (about table.now.shared.key) seat.old.me.0.held seat.old.me.0.seen }
+    requires seat { seat.old.me.0 ≡ knower table.now.shared.key seat.old.me.0.held seat.old.me.0.seen }
     requires word { granule < table.now.shared.table_id.words }
     requires holds { has seat.old.me.0.held ask.now.src ≡ true }
     requires granule { granule ≡ granule_of ask.now.access.addr table.now.shared.key.region }
     requires fits { IsTrue (lies_in ask.now.access.addr ask.now.access.len table.now.shared.key.region) }
-    requires applies { Applies (about table.now.shared.key) ask.now.access first next }
+    requires applies { Applies table.now.shared.key ask.now.access first next }
     ensures own { (seat.new.table_id ≡ seat.old.table_id) × (seat.new.me.1 ≡ seat.old.me.1) }
     ensures exchanged { Exchanges seat.old.me.0 first ask.now.src ask.now.access result seat.new.me.0 }
 {
@@ -57,9 +59,9 @@ pub(crate) fn exchange(
 }
 
 // A load of a snapshot, which leaves what the seat has seen.
-pub(crate) fn read_one(table: &BookTable, seat: &mut TableSeat, granule: usize) -> u64
+pub(crate) fn read_one<A: Allocator>(table: &BookTable<A>, seat: &mut TableSeat, granule: usize) -> u64
     requires own { seat.old.table_id ≡ table.now.shared.table_id }
-    requires seat { seat.old.me.0 ≡ knower (about table.now.shared.key) seat.old.me.0.held seat.old.me.0.seen }
+    requires seat { seat.old.me.0 ≡ knower table.now.shared.key seat.old.me.0.held seat.old.me.0.seen }
     requires granule { granule < table.now.shared.key.region.granules }
     requires word { granule < table.now.shared.table_id.words }
     ensures own { (seat.new.table_id ≡ seat.old.table_id) × (seat.new.me.1 ≡ seat.old.me.1) }
@@ -69,11 +71,11 @@ pub(crate) fn read_one(table: &BookTable, seat: &mut TableSeat, granule: usize) 
 }
 
 // A seat for one number alone. `Q` names the number to the rule.
-pub(crate) fn give<Q: Number>(table: &BookTable, seat: &mut TableSeat, _src: u8) -> TableSeat
+pub(crate) fn give<Q: Number, A: Allocator>(table: &BookTable<A>, seat: &mut TableSeat, _src: u8) -> TableSeat
     requires own { seat.old.table_id ≡ table.now.shared.table_id }
     requires asked { _src ≡ Q.number }
     requires some { 0 < table.now.shared.table_id.words }
-    requires seat { seat.old.me.0 ≡ knower (about table.now.shared.key) seat.old.me.0.held seat.old.me.0.seen }
+    requires seat { seat.old.me.0 ≡ knower table.now.shared.key seat.old.me.0.held seat.old.me.0.seen }
     requires holds { has seat.old.me.0.held _src ≡ true }
     ensures own { (seat.new.table_id ≡ seat.old.table_id) × (result.table_id ≡ seat.old.table_id) }
     ensures rest { seat.new.me ≡ (rest_of _src seat.old.me.0, seat.old.me.1) }
@@ -83,11 +85,11 @@ pub(crate) fn give<Q: Number>(table: &BookTable, seat: &mut TableSeat, _src: u8)
 }
 
 // Two seats become one. The load tells what both had seen.
-pub(crate) fn take_in(table: &BookTable, seat: &mut TableSeat, other: TableSeat)
+pub(crate) fn take_in<A: Allocator>(table: &BookTable<A>, seat: &mut TableSeat, other: TableSeat)
     requires own { (seat.old.table_id ≡ table.now.shared.table_id) × (seat.old.me.1 ≡ []) }
     requires other_own { (other.table_id ≡ table.now.shared.table_id) × (other.me.1 ≡ []) }
     requires some { 0 < table.now.shared.table_id.words }
-    requires seat { seat.old.me.0 ≡ knower (about table.now.shared.key) seat.old.me.0.held seat.old.me.0.seen }
+    requires seat { seat.old.me.0 ≡ knower table.now.shared.key seat.old.me.0.held seat.old.me.0.seen }
     ensures own { (seat.new.table_id ≡ seat.old.table_id) × (seat.new.me.1 ≡ []) }
     ensures settled { Settles (both seat.old.me.0 other.me.0) seat.new.me.0 }
 {

@@ -4,7 +4,6 @@ ghost use Rattle.std.specs.Prelude.{◌≡◌, ◌≤◌, true, IsTrue, MatchOpt
 ghost use Rattle.chi_fields.specs.Extent.{lies_in};
 ghost use Rattle.chi_history.specs.Views.{has};
 ghost use Rattle.chi_history.specs.Served.{Completes, IsServed, Retries};
-ghost use Rattle.chi_bookstore.specs.About.{about};
 ghost use Rattle.chi_bookstore.specs.Known.{IsKnown};
 
 use crate::rule::{Ask, TableSeat};
@@ -12,26 +11,27 @@ use crate::steps::{exchange, look};
 use crate::store::BookStore;
 use chi_history::{Credit, Gate, NoGate, Served};
 use chi_lanes::{Reply, apply};
+use std::alloc::Allocator;
 use std::sync::Wait;
 
 // One try: the reply, or nothing where another's exchange came between.
-fn try_once<G: Gate>(
-    home: &BookStore,
+fn try_once<A: Allocator, G: Gate>(
+    home: &BookStore<A>,
     seat: &mut TableSeat,
     ask: &Ask,
     gate: &mut G,
     try_no: u8,
 ) -> Option<Reply>
     requires own { seat.old.table_id ≡ home.now.table.shared.table_id }
-    requires known { IsKnown (about home.now.key) seat.old.me.0 }
+    requires known { IsKnown home.now.key seat.old.me.0 }
     requires holds { has seat.old.me.0.held ask.now.src ≡ true }
     requires fits { IsTrue (lies_in ask.now.access.addr ask.now.access.len home.now.key.region) }
     ensures own { (seat.new.table_id ≡ seat.old.table_id) × (seat.new.me.1 ≡ seat.old.me.1) }
-    ensures known { IsKnown (about home.now.key) seat.new.me.0 }
+    ensures known { IsKnown home.now.key seat.new.me.0 }
     ensures held { seat.new.me.0.held ≡ seat.old.me.0.held }
     ensures tried { MatchOption result
-        (Retries (about home.now.key) (has seat.old.me.0.held) seat.old.me.0.seen seat.new.me.0.seen ask.now.access 1)
-        (λ reply. Completes (about home.now.key) (has seat.old.me.0.held) seat.old.me.0.seen seat.new.me.0.seen ask.now.src ask.now.access reply 0) }
+        (Retries home.now.key (has seat.old.me.0.held) seat.old.me.0.seen seat.new.me.0.seen ask.now.access 1)
+        (λ reply. Completes home.now.key (has seat.old.me.0.held) seat.old.me.0.seen seat.new.me.0.seen ask.now.src ask.now.access reply 0) }
 {
     let image = home.key.image.as_slice();
     let granule = ask.access.granule(&home.key.region);
@@ -44,22 +44,22 @@ fn try_once<G: Gate>(
 }
 
 // At most so many tries.
-pub(crate) fn try_some<G: Gate>(
-    home: &BookStore,
+pub(crate) fn try_some<A: Allocator, G: Gate>(
+    home: &BookStore<A>,
     seat: &mut TableSeat,
     ask: &Ask,
     gate: &mut G,
     attempts: u8,
 ) -> Served
     requires own { seat.old.table_id ≡ home.now.table.shared.table_id }
-    requires known { IsKnown (about home.now.key) seat.old.me.0 }
+    requires known { IsKnown home.now.key seat.old.me.0 }
     requires holds { has seat.old.me.0.held ask.now.src ≡ true }
     requires fits { IsTrue (lies_in ask.now.access.addr ask.now.access.len home.now.key.region) }
     requires some { 1 ≤ attempts }
     ensures own { (seat.new.table_id ≡ seat.old.table_id) × (seat.new.me.1 ≡ seat.old.me.1) }
-    ensures known { IsKnown (about home.now.key) seat.new.me.0 }
+    ensures known { IsKnown home.now.key seat.new.me.0 }
     ensures held { seat.new.me.0.held ≡ seat.old.me.0.held }
-    ensures served { IsServed (about home.now.key) attempts (has seat.old.me.0.held) seat.old.me.0.seen seat.new.me.0.seen ask.now.src ask.now.access result }
+    ensures served { IsServed home.now.key attempts (has seat.old.me.0.held) seat.old.me.0.seen seat.new.me.0.seen ask.now.src ask.now.access result }
 {
     'tries: for lost in 0..attempts {
         if let Some(reply) = try_once(home, seat, ask, gate, lost + 1) {
@@ -73,20 +73,20 @@ pub(crate) fn try_some<G: Gate>(
 }
 
 // Tries until an exchange wins.
-pub(crate) fn try_until_done<R: Wait>(
+pub(crate) fn try_until_done<R: Wait, A: Allocator>(
     rt: &R,
-    home: &BookStore,
+    home: &BookStore<A>,
     seat: &mut TableSeat,
     ask: &Ask,
 ) -> Reply
     requires own { seat.old.table_id ≡ home.now.table.shared.table_id }
-    requires known { IsKnown (about home.now.key) seat.old.me.0 }
+    requires known { IsKnown home.now.key seat.old.me.0 }
     requires holds { has seat.old.me.0.held ask.now.src ≡ true }
     requires fits { IsTrue (lies_in ask.now.access.addr ask.now.access.len home.now.key.region) }
     ensures own { (seat.new.table_id ≡ seat.old.table_id) × (seat.new.me.1 ≡ seat.old.me.1) }
-    ensures known { IsKnown (about home.now.key) seat.new.me.0 }
+    ensures known { IsKnown home.now.key seat.new.me.0 }
     ensures held { seat.new.me.0.held ≡ seat.old.me.0.held }
-    ensures done { Completes (about home.now.key) (has seat.old.me.0.held) seat.old.me.0.seen seat.new.me.0.seen ask.now.src ask.now.access result 0 }
+    ensures done { Completes home.now.key (has seat.old.me.0.held) seat.old.me.0.seen seat.new.me.0.seen ask.now.src ask.now.access result 0 }
 {
     let mut gate = NoGate;
     'tries: for _ in rt.forever() {

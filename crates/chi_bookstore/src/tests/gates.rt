@@ -28,7 +28,6 @@ impl<'a> Model for Adder<'a> {
     ghost use Rattle.std.specs.Prelude.{◌≡◌, ℕ, List, true};
     ghost use Rattle.chi_fields.specs.Extent.{lies_in};
     ghost use Rattle.chi_history.specs.Views.{has};
-    ghost use Rattle.chi_bookstore.specs.About.{about};
     ghost use Rattle.chi_bookstore.specs.Seats.{IsSeatOf};
 
     ghost Value = { List ℕ };

@@ -1,17 +1,16 @@
 -- The exchange.
 use Rattle.std.proofs.Common.{refl}
-use Rattle.chi_bookstore.specs.About.{about}
 use Rattle.chi_bookstore.proofs.Book.{book_exchanges}
 use Rattle.chi_bookstore.proofs.steps.exchange.Goals as goal
 
 pub compare_exchange_with-requires : goal.compare_exchange_with-requires
-compare_exchange_with-requires c =
+compare_exchange_with-requires g c =
     let t = c.args.table.now.shared in
     let r = c.requires in (
       r.own,
       r.word,
-      book_exchanges (about t.key) t.table_id.slots c.args.seat.now.id c.args.seat.now.me c.args.granule c.args.first c.args.next c.args.ask.now r.seat r.granule r.holds c.len-len.ensures.lawful r.fits r.applies,
+      book_exchanges t.key t.table_id.slots c.args.seat.now.id c.args.seat.now.me c.args.granule c.args.first c.args.next c.args.ask.now r.seat r.granule r.holds c.len-len.ensures.lawful r.fits r.applies,
     )
 
 pub returns-clause-exchanged : goal.returns-clause-exchanged
-returns-clause-exchanged c = c.compare_exchange_with.ensures.2.0 c.args.ask.now refl
+returns-clause-exchanged g c = c.compare_exchange_with.ensures.2.0 c.args.ask.now refl

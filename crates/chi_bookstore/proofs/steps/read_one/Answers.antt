@@ -1,9 +1,8 @@
 -- The load of a snapshot.
-use Rattle.chi_bookstore.specs.About.{about}
 use Rattle.chi_bookstore.proofs.Book.{book_reads}
 use Rattle.chi_bookstore.proofs.steps.read_one.Goals as goal
 
 pub load-requires : goal.load-requires
-load-requires c =
+load-requires g c =
     let t = c.args.table.now.shared in
-    (c.requires.own, c.requires.word, book_reads (about t.key) t.table_id.slots c.args.seat.now.id c.args.seat.now.me c.args.granule c.requires.seat c.requires.granule)
+    (c.requires.own, c.requires.word, book_reads t.key t.table_id.slots c.args.seat.now.id c.args.seat.now.me c.args.granule c.requires.seat c.requires.granule)

@@ -9,29 +9,29 @@ use Rattle.chi_history.specs.Told.{Answers, Applies}
 use Rattle.chi_history.specs.Views.{has}
 use Rattle.chi_history.proofs.ToldLemmas.{answers, applies}
 use Rattle.chi_history.proofs.TryLemmas.{try_lost, try_won}
-use Rattle.chi_bookstore.specs.declared.rule.Key.{Key}
-use Rattle.chi_bookstore.specs.About.{about}
 use Rattle.chi_bookstore.proofs.Known.{held_try, known_opening, known_try}
 use Rattle.chi_bookstore.proofs.tries.try_once.Goals as goal
 
 pub exchange-now-requires-clause-applies : goal.exchange-now-requires-clause-applies
 exchange-now-requires-clause-applies g c =
-    let o : Opening = about c.args.home.now.key in
+    let o : Opening = c.args.home.now.key in
     let a : Operation = c.args.ask.now.access in
     let found : ℕ = c.look-found.result in
     let image : List ℕ = c.as_slice-image.result.now in
     let at : ℕ = c.granule-granule.result in
     let next : ℕ = bit_xor c.apply-word.result.0 (slice_index image at) in
     let same : image ≡ o.image = search rules in
-    let mask : slice_index image at ≡ slice_index o.image (granule_of a.addr o.region) = λ i. slice_index (same i) (c.granule-granule.ensures.value i) in
+    let here : at ≡ granule_of a.addr o.region = search rules in
+    let mask : slice_index image at ≡ slice_index o.image (granule_of a.addr o.region) = λ i. slice_index (same i) (here i) in
     let small : slice_index o.image (granule_of a.addr o.region) < 2 ^ 64 = omega arith in
-    subst (λ (k : Key). Applies (about k) a found next) (sym c.args.home.now.key_is)
-    (applies o a found (bit_xor found (slice_index image at)) c.apply-word.result.0 next small c.requires.fits c.apply-word.ensures.changed (ap (bit_xor found) mask)
-    (ap (bit_xor c.apply-word.result.0) mask))
+    let asked : Applies o a found next =
+    applies o a found (bit_xor found (slice_index image at)) c.apply-word.result.0 next small c.requires.fits c.apply-word.ensures.changed (ap (bit_xor found) mask)
+    (ap (bit_xor c.apply-word.result.0) mask) in
+    search rules
 
 pub returns-then-now-found : goal.returns-then-now-found
 returns-then-now-found g c =
-    let o : Opening = about c.args.home.now.key in
+    let o : Opening = c.args.home.now.key in
     let v : View = c.args.seat.now.me.0 in
     let w : View = c.exchange-now.new.seat.me.0 in
     let a : Operation = c.args.ask.now.access in
@@ -40,7 +40,8 @@ returns-then-now-found g c =
     let at : ℕ = c.granule-granule.result in
     let is : v.opening ≡ o = known_opening o v c.requires.known in
     let same : image ≡ o.image = search rules in
-    let mask : slice_index image at ≡ slice_index o.image (granule_of a.addr o.region) = λ i. slice_index (same i) (c.granule-granule.ensures.value i) in
+    let here : at ≡ granule_of a.addr o.region = search rules in
+    let mask : slice_index image at ≡ slice_index o.image (granule_of a.addr o.region) = λ i. slice_index (same i) (here i) in
     let small : slice_index o.image (granule_of a.addr o.region) < 2 ^ 64 = omega arith in
     let told : Answers o a found c.apply-word.result.1 =
     answers o a found (bit_xor found (slice_index image at)) c.apply-word.result.1 small c.requires.fits c.apply-word.ensures.answered (ap (bit_xor found) mask) in
@@ -57,13 +58,14 @@ returns-then-now-found g c =
 
 pub returns-else-now-found : goal.returns-else-now-found
 returns-else-now-found g c =
-    let o : Opening = about c.args.home.now.key in
+    let o : Opening = c.args.home.now.key in
     let v : View = c.args.seat.now.me.0 in
     let w : View = c.exchange-now.new.seat.me.0 in
     let a : Operation = c.args.ask.now.access in
     let at : ℕ = c.granule-granule.result in
     let is : v.opening ≡ o = known_opening o v c.requires.known in
-    let place : at ≡ granule_of a.addr v.opening.region = c.granule-granule.ensures.value ∙ ap (λ (z : Opening). granule_of a.addr z.region) (sym is) in
+    let here : at ≡ granule_of a.addr o.region = search rules in
+    let place : at ≡ granule_of a.addr v.opening.region = here ∙ ap (λ (z : Opening). granule_of a.addr z.region) (sym is) in
     let lost =
     try_lost v c.look-found.new.seat.me.0 w at c.look-found.result c.args.ask.now.src a c.exchange-now.result place c.look-found.ensures.looks
     c.exchange-now.ensures.exchanged c.if-now-found.false in

@@ -1,7 +1,6 @@
 -- Each try so far was lost.
-use Rattle.chi_bookstore.specs.About.{about}
 use Rattle.chi_bookstore.proofs.LostTries.{IsAfter}
 use Rattle.chi_bookstore.proofs.tries.try_some.Given as goal
 
 abbrev pub invariant-tries : goal.invariant-tries
-invariant-tries g l = IsAfter (about l.home.key) l.initial.seat l.ask.access l.lost l.seat
+invariant-tries g l = IsAfter l.home.key l.initial.seat l.ask.access l.lost l.seat

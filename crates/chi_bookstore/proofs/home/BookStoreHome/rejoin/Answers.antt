@@ -5,14 +5,13 @@ use Rattle.chi_history.specs.declared.view.View.{View}
 use Rattle.chi_history.specs.Told.{IsJoined}
 use Rattle.chi_history.specs.Views.{has}
 use Rattle.chi_history.proofs.ToldLemmas.{joined}
-use Rattle.chi_bookstore.specs.About.{about}
 use Rattle.chi_bookstore.proofs.Held.{joined_under, numbers_joined}
 use Rattle.chi_bookstore.proofs.Known.{known_joined, known_opening}
 use Rattle.chi_bookstore.proofs.home.BookStoreHome.rejoin.Goals as goal
 
 pub returns-clause-own : goal.returns-clause-own
 returns-clause-own g c =
-    let o : Opening = about c.args.self.now.key in
+    let o : Opening = c.args.self.now.key in
     let own = c.requires.own in
     let v : View = c.args.seat.now.table_seat.me.0 in
     let w : View = c.args.other.table_seat.me.0 in

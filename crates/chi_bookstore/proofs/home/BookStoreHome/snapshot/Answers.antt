@@ -1,17 +1,18 @@
 -- One more word of the memory.
 use Rattle.std.proofs.Common.{rules, arith, ◌≡◌, ◌^◌, ◌<◌, ◌∙◌, ap, subst, ℕ, List, bit_xor, slice_index}
+use Rattle.atomic_table.specs.Table.{Me}
 use Rattle.chi_lanes.specs.Memory.{word}
 use Rattle.chi_history.specs.declared.opening.Opening.{Opening}
 use Rattle.chi_history.specs.declared.view.View.{View}
 use Rattle.chi_history.specs.History.{end}
 use Rattle.chi_history.specs.Told.{ReadsAt}
-use Rattle.chi_bookstore.specs.About.{about}
+use Rattle.chi_bookstore.specs.declared.rule.Ask.{Ask}
 use Rattle.chi_bookstore.proofs.Shown.{one_more, read_shown}
 use Rattle.chi_bookstore.proofs.home.BookStoreHome.snapshot.Goals as goal
 
 pub loop-granule-preserved : goal.loop-granule-preserved
 loop-granule-preserved g c =
-    let o : Opening = about c.args.self.now.key in
+    let o : Opening = c.args.self.now.key in
     let own = c.requires.own in
     let v : View = c.args.seat.now.table_seat.me.0 in
     let w : View = c.read_one-found.new.seat.me.0 in
@@ -26,7 +27,7 @@ loop-granule-preserved g c =
     let is : bit_xor found (slice_index o.image at) ≡ word (end o v.seen) o.region at = read_shown o v at found w c.args.seat.now.numbers own.known own.numbers c.requires.all small reads in
     record {
       table = told.own.0 ∙ c.loop-granule.invariant.table;
-      same = (λ i. (told.reads.0 i, told.own.1 i)) ∙ same;
+      same = ◌∙◌ {A = Me Ask View} (λ i. (told.reads.0 i, told.own.1 i)) same;
       numbers = c.loop-granule.invariant.numbers;
       shown = one_more c.loop-granule.words at (bit_xor found (slice_index c.as_slice-image.result.now at)) (λ k. word (end o v.seen) o.region k)
           (search rules) c.loop-granule.invariant.shown (ap (λ (xs : List ℕ). bit_xor found (slice_index xs at)) image ∙ is);

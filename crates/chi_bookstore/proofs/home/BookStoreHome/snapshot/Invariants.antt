@@ -2,7 +2,6 @@
 use Rattle.std.proofs.Common.{◌≡◌, ◌<◌, ℕ, slice_index}
 use Rattle.chi_lanes.specs.Memory.{word}
 use Rattle.chi_history.specs.History.{end}
-use Rattle.chi_bookstore.specs.About.{about}
 use Rattle.chi_bookstore.proofs.home.BookStoreHome.snapshot.Given as goal
 
 abbrev pub invariant-loop-granule : goal.invariant-loop-granule
@@ -10,5 +9,5 @@ invariant-loop-granule g l = record {
   table : l.seat.table_seat.table_id ≡ l.initial.seat.table_seat.table_id;
   same : l.seat.table_seat.me ≡ l.initial.seat.table_seat.me;
   numbers : l.seat.numbers ≡ l.initial.seat.numbers;
-  shown : (k : ℕ) → k < l.granule → slice_index l.words k ≡ word (end (about l.self.key) l.initial.seat.table_seat.me.0.seen) l.self.key.region k;
+  shown : (k : ℕ) → k < l.granule → slice_index l.words k ≡ word (end l.self.key l.initial.seat.table_seat.me.0.seen) l.self.key.region k;
 }

@@ -8,7 +8,7 @@ use Rattle.chi_bookstore.proofs.Known.{known_first}
 use Rattle.chi_bookstore.proofs.store.BookStore.open.Goals as goal
 
 pub returns-clause-own : goal.returns-clause-own
-returns-clause-own c =
+returns-clause-own g c =
     let o : Opening = record { region = c.args.region; requesters = c.args.requesters; image = c.in-Ok.image.items } in
     let v : View = c.in-Ok-begin.table_seat.me.0 in
     let is : v ≡ knower o (all_below c.args.requesters) [] = search rules in
