@@ -59,7 +59,11 @@ pub(crate) fn exchange<A: Allocator>(
 }
 
 // A load of a snapshot, which leaves what the seat has seen.
-pub(crate) fn read_one<A: Allocator>(table: &BookTable<A>, seat: &mut TableSeat, granule: usize) -> u64
+pub(crate) fn read_one<A: Allocator>(
+    table: &BookTable<A>,
+    seat: &mut TableSeat,
+    granule: usize,
+) -> u64
     requires own { seat.old.table_id ≡ table.now.shared.table_id }
     requires seat { seat.old.me.0 ≡ knower table.now.shared.key seat.old.me.0.held seat.old.me.0.seen }
     requires granule { granule < table.now.shared.key.region.granules }
@@ -71,7 +75,11 @@ pub(crate) fn read_one<A: Allocator>(table: &BookTable<A>, seat: &mut TableSeat,
 }
 
 // A seat for one number alone. `Q` names the number to the rule.
-pub(crate) fn give<Q: Number, A: Allocator>(table: &BookTable<A>, seat: &mut TableSeat, _src: u8) -> TableSeat
+pub(crate) fn give<Q: Number, A: Allocator>(
+    table: &BookTable<A>,
+    seat: &mut TableSeat,
+    _src: u8,
+) -> TableSeat
     requires own { seat.old.table_id ≡ table.now.shared.table_id }
     requires asked { _src ≡ Q.number }
     requires some { 0 < table.now.shared.table_id.words }

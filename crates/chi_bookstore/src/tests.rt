@@ -9,6 +9,7 @@ use crate::{BookSeat, BookStore};
 use chi_fields::{Access, Region, Request, decode};
 use chi_history::{Home, OpenFault, Served};
 use chi_lanes::Reply;
+use std::alloc::Allocator;
 use std::test::Fail;
 use std::thread::join;
 
@@ -33,7 +34,11 @@ fn request(src: u8, opcode: u8, size: u8, be: u16, first: u8) -> Request
 }
 
 // The reply, where the request is accepted and an exchange wins.
-fn reply_to(home: &BookStore, seat: &mut BookSeat, request: &Request) -> Option<Reply>
+fn reply_to<A: Allocator>(
+    home: &BookStore<A>,
+    seat: &mut BookSeat,
+    request: &Request,
+) -> Option<Reply>
     requires own { IsSeatOf home.now seat.old }
     requires holds { has seat.old.numbers request.now.src ≡ true }
     ensures own { IsSeatOf home.now seat.new }
@@ -102,6 +107,17 @@ fn open_refusals(rt: HostRuntime) -> Result<(), Fail> {
     assert!(rt; home.holds_all(&seat));
     assert!(rt; home.holds(&seat, 7));
     assert!(rt; !home.holds(&seat, 8));
+    Ok(())
+}
+
+#[test]
+fn lent_allocator(rt: HostRuntime) -> Result<(), Fail> {
+    let alloc = rt.alloc();
+    let region = Region::new(0x1000, 8)?;
+    let (home, mut seat) = BookStore::open(&alloc, region, 1, 1)?;
+    let _ = reply_to(&home, &mut seat, &request(0, 0x28, 0, 1, 0x3c));
+    let read = reply_to(&home, &mut seat, &request(0, 0x04, 0, 0, 0));
+    assert_eq!(rt; first_lane(read), Some(0x3c));
     Ok(())
 }
 
