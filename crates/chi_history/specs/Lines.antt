@@ -1,5 +1,5 @@
 -- what the lines of a transcript tell of a history
-use Rattle.std.specs.Prelude.{◌≡◌, ℕ, ◌≤◌, ◌==◌, Bool, false, List, [], ◌∷◌, ◌++◌, ◌⊎◌, Option, None, Some, count_by}
+use Rattle.std.specs.Prelude.{ℕ, ◌==◌, Bool, false, List, [], ◌∷◌, Option, None, Some, count_by}
 use Rattle.std.specs.List.{flat_map}
 use Rattle.chi_fields.specs.declared.refusal.Refusal.{Refusal}
 use Rattle.chi_fields.specs.declared.refusal.Refusal.TheVariants.{UnknownOpcode}
@@ -42,18 +42,6 @@ is_retried region g (Retried q) = is_in_granule region g (access q)
 -- how many RetryAcks there were to requests for this granule
 abbrev pub retried : Extent → List Line → ℕ → ℕ
 retried region lines g = count_by (is_retried region g) lines
-
--- What may be told of one request: its refusal alone; else its completion, or, where the home retries, a
--- RetryAck.
-abbrev pub ToldOf : Option Refusal → ℕ → Request → List Line → Type 0
-ToldOf (Some fault) limit q piece = piece ≡ Refused q fault ∷ []
-ToldOf None limit q piece = ((reply : Reply) × (piece ≡ Completed q reply ∷ [])) ⊎ ((1 ≤ limit) × (piece ≡ Retried q ∷ []))
-
--- the lines are one piece for each request, in order
-unfoldable pub Told : Extent → ℕ → List Request → List Line → Type 0
-Told region limit [] lines = lines ≡ []
-Told region limit (q ∷ qs) lines =
-    (piece : List Line) × (rest : List Line) × (lines ≡ piece ++ rest) × ToldOf (refusal q region) limit q piece × Told region limit qs rest
 
 -- the line of a request that meets this refusal, or describes this access, at a memory
 abbrev pub serial_line : Option Refusal → Option Operation → Request → Memory → Line

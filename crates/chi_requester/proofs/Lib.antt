@@ -1,4 +1,6 @@
+pub mod ToldLemmas
 pub mod WorkLemmas
+pub mod RequestLemmas
 pub mod SerialLemmas
 pub mod RunLemmas
 pub mod RaceLemmas

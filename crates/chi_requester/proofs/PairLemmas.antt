@@ -14,6 +14,7 @@ use Rattle.chi_history.specs.History.{IsFreeOf, IsLegal, IsLegalFrom, changes, e
 use Rattle.chi_history.specs.Served.{Joins}
 use Rattle.chi_history.proofs.HistoryLemmas.{free-append, free-within, hits-append, legal-back, of-append, of-free}
 use Rattle.chi_requester.specs.declared.fault.WorkFault.{WorkFault}
+use Rattle.chi_requester.specs.declared.policy.Policy.{Policy}
 use Rattle.chi_requester.specs.Race.{ArePairLeft, IsOf, IsPairRun, IsRacer}
 use Rattle.chi_requester.specs.Work.{AreLeft, IsWorked, IsWorkRun}
 
@@ -50,10 +51,10 @@ with_zero src r of_them = by_test (r == 0) refl
     by_test false off = ap (λ (b : Bool). b || (r == src)) (sym off)
 
 -- what one of the two did alone is its part of what both did
-pub racer : (o : Opening) (limit : ℕ) (held : Held) (src : ℕ) (seen seen' since y : List Entry) (qs : List Request) (lines : List Line)
-    → held ≡ only src → (w : IsWorked o limit held src seen seen' qs lines) → since ≡ w.since ++ y → of y src ≡ [] → IsOf (union (only 1) (only 2)) since
-    → IsRacer o limit src seen since qs lines
-racer o limit held src seen seen' since y qs lines alone w longer_by others of_them = record {
+pub racer : (o : Opening) (policy : Policy) (limit : ℕ) (held : Held) (src : ℕ) (seen seen' since y : List Entry) (qs : List Request) (lines : List Line)
+    → held ≡ only src → (w : IsWorked o policy limit held src seen seen' qs lines) → since ≡ w.since ++ y → of y src ≡ [] → IsOf (union (only 1) (only 2)) since
+    → IsRacer o policy limit src seen since qs lines
+racer o policy limit held src seen seen' since y qs lines alone w longer_by others of_them = record {
   mine = w.mine ∙ sym (ap (λ (h : List Entry). of h src) longer_by ∙ (of-append w.since y src ∙ (ap (λ (h : List Entry). of w.since src ++ h) others ∙ append-nil (of w.since src))));
   told = w.told;
   paid = λ g.
@@ -81,14 +82,14 @@ outside_rest n r under = by_tests (nat_lt r n) (r == 1) (r == 2) (lt-ltb r n und
     by_tests false false false is outside = absurd (true≢false (sym is))
 
 -- both went off from one history and came back
-pub paired : (first second result : Result (Unit {0}) WorkFault) (o : Opening) (limit : ℕ) (all : List Request) (rest one_held two_held joined_held : Held)
+pub paired : (first second result : Result (Unit {0}) WorkFault) (o : Opening) (policy : Policy) (limit : ℕ) (all : List Request) (rest one_held two_held joined_held : Held)
     (start one_seen two_seen seen seen' : List Entry) (one_lines two_lines one_lines' two_lines' : List Line)
     → result ≡ result_and first second → rest ≡ without 2 (without 1 (below o.requesters)) → one_held ≡ only 1 → two_held ≡ only 2 → joined_held ≡ union rest one_held
     → IsLegal o seen'
-    → IsWorkRun first o limit one_held 1 all start one_seen one_lines one_lines' → IsWorkRun second o limit two_held 2 all start two_seen two_lines two_lines'
+    → IsWorkRun first o policy limit one_held 1 all start one_seen one_lines one_lines' → IsWorkRun second o policy limit two_held 2 all start two_seen two_lines two_lines'
     → Joins rest start one_held one_seen seen → Joins joined_held seen two_held two_seen seen'
-    → IsPairRun result o limit all start seen' one_lines two_lines one_lines' two_lines'
-paired first second result o limit all rest one_held two_held joined_held start one_seen two_seen seen seen' one_lines two_lines one_lines' two_lines'
+    → IsPairRun result o policy limit all start seen' one_lines two_lines one_lines' two_lines'
+paired first second result o policy limit all rest one_held two_held joined_held start one_seen two_seen seen seen' one_lines two_lines one_lines' two_lines'
     both rest_is one_is two_is joined_is legal one two join_one join_two = record {
       since = since;
       grown = grown;
@@ -104,8 +105,8 @@ paired first second result o limit all rest one_held two_held joined_held start 
       two_appended = two.appended;
       one_kept = one.kept;
       two_kept = two.kept;
-      racer_one = racer o limit one_held 1 start one_seen since (join_one.1 ++ join_two.0) one.done one.appended one_is one.worked one_first one_others of_them;
-      racer_two = racer o limit two_held 2 start two_seen since join_two.1 two.done two.appended two_is two.worked two_first two_others of_them;
+      racer_one = racer o policy limit one_held 1 start one_seen since (join_one.1 ++ join_two.0) one.done one.appended one_is one.worked one_first one_others of_them;
+      racer_two = racer o policy limit two_held 2 start two_seen since join_two.1 two.done two.appended two_is two.worked two_first two_others of_them;
     }
   where
     since : List Entry
@@ -148,12 +149,12 @@ paired first second result o limit all rest one_held two_held joined_held start 
     two_others = of-free two_held join_two.1 2 (ap (λ (s : Held). s 2) two_is) join_two.5
 
 -- a run of work, where its set, its first history and its first lines are known by other names
-pub run_as : (result : Result (Unit {0}) WorkFault) (o : Opening) (limit : ℕ) (held other : Held) (src : ℕ) (all : List Request) (seen start seen' : List Entry) (lines first lines' : List Line)
-    → held ≡ other → seen ≡ start → lines ≡ first → IsWorkRun result o limit held src all seen seen' lines lines' → IsWorkRun result o limit other src all start seen' first lines'
-run_as result o limit held other src all seen start seen' lines first lines' same_held same_seen same_lines run =
-    let P : Held → Type 0 = λ s. IsWorkRun result o limit s src all seen seen' lines lines' in
-    let Q : List Entry → Type 0 = λ h. IsWorkRun result o limit other src all h seen' lines lines' in
-    let R : List Line → Type 0 = λ xs. IsWorkRun result o limit other src all start seen' xs lines' in
+pub run_as : (result : Result (Unit {0}) WorkFault) (o : Opening) (policy : Policy) (limit : ℕ) (held other : Held) (src : ℕ) (all : List Request) (seen start seen' : List Entry) (lines first lines' : List Line)
+    → held ≡ other → seen ≡ start → lines ≡ first → IsWorkRun result o policy limit held src all seen seen' lines lines' → IsWorkRun result o policy limit other src all start seen' first lines'
+run_as result o policy limit held other src all seen start seen' lines first lines' same_held same_seen same_lines run =
+    let P : Held → Type 0 = λ s. IsWorkRun result o policy limit s src all seen seen' lines lines' in
+    let Q : List Entry → Type 0 = λ h. IsWorkRun result o policy limit other src all h seen' lines lines' in
+    let R : List Line → Type 0 = λ xs. IsWorkRun result o policy limit other src all start seen' xs lines' in
     subst R same_lines (subst Q same_seen (subst P same_held run))
 
 -- a seat taken back, where what was seen before is known by another name
@@ -161,21 +162,21 @@ pub joins_as : (held : Held) (seen start : List Entry) (other_held : Held) (othe
 joins_as held seen start other_held other_seen seen' same joined = let P : List Entry → Type 0 = λ h. Joins held h other_held other_seen seen' in subst P same joined
 
 -- the same from the facts of each call: two numbers split off, both at work, and both taken back
-pub paired_back : (first second result : Result (Unit {0}) WorkFault) (o : Opening) (limit : ℕ) (all : List Request)
+pub paired_back : (first second result : Result (Unit {0}) WorkFault) (o : Opening) (policy : Policy) (limit : ℕ) (all : List Request)
     (held less rest one_held two_held one_held' two_held' joined_held : Held) (start less_seen rest_seen one_start two_start one_seen two_seen seen seen' : List Entry)
     (one_lines two_lines one_first two_first one_lines' two_lines' : List Line)
     → result ≡ result_and first second → held ≡ below o.requesters → less ≡ without 1 held → rest ≡ without 2 less → one_held ≡ only 1 → two_held ≡ only 2
     → one_held' ≡ one_held → two_held' ≡ two_held → joined_held ≡ union rest one_held'
     → less_seen ≡ start → one_start ≡ start → rest_seen ≡ less_seen → two_start ≡ less_seen → one_first ≡ one_lines → two_first ≡ two_lines → IsLegal o seen'
-    → IsWorkRun first o limit one_held 1 all one_start one_seen one_first one_lines' → IsWorkRun second o limit two_held 2 all two_start two_seen two_first two_lines'
+    → IsWorkRun first o policy limit one_held 1 all one_start one_seen one_first one_lines' → IsWorkRun second o policy limit two_held 2 all two_start two_seen two_first two_lines'
     → Joins rest rest_seen one_held' one_seen seen → Joins joined_held seen two_held' two_seen seen'
-    → IsPairRun result o limit all start seen' one_lines two_lines one_lines' two_lines'
-paired_back first second result o limit all held less rest one_held two_held one_held' two_held' joined_held start less_seen rest_seen one_start two_start one_seen two_seen seen seen'
+    → IsPairRun result o policy limit all start seen' one_lines two_lines one_lines' two_lines'
+paired_back first second result o policy limit all held less rest one_held two_held one_held' two_held' joined_held start less_seen rest_seen one_start two_start one_seen two_seen seen seen'
     one_lines two_lines one_first two_first one_lines' two_lines' both whole less_is rest_is one_is two_is one_same two_same joined_is less_same one_begins rest_same two_begins one_there two_there legal one two join_one join_two =
-    paired first second result o limit all rest one_held' two_held' joined_held start one_seen two_seen seen seen' one_lines two_lines one_lines' two_lines' both
+    paired first second result o policy limit all rest one_held' two_held' joined_held start one_seen two_seen seen seen' one_lines two_lines one_lines' two_lines' both
     (rest_is ∙ (ap (λ (s : Held). without 2 s) less_is ∙ ap (λ (s : Held). without 2 (without 1 s)) whole)) (one_same ∙ one_is) (two_same ∙ two_is) joined_is legal
-    (run_as first o limit one_held one_held' 1 all one_start start one_seen one_first one_lines one_lines' (sym one_same) one_begins one_there one)
-    (run_as second o limit two_held two_held' 2 all two_start start two_seen two_first two_lines two_lines' (sym two_same) (two_begins ∙ less_same) two_there two)
+    (run_as first o policy limit one_held one_held' 1 all one_start start one_seen one_first one_lines one_lines' (sym one_same) one_begins one_there one)
+    (run_as second o policy limit two_held two_held' 2 all two_start start two_seen two_first two_lines two_lines' (sym two_same) (two_begins ∙ less_same) two_there two)
     (joins_as rest rest_seen start one_held' one_seen seen (rest_same ∙ less_same) join_one) join_two
 
 -- two numbers of the home that were split off and taken back: the set is as before

@@ -1,33 +1,32 @@
 -- requests that are worked one after another by a seat that holds every number
-use Rattle.std.proofs.Common.{◌≡◌, ℕ, ◌+◌, ◌*◌, ◌<◌, ◌≤◌, Bool, true, false, not, ◌&&◌, ◌==◌, nat_lt, cond, List, [], ◌∷◌, ◌++◌, Option, None, Some, refl, sym, ap, subst, ◌∙◌, eq-eqb, arith, append_assoc, append-nil, length, get_or, take, drop, Result, IsErr, true≢false, inl, inr}
+use Rattle.std.proofs.Common.{◌≡◌, ℕ, ◌+◌, ◌*◌, ◌<◌, ◌≤◌, Bool, true, false, not, ◌&&◌, ◌==◌, nat_lt, cond, List, [], ◌∷◌, ◌++◌, Option, None, Some, refl, sym, ap, subst, ◌∙◌, arith, append_assoc, append-nil, length, get_or, take, drop, Result, IsErr, true≢false}
 use Rattle.std.proofs.lemmas.Bool.{lt-ltb}
 use Rattle.std.proofs.lemmas.List.{take_more, take-append-drop}
-use Rattle.std.specs.Prelude.{option_map}
 use Rattle.std.proofs.lemmas.Grind.{flat_map-append}
-use Rattle.chi_fields.specs.declared.kind.Kind.{Kind}
 use Rattle.chi_fields.specs.declared.refusal.Refusal.{Refusal}
-use Rattle.chi_fields.specs.declared.refusal.Refusal.TheVariants.{UnknownOpcode}
 use Rattle.chi_fields.specs.declared.request.Request.{Request}
-use Rattle.chi_fields.specs.Extent.{Extent, granule_of}
-use Rattle.chi_fields.specs.Opcode.{kind_of}
+use Rattle.chi_fields.specs.Extent.{Extent}
 use Rattle.chi_fields.specs.Operation.{Operation}
-use Rattle.chi_fields.specs.Refusal.{access, access_as, refusal, refusal_of}
+use Rattle.chi_fields.specs.Refusal.{access, refusal}
 use Rattle.chi_lanes.specs.declared.reply.Reply.{Reply}
 use Rattle.chi_lanes.specs.After.{after, answer}
 use Rattle.chi_lanes.specs.Memory.{Memory}
 use Rattle.chi_history.specs.declared.entry.Entry.{Entry}
 use Rattle.chi_history.specs.declared.line.Line.{Line}
-use Rattle.chi_history.specs.declared.line.Line.TheVariants.{Completed, Retried}
+use Rattle.chi_history.specs.declared.line.Line.TheVariants.{Completed}
 use Rattle.chi_history.specs.declared.opening.Opening.{Opening}
 use Rattle.chi_history.specs.Held.{Held, below, without}
-use Rattle.chi_history.specs.History.{IsFreeOf, IsLegal, IsLegalFrom, end, end_from, hits_from, of, one_if}
-use Rattle.chi_history.specs.Lines.{Told, ToldOf, entries, entry_of, line_entries, retried, serial, serial_after, serial_end, serial_line}
+use Rattle.chi_history.specs.History.{IsFreeOf, IsLegal, IsLegalFrom, changes, end, end_from, hits, hits_from, of, one_if}
+use Rattle.chi_history.specs.Lines.{entries, entry_of, line_entries, retried, serial, serial_after, serial_end, serial_line}
 use Rattle.chi_history.specs.Served.{entry}
 use Rattle.chi_history.proofs.HistoryLemmas.{end_from-append, legal-back}
 use Rattle.chi_requester.specs.declared.fault.WorkFault.{WorkFault}
+use Rattle.chi_requester.specs.declared.policy.Policy.{Policy}
 use Rattle.chi_requester.specs.Serial.{IsSerialRun}
+use Rattle.chi_requester.specs.Told.{ToldOf}
 use Rattle.chi_requester.specs.Work.{IsWorked}
-use Rattle.chi_requester.proofs.WorkLemmas.{are_left-err, drop-within, entries_one, retried_one}
+use Rattle.chi_requester.proofs.ToldLemmas.{accepted_access, told_alone, told_unpaid}
+use Rattle.chi_requester.proofs.WorkLemmas.{are_left-err, drop-within, entries_one}
 
 -- the lines of requests, and then of others
 pub serial-append : (region : Extent) (qs rs : List Request) (m : Memory) → serial region (qs ++ rs) m ≡ serial region qs m ++ serial region rs (serial_end region qs m)
@@ -72,55 +71,49 @@ of-alone o m src (x ∷ xs) legal free = by_test (x.src == src) free_here (of-al
     by_test true is rest = ap (λ (es : List Entry). x ∷ es) rest
     by_test false is rest = absurd (true≢false is)
 
--- a request that is not refused describes an access
-pub accepted_access : (region : Extent) (q : Request) → refusal q region ≡ None → (a : Operation) × (access q ≡ Some a)
-accepted_access region q accepted = by_kind (kind_of q.opcode) refl
+-- no entry of a legal history is a hit for a set of every requester
+pub hits_none : (o : Opening) (m : Memory) (xs : List Entry) (g : ℕ) → IsLegalFrom o m xs → hits_from o m xs g (below o.requesters) ≡ 0
+unfolding hits_from IsLegalFrom
+hits_none o m [] g legal = refl
+hits_none o m (x ∷ xs) g legal =
+    let here : nat_lt x.src o.requesters ≡ true = lt-ltb x.src o.requesters legal.0.0 in
+    let later = hits_none o (after x.access m) xs g legal.1 in
+    let no_hit = ap (λ (b : Bool). one_if (changes x.access m o.region g && not b)) here ∙ and_false (changes x.access m o.region g) in
+    omega arith
   where
-    by_kind : (k : Option Kind) → kind_of q.opcode ≡ k → (a : Operation) × (access q ≡ Some a)
-    by_kind (Some kind) is = (access_as kind q, ap (λ (k : Option Kind). option_map (λ (x : Kind). access_as x q) k) is)
-    by_kind None is = absurd (unknown (sym (ap (λ (k : Option Kind). refusal_of k q region) is) ∙ accepted))
-      where
-        unknown : Some UnknownOpcode ≡ None → ⊥
-        unknown h = cc
+    and_false : (b : Bool) → one_if (b && false) ≡ 0
+    and_false true = refl
+    and_false false = refl
+
+-- so no RetryAck is paid for where the seat holds every number
+pub unpaid_alone : (o : Opening) (limit : ℕ) (held : Held) (seen since : List Entry) (lines : List Line) → held ≡ below o.requesters
+    → IsLegalFrom o (end o seen) since → ((g : ℕ) → limit * retried o.region lines g ≤ hits o seen since g held) → (g : ℕ) → limit * retried o.region lines g ≤ 0
+unpaid_alone o limit held seen since lines all legal paid g =
+    let none_hit = ap (λ (s : Held). hits_from o (end o seen) since g s) all ∙ hits_none o (end o seen) since g legal in
+    let own = paid g in
+    omega arith
 
 -- the only piece that may be told of a request by whom no other works: its refusal, or its completion with
 -- the answer of the memory before it
-pub piece_alone : (o : Opening) (limit : ℕ) (held : Held) (m : Memory) (q : Request) (a : Option Operation) (r : Option Refusal) (piece : List Line)
-    → refusal q o.region ≡ r → access q ≡ a → ToldOf r limit q piece → IsLegalFrom o m (entries piece)
-    → ((g : ℕ) → limit * retried o.region piece g ≤ hits_from o m (entries piece) g held) → piece ≡ serial_line r a q m ∷ []
-unfolding IsLegalFrom hits_from
-piece_alone o limit held m q a (Some fault) piece refused is told legal paid = told
-piece_alone o limit held m q None None piece accepted is told legal paid = absurd (none_some (sym is ∙ (accepted_access o.region q accepted).1))
+pub piece_alone : (o : Opening) (policy : Policy) (limit : ℕ) (m : Memory) (q : Request) (a : Option Operation) (r : Option Refusal) (piece : List Line)
+    → refusal q o.region ≡ r → access q ≡ a → ToldOf r policy limit q piece → IsLegalFrom o m (entries piece)
+    → ((g : ℕ) → limit * retried o.region piece g ≤ 0) → piece ≡ serial_line r a q m ∷ []
+unfolding IsLegalFrom
+piece_alone o policy limit m q a (Some fault) piece refused is told legal unpaid = told
+piece_alone o policy limit m q None None piece accepted is told legal unpaid = absurd (none_some (sym is ∙ (accepted_access o.region q accepted).1))
   where
     none_some : {x : Operation} → None ≡ Some x → ⊥
     none_some h = cc
-piece_alone o limit held m q (Some a) None piece accepted is told legal paid = elim told [ inl done ↦ completed done.0 done.1 | inr retry ↦ absurd (not_retried retry.0 retry.1) ]
+piece_alone o policy limit m q (Some a) None piece accepted is told legal unpaid = done.1 ∙ ap (λ (p : Reply). Completed q p ∷ []) answered
   where
-    completed : (reply : Reply) → piece ≡ Completed q reply ∷ [] → piece ≡ Completed q (answer a m) ∷ []
-    completed reply made = made ∙ ap (λ (p : Reply). Completed q p ∷ []) answered
-      where
-        one : IsLegalFrom o m (entry q.src a reply ∷ [])
-        one = let P : List Entry → Type 0 = λ es. IsLegalFrom o m es in subst P (ap entries made ∙ entries_one q a reply is) legal
+    done : (reply : Reply) × (piece ≡ Completed q reply ∷ [])
+    done = told_unpaid o.region policy limit q a piece is told unpaid
 
-        answered : reply ≡ answer a m
-        answered = one.0.2
+    one : IsLegalFrom o m (entry q.src a done.0 ∷ [])
+    one = let P : List Entry → Type 0 = λ es. IsLegalFrom o m es in subst P (ap entries done.1 ∙ entries_one q a done.0 is) legal
 
-    not_retried : 1 ≤ limit → piece ≡ Retried q ∷ [] → ⊥
-    not_retried some made =
-        let g : ℕ = granule_of a.addr o.region in
-        let count : retried o.region piece g ≡ 1 = ap (λ (p : List Line). retried o.region p g) made ∙ (retried_one o.region q a g is ∙ ap one_if (eq-eqb g g refl)) in
-        let hit : hits_from o m (entries piece) g held ≡ 0 = ap (λ (p : List Line). hits_from o m (entries p) g held) made in
-        let Q : ℕ → ℕ → Type 0 = λ n h. limit * n ≤ h in
-        let bound : limit * 1 ≤ hits_from o m (entries piece) g held = subst (λ (n : ℕ). Q n (hits_from o m (entries piece) g held)) count (paid g) in
-        omega arith
-
--- what may be told of one request alone may be told of it
-pub told_alone : (region : Extent) (limit : ℕ) (q : Request) (piece : List Line) → Told region limit (q ∷ []) piece → ToldOf (refusal q region) limit q piece
-unfolding Told
-told_alone region limit q piece told =
-    let P : List Line → Type 0 = λ xs. ToldOf (refusal q region) limit q xs in
-    let all : piece ≡ told.0 = told.2 ∙ (ap (λ (xs : List Line). told.0 ++ xs) told.4 ∙ append-nil told.0) in
-    subst P (sym all) told.3
+    answered : done.0 ≡ answer a m
+    answered = one.0.2
 
 -- these requests were worked, one after another, and no other
 pub record Progress (o : Opening) (qs : List Request) (seen seen' : List Entry) (lines lines' : List Line) : Type 0 where
@@ -133,11 +126,11 @@ unfolding serial
 progress_none o seen lines = record { told = sym (append-nil lines); grown = sym (append-nil seen) }
 
 -- one more
-pub progress_more : (o : Opening) (limit : ℕ) (held : Held) (start seen seen' : List Entry) (qs : List Request) (q : Request) (first lines lines' piece : List Line)
+pub progress_more : (o : Opening) (policy : Policy) (limit : ℕ) (held : Held) (start seen seen' : List Entry) (qs : List Request) (q : Request) (first lines lines' piece : List Line)
     → held ≡ below o.requesters → IsLegal o seen' → Progress o qs start seen first lines → lines' ≡ lines ++ piece
-    → IsWorked o limit held q.src seen seen' (q ∷ []) piece → Progress o (qs ++ q ∷ []) start seen' first lines'
+    → IsWorked o policy limit held q.src seen seen' (q ∷ []) piece → Progress o (qs ++ q ∷ []) start seen' first lines'
 unfolding serial serial_end
-progress_more o limit held start seen seen' qs q first lines lines' piece all legal before more w = record {
+progress_more o policy limit held start seen seen' qs q first lines lines' piece all legal before more w = record {
   told = more ∙ (ap (λ (xs : List Line). xs ++ piece) before.told ∙ (append_assoc first past piece ∙ ap (λ (xs : List Line). first ++ xs) both));
   grown = w.grown ∙ (ap (λ (h : List Entry). h ++ w.since) before.grown ∙ (append_assoc start (entries past) w.since
       ∙ ap (λ (h : List Entry). start ++ h) (ap (λ (h : List Entry). entries past ++ h) (sym mine)
@@ -157,20 +150,20 @@ progress_more o limit held start seen seen' qs q first lines lines' piece all le
     here = ap (end o) before.grown ∙ (end_from-append _ start (entries past) ∙ serial_end-entries o.region qs (end o start))
 
     line : piece ≡ serial o.region (q ∷ []) (end o seen)
-    line = piece_alone o limit held (end o seen) q (access q) (refusal q o.region) piece refl refl (told_alone o.region limit q piece w.told)
+    line = piece_alone o policy limit (end o seen) q (access q) (refusal q o.region) piece refl refl (told_alone o.region policy limit q piece w.told)
         (let P : List Entry → Type 0 = λ h. IsLegalFrom o (end o seen) h in subst P (sym mine) since_legal)
-        (λ g. let P : List Entry → Type 0 = λ h. limit * retried o.region piece g ≤ hits_from o (end o seen) h g held in subst P (sym mine) (w.paid g))
+        (unpaid_alone o limit held seen w.since piece all since_legal w.paid)
 
     both : past ++ piece ≡ serial o.region (qs ++ q ∷ []) (end o start)
     both = ap (λ (xs : List Line). past ++ xs) (line ∙ ap (λ (m : Memory). serial o.region (q ∷ []) m) here) ∙ sym (serial-append o.region qs (q ∷ []) (end o start))
 
 -- the request at an index, after those before it
-pub progress_next : (o : Opening) (limit : ℕ) (held : Held) (start seen seen' : List Entry) (qs : List Request) (i : ℕ) (d : Request) (first lines lines' piece : List Line)
+pub progress_next : (o : Opening) (policy : Policy) (limit : ℕ) (held : Held) (start seen seen' : List Entry) (qs : List Request) (i : ℕ) (d : Request) (first lines lines' piece : List Line)
     → i < length qs → held ≡ below o.requesters → IsLegal o seen' → Progress o (take i qs) start seen first lines → lines' ≡ lines ++ piece
-    → IsWorked o limit held (get_or qs i d).src seen seen' (get_or qs i d ∷ []) piece → Progress o (take (i + 1) qs) start seen' first lines'
-progress_next o limit held start seen seen' qs i d first lines lines' piece within all legal before more w =
+    → IsWorked o policy limit held (get_or qs i d).src seen seen' (get_or qs i d ∷ []) piece → Progress o (take (i + 1) qs) start seen' first lines'
+progress_next o policy limit held start seen seen' qs i d first lines lines' piece within all legal before more w =
     let P : List Request → Type 0 = λ rs. Progress o rs start seen' first lines' in
-    subst P (sym (take_more qs i d within)) (progress_more o limit held start seen seen' (take i qs) (get_or qs i d) first lines lines' piece all legal before more w)
+    subst P (sym (take_more qs i d within)) (progress_more o policy limit held start seen seen' (take i qs) (get_or qs i d) first lines lines' piece all legal before more w)
 
 -- the work stops before the request at an index
 pub serial_stopped : (result : Result (Unit {0}) WorkFault) (o : Opening) (qs : List Request) (i : ℕ) (start seen seen' : List Entry) (first lines lines' : List Line)

@@ -1,3 +1,4 @@
+pub mod Told
 pub mod Work
 pub mod Serial
 pub mod Race

@@ -1,13 +1,20 @@
 -- what a requester's work adds to its lines and to the history
-use Rattle.std.specs.Prelude.{◌≡◌, ◌≢◌, ℕ, ◌*◌, ◌==◌, ◌≤◌, true, List, [], ◌++◌, All, filter, Result, Ok, Err}
+use Rattle.std.specs.Prelude.{◌≡◌, ◌≢◌, ℕ, ◌*◌, ◌==◌, ◌≤◌, true, List, [], ◌∷◌, ◌++◌, All, filter, Result, Ok, Err}
 use Rattle.chi_fields.specs.declared.request.Request.{Request}
+use Rattle.chi_fields.specs.Operation.{Operation}
+use Rattle.chi_lanes.specs.declared.reply.Reply.{Reply}
 use Rattle.chi_history.specs.declared.entry.Entry.{Entry}
 use Rattle.chi_history.specs.declared.line.Line.{Line}
+use Rattle.chi_history.specs.declared.line.Line.TheVariants.{Completed}
 use Rattle.chi_history.specs.declared.opening.Opening.{Opening}
 use Rattle.chi_history.specs.Held.{Held, without}
 use Rattle.chi_history.specs.History.{IsFreeOf, hits, of}
-use Rattle.chi_history.specs.Lines.{Told, entries, retried}
+use Rattle.chi_history.specs.Lines.{entries, retried}
+use Rattle.chi_history.specs.Served.{Completes}
 use Rattle.chi_requester.specs.declared.fault.WorkFault.{WorkFault}
+use Rattle.chi_requester.specs.declared.policy.Policy.{Policy}
+use Rattle.chi_requester.specs.declared.policy.Policy.TheVariants.{Resend, Return}
+use Rattle.chi_requester.specs.Told.{Told}
 
 -- each request is of a requester of the set
 abbrev pub AllFrom : Held → List Request → Type 0
@@ -22,24 +29,31 @@ abbrev pub AreLeft : Result (Unit {0}) WorkFault → List Request → Type 0
 AreLeft (Ok _) rest = rest ≡ []
 AreLeft (Err _) rest = rest ≢ []
 
+-- what follows a RetryAck to the requester src: under Resend the request is completed on the credit, and the
+-- line that tells so is appended; under Return nothing more is done
+abbrev pub IsFollowed : Policy → Opening → Held → ℕ → List Entry → List Entry → Request → Operation → List Line → List Line → Type 0
+IsFollowed Resend o held src seen seen' q a lines lines' =
+    (reply : Reply) × (lines' ≡ lines ++ Completed q reply ∷ []) × Completes o held seen seen' src a reply 0
+IsFollowed Return o held src seen seen' q a lines lines' = (lines' ≡ lines) × (seen' ≡ seen)
+
 -- The lines tell of these requests of the requester src, in order. The history went on by the entries of the
 -- completed ones, and by entries of numbers that the seat does not hold. Each RetryAck was paid for by as many
 -- changes of its granule as the limit says, made by others.
-pub record IsWorked (o : Opening) (limit : ℕ) (held : Held) (src : ℕ) (seen seen' : List Entry) (qs : List Request) (lines : List Line) : Type 0 where
+pub record IsWorked (o : Opening) (policy : Policy) (limit : ℕ) (held : Held) (src : ℕ) (seen seen' : List Entry) (qs : List Request) (lines : List Line) : Type 0 where
   pub since : List Entry
   pub grown : seen' ≡ seen ++ since
   pub mine : entries lines ≡ of since src
   pub free : IsFreeOf (without src held) since
   pub paid : (g : ℕ) → limit * retried o.region lines g ≤ hits o seen since g held
-  pub told : Told o.region limit qs lines
+  pub told : Told o.region policy limit qs lines
 
 -- The requests of src were worked, all of them after Ok, and a proper prefix of them after Memory. Earlier
 -- lines stay.
-pub record IsWorkRun (result : Result (Unit {0}) WorkFault) (o : Opening) (limit : ℕ) (held : Held) (src : ℕ) (all : List Request) (seen seen' : List Entry) (lines lines' : List Line) : Type 0 where
+pub record IsWorkRun (result : Result (Unit {0}) WorkFault) (o : Opening) (policy : Policy) (limit : ℕ) (held : Held) (src : ℕ) (all : List Request) (seen seen' : List Entry) (lines lines' : List Line) : Type 0 where
   pub done : List Request
   pub left : List Request
   pub parts : done ++ left ≡ requests_of all src
   pub are_left : AreLeft result left
   pub appended : List Line
   pub kept : lines' ≡ lines ++ appended
-  pub worked : IsWorked o limit held src seen seen' done appended
+  pub worked : IsWorked o policy limit held src seen seen' done appended

@@ -6,6 +6,7 @@ ghost use Rattle.chi_requester.specs.Race.{IsPairRun, IsRaceRun};
 ghost use Rattle.chi_requester.specs.Work.{IsWorkRun};
 
 use crate::fault::WorkFault;
+use crate::policy::Policy;
 use crate::working::work;
 use chi_fields::Request;
 use chi_history::{Gate, Home, Line, NoGate};
@@ -29,6 +30,7 @@ fn work_alone<H: Home, R: Wait, G: Gate + Drop, A: Allocator>(
     mut seat: H::Seat,
     src: u8,
     requests: &[Request],
+    policy: Policy,
     mut gate: G,
     mut lines: Vec<Line, A>,
 ) -> (H::Seat, Vec<Line, A>, Result<(), WorkFault>)
@@ -36,10 +38,12 @@ fn work_alone<H: Home, R: Wait, G: Gate + Drop, A: Allocator>(
     requires holds { H.held seat src ≡ true }
     ensures own { H.belongs home.now result.0 }
     ensures held { H.held result.0 ≡ H.held seat }
-    ensures worked { IsWorkRun result.2 (H.opening home.now) (H.limit home.now) (H.held seat) src requests.now
+    ensures worked { IsWorkRun result.2 (H.opening home.now) policy (H.limit home.now) (H.held seat) src requests.now
         (H.seen seat) (H.seen result.0) lines.items result.1.items }
 {
-    let outcome = work(home, rt, &mut seat, src, requests, &mut gate, &mut lines);
+    let outcome = work(
+        home, rt, &mut seat, src, requests, policy, &mut gate, &mut lines,
+    );
     (seat, lines, outcome)
 }
 
@@ -56,6 +60,7 @@ fn work_both<
     one: H::Seat,
     two: H::Seat,
     requests: &[Request],
+    policy: Policy,
     gate1: G1,
     gate2: G2,
     one_lines: Vec<Line, A>,
@@ -70,11 +75,11 @@ fn work_both<
     requires two_holds { H.held two 2 ≡ true }
     ensures one_own { H.belongs home.now result.0.0 }
     ensures one_held { H.held result.0.0 ≡ H.held one }
-    ensures one_worked { IsWorkRun result.0.2 (H.opening home.now) (H.limit home.now) (H.held one) 1 requests.now
+    ensures one_worked { IsWorkRun result.0.2 (H.opening home.now) policy (H.limit home.now) (H.held one) 1 requests.now
         (H.seen one) (H.seen result.0.0) one_lines.items result.0.1.items }
     ensures two_own { H.belongs home.now result.1.0 }
     ensures two_held { H.held result.1.0 ≡ H.held two }
-    ensures two_worked { IsWorkRun result.1.2 (H.opening home.now) (H.limit home.now) (H.held two) 2 requests.now
+    ensures two_worked { IsWorkRun result.1.2 (H.opening home.now) policy (H.limit home.now) (H.held two) 2 requests.now
         (H.seen two) (H.seen result.1.0) two_lines.items result.1.1.items }
 {
     thread::join(
@@ -84,17 +89,17 @@ fn work_both<
             requires holds { H.held one 1 ≡ true }
             ensures own { H.belongs home.entry.now result.0 }
             ensures held { H.held result.0 ≡ H.held one }
-            ensures worked { IsWorkRun result.2 (H.opening home.entry.now) (H.limit home.entry.now) (H.held one) 1
+            ensures worked { IsWorkRun result.2 (H.opening home.entry.now) policy (H.limit home.entry.now) (H.held one) 1
                 requests.entry.now (H.seen one) (H.seen result.0) one_lines.items result.1.items }
-        { work_alone(home, rt, one, 1, requests, gate1, one_lines) },
+        { work_alone(home, rt, one, 1, requests, policy, gate1, one_lines) },
         move || -> (H::Seat, Vec<Line, A>, Result<(), WorkFault>)
             requires own { H.belongs home.now two }
             requires holds { H.held two 2 ≡ true }
             ensures own { H.belongs home.entry.now result.0 }
             ensures held { H.held result.0 ≡ H.held two }
-            ensures worked { IsWorkRun result.2 (H.opening home.entry.now) (H.limit home.entry.now) (H.held two) 2
+            ensures worked { IsWorkRun result.2 (H.opening home.entry.now) policy (H.limit home.entry.now) (H.held two) 2
                 requests.entry.now (H.seen two) (H.seen result.0) two_lines.items result.1.items }
-        { work_alone(home, rt, two, 2, requests, gate2, two_lines) },
+        { work_alone(home, rt, two, 2, requests, policy, gate2, two_lines) },
     )
 }
 
@@ -110,6 +115,7 @@ fn race_pair<
     rt: &R,
     seat: &mut H::Seat,
     requests: &[Request],
+    policy: Policy,
     gate1: G1,
     gate2: G2,
     race: &mut Race<A>,
@@ -120,7 +126,7 @@ fn race_pair<
     ensures own { H.belongs home.now seat.new }
     ensures held { H.held seat.new ≡ H.held seat.old }
     ensures zero { race.new.zero.items ≡ race.old.zero.items }
-    ensures pair { IsPairRun result (H.opening home.now) (H.limit home.now) requests.now (H.seen seat.old) (H.seen seat.new)
+    ensures pair { IsPairRun result (H.opening home.now) policy (H.limit home.now) requests.now (H.seen seat.old) (H.seen seat.new)
         race.old.one.items race.old.two.items race.new.one.items race.new.two.items }
 {
     let one = home.split(rt, seat, 1);
@@ -129,7 +135,7 @@ fn race_pair<
     let one_lines = mem::replace(&mut race.one, Vec::new(alloc));
     let two_lines = mem::replace(&mut race.two, Vec::new(alloc));
     let ((one, one_lines, first), (two, two_lines, second)) = work_both(
-        home, rt, one, two, requests, gate1, gate2, one_lines, two_lines,
+        home, rt, one, two, requests, policy, gate1, gate2, one_lines, two_lines,
     );
     race.one = one_lines;
     race.two = two_lines;
@@ -141,12 +147,15 @@ fn race_pair<
 /// Works the requests of 1 and of 2 at the same time, each by a seat and a gate of its own, and then those of
 /// 0, by a seat that holds every number.
 ///
+/// After RetryAck `Resend` sends the request again on its credit, and `Return` gives the credit back and leaves
+/// the request. To 0 RetryAck never comes.
+///
 /// Where no thread can be started, both are worked in the caller's. Where 1 or 2 stops by `Memory`, the other
 /// works to its end, the requests of 0 are not worked, and `Memory` is answered. The lines so far stay, and
 /// the seat holds every number again.
 ///
 /// ```
-/// race_two(&home, rt, &mut seat, script.requests(), NoGate, NoGate, &mut race)?;
+/// race_two(&home, rt, &mut seat, script.requests(), Policy::Return, NoGate, NoGate, &mut race)?;
 /// ```
 pub fn race_two<
     H: Home + Sync,
@@ -159,6 +168,7 @@ pub fn race_two<
     rt: &R,
     seat: &mut H::Seat,
     requests: &[Request],
+    policy: Policy,
     gate1: G1,
     gate2: G2,
     race: &mut Race<A>,
@@ -169,9 +179,18 @@ pub fn race_two<
     requires known { All (λ q. q.src ≤ 2) requests.now }
     ensures own { H.belongs home.now seat.new }
     ensures held { H.held seat.new ≡ H.held seat.old }
-    ensures race { IsRaceRun result (H.opening home.now) (H.limit home.now) requests.now (H.seen seat.old) (H.seen seat.new)
+    ensures race { IsRaceRun result (H.opening home.now) policy (H.limit home.now) requests.now (H.seen seat.old) (H.seen seat.new)
         race.old.one.items race.old.two.items race.old.zero.items race.new.one.items race.new.two.items race.new.zero.items }
 {
-    race_pair(home, rt, seat, requests, gate1, gate2, race)?;
-    work(home, rt, seat, 0, requests, &mut NoGate, &mut race.zero)
+    race_pair(home, rt, seat, requests, policy, gate1, gate2, race)?;
+    work(
+        home,
+        rt,
+        seat,
+        0,
+        requests,
+        policy,
+        &mut NoGate,
+        &mut race.zero,
+    )
 }

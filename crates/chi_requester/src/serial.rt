@@ -6,6 +6,7 @@ ghost use Rattle.chi_requester.specs.Serial.{IsSerialRun};
 ghost use Rattle.chi_requester.specs.Work.{AllFrom};
 
 use crate::fault::WorkFault;
+use crate::policy::Policy;
 use crate::single::work_request;
 use chi_fields::Request;
 use chi_history::{Home, Line, NoGate};
@@ -14,17 +15,19 @@ use std::sync::Wait;
 
 /// Works the requests in order, each for its own requester, by a seat that holds every number.
 ///
-/// Each is refused or executed before the next one. `Memory` comes before the request that it stops: the
-/// lines of the requests before it stay, and the requests from it on are not worked.
+/// Each is refused or executed before the next one. Nobody else changes memory meanwhile, so RetryAck never
+/// comes, and `Resend` and `Return` do the same. `Memory` comes before the request that it stops: the lines of
+/// the requests before it stay, and the requests from it on are not worked.
 ///
 /// ```
-/// run_serial(&home, rt, &mut seat, script.requests(), &mut lines)?;
+/// run_serial(&home, rt, &mut seat, script.requests(), Policy::Resend, &mut lines)?;
 /// ```
 pub fn run_serial<H: Home, R: Wait, A: Allocator>(
     home: &H,
     rt: &R,
     seat: &mut H::Seat,
     requests: &[Request],
+    policy: Policy,
     lines: &mut Vec<Line, A>,
 ) -> Result<(), WorkFault>
     requires own { H.belongs home.now seat.old }
@@ -36,7 +39,7 @@ pub fn run_serial<H: Home, R: Wait, A: Allocator>(
         lines.old.items lines.new.items }
 {
     for request in requests {
-        work_request(home, rt, seat, request, &mut NoGate, lines)?;
+        work_request(home, rt, seat, request, policy, &mut NoGate, lines)?;
     }
     Ok(())
 }

@@ -6,7 +6,7 @@ use Rattle.chi_requester.proofs.racing.race_pair.Goals as goal
 pub returns-clause-pair : goal.returns-clause-pair
 returns-clause-pair g c =
     let laws = g.met.H.Home g.world.𝓛 g.world.𝓜 g.world.𝓡 ((λ s x. x), (λ x. x), (λ x. x), λ x. x) in
-    paired_back c.work_both-one.result.0.2 c.work_both-one.result.1.2 c.and.result (g.H.Home.opening c.args.home.now) (g.H.Home.limit c.args.home.now) c.args.requests.now
+    paired_back c.work_both-one.result.0.2 c.work_both-one.result.1.2 c.and.result (g.H.Home.opening c.args.home.now) c.args.policy (g.H.Home.limit c.args.home.now) c.args.requests.now
     (g.H.Home.held c.args.seat.now) (g.H.Home.held c.split-one.new.seat) (g.H.Home.held c.split-two.new.seat) (g.H.Home.held c.split-one.result) (g.H.Home.held c.split-two.result)
     (g.H.Home.held c.work_both-one.result.0.0) (g.H.Home.held c.work_both-one.result.1.0) (g.H.Home.held c.rejoin.new.seat)
     (g.H.Home.seen c.args.seat.now) (g.H.Home.seen c.split-one.new.seat) (g.H.Home.seen c.split-two.new.seat) (g.H.Home.seen c.split-one.result) (g.H.Home.seen c.split-two.result)

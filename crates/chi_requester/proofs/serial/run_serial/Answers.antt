@@ -21,6 +21,6 @@ loop-request-preserved g c =
     record {
       own = c.work_request.ensures.own;
       held = c.work_request.ensures.held ∙ c.loop-request.invariant.held;
-      progress = progress_next _ _ _ _ _ _ _ _ _ _ _ _ _ c.loop-request-test.true (c.loop-request.invariant.held ∙ c.requires.all)
+      progress = progress_next _ _ _ _ _ _ _ _ _ _ _ _ _ _ c.loop-request-test.true (c.loop-request.invariant.held ∙ c.requires.all)
           (g.met.H.Home.seen_is_legal _ _ c.work_request.ensures.own) c.loop-request.invariant.progress worked.1 worked.2;
     }

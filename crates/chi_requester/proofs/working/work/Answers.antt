@@ -8,13 +8,13 @@ pub loop-request-init : goal.loop-request-init
 loop-request-init g c = record {
   own = c.requires.own;
   held = search rules;
-  so_far = so_far_none _ _ _ _ _ _;
+  so_far = so_far_none _ _ _ _ _ _ _;
 }
 
 pub returns-in_err-work_request-clause-worked : goal.returns-in_err-work_request-clause-worked
 returns-in_err-work_request-clause-worked g c =
     let same = c.in_err-work_request.ensures.worked in
-    work_stopped _ _ _ _ _ _ c.loop-request.request-index _ _ _ _ _ _ _ c.loop-request-test.true c.if-request-src.true c.from_residual.ensures.0 c.loop-request.invariant.so_far same.0 same.1
+    work_stopped _ _ _ _ _ _ _ c.loop-request.request-index _ _ _ _ _ _ _ c.loop-request-test.true c.if-request-src.true c.from_residual.ensures.0 c.loop-request.invariant.so_far same.0 same.1
 
 pub loop-request-preserved : goal.loop-request-preserved
 loop-request-preserved g c = elim c.if-request-src.branch [
@@ -23,12 +23,12 @@ loop-request-preserved g c = elim c.if-request-src.branch [
       rw (w.seat-is, w.lines-is) (record {
         own = w.work_request.ensures.own;
         held = w.work_request.ensures.held ∙ c.loop-request.invariant.held;
-        so_far = so_far_next _ _ _ _ _ _ _ _ _ _ _ _ _ _ _ c.loop-request-test.true w.if-request-src.true c.loop-request.invariant.held c.loop-request.invariant.so_far worked.1 worked.2;
+        so_far = so_far_next _ _ _ _ _ _ _ _ _ _ _ _ _ _ _ _ c.loop-request-test.true w.if-request-src.true c.loop-request.invariant.held c.loop-request.invariant.so_far worked.1 worked.2;
       })
   | else-request-src w ↦
       rw (w.seat-is, w.lines-is) (record {
         own = c.loop-request.invariant.own;
         held = c.loop-request.invariant.held;
-        so_far = so_far_skip _ _ _ _ _ _ _ _ _ _ _ c.loop-request-test.true (eqb_other _ _ w.if-request-src.false) c.loop-request.invariant.so_far;
+        so_far = so_far_skip _ _ _ _ _ _ _ _ _ _ _ _ c.loop-request-test.true (eqb_other _ _ w.if-request-src.false) c.loop-request.invariant.so_far;
       })
 ]

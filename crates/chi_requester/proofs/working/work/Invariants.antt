@@ -8,6 +8,6 @@ abbrev pub invariant-loop-request : goal.invariant-loop-request
 invariant-loop-request g l = record {
   own : g.H.Home.belongs l.home l.seat;
   held : g.H.Home.held l.seat ≡ g.H.Home.held l.initial.seat;
-  so_far : WorkedSoFar (g.H.Home.opening l.home) (g.H.Home.limit l.home) (g.H.Home.held l.initial.seat) l.src (requests_of (take l.request-index l.requests) l.src)
+  so_far : WorkedSoFar (g.H.Home.opening l.home) l.policy (g.H.Home.limit l.home) (g.H.Home.held l.initial.seat) l.src (requests_of (take l.request-index l.requests) l.src)
       (g.H.Home.seen l.initial.seat) (g.H.Home.seen l.seat) l.initial.lines.items l.lines.items;
 }
