@@ -17,7 +17,7 @@ use Rattle.chi_requester.specs.declared.policy.Policy.TheVariants.{Resend, Retur
 use Rattle.chi_requester.specs.Told.{Told, ToldOf}
 use Rattle.chi_requester.specs.Work.{IsFollowed, IsWorked}
 use Rattle.chi_requester.proofs.ToldLemmas.{told_one}
-use Rattle.chi_requester.proofs.WorkLemmas.{Adds, adds-append, adds_done, adds_refused, adds_retried, worked_as}
+use Rattle.chi_requester.proofs.WorkLemmas.{Adds, adds-append, adds_done, adds_refused, adds_retried, worked_from}
 
 -- what may be told of a request that is not refused may be told of it alone
 told_accepted : (region : Extent) (policy : Policy) (limit : ℕ) (q : Request) (piece : List Line) → refusal q region ≡ None → ToldOf None policy limit q piece
@@ -31,7 +31,7 @@ pub worked_refused : (o : Opening) (policy : Policy) (limit : ℕ) (held : Held)
     → IsWorked o policy limit held q.src seen seen (q ∷ []) (Refused q fault ∷ [])
 worked_refused o policy limit held seen q fault is =
     let P : Option Refusal → Type 0 = λ r. ToldOf r policy limit q (Refused q fault ∷ []) in
-    worked_as o policy limit held q.src seen seen (q ∷ []) (Refused q fault ∷ []) (adds_refused o limit held q.src seen q fault)
+    worked_from o policy limit held q.src seen seen (q ∷ []) (Refused q fault ∷ []) (adds_refused o limit held q.src seen q fault)
     (told_one o.region policy limit q (Refused q fault ∷ []) (subst P (sym is) refl))
 
 -- a request that is done
@@ -39,7 +39,7 @@ pub worked_done : (o : Opening) (policy : Policy) (limit : ℕ) (held : Held) (s
     → held q.src ≡ true → refusal q o.region ≡ None → access q ≡ Some a → Completes o held seen seen' q.src a reply lost
     → IsWorked o policy limit held q.src seen seen' (q ∷ []) (Completed q reply ∷ [])
 worked_done o policy limit held seen seen' q a reply lost holds accepted is done =
-    worked_as o policy limit held q.src seen seen' (q ∷ []) (Completed q reply ∷ []) (adds_done o limit held seen seen' q a reply lost holds is done)
+    worked_from o policy limit held q.src seen seen' (q ∷ []) (Completed q reply ∷ []) (adds_done o limit held seen seen' q a reply lost holds is done)
     (told_accepted o.region policy limit q (Completed q reply ∷ []) accepted (inl (reply, refl)))
 
 -- a request that is answered by RetryAck, and what follows by the policy
@@ -50,7 +50,7 @@ pub worked_followed : (o : Opening) (policy : Policy) (limit : ℕ) (held held' 
 worked_followed o Resend limit held held' seen retried seen' q a lost credit lines more lines' holds accepted is retry whole some own same pushed followed = (
   piece,
   followed.1 ∙ (ap (λ (xs : List Line). xs ++ Completed q followed.0 ∷ []) pushed ∙ append_assoc lines (Retried q ∷ []) (Completed q followed.0 ∷ [])),
-  worked_as o Resend limit held q.src seen seen' (q ∷ []) piece
+  worked_from o Resend limit held q.src seen seen' (q ∷ []) piece
       (adds-append o limit held q.src seen retried seen' (Retried q ∷ []) (Completed q followed.0 ∷ []) (adds_retried o limit held seen retried q a lost holds is retry whole)
       (adds_done o limit held retried seen' q a followed.0 0 holds is done))
       (told_accepted o.region Resend limit q piece accepted (inr (some, (followed.0, refl)))),
@@ -67,7 +67,7 @@ worked_followed o Resend limit held held' seen retried seen' q a lost credit lin
 worked_followed o Return limit held held' seen retried seen' q a lost credit lines more lines' holds accepted is retry whole some own same pushed followed = (
   Retried q ∷ [],
   followed.0 ∙ pushed,
-  worked_as o Return limit held q.src seen seen' (q ∷ []) (Retried q ∷ [])
+  worked_from o Return limit held q.src seen seen' (q ∷ []) (Retried q ∷ [])
       (let P : List Entry → Type 0 = λ h. Adds o limit held q.src seen h (Retried q ∷ []) in
       subst P (sym followed.1) (adds_retried o limit held seen retried q a lost holds is retry whole))
       (told_accepted o.region Return limit q (Retried q ∷ []) accepted (inr (some, refl))),

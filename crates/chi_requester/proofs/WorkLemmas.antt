@@ -55,9 +55,9 @@ pub record Adds (o : Opening) (limit : ℕ) (held : Held) (src : ℕ) (seen seen
   pub paid : (g : ℕ) → limit * retried o.region lines g ≤ hits o seen since g held
 
 -- the work on requests, from what it adds and what is told of them
-pub worked_as : (o : Opening) (policy : Policy) (limit : ℕ) (held : Held) (src : ℕ) (seen seen' : List Entry) (qs : List Request) (lines : List Line)
+pub worked_from : (o : Opening) (policy : Policy) (limit : ℕ) (held : Held) (src : ℕ) (seen seen' : List Entry) (qs : List Request) (lines : List Line)
     → Adds o limit held src seen seen' lines → Told o.region policy limit qs lines → IsWorked o policy limit held src seen seen' qs lines
-worked_as o policy limit held src seen seen' qs lines x told =
+worked_from o policy limit held src seen seen' qs lines x told =
     record { since = x.since; grown = x.grown; mine = x.mine; free = x.free; paid = x.paid; told = told }
 
 -- what the work on requests adds
@@ -65,12 +65,12 @@ pub adds_of : (o : Opening) (policy : Policy) (limit : ℕ) (held : Held) (src :
     → IsWorked o policy limit held src seen seen' qs lines → Adds o limit held src seen seen' lines
 adds_of o policy limit held src seen seen' qs lines w = record { since = w.since; grown = w.grown; mine = w.mine; free = w.free; paid = w.paid }
 
--- no line adds nothing
+-- where there are no lines nothing is added
 pub adds_none : (o : Opening) (limit : ℕ) (held : Held) (src : ℕ) (seen : List Entry) → Adds o limit held src seen seen []
 unfolding of IsFreeOf hits_from
 adds_none o limit held src seen = record { since = []; grown = sym (append-nil seen); mine = refl; free = tt; paid = λ g. omega arith }
 
--- nor does a refusal
+-- nor where the line is a refusal
 pub adds_refused : (o : Opening) (limit : ℕ) (held : Held) (src : ℕ) (seen : List Entry) (q : Request) (fault : Refusal)
     → Adds o limit held src seen seen (Refused q fault ∷ [])
 unfolding of IsFreeOf hits_from
@@ -140,13 +140,13 @@ adds-append o limit held src seen seen' seen'' xs ys first second = record {
 -- no request
 pub worked_none : (o : Opening) (policy : Policy) (limit : ℕ) (held : Held) (src : ℕ) (seen : List Entry) → IsWorked o policy limit held src seen seen [] []
 unfolding Told
-worked_none o policy limit held src seen = worked_as o policy limit held src seen seen [] [] (adds_none o limit held src seen) refl
+worked_none o policy limit held src seen = worked_from o policy limit held src seen seen [] [] (adds_none o limit held src seen) refl
 
 -- some requests, and then others
 pub worked-append : (o : Opening) (policy : Policy) (limit : ℕ) (held : Held) (src : ℕ) (seen seen' seen'' : List Entry) (qs rs : List Request) (xs ys : List Line)
     → IsWorked o policy limit held src seen seen' qs xs → IsWorked o policy limit held src seen' seen'' rs ys
     → IsWorked o policy limit held src seen seen'' (qs ++ rs) (xs ++ ys)
 worked-append o policy limit held src seen seen' seen'' qs rs xs ys first second =
-    worked_as o policy limit held src seen seen'' (qs ++ rs) (xs ++ ys)
+    worked_from o policy limit held src seen seen'' (qs ++ rs) (xs ++ ys)
     (adds-append o limit held src seen seen' seen'' xs ys (adds_of o policy limit held src seen seen' qs xs first) (adds_of o policy limit held src seen' seen'' rs ys second))
     (told-append o.region policy limit qs rs xs ys first.told second.told)
