@@ -23,6 +23,9 @@ pub struct Race<A: Allocator> {
     pub zero: Vec<Line, A>,
 }
 
+// What a worker hands back: its seat, its lines, and how its work ended.
+type Worker<S, A> = (S, Vec<Line, A>, Result<(), WorkFault>);
+
 // Works by a seat, a gate and lines of its own, and hands the seat and the lines back.
 fn work_alone<H: Home, R: Wait, G: Gate + Drop, A: Allocator>(
     home: &H,
@@ -33,7 +36,7 @@ fn work_alone<H: Home, R: Wait, G: Gate + Drop, A: Allocator>(
     policy: Policy,
     mut gate: G,
     mut lines: Vec<Line, A>,
-) -> (H::Seat, Vec<Line, A>, Result<(), WorkFault>)
+) -> Worker<H::Seat, A>
     requires own { H.belongs home.now seat }
     requires holds { H.held seat src ≡ true }
     ensures own { H.belongs home.now result.0 }
@@ -65,10 +68,7 @@ fn work_both<
     gate2: G2,
     one_lines: Vec<Line, A>,
     two_lines: Vec<Line, A>,
-) -> (
-    (H::Seat, Vec<Line, A>, Result<(), WorkFault>),
-    (H::Seat, Vec<Line, A>, Result<(), WorkFault>),
-)
+) -> (Worker<H::Seat, A>, Worker<H::Seat, A>)
     requires one_own { H.belongs home.now one }
     requires one_holds { H.held one 1 ≡ true }
     requires two_own { H.belongs home.now two }
@@ -84,7 +84,7 @@ fn work_both<
 {
     thread::join(
         rt,
-        move || -> (H::Seat, Vec<Line, A>, Result<(), WorkFault>)
+        move || -> Worker<H::Seat, A>
             requires own { H.belongs home.now one }
             requires holds { H.held one 1 ≡ true }
             ensures own { H.belongs home.entry.now result.0 }
@@ -92,7 +92,7 @@ fn work_both<
             ensures worked { IsWorkRun result.2 (H.opening home.entry.now) policy (H.limit home.entry.now) (H.held one) 1
                 requests.entry.now (H.seen one) (H.seen result.0) one_lines.items result.1.items }
         { work_alone(home, rt, one, 1, requests, policy, gate1, one_lines) },
-        move || -> (H::Seat, Vec<Line, A>, Result<(), WorkFault>)
+        move || -> Worker<H::Seat, A>
             requires own { H.belongs home.now two }
             requires holds { H.held two 2 ≡ true }
             ensures own { H.belongs home.entry.now result.0 }
