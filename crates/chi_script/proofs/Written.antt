@@ -120,6 +120,15 @@ pub writes_both : {E : Type 0} (a b c : Option (List ℕ)) (held mid last s t : 
 writes_both a b c held mid last s t (Ok u) p q = moves_then a b c held mid last s t p q
 writes_both a b c held mid last s t (Err x) p q = cut_then a b c held mid s t p q
 
+-- a text that goes past the page
+pub writes_past : {E : Type 0} (a b c : Option (List ℕ)) (held mid text : List ℕ) (r : Result (Unit {0}) E) → mid ≡ [] → Moves a held b mid [] → Puts b c r text → Writes a held c mid r text
+writes_past a b c held mid text (Ok u) e p q = moves_then a b c held mid mid [] text p (record {
+  front = text;
+  whole = ap (λ l. text ++ l) e ∙ append-nil text ∙ sym (ap (λ l. l ++ text) e);
+  taken = q;
+})
+writes_past a b c held mid text (Err x) e p q = cut_then a b c held mid [] text p (subst (AppendsFront b c) (sym (ap (λ l. l ++ text) e)) q)
+
 -- ---- a whole call, with a page of its own
 
 -- a fault in the first text

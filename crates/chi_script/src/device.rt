@@ -1,9 +1,9 @@
 //! Bytes to a writer, through a page.
 
-ghost use Rattle.std.specs.Prelude.{◌≡◌, [], ◌∷◌, OnOk};
+ghost use Rattle.std.specs.Prelude.{◌≡◌, [], OnOk};
 ghost use Rattle.chi_script.specs.Written.{Puts, Writes};
 
-use crate::page::Page;
+use crate::page::{PAGE, Page};
 use std::io::Write;
 use thiserror::Error;
 
@@ -48,18 +48,8 @@ pub(crate) fn put_page<W: Write>(to: &mut W, page: &mut Page) -> Result<(), Writ
     Ok(())
 }
 
-// One byte to the page, and what the page held to the writer first where there is no room.
-fn put_byte<W: Write>(to: &mut W, page: &mut Page, byte: u8) -> Result<(), WriteFault>
-    ensures { Writes (W.contents to.old) page.old (W.contents to.new) page.new result (byte ∷ []) }
-{
-    if page.is_full() {
-        put_page(to, page)?;
-    }
-    page.push(byte);
-    Ok(())
-}
-
-// Some bytes to the page and the writer.
+// Some bytes to the page, and what the page held to the writer first where there is no room. More than a page
+// holds go to the writer at once.
 pub(crate) fn put_bytes<W: Write>(
     to: &mut W,
     page: &mut Page,
@@ -67,8 +57,12 @@ pub(crate) fn put_bytes<W: Write>(
 ) -> Result<(), WriteFault>
     ensures { Writes (W.contents to.old) page.old (W.contents to.new) page.new result bytes.now }
 {
-    'bytes: for byte in bytes {
-        put_byte(to, page, *byte)?;
+    if page.room() < bytes.len() {
+        put_page(to, page)?;
+        if PAGE < bytes.len() {
+            return put_all(to, bytes);
+        }
     }
+    page.extend(bytes);
     Ok(())
 }

@@ -1,12 +1,12 @@
 //! A page of bytes that a writer has yet to take.
 
-ghost use Rattle.std.specs.Prelude.{◌≡◌, ◌<◌, ◌≤◌, ◌↔◌, [], ◌∷◌, ◌++◌, length, IsTrue};
+ghost use Rattle.std.specs.Prelude.{◌≡◌, ◌+◌, ◌≤◌, [], ◌++◌, length};
 ghost use Rattle.chi_script.specs.declared.page.TheConstants.{PAGE};
 
 use std::marker::Model;
 
 // How many bytes a page holds.
-const PAGE: usize = 16384;
+pub(crate) const PAGE: usize = 16384;
 
 // The bytes that a writer has yet to take, in order: at most `PAGE`.
 #[derive(Drop)]
@@ -37,12 +37,11 @@ impl Page {
         }
     }
 
-    // Whether no byte more goes in.
-    pub(crate) fn is_full(&self) -> bool
-        ensures full { IsTrue result ↔ (length self.now ≡ PAGE) }
-        ensures room { length self.now ≤ PAGE }
+    // How many bytes more go in.
+    pub(crate) fn room(&self) -> usize
+        ensures { result + length self.now ≡ PAGE }
     {
-        self.len == PAGE
+        PAGE - self.len
     }
 
     // The bytes.
@@ -52,13 +51,14 @@ impl Page {
         &self.bytes[..self.len]
     }
 
-    // One byte more, at the end.
-    pub(crate) fn push(&mut self, byte: u8)
-        requires { length self.old < PAGE }
-        ensures { self.new ≡ self.old ++ byte ∷ [] }
+    // Some bytes more, at the end.
+    pub(crate) fn extend(&mut self, bytes: &[u8])
+        requires { length self.old + length bytes.now ≤ PAGE }
+        ensures { self.new ≡ self.old ++ bytes.now }
     {
-        self.bytes[self.len] = byte;
-        self.len += 1;
+        let end = self.len + bytes.len();
+        self.bytes[self.len..end].copy_from_slice(bytes);
+        self.len = end;
     }
 
     // No byte left.
