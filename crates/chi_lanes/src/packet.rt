@@ -20,9 +20,12 @@ pub(crate) fn packet_half(lanes: &[u8; 16], upper: bool) -> u64
     ensures { let first = if upper then 8 else 0 in
         little_bytes 8 result ≡ slice_range lanes.now first (first + 8) }
 {
-    let first = if upper { 8 } else { 0 };
     let mut bytes = [0; 8];
-    bytes.copy_from_slice(&lanes[first..first + 8]);
+    if upper {
+        bytes.copy_from_slice(&lanes[8..16]);
+    } else {
+        bytes.copy_from_slice(&lanes[0..8]);
+    }
     u64::from_le_bytes(bytes)
 }
 
@@ -48,9 +51,12 @@ pub(crate) fn answer_lanes(lane: usize, len: usize, value: u64) -> [u8; 16]
     ensures { result ≡ in_lanes lane (little_bytes len value) }
 {
     let word = value << (8 * (lane % 8));
-    let first = if lane >= 8 { 8 } else { 0 };
     let mut lanes = [0; 16];
-    lanes[first..first + 8].copy_from_slice(&word.to_le_bytes());
+    if lane >= 8 {
+        lanes[8..16].copy_from_slice(&word.to_le_bytes());
+    } else {
+        lanes[0..8].copy_from_slice(&word.to_le_bytes());
+    }
     lanes
 }
 
