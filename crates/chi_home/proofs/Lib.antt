@@ -1,3 +1,3 @@
 pub mod WordsLemmas
-pub mod SerialLemmas
-pub mod EngineLemmas
+pub mod ScriptLemmas
+pub mod RunLemmas

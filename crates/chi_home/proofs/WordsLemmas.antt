@@ -1,12 +1,14 @@
--- the words of a region's memory, as operations change them
-use Rattle.std.proofs.Common.{◌≡◌, ℕ, zero, suc, ◌+◌, ◌*◌, ◌<◌, true, List, length, slice_index, slice_set, refl, sym, ap, ◌∙◌, arith, length-set, get_or-set_same, get_or-set_other, inl, inr, ext_get_or}
-use Rattle.std.proofs.lemmas.Bool.{cases_eq}
-use Rattle.chi_fields.specs.Extent.{Extent, granule_of, lies_in}
-use Rattle.chi_fields.specs.Operation.{IsLawful, Operation}
-use Rattle.chi_lanes.specs.After.{after}
+-- the words of a region's memory
+use Rattle.std.proofs.Common.{◌≡◌, ℕ, zero, suc, ◌+◌, ◌-◌, ◌*◌, ◌/◌, ◌%◌, ◌^◌, ◌<◌, List, length, take, drop, ◌++◌, take_at, slice_index, replicate, refl, sym, ap, ◌∙◌, arith, inl, inr, ext_get_or}
+use Rattle.std.proofs.Math.Nat.{zero-div}
+use Rattle.std.proofs.Math.Path.{fun_ext}
+use Rattle.std.proofs.lemmas.Bool.{cases_lt}
+use Rattle.std.proofs.lemmas.List.{get_or-replicate, get_or_past, length-replicate}
+use Rattle.chi_fields.specs.Extent.{Extent}
 use Rattle.chi_lanes.specs.Memory.{Memory, word, word_at}
-use Rattle.chi_lanes.proofs.AfterLemmas.{IsMemory-after, word-after_other}
-use Rattle.chi_home.specs.Words.{HoldsWords, granule_words}
+use Rattle.chi_history.specs.declared.opening.Opening.{Opening}
+use Rattle.chi_history.specs.History.{opening_memory}
+use Rattle.chi_home.specs.Words.{granule_words, opening}
 
 -- how many words there are
 length-granule_words : (m : Memory) (start n : ℕ) → length (granule_words m start n) ≡ n
@@ -23,29 +25,29 @@ get_or-granule_words m start (suc n) (suc i) below =
     let at : start + 8 + 8 * i ≡ start + 8 * suc i = omega arith in
     get_or-granule_words m (start + 8) n i (omega arith) ∙ ap (word_at m) at
 
--- the words after an operation
-pub HoldsWords-after : (o : Operation) (m : Memory) (region : Extent) (words : List ℕ) (new : ℕ) → HoldsWords m region words → IsLawful o
-    → lies_in o.addr o.len region ≡ true → granule_of o.addr region < region.granules → new ≡ word (after o m) region (granule_of o.addr region)
-    → HoldsWords (after o m) region (slice_set words (granule_of o.addr region) new)
-HoldsWords-after o m region words new holds lawful fits within made = record {
-  memory = IsMemory-after o m holds.memory lawful;
-  lawful = holds.lawful;
-  count = length-set words (granule_of o.addr region) new ∙ holds.count;
-  each = λ g below. elim (cases_eq g place) [
-    | inl same ↦ rw same (get_or-set_same words place new 0 (omega (arith, holds.count)) ∙ made)
-    | inr other ↦ get_or-set_other words place g new 0 other
-        ∙ (holds.each g below ∙ sym (word-after_other o m region g lawful holds.lawful fits other))
-  ];
-}
-  where
-    place : ℕ
-    place = granule_of o.addr region
-
--- the lines of the words are those of the memory
-pub granule_words-HoldsWords : (m : Memory) (region : Extent) (words : List ℕ) → HoldsWords m region words
-    → words ≡ granule_words m region.base region.granules
-granule_words-HoldsWords m region words holds =
-    ext_get_or 0 words (granule_words m region.base region.granules) (holds.count ∙ sym (length-granule_words m region.base region.granules))
+-- as many words as granules, each of its granule
+pub words_are : (m : Memory) (region : Extent) (words : List ℕ) → length words ≡ region.granules
+    → ((g : ℕ) → g < region.granules → slice_index words g ≡ word m region g) → words ≡ granule_words m region.base region.granules
+words_are m region words count each =
+    ext_get_or 0 words (granule_words m region.base region.granules) (count ∙ sym (length-granule_words m region.base region.granules))
     (λ i below.
-    let inside : i < region.granules = rw holds.count at below in
-    holds.each i inside ∙ sym (get_or-granule_words m region.base region.granules i inside))
+    let inside : i < region.granules = rw count at below in
+    each i inside ∙ sym (get_or-granule_words m region.base region.granules i inside))
+
+-- zeros, however many
+zeros_are : (count g : ℕ) → slice_index (replicate count 0) g ≡ 0
+zeros_are count g = elim (cases_lt g count) [
+  | inl inside ↦ get_or-replicate count g 0 0 inside
+  | inr past ↦ get_or_past (replicate count 0) g 0 (rw (length-replicate {A = ℕ} count 0) past)
+]
+
+-- a memory that opens with zeros
+pub opening_of_zeros : (o : Opening) (count : ℕ) → o.image ≡ replicate count 0 → opening_memory o ≡ opening
+opening_of_zeros o count zeros = fun_ext (λ x.
+    let place : ℕ = (x - o.region.base) / 8 in
+    let none : slice_index o.image place ≡ 0 = rw zeros (zeros_are count place) in
+    rw none (ap (λ n. n % 256) (zero-div (256 ^ ((x - o.region.base) % 8)))))
+
+-- a slice that was written whole
+pub rewritten : (xs ys : List ℕ) (n : ℕ) → length xs ≡ n → take n (xs ++ drop (length xs) ys) ≡ xs
+rewritten xs ys n count = take_at xs (drop (length xs) ys) n count

@@ -1,3 +1,5 @@
+pub mod Words
+pub mod Opened
+pub mod Engine
 pub mod Run
 pub mod Status
-pub mod Words

@@ -1,17 +1,17 @@
 -- what a run of the program does: the script of its input, worked from the opening memory on
-use Rattle.std.specs.Prelude.{◌≡◌, ◌≢◌, ℕ, ◌<◌, ◌≤◌, List, ◌++◌, length, Option, Result, Ok, Err}
-use Rattle.std.specs.Io.KnownBytes.{Appends, Keeps}
+use Rattle.std.specs.Prelude.{◌≡◌, ◌≢◌, ℕ, List, [], ◌++◌, Option, Result, Ok, Err}
+use Rattle.std.specs.Io.KnownBytes.{Appends}
 use Rattle.chi_fields.specs.declared.request.Request.{Request}
 use Rattle.chi_fields.specs.Extent.{Extent}
 use Rattle.chi_lanes.specs.Memory.{Memory}
+use Rattle.chi_history.specs.declared.line.Line.{Line}
 use Rattle.chi_history.specs.Lines.{serial, serial_end}
-use Rattle.chi_script.specs.declared.fault.ScriptFault.TheVariants as script_fault
-use Rattle.chi_script.specs.Script.{script}
 use Rattle.chi_script.specs.Transcript.{memtext, text}
 use Rattle.chi_script.specs.Written.{AppendsFront}
 use Rattle.chi_home.specs.declared.fault.EngineFault.{EngineFault}
-use Rattle.chi_home.specs.declared.fault.EngineFault.TheVariants.{Read, TooLong, Memory as OutOfMemory, Script, Write}
-use Rattle.chi_home.specs.declared.input.TheConstants.{MOST_BYTES}
+use Rattle.chi_home.specs.declared.fault.EngineFault.TheVariants.{Work, Write}
+use Rattle.chi_home.specs.declared.options.Options.{Options}
+use Rattle.chi_home.specs.Engine.{FromInput, FromOpening}
 use Rattle.chi_home.specs.Words.{granule_words, opening}
 
 -- the greatest requester number in a run
@@ -26,13 +26,26 @@ memory_text region m = memtext region.base (granule_words m region.base region.g
 abbrev pub transcript : Extent × List Request → List ℕ
 transcript s = text (serial s.0 s.1 opening) ++ memory_text s.0 (serial_end s.0 s.1 opening)
 
+-- the lines are those of the first requests of the script, worked in order, and some requests were not worked
+pub record IsCut (s : Extent × List Request) (lines : List Line) : Type 0 where
+  pub worked : List Request
+  pub left : List Request
+  pub parts : worked ++ left ≡ s.1
+  pub some_left : left ≢ []
+  pub told : lines ≡ serial s.0 worked opening
+
+-- What is written of a script over a home: after Ok its transcript. Where there was no memory for the work, a
+-- prefix of the lines so far; after a fault of the writer, a prefix of the transcript.
+abbrev pub Works : Extent × List Request → Option (List ℕ) → Option (List ℕ) → Result (Unit {0}) EngineFault → Type 0
+Works s old new (Ok done) = Appends old new (transcript s)
+Works s old new (Err (Work fault)) = (lines : List Line) × IsCut s lines × AppendsFront old new (text lines)
+Works s old new (Err (Write fault)) = AppendsFront old new (transcript s)
+Works s old new (Err fault) = ⊥
+
+-- the same over the store of the options
+abbrev pub WorksBy : Options → Extent × List Request → Option (List ℕ) → Option (List ℕ) → Result (Unit {0}) EngineFault → Type 0
+WorksBy options s old new result = FromOpening options old new result (Works s old new result)
+
 -- after Ok the transcript of the input's script was written; what each fault means, and what was written then
-abbrev pub Outcome : List ℕ → Option (List ℕ) → Option (List ℕ) → Result (Unit {0}) EngineFault → Type 0
-Outcome input old new (Ok done) =
-    (length input ≤ MOST_BYTES) × ((s : Extent × List Request) × (script input most_src ≡ Ok s) × Appends old new (transcript s))
-Outcome input old new (Err Read) = Keeps old new
-Outcome input old new (Err TooLong) = (MOST_BYTES < length input) × Keeps old new
-Outcome input old new (Err OutOfMemory) = Keeps old new
-Outcome input old new (Err (Script fault)) = (fault ≢ script_fault.Memory → script input most_src ≡ Err fault) × Keeps old new
-Outcome input old new (Err (Write fault)) =
-    (s : Extent × List Request) × (script input most_src ≡ Ok s) × AppendsFront old new (transcript s)
+abbrev pub Outcome : Options → List ℕ → Option (List ℕ) → Option (List ℕ) → Result (Unit {0}) EngineFault → Type 0
+Outcome options input old new result = FromInput input most_src old new result (λ s. WorksBy options s old new result)

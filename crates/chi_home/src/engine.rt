@@ -4,39 +4,29 @@ ghost use Rattle.std.specs.Prelude.{IfSome};
 ghost use Rattle.chi_home.specs.Run.{Outcome};
 
 use crate::fault::EngineFault;
-use crate::granules::work_all;
-use crate::input::{InputFault, read_input};
-use chi_script::{read_script, write_transcript};
+use crate::input::read_whole;
+use crate::options::Options;
+use crate::run::run_script;
 use std::io::{Read, Write};
+use std::sync::Wait;
 
 /// Reads a script, works its requests in order on a memory of zeros, and writes the transcript.
 ///
-/// Nothing is written unless the whole script was read, and after a fault of the writer a prefix of the
-/// transcript has been written.
-pub fn engine_run<T: AllocGlobal, R: Read, W: Write>(
+/// Nothing is written unless the whole script was read and the store was opened. Where there is no memory for
+/// the work, the lines of the requests before it are written, without memory lines. After a fault of the
+/// writer a prefix of the transcript has been written.
+///
+/// ```
+/// engine_run(rt, &mut script.as_bytes(), &mut transcript, &options)?;
+/// ```
+pub fn engine_run<T: AllocGlobal + Wait, R: Read, W: Write>(
     rt: &T,
     from: &mut R,
     to: &mut W,
+    options: &Options,
 ) -> Result<(), EngineFault>
-    ensures { IfSome (R.remaining from.old) (λ input. Outcome input (W.contents to.old) (W.contents to.new) result) }
+    ensures { IfSome (R.remaining from.old) (λ input. Outcome options.now input (W.contents to.old) (W.contents to.new) result) }
 {
-    let alloc = rt.alloc();
-    let input = match read_input(alloc, from) {
-        Ok(input) => input,
-        Err(InputFault::Read) => return Err(EngineFault::Read),
-        Err(InputFault::TooLong) => return Err(EngineFault::TooLong),
-        Err(InputFault::Memory) => return Err(EngineFault::Memory),
-    };
-    let script = match read_script(alloc, input.as_slice(), 7) {
-        Ok(script) => script,
-        Err(fault) => return Err(EngineFault::Script(fault)),
-    };
-    let region = script.region();
-    let Ok((lines, words)) = work_all(alloc, &region, script.requests()) else {
-        return Err(EngineFault::Memory);
-    };
-    match write_transcript(to, lines.as_slice(), &region, words.as_slice()) {
-        Ok(()) => Ok(()),
-        Err(fault) => Err(EngineFault::Write(fault)),
-    }
+    let script = read_whole(rt.alloc(), from, 7)?;
+    run_script(rt, &script, to, options)
 }

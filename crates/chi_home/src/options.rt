@@ -1,0 +1,24 @@
+//! What the engines may be told: the store, its tries, and what requesters do after RetryAck.
+
+use chi_requester::Policy;
+
+/// The store that serves the requests: one line of words in a cell under a lock, or a row of granule words
+/// without one.
+///
+/// Source: profile.
+#[derive(Clone, Copy, Debug, PartialEq, Eq)]
+pub enum StoreKind {
+    Lock,
+    Book,
+}
+
+/// How a script is worked. `attempts` is how many tries a request gets before it is answered by RetryAck: 1 to
+/// 16 under `Book`. Under `Lock`, which never answers by RetryAck, it is ignored.
+///
+/// Source: profile.
+#[derive(Clone, Copy, Debug, PartialEq, Eq)]
+pub struct Options {
+    pub store: StoreKind,
+    pub attempts: u8,
+    pub policy: Policy,
+}

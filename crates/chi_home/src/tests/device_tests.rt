@@ -1,0 +1,113 @@
+//! Devices that fail, and inputs that are too long.
+
+use super::{BOOK, FETCH_ADD, LOCK, script};
+use crate::engine::engine_run;
+use crate::fault::EngineFault;
+use crate::options::Options;
+use chi_script::WriteFault;
+use std::io::{self, Read, Write};
+use std::process::Abort;
+use std::sync::Wait;
+use std::test::Fail;
+
+// A reader of a text that fails once it has given so many bytes.
+#[derive(Drop)]
+struct FailingReader<'a> {
+    text: &'a [u8],
+    left: usize,
+}
+
+impl Read for FailingReader<'_> {
+    fn read(&mut self, buf: &mut [u8]) -> io::Result<usize> {
+        if self.left == 0 {
+            return Err(io::Error::from(io::ErrorKind::Other));
+        }
+        let n = buf.len().min(self.left).min(self.text.len());
+        buf[..n].copy_from_slice(&self.text[..n]);
+        self.text = &self.text[n..];
+        self.left -= n;
+        Ok(n)
+    }
+}
+
+// A writer that takes so many bytes, and then fails.
+#[derive(Drop)]
+struct FailingWriter {
+    taken: Vec<u8>,
+    room: usize,
+}
+
+impl Write for FailingWriter {
+    fn write(&mut self, buf: &[u8]) -> io::Result<usize> {
+        if self.room == 0 {
+            return Err(io::Error::from(io::ErrorKind::Other));
+        }
+        let n = buf.len().min(self.room);
+        self.taken.extend_from_slice(&buf[..n])?;
+        self.room -= n;
+        Ok(n)
+    }
+
+    fn flush(&mut self) -> io::Result<()> {
+        Ok(())
+    }
+}
+
+// The first fetch-add, written to a writer that takes ten bytes.
+fn assert_cut<T: AllocGlobal + Abort + Wait>(rt: &T, options: &Options) -> Result<(), Fail> {
+    let text = script(rt, &[FETCH_ADD])?;
+    let mut to = FailingWriter {
+        taken: Vec::new(rt.alloc()),
+        room: 10,
+    };
+    match engine_run(rt, &mut text.as_bytes(), &mut to, options) {
+        Err(EngineFault::Write(fault)) => assert_eq!(rt; fault, WriteFault::Failed),
+        _ => panic!(rt; "written"),
+    }
+    assert_eq!(rt; to.taken.as_slice(), b"0 1 30 Ato".as_slice());
+    Ok(())
+}
+
+// A run from a reader that fails after so many bytes says so, and nothing is written.
+fn assert_unread<T: AllocGlobal + Abort + Wait>(rt: &T, text: &str, left: usize) {
+    let mut to: Vec<u8> = Vec::new(rt.alloc());
+    let mut from = FailingReader {
+        text: text.as_bytes(),
+        left,
+    };
+    match engine_run(rt, &mut from, &mut to, &BOOK) {
+        Err(EngineFault::Read) => {}
+        _ => panic!(rt; "run, after {left} bytes"),
+    }
+    assert_eq!(rt; to.len(), 0);
+}
+
+#[test]
+fn failing_devices(rt: HostRuntime) -> Result<(), Fail> {
+    assert_cut(&rt, &LOCK)?;
+    assert_cut(&rt, &BOOK)?;
+    let text = script(&rt, &[FETCH_ADD])?;
+    for left in 0..text.len() {
+        assert_unread(&rt, text.as_str(), left);
+    }
+    Ok(())
+}
+
+#[test]
+fn too_long(rt: HostRuntime) -> Result<(), Fail> {
+    let mut text = script(&rt, &[])?;
+    for _ in 0..4_194_264 {
+        text.push_str(" ")?;
+    }
+    let mut to: Vec<u8> = Vec::new(rt.alloc());
+    engine_run(&rt, &mut text.as_bytes(), &mut to, &BOOK)?;
+    assert_eq!(rt; to.len(), 288);
+    text.push_str(" ")?;
+    let mut to: Vec<u8> = Vec::new(rt.alloc());
+    match engine_run(&rt, &mut text.as_bytes(), &mut to, &BOOK) {
+        Err(EngineFault::TooLong) => {}
+        _ => panic!(rt; "not too long"),
+    }
+    assert_eq!(rt; to.len(), 0);
+    Ok(())
+}
