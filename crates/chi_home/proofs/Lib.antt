@@ -1,3 +1,5 @@
 pub mod WordsLemmas
 pub mod ScriptLemmas
+pub mod WrittenLemmas
 pub mod RunLemmas
+pub mod RaceLemmas

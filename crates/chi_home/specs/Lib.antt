@@ -2,4 +2,5 @@ pub mod Words
 pub mod Opened
 pub mod Engine
 pub mod Run
+pub mod Race
 pub mod Status

@@ -5,6 +5,7 @@ mod engine;
 mod fault;
 mod input;
 mod options;
+mod race;
 mod run;
 #[cfg(test)]
 mod tests;

@@ -21,7 +21,7 @@ use std::io::Write;
 use std::sync::Wait;
 
 // The words of so many granules whose bytes are all 0.
-fn zeros(alloc: Global, granules: u16) -> Result<Vec<u64>, AllocError>
+pub(crate) fn zeros(alloc: Global, granules: u16) -> Result<Vec<u64>, AllocError>
     ensures { IfOk result (λ words. words.items ≡ replicate granules 0) }
 {
     vec![in alloc; 0; usize::from(granules)]

@@ -1,16 +1,23 @@
-//! What no contract says: worked examples from bytes to bytes, printed texts and devices.
+//! What no contract says: worked examples from bytes to bytes, printed texts, devices and two real threads.
 
-use crate::engine::engine_run;
+use crate::engine::{engine_race, engine_run};
+use crate::fault::EngineFault;
 use crate::options::{Options, StoreKind};
+use chi_history::NoGate;
 use chi_requester::Policy;
 use std::alloc::AllocError;
 use std::process::Abort;
 use std::sync::Wait;
 use std::test::Fail;
+use std::thread::Threads;
 
 mod device_tests;
 mod fault_tests;
+mod gate_tests;
+mod interference_tests;
+mod race_tests;
 mod run_tests;
+mod work_tests;
 
 const LOCK: Options = Options {
     store: StoreKind::Lock,
@@ -30,6 +37,13 @@ const HEAD: &str = "{\"base\":4096,\"granules\":8,\"requests\":[";
 // A fetch-add of 1 to the first eight bytes.
 const FETCH_ADD: &str =
     "{\"src\":0,\"txn\":1,\"op\":48,\"size\":3,\"addr\":4096,\"endian\":0,\"be\":255,\"lanes\":\"01000000000000000000000000000000\"}";
+
+// An add of 1 to the first eight bytes by requester 1, and one by requester 2.
+const ADD_OF_ONE: &str =
+    "{\"src\":1,\"txn\":1,\"op\":40,\"size\":3,\"addr\":4096,\"endian\":0,\"be\":255,\"lanes\":\"01000000000000000000000000000000\"}";
+
+const ADD_OF_TWO: &str =
+    "{\"src\":2,\"txn\":2,\"op\":40,\"size\":3,\"addr\":4096,\"endian\":0,\"be\":255,\"lanes\":\"01000000000000000000000000000000\"}";
 
 // The line of the first fetch-add.
 const FETCH_ADD_LINE: &str =
@@ -97,4 +111,15 @@ fn assert_run_over_both<T: AllocGlobal + Abort + Wait>(
 ) -> Result<(), Fail> {
     assert_run(rt, &LOCK, text, want)?;
     assert_run(rt, &BOOK, text, want)
+}
+
+// What a race of a text without gates comes to, and the bytes that it wrote.
+fn raced<T: AllocGlobal + Threads + Wait + Sync>(
+    rt: &T,
+    options: &Options,
+    text: &str,
+) -> (Result<(), EngineFault>, Vec<u8>) {
+    let mut to: Vec<u8> = Vec::new(rt.alloc());
+    let outcome = engine_race(rt, &mut text.as_bytes(), &mut to, options, NoGate, NoGate);
+    (outcome, to)
 }

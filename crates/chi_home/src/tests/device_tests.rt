@@ -1,14 +1,16 @@
 //! Devices that fail, and inputs that are too long.
 
 use super::{BOOK, FETCH_ADD, LOCK, script};
-use crate::engine::engine_run;
+use crate::engine::{engine_race, engine_run};
 use crate::fault::EngineFault;
 use crate::options::Options;
+use chi_history::NoGate;
 use chi_script::WriteFault;
 use std::io::{self, Read, Write};
 use std::process::Abort;
 use std::sync::Wait;
 use std::test::Fail;
+use std::thread::Threads;
 
 // A reader of a text that fails once it has given so many bytes.
 #[derive(Drop)]
@@ -68,8 +70,8 @@ fn assert_cut<T: AllocGlobal + Abort + Wait>(rt: &T, options: &Options) -> Resul
     Ok(())
 }
 
-// A run from a reader that fails after so many bytes says so, and nothing is written.
-fn assert_unread<T: AllocGlobal + Abort + Wait>(rt: &T, text: &str, left: usize) {
+// A run and a race from a reader that fails after so many bytes: both say so, and nothing is written.
+fn assert_unread<T: AllocGlobal + Abort + Threads + Wait + Sync>(rt: &T, text: &str, left: usize) {
     let mut to: Vec<u8> = Vec::new(rt.alloc());
     let mut from = FailingReader {
         text: text.as_bytes(),
@@ -78,6 +80,14 @@ fn assert_unread<T: AllocGlobal + Abort + Wait>(rt: &T, text: &str, left: usize)
     match engine_run(rt, &mut from, &mut to, &BOOK) {
         Err(EngineFault::Read) => {}
         _ => panic!(rt; "run, after {left} bytes"),
+    }
+    let mut from = FailingReader {
+        text: text.as_bytes(),
+        left,
+    };
+    match engine_race(rt, &mut from, &mut to, &BOOK, NoGate, NoGate) {
+        Err(EngineFault::Read) => {}
+        _ => panic!(rt; "raced, after {left} bytes"),
     }
     assert_eq!(rt; to.len(), 0);
 }

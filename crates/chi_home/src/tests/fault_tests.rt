@@ -1,6 +1,6 @@
 //! The faults of scripts, and the texts and statuses of all.
 
-use super::{BOOK, script_of_many};
+use super::{BOOK, raced, script, script_of_many};
 use crate::engine::engine_run;
 use crate::fault::{EngineFault, status_of};
 use chi_fields::RegionFault;
@@ -10,6 +10,7 @@ use chi_script::{Member, ScriptFault, WriteFault};
 use std::process::Abort;
 use std::sync::Wait;
 use std::test::Fail;
+use std::thread::Threads;
 
 // A request of requester 3 that reads the first eight bytes.
 const READ_OF_THREE: &str =
@@ -36,8 +37,8 @@ fn assert_told<T: AllocGlobal + Abort>(
     Ok(())
 }
 
-// A run of the text is refused, and writes nothing.
-fn assert_refused<T: AllocGlobal + Abort + Wait>(
+// A run and a race of the text are both refused, and write nothing.
+fn assert_refused<T: AllocGlobal + Abort + Threads + Wait + Sync>(
     rt: &T,
     script: &str,
     want: ScriptFault,
@@ -45,6 +46,9 @@ fn assert_refused<T: AllocGlobal + Abort + Wait>(
 ) -> Result<(), Fail> {
     let mut to: Vec<u8> = Vec::new(rt.alloc());
     let outcome = engine_run(rt, &mut script.as_bytes(), &mut to, &BOOK);
+    assert_told(rt, outcome, want, text)?;
+    assert_eq!(rt; to.len(), 0);
+    let (outcome, to) = raced(rt, &BOOK, script);
     assert_told(rt, outcome, want, text)?;
     assert_eq!(rt; to.len(), 0);
     Ok(())
@@ -95,6 +99,22 @@ fn script_faults_of_the_last_line(rt: HostRuntime) -> Result<(), Fail> {
     let mut to: Vec<u8> = Vec::new(rt.alloc());
     engine_run(&rt, &mut last.as_bytes(), &mut to, &BOOK)?;
     assert_eq!(rt; to.len(), 288);
+    Ok(())
+}
+
+#[test]
+fn script_faults_of_a_third_requester(rt: HostRuntime) -> Result<(), Fail> {
+    let text = script(&rt, &[READ_OF_THREE])?;
+    let mut to: Vec<u8> = Vec::new(rt.alloc());
+    engine_run(&rt, &mut text.as_bytes(), &mut to, &BOOK)?;
+    let (outcome, to) = raced(&rt, &BOOK, text.as_str());
+    assert_told(
+        &rt,
+        outcome,
+        ScriptFault::BadMember(Member::Src),
+        "script member src is not as stated",
+    )?;
+    assert_eq!(rt; to.len(), 0);
     Ok(())
 }
 
