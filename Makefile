@@ -6,17 +6,17 @@ SCRIPT ?= examples/fetch_add.json
 .PHONY: help build run test install
 
 help:
-	@echo "make run [SCRIPT=FILE]     prove and build chihome, and show a script and its transcript"
+	@echo "make run [SCRIPT=FILE]     prove and build chihome, and show a script and the transcript of chihome run"
 	@echo "make test                  the gate: every proof from nothing, the edits that must fail, tests and runs"
 	@echo "make install PREFIX=DIR    put the program at DIR/bin/chihome"
 
 build:
-	@cd crates/chi_home && rt run < stdin > out.log 2>&1 || { cat out.log; rm -f out.log; exit 1; }
+	@cd crates/chi_home && rt run -- run < stdin > out.log 2>&1 || { cat out.log; rm -f out.log; exit 1; }
 	@rm -f crates/chi_home/out.log
 
 run: build
 	@cat $(SCRIPT); echo; echo
-	@$(PROGRAM) < $(SCRIPT)
+	@$(PROGRAM) run < $(SCRIPT)
 
 test:
 	.ci/credit_let_go

@@ -4,3 +4,4 @@ pub mod Engine
 pub mod Run
 pub mod Race
 pub mod Status
+pub mod Task

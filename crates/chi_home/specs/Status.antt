@@ -1,5 +1,7 @@
 -- the statuses that the program ends with
-use Rattle.std.specs.Prelude.{ℕ}
+use Rattle.std.specs.Prelude.{◌≡◌, ℕ, ◌≤◌, ◌⊎◌}
+use Rattle.clap.specs.declared.error.kind.ErrorKind.{ErrorKind}
+use Rattle.clap.specs.declared.error.kind.ErrorKind.TheVariants as error_kind
 use Rattle.chi_history.specs.declared.opening.OpenFault.{OpenFault}
 use Rattle.chi_history.specs.declared.opening.OpenFault.TheVariants as open_fault
 use Rattle.chi_script.specs.declared.fault.ScriptFault.{ScriptFault}
@@ -26,3 +28,15 @@ status_of (Script fault) = script_status fault
 status_of (Open fault) = open_status fault
 status_of (Work fault) = 4
 status_of (Write fault) = 5
+
+-- 0 done, 2 command line refused, and those above: never 1
+abbrev pub IsStatus : ℕ → Type 0
+IsStatus n = (n ≡ 0) ⊎ ((2 ≤ n) × (n ≤ 5))
+
+-- the status where the words name no task: 4 for want of memory, 0 for the help, or 5 where it could not be
+-- written, and 2 for words that are refused
+abbrev pub IsStatusOfWords : ErrorKind → ℕ → Type 0
+IsStatusOfWords error_kind.OutOfMemory n = n ≡ 4
+IsStatusOfWords error_kind.DisplayHelp n = (n ≡ 0) ⊎ (n ≡ 5)
+IsStatusOfWords error_kind.DisplayVersion n = (n ≡ 0) ⊎ (n ≡ 5)
+IsStatusOfWords _ n = n ≡ 2

@@ -1,6 +1,7 @@
 //! chihome: far atomics at a home node, from a script on standard input to a transcript on standard output.
 #![tactic(auto)]
 
+mod command;
 mod engine;
 mod fault;
 mod input;
@@ -9,39 +10,47 @@ mod race;
 mod run;
 #[cfg(test)]
 mod tests;
+mod words;
 
-use crate::engine::engine_run;
-use crate::fault::{EngineFault, status_of};
-use crate::options::{Options, StoreKind};
-use chi_requester::Policy;
+ghost use Rattle.chi_home.specs.Status.{IsStatus};
+
+use crate::fault::EngineFault;
+use crate::words::{REFUSED, run_words, tell_fault};
+use std::env::{self, Env};
 use std::io::{self, Write};
 use std::process::ExitCode;
-use std::sync::Wait;
 
-// How the program works a script.
-const OPTIONS: Options = Options {
-    store: StoreKind::Book,
-    attempts: 4,
-    policy: Policy::Resend,
-};
+// The words after the program's name.
+fn words_after_name<T: AllocGlobal + Env>(rt: &T) -> io::Result<Vec<String>> {
+    let mut words = Vec::new(rt.alloc());
+    for word in env::args(rt)?.skip(1) {
+        words.push(word)?;
+    }
+    Ok(words)
+}
 
-// Runs the script, and flushes what was written.
-fn run_program<T: AllocGlobal + Wait + Input + Print>(rt: &T) -> Result<(), EngineFault> {
-    let mut from = rt.reader();
-    let mut to = io::writer(rt);
-    engine_run(rt, &mut from, &mut to, &OPTIONS)?;
-    match to.flush() {
-        Ok(()) => Ok(()),
-        Err(_) => Err(EngineFault::Write(chi_script::WriteFault::Failed)),
+// Tells why the words cannot be had: want of memory, or a word that is not text. The answer is the status.
+fn tell_no_words<E: Write>(fault: &io::Error, errors: &mut E) -> u8
+    ensures { IsStatus result }
+{
+    match fault.kind() {
+        io::ErrorKind::OutOfMemory => tell_fault(&EngineFault::Memory, errors),
+        _ => {
+            let _told = writeln!(errors, "chihome: {fault}");
+            REFUSED
+        }
     }
 }
 
 fn main(rt: HostRuntime) -> ExitCode {
-    match run_program(&rt) {
-        Ok(()) => ExitCode::SUCCESS,
-        Err(fault) => {
-            let _ = eprintln!(rt; "chihome: {fault}");
-            ExitCode::from(status_of(&fault))
+    let mut errors = rt.stderr();
+    let status = match words_after_name(&rt) {
+        Ok(words) => {
+            let mut from = rt.reader();
+            let mut to = io::writer(&rt);
+            run_words(&rt, words.as_slice(), &mut from, &mut to, &mut errors)
         }
-    }
+        Err(fault) => tell_no_words(&fault, &mut errors),
+    };
+    ExitCode::from(status)
 }

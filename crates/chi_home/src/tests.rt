@@ -11,6 +11,7 @@ use std::sync::Wait;
 use std::test::Fail;
 use std::thread::Threads;
 
+mod command_tests;
 mod device_tests;
 mod fault_tests;
 mod gate_tests;

@@ -34,9 +34,9 @@ impl Read for FailingReader<'_> {
 
 // A writer that takes so many bytes, and then fails.
 #[derive(Drop)]
-struct FailingWriter {
-    taken: Vec<u8>,
-    room: usize,
+pub(super) struct FailingWriter {
+    pub(super) taken: Vec<u8>,
+    pub(super) room: usize,
 }
 
 impl Write for FailingWriter {

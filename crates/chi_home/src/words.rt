@@ -1,0 +1,106 @@
+//! The program on the words of its command line.
+
+ghost use Rattle.std.specs.Prelude.{◌≡◌, IfSome};
+ghost use Rattle.clap.specs.Values.{kind_of};
+ghost use Rattle.chi_home.specs.Status.{IsStatus, IsStatusOfWords, status_of};
+ghost use Rattle.chi_home.specs.Task.{Ends, TaskOutcome};
+
+use crate::command::{Task, options_of};
+use crate::engine::{engine_race, engine_run};
+use crate::fault::{EngineFault, status_of};
+use crate::options::Options;
+use chi_history::NoGate;
+use chi_script::WriteFault;
+use clap::Error;
+use clap::error::ErrorKind;
+use std::io::{Read, Write};
+use std::sync::Wait;
+use std::thread::Threads;
+
+/// The status where the command line is refused.
+pub(crate) const REFUSED: u8 = 2;
+
+// Does a task with a script, and flushes what was written. A fault of the flush is one of the writer.
+fn run_task<T: AllocGlobal + Threads + Wait + Sync, R: Read, W: Write>(
+    rt: &T,
+    task: Task,
+    options: &Options,
+    from: &mut R,
+    to: &mut W,
+) -> Result<(), EngineFault>
+    ensures { IfSome (R.remaining from.old) (λ input. TaskOutcome task options.now input (W.contents to.old) (W.contents to.new) result) }
+{
+    match task {
+        Task::Run => engine_run(rt, from, to, options)?,
+        Task::Race => engine_race(rt, from, to, options, NoGate, NoGate)?,
+    }
+    match to.flush() {
+        Ok(()) => Ok(()),
+        Err(_) => Err(EngineFault::Write(WriteFault::Failed)),
+    }
+}
+
+// Tells why the engine ended early. The status is that of the fault.
+pub(crate) fn tell_fault<E: Write>(fault: &EngineFault, errors: &mut E) -> u8
+    ensures { result ≡ status_of fault.now }
+{
+    let _told = writeln!(errors, "chihome: {fault}");
+    status_of(fault)
+}
+
+// Does a task with a script, and tells its fault. The status is 0 where the task was done.
+fn end_task<T: AllocGlobal + Threads + Wait + Sync, R: Read, W: Write, E: Write>(
+    rt: &T,
+    task: Task,
+    options: &Options,
+    from: &mut R,
+    to: &mut W,
+    errors: &mut E,
+) -> u8
+    ensures ends { IfSome (R.remaining from.old) (λ input. Ends task options.now input (W.contents to.old) (W.contents to.new) result) }
+    ensures status { IsStatus result }
+{
+    match run_task(rt, task, options, from, to) {
+        Ok(()) => 0,
+        Err(fault) => tell_fault(&fault, errors),
+    }
+}
+
+// Tells what `clap` answers to the words: help to `to`, and a refusal to `errors`.
+fn tell_words<W: Write, E: Write>(error: &Error, to: &mut W, errors: &mut E) -> u8
+    ensures { IsStatusOfWords (kind_of error.now) result }
+{
+    if error.kind() == ErrorKind::OutOfMemory {
+        return tell_fault(&EngineFault::Memory, errors);
+    }
+    if error.use_stderr() {
+        let _told = write!(errors, "{error}");
+        return REFUSED;
+    }
+    match write!(to, "{error}").and_then(|()| to.flush()) {
+        Ok(()) => 0,
+        Err(_) => tell_fault(&EngineFault::Write(WriteFault::Failed), errors),
+    }
+}
+
+/// The program: reads the words after its name, does the task that they name with a script from `from`, and
+/// writes the transcript to `to`. A fault is told to `errors`, whose own faults are ignored. The answer is the
+/// status to end with.
+///
+/// ```
+/// let status = run_words(&rt, &words, &mut input, &mut output, &mut errors);
+/// ```
+pub fn run_words<T: AllocGlobal + Threads + Wait + Sync, R: Read, W: Write, E: Write>(
+    rt: &T,
+    words: &[String],
+    from: &mut R,
+    to: &mut W,
+    errors: &mut E,
+) -> u8
+    ensures { IsStatus result }
+{
+    match options_of(rt.alloc(), words) {
+        Ok((task, options)) => end_task(rt, task, &options, from, to, errors),
+        Err(error) => tell_words(&error, to, errors),
+    }
+}
