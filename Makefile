@@ -3,12 +3,13 @@ PREFIX ?= /usr/local
 PROGRAM := crates/chi_home/out/chi_home
 SCRIPT ?= examples/fetch_add.json
 
-.PHONY: help build run test install
+.PHONY: help build run test install bench
 
 help:
 	@echo "make run [SCRIPT=FILE]     prove and build chihome, and show a script and the transcript of chihome run"
 	@echo "make test                  the gate: every proof from nothing, the edits that must fail, tests and runs"
 	@echo "make install PREFIX=DIR    put the program at DIR/bin/chihome"
+	@echo "make bench                 the speed of chihome and of the lock-free store, beside plain Rust"
 
 build:
 	@cd crates/chi_home && rt run -- run < stdin > out.log 2>&1 || { cat out.log; rm -f out.log; exit 1; }
@@ -24,3 +25,10 @@ test:
 
 install: build
 	install -D -m 755 $(PROGRAM) $(PREFIX)/bin/chihome
+
+bench: build
+	bench/run.sh $(PROGRAM) run --store book
+	bench/run.sh $(PROGRAM) run --store lock
+	bench/run.sh $(PROGRAM) race --store book
+	bench/run.sh $(PROGRAM) race --store lock
+	bench/exchange.sh

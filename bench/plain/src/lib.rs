@@ -1,0 +1,10 @@
+//! Requests, their decoding and their operations in plain Rust, for the programs that are timed.
+
+pub mod access;
+pub mod fault;
+pub mod operation;
+pub mod region;
+pub mod request;
+pub mod row;
+pub mod script;
+pub mod transcript;
