@@ -1,17 +1,15 @@
 -- why a store is not opened
 use Rattle.std.specs.Prelude.{ℕ, ◌≤◌}
-use Rattle.chi_history.specs.declared.numbers.TheConstants.{MOST_NUMBERS}
 use Rattle.chi_history.specs.declared.opening.OpenFault.{OpenFault}
 use Rattle.chi_history.specs.declared.opening.OpenFault.TheVariants.{RequesterCount, AttemptCount, Memory}
-use Rattle.chi_bookstore.specs.declared.open.TheConstants.{MOST_ATTEMPTS}
 
--- the number of requesters is 1 to the greatest
+-- the number of requesters is 1 to 8
 abbrev pub IsRequesterCount : ℕ → Type 0
-IsRequesterCount n = (1 ≤ n) × (n ≤ MOST_NUMBERS)
+IsRequesterCount n = (1 ≤ n) × (n ≤ 8)
 
--- the number of tries is 1 to the greatest
+-- the number of tries is 1 to 16
 abbrev pub IsAttemptCount : ℕ → Type 0
-IsAttemptCount n = (1 ≤ n) × (n ≤ MOST_ATTEMPTS)
+IsAttemptCount n = (1 ≤ n) × (n ≤ 16)
 
 -- which fault these numbers may meet: want of memory comes last
 abbrev pub Meets : ℕ → ℕ → OpenFault → Type 0
