@@ -11,6 +11,8 @@ mod line;
 mod numbers;
 mod opening;
 mod served;
+#[cfg(test)]
+mod tests;
 mod view;
 
 pub use credit::Credit;
