@@ -20,7 +20,7 @@ run: build
 	@$(PROGRAM) run < $(SCRIPT)
 
 test:
-	.ci/credit_let_go
+	.ci/credit_spent_once
 	rt ci
 
 install: build
