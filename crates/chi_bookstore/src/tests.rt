@@ -1,19 +1,18 @@
 //! What no clause says: each operation once, the refusals, and two real threads.
 
-ghost use Rattle.std.specs.Prelude.{◌≡◌, true, IsTrue};
-ghost use Rattle.chi_fields.specs.Extent.{lies_in};
+ghost use Rattle.std.specs.Prelude.{◌≡◌, true};
 ghost use Rattle.chi_history.specs.Views.{has};
 ghost use Rattle.chi_bookstore.specs.Seats.{IsSeatOf};
 
 use crate::{BookSeat, BookStore};
-use chi_fields::{Access, Region, Request, decode};
+use chi_fields::{Region, Request, decode};
 use chi_history::{Home, OpenFault, Served};
 use chi_lanes::Reply;
 use std::alloc::Allocator;
 use std::test::Fail;
-use std::thread::join;
 
 mod gates;
+mod threads;
 
 // A request of size `2^size` at 0x1000 with this byte in lane 0.
 fn request(src: u8, opcode: u8, size: u8, be: u16, first: u8) -> Request
@@ -56,19 +55,18 @@ fn reply_to<A: Allocator>(
     }
 }
 
-// The byte of lane 0.
-fn first_lane(reply: Option<Reply>) -> Option<u8> {
-    match reply {
-        Some(Reply::CompData(lanes)) => Some(lanes[0]),
-        _ => None,
-    }
+// Returned data with this byte in lane 0.
+fn one_byte(byte: u8) -> Reply {
+    let mut lanes = [0; 16];
+    lanes[0] = byte;
+    Reply::CompData(lanes)
 }
 
 #[test]
 fn nine_operations_on_one_byte(rt: HostRuntime) -> Result<(), Fail> {
     let region = Region::new(0x1000, 8)?;
     let (home, mut seat) = BookStore::open(rt.alloc(), region, 8, 4)?;
-    let rows: [(u8, u8); 9] = [
+    let rows: [(u8, u64); 9] = [
         (0x30, 0x2c),
         (0x31, 0xc0),
         (0x32, 0xcc),
@@ -80,11 +78,15 @@ fn nine_operations_on_one_byte(rt: HostRuntime) -> Result<(), Fail> {
         (0x38, 0x3c),
     ];
     'rows: for (opcode, after) in rows {
-        let _ = reply_to(&home, &mut seat, &request(0, 0x1c, 0, 1, 0xf0));
+        let written = reply_to(&home, &mut seat, &request(0, 0x1c, 0, 1, 0xf0));
+        assert_eq!(rt; written, Some(Reply::Comp), "{opcode:x}");
         let before = reply_to(&home, &mut seat, &request(0, opcode, 0, 1, 0x3c));
-        assert_eq!(rt; first_lane(before), Some(0xf0), "{opcode:x}");
-        let read = reply_to(&home, &mut seat, &request(0, 0x04, 0, 0, 0));
-        assert_eq!(rt; first_lane(read), Some(after), "{opcode:x}");
+        assert_eq!(rt; before, Some(one_byte(0xf0)), "{opcode:x}");
+        assert!(rt; home.holds_all(&seat));
+        assert_eq!(rt; home.region().granules(), 8);
+        let mut words = [0xff; 8];
+        home.snapshot(&rt, &mut seat, &mut words);
+        assert_eq!(rt; words, [after, 0, 0, 0, 0, 0, 0, 0], "{opcode:x}");
     }
     Ok(())
 }
@@ -117,55 +119,6 @@ fn lent_allocator(rt: HostRuntime) -> Result<(), Fail> {
     let (home, mut seat) = BookStore::open(&alloc, region, 1, 1)?;
     let _ = reply_to(&home, &mut seat, &request(0, 0x28, 0, 1, 0x3c));
     let read = reply_to(&home, &mut seat, &request(0, 0x04, 0, 0, 0));
-    assert_eq!(rt; first_lane(read), Some(0x3c));
-    Ok(())
-}
-
-// A thousand times the same access, each by `attempt`: the seat, and how many were done.
-fn work(home: &BookStore, mut seat: BookSeat, src: u8, access: &Access) -> (BookSeat, u64)
-    requires own { IsSeatOf home.now seat }
-    requires holds { has seat.numbers src ≡ true }
-    requires fits { IsTrue (lies_in access.now.addr access.now.len home.now.key.region) }
-    ensures own { IsSeatOf home.now result.0 }
-    ensures held { has result.0.numbers ≡ has seat.numbers }
-{
-    let mut done: u64 = 0;
-    for _ in 0..1000 {
-        match home.attempt(&mut seat, src, access) {
-            Served::Done { reply: _, lost: _ } => done = done.saturating_add(1),
-            Served::Retry { credit, lost: _ } => home.return_credit(credit),
-        }
-    }
-    (seat, done)
-}
-
-#[test]
-fn two_threads_attempt(rt: HostRuntime) -> Result<(), Fail> {
-    let region = Region::new(0x1000, 8)?;
-    let (home, mut seat) = BookStore::open(rt.alloc(), region, 3, 4)?;
-    let one = home.split(&rt, &mut seat, 1);
-    let two = home.split(&rt, &mut seat, 2);
-    let add = decode(&request(1, 0x28, 3, 0x00ff, 1), &region)?;
-    let ((one, ones), (two, twos)) = join(
-        &rt,
-        || -> (BookSeat, u64)
-            requires own { IsSeatOf home one }
-            requires holds { has one.numbers 1 ≡ true }
-            requires fits { IsTrue (lies_in add.addr add.len home.key.region) }
-            ensures own { IsSeatOf home result.0 }
-        { work(&home, one, 1, &add) },
-        || -> (BookSeat, u64)
-            requires own { IsSeatOf home two }
-            requires holds { has two.numbers 2 ≡ true }
-            requires fits { IsTrue (lies_in add.addr add.len home.key.region) }
-            ensures own { IsSeatOf home result.0 }
-        { work(&home, two, 2, &add) },
-    );
-    home.rejoin(&rt, &mut seat, one);
-    home.rejoin(&rt, &mut seat, two);
-    assert!(rt; home.holds_all(&seat));
-    let mut words = [0; 8];
-    home.snapshot(&rt, &mut seat, &mut words);
-    assert_eq!(rt; words[0], ones.saturating_add(twos));
+    assert_eq!(rt; read, Some(one_byte(0x3c)));
     Ok(())
 }

@@ -1,19 +1,11 @@
 //! A gate that interferes: which tries are lost, and how many.
 
-use super::{reply_to, request};
+use super::{one_byte, reply_to, request};
 use crate::{BookSeat, BookStore, MOST_ATTEMPTS};
 use chi_fields::{Access, Region, decode};
 use chi_history::{Gate, Home, Served};
-use chi_lanes::Reply;
 use std::marker::Model;
 use std::test::Fail;
-
-// A data packet with this byte in lane 0.
-fn one_byte(byte: u8) -> Reply {
-    let mut lanes = [0; 16];
-    lanes[0] = byte;
-    Reply::CompData(lanes)
-}
 
 // A gate that adds 1 at each pause, so many times. It counts the pauses that are numbered in order from 1.
 struct Adder<'a> {
