@@ -11,7 +11,6 @@ use chi_lanes::Reply;
 use std::alloc::Allocator;
 use std::test::Fail;
 
-mod gates;
 mod threads;
 
 // A request of size `2^size` at 0x1000 with this byte in lane 0.
