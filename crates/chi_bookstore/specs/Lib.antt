@@ -2,4 +2,3 @@ pub mod Plays
 pub mod Known
 pub mod Seats
 pub mod Faults
-pub mod Events

@@ -1,5 +1,5 @@
 -- making two seats one keeps the rule
-use Rattle.std.proofs.Common.{◌≡◌, ◌≢◌, ℕ, true, List, set, refl, sym, ap, subst, ◌∙◌, ◌⊎◌, inl, inr, true≢false}
+use Rattle.std.proofs.Common.{◌≡◌, ◌≢◌, ℕ, Bool, true, false, ◌||◌, List, set, refl, sym, ap, subst, ◌∙◌, ◌⊎◌, inl, inr, true≢false}
 use mathlib.Core.Logic.{dite}
 use mathlib.Core.Option as plain
 use native.Mathlib.Decide.{ℕ_discrete}
@@ -9,7 +9,7 @@ use Rattle.chi_history.specs.declared.opening.Opening.{Opening}
 use Rattle.chi_history.specs.declared.view.View.{View}
 use Rattle.chi_history.specs.Held.{Apart, Held}
 use Rattle.chi_history.specs.History.{IsFreeOf}
-use Rattle.chi_history.specs.Rule.{AreApart, IsSeen, Knows, Stands}
+use Rattle.chi_history.specs.Rule.{AreApart, IsHeld, IsSeen, Knows, Stands}
 use Rattle.chi_history.specs.Views.{both, gone, has}
 use Rattle.chi_history.proofs.HeldLemmas.{apart_sym}
 use Rattle.chi_history.proofs.HistoryLemmas.{free-union}
@@ -69,6 +69,34 @@ apart_join views id v other w apart at there i j u x differ (inr (inr t)) (inr (
     (union_apart (has v.held) (has w.held) (has u.held) (apart i id u v t.1 t.2 at) (apart i other u w t.0 t.2 there)))
 apart_join views id v other w apart at there i j u x differ (inr (inr t)) (inr (inr t')) = apart i j u x differ t.2 t'.2
 
+-- the joined seat stands where the first of the two stood
+joined_at : (views : List View) (id : ℕ) (v : View) (other : ℕ) (w : View) → ¬ (other ≡ id) → get_elem? views id ≡ plain.some v
+    → get_elem? (set (set views id (both v w)) other gone) id ≡ plain.some (both v w)
+joined_at views id v other w differ at = set_else (set views id (both v w)) other id gone (λ e. differ (sym e)) ∙ set_here views id (both v w) v at
+
+-- a number that was held is held by the joined seat, where one of the two held it
+held_join : (views : List View) (id : ℕ) (v : View) (other : ℕ) (w : View) → ¬ (other ≡ id) → get_elem? views id ≡ plain.some v
+    → get_elem? views other ≡ plain.some w → (r : ℕ) → IsHeld r views → IsHeld r (set (set views id (both v w)) other gone)
+held_join views id v other w differ at there r held = dite (ℕ_discrete held.0 id)
+    (λ here.
+    let e : held.1 ≡ v = at_once views id held.1 v (ap (get_elem? views) (sym here) ∙ held.2) at in
+    mine (first (has w.held r) (subst (λ (z : View). has z.held r ≡ true) e held.3)))
+    (λ not_id. dite (ℕ_discrete held.0 other)
+    (λ here.
+    let e : held.1 ≡ w = at_once views other held.1 w (ap (get_elem? views) (sym here) ∙ held.2) there in
+    mine (second (has v.held r) (subst (λ (z : View). has z.held r ≡ true) e held.3)))
+    (λ not_other. (held.0, held.1, set_else (set views id (both v w)) other held.0 gone not_other ∙ (set_else views id held.0 (both v w) not_id ∙ held.2), held.3)))
+  where
+    first : (b : Bool) → has v.held r ≡ true → (has v.held r || b) ≡ true
+    first b is = ap (λ a. a || b) is
+
+    second : (a : Bool) → has w.held r ≡ true → (a || has w.held r) ≡ true
+    second true is = refl
+    second false is = is
+
+    mine : (has v.held r || has w.held r) ≡ true → IsHeld r (set (set views id (both v w)) other gone)
+    mine is = (id, both v w, joined_at views id v other w differ at, ap (λ (f : Held). f r) (has-append v.held w.held) ∙ is)
+
 -- the history is seen by the joined seat where one of the two had seen it
 seen_join : (o : Opening) (h : List Entry) (views : List View) (id : ℕ) (v : View) (other : ℕ) (w : View) → ¬ (other ≡ id) → get_elem? views id ≡ plain.some v
     → get_elem? views other ≡ plain.some w → Knows o h v → Knows o h w → IsSeen h views → IsSeen h (set (set views id (both v w)) other gone)
@@ -85,7 +113,7 @@ seen_join o h views id v other w differ at there k l seen = dite (ℕ_discrete s
     (λ not_other. (seen.0, seen.1, set_else (set views id (both v w)) other seen.0 gone not_other ∙ (set_else views id seen.0 (both v w) not_id ∙ seen.2), seen.3)))
   where
     joined : get_elem? (set (set views id (both v w)) other gone) id ≡ plain.some (both v w)
-    joined = set_else (set views id (both v w)) other id gone (λ e. differ (sym e)) ∙ set_here views id (both v w) v at
+    joined = joined_at views id v other w differ at
 
 -- two seats are made one
 pub unites : (count : ℕ) (o : Opening) (id : ℕ) (v : View) (other : ℕ) (w : View) → v.live ≡ true → Unites count o id v other w (both v w) gone
@@ -104,6 +132,7 @@ unites count o id v other w live words views kept at differ at_other = (
     apart = λ i j u x not_same at_i at_j.
         apart_join views id v other w s.apart at there i j u x not_same (origin views id (both v w) other i u at_i) (origin views id (both v w) other j x at_j);
     longest = seen_join o h views id v other w differ at there (s.each id v at) (s.each other w there) s.longest;
+    covered = λ r under. held_join views id v other w differ at there r (s.covered r under);
   },
 )
   where

@@ -1,9 +1,12 @@
 pub mod CallerLemmas
 pub mod ExchangeLemmas
+pub mod GrowthLemmas
 pub mod HeldLemmas
 pub mod HistoryLemmas
 pub mod JoinLemmas
+pub mod LeaveLemmas
 pub mod NumbersLemmas
+pub mod PossibleLemmas
 pub mod RuleLemmas
 pub mod RuledLemmas
 pub mod SplitLemmas

@@ -1,5 +1,5 @@
 -- how the rule is kept where views change
-use Rattle.std.proofs.Common.{◌≡◌, ◌≢◌, ℕ, ◌<◌, ◌≤◌, List, [], ◌∷◌, ◌++◌, length, set, slice_index, sym, ap, subst, ◌∙◌, inl, inr, append_assoc}
+use Rattle.std.proofs.Common.{◌≡◌, ◌≢◌, ℕ, ◌<◌, ◌≤◌, true, List, [], ◌∷◌, ◌++◌, length, set, slice_index, sym, ap, subst, ◌∙◌, inl, inr, append_assoc}
 use mathlib.Core.Logic.{dite}
 use mathlib.Core.Option as plain
 use native.Mathlib.Decide.{ℕ_discrete}
@@ -9,7 +9,7 @@ use Rattle.chi_history.specs.declared.opening.Opening.{Opening}
 use Rattle.chi_history.specs.declared.view.View.{View}
 use Rattle.chi_history.specs.Held.{Apart}
 use Rattle.chi_history.specs.History.{IsFreeOf, IsLegal}
-use Rattle.chi_history.specs.Rule.{AreApart, EachKnows, IsSeen, Knows, Stands, shown}
+use Rattle.chi_history.specs.Rule.{AreApart, EachKnows, IsHeld, IsSeen, Knows, Stands, shown}
 use Rattle.chi_history.specs.Views.{has}
 use Rattle.chi_history.proofs.HeldLemmas.{apart_sym}
 use Rattle.chi_history.proofs.HistoryLemmas.{free-append}
@@ -78,6 +78,18 @@ seen_here h views id v w at all = (id, w, set_here views id w v at, all)
 pub seen_end : (h : List Entry) (views : List View) (w : View) → IsSeen h views → IsSeen h (views ++ w ∷ [])
 seen_end h views w seen = (seen.0, seen.1, at_longer views w seen.1 seen.0 seen.2, seen.3)
 
+-- a changed view that holds what it held leaves a number held
+pub held_set : (views : List View) (id : ℕ) (v w : View) → get_elem? views id ≡ plain.some v → Within (has v.held) (has w.held) → (r : ℕ)
+    → IsHeld r views → IsHeld r (set views id w)
+held_set views id v w at within r held = dite (ℕ_discrete held.0 id)
+    (λ here. let e : held.1 ≡ v = at_once views id held.1 v (ap (get_elem? views) (sym here) ∙ held.2) at in
+    (id, w, set_here views id w v at, within r (subst (λ (z : View). has z.held r ≡ true) e held.3)))
+    (λ other. (held.0, held.1, set_else views id held.0 w other ∙ held.2, held.3))
+
+-- one view more leaves a number held
+pub held_end : (views : List View) (w : View) (r : ℕ) → IsHeld r views → IsHeld r (views ++ w ∷ [])
+held_end views w r held = (held.0, held.1, at_longer views w held.1 held.0 held.2, held.3)
+
 -- what a view knows stays known where the history goes on by entries of others
 pub knows_more : (o : Opening) (h tail : List Entry) (v : View) → Knows o h v → IsFreeOf (has v.held) tail → Knows o (h ++ tail) v
 knows_more o h tail v k free = record {
@@ -93,10 +105,10 @@ knows_more o h tail v k free = record {
 pub advance : (count : ℕ) (o : Opening) (h : List Entry) (words : List ℕ) (views : List View) → Stands count o h words views
     → (id : ℕ) (v w : View) → get_elem? views id ≡ plain.some v → (tail : List Entry) (words' : List ℕ) → IsLegal o (h ++ tail) → length words' ≡ count
     → ((g : ℕ) → g < o.region.granules → slice_index words' g ≡ shown o (h ++ tail) g) → ((g : ℕ) → o.region.granules ≤ g → slice_index words' g ≡ 0)
-    → Knows o (h ++ tail) w → Within (has w.held) (has v.held)
+    → Knows o (h ++ tail) w → Within (has w.held) (has v.held) → Within (has v.held) (has w.held)
     → ((j : ℕ) (u : View) → j ≢ id → get_elem? views j ≡ plain.some u → IsFreeOf (has u.held) tail)
     → IsSeen (h ++ tail) (set views id w) → Stands count o (h ++ tail) words' (set views id w)
-advance count o h words views s id v w at tail words' legal counted written zeros mine within others seen = record {
+advance count o h words views s id v w at tail words' legal counted written zeros mine within all others seen = record {
   region = s.region;
   room = s.room;
   legal = legal;
@@ -106,13 +118,14 @@ advance count o h words views s id v w at tail words' legal counted written zero
   each = each_set o (h ++ tail) views id w mine (λ j u other at_j. knows_more o h tail u (s.each j u at_j) (others j u other at_j));
   apart = apart_set views id v w s.apart at within;
   longest = seen;
+  covered = λ r under. held_set views id v w at all r (s.covered r under);
 }
 
 -- one seat steps, and neither the words nor the history change
 pub unmoved : (count : ℕ) (o : Opening) (h : List Entry) (words : List ℕ) (views : List View) → Stands count o h words views
-    → (id : ℕ) (v w : View) → get_elem? views id ≡ plain.some v → Knows o h w → Within (has w.held) (has v.held)
+    → (id : ℕ) (v w : View) → get_elem? views id ≡ plain.some v → Knows o h w → Within (has w.held) (has v.held) → Within (has v.held) (has w.held)
     → IsSeen h (set views id w) → Stands count o h words (set views id w)
-unmoved count o h words views s id v w at mine within seen = record {
+unmoved count o h words views s id v w at mine within all seen = record {
   region = s.region;
   room = s.room;
   legal = s.legal;
@@ -122,6 +135,7 @@ unmoved count o h words views s id v w at mine within seen = record {
   each = each_set o h views id w mine (λ j u other at_j. s.each j u at_j);
   apart = apart_set views id v w s.apart at within;
   longest = seen;
+  covered = λ r under. held_set views id v w at all r (s.covered r under);
 }
 
 -- a seat comes that holds what no other holds
@@ -138,4 +152,5 @@ arrives count o h words views s w mine fits = record {
   each = each_end o h views w s.each mine;
   apart = apart_end views w s.apart fits;
   longest = seen_end h views w s.longest;
+  covered = λ r under. held_end views w r (s.covered r under);
 }

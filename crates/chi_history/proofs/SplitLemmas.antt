@@ -1,5 +1,5 @@
 -- making a store, and cutting a view in two, keep the rule
-use Rattle.std.proofs.Common.{◌≡◌, ℕ, zero, suc, ◌≤◌, Bool, true, false, ◌&&◌, List, [], ◌∷◌, length, replicate, set, refl, sym, ap, subst, ◌∙◌, inl, inr, true≢false, eqb-true}
+use Rattle.std.proofs.Common.{◌≡◌, ◌⊎◌, ℕ, zero, suc, ◌≤◌, ◌==◌, Bool, true, false, not, ◌&&◌, List, [], ◌∷◌, ◌++◌, length, replicate, set, refl, sym, ap, subst, ◌∙◌, inl, inr, true≢false, eqb-true}
 use Rattle.std.proofs.lemmas.Bool.{ltb-true}
 use Rattle.std.proofs.lemmas.List.{length-replicate}
 use Rattle.std.specs.Int.Bits.{xor_self}
@@ -13,15 +13,15 @@ use Rattle.chi_history.specs.declared.opening.Opening.{Opening}
 use Rattle.chi_history.specs.declared.view.View.{View}
 use Rattle.chi_history.specs.Held.{Apart, Held}
 use Rattle.chi_history.specs.History.{IsLegalFrom, end_from}
-use Rattle.chi_history.specs.Rule.{Knows, Stands, first_word}
+use Rattle.chi_history.specs.Rule.{IsHeld, IsSeen, Knows, Stands, first_word}
 use Rattle.chi_history.specs.Views.{all_below, all_but, alone, gone, has, knower, rest_of}
 use Rattle.chi_history.proofs.HeldLemmas.{without-held}
 use Rattle.chi_history.proofs.HistoryLemmas.{free-nobody, free-within}
-use Rattle.chi_history.proofs.RuleLemmas.{apart_end, apart_set, arrives, each_end, each_set, seen_set, unmoved}
-use Rattle.chi_history.proofs.StepLemmas.{knows_all}
+use Rattle.chi_history.proofs.RuleLemmas.{apart_end, apart_set, each_end, each_set, held_end, seen_end, seen_set}
+use Rattle.chi_history.proofs.StepLemmas.{below_all, knows_all}
 use Rattle.chi_history.proofs.Steps.{Parts}
 use Rattle.chi_history.proofs.ViewLemmas.{Within, has-all_below, has-all_but, has-only, within_apart}
-use Rattle.chi_history.proofs.ViewLists.{at_last, at_longer, at_once, at_set, set_else}
+use Rattle.chi_history.proofs.ViewLists.{at_last, at_longer, at_once, at_set, set_else, set_here}
 use Rattle.chi_history.proofs.WordLemmas.{zeros_are}
 
 -- a seat that was joined away knows
@@ -74,6 +74,45 @@ only_apart src held =
     and_false true = refl
     and_false false = refl
 
+-- a number that is held is left, or is that one
+only_or_left : (src : ℕ) (held : List ℕ) (r : ℕ) → has held r ≡ true → (has (all_but src held) r ≡ true) ⊎ (has (src ∷ []) r ≡ true)
+only_or_left src held r is = by_test (r == src) refl
+  where
+    by_test : (b : Bool) → (r == src) ≡ b → (has (all_but src held) r ≡ true) ⊎ (has (src ∷ []) r ≡ true)
+    by_test true same = inr (ap (λ (f : Held). f r) (has-only src) ∙ same)
+    by_test false differ = inl (ap (λ (f : Held). f r) (has-all_but src held) ∙ (λ i. is i && not (differ i)))
+
+-- one view becomes two, which hold its numbers between them
+cut : (count : ℕ) (o : Opening) (h : List Entry) (words : List ℕ) (views : List View) → Stands count o h words views
+    → (id : ℕ) (v left right : View) → get_elem? views id ≡ plain.some v → Knows o h left → Knows o h right
+    → Within (has left.held) (has v.held) → Within (has right.held) (has v.held) → Apart (has right.held) (has left.held)
+    → ((r : ℕ) → has v.held r ≡ true → (has left.held r ≡ true) ⊎ (has right.held r ≡ true))
+    → IsSeen h (set views id left ++ right ∷ []) → Stands count o h words (set views id left ++ right ∷ [])
+cut count o h words views s id v left right at of_left of_right within_left within_right apart either seen = record {
+  region = s.region;
+  room = s.room;
+  legal = s.legal;
+  counted = s.counted;
+  written = s.written;
+  zeros = s.zeros;
+  each = each_end o h (set views id left) right (each_set o h views id left of_left (λ j u other at_j. s.each j u at_j)) of_right;
+  apart = apart_end (set views id left) right (apart_set views id v left s.apart at within_left) (λ i u at_i. elim (at_set views id i left u at_i) [
+    | inl t ↦ subst (λ (z : View). Apart (has right.held) (has z.held)) t.1 apart
+    | inr t ↦ within_apart (has v.held) (has u.held) (has right.held) (has u.held) (s.apart id i v u (λ e. t.0 (sym e)) at t.1) within_right (λ r is. is)
+  ]);
+  longest = seen;
+  covered = λ r under. covers r (s.covered r under);
+}
+  where
+    covers : (r : ℕ) → IsHeld r views → IsHeld r (set views id left ++ right ∷ [])
+    covers r held = dite (ℕ_discrete held.0 id)
+        (λ here. let e : held.1 ≡ v = at_once views id held.1 v (ap (get_elem? views) (sym here) ∙ held.2) at in
+        elim (either r (subst (λ (z : View). has z.held r ≡ true) e held.3)) [
+          | inl mine ↦ held_end (set views id left) right r (id, left, set_here views id left v at, mine)
+          | inr other ↦ (length (set views id left), right, at_last (set views id left) right, other)
+        ])
+        (λ other. held_end (set views id left) right r (held.0, held.1, set_else views id held.0 left other ∙ held.2, held.3))
+
 -- one number gets a seat of its own
 pub splits : (count : ℕ) (o : Opening) (id : ℕ) (v : View) (src : ℕ) → v.live ≡ true → has v.held src ≡ true → Parts count o id v (rest_of src v) (alone src v)
 splits count o id v src live holds words views kept at =
@@ -81,36 +120,18 @@ splits count o id v src live holds words views kept at =
     let s = kept.1 in
     let k = s.each id v at in
     let left : View = rest_of src v in
-    let right : View = alone src v in
-    let first = unmoved count o h words views s id v left at (knows_within o h v (all_but src v.held) live (all_but_within src v.held) k) (all_but_within src v.held) (seen_set h views id v left at refl s.longest) in (
+    let right : View = alone src v in (
       h,
-      arrives count o h words (set views id left) first right (knows_within o h v (src ∷ []) live (only_within src v.held holds) k) (λ i u at_i. elim (at_set views id i left u at_i) [
-        | inl t ↦ subst (λ (z : View). Apart (has right.held) (has z.held)) t.1 (only_apart src v.held)
-        | inr t ↦ within_apart (has v.held) (has u.held) (has right.held) (has u.held) (s.apart id i v u (λ e. t.0 (sym e)) at t.1) (only_within src v.held holds) (λ r is. is)
-      ]),
+      cut count o h words views s id v left right at (knows_within o h v (all_but src v.held) live (all_but_within src v.held) k) (knows_within o h v (src ∷ []) live (only_within src v.held holds) k)
+          (all_but_within src v.held) (only_within src v.held holds) (only_apart src v.held) (only_or_left src v.held)
+          (seen_end h (set views id left) right (seen_set h views id v left at refl s.longest)),
     )
 
 -- a view goes whole to a new seat
 pub moves : (count : ℕ) (o : Opening) (id : ℕ) (v : View) → Parts count o id v gone v
 moves count o id v words views kept at = (
   h,
-  record {
-    region = s.region;
-    room = s.room;
-    legal = s.legal;
-    counted = s.counted;
-    written = s.written;
-    zeros = s.zeros;
-    each = each_end o h (set views id gone) v (each_set o h views id gone (knows_gone o h) (λ j u other at_j. s.each j u at_j)) (s.each id v at);
-    apart = apart_end (set views id gone) v (apart_set views id v gone s.apart at (gone_within (has v.held))) (λ i u at_i. elim (at_set views id i gone u at_i) [
-      | inl t ↦ subst (λ (z : View). Apart (has v.held) (has z.held)) t.1 (gone_apart (has v.held))
-      | inr t ↦ s.apart id i v u (λ e. t.0 (sym e)) at t.1
-    ]);
-    longest = dite (ℕ_discrete s.longest.0 id)
-        (λ here. let e : s.longest.1 ≡ v = at_once views id s.longest.1 v (ap (get_elem? views) (sym here) ∙ s.longest.2) at in
-        (length (set views id gone), v, at_last (set views id gone) v, ap (λ (z : View). z.seen) (sym e) ∙ s.longest.3))
-        (λ other. (s.longest.0, s.longest.1, at_longer (set views id gone) v s.longest.1 s.longest.0 (set_else views id s.longest.0 gone other ∙ s.longest.2), s.longest.3));
-  },
+  cut count o h words views s id v gone v at (knows_gone o h) (s.each id v at) (gone_within (has v.held)) (λ r is. is) (gone_apart (has v.held)) (λ r is. inr is) seen,
 )
   where
     h : List Entry
@@ -118,6 +139,12 @@ moves count o id v words views kept at = (
 
     s : Stands count o h words views
     s = kept.1
+
+    seen : IsSeen h (set views id gone ++ v ∷ [])
+    seen = dite (ℕ_discrete s.longest.0 id)
+        (λ here. let e : s.longest.1 ≡ v = at_once views id s.longest.1 v (ap (get_elem? views) (sym here) ∙ s.longest.2) at in
+        (length (set views id gone), v, at_last (set views id gone) v, ap (λ (z : View). z.seen) (sym e) ∙ s.longest.3))
+        (λ other. (s.longest.0, s.longest.1, at_longer (set views id gone) v s.longest.1 s.longest.0 (set_else views id s.longest.0 gone other ∙ s.longest.2), s.longest.3))
 
 -- a list of one has one item
 pub one_at : (v u : View) (i : ℕ) → get_elem? (v ∷ []) i ≡ plain.some u → (i ≡ 0) × (v ≡ u)
@@ -139,4 +166,5 @@ opens count o is room = record {
       (knows_all o [] (all_below o.requesters) (λ r held. ltb-true r o.requesters (ap (λ (f : Held). f r) (sym (has-all_below o.requesters)) ∙ held)));
   apart = λ i j u x differ at_i at_j. absurd (differ ((one_at _ u i at_i).0 ∙ sym (one_at _ x j at_j).0));
   longest = (0, knower o (all_below o.requesters) [], refl, refl);
+  covered = λ r under. (0, knower o (all_below o.requesters) [], refl, below_all o (has (all_below o.requesters)) (has-all_below o.requesters) r under);
 }

@@ -56,7 +56,7 @@ knows_settled o h v same k = record {
 }
 
 -- a set of all numbers has each of them
-below_all : (o : Opening) (held : Held) → held ≡ below o.requesters → (r : ℕ) → r < o.requesters → held r ≡ true
+pub below_all : (o : Opening) (held : Held) → held ≡ below o.requesters → (r : ℕ) → r < o.requesters → held r ≡ true
 below_all o held all r under = ap (λ (f : Held). f r) all ∙ grind (arith, nat_tests)
 
 -- a seat that holds all numbers has seen all
@@ -106,7 +106,7 @@ settles count o id v live words views kept at =
     let same : v.opening ≡ o = k.opened live in
     let w : View = knower v.opening v.held v.seen in (
       w,
-      (h, unmoved count o h words views s id v w at (knows_settled o h v same k) (λ r held. held) (seen_set h views id v w at refl s.longest)),
+      (h, unmoved count o h words views s id v w at (knows_settled o h v same k) (λ r held. held) (λ r held. held) (seen_set h views id v w at refl s.longest)),
       record {
         now = refl;
         joint = k.joint;
@@ -125,7 +125,7 @@ sees count o h words views id held seen s at =
     let w : View = knower o held h in
     let k = s.each id v at in
     let whole : h ≡ seen ++ k.precedes.0 = k.precedes.1 in (
-      unmoved count o h words views s id v w at (knows_all o h held k.numbers) (λ r in_it. in_it) (seen_here h views id v w at refl),
+      unmoved count o h words views s id v w at (knows_all o h held k.numbers) (λ r in_it. in_it) (λ r in_it. in_it) (seen_here h views id v w at refl),
       (k.precedes.0, whole, record { now = ap (knower o held) whole; free = k.precedes.2; legal = subst (IsLegal o) whole s.legal }),
     )
 
@@ -210,7 +210,7 @@ appends count o h words views id held seen s at src access next holds lawful fit
       advance count o h words views s id v w at (next_of o h src access ∷ []) (set words g next) legal (length-set words g next ∙ s.counted)
           (words_after count o h words views src access next s lawful fits applies)
           (λ i past. let differ : i ≢ g = omega (arith, granule_below o access lawful fits) in get_or-set_other words g i next 0 differ ∙ s.zeros i past)
-          (knows_all o longer held k.numbers) (λ r in_it. in_it)
+          (knows_all o longer held k.numbers) (λ r in_it. in_it) (λ r in_it. in_it)
           (λ j u other at_j. (s.apart id j v u (λ e. other (sym e)) at at_j src holds, tt))
           (seen_here longer views id v w at refl),
       (

@@ -1,3 +1,4 @@
+pub mod Events
 pub mod Held
 pub mod History
 pub mod Laws

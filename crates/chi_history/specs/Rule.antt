@@ -44,7 +44,16 @@ AreApart views = (i j : ℕ) (v w : View) → i ≢ j → get_elem? views i ≡ 
 abbrev pub IsSeen : List Entry → List View → Type 0
 IsSeen h views = (i : ℕ) × (v : View) × (get_elem? views i ≡ plain.some v) × (v.seen ≡ h)
 
--- the rule at a history: count words show its end, and it is the longest that a seat has seen
+-- some seat holds the number
+abbrev pub IsHeld : ℕ → List View → Type 0
+IsHeld r views = (i : ℕ) × (v : View) × (get_elem? views i ≡ plain.some v) × (has v.held r ≡ true)
+
+-- each number below this one is held by some seat
+abbrev pub AreHeld : ℕ → List View → Type 0
+AreHeld n views = (r : ℕ) → r < n → IsHeld r views
+
+-- the rule at a history: count words show its end, it is the longest that a seat has seen, and each requester's
+-- number is held
 pub record Stands (count : ℕ) (o : Opening) (h : List Entry) (words : List ℕ) (views : List View) : Type 0 where
   pub region : IsRegion o.region
   pub room : o.region.granules ≤ count
@@ -55,6 +64,7 @@ pub record Stands (count : ℕ) (o : Opening) (h : List Entry) (words : List ℕ
   pub each : EachKnows o h views
   pub apart : AreApart views
   pub longest : IsSeen h views
+  pub covered : AreHeld o.requesters views
 
 -- the rule of a store whose opening is known
 abbrev pub Kept : ℕ → Opening → List ℕ → List View → Type 0

@@ -3,6 +3,7 @@
 
 mod asked;
 mod home;
+pub mod laws;
 mod rule;
 mod seat;
 mod serving;

@@ -10,8 +10,8 @@ use Rattle.chi_history.specs.declared.view.View.{View}
 use Rattle.chi_history.specs.Rule.{Stands}
 use Rattle.chi_history.specs.Views.{both, gone, has}
 use Rattle.chi_history.proofs.ViewLemmas.{Meets, meets}
-use Rattle.chi_history.proofs.ViewLists.{at_end, at_longer, at_once, at_set, set_else, set_here}
-use Rattle.chi_bookstore.specs.Events.{IsOneHistory, JoinLeaves, ReadLeaves, SplitLeaves}
+use Rattle.chi_history.proofs.ViewLists.{at_end, at_last, at_longer, at_once, at_set, set_else, set_here}
+use Rattle.chi_history.specs.Events.{IsOneHistory, JoinLeaves, MoveLeaves, ReadLeaves, SplitLeaves}
 
 -- two histories that each go on the other are one
 one_of_two : (a b r s : List Entry) → b ≡ a ++ r → a ≡ b ++ s → a ≡ b
@@ -22,12 +22,12 @@ one_of_two a b (x ∷ xs) s p q =
     absurd (omega (arith, length-append a (x ∷ xs), length-append b s))
 
 -- what each seat has seen, some seat has seen among these views
-abbrev Covers : List View → List View → Type 0
+abbrev pub Covers : List View → List View → Type 0
 Covers views views' = (i : ℕ) (u : View) → get_elem? views i ≡ plain.some u
     → (j : ℕ) × (w : View) × (get_elem? views' j ≡ plain.some w) × ((rest : List Entry) × (w.seen ≡ u.seen ++ rest))
 
 -- then the history goes on
-goes_on : (count : ℕ) (o : Opening) (h h' : List Entry) (words words' : List ℕ) (views views' : List View) → Stands count o h words views → Stands count o h' words' views'
+pub goes_on : (count : ℕ) (o : Opening) (h h' : List Entry) (words words' : List ℕ) (views views' : List View) → Stands count o h words views → Stands count o h' words' views'
     → Covers views views' → (tail : List Entry) × (h' ≡ h ++ tail)
 goes_on count o h h' words words' views views' s s' covers =
     let t = covers s.longest.0 s.longest.1 s.longest.2 in
@@ -54,7 +54,7 @@ pub one_history : IsOneHistory
 one_history count o h h' words words' views s s' = same_history count o h' h words' words views views s' s (covers_same views) (covers_same views)
 
 -- an equal history goes on by nothing
-by_none : (a b : List Entry) → a ≡ b → (rest : List Entry) × (a ≡ b ++ rest)
+pub by_none : (a b : List Entry) → a ≡ b → (rest : List Entry) × (a ≡ b ++ rest)
 by_none a b is = ([], is ∙ sym (append-nil b))
 
 -- a view was changed that has seen as much
@@ -91,6 +91,27 @@ split_leaves count o id v w u h h' words words' views is same also s' =
     back i x at_i = elim (at_end (set views id w) u x i at_i) [
       | inl old ↦ set_covers views id v w is.at same i x old
       | inr t ↦ (id, v, is.at, by_none v.seen x.seen (sym also ∙ ap (λ (z : View). z.seen) t.1))
+    ]
+
+-- a view that goes whole to a new seat
+pub move_leaves : MoveLeaves
+move_leaves count o id v h h' words words' views is s' =
+    same_history count o h h' words words' views (set views id gone ++ v ∷ []) is.stands s' there back
+  where
+    there : Covers views (set views id gone ++ v ∷ [])
+    there i u at_i = dite (ℕ_discrete i id)
+        (λ here.
+        let e : v ≡ u = at_once views id v u is.at (ap (get_elem? views) (sym here) ∙ at_i) in
+        (length (set views id gone), v, at_last (set views id gone) v, by_none v.seen u.seen (ap (λ (z : View). z.seen) e)))
+        (λ other. (i, u, at_longer (set views id gone) v u i (set_else views id i gone other ∙ at_i), by_none u.seen u.seen refl))
+
+    back : Covers (set views id gone ++ v ∷ []) views
+    back i u at_i = elim (at_end (set views id gone) v u i at_i) [
+      | inl old ↦ elim (at_set views id i gone u old) [
+        | inl t ↦ (id, v, is.at, (v.seen, ap (λ (z : View). z.seen ++ v.seen) t.1))
+        | inr t ↦ (i, u, t.1, by_none u.seen u.seen refl)
+      ]
+      | inr t ↦ (id, v, is.at, by_none v.seen u.seen (ap (λ (z : View). z.seen) t.1))
     ]
 
 -- a join

@@ -1,21 +1,21 @@
--- which steps add to the history
+-- which steps are possible
 use Rattle.std.proofs.Common.{◌≡◌, ℕ, ◌<◌, ◌==◌, Bool, true, false, MatchBool, List, set, slice_index, refl, sym, ap, subst, ◌∙◌, eqb-true}
 use Rattle.chi_fields.specs.Extent.{granule_of, lies_in}
 use Rattle.chi_fields.specs.Operation.{IsLawful, Operation}
 use Rattle.chi_history.specs.declared.entry.Entry.{Entry}
 use Rattle.chi_history.specs.declared.opening.Opening.{Opening}
 use Rattle.chi_history.specs.declared.view.View.{View}
+use Rattle.chi_history.specs.Events.{ExchangeIsPossible, IsAt, LookIsPossible, ReplaceIsPossible, with_entry}
 use Rattle.chi_history.specs.Rule.{Stands, shown}
-use Rattle.chi_history.specs.Told.{Adds, Applies, Exchanges, Looks, Sees}
+use Rattle.chi_history.specs.Told.{Adds, Applies, Exchanges, Looks, Sees, Tries}
 use Rattle.chi_history.specs.Views.{has, knower}
 use Rattle.chi_history.proofs.StepLemmas.{appends, granule_below, sees}
-use Rattle.chi_bookstore.specs.Events.{ExchangeAdds, IsAt, LookLeaves, with_entry}
 
 -- the load of a try, by a seat of the opening
-look_at : (count : ℕ) (o : Opening) (id : ℕ) (v : View) (held : List ℕ) (seen : List Entry) → v ≡ knower o held seen → (g : ℕ) → g < o.region.granules
+look_at : (count : ℕ) (o : Opening) (id : ℕ) (held : List ℕ) (seen : List Entry) (g : ℕ) → g < o.region.granules
     → (h : List Entry) (words : List ℕ) (views : List View) → IsAt count o h words views id (knower o held seen)
     → (w : View) × Looks (knower o held seen) g (slice_index words g) w × Stands count o h words (set views id w) × (w.seen ≡ h)
-look_at count o id v held seen is g under h words views place =
+look_at count o id held seen g under h words views place =
     let t = sees count o h words views id held seen place.stands place.at in (
       knower o held h,
       record { mid = t.1.0; sees = t.1.2; found_is = place.stands.written g under ∙ ap (λ l. shown o l g) t.1.1 },
@@ -24,10 +24,10 @@ look_at count o id v held seen is g under h words views place =
     )
 
 -- the load of a try
-pub look_leaves : LookLeaves
-look_leaves count o id v is g under h words views place =
+pub look_possible : LookIsPossible
+look_possible count o id v is g under h words views place =
     subst (λ (z : View). (w : View) × Looks z g (slice_index words g) w × Stands count o h words (set views id w) × (w.seen ≡ h)) (sym is)
-    (look_at count o id v v.held v.seen is g under h words views (subst (λ (z : View). IsAt count o h words views id z) is place))
+    (look_at count o id v.held v.seen g under h words views (subst (λ (z : View). IsAt count o h words views id z) is place))
 
 -- what an exchange is to do
 abbrev Does : ℕ → Opening → ℕ → View → ℕ → ℕ → ℕ → Operation → List Entry → List ℕ → List View → Type 0
@@ -84,7 +84,30 @@ exchange_at count o id held seen first next src access holds lawful fits applies
         )
 
 -- the exchange
-pub exchange_adds : ExchangeAdds
-exchange_adds count o id v is first next src access holds lawful fits applies h words views place =
+pub exchange_possible : ExchangeIsPossible
+exchange_possible count o id v is first next src access holds lawful fits applies h words views place =
     subst (λ (z : View). Does count o id z first next src access h words views) (sym is)
     (exchange_at count o id v.held v.seen first next src access holds lawful fits applies h words views (subst (λ (z : View). IsAt count o h words views id z) is place))
+
+-- the exchange of all words, by a seat of the opening
+replace_at : (count : ℕ) (o : Opening) (id : ℕ) (held : List ℕ) (seen : List Entry) (next src : ℕ) (access : Operation) → has held src ≡ true → IsLawful access
+    → lies_in access.addr access.len o.region ≡ true → (h : List Entry) (words : List ℕ) (views : List View) → IsAt count o h words views id (knower o held seen)
+    → Applies o access (slice_index words (granule_of access.addr o.region)) next
+    → (w : View) × Tries (knower o held seen) words src access words w
+    × Stands count o (with_entry o h src access) (set words (granule_of access.addr o.region) next) (set views id w) × (w.seen ≡ with_entry o h src access)
+replace_at count o id held seen next src access holds lawful fits h words views place applies =
+    let t = appends count o h words views id held seen place.stands place.at src access next holds lawful fits applies in (
+      knower o held (with_entry o h src access),
+      (
+        λ _. record { mid = t.1.0; words_are = λ g under. place.stands.written g under ∙ ap (λ l. shown o l g) t.1.1; adds = t.1.2 },
+        λ differ. absurd (differ refl),
+      ),
+      t.0,
+      refl,
+    )
+
+-- the exchange of all words
+pub replace_possible : ReplaceIsPossible
+replace_possible count o id v is next src access holds lawful fits h words views place applies =
+    subst (λ (z : View). (w : View) × Tries z words src access words w × Stands count o (with_entry o h src access) (set words (granule_of access.addr o.region) next) (set views id w) × (w.seen ≡ with_entry o h src access)) (sym is)
+    (replace_at count o id v.held v.seen next src access holds lawful fits h words views (subst (λ (z : View). IsAt count o h words views id z) is place) applies)

@@ -1,0 +1,6 @@
+-- An exchange is possible.
+use Rattle.chi_history.proofs.PossibleLemmas.{replace_possible}
+use Rattle.chi_lockstore.proofs.laws.exchange_is_possible.Goals as goal
+
+pub returns : goal.returns
+returns c = replace_possible

@@ -1,0 +1,6 @@
+-- The rule stands at one history.
+use Rattle.chi_history.proofs.LeaveLemmas.{one_history}
+use Rattle.chi_lockstore.proofs.laws.one_history.Goals as goal
+
+pub returns : goal.returns
+returns c = one_history
