@@ -3,7 +3,7 @@ use Rattle.std.proofs.Common.{◌≡◌, ℕ, ◌+◌, ◌-◌, ◌≤◌, List,
 use Rattle.std.proofs.Math.Seq.{take-add}
 use Rattle.std.proofs.lemmas.List.{take_rest}
 use Rattle.std.specs.Io.KnownBytes.{Appends, Keeps}
-use Rattle.chi_script.specs.Written.{AppendsFront, Puts, Moves, Writes, Leads}
+use Rattle.chi_script.specs.Written.{AppendsFront, Puts, Moves, Writes}
 
 -- nothing appended
 pub none_taken : (a : Option (List ℕ)) → Appends a a []
@@ -82,6 +82,12 @@ pub within_more : (bytes : List ℕ) (at n : ℕ) → at ≤ length bytes → n 
 within_more bytes at n h k = omega (arith, ap length (take_rest bytes at), length-drop at bytes)
 
 -- ---- steps of a loop: done so far, and the rest of the whole text
+
+-- a part of the whole text is in the writer and the page, and the rest of it is still to come
+pub record Leads (old : Option (List ℕ)) (held : List ℕ) (new : Option (List ℕ)) (kept rest text : List ℕ) : Type 0 where
+  pub done : List ℕ
+  pub joined : done ++ rest ≡ text
+  pub moved : Moves old held new kept done
 
 -- at the start
 pub leads_start : (a : Option (List ℕ)) (held text : List ℕ) → Leads a held a held text text

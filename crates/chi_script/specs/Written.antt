@@ -23,9 +23,3 @@ pub record Moves (old : Option (List ℕ)) (held : List ℕ) (new : Option (List
 -- held, followed by the text
 abbrev pub Writes : {E : Type 0} → Option (List ℕ) → List ℕ → Option (List ℕ) → List ℕ → Result (Unit {0}) E → List ℕ → Type 0
 Writes old held new kept r text = MatchResult r (λ _. Moves old held new kept text) (λ _. AppendsFront old new (held ++ text))
-
--- a part of the whole text is in the writer and the page, and the rest of it is still to come
-pub record Leads (old : Option (List ℕ)) (held : List ℕ) (new : Option (List ℕ)) (kept rest text : List ℕ) : Type 0 where
-  pub done : List ℕ
-  pub joined : done ++ rest ≡ text
-  pub moved : Moves old held new kept done
