@@ -4,7 +4,7 @@ use Rattle.std.proofs.lemmas.Bool.Decides.{nat_tests}
 use Rattle.chi_history.specs.declared.opening.Opening.{Opening}
 use Rattle.chi_history.specs.declared.view.View.{View}
 use Rattle.chi_history.specs.Held.{Held, below, only, union, without}
-use Rattle.chi_history.specs.Told.{IsJoined}
+use Rattle.chi_history.proofs.ToldLemmas.{IsJoined}
 use Rattle.chi_history.specs.Views.{all_below, all_but, has}
 use Rattle.chi_history.proofs.HeldLemmas.{without-held}
 use Rattle.chi_history.proofs.ViewLemmas.{has-all_below, has-all_but, has-only}

@@ -3,7 +3,8 @@ use Rattle.std.proofs.Common.{◌≡◌, ℕ, List, [], refl, sym, ap, subst, �
 use Rattle.chi_history.specs.declared.opening.Opening.{Opening}
 use Rattle.chi_history.specs.declared.view.View.{View}
 use Rattle.chi_history.specs.History.{IsLegal, IsLegalFrom}
-use Rattle.chi_history.specs.Told.{IsJoined, IsTried}
+use Rattle.chi_history.proofs.ToldLemmas.{IsJoined}
+use Rattle.chi_history.proofs.TryLemmas.{IsTried}
 use Rattle.chi_history.specs.Views.{knower}
 use Rattle.chi_bookstore.specs.Known.{IsKnown}
 

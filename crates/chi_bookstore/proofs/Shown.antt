@@ -16,11 +16,11 @@ use Rattle.chi_bookstore.proofs.Known.{known_opening}
 
 -- the word that a seat of all numbers finds is the granule's, under the image
 pub read_shown : (o : Opening) (v : View) (g found : ℕ) (w : View) (numbers : List ℕ) → IsKnown o v → has numbers ≡ has v.held → has numbers ≡ below o.requesters
-    → slice_index o.image g < 2 ^ 64 → ReadsAt v g found w → bit_xor found (slice_index o.image g) ≡ word (end o v.seen) o.region g
-read_shown o v g found w numbers known same all small reads =
+    → g < o.region.granules → slice_index o.image g < 2 ^ 64 → ReadsAt v g found w → bit_xor found (slice_index o.image g) ≡ word (end o v.seen) o.region g
+read_shown o v g found w numbers known same all under small reads =
     let opening : v.opening ≡ o = known_opening o v known in
     let holds : has v.held ≡ below v.opening.requesters = sym same ∙ (all ∙ (λ i. below (sym opening i).requesters)) in
-    read_word o v.seen g found small (reads.1 holds ∙ ap (λ (z : Opening). shown z v.seen g) opening)
+    read_word o v.seen g found under small (reads.1 holds ∙ ap (λ (z : Opening). shown z v.seen g) opening)
 
 -- one more word of a list is as it is to be
 pub one_more : (words : List ℕ) (i x : ℕ) (f : ℕ → ℕ) → i < length words → ((k : ℕ) → k < i → slice_index words k ≡ f k) → x ≡ f i

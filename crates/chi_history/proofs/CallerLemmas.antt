@@ -1,15 +1,15 @@
 -- what a call tells a caller whose seat holds every number, or a part of them
-use Rattle.std.proofs.Common.{IsTrue, ◌==◌, eq-eqb, ◌≡◌, ℕ, ◌<◌, ◌≤◌, true, List, [], ◌∷◌, ◌++◌, sym, ap, ◌∙◌, subst, arith, append_assoc, append-nil}
+use Rattle.std.proofs.Common.{◌==◌, eq-eqb, ◌≡◌, ℕ, ◌≤◌, true, List, [], ◌∷◌, ◌++◌, sym, ap, ◌∙◌, subst, arith, append_assoc, append-nil}
 use Rattle.std.proofs.lemmas.Bool.{cond-true, lt-ltb}
 use Rattle.std.proofs.lemmas.List.{append_cancel_left}
-use Rattle.chi_fields.specs.Extent.{granule_of, lies_in}
-use Rattle.chi_fields.specs.Operation.{IsLawful, Operation}
+use Rattle.chi_fields.specs.Extent.{granule_of}
+use Rattle.chi_fields.specs.Operation.{Operation}
 use Rattle.chi_lanes.specs.After.{answer}
 use Rattle.chi_lanes.specs.declared.reply.Reply.{Reply}
 use Rattle.chi_history.specs.declared.entry.Entry.{Entry}
 use Rattle.chi_history.specs.declared.opening.Opening.{Opening}
 use Rattle.chi_history.specs.Held.{Held, below, nobody}
-use Rattle.chi_history.specs.History.{IsFreeOf, IsLegal, end, hits, hits_from, of, opening_memory}
+use Rattle.chi_history.specs.History.{IsFreeOf, IsLegal, IsLegalEntry, end, hits, hits_from, of, opening_memory}
 use Rattle.chi_history.specs.Served.{Completes, Joins, Retries, entry}
 use Rattle.chi_history.proofs.HistoryLemmas.{free-all, free-append, legal-back, legal-front, legal_entry, of-append, of-free}
 
@@ -22,7 +22,7 @@ none_of_others o held seen mid all legal free =
 pub completes_alone : (o : Opening) (held : Held) (seen seen' : List Entry) (src : ℕ) (access : Operation) (reply : Reply) (lost : ℕ)
     → held ≡ below o.requesters → IsLegal o seen' → Completes o held seen seen' src access reply lost
     → (seen' ≡ seen ++ entry src access reply ∷ []) × (reply ≡ answer access (end o seen))
-completes_alone o held seen seen' src access reply lost all legal done = (grown, last.2)
+completes_alone o held seen seen' src access reply lost all legal done = (grown, last.answered)
   where
     whole : IsLegal o ((seen ++ done.0) ++ entry src access reply ∷ [])
     whole = subst (IsLegal o) done.1 legal
@@ -33,7 +33,7 @@ completes_alone o held seen seen' src access reply lost all legal done = (grown,
     grown : seen' ≡ seen ++ entry src access reply ∷ []
     grown = done.1 ∙ ap (λ (es : List Entry). es ++ entry src access reply ∷ []) (ap (λ (mid : List Entry). seen ++ mid) none_came ∙ append-nil seen)
 
-    last : (src < o.requesters) × IsTrue (lies_in access.addr access.len o.region) × (reply ≡ answer access (end o seen)) × IsLawful access
+    last : IsLegalEntry o (end o seen) (entry src access reply)
     last = legal_entry o (end o seen) (entry src access reply) (legal-back o (opening_memory o) seen (entry src access reply ∷ []) (subst (IsLegal o) grown legal))
 
 -- a seat that holds every number is never answered by RetryAck
@@ -76,15 +76,15 @@ pub served_apart : (seen one_seen other_seen seen' : List Entry) (one_held other
     → Joins other_held other_seen one_held one_seen seen'
     → (since : List Entry) × (seen' ≡ seen ++ since) × (of since one ≡ e ∷ []) × (of since other ≡ f ∷ [])
 served_apart seen one_seen other_seen seen' one_held other_held one_mid other_mid e f one other mine holds one_is one_free theirs other_holds other_is other_free joins = (
-  other_mid ++ f ∷ joins.0,
+  other_mid ++ f ∷ joins.more,
   by_other,
-  ap (λ (es : List Entry). of es one) (append_cancel_left seen (other_mid ++ f ∷ joins.0) (one_mid ++ e ∷ joins.1) (sym by_other ∙ by_one))
-      ∙ of-own one_held one_mid e joins.1 one mine holds one_free joins.5,
-  of-own other_held other_mid f joins.0 other theirs other_holds other_free joins.3,
+  ap (λ (es : List Entry). of es one) (append_cancel_left seen (other_mid ++ f ∷ joins.more) (one_mid ++ e ∷ joins.other_more) (sym by_other ∙ by_one))
+      ∙ of-own one_held one_mid e joins.other_more one mine holds one_free joins.other_free,
+  of-own other_held other_mid f joins.more other theirs other_holds other_free joins.free,
 )
   where
-    by_other : seen' ≡ seen ++ (other_mid ++ f ∷ joins.0)
-    by_other = joins.2 ∙ (ap (λ (es : List Entry). es ++ joins.0) other_is ∙ stretch seen other_mid f joins.0)
+    by_other : seen' ≡ seen ++ (other_mid ++ f ∷ joins.more)
+    by_other = joins.grown ∙ (ap (λ (es : List Entry). es ++ joins.more) other_is ∙ stretch seen other_mid f joins.more)
 
-    by_one : seen' ≡ seen ++ (one_mid ++ e ∷ joins.1)
-    by_one = joins.4 ∙ (ap (λ (es : List Entry). es ++ joins.1) one_is ∙ stretch seen one_mid e joins.1)
+    by_one : seen' ≡ seen ++ (one_mid ++ e ∷ joins.other_more)
+    by_one = joins.other_grown ∙ (ap (λ (es : List Entry). es ++ joins.other_more) one_is ∙ stretch seen one_mid e joins.other_more)

@@ -40,7 +40,7 @@ none_of : (o : Opening) (m : Memory) (views : List View) → AreHeld o.requester
 unfolding IsFreeOf IsLegalFrom
 none_of o m views covered [] legal free = refl
 none_of o m views covered (x ∷ xs) legal free =
-    let t = covered x.src legal.0.0 in
+    let t = covered x.src legal.0.requester in
     absurd (true≢false (sym t.3 ∙ (free t.0 t.1 t.2).0))
 
 -- the rule stands before and after a step by which the seat of v has seen more, and holds what it held

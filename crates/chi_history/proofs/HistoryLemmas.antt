@@ -1,13 +1,11 @@
 -- histories put together and taken apart
-use Rattle.std.proofs.Common.{IsTrue, ◌≡◌, ℕ, ◌+◌, ◌<◌, Bool, true, false, ◌==◌, cond, List, [], ◌∷◌, ◌++◌, refl, sym, ap, ◌∙◌, true≢false, eqb-true, arith, ◌⊎◌, inl, inr}
-use Rattle.chi_fields.specs.Extent.{lies_in}
-use Rattle.chi_fields.specs.Operation.{IsLawful}
-use Rattle.chi_lanes.specs.After.{after, answer}
+use Rattle.std.proofs.Common.{◌≡◌, ℕ, ◌+◌, ◌<◌, Bool, true, false, ◌==◌, cond, List, [], ◌∷◌, ◌++◌, refl, sym, ap, ◌∙◌, true≢false, eqb-true, arith, ◌⊎◌, inl, inr}
+use Rattle.chi_lanes.specs.After.{after}
 use Rattle.chi_lanes.specs.Memory.{Memory}
 use Rattle.chi_history.specs.declared.entry.Entry.{Entry}
 use Rattle.chi_history.specs.declared.opening.Opening.{Opening}
 use Rattle.chi_history.specs.Held.{Held, nobody, union}
-use Rattle.chi_history.specs.History.{end_from, IsLegalFrom, IsFreeOf, of, hits_from}
+use Rattle.chi_history.specs.History.{end_from, IsLegalEntry, IsLegalFrom, IsFreeOf, of, hits_from}
 
 -- the memory after two histories, one after another
 pub end_from-append : (m : Memory) (xs ys : List Entry) → end_from m (xs ++ ys) ≡ end_from (end_from m xs) ys
@@ -34,8 +32,7 @@ legal-back o m [] ys whole = whole
 legal-back o m (x ∷ xs) ys whole = legal-back o (after x.access m) xs ys whole.1
 
 -- what a legal history of one entry says of it
-pub legal_entry : (o : Opening) (m : Memory) (e : Entry) → IsLegalFrom o m (e ∷ [])
-    → (e.src < o.requesters) × IsTrue (lies_in e.access.addr e.access.len o.region) × (e.reply ≡ answer e.access m) × IsLawful e.access
+pub legal_entry : (o : Opening) (m : Memory) (e : Entry) → IsLegalFrom o m (e ∷ []) → IsLegalEntry o m e
 unfolding IsLegalFrom
 legal_entry o m e legal = legal.0
 
@@ -81,7 +78,7 @@ pub free-all : (o : Opening) (m : Memory) (held : Held) (xs : List Entry) → ((
     → IsLegalFrom o m xs → IsFreeOf held xs → xs ≡ []
 unfolding IsFreeOf IsLegalFrom
 free-all o m held [] all legal free = refl
-free-all o m held (x ∷ xs) all legal free = absurd (true≢false (sym (all x.src legal.0.0) ∙ free.0))
+free-all o m held (x ∷ xs) all legal free = absurd (true≢false (sym (all x.src legal.0.requester) ∙ free.0))
 
 pub of-append : (xs ys : List Entry) (r : ℕ) → of (xs ++ ys) r ≡ of xs r ++ of ys r
 unfolding of

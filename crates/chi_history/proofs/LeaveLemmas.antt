@@ -134,17 +134,17 @@ join_leaves count o id v other w h h' words words' views is differ at_other s' =
     covers i u at_i = dite (ℕ_discrete i id)
         (λ here.
         let e : v ≡ u = at_once views id v u is.at (ap (get_elem? views) (sym here) ∙ at_i) in
-        (id, both v w, joined, (met.joins.0, met.joins.2 ∙ ap (λ (z : View). z.seen ++ met.joins.0) e)))
+        (id, both v w, joined, (met.joins.more, met.joins.grown ∙ ap (λ (z : View). z.seen ++ met.joins.more) e)))
         (λ not_id. dite (ℕ_discrete i other)
         (λ here.
         let e : w ≡ u = at_once views other w u there (ap (get_elem? views) (sym here) ∙ at_i) in
-        (id, both v w, joined, (met.joins.1, met.joins.4 ∙ ap (λ (z : View). z.seen ++ met.joins.1) e)))
+        (id, both v w, joined, (met.joins.other_more, met.joins.other_grown ∙ ap (λ (z : View). z.seen ++ met.joins.other_more) e)))
         (λ not_other. (i, u, set_else (set views id (both v w)) other i gone not_other ∙ (set_else views id i (both v w) not_id ∙ at_i), by_none u.seen u.seen refl)))
 
     longer : (u : View) → both v w ≡ u → (j : ℕ) × (x : View) × (get_elem? views j ≡ plain.some x) × ((rest : List Entry) × (x.seen ≡ u.seen ++ rest))
-    longer u e = elim met.joins.6 [
-      | inl none ↦ (id, v, is.at, by_none v.seen u.seen (sym (met.joins.2 ∙ (ap (λ l. v.seen ++ l) none ∙ append-nil v.seen)) ∙ ap (λ (z : View). z.seen) e))
-      | inr none ↦ (other, w, there, by_none w.seen u.seen (sym (met.joins.4 ∙ (ap (λ l. w.seen ++ l) none ∙ append-nil w.seen)) ∙ ap (λ (z : View). z.seen) e))
+    longer u e = elim met.joins.one_empty [
+      | inl none ↦ (id, v, is.at, by_none v.seen u.seen (sym (met.joins.grown ∙ (ap (λ l. v.seen ++ l) none ∙ append-nil v.seen)) ∙ ap (λ (z : View). z.seen) e))
+      | inr none ↦ (other, w, there, by_none w.seen u.seen (sym (met.joins.other_grown ∙ (ap (λ l. w.seen ++ l) none ∙ append-nil w.seen)) ∙ ap (λ (z : View). z.seen) e))
     ]
 
     back : Covers (set (set views id (both v w)) other gone) views

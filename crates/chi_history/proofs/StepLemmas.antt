@@ -165,7 +165,7 @@ legal_next : (o : Opening) (h : List Entry) (src : ℕ) (access : Operation) →
     → lies_in access.addr access.len o.region ≡ true → IsLegal o (h ++ next_of o h src access ∷ [])
 unfolding IsLegalFrom
 legal_next o h src access legal under lawful fits =
-    legal-append o (opening_memory o) h (next_of o h src access ∷ []) legal ((under, fits, refl, lawful), tt)
+    legal-append o (opening_memory o) h (next_of o h src access ∷ []) legal (record { requester = under; inside = fits; answered = refl; lawful = lawful }, tt)
 
 -- the words after an entry more are those that the history shows
 words_after : (count : ℕ) (o : Opening) (h : List Entry) (words : List ℕ) (views : List View) (src : ℕ) (access : Operation) (next : ℕ)

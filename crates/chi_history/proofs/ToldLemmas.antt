@@ -9,44 +9,60 @@ use Rattle.chi_lanes.specs.Memory.{Memory, IsMemory, word}
 use Rattle.chi_history.specs.declared.entry.Entry.{Entry}
 use Rattle.chi_history.specs.declared.opening.Opening.{Opening}
 use Rattle.chi_history.specs.declared.view.View.{View}
+use Rattle.chi_history.specs.Held.{Apart, union}
 use Rattle.chi_history.specs.History.{IsLegal, IsLegalFrom, end, opening_memory}
 use Rattle.chi_history.specs.Rule.{first_word, shown}
-use Rattle.chi_history.specs.Served.{Completes, entry}
-use Rattle.chi_history.specs.Told.{Adds, Answers, Applies, IsJoined, Replaces, Settles, next_entry}
-use Rattle.chi_history.specs.Views.{both, has}
+use Rattle.chi_history.specs.Served.{Completes, Joins, entry}
+use Rattle.chi_history.specs.Told.{Adds, Applies, Replaces, Settles, next_entry}
+use Rattle.chi_history.specs.Views.{both, has, knower}
 use Rattle.chi_history.proofs.HistoryLemmas.{legal-back, legal-front}
 use Rattle.chi_history.proofs.StepLemmas.{granule_below, unmasked}
 use Rattle.chi_history.proofs.ViewLemmas.{has-append}
 use Rattle.chi_history.proofs.WordLemmas.{IsMemory-end, word-opening_memory}
 
+-- `reply` is the answer of every memory whose granule a store keeps as `found`
+abbrev pub Answers : Opening → Operation → ℕ → Reply → Type 0
+Answers o access found reply = (m : Memory) → IsRegion o.region → IsMemory m
+    → word m o.region (granule_of access.addr o.region) ≡ bit_xor found (first_word o (granule_of access.addr o.region))
+    → reply ≡ answer access m
+
+-- two seats that were made one
+pub record IsJoined (v w u : View) : Type 0 where
+  pub now : u ≡ knower v.opening u.held u.seen
+  pub apart : Apart (has v.held) (has w.held)
+  pub held : has u.held ≡ union (has v.held) (has w.held)
+  pub joins : Joins (has v.held) v.seen (has w.held) w.seen u.seen
+  pub legal : IsLegal v.opening u.seen
+  pub numbers : (r : ℕ) → has u.held r ≡ true → r < v.opening.requesters
+
 -- the word that a store keeps, unmasked by the image, is the granule's
-pub read_word : (o : Opening) (h : List Entry) (g found : ℕ) → slice_index o.image g < 2 ^ 64 → found ≡ shown o h g
+pub read_word : (o : Opening) (h : List Entry) (g found : ℕ) → g < o.region.granules → slice_index o.image g < 2 ^ 64 → found ≡ shown o h g
     → bit_xor found (slice_index o.image g) ≡ word (end o h) o.region g
-read_word o h g found small is =
-    ap (bit_xor found) (sym (word-opening_memory o g small))
+read_word o h g found under small is =
+    ap (bit_xor found) (sym (word-opening_memory o g under small))
     ∙ (ap (λ n. bit_xor n (first_word o g)) is ∙ unmasked (word (end o h) o.region g) (first_word o g))
 
 -- what the word of an operation becomes, as it is computed over the unmasked word
-pub applies : (o : Opening) (access : Operation) (found before result next : ℕ) → slice_index o.image (granule_of access.addr o.region) < 2 ^ 64
+pub applies : (o : Opening) (access : Operation) (found before result next : ℕ) → granule_of access.addr o.region < o.region.granules → slice_index o.image (granule_of access.addr o.region) < 2 ^ 64
     → lies_in access.addr access.len o.region ≡ true
     → ((region : Extent) (m : Memory) → IsRegion region → IsMemory m → IsTrue (lies_in access.addr access.len region) → before ≡ word m region (granule_of access.addr region)
     → result ≡ word (after access m) region (granule_of access.addr region))
     → before ≡ bit_xor found (slice_index o.image (granule_of access.addr o.region)) → next ≡ bit_xor result (slice_index o.image (granule_of access.addr o.region))
     → Applies o access found next
-applies o access found before result next small fits changed unmask mask m is_region is_memory at =
+applies o access found before result next under small fits changed unmask mask m is_region is_memory at =
     let g : ℕ = granule_of access.addr o.region in
-    let first : slice_index o.image g ≡ first_word o g = sym (word-opening_memory o g small) in
+    let first : slice_index o.image g ≡ first_word o g = sym (word-opening_memory o g under small) in
     mask ∙ (λ i. bit_xor (changed o.region m is_region is_memory fits (unmask ∙ (ap (bit_xor found) first ∙ sym at)) i) (first i))
 
 -- and what is answered
-pub answers : (o : Opening) (access : Operation) (found before : ℕ) (reply : Reply) → slice_index o.image (granule_of access.addr o.region) < 2 ^ 64
+pub answers : (o : Opening) (access : Operation) (found before : ℕ) (reply : Reply) → granule_of access.addr o.region < o.region.granules → slice_index o.image (granule_of access.addr o.region) < 2 ^ 64
     → lies_in access.addr access.len o.region ≡ true
     → ((region : Extent) (m : Memory) → IsRegion region → IsMemory m → IsTrue (lies_in access.addr access.len region) → before ≡ word m region (granule_of access.addr region)
     → reply ≡ answer access m)
     → before ≡ bit_xor found (slice_index o.image (granule_of access.addr o.region)) → Answers o access found reply
-answers o access found before reply small fits answered unmask m is_region is_memory at =
+answers o access found before reply under small fits answered unmask m is_region is_memory at =
     let g : ℕ = granule_of access.addr o.region in
-    let first : slice_index o.image g ≡ first_word o g = sym (word-opening_memory o g small) in
+    let first : slice_index o.image g ≡ first_word o g = sym (word-opening_memory o g under small) in
     answered o.region m is_region is_memory fits (unmask ∙ (ap (bit_xor found) first ∙ sym at))
 
 -- an image's word that is 0 masks nothing
@@ -59,7 +75,7 @@ added_fits : (v : View) (mid : List Entry) (src : ℕ) (access : Operation) (w :
 unfolding IsLegalFrom
 added_fits v mid src access w adds =
     let last = legal-back v.opening (opening_memory v.opening) (v.seen ++ mid) (next_entry v (v.seen ++ mid) src access ∷ []) adds.legal in
-    (last.0.1, last.0.3)
+    (last.0.inside, last.0.lawful)
 
 -- an entry that was added where a word was found completes the request with the answer of that word
 pub added : (v : View) (mid : List Entry) (src : ℕ) (access : Operation) (w : View) (found : ℕ) (reply : Reply) → Adds v mid src access w

@@ -11,11 +11,16 @@ use Rattle.chi_history.specs.Held.{Held, nobody}
 use Rattle.chi_history.specs.History.{IsFreeOf, IsLegal, end, hits, hits_from, opening_memory}
 use Rattle.chi_history.specs.Rule.{first_word, shown}
 use Rattle.chi_history.specs.Served.{Completes, Retries, entry}
-use Rattle.chi_history.specs.Told.{Adds, Answers, Exchanges, IsTried, Looks, Sees}
+use Rattle.chi_history.specs.Told.{Adds, Exchanges, Looks, Sees}
 use Rattle.chi_history.specs.Views.{has, knower}
 use Rattle.chi_history.proofs.HistoryLemmas.{end_from-append, free-append, hits-append}
-use Rattle.chi_history.proofs.ToldLemmas.{added}
+use Rattle.chi_history.proofs.ToldLemmas.{Answers, added}
 use Rattle.chi_history.proofs.WordLemmas.{differs}
+
+-- a seat after a try: it holds what it held
+pub record IsTried (v w : View) : Type 0 where
+  pub now : w ≡ knower v.opening v.held w.seen
+  pub legal : IsLegal v.opening w.seen
 
 -- hits of two histories that follow each other
 hits-then : (o : Opening) (h xs ys : List Entry) (g : ℕ) → hits o h (xs ++ ys) g nobody ≡ hits o h xs g nobody + hits o (h ++ xs) ys g nobody

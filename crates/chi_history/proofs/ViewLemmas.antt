@@ -143,7 +143,15 @@ meets xs r ys s held other same free other_free = elim (longer xs r ys s same) [
       let front = free-front held t.0 s (subst (IsFreeOf held) (sym t.2) free) in
       let back = free-back held t.0 s (subst (IsFreeOf held) (sym t.2) free) in
       record {
-        joins = (t.0, [], is ∙ sym t.1, front, is ∙ sym (append-nil ys), tt, inr refl);
+        joins = record {
+          more = t.0;
+          other_more = [];
+          grown = is ∙ sym t.1;
+          free = front;
+          other_grown = is ∙ sym (append-nil ys);
+          other_free = tt;
+          one_empty = inr refl;
+        };
         rest = s;
         whole = same ∙ ap (λ l. l ++ s) (sym is);
         free = back;
@@ -154,7 +162,15 @@ meets xs r ys s held other same free other_free = elim (longer xs r ys s same) [
       let front = free-front other t.0 r (subst (IsFreeOf other) (sym t.2) other_free) in
       let back = free-back other t.0 r (subst (IsFreeOf other) (sym t.2) other_free) in
       record {
-        joins = ([], t.0, is ∙ sym (append-nil xs), tt, is ∙ sym t.1, front, inl refl);
+        joins = record {
+          more = [];
+          other_more = t.0;
+          grown = is ∙ sym (append-nil xs);
+          free = tt;
+          other_grown = is ∙ sym t.1;
+          other_free = front;
+          one_empty = inl refl;
+        };
         rest = r;
         whole = ap (λ l. l ++ r) (sym is);
         free = free;

@@ -1,6 +1,7 @@
 -- the words that a history leaves in the granules of a region
-use Rattle.std.proofs.Common.{◌≡◌, ◌≢◌, ℕ, ◌+◌, ◌-◌, ◌*◌, ◌/◌, ◌%◌, ◌^◌, ◌<◌, ◌≤◌, Bool, true, false, not, ◌&&◌, List, [], ◌∷◌, ◌++◌, replicate, slice_index, refl, sym, ap, ◌∙◌, inl, inr, arith, ext_get_or, mod-eq_of_lt}
+use Rattle.std.proofs.Common.{◌≡◌, ◌≢◌, ℕ, ◌+◌, ◌-◌, ◌*◌, ◌/◌, ◌%◌, ◌^◌, ◌<◌, ◌≤◌, nat_le, Bool, true, false, not, ◌&&◌, if◌then◌else◌, List, [], ◌∷◌, ◌++◌, replicate, slice_index, refl, sym, ap, ◌∙◌, inl, inr, arith, ext_get_or, mod-eq_of_lt}
 use Rattle.std.proofs.lemmas.Bool.{cases_lt}
+use Rattle.std.proofs.lemmas.Bool.Decides.{nat_tests}
 use Rattle.std.proofs.lemmas.List.{get_or-replicate, get_or_past, length-replicate}
 use Rattle.chi_fields.specs.Extent.{IsRegion, granule_of, lies_in}
 use Rattle.chi_fields.specs.Operation.{IsLawful}
@@ -15,7 +16,7 @@ use Rattle.chi_lanes.proofs.Operands.{same_bytes-true}
 use Rattle.chi_history.specs.declared.entry.Entry.{Entry}
 use Rattle.chi_history.specs.declared.opening.Opening.{Opening}
 use Rattle.chi_history.specs.Held.{nobody}
-use Rattle.chi_history.specs.History.{IsLegal, IsLegalFrom, end, end_from, hits, hits_from, one_if, opening_memory}
+use Rattle.chi_history.specs.History.{IsLegal, IsLegalFrom, end, end_from, hits, hits_from, image_byte, one_if, opening_memory}
 use Rattle.chi_history.proofs.HistoryLemmas.{end_from-append}
 
 -- zeros, however many
@@ -27,30 +28,36 @@ zeros_are count g = elim (cases_lt g count) [
 
 -- the memory of an opening is one
 pub IsMemory-opening_memory : (o : Opening) → IsMemory (opening_memory o)
-IsMemory-opening_memory o x = omega arith
+IsMemory-opening_memory o x = by_test (lies_in x 1 o.region)
+  where
+    by_test : (b : Bool) → (if b then image_byte o.image (x - o.region.base) else 0) < 256
+    by_test true = omega arith
+    by_test false = omega arith
 
 -- a legal history leaves a memory a memory
 pub IsMemory-end_from : (o : Opening) (m : Memory) (h : List Entry) → IsMemory m → IsLegalFrom o m h → IsMemory (end_from m h)
 unfolding end_from IsLegalFrom
 IsMemory-end_from o m [] is legal = is
 IsMemory-end_from o m (e ∷ es) is legal =
-    IsMemory-end_from o (after e.access m) es (IsMemory-after e.access m is legal.0.3) legal.1
+    IsMemory-end_from o (after e.access m) es (IsMemory-after e.access m is legal.0.lawful) legal.1
 
 -- the memory at the end of a legal history is one
 pub IsMemory-end : (o : Opening) (h : List Entry) → IsLegal o h → IsMemory (end o h)
 IsMemory-end o h legal = IsMemory-end_from o (opening_memory o) h (IsMemory-opening_memory o) legal
 
 -- a byte of a granule at the opening
-opening_byte : (o : Opening) (g k : ℕ) → k < 8 → opening_memory o (o.region.base + 8 * g + k) ≡ slice_index o.image g / 256 ^ k % 256
-opening_byte o g k below =
+opening_byte : (o : Opening) (g k : ℕ) → g < o.region.granules → k < 8 → opening_memory o (o.region.base + 8 * g + k) ≡ slice_index o.image g / 256 ^ k % 256
+opening_byte o g k under below =
+    let from : nat_le o.region.base (o.region.base + 8 * g + k) ≡ true = grind (arith, nat_tests) in
+    let to : nat_le (o.region.base + 8 * g + k + 1) (o.region.base + 8 * o.region.granules) ≡ true = grind (arith, nat_tests) in
     let granule : (o.region.base + 8 * g + k - o.region.base) / 8 ≡ g = omega arith in
     let byte : (o.region.base + 8 * g + k - o.region.base) % 8 ≡ k = omega arith in
-    λ i. slice_index o.image (granule i) / 256 ^ byte i % 256
+    (λ i. if from i && to i then image_byte o.image (o.region.base + 8 * g + k - o.region.base) else 0) ∙ (λ i. slice_index o.image (granule i) / 256 ^ byte i % 256)
 
 -- the words at the opening are those of the image
-pub word-opening_memory : (o : Opening) (g : ℕ) → slice_index o.image g < 2 ^ 64 → word (opening_memory o) o.region g ≡ slice_index o.image g
+pub word-opening_memory : (o : Opening) (g : ℕ) → g < o.region.granules → slice_index o.image g < 2 ^ 64 → word (opening_memory o) o.region g ≡ slice_index o.image g
 unfolding word_at
-word-opening_memory o g fits =
+word-opening_memory o g under fits =
     let start : ℕ = o.region.base + 8 * g in
     let run : List ℕ = bytes_from (opening_memory o) start 8 in
     let spelled : run ≡ little_bytes 8 (slice_index o.image g) =
@@ -59,7 +66,7 @@ word-opening_memory o g fits =
     (λ k inside.
     let below : k < 8 = rw (length-bytes_from (opening_memory o) start 8) at inside in
     get_or-bytes_from (opening_memory o) start 8 k below
-    ∙ (opening_byte o g k below ∙ sym (slice_index-little_bytes 8 (slice_index o.image g) k below))) in
+    ∙ (opening_byte o g k under below ∙ sym (slice_index-little_bytes 8 (slice_index o.image g) k below))) in
     ap little spelled ∙ (little_little_bytes 8 (slice_index o.image g) ∙ mod-eq_of_lt fits)
 
 -- the memory after one entry more

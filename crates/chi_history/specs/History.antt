@@ -8,9 +8,14 @@ use Rattle.chi_history.specs.declared.entry.Entry.{Entry}
 use Rattle.chi_history.specs.declared.opening.Opening.{Opening}
 use Rattle.chi_history.specs.Held.{Held}
 
--- the memory at the opening, of the words of the granules: byte k of a word is its bits 8 * k to 8 * k + 7
+-- byte k of the words of an image: each word has eight, and its byte i is its bits 8 * i to 8 * i + 7
+abbrev pub image_byte : List ℕ → ℕ → ℕ
+image_byte image k = slice_index image (k / 8) / 256 ^ (k % 8) % 256
+
+-- the memory at the opening: in the region the bytes of the image's words, which are those of the granules, and
+-- elsewhere 0
 abbrev pub opening_memory : Opening → Memory
-opening_memory o = λ x. slice_index o.image ((x - o.region.base) / 8) / 256 ^ ((x - o.region.base) % 8) % 256
+opening_memory o = λ x. if lies_in x 1 o.region then image_byte o.image (x - o.region.base) else 0
 
 -- the memory after the entries, one after another
 unfoldable pub end_from : Memory → List Entry → Memory
@@ -21,13 +26,18 @@ end_from m (e ∷ es) = end_from (after e.access m) es
 abbrev pub end : Opening → List Entry → Memory
 end o h = end_from (opening_memory o) h
 
--- each entry is of a requester of the home, its access is lawful and fits the region, and its reply is the
--- answer of the memory before it
+-- the entry is of a requester of the home, its access is lawful and fits the region, and its reply is the answer of
+-- the memory before it
+pub record IsLegalEntry (o : Opening) (m : Memory) (e : Entry) : Type 0 where
+  pub requester : e.src < o.requesters
+  pub inside : IsTrue (lies_in e.access.addr e.access.len o.region)
+  pub answered : e.reply ≡ answer e.access m
+  pub lawful : IsLawful e.access
+
+-- each entry is legal at the memory that those before it leave
 unfoldable pub IsLegalFrom : Opening → Memory → List Entry → Type 0
 IsLegalFrom o m [] = Unit {0}
-IsLegalFrom o m (e ∷ es) =
-    ((e.src < o.requesters) × IsTrue (lies_in e.access.addr e.access.len o.region) × (e.reply ≡ answer e.access m) × IsLawful e.access)
-    × IsLegalFrom o (after e.access m) es
+IsLegalFrom o m (e ∷ es) = IsLegalEntry o m e × IsLegalFrom o (after e.access m) es
 
 abbrev pub IsLegal : Opening → List Entry → Type 0
 IsLegal o h = IsLegalFrom o (opening_memory o) h

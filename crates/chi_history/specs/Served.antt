@@ -34,7 +34,11 @@ IsServed o limit held seen seen' src access (Retry credit lost) =
     Retries o held seen seen' access lost × (lost ≡ limit) × (1 ≤ limit) × (credit ≡ src)
 
 -- rejoin: the longer of both histories, one being a prefix of the other; what follows each is of others
-abbrev pub Joins : Held → List Entry → Held → List Entry → List Entry → Type 0
-Joins held seen other_held other_seen seen' =
-    (x : List Entry) × (y : List Entry) × (seen' ≡ seen ++ x) × IsFreeOf held x × (seen' ≡ other_seen ++ y) × IsFreeOf other_held y
-    × ((x ≡ []) ⊎ (y ≡ []))
+pub record Joins (held : Held) (seen : List Entry) (other_held : Held) (other_seen seen' : List Entry) : Type 0 where
+  pub more : List Entry
+  pub other_more : List Entry
+  pub grown : seen' ≡ seen ++ more
+  pub free : IsFreeOf held more
+  pub other_grown : seen' ≡ other_seen ++ other_more
+  pub other_free : IsFreeOf other_held other_more
+  pub one_empty : (more ≡ []) ⊎ (other_more ≡ [])

@@ -2,16 +2,15 @@
 use Rattle.std.specs.Prelude.{◌≡◌, ℕ, ◌<◌, ◌==◌, true, List, [], ◌∷◌, ◌++◌, slice_index, bit_xor, MatchBool}
 use Rattle.chi_fields.specs.Extent.{IsRegion, granule_of}
 use Rattle.chi_fields.specs.Operation.{Operation}
-use Rattle.chi_lanes.specs.declared.reply.Reply.{Reply}
 use Rattle.chi_lanes.specs.After.{after, answer}
 use Rattle.chi_lanes.specs.Memory.{Memory, IsMemory, word}
 use Rattle.chi_history.specs.declared.entry.Entry.{Entry}
 use Rattle.chi_history.specs.declared.opening.Opening.{Opening}
 use Rattle.chi_history.specs.declared.view.View.{View}
-use Rattle.chi_history.specs.Held.{Apart, below, union}
+use Rattle.chi_history.specs.Held.{below}
 use Rattle.chi_history.specs.History.{IsFreeOf, IsLegal, end}
 use Rattle.chi_history.specs.Rule.{first_word, shown}
-use Rattle.chi_history.specs.Served.{Joins, entry}
+use Rattle.chi_history.specs.Served.{entry}
 use Rattle.chi_history.specs.Views.{IsJoint, has, knower}
 
 -- the seat has seen these entries more, all of others
@@ -68,28 +67,8 @@ pub record Settles (v w : View) : Type 0 where
   pub legal : IsLegal v.opening v.seen
   pub numbers : (r : ℕ) → has v.held r ≡ true → r < v.opening.requesters
 
--- a seat after a try: it holds what it held
-pub record IsTried (v w : View) : Type 0 where
-  pub now : w ≡ knower v.opening v.held w.seen
-  pub legal : IsLegal v.opening w.seen
-
--- two seats that were made one
-pub record IsJoined (v w u : View) : Type 0 where
-  pub now : u ≡ knower v.opening u.held u.seen
-  pub apart : Apart (has v.held) (has w.held)
-  pub held : has u.held ≡ union (has v.held) (has w.held)
-  pub joins : Joins (has v.held) v.seen (has w.held) w.seen u.seen
-  pub legal : IsLegal v.opening u.seen
-  pub numbers : (r : ℕ) → has u.held r ≡ true → r < v.opening.requesters
-
 -- `next` is what a store keeps after the operation, of every memory whose granule it keeps as `found`
 abbrev pub Applies : Opening → Operation → ℕ → ℕ → Type 0
 Applies o access found next = (m : Memory) → IsRegion o.region → IsMemory m
     → word m o.region (granule_of access.addr o.region) ≡ bit_xor found (first_word o (granule_of access.addr o.region))
     → next ≡ bit_xor (word (after access m) o.region (granule_of access.addr o.region)) (first_word o (granule_of access.addr o.region))
-
--- `reply` is the answer of every memory whose granule a store keeps as `found`
-abbrev pub Answers : Opening → Operation → ℕ → Reply → Type 0
-Answers o access found reply = (m : Memory) → IsRegion o.region → IsMemory m
-    → word m o.region (granule_of access.addr o.region) ≡ bit_xor found (first_word o (granule_of access.addr o.region))
-    → reply ≡ answer access m

@@ -22,16 +22,16 @@ use Rattle.chi_lockstore.specs.Seats.{Added, IsSeatOf, zero_opening}
 use Rattle.chi_lockstore.proofs.SeatLemmas.{seat_opening}
 
 -- each word at the opening is 0
-pub first_zero : (region : Extent) (requesters g : ℕ) → first_word (zero_opening region requesters) g ≡ 0
-first_zero region requesters g =
+pub first_zero : (region : Extent) (requesters g : ℕ) → g < region.granules → first_word (zero_opening region requesters) g ≡ 0
+first_zero region requesters g under =
     let zero : slice_index (replicate region.granules 0) g ≡ 0 = zeros_are region.granules g in
-    word-opening_memory (zero_opening region requesters) g (omega (arith, zero)) ∙ zero
+    word-opening_memory (zero_opening region requesters) g under (omega (arith, zero)) ∙ zero
 
 -- each word is kept as it is
 pub shown_zero : (o : Opening) (region : Extent) (requesters : ℕ) → o ≡ zero_opening region requesters → (h : List Entry) (g : ℕ)
-    → shown o h g ≡ word (end o h) o.region g
-shown_zero o region requesters is h g =
-    ap (bit_xor (word (end o h) o.region g)) (ap (λ (z : Opening). first_word z g) is ∙ first_zero region requesters g) ∙ xor_zero_r (word (end o h) o.region g)
+    → g < region.granules → shown o h g ≡ word (end o h) o.region g
+shown_zero o region requesters is h g under =
+    ap (bit_xor (word (end o h) o.region g)) (ap (λ (z : Opening). first_word z g) is ∙ first_zero region requesters g under) ∙ xor_zero_r (word (end o h) o.region g)
 
 -- what an operation makes of the word of every memory with a region's granule
 abbrev pub Changes : Operation → ℕ → ℕ → Type 0
@@ -45,10 +45,10 @@ Answers access found reply = (region : Extent) (m : Memory) → IsRegion region 
 
 -- the changed word is what the store keeps next
 pub applies_zero : (o : Opening) (region : Extent) (requesters : ℕ) → o ≡ zero_opening region requesters → (access : Operation) (found next : ℕ)
-    → lies_in access.addr access.len region ≡ true → Changes access found next → Applies o access found next
-applies_zero o region requesters is access found next fits changed m is_region memory kept =
+    → granule_of access.addr region < region.granules → lies_in access.addr access.len region ≡ true → Changes access found next → Applies o access found next
+applies_zero o region requesters is access found next under fits changed m is_region memory kept =
     let g : ℕ = granule_of access.addr o.region in
-    let zero : first_word o g ≡ 0 = ap (λ (z : Opening). first_word z g) is ∙ first_zero region requesters g in
+    let zero : first_word o g ≡ 0 = ap (λ (z : Opening). first_word z g) is ∙ first_zero region requesters g (subst (λ (z : Opening). granule_of access.addr z.region < region.granules) (sym is) under) in
     let inside : lies_in access.addr access.len o.region ≡ true = ap (λ (z : Opening). lies_in access.addr access.len z.region) is ∙ fits in
     changed o.region m is_region memory inside (sym (kept ∙ (ap (bit_xor found) zero ∙ xor_zero_r found)))
     ∙ sym (ap (bit_xor (word (after access m) o.region g)) zero ∙ xor_zero_r (word (after access m) o.region g))
@@ -78,7 +78,8 @@ added_zero v region requesters is is_region current src access lawful fits found
     inside = ap (lies_in access.addr access.len) here ∙ fits
 
     shows : slice_index current (granule_of access.addr o.region) ≡ word (end o h) o.region (granule_of access.addr o.region)
-    shows = r.words_are (granule_of access.addr o.region) (granule_below o access lawful inside) ∙ shown_zero o region requesters is h (granule_of access.addr o.region)
+    shows = r.words_are (granule_of access.addr o.region) (granule_below o access lawful inside)
+        ∙ shown_zero o region requesters is h (granule_of access.addr o.region) (subst (λ (z : Extent). granule_of access.addr o.region < z.granules) here (granule_below o access lawful inside))
 
     legal : IsLegal o h
     legal = legal-front o (opening_memory o) h (next_entry v h src access ∷ []) r.adds.legal
@@ -95,5 +96,5 @@ found_zero region requesters numbers v line w s all read g under =
     let same : v.opening ≡ o = seat_opening o numbers v s in
     let every : has v.held ≡ below v.opening.requesters = s.same ∙ (all ∙ ap (λ (z : Opening). below z.requesters) (sym same)) in
     read.1 every g (subst (λ (z : Opening). g < z.region.granules) (sym same) under)
-    ∙ (shown_zero v.opening region requesters same v.seen g
+    ∙ (shown_zero v.opening region requesters same v.seen g under
     ∙ (ap (λ (z : Opening). word (end z v.seen) z.region g) same ∙ ap (λ (z : View). word (end o z.seen) region g) (sym read.0)))

@@ -23,7 +23,7 @@ pub of_others : (o : Opening) (m : Memory) (held others : Held) (xs : List Entry
     → IsLegalFrom o m xs → IsFreeOf held xs → IsOf others xs
 unfolding IsLegalFrom IsFreeOf IsOf
 of_others o m held others [] outside legal free = tt
-of_others o m held others (x ∷ xs) outside legal free = (outside x.src legal.0.0 free.0, of_others o (after x.access m) held others xs outside legal.1 free.1)
+of_others o m held others (x ∷ xs) outside legal free = (outside x.src legal.0.requester free.0, of_others o (after x.access m) held others xs outside legal.1 free.1)
 
 -- what is of a set is free of a set that shares no number with it
 pub free_of_others : (held others : Held) (xs : List Entry) → ((r : ℕ) → others r ≡ true → held r ≡ false) → IsOf others xs → IsFreeOf held xs
@@ -105,19 +105,19 @@ paired first second result o policy limit all rest one_held two_held joined_held
       two_appended = two.appended;
       one_kept = one.kept;
       two_kept = two.kept;
-      racer_one = racer o policy limit one_held 1 start one_seen since (join_one.1 ++ join_two.0) one.done one.appended one_is one.worked one_first one_others of_them;
-      racer_two = racer o policy limit two_held 2 start two_seen since join_two.1 two.done two.appended two_is two.worked two_first two_others of_them;
+      racer_one = racer o policy limit one_held 1 start one_seen since (join_one.other_more ++ join_two.more) one.done one.appended one_is one.worked one_first one_others of_them;
+      racer_two = racer o policy limit two_held 2 start two_seen since join_two.other_more two.done two.appended two_is two.worked two_first two_others of_them;
     }
   where
     since : List Entry
-    since = join_one.0 ++ join_two.0
+    since = join_one.more ++ join_two.more
 
     grown : seen' ≡ start ++ since
-    grown = join_two.2 ∙ (ap (λ (h : List Entry). h ++ join_two.0) join_one.2 ∙ append_assoc start join_one.0 join_two.0)
+    grown = join_two.grown ∙ (ap (λ (h : List Entry). h ++ join_two.more) join_one.grown ∙ append_assoc start join_one.more join_two.more)
 
     rest_free : IsFreeOf rest since
-    rest_free = free-append rest join_one.0 join_two.0 join_one.3
-        (free-within joined_held rest join_two.0 (λ r h. ap (λ (s : Held). s r) joined_is ∙ or_left (rest r) (one_held r) h) join_two.3)
+    rest_free = free-append rest join_one.more join_two.more join_one.free
+        (free-within joined_held rest join_two.more (λ r h. ap (λ (s : Held). s r) joined_is ∙ or_left (rest r) (one_held r) h) join_two.free)
 
     of_them : IsOf (union (only 1) (only 2)) since
     of_them =
@@ -125,28 +125,28 @@ paired first second result o policy limit all rest one_held two_held joined_held
         of_others o (end o start) rest (union (only 1) (only 2)) since (λ r under off. outside_rest o.requesters r under (ap (λ (s : Held). s r) (sym rest_is) ∙ off))
         (legal-back o _ start since (subst P grown legal)) rest_free
 
-    one_first : since ≡ one.worked.since ++ (join_one.1 ++ join_two.0)
+    one_first : since ≡ one.worked.since ++ (join_one.other_more ++ join_two.more)
     one_first =
-        let same : start ++ join_one.0 ≡ start ++ (one.worked.since ++ join_one.1) =
-        sym join_one.2 ∙ (join_one.4 ∙ (ap (λ (h : List Entry). h ++ join_one.1) one.worked.grown ∙ append_assoc start one.worked.since join_one.1)) in
-        ap (λ (h : List Entry). h ++ join_two.0) (append_cancel_left start join_one.0 (one.worked.since ++ join_one.1) same) ∙ append_assoc one.worked.since join_one.1 join_two.0
+        let same : start ++ join_one.more ≡ start ++ (one.worked.since ++ join_one.other_more) =
+        sym join_one.grown ∙ (join_one.other_grown ∙ (ap (λ (h : List Entry). h ++ join_one.other_more) one.worked.grown ∙ append_assoc start one.worked.since join_one.other_more)) in
+        ap (λ (h : List Entry). h ++ join_two.more) (append_cancel_left start join_one.more (one.worked.since ++ join_one.other_more) same) ∙ append_assoc one.worked.since join_one.other_more join_two.more
 
-    two_first : since ≡ two.worked.since ++ join_two.1
+    two_first : since ≡ two.worked.since ++ join_two.other_more
     two_first =
-        let same : start ++ since ≡ start ++ (two.worked.since ++ join_two.1) =
-        sym grown ∙ (join_two.4 ∙ (ap (λ (h : List Entry). h ++ join_two.1) two.worked.grown ∙ append_assoc start two.worked.since join_two.1)) in
-        append_cancel_left start since (two.worked.since ++ join_two.1) same
+        let same : start ++ since ≡ start ++ (two.worked.since ++ join_two.other_more) =
+        sym grown ∙ (join_two.other_grown ∙ (ap (λ (h : List Entry). h ++ join_two.other_more) two.worked.grown ∙ append_assoc start two.worked.since join_two.other_more)) in
+        append_cancel_left start since (two.worked.since ++ join_two.other_more) same
 
     one_in : one_held 1 ≡ true
     one_in = ap (λ (s : Held). s 1) one_is
 
-    one_others : of (join_one.1 ++ join_two.0) 1 ≡ []
-    one_others = of-append join_one.1 join_two.0 1
-        ∙ (ap (λ (h : List Entry). h ++ of join_two.0 1) (of-free one_held join_one.1 1 one_in join_one.5)
-        ∙ of-free joined_held join_two.0 1 (ap (λ (s : Held). s 1) joined_is ∙ or_right (rest 1) (one_held 1) one_in) join_two.3)
+    one_others : of (join_one.other_more ++ join_two.more) 1 ≡ []
+    one_others = of-append join_one.other_more join_two.more 1
+        ∙ (ap (λ (h : List Entry). h ++ of join_two.more 1) (of-free one_held join_one.other_more 1 one_in join_one.other_free)
+        ∙ of-free joined_held join_two.more 1 (ap (λ (s : Held). s 1) joined_is ∙ or_right (rest 1) (one_held 1) one_in) join_two.free)
 
-    two_others : of join_two.1 2 ≡ []
-    two_others = of-free two_held join_two.1 2 (ap (λ (s : Held). s 2) two_is) join_two.5
+    two_others : of join_two.other_more 2 ≡ []
+    two_others = of-free two_held join_two.other_more 2 (ap (λ (s : Held). s 2) two_is) join_two.other_free
 
 -- a run of work, where its set, its first history and its first lines are known by other names
 pub run_as : (result : Result (Unit {0}) WorkFault) (o : Opening) (policy : Policy) (limit : ℕ) (held other : Held) (src : ℕ) (all : List Request) (seen start seen' : List Entry) (lines first lines' : List Line)

@@ -65,7 +65,7 @@ of-alone o m src [] legal free = refl
 of-alone o m src (x ∷ xs) legal free = by_test (x.src == src) free_here (of-alone o (after x.access m) src xs legal.1 free.1)
   where
     free_here : not (x.src == src) ≡ false
-    free_here = let here : nat_lt x.src o.requesters ≡ true = lt-ltb x.src o.requesters legal.0.0 in let P : Bool → Type 0 = λ b. b && not (x.src == src) ≡ false in subst P here free.0
+    free_here = let here : nat_lt x.src o.requesters ≡ true = lt-ltb x.src o.requesters legal.0.requester in let P : Bool → Type 0 = λ b. b && not (x.src == src) ≡ false in subst P here free.0
 
     by_test : (b : Bool) → not b ≡ false → of xs src ≡ xs → cond b (x ∷ of xs src) (of xs src) ≡ x ∷ xs
     by_test true is rest = ap (λ (es : List Entry). x ∷ es) rest
@@ -76,7 +76,7 @@ pub hits_none : (o : Opening) (m : Memory) (xs : List Entry) (g : ℕ) → IsLeg
 unfolding hits_from IsLegalFrom
 hits_none o m [] g legal = refl
 hits_none o m (x ∷ xs) g legal =
-    let here : nat_lt x.src o.requesters ≡ true = lt-ltb x.src o.requesters legal.0.0 in
+    let here : nat_lt x.src o.requesters ≡ true = lt-ltb x.src o.requesters legal.0.requester in
     let later = hits_none o (after x.access m) xs g legal.1 in
     let no_hit = ap (λ (b : Bool). one_if (changes x.access m o.region g && not b)) here ∙ and_false (changes x.access m o.region g) in
     omega arith
@@ -113,7 +113,7 @@ piece_alone o policy limit m q (Some a) None piece accepted is told legal unpaid
     one = let P : List Entry → Type 0 = λ es. IsLegalFrom o m es in subst P (ap entries done.1 ∙ entries_one q a done.0 is) legal
 
     answered : done.0 ≡ answer a m
-    answered = one.0.2
+    answered = one.0.answered
 
 -- these requests were worked, one after another, and no other
 pub record Progress (o : Opening) (qs : List Request) (seen seen' : List Entry) (lines lines' : List Line) : Type 0 where

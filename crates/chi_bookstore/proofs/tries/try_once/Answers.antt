@@ -5,9 +5,9 @@ use Rattle.chi_fields.specs.Operation.{Operation}
 use Rattle.chi_history.specs.declared.opening.Opening.{Opening}
 use Rattle.chi_history.specs.declared.view.View.{View}
 use Rattle.chi_history.specs.Served.{Completes, Retries}
-use Rattle.chi_history.specs.Told.{Answers, Applies}
+use Rattle.chi_history.specs.Told.{Applies}
 use Rattle.chi_history.specs.Views.{has}
-use Rattle.chi_history.proofs.ToldLemmas.{answers, applies}
+use Rattle.chi_history.proofs.ToldLemmas.{Answers, answers, applies}
 use Rattle.chi_history.proofs.TryLemmas.{try_lost, try_won}
 use Rattle.chi_bookstore.proofs.Known.{held_try, known_opening, known_try}
 use Rattle.chi_bookstore.proofs.tries.try_once.Goals as goal
@@ -23,9 +23,10 @@ exchange-now-requires-clause-applies g c =
     let same : image ≡ o.image = search rules in
     let here : at ≡ granule_of a.addr o.region = search rules in
     let mask : slice_index image at ≡ slice_index o.image (granule_of a.addr o.region) = λ i. slice_index (same i) (here i) in
+    let under : granule_of a.addr o.region < o.region.granules = subst (λ (n : ℕ). n < o.region.granules) here (search rules) in
     let small : slice_index o.image (granule_of a.addr o.region) < 2 ^ 64 = omega arith in
     let asked : Applies o a found next =
-    applies o a found (bit_xor found (slice_index image at)) c.apply-word.result.0 next small c.requires.fits c.apply-word.ensures.changed (ap (bit_xor found) mask)
+    applies o a found (bit_xor found (slice_index image at)) c.apply-word.result.0 next under small c.requires.fits c.apply-word.ensures.changed (ap (bit_xor found) mask)
     (ap (bit_xor c.apply-word.result.0) mask) in
     search rules
 
@@ -42,9 +43,10 @@ returns-then-now-found g c =
     let same : image ≡ o.image = search rules in
     let here : at ≡ granule_of a.addr o.region = search rules in
     let mask : slice_index image at ≡ slice_index o.image (granule_of a.addr o.region) = λ i. slice_index (same i) (here i) in
+    let under : granule_of a.addr o.region < o.region.granules = subst (λ (n : ℕ). n < o.region.granules) here (search rules) in
     let small : slice_index o.image (granule_of a.addr o.region) < 2 ^ 64 = omega arith in
     let told : Answers o a found c.apply-word.result.1 =
-    answers o a found (bit_xor found (slice_index image at)) c.apply-word.result.1 small c.requires.fits c.apply-word.ensures.answered (ap (bit_xor found) mask) in
+    answers o a found (bit_xor found (slice_index image at)) c.apply-word.result.1 under small c.requires.fits c.apply-word.ensures.answered (ap (bit_xor found) mask) in
     let won =
     try_won v c.look-found.new.seat.me.0 w at found c.args.ask.now.src a c.exchange-now.result c.apply-word.result.1 c.look-found.ensures.looks
     c.exchange-now.ensures.exchanged c.if-now-found.true

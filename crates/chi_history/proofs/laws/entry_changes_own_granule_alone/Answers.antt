@@ -9,4 +9,4 @@ pub returns : goal.returns
 returns c o h e g region legal other =
     let last = legal-back o (opening_memory o) h (e ∷ []) legal in
     let entry = legal_entry o (end_from (opening_memory o) h) e last in
-    word-snoc_other o h e g region entry.3 entry.1 other
+    word-snoc_other o h e g region entry.lawful entry.inside other

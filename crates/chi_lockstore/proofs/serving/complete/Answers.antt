@@ -21,7 +21,8 @@ try_once-requires-clause-applies g c =
     let v : View = cell_view c.tries.pass in
     let same : v ≡ cell_view c.args.pass.now = c.tries.invariant.same in
     applies_zero v.opening c.args.region.now c.args._requesters (ap (λ (z : View). z.opening) same ∙ c.requires.opening) c.args.access.now
-    (slice_index c.tries.current c.granule-granule.result) c.apply-next.result.0 c.requires.fits c.apply-next.ensures.changed
+    (slice_index c.tries.current c.granule-granule.result) c.apply-next.result.0 (omega (arith, c.granule-granule.ensures.value, c.granule-granule.ensures.within))
+    c.requires.fits c.apply-next.ensures.changed
 
 pub returns-in-Ok-clause-added : goal.returns-in-Ok-clause-added
 returns-in-Ok-clause-added g c =

@@ -2,7 +2,7 @@
 use Rattle.std.proofs.Common.{◌≡◌, ◌∙◌, ℕ, List}
 use Rattle.chi_history.specs.declared.opening.Opening.{Opening}
 use Rattle.chi_history.specs.declared.view.View.{View}
-use Rattle.chi_history.specs.Told.{IsJoined}
+use Rattle.chi_history.proofs.ToldLemmas.{IsJoined}
 use Rattle.chi_history.specs.Views.{has}
 use Rattle.chi_history.proofs.ToldLemmas.{joined}
 use Rattle.chi_bookstore.proofs.Held.{joined_under, numbers_joined}

@@ -24,7 +24,8 @@ loop-granule-preserved g c =
     let image : c.as_slice-image.result.now ≡ o.image = search rules in
     let fits : slice_index c.as_slice-image.result.now at < 2 ^ 64 = omega (arith, c.type_inv.image at) in
     let small : slice_index o.image at < 2 ^ 64 = subst (λ (xs : List ℕ). slice_index xs at < 2 ^ 64) image fits in
-    let is : bit_xor found (slice_index o.image at) ≡ word (end o v.seen) o.region at = read_shown o v at found w c.args.seat.now.numbers own.known own.numbers c.requires.all small reads in
+    let under : at < o.region.granules = search rules in
+    let is : bit_xor found (slice_index o.image at) ≡ word (end o v.seen) o.region at = read_shown o v at found w c.args.seat.now.numbers own.known own.numbers c.requires.all under small reads in
     record {
       table = told.own.0 ∙ c.loop-granule.invariant.table;
       same = ◌∙◌ {A = Me Ask View} (λ i. (told.reads.0 i, told.own.1 i)) same;
