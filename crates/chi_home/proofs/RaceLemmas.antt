@@ -4,10 +4,9 @@ use Rattle.chi_fields.specs.Extent.{Extent}
 use Rattle.chi_lanes.specs.Memory.{word}
 use Rattle.chi_history.specs.declared.entry.Entry.{Entry}
 use Rattle.chi_history.specs.declared.opening.Opening.{Opening}
-use Rattle.chi_history.specs.declared.numbers.TheConstants.{MOST_NUMBERS}
 use Rattle.chi_history.specs.Held.{Held}
 use Rattle.chi_history.specs.History.{end}
-use Rattle.chi_home.specs.Opened.{IsFresh}
+use Rattle.chi_home.specs.Opened.{IsFresh, requester_count}
 use Rattle.chi_home.specs.Race.{race_opening}
 use Rattle.chi_home.specs.Words.{granule_words}
 use Rattle.chi_home.proofs.WordsLemmas.{words_are}
@@ -17,7 +16,7 @@ pub opening_is : (o : Opening) (region : Extent) (held : Held) (seen : List Entr
 opening_is o region held seen fresh =
     ap (λ (z : Extent). record { region = z; requesters = o.requesters; image = o.image }) fresh.region
     ∙ (ap (λ (n : ℕ). record { region = region; requesters = n; image = o.image }) fresh.requesters
-    ∙ ap (λ (image : List ℕ). record { region = region; requesters = MOST_NUMBERS; image = image }) fresh.zeros)
+    ∙ ap (λ (image : List ℕ). record { region = region; requesters = requester_count; image = image }) fresh.zeros)
 
 -- the words of the memory at the end of the history
 pub shown_raced : (o : Opening) (region : Extent) (held : Held) (seen seen' : List Entry) (words : List ℕ) → IsFresh o region held seen

@@ -9,15 +9,18 @@ use Rattle.chi_script.specs.declared.fault.ScriptFault.TheVariants as script_fau
 use Rattle.chi_script.specs.Script.{script}
 use Rattle.chi_home.specs.declared.fault.EngineFault.{EngineFault}
 use Rattle.chi_home.specs.declared.fault.EngineFault.TheVariants.{Read, TooLong, Memory, Script, Open}
-use Rattle.chi_home.specs.declared.input.TheConstants.{MOST_BYTES}
 use Rattle.chi_home.specs.declared.options.Options.{Options}
 use Rattle.chi_home.specs.Opened.{Opens}
 
+-- the greatest number of bytes of a script
+abbrev pub most_bytes : ℕ
+most_bytes = 4194304
+
 -- what reading the input yields: its script, for requesters up to the greatest one, or a fault
 abbrev pub Yields : List ℕ → ℕ → Result (Extent × List Request) EngineFault → Type 0
-Yields input top (Ok s) = (length input ≤ MOST_BYTES) × (script input top ≡ Ok s)
+Yields input top (Ok s) = (length input ≤ most_bytes) × (script input top ≡ Ok s)
 Yields input top (Err Read) = Unit {0}
-Yields input top (Err TooLong) = MOST_BYTES < length input
+Yields input top (Err TooLong) = most_bytes < length input
 Yields input top (Err Memory) = Unit {0}
 Yields input top (Err (Script fault)) = fault ≢ script_fault.Memory → script input top ≡ Err fault
 Yields input top (Err fault) = ⊥
@@ -38,8 +41,8 @@ FromOpening options old new result worked = Opens options × worked
 -- script, and what was made of it holds.
 abbrev pub FromInput : List ℕ → ℕ → Option (List ℕ) → Option (List ℕ) → Result (Unit {0}) EngineFault → (Extent × List Request → Type 0) → Type 0
 FromInput input top old new (Err Read) made = Keeps old new
-FromInput input top old new (Err TooLong) made = (MOST_BYTES < length input) × Keeps old new
+FromInput input top old new (Err TooLong) made = (most_bytes < length input) × Keeps old new
 FromInput input top old new (Err Memory) made = Keeps old new
 FromInput input top old new (Err (Script fault)) made = (fault ≢ script_fault.Memory → script input top ≡ Err fault) × Keeps old new
 FromInput input top old new result made =
-    (length input ≤ MOST_BYTES) × ((s : Extent × List Request) × (script input top ≡ Ok s) × made s)
+    (length input ≤ most_bytes) × ((s : Extent × List Request) × (script input top ≡ Ok s) × made s)

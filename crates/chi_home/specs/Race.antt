@@ -5,7 +5,6 @@ use Rattle.chi_fields.specs.declared.request.Request.{Request}
 use Rattle.chi_fields.specs.Extent.{Extent}
 use Rattle.chi_history.specs.declared.entry.Entry.{Entry}
 use Rattle.chi_history.specs.declared.line.Line.{Line}
-use Rattle.chi_history.specs.declared.numbers.TheConstants.{MOST_NUMBERS}
 use Rattle.chi_history.specs.declared.opening.Opening.{Opening}
 use Rattle.chi_history.specs.History.{end}
 use Rattle.chi_requester.specs.declared.fault.WorkFault.{WorkFault}
@@ -18,7 +17,7 @@ use Rattle.chi_home.specs.declared.fault.EngineFault.{EngineFault}
 use Rattle.chi_home.specs.declared.fault.EngineFault.TheVariants.{Work, Write}
 use Rattle.chi_home.specs.declared.options.Options.{Options}
 use Rattle.chi_home.specs.Engine.{FromInput, FromOpening}
-use Rattle.chi_home.specs.Opened.{limit_of}
+use Rattle.chi_home.specs.Opened.{limit_of, requester_count}
 use Rattle.chi_home.specs.Run.{memory_text}
 
 -- the greatest requester number in a race
@@ -27,7 +26,7 @@ most_racer = 2
 
 -- the opening of a home of this region
 abbrev pub race_opening : Extent → Opening
-race_opening region = record { region = region; requesters = MOST_NUMBERS; image = replicate region.granules 0 }
+race_opening region = record { region = region; requesters = requester_count; image = replicate region.granules 0 }
 
 -- one legal history stands behind the lines of 1, of 2 and of 0, and every request of the script was worked
 abbrev pub IsRaced : Policy → ℕ → Extent × List Request → List Entry → List Line → List Line → List Line → Type 0

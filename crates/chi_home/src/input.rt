@@ -3,8 +3,7 @@
 ghost use Rattle.std.specs.Prelude.{◌≡◌, ◌+◌, ◌<◌, ◌≤◌, length, vec_len, IfOk, IfSome, IsErrOf};
 ghost use Rattle.chi_history.specs.Held.{below};
 ghost use Rattle.chi_requester.specs.Work.{AllFrom};
-ghost use Rattle.chi_home.specs.Engine.{Yields};
-ghost use Rattle.chi_home.specs.declared.input.TheConstants.{MOST_BYTES};
+ghost use Rattle.chi_home.specs.Engine.{Yields, most_bytes};
 
 use crate::fault::EngineFault;
 use chi_script::{Script, read_script};
@@ -24,9 +23,9 @@ enum InputFault {
 
 // Reads to the end of the input. Any fault of the reader ends it, also that a call was interrupted.
 fn read_input<R: Read>(alloc: Global, from: &mut R) -> Result<Vec<u8>, InputFault>
-    ensures within { IfOk result (λ input. vec_len input ≤ MOST_BYTES) }
+    ensures within { IfOk result (λ input. vec_len input ≤ most_bytes) }
     ensures bytes { IfOk result (λ input. IfSome (R.remaining from.old) (λ bytes. input.items ≡ bytes)) }
-    ensures too_long { IsErrOf result InputFault.TooLong → IfSome (R.remaining from.old) (λ bytes. MOST_BYTES < length bytes) }
+    ensures too_long { IsErrOf result InputFault.TooLong → IfSome (R.remaining from.old) (λ bytes. most_bytes < length bytes) }
 {
     let mut input = Vec::new(alloc);
     let mut chunk = [0u8; 4096];

@@ -1,12 +1,11 @@
 //! A script worked one request after another over the store of the options, and written.
 
-ghost use Rattle.std.specs.Prelude.{◌≡◌, [], length, replicate, IfErr, IfOk, OnOk};
-ghost use Rattle.chi_history.specs.declared.numbers.TheConstants.{MOST_NUMBERS};
+ghost use Rattle.std.specs.Prelude.{◌≡◌, ◌+◌, [], length, replicate, IfErr, IfOk, OnOk};
 ghost use Rattle.chi_history.specs.Held.{below};
 ghost use Rattle.chi_history.specs.Lines.{serial, serial_end};
 ghost use Rattle.chi_requester.specs.Work.{AllFrom};
 ghost use Rattle.chi_home.specs.Opened.{IsFresh};
-ghost use Rattle.chi_home.specs.Run.{IsCut, Works, WorksBy};
+ghost use Rattle.chi_home.specs.Run.{IsCut, Works, WorksBy, most_src};
 ghost use Rattle.chi_home.specs.Words.{granule_words, opening};
 
 use crate::fault::EngineFault;
@@ -39,7 +38,7 @@ fn work_all<H: Home, R: Wait>(
 ) -> Result<(), WorkFault>
     requires own { H.belongs home.now seat.old }
     requires fresh { IsFresh (H.opening home.now) script.now.0 (H.held seat.old) (H.seen seat.old) }
-    requires from { AllFrom (below MOST_NUMBERS) script.now.1 }
+    requires from { AllFrom (below (most_src + 1)) script.now.1 }
     requires empty { lines.old.items ≡ [] }
     requires room { length words.old ≡ script.now.0.granules }
     ensures told { OnOk result (lines.new.items ≡ serial script.now.0 script.now.1 opening) }
@@ -64,7 +63,7 @@ fn run_over<H: Home, T: AllocGlobal + Wait, W: Write>(
 ) -> Result<(), EngineFault>
     requires own { H.belongs home.now seat.old }
     requires fresh { IsFresh (H.opening home.now) script.now.0 (H.held seat.old) (H.seen seat.old) }
-    requires from { AllFrom (below MOST_NUMBERS) script.now.1 }
+    requires from { AllFrom (below (most_src + 1)) script.now.1 }
     requires room { length words.old ≡ script.now.0.granules }
     ensures { Works script.now (W.contents to.old) (W.contents to.new) result }
 {
@@ -87,7 +86,7 @@ pub(crate) fn run_script<T: AllocGlobal + Wait, W: Write>(
     to: &mut W,
     options: &Options,
 ) -> Result<(), EngineFault>
-    requires from { AllFrom (below MOST_NUMBERS) script.now.1 }
+    requires from { AllFrom (below (most_src + 1)) script.now.1 }
     ensures { WorksBy options.now script.now (W.contents to.old) (W.contents to.new) result }
 {
     let alloc = rt.alloc();
