@@ -8,7 +8,7 @@ use Rattle.chi_history.specs.declared.opening.OpenFault.TheVariants as open_faul
 use Rattle.chi_script.specs.declared.fault.ScriptFault.TheVariants as script_fault
 use Rattle.chi_script.specs.Script.{script}
 use Rattle.chi_home.specs.declared.fault.EngineFault.{EngineFault}
-use Rattle.chi_home.specs.declared.fault.EngineFault.TheVariants.{Read, TooLong, Memory, Script, Open}
+use Rattle.chi_home.specs.declared.fault.EngineFault.TheVariants.{Read, TooLong, Memory, Script, Open, Work, Write}
 use Rattle.chi_home.specs.declared.options.Options.{Options}
 use Rattle.chi_home.specs.Opened.{Opens}
 
@@ -31,18 +31,43 @@ Refuses options open_fault.RequesterCount = ⊥
 Refuses options open_fault.AttemptCount = Opens options → ⊥
 Refuses options open_fault.Memory = Opens options
 
--- The store was refused, and nothing was written; or it was opened, and what it worked holds.
-abbrev pub FromOpening : Options → Option (List ℕ) → Option (List ℕ) → Result (Unit {0}) EngineFault → Type 0 → Type 0
-FromOpening options old new (Err (Open fault)) worked = Refuses options fault × Keeps old new
-FromOpening options old new (Err Memory) worked = Keeps old new
-FromOpening options old new result worked = Opens options × worked
+-- what an outcome tells of the store: it was opened where a script was worked
+abbrev pub TellsOpening : Options → Result (Unit {0}) EngineFault → Type 0
+TellsOpening options (Ok done) = Opens options
+TellsOpening options (Err (Open fault)) = Refuses options fault
+TellsOpening options (Err (Work fault)) = Opens options
+TellsOpening options (Err (Write fault)) = Opens options
+TellsOpening options (Err fault) = Unit {0}
 
--- There is no script, for what is wrong with the input or its reader, and nothing was written; or the input is a
--- script, and what was made of it holds.
-abbrev pub FromInput : List ℕ → ℕ → Option (List ℕ) → Option (List ℕ) → Result (Unit {0}) EngineFault → (Extent × List Request → Type 0) → Type 0
-FromInput input top old new (Err Read) made = Keeps old new
-FromInput input top old new (Err TooLong) made = (most_bytes < length input) × Keeps old new
-FromInput input top old new (Err Memory) made = Keeps old new
-FromInput input top old new (Err (Script fault)) made = (fault ≢ script_fault.Memory → script input top ≡ Err fault) × Keeps old new
-FromInput input top old new result made =
+-- Nothing is written where no script was worked: the input could not be read, is too long or is refused as a script,
+-- the store was refused, or there was no memory for one of these.
+abbrev pub KeepsUnworked : Option (List ℕ) → Option (List ℕ) → Result (Unit {0}) EngineFault → Type 0
+KeepsUnworked old new (Ok done) = Unit {0}
+KeepsUnworked old new (Err (Work fault)) = Unit {0}
+KeepsUnworked old new (Err (Write fault)) = Unit {0}
+KeepsUnworked old new (Err fault) = Keeps old new
+
+-- what is wrong with an input, its reader or its script
+abbrev pub IsInputFault : EngineFault → Type 0
+IsInputFault Read = Unit {0}
+IsInputFault TooLong = Unit {0}
+IsInputFault Memory = Unit {0}
+IsInputFault (Script fault) = Unit {0}
+IsInputFault fault = ⊥
+
+-- The store was refused, or there was no memory for the words of its region; or it was opened, and what it worked
+-- holds.
+abbrev pub FromOpening : Result (Unit {0}) EngineFault → Type 0 → Type 0
+FromOpening (Err (Open fault)) worked = Unit {0}
+FromOpening (Err Memory) worked = Unit {0}
+FromOpening result worked = worked
+
+-- There is no script, for what is wrong with the input or its reader; or the input is a script, and what was made of
+-- it holds.
+abbrev pub FromInput : List ℕ → ℕ → Result (Unit {0}) EngineFault → (Extent × List Request → Type 0) → Type 0
+FromInput input top (Err Read) made = Unit {0}
+FromInput input top (Err TooLong) made = most_bytes < length input
+FromInput input top (Err Memory) made = Unit {0}
+FromInput input top (Err (Script fault)) made = fault ≢ script_fault.Memory → script input top ≡ Err fault
+FromInput input top result made =
     (length input ≤ most_bytes) × ((s : Extent × List Request) × (script input top ≡ Ok s) × made s)

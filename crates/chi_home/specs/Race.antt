@@ -61,9 +61,9 @@ Races policy limit s old new (Err fault) = ⊥
 
 -- the same over the store of the options
 abbrev pub RacesBy : Options → Extent × List Request → Option (List ℕ) → Option (List ℕ) → Result (Unit {0}) EngineFault → Type 0
-RacesBy options s old new result = FromOpening options old new result (Races options.policy (limit_of options) s old new result)
+RacesBy options s old new result = FromOpening result (Races options.policy (limit_of options) s old new result)
 
 -- after Ok the transcript of a race of the input's script was written; what each fault means, and what was
 -- written then
 abbrev pub RaceOutcome : Options → List ℕ → Option (List ℕ) → Option (List ℕ) → Result (Unit {0}) EngineFault → Type 0
-RaceOutcome options input old new result = FromInput input most_racer old new result (λ s. RacesBy options s old new result)
+RaceOutcome options input old new result = FromInput input most_racer result (λ s. RacesBy options s old new result)

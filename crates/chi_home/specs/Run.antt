@@ -10,7 +10,6 @@ use Rattle.chi_script.specs.Transcript.{memtext, text}
 use Rattle.chi_script.specs.Written.{AppendsFront}
 use Rattle.chi_home.specs.declared.fault.EngineFault.{EngineFault}
 use Rattle.chi_home.specs.declared.fault.EngineFault.TheVariants.{Work, Write}
-use Rattle.chi_home.specs.declared.options.Options.{Options}
 use Rattle.chi_home.specs.Engine.{FromInput, FromOpening}
 use Rattle.chi_home.specs.Words.{granule_words, opening}
 
@@ -42,10 +41,10 @@ Works s old new (Err (Work fault)) = (lines : List Line) × IsCut s lines × App
 Works s old new (Err (Write fault)) = AppendsFront old new (transcript s)
 Works s old new (Err fault) = ⊥
 
--- the same over the store of the options
-abbrev pub WorksBy : Options → Extent × List Request → Option (List ℕ) → Option (List ℕ) → Result (Unit {0}) EngineFault → Type 0
-WorksBy options s old new result = FromOpening options old new result (Works s old new result)
+-- the same over a store that may be refused
+abbrev pub WorksBy : Extent × List Request → Option (List ℕ) → Option (List ℕ) → Result (Unit {0}) EngineFault → Type 0
+WorksBy s old new result = FromOpening result (Works s old new result)
 
 -- after Ok the transcript of the input's script was written; what each fault means, and what was written then
-abbrev pub Outcome : Options → List ℕ → Option (List ℕ) → Option (List ℕ) → Result (Unit {0}) EngineFault → Type 0
-Outcome options input old new result = FromInput input most_src old new result (λ s. WorksBy options s old new result)
+abbrev pub Outcome : List ℕ → Option (List ℕ) → Option (List ℕ) → Result (Unit {0}) EngineFault → Type 0
+Outcome input old new result = FromInput input most_src result (λ s. WorksBy s old new result)

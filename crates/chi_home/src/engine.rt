@@ -1,6 +1,7 @@
 //! From a script's bytes to a transcript's bytes.
 
 ghost use Rattle.std.specs.Prelude.{IfSome};
+ghost use Rattle.chi_home.specs.Engine.{KeepsUnworked, TellsOpening};
 ghost use Rattle.chi_home.specs.Race.{RaceOutcome};
 ghost use Rattle.chi_home.specs.Run.{Outcome};
 
@@ -29,7 +30,9 @@ pub fn engine_run<T: AllocGlobal + Wait, R: Read, W: Write>(
     to: &mut W,
     options: &Options,
 ) -> Result<(), EngineFault>
-    ensures { IfSome (R.remaining from.old) (λ input. Outcome options.now input (W.contents to.old) (W.contents to.new) result) }
+    ensures outcome { IfSome (R.remaining from.old) (λ input. Outcome input (W.contents to.old) (W.contents to.new) result) }
+    ensures opening { TellsOpening options.now result }
+    ensures unworked { KeepsUnworked (W.contents to.old) (W.contents to.new) result }
 {
     let script = read_whole(rt.alloc(), from, 7)?;
     run_script(rt, &script, to, options)
@@ -57,7 +60,9 @@ pub fn engine_race<
     gate1: G1,
     gate2: G2,
 ) -> Result<(), EngineFault>
-    ensures { IfSome (R.remaining from.old) (λ input. RaceOutcome options.now input (W.contents to.old) (W.contents to.new) result) }
+    ensures outcome { IfSome (R.remaining from.old) (λ input. RaceOutcome options.now input (W.contents to.old) (W.contents to.new) result) }
+    ensures opening { TellsOpening options.now result }
+    ensures unworked { KeepsUnworked (W.contents to.old) (W.contents to.new) result }
 {
     let script = read_whole(rt.alloc(), from, 2)?;
     race_script(rt, &script, to, options, gate1, gate2)

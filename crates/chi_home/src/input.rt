@@ -1,9 +1,9 @@
 //! Reads the whole input, up to a limit, and the script that it is.
 
-ghost use Rattle.std.specs.Prelude.{◌≡◌, ◌+◌, ◌<◌, ◌≤◌, length, vec_len, IfOk, IfSome, IsErrOf};
+ghost use Rattle.std.specs.Prelude.{◌≡◌, ◌+◌, ◌<◌, ◌≤◌, length, vec_len, IfErr, IfOk, IfSome, IsErrOf};
 ghost use Rattle.chi_history.specs.Held.{below};
 ghost use Rattle.chi_requester.specs.Work.{AllFrom};
-ghost use Rattle.chi_home.specs.Engine.{Yields, most_bytes};
+ghost use Rattle.chi_home.specs.Engine.{IsInputFault, Yields, most_bytes};
 
 use crate::fault::EngineFault;
 use chi_script::{Script, read_script};
@@ -51,6 +51,7 @@ pub(crate) fn read_whole<R: Read>(
     top: u8,
 ) -> Result<Script, EngineFault>
     ensures read { IfSome (R.remaining from.old) (λ input. Yields input top result) }
+    ensures faults { IfErr result IsInputFault }
     ensures from { IfOk result (λ script. AllFrom (below (top + 1)) script.1) }
 {
     let input = match read_input(alloc, from) {

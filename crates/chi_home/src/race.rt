@@ -6,6 +6,7 @@ ghost use Rattle.chi_history.specs.History.{end};
 ghost use Rattle.chi_requester.specs.Work.{AllFrom};
 ghost use Rattle.chi_script.specs.Transcript.{memtext, text};
 ghost use Rattle.chi_script.specs.Written.{Puts};
+ghost use Rattle.chi_home.specs.Engine.{KeepsUnworked, TellsOpening};
 ghost use Rattle.chi_home.specs.Opened.{IsFresh};
 ghost use Rattle.chi_home.specs.Race.{IsRaceCut, IsRaced, Races, RacesBy, most_racer, race_lines, race_opening};
 ghost use Rattle.chi_home.specs.Words.{granule_words};
@@ -164,7 +165,9 @@ pub(crate) fn race_script<
     gate2: G2,
 ) -> Result<(), EngineFault>
     requires from { AllFrom (below (most_racer + 1)) script.now.1 }
-    ensures { RacesBy options.now script.now (W.contents to.old) (W.contents to.new) result }
+    ensures worked { RacesBy options.now script.now (W.contents to.old) (W.contents to.new) result }
+    ensures opening { TellsOpening options.now result }
+    ensures unworked { KeepsUnworked (W.contents to.old) (W.contents to.new) result }
 {
     let alloc = rt.alloc();
     let region = script.region();

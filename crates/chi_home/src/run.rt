@@ -4,6 +4,7 @@ ghost use Rattle.std.specs.Prelude.{◌≡◌, ◌+◌, [], length, replicate, I
 ghost use Rattle.chi_history.specs.Held.{below};
 ghost use Rattle.chi_history.specs.Lines.{serial, serial_end};
 ghost use Rattle.chi_requester.specs.Work.{AllFrom};
+ghost use Rattle.chi_home.specs.Engine.{KeepsUnworked, TellsOpening};
 ghost use Rattle.chi_home.specs.Opened.{IsFresh};
 ghost use Rattle.chi_home.specs.Run.{IsCut, Works, WorksBy, most_src};
 ghost use Rattle.chi_home.specs.Words.{granule_words, opening};
@@ -87,7 +88,9 @@ pub(crate) fn run_script<T: AllocGlobal + Wait, W: Write>(
     options: &Options,
 ) -> Result<(), EngineFault>
     requires from { AllFrom (below (most_src + 1)) script.now.1 }
-    ensures { WorksBy options.now script.now (W.contents to.old) (W.contents to.new) result }
+    ensures worked { WorksBy script.now (W.contents to.old) (W.contents to.new) result }
+    ensures opening { TellsOpening options.now result }
+    ensures unworked { KeepsUnworked (W.contents to.old) (W.contents to.new) result }
 {
     let alloc = rt.alloc();
     let region = script.region();

@@ -2,6 +2,7 @@
 
 ghost use Rattle.std.specs.Prelude.{◌≡◌, IfSome};
 ghost use Rattle.clap.specs.Values.{kind_of};
+ghost use Rattle.chi_home.specs.Engine.{KeepsUnworked, TellsOpening};
 ghost use Rattle.chi_home.specs.Status.{IsStatus, IsStatusOfWords, status_of};
 ghost use Rattle.chi_home.specs.Task.{Ends, TaskOutcome};
 
@@ -28,7 +29,9 @@ fn run_task<T: AllocGlobal + Threads + Wait + Sync, R: Read, W: Write>(
     from: &mut R,
     to: &mut W,
 ) -> Result<(), EngineFault>
-    ensures { IfSome (R.remaining from.old) (λ input. TaskOutcome task options.now input (W.contents to.old) (W.contents to.new) result) }
+    ensures outcome { IfSome (R.remaining from.old) (λ input. TaskOutcome task options.now input (W.contents to.old) (W.contents to.new) result) }
+    ensures opening { TellsOpening options.now result }
+    ensures unworked { KeepsUnworked (W.contents to.old) (W.contents to.new) result }
 {
     match task {
         Task::Run => engine_run(rt, from, to, options)?,
@@ -57,7 +60,7 @@ fn end_task<T: AllocGlobal + Threads + Wait + Sync, R: Read, W: Write, E: Write>
     to: &mut W,
     errors: &mut E,
 ) -> u8
-    ensures ends { IfSome (R.remaining from.old) (λ input. Ends task options.now input (W.contents to.old) (W.contents to.new) result) }
+    ensures ends { Ends task options.now (R.remaining from.old) (W.contents to.old) (W.contents to.new) result }
     ensures status { IsStatus result }
 {
     match run_task(rt, task, options, from, to) {
