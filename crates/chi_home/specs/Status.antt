@@ -1,5 +1,6 @@
 -- the statuses that the program ends with
-use Rattle.std.specs.Prelude.{◌≡◌, ℕ, ◌≤◌, ◌⊎◌}
+use Rattle.std.specs.Prelude.{◌≡◌, ℕ, ◌≤◌, ◌⊎◌, List, Option}
+use Rattle.std.specs.Io.KnownBytes.{Keeps}
 use Rattle.clap.specs.declared.error.kind.ErrorKind.{ErrorKind}
 use Rattle.clap.specs.declared.error.kind.ErrorKind.TheVariants as error_kind
 use Rattle.chi_history.specs.declared.opening.OpenFault.{OpenFault}
@@ -40,3 +41,9 @@ IsStatusOfWords error_kind.OutOfMemory n = n ≡ 4
 IsStatusOfWords error_kind.DisplayHelp n = (n ≡ 0) ⊎ (n ≡ 5)
 IsStatusOfWords error_kind.DisplayVersion n = (n ≡ 0) ⊎ (n ≡ 5)
 IsStatusOfWords _ n = n ≡ 2
+
+-- where the transcript goes nothing but help is written
+abbrev pub KeepsButForHelp : ErrorKind → Option (List ℕ) → Option (List ℕ) → Type 0
+KeepsButForHelp error_kind.DisplayHelp old new = Unit {0}
+KeepsButForHelp error_kind.DisplayVersion old new = Unit {0}
+KeepsButForHelp _ old new = Keeps old new

@@ -3,8 +3,8 @@
 ghost use Rattle.std.specs.Prelude.{◌≡◌, IfSome};
 ghost use Rattle.clap.specs.Values.{kind_of};
 ghost use Rattle.chi_home.specs.Engine.{KeepsUnworked, TellsOpening};
-ghost use Rattle.chi_home.specs.Status.{IsStatus, IsStatusOfWords, status_of};
-ghost use Rattle.chi_home.specs.Task.{Ends, TaskOutcome};
+ghost use Rattle.chi_home.specs.Status.{IsStatus, IsStatusOfWords, KeepsButForHelp, status_of};
+ghost use Rattle.chi_home.specs.Task.{Ends, ProgramOutcome, TaskOutcome};
 
 use crate::command::{Task, options_of};
 use crate::engine::{engine_race, engine_run};
@@ -71,7 +71,8 @@ fn end_task<T: AllocGlobal + Threads + Wait + Sync, R: Read, W: Write, E: Write>
 
 // Tells what `clap` answers to the words: help to `to`, and a refusal to `errors`.
 fn tell_words<W: Write, E: Write>(error: &Error, to: &mut W, errors: &mut E) -> u8
-    ensures { IsStatusOfWords (kind_of error.now) result }
+    ensures status { IsStatusOfWords (kind_of error.now) result }
+    ensures kept { KeepsButForHelp (kind_of error.now) (W.contents to.old) (W.contents to.new) }
 {
     if error.kind() == ErrorKind::OutOfMemory {
         return tell_fault(&EngineFault::Memory, errors);
@@ -100,7 +101,8 @@ pub fn run_words<T: AllocGlobal + Threads + Wait + Sync, R: Read, W: Write, E: W
     to: &mut W,
     errors: &mut E,
 ) -> u8
-    ensures { IsStatus result }
+    ensures outcome { ProgramOutcome (R.remaining from.old) (W.contents to.old) (W.contents to.new) result }
+    ensures status { IsStatus result }
 {
     match options_of(rt.alloc(), words) {
         Ok((task, options)) => end_task(rt, task, &options, from, to, errors),
