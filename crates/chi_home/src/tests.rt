@@ -15,6 +15,7 @@ mod command_tests;
 mod device_tests;
 mod fault_tests;
 mod gate_tests;
+mod home_tests;
 mod interference_tests;
 mod race_tests;
 mod run_tests;

@@ -1,6 +1,7 @@
 //! The program on the words of its command line.
 
 use super::device_tests::FailingWriter;
+use super::race_tests::{THREE_REQUESTERS, THREE_TOLD};
 use super::{FETCH_ADD, FETCH_ADD_LINE, SEVEN_ZEROS, joined, script};
 use crate::command::{Task, options_of};
 use crate::options::{Options, StoreKind};
@@ -121,6 +122,19 @@ fn first_fetch_add_by_words(rt: HostRuntime) -> Result<(), Fail> {
         ["race", "--store", "lock"].as_slice(),
     ];
     for words in all {
+        let told = run_on(&rt, words, text.as_str())?;
+        assert_eq!(rt; told.status, 0);
+        assert_eq!(rt; told.out.as_slice(), want.as_bytes());
+        assert_eq!(rt; told.errors.len(), 0);
+    }
+    Ok(())
+}
+
+#[test]
+fn race_of_three_requesters_by_words(rt: HostRuntime) -> Result<(), Fail> {
+    let text = script(&rt, &THREE_REQUESTERS)?;
+    let want = joined(&rt, &THREE_TOLD)?;
+    for words in [["race"].as_slice(), ["race", "--store", "lock"].as_slice()] {
         let told = run_on(&rt, words, text.as_str())?;
         assert_eq!(rt; told.status, 0);
         assert_eq!(rt; told.out.as_slice(), want.as_bytes());

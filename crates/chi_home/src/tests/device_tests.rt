@@ -71,13 +71,18 @@ fn assert_cut<T: AllocGlobal + Abort + Wait>(rt: &T, options: &Options) -> Resul
 }
 
 // A run and a race from a reader that fails after so many bytes: both say so, and nothing is written.
-fn assert_unread<T: AllocGlobal + Abort + Threads + Wait + Sync>(rt: &T, text: &str, left: usize) {
+fn assert_unread<T: AllocGlobal + Abort + Threads + Wait + Sync>(
+    rt: &T,
+    options: &Options,
+    text: &str,
+    left: usize,
+) {
     let mut to: Vec<u8> = Vec::new(rt.alloc());
     let mut from = FailingReader {
         text: text.as_bytes(),
         left,
     };
-    match engine_run(rt, &mut from, &mut to, &BOOK) {
+    match engine_run(rt, &mut from, &mut to, options) {
         Err(EngineFault::Read) => {}
         _ => panic!(rt; "run, after {left} bytes"),
     }
@@ -85,7 +90,7 @@ fn assert_unread<T: AllocGlobal + Abort + Threads + Wait + Sync>(rt: &T, text: &
         text: text.as_bytes(),
         left,
     };
-    match engine_race(rt, &mut from, &mut to, &BOOK, NoGate, NoGate) {
+    match engine_race(rt, &mut from, &mut to, options, NoGate, NoGate) {
         Err(EngineFault::Read) => {}
         _ => panic!(rt; "raced, after {left} bytes"),
     }
@@ -97,8 +102,10 @@ fn failing_devices(rt: HostRuntime) -> Result<(), Fail> {
     assert_cut(&rt, &LOCK)?;
     assert_cut(&rt, &BOOK)?;
     let text = script(&rt, &[FETCH_ADD])?;
-    for left in 0..text.len() {
-        assert_unread(&rt, text.as_str(), left);
+    // With the whole text given, it is the call that would find the end that fails.
+    for left in 0..=text.len() {
+        assert_unread(&rt, &LOCK, text.as_str(), left);
+        assert_unread(&rt, &BOOK, text.as_str(), left);
     }
     Ok(())
 }

@@ -16,7 +16,8 @@ use std::process::Abort;
 use std::sync::Wait;
 use std::sync::atomic::{AtomicU64, Ordering};
 use std::test::Fail;
-use std::thread::{Threads, yield_now};
+use std::thread::{Threads, sleep};
+use std::time::{Clock, Duration};
 
 // A second add by requester 2.
 const SECOND_ADD_OF_TWO: &str =
@@ -40,8 +41,9 @@ impl Pauses {
     }
 
     // The gate of requester 1: its first pause waits for so many of the other's.
-    fn gate_one(&self, first: u64) -> WaitingGate<'_> {
+    fn gate_one<'a, C: Clock>(&'a self, clock: &'a C, first: u64) -> WaitingGate<'a, C> {
         WaitingGate {
+            clock,
             own: &self.one,
             other: &self.two,
             met: &self.met,
@@ -50,8 +52,9 @@ impl Pauses {
     }
 
     // The gate of requester 2.
-    fn gate_two(&self, first: u64) -> WaitingGate<'_> {
+    fn gate_two<'a, C: Clock>(&'a self, clock: &'a C, first: u64) -> WaitingGate<'a, C> {
         WaitingGate {
+            clock,
             own: &self.two,
             other: &self.one,
             met: &self.met,
@@ -60,34 +63,35 @@ impl Pauses {
     }
 }
 
-// A gate that at its first pause turns until the other was paused so often, a million turns at most. Its later
-// pauses end at once.
+// A gate that at its first pause sleeps a millisecond a turn until the other was paused so often, for ten thousand
+// turns at most. Its later pauses end at once.
 #[derive(Drop)]
-struct WaitingGate<'a> {
+struct WaitingGate<'a, C> {
+    clock: &'a C,
     own: &'a AtomicU64,
     other: &'a AtomicU64,
     met: &'a AtomicU64,
     first: u64,
 }
 
-impl Gate for WaitingGate<'_> {
+impl<C: Clock> Gate for WaitingGate<'_, C> {
     fn pause(&mut self, _try_no: u8) {
         let before = self.own.fetch_add(1, Ordering::SeqCst);
         if before > 0 {
             return;
         }
-        for _ in 0..1_000_000 {
+        for _ in 0..10_000 {
             if self.other.load(Ordering::SeqCst) >= self.first {
                 self.met.fetch_add(1, Ordering::SeqCst);
                 return;
             }
-            yield_now();
+            sleep(self.clock, Duration::from_millis(1));
         }
     }
 }
 
 // Races a script of one request each, with gates that wait for each other.
-fn assert_engine_meets<T: AllocGlobal + Abort + Threads + Wait + Sync>(
+fn assert_engine_meets<T: AllocGlobal + Abort + Clock + Threads + Wait + Sync>(
     rt: &T,
     options: &Options,
 ) -> Result<(), Fail> {
@@ -99,8 +103,8 @@ fn assert_engine_meets<T: AllocGlobal + Abort + Threads + Wait + Sync>(
         &mut text.as_bytes(),
         &mut to,
         options,
-        pauses.gate_one(1),
-        pauses.gate_two(1),
+        pauses.gate_one(rt, 1),
+        pauses.gate_two(rt, 1),
     )?;
     assert_eq!(rt; pauses.met.load(Ordering::SeqCst), 2, "gate never met");
     Ok(())
@@ -125,7 +129,7 @@ fn add(src: u8) -> Request
 }
 
 // The same over a home.
-fn assert_race_meets<H: Home + Sync, T: AllocGlobal + Abort + Threads + Wait + Sync>(
+fn assert_race_meets<H: Home + Sync, T: AllocGlobal + Abort + Clock + Threads + Wait + Sync>(
     rt: &T,
     home: &H,
     seat: &mut H::Seat,
@@ -136,7 +140,7 @@ fn assert_race_meets<H: Home + Sync, T: AllocGlobal + Abort + Threads + Wait + S
 {
     let pauses = Pauses::none();
     let mut race = no_lines(rt.alloc());
-    let (gate1, gate2) = (pauses.gate_one(1), pauses.gate_two(1));
+    let (gate1, gate2) = (pauses.gate_one(rt, 1), pauses.gate_two(rt, 1));
     let requests = [add(1), add(2)];
     race_two(
         home,
@@ -168,7 +172,7 @@ fn gates_meet_by_race_two(rt: HostRuntime) -> Result<(), Fail> {
 }
 
 // One add of 1 and two of 2, where the first waits at its gate until both of the others are over.
-fn assert_late<T: AllocGlobal + Abort + Threads + Wait + Sync>(
+fn assert_late<T: AllocGlobal + Abort + Clock + Threads + Wait + Sync>(
     rt: &T,
     store: StoreKind,
     want: &[&str],
@@ -186,9 +190,10 @@ fn assert_late<T: AllocGlobal + Abort + Threads + Wait + Sync>(
         &mut text.as_bytes(),
         &mut to,
         &options,
-        pauses.gate_one(2),
-        pauses.gate_two(1),
+        pauses.gate_one(rt, 2),
+        pauses.gate_two(rt, 1),
     )?;
+    assert_eq!(rt; pauses.met.load(Ordering::SeqCst), 2, "gate never met");
     assert_eq!(rt; to.as_slice(), joined(rt, want)?.as_bytes());
     Ok(())
 }

@@ -61,12 +61,30 @@ fn write_of_no_bytes_then_two(rt: HostRuntime) -> Result<(), Fail> {
 }
 
 #[test]
+fn byte_enables_refused(rt: HostRuntime) -> Result<(), Fail> {
+    let text = script(
+        &rt,
+        &[
+            "{\"src\":0,\"txn\":1,\"op\":28,\"size\":1,\"addr\":4096,\"endian\":0,\"be\":4,\"lanes\":\"11223344556677889900aabbccddeeff\"}",
+            "{\"src\":0,\"txn\":2,\"op\":40,\"size\":1,\"addr\":4096,\"endian\":0,\"be\":1,\"lanes\":\"11223344556677889900aabbccddeeff\"}",
+        ],
+    )?;
+    let want = [
+        "0 1 1c WriteNoSnpPtl 1 0000000000001000 refused BadByteEnable\n",
+        "0 2 28 AtomicStore.ADD 1 0000000000001000 refused BadByteEnable\n",
+        "m 0000000000001000 0000000000000000\n",
+        SEVEN_ZEROS,
+    ];
+    assert_run_over_both(&rt, text.as_str(), &want)
+}
+
+#[test]
 fn misaligned_then_outside(rt: HostRuntime) -> Result<(), Fail> {
     let text = script(
         &rt,
         &[
-            "{\"src\":0,\"txn\":5,\"op\":56,\"size\":3,\"addr\":4092,\"endian\":0,\"be\":255,\"lanes\":\"00000000000000000000000000000000\"}",
-            "{\"src\":0,\"txn\":6,\"op\":56,\"size\":3,\"addr\":4088,\"endian\":0,\"be\":65280,\"lanes\":\"00000000000000000000000000000000\"}",
+            "{\"src\":0,\"txn\":5,\"op\":56,\"size\":3,\"addr\":4092,\"endian\":0,\"be\":255,\"lanes\":\"11223344556677889900aabbccddeeff\"}",
+            "{\"src\":0,\"txn\":6,\"op\":56,\"size\":3,\"addr\":4088,\"endian\":0,\"be\":65280,\"lanes\":\"11223344556677889900aabbccddeeff\"}",
         ],
     )?;
     let want = [
