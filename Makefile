@@ -7,7 +7,7 @@ SCRIPT ?= examples/fetch_add.json
 
 help:
 	@echo "make run [SCRIPT=FILE]     prove and build chihome, and show a script and the transcript of chihome run"
-	@echo "make test                  the gate: every proof from nothing, the edits that must fail, tests and runs"
+	@echo "make test                  the gate: every proof from nothing, the edits that must fail, tests, runs and what the documents show"
 	@echo "make install PREFIX=DIR    put the program at DIR/bin/chihome"
 	@echo "make bench                 the speed of chihome and of the lock-free store, beside plain Rust"
 
@@ -19,9 +19,12 @@ run: build
 	@cat $(SCRIPT); echo; echo
 	@$(PROGRAM) run < $(SCRIPT)
 
+# The gate builds the program that .ci/program tries; its own last line stays the last.
+test: SHELL := /bin/bash
+test: .SHELLFLAGS := -o pipefail -ec
 test:
 	.ci/credit_spent_once
-	rt ci
+	@result=$$(mktemp); trap 'rm -f '$$result EXIT; rt ci 2>&1 | tee $$result; .ci/program; tail -n 1 $$result
 
 install: build
 	install -D -m 755 $(PROGRAM) $(PREFIX)/bin/chihome
