@@ -9,7 +9,6 @@ use Rattle.chi_fields.specs.Extent.{Extent, region_of}
 use Rattle.chi_fields.specs.declared.region.RegionFault.{RegionFault}
 use Rattle.chi_fields.specs.declared.request.Request.{Request}
 use Rattle.chi_script.specs.declared.fault.ScriptFault.TheVariants.{NotJson, NotObject, Missing, BadMember, TooManyRequests}
-use Rattle.chi_script.specs.declared.fault.TheConstants.{MOST_REQUESTS}
 use Rattle.chi_script.specs.declared.member.Member.{Member}
 use Rattle.chi_script.specs.declared.member.Member.TheVariants.{Base, Granules, Requests, Src, Txn, Opcode, Size, Addr, Endian, Be, Lanes}
 use Rattle.chi_script.specs.Member.{member_name}
@@ -97,7 +96,7 @@ object_within top d =
     then_ok (number_of Granules 65535 d) _ (AllUpTo top) (λ granules e1.
     then_ok (member_by Requests as_array d) _ (AllUpTo top) (λ elements e2.
     then_ok (requests_of top elements) _ (AllUpTo top) (λ qs e3.
-    counted top (region_of base granules) qs (nat_lt MOST_REQUESTS (length qs))
+    counted top (region_of base granules) qs (nat_lt 4096 (length qs))
     (at_ok (requests_of top elements) qs (All (IsUpTo top)) e3 (requests_within top elements))))))
 
 -- by cases on whether the value is an object

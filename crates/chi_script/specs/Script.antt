@@ -13,7 +13,6 @@ use Rattle.chi_fields.specs.declared.request.Request.{Request}
 use Rattle.chi_script.specs.Member.{member_name}
 use Rattle.chi_script.specs.declared.fault.ScriptFault.{ScriptFault}
 use Rattle.chi_script.specs.declared.fault.ScriptFault.TheVariants.{NotJson, NotObject, Missing, BadMember, TooManyRequests, RegionRefused}
-use Rattle.chi_script.specs.declared.fault.TheConstants.{MOST_REQUESTS}
 use Rattle.chi_script.specs.declared.member.Member.{Member}
 use Rattle.chi_script.specs.declared.member.Member.TheVariants.{Base, Granules, Requests, Src, Txn, Opcode, Size, Addr, Endian, Be, Lanes}
 
@@ -76,7 +75,7 @@ object_script top d = do
   granules ← number_of Granules 65535 d
   elements ← member_by Requests as_array d
   requests ← requests_of top elements
-  if nat_lt MOST_REQUESTS (length requests) then Err TooManyRequests else with_requests (region_of base granules) requests
+  if nat_lt 4096 (length requests) then Err TooManyRequests else with_requests (region_of base granules) requests
 
 -- the value of a text, where it is JSON in UTF-8
 unfoldable pub json_value : List ℕ → Option Data
