@@ -59,6 +59,11 @@ pub big-bound : (bs : List ℕ) → ((i : ℕ) → slice_index bs i < 256) → b
 big-bound bs is =
     rw (← little-reverse bs, ← length-reverse bs) (little-bound (reverse bs) (AreBytes-reverse bs is))
 
+-- bytes, read in either order, spell a number below that power of 256
+pub num-bound : (endian : Bool) (bs : List ℕ) → ((i : ℕ) → slice_index bs i < 256) → num endian bs < 256 ^ length bs
+num-bound true bs is = big-bound bs is
+num-bound false bs is = little-bound bs is
+
 -- the bytes of a number in either order are so many
 pub length-bytes : (endian : Bool) (len n : ℕ) → length (bytes endian len n) ≡ len
 length-bytes true len n = length-reverse (little_bytes len n) ∙ length-little_bytes len n

@@ -4,6 +4,7 @@
 mod byte_order;
 mod combined;
 mod kernels;
+pub mod laws;
 mod operand;
 mod operation;
 mod packet;
