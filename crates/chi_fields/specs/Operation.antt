@@ -1,5 +1,7 @@
 -- an operation: what it does, where, and with which data
-use Rattle.std.specs.Prelude.{◌≡◌, ℕ, ◌+◌, ◌-◌, ◌*◌, ◌%◌, ◌^◌, ◌==◌, nat_lt, Bool, true, ◌&&◌, ◌<◌, List, length, slice_index, ◌⊎◌, IsTrue}
+use Rattle.std.specs.Prelude.{◌≡◌, ℕ, ◌+◌, ◌-◌, ◌*◌, ◌%◌, ◌^◌, ◌==◌, nat_le, nat_lt, Bool, true, ◌&&◌, ◌||◌, ◌<◌, if◌then◌else◌, List, length, slice_index, ◌⊎◌, IsTrue}
+use Rattle.std.specs.Int.{bit_at}
+use Rattle.std.specs.List.{list_all, range_with_len}
 use Rattle.chi_fields.specs.declared.kind.Kind.{Kind}
 use Rattle.chi_fields.specs.declared.kind.Kind.TheVariants.{Read, Write, Compare}
 
@@ -29,24 +31,33 @@ abbrev pub window_first : Kind → ℕ → ℕ → ℕ
 window_first Compare len lane = lane - lane % (2 * len)
 window_first _ len lane = lane
 
--- the byte enables of exactly n lanes from a first one on
-abbrev pub all_enables : ℕ → ℕ → ℕ
-all_enables first n = (2 ^ n - 1) * 2 ^ first
+-- whether lane i is one of n lanes from a first one on
+abbrev pub is_among : ℕ → ℕ → ℕ → Bool
+is_among first n i = nat_le first i && nat_lt i (first + n)
 
--- no byte enable is set below the n lanes from a first one on, and none above them
-abbrev pub enables_within : ℕ → ℕ → ℕ → Bool
-enables_within first n enables = enables % 2 ^ first == 0 && nat_lt enables (2 ^ (first + n))
+-- whether each of the packet's 16 lanes passes a test
+abbrev pub each_lane : (ℕ → Bool) → Bool
+each_lane test = list_all test (range_with_len 0 16)
 
--- A read's byte enables are ignored, a write's are some of its window, and an atomic's are its whole window.
+-- bit i of the byte enables is 1 only where lane i is one of n lanes from a first one on
+unfoldable pub enables_within : ℕ → ℕ → ℕ → Bool
+enables_within first n enables = each_lane (λ i. bit_at enables i == 0 || is_among first n i)
+
+-- bit i of the byte enables is 1 exactly where lane i is one of n lanes from a first one on
+unfoldable pub enables_exactly : ℕ → ℕ → ℕ → Bool
+enables_exactly first n enables = each_lane (λ i. bit_at enables i == (if is_among first n i then 1 else 0))
+
+-- A read's byte enables are ignored. A write's are 1 only in its window, and an atomic's exactly in its window.
 abbrev pub enables_fit : Kind → ℕ → ℕ → ℕ → Bool
 enables_fit Read len lane enables = true
 enables_fit Write len lane enables = enables_within lane len enables
-enables_fit kind len lane enables = enables == all_enables (window_first kind len lane) (window_len kind len)
+enables_fit kind len lane enables = enables_exactly (window_first kind len lane) (window_len kind len) enables
 
 -- what is true of every access
 pub record IsLawful (o : Operation) : Type 0 where
   pub part : IsLen o.len
   pub aligned : o.addr % o.len ≡ 0
+  pub bits : o.enables < 2 ^ 16
   pub enabled : IsTrue (enables_fit o.kind o.len (lane_of o.addr) o.enables)
   pub packet : length o.lanes ≡ 16
   pub bytes : (i : ℕ) → slice_index o.lanes i < 256

@@ -1,6 +1,6 @@
 //! An accepted request: what it does, where, and with which data.
 
-ghost use Rattle.std.specs.Prelude.{◌≡◌, ℕ, ◌%◌, ◌<◌, slice_index, IsTrue};
+ghost use Rattle.std.specs.Prelude.{◌≡◌, ℕ, ◌%◌, ◌^◌, ◌<◌, slice_index, IsTrue};
 ghost use Rattle.chi_fields.specs.Extent.{lies_in, granule_of};
 ghost use Rattle.chi_fields.specs.Operation.{IsLawful, IsLen, enables_fit, lane_of};
 ghost use Rattle.chi_fields.specs.Refusal.{access_as, len_of};
@@ -9,6 +9,14 @@ use crate::kind::Kind;
 use crate::region::Region;
 use crate::request::Request;
 use std::marker::Model;
+
+// A data packet has 16 byte enables.
+fn byte_enables(be: u16) -> u16
+    ensures same { result ≡ be }
+    ensures bits { result < 2 ^ 16 }
+{
+    be
+}
 
 // A data packet has 16 bytes.
 fn packet(lanes: [u8; 16]) -> [u8; 16]
@@ -55,13 +63,14 @@ impl Access {
         requires length { len ≡ len_of kind request.now.size }
         ensures { result ≡ access_as kind request.now }
     {
+        let enables = byte_enables(request.be);
         let lanes = packet(request.lanes);
         Access {
             kind,
             addr: request.addr,
             len,
             endian: request.endian,
-            enables: request.be,
+            enables,
             lanes,
         }
     }

@@ -32,6 +32,7 @@ fn len_of(kind: Kind, size: u8) -> Option<u8>
 }
 
 // Whether the byte enables are as the window asks.
+#[tactic(auto, using(crate::proofs::EnableBits::exactly_operand, crate::proofs::EnableBits::exactly_window, crate::proofs::EnableBits::within_operand))]
 fn enables_fit(kind: Kind, len: u8, lane: u8, enables: u16) -> bool
     requires part { IsLen len }
     requires aligned { lane % len ≡ 0 }

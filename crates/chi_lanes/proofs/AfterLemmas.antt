@@ -6,6 +6,7 @@ use Rattle.chi_fields.specs.declared.kind.Op.{Op}
 use Rattle.chi_fields.specs.declared.kind.Kind.TheVariants.{Read, Write, Store, Load, Swap, Compare}
 use Rattle.chi_fields.specs.Extent.{Extent, IsRegion, granule_of, lies_in}
 use Rattle.chi_fields.specs.Operation.{IsLawful, IsLen, Operation, lane_of}
+use Rattle.chi_fields.proofs.EnableBits.{window_within}
 use Rattle.chi_lanes.specs.After.{after, after_as, old, same_bytes}
 use Rattle.chi_lanes.specs.Bytes.{AreBytes}
 use Rattle.chi_lanes.specs.Combine.{combine}
@@ -33,15 +34,6 @@ length-sent o is =
 -- the old bytes are as many as the sent ones
 length-old : (o : Operation) → IsLawful o → (m : Memory) → length (old o m) ≡ length (sent o.lanes (lane_of o.addr) o.len)
 length-old o is m = length-bytes_from m o.addr o.len ∙ sym (length-sent o is)
-
--- the window of two operands lies in the packet
-window_within : (l len : ℕ) → IsLen len → l < 16 → l - l % (2 * len) + 2 * len ≤ 16
-window_within l len part inside = elim part [
-  | inl one ↦ rw one (omega arith)
-  | inr (inl two) ↦ rw two (omega arith)
-  | inr (inr (inl four)) ↦ rw four (omega arith)
-  | inr (inr (inr eight)) ↦ rw eight (omega arith)
-]
 
 -- the swap value is as long as the operand
 length-swp : (lanes : List ℕ) (l len : ℕ) → length lanes ≡ 16 → IsLen len → l < 16 → length (swp lanes l len) ≡ len

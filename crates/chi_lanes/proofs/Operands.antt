@@ -1,17 +1,14 @@
 -- the operand of a lawful operation, in its granule's word and in the packet
-use Rattle.std.proofs.Common.{◌≡◌, ℕ, ◌+◌, ◌-◌, ◌*◌, ◌%◌, ◌^◌, ◌<◌, ◌≤◌, ◌==◌, Bool, true, false, cond, List, [], ◌∷◌, ◌++◌, length, take, drop, slice_range, refl, sym, ap, ◌∙◌, arith, inl, inr, eqb-true, eq-eqb, true≢false, ◌≢◌, min, nat_lt}
-use Rattle.std.proofs.lemmas.Bool.{and_from, and_parts, cases_lt, ltb-true}
-use Rattle.std.proofs.lemmas.Nat.{and_mask}
-use Rattle.std.proofs.lemmas.Nat.Bits.{bit_at-lt, bit_at-zero, bit_at_and, bit_at_ones, bit_at_above}
-use Rattle.std.specs.Int.{bit_at}
-use Rattle.chi_fields.specs.Operation.{IsLen, enables_within, lane_of}
+use Rattle.std.proofs.Common.{◌≡◌, ℕ, ◌+◌, ◌-◌, ◌*◌, ◌%◌, ◌^◌, ◌<◌, ◌≤◌, ◌==◌, Bool, true, false, cond, List, [], ◌∷◌, ◌++◌, length, take, drop, slice_range, refl, sym, ap, ◌∙◌, arith, inl, inr, eqb-true, eq-eqb, true≢false, ◌≢◌}
+use Rattle.std.proofs.lemmas.Bool.{and_from, and_parts}
+use Rattle.chi_fields.specs.Operation.{IsLen, lane_of}
+use Rattle.chi_fields.proofs.EnableBits.{window_within}
 use Rattle.chi_lanes.specs.After.{same_bytes}
 use Rattle.chi_lanes.specs.Bytes.{AreBytes, little, little_bytes}
 use Rattle.chi_lanes.specs.Memory.{Memory, IsMemory, bytes_from, granule_start, with_bytes, word_at}
 use Rattle.chi_lanes.specs.Packet.{swp}
 use Rattle.chi_lanes.proofs.ByteLists.{AreBytes-slice_range}
 use Rattle.chi_lanes.proofs.Digits.{little_bytes_little, same_from_bytes}
-use Rattle.chi_lanes.proofs.EnabledWrites.{EnablesWithin}
 use Rattle.chi_lanes.proofs.MemoryLemmas.{inserted, little_bytes-extracted}
 use Rattle.chi_lanes.proofs.Runs.{length-slice_range}
 
@@ -53,15 +50,6 @@ lanes_of_value lanes first len value whole are within read =
     let spelled = little_bytes_little (slice_range lanes first (first + len)) (AreBytes-slice_range lanes first (first + len) are) in
     ap (little_bytes len) read ∙ rw count at spelled
 
--- the window of two operands lies in the packet
-window_within : (l len : ℕ) → IsLen len → l < 16 → l - l % (2 * len) + 2 * len ≤ 16
-window_within l len part inside = elim part [
-  | inl one ↦ rw one (omega arith)
-  | inr (inl two) ↦ rw two (omega arith)
-  | inr (inr (inl four)) ↦ rw four (omega arith)
-  | inr (inr (inr eight)) ↦ rw eight (omega arith)
-]
-
 -- the bytes of the swap value's number are the swap value
 pub swap_of_value : (lanes : List ℕ) (l len value : ℕ) → length lanes ≡ 16 → AreBytes lanes → IsLen len → l < 16
     → value ≡ little (swp lanes l len) → little_bytes len value ≡ swp lanes l len
@@ -83,31 +71,6 @@ swap_of_value lanes l len value whole are part inside read = by_half (l == l - l
         lanes_of_value lanes (w + len) len value whole are bound (upper ∙ ap (λ e. little (slice_range lanes (w + len) e)) (sym twice))
         ∙ ap (λ e. slice_range lanes (w + len) e) twice
     by_half false lower = lanes_of_value lanes w len value whole are (omega (arith, within)) lower
-
--- a byte enable below the operand's lanes is not set
-enable_below : (enables w j : ℕ) → enables % 2 ^ w ≡ 0 → j < w → bit_at enables j ≡ 0
-enable_below enables w j none below =
-    let one : bit_at (2 ^ w - 1) j ≡ 1 = bit_at_ones w j below in
-    let bit : bit_at enables j < 2 = bit_at-lt enables j in
-    let masked = sym (bit_at_and enables (2 ^ w - 1) j) ∙ (ap (λ n. bit_at n j) (and_mask enables w ∙ none) ∙ bit_at-zero j) in
-    let least : min (bit_at enables j) 1 ≡ 0 = rw one at masked in
-    omega arith
-
--- byte enables that fit a write are lanes of its operand
-pub enables_are_within : (addr len enables : ℕ) → enables_within (lane_of addr) len enables ≡ true → EnablesWithin enables addr len
-enables_are_within addr len enables fit j inside set = (
-  elim (cases_lt j (lane_of addr)) [
-    | inl below ↦ absurd (let none = enable_below enables (lane_of addr) j (eqb-true (enables % 2 ^ lane_of addr) 0 parts.0) below in omega (arith, none, set))
-    | inr above ↦ above
-  ],
-  elim (cases_lt j (lane_of addr + len)) [
-    | inl below ↦ below
-    | inr above ↦ absurd (let none = bit_at_above enables (lane_of addr + len) j (ltb-true enables (2 ^ (lane_of addr + len)) parts.1) above in omega (arith, none, set))
-  ],
-)
-  where
-    parts : (enables % 2 ^ lane_of addr == 0 ≡ true) × (nat_lt enables (2 ^ (lane_of addr + len)) ≡ true)
-    parts = and_parts (enables % 2 ^ lane_of addr == 0) (nat_lt enables (2 ^ (lane_of addr + len))) fit
 
 -- a list has its own bytes
 pub same_bytes-self : (bs : List ℕ) → same_bytes bs bs ≡ true

@@ -3,10 +3,10 @@ use Rattle.std.proofs.Common.{rules, ap, ◌∙◌, ◌≤◌, ◌<◌, ◌^◌,
 use Rattle.std.specs.Int.{bit_at}
 use Rattle.std.proofs.lemmas.Bool.Decides.{nat_tests}
 use Rattle.chi_fields.specs.Operation.{lane_of}
+use Rattle.chi_fields.proofs.EnableBits.{enabled_lane}
 use Rattle.chi_lanes.specs.Bytes.{little_bytes}
 use Rattle.chi_lanes.proofs.EnabledWrites.{EnablesWithin, word_at-with_enabled}
 use Rattle.chi_lanes.proofs.Enables.{bit_at-half}
-use Rattle.chi_lanes.proofs.Operands.{enables_are_within}
 use Rattle.chi_lanes.proofs.operand.written.Goals as goal
 use Rattle.chi_lanes.proofs.operand.written.Goals.{then-upper, else-upper}
 
@@ -14,7 +14,7 @@ pub returns : goal.returns
 returns c m is at_start =
     let o = c.args.access.now in
     let lawful = c.addr.ensures.lawful in
-    let within : EnablesWithin o.enables o.addr o.len = enables_are_within o.addr o.len o.enables (rw c.requires at lawful.enabled) in
+    let within : EnablesWithin o.enables o.addr o.len = enabled_lane (lane_of o.addr) o.len o.enables (rw c.requires at lawful.enabled) in
     let below : c.masked.result < 2 ^ 64 = search rules in
     let first : ℕ = if nat_le 8 (lane_of o.addr) then 8 else 0 in
     let lane : first ≡ lane_of (o.addr / 8 * 8) = grind (arith, nat_tests) in
