@@ -19,12 +19,12 @@ run: build
 	@cat $(SCRIPT); echo; echo
 	@$(PROGRAM) run < $(SCRIPT)
 
-# The gate builds the program that .ci/program tries; its own last line stays the last.
+# The gate builds the program that .ci/program and .ci/faults try; its own last line stays the last.
 test: SHELL := /bin/bash
 test: .SHELLFLAGS := -o pipefail -ec
 test:
 	.ci/credit_spent_once
-	@result=$$(mktemp); trap 'rm -f '$$result EXIT; rt ci 2>&1 | tee $$result; .ci/program; tail -n 1 $$result
+	@result=$$(mktemp); trap 'rm -f '$$result EXIT; rt ci 2>&1 | tee $$result; .ci/program; .ci/faults; tail -n 1 $$result
 
 install: build
 	install -D -m 755 $(PROGRAM) $(PREFIX)/bin/chihome

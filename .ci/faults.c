@@ -1,0 +1,64 @@
+// Preloaded into chihome: makes calls of the C library fail, as the environment says.
+//   FAULT_MEMORY=N   the N-th block of memory that is asked for is refused
+//   FAULT_ON=1       so is each block after it
+//   FAULT_THREADS=1  no thread can be started
+//   FAULT_MET=FILE   made where a call was made to fail
+#define _GNU_SOURCE
+#include <dlfcn.h>
+#include <errno.h>
+#include <fcntl.h>
+#include <pthread.h>
+#include <stdatomic.h>
+#include <stddef.h>
+#include <stdlib.h>
+#include <unistd.h>
+
+void *__libc_malloc(size_t size);
+void *__libc_realloc(void *block, size_t size);
+
+static long refused_block, refused_on, threads_refused;
+static const char *met_file;
+static atomic_long blocks;
+
+static long number(const char *name) {
+  const char *text = getenv(name);
+  return text ? atol(text) : 0;
+}
+
+__attribute__((constructor)) static void begin(void) {
+  refused_on = number("FAULT_ON");
+  threads_refused = number("FAULT_THREADS");
+  met_file = getenv("FAULT_MET");
+  refused_block = number("FAULT_MEMORY");
+}
+
+static void met(void) {
+  int file = met_file ? open(met_file, O_CREAT | O_WRONLY, 0600) : -1;
+  if (file >= 0) close(file);
+}
+
+// Whether this block is refused. Blocks are counted from 1.
+static int is_refused(void) {
+  if (refused_block == 0) return 0;
+  long block = atomic_fetch_add(&blocks, 1) + 1;
+  if (block != refused_block && !(refused_on && block > refused_block)) return 0;
+  met();
+  errno = ENOMEM;
+  return 1;
+}
+
+void *malloc(size_t size) { return is_refused() ? NULL : __libc_malloc(size); }
+
+void *realloc(void *block, size_t size) { return is_refused() ? NULL : __libc_realloc(block, size); }
+
+typedef int start(pthread_t *, const pthread_attr_t *, void *(*)(void *), void *);
+
+int pthread_create(pthread_t *thread, const pthread_attr_t *attr, void *(*body)(void *), void *with) {
+  static start *real;
+  if (threads_refused) {
+    met();
+    return EAGAIN;
+  }
+  if (!real) real = (start *)dlsym(RTLD_NEXT, "pthread_create");
+  return real(thread, attr, body, with);
+}
