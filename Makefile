@@ -3,13 +3,14 @@ PREFIX ?= /usr/local
 PROGRAM := crates/chi_home/out/chi_home
 SCRIPT ?= examples/fetch_add.json
 
-.PHONY: help build run test install bench
+.PHONY: help build run test install bench corpus
 
 help:
 	@echo "make run [SCRIPT=FILE]     prove and build chihome, and show a script and the transcript of chihome run"
 	@echo "make test                  the gate: every proof from nothing, the edits that must fail, tests, runs and what the documents show"
 	@echo "make install PREFIX=DIR    put the program at DIR/bin/chihome"
 	@echo "make bench                 the speed of chihome and of the lock-free store, beside plain Rust"
+	@echo "make corpus [SEED=N]       chihome on 10,000 scripts by chance, half of them broken, beside plain Rust"
 
 build:
 	@cd crates/chi_home && rt run -- run < stdin > out.log 2>&1 || { cat out.log; rm -f out.log; exit 1; }
@@ -35,3 +36,6 @@ bench: build
 	bench/run.sh $(PROGRAM) race --store book
 	bench/run.sh $(PROGRAM) race --store lock
 	bench/exchange.sh
+
+corpus: build
+	cd bench && cargo build --quiet --release --offline && out/release/corpus ../$(PROGRAM) 10000 $(SEED)

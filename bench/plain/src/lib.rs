@@ -1,6 +1,7 @@
-//! Requests, their decoding and their operations in plain Rust, for the programs that are timed.
+//! Requests, their decoding and their operations in plain Rust, for the programs that are compared with it.
 
 pub mod access;
+pub mod engine;
 pub mod fault;
 pub mod operation;
 pub mod region;

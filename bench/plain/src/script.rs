@@ -24,7 +24,6 @@ pub enum ScriptFault {
 }
 
 const MOST_REQUESTS: usize = 4096;
-const MOST_SRC: u64 = 7;
 
 type Object = Map<String, Value>;
 
@@ -54,12 +53,12 @@ fn lanes(object: &Object) -> Result<[u8; 16], ScriptFault> {
     text.and_then(packet).ok_or(ScriptFault::BadMember("lanes"))
 }
 
-fn request(value: &Value) -> Result<Request, ScriptFault> {
+fn request(value: &Value, most_src: u64) -> Result<Request, ScriptFault> {
     let object = value
         .as_object()
         .ok_or(ScriptFault::BadMember("requests"))?;
     Ok(Request {
-        src: number(object, "src", MOST_SRC)? as u8,
+        src: number(object, "src", most_src)? as u8,
         txn: number(object, "txn", 255)? as u8,
         opcode: number(object, "op", 255)? as u8,
         size: number(object, "size", 7)? as u8,
@@ -70,8 +69,8 @@ fn request(value: &Value) -> Result<Request, ScriptFault> {
     })
 }
 
-/// The script that a text is, or its first fault.
-pub fn read_script(text: &[u8]) -> Result<Script, ScriptFault> {
+/// The script that a text is, for requesters up to the greatest one, or its first fault.
+pub fn read_script(text: &[u8], most_src: u64) -> Result<Script, ScriptFault> {
     let value: Value = serde_json::from_slice(text).map_err(|_| ScriptFault::NotJson)?;
     let object = value.as_object().ok_or(ScriptFault::NotObject)?;
     let base = number(object, "base", u64::MAX)?;
@@ -80,7 +79,7 @@ pub fn read_script(text: &[u8]) -> Result<Script, ScriptFault> {
         .as_array()
         .ok_or(ScriptFault::BadMember("requests"))?
         .iter()
-        .map(request)
+        .map(|value| request(value, most_src))
         .collect::<Result<Vec<_>, _>>()?;
     if requests.len() > MOST_REQUESTS {
         return Err(ScriptFault::TooManyRequests);

@@ -1,0 +1,4 @@
+//! Scripts of requests by chance, the same for the same seed.
+
+pub mod random;
+pub mod request;

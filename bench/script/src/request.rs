@@ -1,0 +1,108 @@
+//! Requests by chance: accepted ones, and ones that are refused.
+
+use crate::random::Random;
+use std::io::{self, Write};
+
+const COMPARE: u64 = 0x39;
+
+/// Where requests go: the region's base and its granules.
+pub struct Place {
+    pub base: u64,
+    pub granules: u64,
+}
+
+/// The opcodes of all operations.
+fn opcodes() -> impl Iterator<Item = u64> {
+    [0x04, 0x1c].into_iter().chain(0x28..=COMPARE)
+}
+
+/// The fields of a request that its acceptance hangs on.
+pub struct Request {
+    pub op: u64,
+    pub size: u64,
+    pub addr: u64,
+    pub be: u64,
+}
+
+/// A request that is not refused.
+pub fn accepted(random: &mut Random, place: &Place) -> Request {
+    let op = random.one_of(opcodes());
+    let power = random.below(4);
+    let len = 1 << power;
+    let addr = place.base + len * random.below(8 * place.granules / len);
+    let lane = addr % 16;
+    if op == COMPARE {
+        let first = lane - lane % (2 * len);
+        return Request {
+            op,
+            size: power + 1,
+            addr,
+            be: ((1 << (2 * len)) - 1) << first,
+        };
+    }
+    let window = ((1 << len) - 1) << lane;
+    let be = match op {
+        0x04 => random.below(1 << 16),
+        0x1c => window & random.below(1 << 16),
+        _ => window,
+    };
+    Request {
+        op,
+        size: power,
+        addr,
+        be,
+    }
+}
+
+/// A request that is refused: an accepted one, spoilt in one place.
+pub fn refused(random: &mut Random, place: &Place) -> Request {
+    let request = accepted(random, place);
+    match random.below(6) {
+        0 => Request {
+            op: 0x3a + random.below(0xc6),
+            ..request
+        },
+        1 => Request { size: 7, ..request },
+        2 => Request {
+            size: 5 + random.below(2),
+            ..request
+        },
+        3 => Request {
+            op: 0x38,
+            size: 3,
+            addr: request.addr | 1,
+            ..request
+        },
+        4 => Request {
+            addr: request.addr + 8 * place.granules,
+            ..request
+        },
+        _ => Request {
+            op: 0x38,
+            be: !request.be & 0xffff,
+            size: 1,
+            addr: request.addr & !1,
+        },
+    }
+}
+
+/// Writes a request of one of the requesters, with a packet by chance.
+pub fn write_request(
+    to: &mut impl Write,
+    random: &mut Random,
+    request: &Request,
+    requesters: u64,
+) -> io::Result<()> {
+    let lanes = u128::from(random.next()) << 64 | u128::from(random.next());
+    write!(
+        to,
+        r#"{{"src": {}, "txn": {}, "op": {}, "size": {}, "addr": {}, "endian": {}, "be": {}, "lanes": "{lanes:032x}"}}"#,
+        random.below(requesters),
+        random.below(256),
+        request.op,
+        request.size,
+        request.addr,
+        random.below(2),
+        request.be,
+    )
+}
