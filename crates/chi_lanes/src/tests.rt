@@ -39,6 +39,16 @@ fn worked(granule: u64, request: Request) -> Result<(u64, Reply), Fail> {
     Ok((after.swap_bytes(), reply))
 }
 
+// The answer to a request in that region, whose granules are then as it leaves them.
+fn worked_in(granules: &mut [u64; 8], request: Request) -> Result<Reply, Fail> {
+    let region = Region::new(0x1000, 8)?;
+    let access = decode(&request, &region)?;
+    let granule = access.granule(&region);
+    let (after, reply) = apply(granules[granule].swap_bytes(), &access);
+    granules[granule] = after.swap_bytes();
+    Ok(reply)
+}
+
 #[test]
 fn first_fetch_add(rt: HostRuntime) -> Result<(), Fail> {
     let add = request(0x30, 3, 0x1000, 0x00ff, 0x01000000000000000000000000000000);
@@ -54,13 +64,14 @@ fn first_fetch_add(rt: HostRuntime) -> Result<(), Fail> {
 fn big_endian_carry(rt: HostRuntime) -> Result<(), Fail> {
     let write = request(0x1c, 1, 0x1006, 0x00c0, 0x000000000000ffff0000000000000000);
     let add = request(0x30, 1, 0x1006, 0x00c0, 0x00000000000000010000000000000000);
-    assert_eq!(rt; worked(0, write)?, (0x000000000000ffff, Reply::Comp));
     let answer = data(0x000000000000ffff0000000000000000);
-    assert_eq!(rt; worked(0x000000000000ffff, big_endian(add))?, (0, answer));
-    assert_eq!(rt;
-        worked(0x000000000000ffff, add)?,
-        (0x000000000000ff00, answer)
-    );
+    for (add, after) in [(big_endian(add), 0), (add, 0x000000000000ff00)] {
+        let mut granules = [0; 8];
+        assert_eq!(rt; worked_in(&mut granules, write)?, Reply::Comp);
+        assert_eq!(rt; granules, [0x000000000000ffff, 0, 0, 0, 0, 0, 0, 0]);
+        assert_eq!(rt; worked_in(&mut granules, add)?, answer);
+        assert_eq!(rt; granules, [after, 0, 0, 0, 0, 0, 0, 0]);
+    }
     Ok(())
 }
 
@@ -107,7 +118,9 @@ fn compare_one_byte_upper_half(rt: HostRuntime) -> Result<(), Fail> {
 #[test]
 fn compare_eight_bytes_upper_half(rt: HostRuntime) -> Result<(), Fail> {
     let compare = request(0x39, 4, 0x1008, 0xffff, 0x11223344556677880000000000000000);
-    assert_eq!(rt; worked(0, compare)?, (0x1122334455667788, data(0)));
+    let mut granules = [0; 8];
+    assert_eq!(rt; worked_in(&mut granules, compare)?, data(0));
+    assert_eq!(rt; granules, [0, 0x1122334455667788, 0, 0, 0, 0, 0, 0]);
     Ok(())
 }
 
@@ -128,10 +141,12 @@ fn compare_that_differs(rt: HostRuntime) -> Result<(), Fail> {
 #[test]
 fn write_of_no_bytes_then_two(rt: HostRuntime) -> Result<(), Fail> {
     let lanes = 0xa0a1a2a3a4a5a6a70000000000000000;
-    let none = request(0x1c, 3, 0x1000, 0x0000, lanes);
-    assert_eq!(rt; worked(0, none)?, (0, Reply::Comp));
-    let two = request(0x1c, 3, 0x1000, 0x0042, lanes);
-    assert_eq!(rt; worked(0, two)?, (0x00a100000000a600, Reply::Comp));
+    let mut granules = [0; 8];
+    for (be, after) in [(0x0000, 0), (0x0042, 0x00a100000000a600)] {
+        let write = request(0x1c, 3, 0x1000, be, lanes);
+        assert_eq!(rt; worked_in(&mut granules, write)?, Reply::Comp);
+        assert_eq!(rt; granules, [after, 0, 0, 0, 0, 0, 0, 0]);
+    }
     Ok(())
 }
 
@@ -148,22 +163,20 @@ fn nine_operations_on_one_byte(rt: HostRuntime) -> Result<(), Fail> {
         (0x37, 0x3c00000000000000),
         (0x38, 0x3c00000000000000),
     ];
+    let before = 0xf0000000000000000000000000000000;
     let sent = 0x3c000000000000000000000000000000;
-    let answer = data(0xf0000000000000000000000000000000);
+    let write = request(0x1c, 0, 0x1000, 0x0001, before);
+    let mut granules = [0; 8];
     for (opcode, after) in operations {
+        assert_eq!(rt; worked_in(&mut granules, write)?, Reply::Comp);
         let load = request(opcode, 0, 0x1000, 0x0001, sent);
-        assert_eq!(rt;
-            worked(0xf000000000000000, load)?,
-            (after, answer),
-            "{opcode}"
-        );
+        assert_eq!(rt; worked_in(&mut granules, load)?, data(before), "{opcode}");
+        assert_eq!(rt; granules, [after, 0, 0, 0, 0, 0, 0, 0], "{opcode}");
         if opcode < 0x38 {
+            assert_eq!(rt; worked_in(&mut granules, write)?, Reply::Comp);
             let store = request(opcode - 8, 0, 0x1000, 0x0001, sent);
-            assert_eq!(rt;
-                worked(0xf000000000000000, store)?,
-                (after, Reply::Comp),
-                "{opcode}"
-            );
+            assert_eq!(rt; worked_in(&mut granules, store)?, Reply::Comp, "{opcode}");
+            assert_eq!(rt; granules, [after, 0, 0, 0, 0, 0, 0, 0], "{opcode}");
         }
     }
     Ok(())
@@ -172,12 +185,12 @@ fn nine_operations_on_one_byte(rt: HostRuntime) -> Result<(), Fail> {
 #[test]
 fn write_then_read_upper_half(rt: HostRuntime) -> Result<(), Fail> {
     let write = request(0x1c, 3, 0x1008, 0xff00, 0x00000000000000000102030405060708);
-    assert_eq!(rt; worked(0, write)?, (0x0102030405060708, Reply::Comp));
     let read = request(0x04, 2, 0x100c, 0, 0);
-    assert_eq!(rt;
-        worked(0x0102030405060708, read)?,
-        (0x0102030405060708, data(0x00000000000000000000000005060708))
-    );
+    let mut granules = [0; 8];
+    assert_eq!(rt; worked_in(&mut granules, write)?, Reply::Comp);
+    let answer = data(0x00000000000000000000000005060708);
+    assert_eq!(rt; worked_in(&mut granules, read)?, answer);
+    assert_eq!(rt; granules, [0, 0x0102030405060708, 0, 0, 0, 0, 0, 0]);
     Ok(())
 }
 

@@ -166,6 +166,26 @@ fn script_faults(rt: HostRuntime) -> Result<(), Fail> {
     Ok(())
 }
 
+// However many there are, the walk comes to the last request before they are counted.
+#[test]
+fn too_many_requests(rt: HostRuntime) -> Result<(), Fail> {
+    for before_last in [4096, 4097, 4999] {
+        let many = long_script(rt.alloc(), "8", before_last, "3")?;
+        assert_eq!(rt;
+            fault_of(rt.alloc(), many.as_str(), 7),
+            Some(ScriptFault::TooManyRequests),
+            "{before_last}"
+        );
+        let last = long_script(rt.alloc(), "8", before_last, "8")?;
+        assert_eq!(rt;
+            fault_of(rt.alloc(), last.as_str(), 7),
+            Some(ScriptFault::BadMember(Member::Size)),
+            "{before_last}"
+        );
+    }
+    Ok(())
+}
+
 #[test]
 fn missing_members(rt: HostRuntime) -> Result<(), Fail> {
     for (member, _) in SCRIPT_MEMBERS {
