@@ -2,6 +2,9 @@
 //   FAULT_MEMORY=N   the N-th block of memory that is asked for is refused
 //   FAULT_ON=1       so is each block after it
 //   FAULT_THREADS=1  no thread can be started
+//   FAULT_READ=N     the N-th read of standard input fails
+//   FAULT_WRITE=N    the N-th write of standard output fails
+//   FAULT_BYTES=1    each of these takes or gives one byte
 //   FAULT_MET=FILE   made where a call was made to fail
 #define _GNU_SOURCE
 #include <dlfcn.h>
@@ -11,14 +14,15 @@
 #include <stdatomic.h>
 #include <stddef.h>
 #include <stdlib.h>
+#include <sys/syscall.h>
 #include <unistd.h>
 
 void *__libc_malloc(size_t size);
 void *__libc_realloc(void *block, size_t size);
 
-static long refused_block, refused_on, threads_refused;
+static long refused_block, refused_on, threads_refused, failed_read, failed_write, by_bytes;
 static const char *met_file;
-static atomic_long blocks;
+static atomic_long blocks, reads, writes;
 
 static long number(const char *name) {
   const char *text = getenv(name);
@@ -28,6 +32,9 @@ static long number(const char *name) {
 __attribute__((constructor)) static void begin(void) {
   refused_on = number("FAULT_ON");
   threads_refused = number("FAULT_THREADS");
+  failed_read = number("FAULT_READ");
+  failed_write = number("FAULT_WRITE");
+  by_bytes = number("FAULT_BYTES");
   met_file = getenv("FAULT_MET");
   refused_block = number("FAULT_MEMORY");
 }
@@ -61,4 +68,30 @@ int pthread_create(pthread_t *thread, const pthread_attr_t *attr, void *(*body)(
   }
   if (!real) real = (start *)dlsym(RTLD_NEXT, "pthread_create");
   return real(thread, attr, body, with);
+}
+
+// Whether this call of a device fails. Calls are counted from 1.
+static int fails(atomic_long *calls, long failed) {
+  if (atomic_fetch_add(calls, 1) + 1 != failed) return 0;
+  met();
+  errno = EIO;
+  return 1;
+}
+
+static size_t at_once(size_t count) { return by_bytes && count > 1 ? 1 : count; }
+
+ssize_t read(int file, void *bytes, size_t count) {
+  if (file == STDIN_FILENO) {
+    if (fails(&reads, failed_read)) return -1;
+    count = at_once(count);
+  }
+  return syscall(SYS_read, file, bytes, count);
+}
+
+ssize_t write(int file, const void *bytes, size_t count) {
+  if (file == STDOUT_FILENO) {
+    if (fails(&writes, failed_write)) return -1;
+    count = at_once(count);
+  }
+  return syscall(SYS_write, file, bytes, count);
 }

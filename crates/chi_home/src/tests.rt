@@ -16,6 +16,8 @@ mod device_tests;
 mod fault_tests;
 mod gate_tests;
 mod home_tests;
+mod hostile_device_tests;
+mod hostile_script_tests;
 mod interference_tests;
 mod race_tests;
 mod run_tests;

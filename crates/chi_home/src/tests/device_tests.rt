@@ -1,4 +1,4 @@
-//! Devices that fail, and inputs that are too long.
+//! Devices that fail.
 
 use super::{BOOK, FETCH_ADD, LOCK, script};
 use crate::engine::{engine_race, engine_run};
@@ -107,24 +107,5 @@ fn failing_devices(rt: HostRuntime) -> Result<(), Fail> {
         assert_unread(&rt, &LOCK, text.as_str(), left);
         assert_unread(&rt, &BOOK, text.as_str(), left);
     }
-    Ok(())
-}
-
-#[test]
-fn too_long(rt: HostRuntime) -> Result<(), Fail> {
-    let mut text = script(&rt, &[])?;
-    for _ in 0..4_194_264 {
-        text.push_str(" ")?;
-    }
-    let mut to: Vec<u8> = Vec::new(rt.alloc());
-    engine_run(&rt, &mut text.as_bytes(), &mut to, &BOOK)?;
-    assert_eq!(rt; to.len(), 288);
-    text.push_str(" ")?;
-    let mut to: Vec<u8> = Vec::new(rt.alloc());
-    match engine_run(&rt, &mut text.as_bytes(), &mut to, &BOOK) {
-        Err(EngineFault::TooLong) => {}
-        _ => panic!(rt; "not too long"),
-    }
-    assert_eq!(rt; to.len(), 0);
     Ok(())
 }
