@@ -3,3 +3,4 @@ pub mod ScriptLemmas
 pub mod WrittenLemmas
 pub mod RunLemmas
 pub mod RaceLemmas
+pub mod CommandLemmas

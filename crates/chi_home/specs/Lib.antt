@@ -4,4 +4,5 @@ pub mod Engine
 pub mod Run
 pub mod Race
 pub mod Status
+pub mod CommandLine
 pub mod Task

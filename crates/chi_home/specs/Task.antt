@@ -1,6 +1,7 @@
 -- what the program does with a script, by its task
 use Rattle.std.specs.Prelude.{◌≡◌, ℕ, ◌⊎◌, List, Option, Result, Ok, Err, IfSome}
 use Rattle.clap.specs.declared.error.kind.ErrorKind.{ErrorKind}
+use Rattle.clap.specs.Walk.{Text}
 use Rattle.chi_bookstore.specs.Faults.{IsAttemptCount}
 use Rattle.chi_history.specs.declared.opening.OpenFault.TheVariants as open_fault
 use Rattle.chi_home.specs.declared.command.Task.{Task}
@@ -8,6 +9,7 @@ use Rattle.chi_home.specs.declared.command.Task.TheVariants.{Run, Race}
 use Rattle.chi_home.specs.declared.fault.EngineFault.{EngineFault}
 use Rattle.chi_home.specs.declared.fault.EngineFault.TheVariants.{Open}
 use Rattle.chi_home.specs.declared.options.Options.{Options}
+use Rattle.chi_home.specs.CommandLine.{IsTaken, IsWordsFault}
 use Rattle.chi_home.specs.Engine.{KeepsUnworked, TellsOpening}
 use Rattle.chi_home.specs.Race.{RaceOutcome}
 use Rattle.chi_home.specs.Run.{Outcome}
@@ -35,19 +37,20 @@ IsUnrefused (Err (Open open_fault.RequesterCount)) = ⊥
 IsUnrefused (Err (Open open_fault.AttemptCount)) = ⊥
 IsUnrefused result = Unit {0}
 
--- The words name a task, with 1 to 16 tries. It came to an outcome of this status, which is never that the opening of
--- the store was refused.
-abbrev pub DoesTask : Option (List ℕ) → Option (List ℕ) → Option (List ℕ) → ℕ → Type 0
-DoesTask input old new status =
-    (task : Task) × (options : Options) × (result : Result (Unit {0}) EngineFault)
+-- The words name a task, with 1 to 16 tries: `clap` finds no fault in them. The task came to an outcome of this
+-- status, which is never that the opening of the store was refused.
+abbrev pub DoesTask : List Text → Option (List ℕ) → Option (List ℕ) → Option (List ℕ) → ℕ → Type 0
+DoesTask words input old new status =
+    IsTaken words × (task : Task) × (options : Options) × (result : Result (Unit {0}) EngineFault)
     × IsAttemptCount options.attempts × IsUnrefused result × KeepsUnworked old new result
     × IfSome input (λ bytes. TaskOutcome task options bytes old new result) × (status ≡ end_status result)
 
--- The words name no task. The status is that of the answer of `clap`, and where the transcript goes only its help is
--- written.
-abbrev pub TellsWords : Option (List ℕ) → Option (List ℕ) → ℕ → Type 0
-TellsWords old new status = (kind : ErrorKind) × IsStatusOfWords kind status × KeepsButForHelp kind old new
+-- The words name no task, for this kind of fault in them. The status is that of the kind, and where the transcript
+-- goes only help is written.
+abbrev pub TellsWords : List Text → Option (List ℕ) → Option (List ℕ) → ℕ → Type 0
+TellsWords words old new status =
+    (kind : ErrorKind) × IsWordsFault words kind × IsStatusOfWords kind status × KeepsButForHelp kind old new
 
 -- what the program does with its words
-abbrev pub ProgramOutcome : Option (List ℕ) → Option (List ℕ) → Option (List ℕ) → ℕ → Type 0
-ProgramOutcome input old new status = TellsWords old new status ⊎ DoesTask input old new status
+abbrev pub ProgramOutcome : List Text → Option (List ℕ) → Option (List ℕ) → Option (List ℕ) → ℕ → Type 0
+ProgramOutcome words input old new status = TellsWords words old new status ⊎ DoesTask words input old new status

@@ -1,11 +1,17 @@
 //! The command line.
 
-ghost use Rattle.std.specs.Prelude.{IfOk};
+ghost use Rattle.std.specs.Prelude.{◌≡◌, ◌⊎◌, false, map, string_bytes, IfErr, IfOk};
+ghost use Rattle.clap.specs.Simple.{app_of};
+ghost use Rattle.clap.specs.Values.{kind_of};
+ghost use Rattle.clap.specs.Walk.{rule_of};
+ghost use Rattle.clap.specs.declared.builder.value_parser.ValueParser.TheVariants as value_parser;
 ghost use Rattle.chi_bookstore.specs.Faults.{IsAttemptCount};
+ghost use Rattle.chi_home.specs.CommandLine.{IsProgram, IsTaken, IsTaskApp, IsWordsFault, option_rule};
 
 use crate::options::{Options, StoreKind};
 use chi_bookstore::MOST_ATTEMPTS;
 use chi_requester::Policy;
+use clap::builder::ValueParser;
 use clap::error::ErrorKind;
 use clap::{Arg, ArgMatches, Command, Error, value_parser};
 use std::alloc::Global;
@@ -37,26 +43,62 @@ const RUN_ABOUT: &str = "Works the requests in the order of the script, by one t
 const RACE_ABOUT: &str =
     "Works the requests of 1 and of 2 at the same time, each in order, and then those of 0";
 
+// An option of a task that takes a value.
+fn task_option<'a>(
+    alloc: Global,
+    name: &'a str,
+    value: &'a str,
+    parser: ValueParser<'a>,
+    default: &'a str,
+    help: &'a str,
+) -> Arg<'a>
+    ensures rule { rule_of result ≡ option_rule name.entry.now parser.entry default.entry.now }
+    ensures local { result.global ≡ false }
+{
+    Arg::new(alloc, name)
+        .long(name)
+        .value_name(value)
+        .value_parser(parser)
+        .default_value(default)
+        .help(help)
+}
+
+// One of these words.
+fn one_of<'a>(words: &'a [&'a str]) -> ValueParser<'a>
+    ensures { result ≡ value_parser.Names words.entry }
+{
+    words.into()
+}
+
 // A subcommand with the options of both.
-fn task_command<'a>(alloc: Global, name: &'a str, about: &'a str) -> Result<Command<'a>, Error> {
-    let store = Arg::new(alloc, "store")
-        .long("store")
-        .value_name("STORE")
-        .value_parser(["lock", "book"].as_slice())
-        .default_value("book")
-        .help("One line under a lock, or a row of granule words without one");
-    let attempts = Arg::new(alloc, "attempts")
-        .long("attempts")
-        .value_name("N")
-        .value_parser(value_parser!(u8).range(1..=16))
-        .default_value("4")
-        .help("Tries before RetryAck, 1 to 16; a store with a lock never answers it");
-    let policy = Arg::new(alloc, "policy")
-        .long("policy")
-        .value_name("POLICY")
-        .value_parser(["resend", "return"].as_slice())
-        .default_value("resend")
-        .help("After RetryAck: send again on the credit, or give it back");
+fn task_command<'a>(alloc: Global, name: &'a str, about: &'a str) -> Result<Command<'a>, Error>
+    ensures app { IfOk result (λ command. IsTaskApp name.entry.now (app_of command)) }
+    ensures memory { IfErr result (λ error. kind_of error ≡ ErrorKind.OutOfMemory) }
+{
+    let store = task_option(
+        alloc,
+        "store",
+        "STORE",
+        one_of(["lock", "book"].as_slice()),
+        "book",
+        "One line under a lock, or a row of granule words without one",
+    );
+    let attempts = task_option(
+        alloc,
+        "attempts",
+        "N",
+        value_parser!(u8).range(1..=16),
+        "4",
+        "Tries before RetryAck, 1 to 16; a store with a lock never answers it",
+    );
+    let policy = task_option(
+        alloc,
+        "policy",
+        "POLICY",
+        one_of(["resend", "return"].as_slice()),
+        "resend",
+        "After RetryAck: send again on the credit, or give it back",
+    );
     Ok(
         Command::new(alloc, name)
             .about(about)
@@ -66,7 +108,10 @@ fn task_command<'a>(alloc: Global, name: &'a str, about: &'a str) -> Result<Comm
     )
 }
 
-fn whole_command<'a>(alloc: Global) -> Result<Command<'a>, Error> {
+fn whole_command<'a>(alloc: Global) -> Result<Command<'a>, Error>
+    ensures app { IfOk result (λ command. IsProgram (app_of command)) }
+    ensures memory { IfErr result (λ error. kind_of error ≡ ErrorKind.OutOfMemory) }
+{
     Ok(
         Command::new(alloc, "chihome")
             .bin_name("chihome")?
@@ -81,7 +126,8 @@ fn whole_command<'a>(alloc: Global) -> Result<Command<'a>, Error> {
 
 // The options that a subcommand was given, or that stand in for them.
 fn chosen_options(alloc: Global, chosen: &ArgMatches<'_>) -> Result<Options, Error>
-    ensures { IfOk result (λ options. IsAttemptCount options.attempts) }
+    ensures attempts { IfOk result (λ options. IsAttemptCount options.attempts) }
+    ensures refused { IfErr result (λ error. (kind_of error ≡ ErrorKind.OutOfMemory) ⊎ (kind_of error ≡ ErrorKind.ValueValidation)) }
 {
     let store = match chosen.get_str("store") {
         Some("lock") => StoreKind::Lock,
@@ -103,23 +149,26 @@ fn chosen_options(alloc: Global, chosen: &ArgMatches<'_>) -> Result<Options, Err
 
 /// Reads the words after the program's name: `run` or `race`, and its options.
 ///
+/// Which words are refused, and as what, `clap`'s definitions say of the program's command line. Which task and
+/// options the others name no contract says; tests show it.
+///
 /// ```
 /// let (task, options) = options_of(alloc, &words)?; // race --store lock --policy return
 /// ```
 pub fn options_of(alloc: Global, words: &[String]) -> Result<(Task, Options), Error>
-    ensures { IfOk result (λ r. IsAttemptCount r.1.attempts) }
+    ensures attempts { IfOk result (λ r. IsAttemptCount r.1.attempts) }
+    ensures taken { IfOk result (λ _. IsTaken (map string_bytes words.now)) }
+    ensures refused { IfErr result (λ error. IsWordsFault (map string_bytes words.now) (kind_of error)) }
 {
     let matches = whole_command(alloc)?.try_get_matches_from(words)?;
-    match matches.subcommand() {
-        Some((name, chosen)) => {
-            let options = chosen_options(alloc, chosen)?;
-            let task = if name == "race" {
-                Task::Race
-            } else {
-                Task::Run
-            };
-            Ok((task, options))
-        }
-        None => Err(whole_command(alloc)?.error(ErrorKind::MissingSubcommand, "a task is wanted")?),
-    }
+    let Some((name, chosen)) = matches.subcommand() else {
+        unreachable!()
+    };
+    let options = chosen_options(alloc, chosen)?;
+    let task = if name == "race" {
+        Task::Race
+    } else {
+        Task::Run
+    };
+    Ok((task, options))
 }

@@ -1,6 +1,6 @@
 //! The program on the words of its command line.
 
-ghost use Rattle.std.specs.Prelude.{◌≡◌, IfSome};
+ghost use Rattle.std.specs.Prelude.{◌≡◌, map, string_bytes, IfSome};
 ghost use Rattle.clap.specs.Values.{kind_of};
 ghost use Rattle.chi_home.specs.Engine.{KeepsUnworked, TellsOpening};
 ghost use Rattle.chi_home.specs.Status.{IsStatus, IsStatusOfWords, KeepsButForHelp, status_of};
@@ -101,7 +101,7 @@ pub fn run_words<T: AllocGlobal + Threads + Wait + Sync, R: Read, W: Write, E: W
     to: &mut W,
     errors: &mut E,
 ) -> u8
-    ensures outcome { ProgramOutcome (R.remaining from.old) (W.contents to.old) (W.contents to.new) result }
+    ensures outcome { ProgramOutcome (map string_bytes words.now) (R.remaining from.old) (W.contents to.old) (W.contents to.new) result }
     ensures status { IsStatus result }
 {
     match options_of(rt.alloc(), words) {

@@ -1,0 +1,61 @@
+-- what the program's command line is to `clap`
+use Rattle.std.proofs.Common.{ap, ap₂, inl, inr, ◌⊎◌, codes, ◌≡◌, ◌∙◌, Bool, true, false, not, ◌&&◌, List, Bor, refl, pos}
+use Rattle.clap.specs.Faults.{fault_of, is_simple_and_free}
+use Rattle.clap.specs.Kinds.{IsAmong}
+use Rattle.clap.specs.Simple.{App, new_app, with_rule, with_subcommand}
+use Rattle.clap.specs.Walk.{Rule, Text}
+use Rattle.clap.specs.declared.error.kind.ErrorKind.{ErrorKind}
+use Rattle.clap.specs.declared.error.kind.ErrorKind.TheVariants as error_kind
+use Rattle.clap.specs.declared.builder.value_parser.ValueParser.TheVariants as value_parser
+use Rattle.clap.proofs.OnLiterals.{clap_on_literals}
+use Rattle.chi_home.specs.CommandLine.{IsProgram, IsTaskApp, IsWordsFault, bare_app, option_rule}
+
+-- the third of a row of tests fails
+pub third_fails : (a b c d : Bool) → (a && (b && (not c && d))) ≡ true → c ≡ false
+third_fails true true false d h = refl
+third_fails true true true d h = cc
+third_fails true false c d h = cc
+third_fails false b c d h = cc
+
+-- a task with these two options
+task_of : Text → Rule → Rule → App
+task_of name store policy =
+    with_rule (with_rule (with_rule (new_app name) store) (option_rule (codes "attempts") (value_parser.Signed (pos 1) (pos 16)) (codes "4"))) policy
+
+abbrev stores_of : Bor (List (Bor Text)) → Rule
+stores_of words = option_rule (codes "store") (value_parser.Names words) (codes "book")
+
+abbrev policies_of : Bor (List (Bor Text)) → Rule
+policies_of words = option_rule (codes "policy") (value_parser.Names words) (codes "resend")
+
+-- the tasks of both names
+both : App → App → App
+both run race = with_subcommand (with_subcommand bare_app run.top) race.top
+
+simple_whatever : (v w x y : Bor (List (Bor Text)))
+    → is_simple_and_free (both (task_of (codes "run") (stores_of v) (policies_of w)) (task_of (codes "race") (stores_of x) (policies_of y))) ≡ true
+unfolding clap_on_literals both task_of
+simple_whatever v w x y = refl
+
+task_is : (name : Text) (app : App) → (t : IsTaskApp name app) → app ≡ task_of name (stores_of t.2.0) (policies_of t.3.0)
+unfolding task_of
+task_is name app t = t.4 ∙ ap₂ (task_of name) t.2.2 t.3.2
+
+-- `clap` says what it answers to any words
+pub program_is_simple : (app : App) → IsProgram app → is_simple_and_free app ≡ true
+unfolding both
+program_is_simple app p =
+    ap is_simple_and_free (p.4 ∙ ap₂ both (task_is (codes "run") p.0 p.2) (task_is (codes "race") p.1 p.3))
+    ∙ simple_whatever p.2.2.0 p.2.3.0 p.3.2.0 p.3.3.0
+
+-- what `clap` refuses
+pub words_fault : (app : App) (words : List Text) (kind : ErrorKind) → IsProgram app
+    → (kind ≡ error_kind.OutOfMemory) ⊎ IsAmong kind (fault_of app words) → IsWordsFault words kind
+words_fault app words kind p (inl memory) = inl memory
+words_fault app words kind p (inr among) = inr (app, p, inl among)
+
+-- what the program refuses behind it
+pub attempts_fault : (app : App) (words : List Text) (kind : ErrorKind) → IsProgram app
+    → (kind ≡ error_kind.OutOfMemory) ⊎ (kind ≡ error_kind.ValueValidation) → IsWordsFault words kind
+attempts_fault app words kind p (inl memory) = inl memory
+attempts_fault app words kind p (inr value) = inr (app, p, inr value)

@@ -1,0 +1,51 @@
+-- the command line of the program, as `clap` reads it
+use Rattle.std.specs.Prelude.{◌≡◌, pos, true, List, [], ◌∷◌, ◌⊎◌, ◌++◌, Some, codes}
+use Rattle.std.specs.Borrow.{Bor}
+use Rattle.clap.specs.Walk.{Rule, Text, texts}
+use Rattle.clap.specs.Simple.{App, new_app, new_rule, on_top, with_rule, with_subcommand}
+use Rattle.clap.specs.Kinds.{IsAmong}
+use Rattle.clap.specs.Faults.{fault_of}
+use Rattle.clap.specs.declared.error.kind.ErrorKind.{ErrorKind}
+use Rattle.clap.specs.declared.error.kind.ErrorKind.TheVariants as error_kind
+use Rattle.clap.specs.declared.builder.value_parser.ValueParser.{ValueParser}
+use Rattle.clap.specs.declared.builder.value_parser.ValueParser.TheVariants as value_parser
+
+-- an option that takes a value, and its default
+abbrev pub option_rule : Text → ValueParser → Text → Rule
+option_rule name values default =
+    record (new_rule name) { long = Some name; value_names = 1; parser = Some values; defaults = default ∷ [] }
+
+-- an option that takes one of these words
+abbrev pub IsChoice : Text → List Text → Text → Rule → Type 0
+IsChoice name words default rule =
+    (values : Bor (List (Bor Text))) × (texts values.now ≡ words) × (rule ≡ option_rule name (value_parser.Names values) default)
+
+-- a task of this name: its store is a lock or a book, its attempts are 1 to 16, its policy is to resend or to return
+abbrev pub IsTaskApp : Text → App → Type 0
+IsTaskApp name app =
+    (store : Rule) × (policy : Rule)
+    × IsChoice (codes "store") (codes "lock" ∷ codes "book" ∷ []) (codes "book") store
+    × IsChoice (codes "policy") (codes "resend" ∷ codes "return" ∷ []) (codes "resend") policy
+    × (app ≡ with_rule (with_rule (with_rule (new_app name) store)
+    (option_rule (codes "attempts") (value_parser.Signed (pos 1) (pos 16)) (codes "4"))) policy)
+
+-- the program: it wants a task, and its name is not among its words
+abbrev pub bare_app : App
+bare_app = on_top (λ s. record s { no_binary_name = true; subcommand_required = true }) (new_app (codes "chihome"))
+
+-- with its tasks `run` and `race`
+abbrev pub IsProgram : App → Type 0
+IsProgram app =
+    (run : App) × (race : App) × IsTaskApp (codes "run") run × IsTaskApp (codes "race") race
+    × (app ≡ with_subcommand (with_subcommand bare_app run.top) race.top)
+
+-- Why the words name no task: there is no memory, `clap` finds this fault in them or is asked for help, or the program's
+-- own test finds no attempts of 1 to 16.
+abbrev pub IsWordsFault : List Text → ErrorKind → Type 0
+IsWordsFault words kind =
+    (kind ≡ error_kind.OutOfMemory)
+    ⊎ ((app : App) × IsProgram app × (IsAmong kind (fault_of app words) ⊎ (kind ≡ error_kind.ValueValidation)))
+
+-- the words name a task: `clap` finds no fault in them
+abbrev pub IsTaken : List Text → Type 0
+IsTaken words = (app : App) × IsProgram app × (fault_of app words ≡ [])
