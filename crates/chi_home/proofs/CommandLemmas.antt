@@ -52,10 +52,4 @@ program_is_simple app p =
 pub words_fault : (app : App) (words : List Text) (kind : ErrorKind) → IsProgram app
     → (kind ≡ error_kind.OutOfMemory) ⊎ IsAmong kind (fault_of app words) → IsWordsFault words kind
 words_fault app words kind p (inl memory) = inl memory
-words_fault app words kind p (inr among) = inr (app, p, inl among)
-
--- what the program refuses behind it
-pub attempts_fault : (app : App) (words : List Text) (kind : ErrorKind) → IsProgram app
-    → (kind ≡ error_kind.OutOfMemory) ⊎ (kind ≡ error_kind.ValueValidation) → IsWordsFault words kind
-attempts_fault app words kind p (inl memory) = inl memory
-attempts_fault app words kind p (inr value) = inr (app, p, inr value)
+words_fault app words kind p (inr among) = inr (app, p, among)

@@ -39,12 +39,10 @@ IsProgram app =
     (run : App) × (race : App) × IsTaskApp (codes "run") run × IsTaskApp (codes "race") race
     × (app ≡ with_subcommand (with_subcommand bare_app run.top) race.top)
 
--- Why the words name no task: there is no memory, `clap` finds this fault in them or is asked for help, or the program's
--- own test finds no attempts of 1 to 16.
+-- why the words name no task: there is no memory, or `clap` finds this fault in them or is asked for help
 abbrev pub IsWordsFault : List Text → ErrorKind → Type 0
 IsWordsFault words kind =
-    (kind ≡ error_kind.OutOfMemory)
-    ⊎ ((app : App) × IsProgram app × (IsAmong kind (fault_of app words) ⊎ (kind ≡ error_kind.ValueValidation)))
+    (kind ≡ error_kind.OutOfMemory) ⊎ ((app : App) × IsProgram app × IsAmong kind (fault_of app words))
 
 -- the words name a task: `clap` finds no fault in them
 abbrev pub IsTaken : List Text → Type 0

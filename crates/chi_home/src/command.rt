@@ -1,6 +1,6 @@
 //! The command line.
 
-ghost use Rattle.std.specs.Prelude.{◌≡◌, ◌⊎◌, false, map, string_bytes, IfErr, IfOk};
+ghost use Rattle.std.specs.Prelude.{◌≡◌, false, map, string_bytes, IfErr, IfOk};
 ghost use Rattle.clap.specs.Simple.{app_of};
 ghost use Rattle.clap.specs.Values.{kind_of};
 ghost use Rattle.clap.specs.Walk.{rule_of};
@@ -124,10 +124,10 @@ fn whole_command<'a>(alloc: Global) -> Result<Command<'a>, Error>
     )
 }
 
-// The options that a subcommand was given, or that stand in for them.
-fn chosen_options(alloc: Global, chosen: &ArgMatches<'_>) -> Result<Options, Error>
-    ensures attempts { IfOk result (λ options. IsAttemptCount options.attempts) }
-    ensures refused { IfErr result (λ error. (kind_of error ≡ ErrorKind.OutOfMemory) ⊎ (kind_of error ≡ ErrorKind.ValueValidation)) }
+// The options that a subcommand was given, or that stand in for them. `clap` lets no other words and attempts
+// through than these.
+fn chosen_options(chosen: &ArgMatches<'_>) -> Options
+    ensures { IsAttemptCount result.attempts }
 {
     let store = match chosen.get_str("store") {
         Some("lock") => StoreKind::Lock,
@@ -137,13 +137,14 @@ fn chosen_options(alloc: Global, chosen: &ArgMatches<'_>) -> Result<Options, Err
         Some("return") => Policy::Return,
         _ => Policy::Resend,
     };
-    match chosen.get_one::<u8>("attempts") {
-        Some(attempts) if 1 <= attempts && attempts <= MOST_ATTEMPTS => Ok(Options {
-            store,
-            attempts,
-            policy,
-        }),
-        _ => Err(whole_command(alloc)?.error(ErrorKind::ValueValidation, "attempts are 1 to 16")?),
+    let attempts = match chosen.get_one::<u8>("attempts") {
+        Some(attempts) if 1 <= attempts && attempts <= MOST_ATTEMPTS => attempts,
+        _ => 4,
+    };
+    Options {
+        store,
+        attempts,
+        policy,
     }
 }
 
@@ -164,7 +165,7 @@ pub fn options_of(alloc: Global, words: &[String]) -> Result<(Task, Options), Er
     let Some((name, chosen)) = matches.subcommand() else {
         unreachable!()
     };
-    let options = chosen_options(alloc, chosen)?;
+    let options = chosen_options(chosen);
     let task = if name == "race" {
         Task::Race
     } else {

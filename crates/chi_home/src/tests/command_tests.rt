@@ -1,7 +1,6 @@
 //! The program on the words of its command line.
 
 use super::device_tests::FailingWriter;
-use super::race_tests::{THREE_REQUESTERS, THREE_TOLD};
 use super::{FETCH_ADD, FETCH_ADD_LINE, SEVEN_ZEROS, joined, script};
 use crate::command::{Task, options_of};
 use crate::options::{Options, StoreKind};
@@ -25,14 +24,14 @@ fn words_of(rt: &impl AllocGlobal, words: &[&str]) -> Result<Vec<String>, AllocE
 
 // What the program did: its status, and what it wrote on standard output and on standard error.
 #[derive(Drop)]
-struct Told {
-    status: u8,
-    out: Vec<u8>,
-    errors: Vec<u8>,
+pub(super) struct Told {
+    pub(super) status: u8,
+    pub(super) out: Vec<u8>,
+    pub(super) errors: Vec<u8>,
 }
 
 // Runs the program on these words, with this text on its standard input.
-fn run_on<T: AllocGlobal + Threads + Wait + Sync>(
+pub(super) fn run_on<T: AllocGlobal + Threads + Wait + Sync>(
     rt: &T,
     words: &[&str],
     text: &str,
@@ -122,19 +121,6 @@ fn first_fetch_add_by_words(rt: HostRuntime) -> Result<(), Fail> {
         ["race", "--store", "lock"].as_slice(),
     ];
     for words in all {
-        let told = run_on(&rt, words, text.as_str())?;
-        assert_eq!(rt; told.status, 0);
-        assert_eq!(rt; told.out.as_slice(), want.as_bytes());
-        assert_eq!(rt; told.errors.len(), 0);
-    }
-    Ok(())
-}
-
-#[test]
-fn race_of_three_requesters_by_words(rt: HostRuntime) -> Result<(), Fail> {
-    let text = script(&rt, &THREE_REQUESTERS)?;
-    let want = joined(&rt, &THREE_TOLD)?;
-    for words in [["race"].as_slice(), ["race", "--store", "lock"].as_slice()] {
         let told = run_on(&rt, words, text.as_str())?;
         assert_eq!(rt; told.status, 0);
         assert_eq!(rt; told.out.as_slice(), want.as_bytes());

@@ -1,5 +1,6 @@
 //! Races of worked examples.
 
+use super::command_tests::run_on;
 use super::{BOOK, LOCK, SIX_ZEROS, joined, raced, script};
 use crate::options::Options;
 use std::process::Abort;
@@ -8,14 +9,14 @@ use std::test::Fail;
 use std::thread::Threads;
 
 // A swap of 1, an add of 2 elsewhere, and a read of 0 of what 1 wrote.
-pub(super) const THREE_REQUESTERS: [&str; 3] = [
+const THREE_REQUESTERS: [&str; 3] = [
     "{\"src\":1,\"txn\":1,\"op\":56,\"size\":3,\"addr\":4096,\"endian\":0,\"be\":255,\"lanes\":\"11223344556677880000000000000000\"}",
     "{\"src\":2,\"txn\":2,\"op\":40,\"size\":3,\"addr\":4104,\"endian\":0,\"be\":65280,\"lanes\":\"00000000000000000100000000000000\"}",
     "{\"src\":0,\"txn\":3,\"op\":4,\"size\":3,\"addr\":4096,\"endian\":0,\"be\":0,\"lanes\":\"00000000000000000000000000000000\"}",
 ];
 
 // What every schedule of them writes.
-pub(super) const THREE_TOLD: [&str; 6] = [
+const THREE_TOLD: [&str; 6] = [
     "1 1 38 AtomicSwap 3 0000000000001000 data 00000000000000000000000000000000\n",
     "2 2 28 AtomicStore.ADD 3 0000000000001008 comp\n",
     "0 3 04 ReadNoSnp 3 0000000000001000 data 11223344556677880000000000000000\n",
@@ -40,4 +41,17 @@ fn assert_three<T: AllocGlobal + Abort + Threads + Wait + Sync>(
 fn race_of_three_requesters(rt: HostRuntime) -> Result<(), Fail> {
     assert_three(&rt, &LOCK)?;
     assert_three(&rt, &BOOK)
+}
+
+#[test]
+fn race_of_three_requesters_by_words(rt: HostRuntime) -> Result<(), Fail> {
+    let text = script(&rt, &THREE_REQUESTERS)?;
+    let want = joined(&rt, &THREE_TOLD)?;
+    for words in [["race"].as_slice(), ["race", "--store", "lock"].as_slice()] {
+        let told = run_on(&rt, words, text.as_str())?;
+        assert_eq!(rt; told.status, 0);
+        assert_eq!(rt; told.out.as_slice(), want.as_bytes());
+        assert_eq!(rt; told.errors.len(), 0);
+    }
+    Ok(())
 }

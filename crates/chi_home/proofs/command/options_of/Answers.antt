@@ -1,8 +1,8 @@
--- What is answered to the words is what `clap` finds in them, or want of memory, or attempts that are none.
+-- What is answered to the words is what `clap` finds in them, or want of memory.
 use Rattle.std.proofs.Common.{map, string_bytes}
 use Rattle.std.proofs.lemmas.Result.{err_from_is_err_and}
 use Rattle.clap.specs.Simple.{app_of}
-use Rattle.chi_home.proofs.CommandLemmas.{attempts_fault, program_is_simple, words_fault}
+use Rattle.chi_home.proofs.CommandLemmas.{program_is_simple, words_fault}
 use Rattle.chi_home.proofs.command.options_of.Goals as goal
 
 pub returns-in_err-matches-clause-refused : goal.returns-in_err-matches-clause-refused
@@ -11,11 +11,6 @@ returns-in_err-matches-clause-refused c =
     let app = app_of c.in_ok-whole_command.field-0 in
     let program = c.in_ok-whole_command.ensures.app in
     rw (p.1, p.2) (words_fault app (map string_bytes c.args.words.now) _ program (c.in_err-matches.ensures.kinds (program_is_simple app program)))
-
-pub returns-in_err-options-clause-refused : goal.returns-in_err-options-clause-refused
-returns-in_err-options-clause-refused c =
-    let p = err_from_is_err_and c.from_residual-in_err-options.result c.from_residual-in_err-options.ensures.1 in
-    rw (p.1, p.2) (attempts_fault (app_of c.in_ok-whole_command.field-0) (map string_bytes c.args.words.now) _ c.in_ok-whole_command.ensures.app c.in_err-options.ensures.refused)
 
 pub returns-clause-taken : goal.returns-clause-taken
 returns-clause-taken c =
