@@ -1,5 +1,5 @@
 -- which requests are refused, and what the others describe
-use Rattle.std.specs.Prelude.{ℕ, ◌/◌, ◌%◌, ◌^◌, ◌==◌, nat_le, Bool, not, ◌&&◌, if◌then◌else◌, List, codes, Option, option_map, None, Some}
+use Rattle.std.specs.Prelude.{ℕ, ◌/◌, ◌%◌, ◌^◌, ◌==◌, nat_le, Bool, not, ◌&&◌, if◌then◌else◌, List, codes, Option, option_map, None, Some, Result, Ok, Err}
 use Rattle.chi_fields.specs.declared.kind.Kind.{Kind}
 use Rattle.chi_fields.specs.declared.kind.Kind.TheVariants.{Compare}
 use Rattle.chi_fields.specs.declared.refusal.Refusal.{Refusal}
@@ -19,24 +19,6 @@ abbrev pub is_in_profile : Kind → ℕ → Bool
 is_in_profile Compare size = nat_le 1 size && nat_le size 4
 is_in_profile _ size = nat_le size 3
 
--- the first refusal that a request of this kind meets
-unfoldable pub refusal_as : Kind → Request → Extent → Option Refusal
-refusal_as kind q region =
-    if nat_le 7 q.size then Some ReservedSize
-    else if not (is_in_profile kind q.size) then Some SizeOutOfProfile
-    else if not (q.addr % len_of kind q.size == 0) then Some Misaligned
-    else if not (lies_in q.addr (len_of kind q.size) region) then Some OutOfRegion
-    else if not (enables_fit kind (len_of kind q.size) (lane_of q.addr) q.be) then Some BadByteEnable
-    else None
-
-abbrev pub refusal_of : Option Kind → Request → Extent → Option Refusal
-refusal_of None q region = Some UnknownOpcode
-refusal_of (Some kind) q region = refusal_as kind q region
-
--- the first refusal that a request meets
-abbrev pub refusal : Request → Extent → Option Refusal
-refusal q region = refusal_of (kind_of q.opcode) q region
-
 -- the operation of this kind that a request describes
 abbrev pub access_as : Kind → Request → Operation
 access_as kind q = record {
@@ -51,6 +33,24 @@ access_as kind q = record {
 -- the operation that a request describes, where its opcode names one
 abbrev pub access : Request → Option Operation
 access q = option_map (λ kind. access_as kind q) (kind_of q.opcode)
+
+-- the access of a request of this kind, or the first refusal that it meets
+unfoldable pub decision_as : Kind → Request → Extent → Result Operation Refusal
+decision_as kind q region =
+    if nat_le 7 q.size then Err ReservedSize
+    else if not (is_in_profile kind q.size) then Err SizeOutOfProfile
+    else if not (q.addr % len_of kind q.size == 0) then Err Misaligned
+    else if not (lies_in q.addr (len_of kind q.size) region) then Err OutOfRegion
+    else if not (enables_fit kind (len_of kind q.size) (lane_of q.addr) q.be) then Err BadByteEnable
+    else Ok (access_as kind q)
+
+abbrev pub decision_of : Option Kind → Request → Extent → Result Operation Refusal
+decision_of None q region = Err UnknownOpcode
+decision_of (Some kind) q region = decision_as kind q region
+
+-- what a home decides of a request: its access, or the first refusal that it meets
+abbrev pub decision : Request → Extent → Result Operation Refusal
+decision q region = decision_of (kind_of q.opcode) q region
 
 -- the refusal's name
 abbrev pub name_of : Refusal → List ℕ

@@ -1,9 +1,9 @@
 //! From a request to the access that it describes, or to its refusal.
 
-ghost use Rattle.std.specs.Prelude.{◌≡◌, ℕ, ◌+◌, ◌*◌, ◌%◌, ◌≤◌, ◌<◌, true, false, IfSome, IfNone, IfOk, MatchResult, IsTrue};
+ghost use Rattle.std.specs.Prelude.{◌≡◌, ℕ, ◌+◌, ◌*◌, ◌%◌, ◌≤◌, ◌<◌, true, false, IfSome, IfNone, IfOk, IsTrue};
 ghost use Rattle.chi_fields.specs.Extent.{lies_in};
 ghost use Rattle.chi_fields.specs.Operation.{IsLawful, IsLen, enables_fit};
-ghost use Rattle.chi_fields.specs.Refusal.{refusal, access, len_of, is_in_profile};
+ghost use Rattle.chi_fields.specs.Refusal.{decision, len_of, is_in_profile};
 
 use crate::access::Access;
 use crate::kind::Kind;
@@ -59,11 +59,9 @@ fn enables_fit(kind: Kind, len: u8, lane: u8, enables: u16) -> bool
 /// ```
 ///
 /// Source: Arm IHI 0050 Issue B, sizes, operand placement and byte enables.
-#[tactic(auto, unfolding(crate::specs::Refusal::refusal_as))]
+#[tactic(auto, unfolding(crate::specs::Refusal::decision_as))]
 pub fn decode(request: &Request, region: &Region) -> Result<Access, Refusal>
-    ensures decided { MatchResult result
-        (λ a. (refusal request.now region.now ≡ None) × (access request.now ≡ Some a))
-        (λ fault. refusal request.now region.now ≡ Some fault) }
+    ensures decided { result ≡ decision request.now region.now }
     ensures fits { IfOk result (λ a. IsTrue (lies_in a.addr a.len region.now)) }
     ensures lawful { IfOk result (λ a. IsLawful a) }
 {

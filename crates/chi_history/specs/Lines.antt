@@ -1,12 +1,11 @@
 -- what the lines of a transcript tell of a history
-use Rattle.std.specs.Prelude.{ℕ, ◌==◌, Bool, false, List, [], ◌∷◌, Option, None, Some, count_by}
+use Rattle.std.specs.Prelude.{ℕ, ◌==◌, Bool, false, List, [], ◌∷◌, Option, None, Some, Result, Ok, Err, count_by}
 use Rattle.std.specs.List.{flat_map}
 use Rattle.chi_fields.specs.declared.refusal.Refusal.{Refusal}
-use Rattle.chi_fields.specs.declared.refusal.Refusal.TheVariants.{UnknownOpcode}
 use Rattle.chi_fields.specs.declared.request.Request.{Request}
 use Rattle.chi_fields.specs.Extent.{Extent, granule_of}
 use Rattle.chi_fields.specs.Operation.{Operation}
-use Rattle.chi_fields.specs.Refusal.{access, refusal}
+use Rattle.chi_fields.specs.Refusal.{access, decision}
 use Rattle.chi_lanes.specs.declared.reply.Reply.{Reply}
 use Rattle.chi_lanes.specs.After.{after, answer}
 use Rattle.chi_lanes.specs.Memory.{Memory}
@@ -43,24 +42,22 @@ is_retried region g (Retried q) = is_in_granule region g (access q)
 abbrev pub retried : Extent → List Line → ℕ → ℕ
 retried region lines g = count_by (is_retried region g) lines
 
--- the line of a request that meets this refusal, or describes this access, at a memory
-abbrev pub serial_line : Option Refusal → Option Operation → Request → Memory → Line
-serial_line (Some fault) a q m = Refused q fault
-serial_line None (Some a) q m = Completed q (answer a m)
-serial_line None None q m = Refused q UnknownOpcode
+-- the line of a request of which this is decided, at a memory
+abbrev pub serial_line : Result Operation Refusal → Request → Memory → Line
+serial_line (Ok a) q m = Completed q (answer a m)
+serial_line (Err fault) q m = Refused q fault
 
 -- the memory after it
-abbrev pub serial_after : Option Refusal → Option Operation → Memory → Memory
-serial_after (Some fault) a m = m
-serial_after None (Some a) m = after a m
-serial_after None None m = m
+abbrev pub serial_after : Result Operation Refusal → Memory → Memory
+serial_after (Ok a) m = after a m
+serial_after (Err fault) m = m
 
 -- the lines of requests that are worked one after another, from a memory on
 unfoldable pub serial : Extent → List Request → Memory → List Line
 serial region [] m = []
-serial region (q ∷ qs) m = serial_line (refusal q region) (access q) q m ∷ serial region qs (serial_after (refusal q region) (access q) m)
+serial region (q ∷ qs) m = serial_line (decision q region) q m ∷ serial region qs (serial_after (decision q region) m)
 
 -- the memory after these requests
 unfoldable pub serial_end : Extent → List Request → Memory → Memory
 serial_end region [] m = m
-serial_end region (q ∷ qs) m = serial_end region qs (serial_after (refusal q region) (access q) m)
+serial_end region (q ∷ qs) m = serial_end region qs (serial_after (decision q region) m)

@@ -1,11 +1,12 @@
 -- a third requester at work after two
-use Rattle.std.proofs.Common.{◌≡◌, ℕ, ◌+◌, ◌*◌, ◌<◌, ◌≤◌, Bool, true, false, not, ◌&&◌, ◌==◌, nat_lt, List, [], ◌∷◌, ◌++◌, All, Option, None, Some, Result, Ok, Err, IsErr, refl, sym, ap, subst, ◌∙◌, eqb-true, arith, append_assoc, append-nil, true≢false, inl, inr}
+use Rattle.std.proofs.Common.{◌≡◌, ℕ, ◌+◌, ◌*◌, ◌<◌, ◌≤◌, Bool, true, false, not, ◌&&◌, ◌==◌, nat_lt, List, [], ◌∷◌, ◌++◌, All, Result, Ok, Err, IsErr, refl, sym, ap, subst, ◌∙◌, eqb-true, arith, append_assoc, append-nil, true≢false, inl, inr}
 use Rattle.std.proofs.lemmas.Bool.{lt-ltb}
 use Rattle.std.proofs.lemmas.List.Elements.{All-append, All-cons, All-nil}
 use Rattle.chi_fields.specs.declared.refusal.Refusal.{Refusal}
 use Rattle.chi_fields.specs.declared.request.Request.{Request}
 use Rattle.chi_fields.specs.Extent.{Extent}
-use Rattle.chi_fields.specs.Refusal.{refusal}
+use Rattle.chi_fields.specs.Operation.{Operation}
+use Rattle.chi_fields.specs.Refusal.{decision}
 use Rattle.chi_history.specs.declared.entry.Entry.{Entry}
 use Rattle.chi_history.specs.declared.line.Line.{Line}
 use Rattle.chi_history.specs.declared.line.Line.TheVariants.{Completed, Refused}
@@ -21,7 +22,7 @@ use Rattle.chi_requester.specs.Told.{Told, ToldOf}
 use Rattle.chi_requester.specs.Work.{AreLeft, IsWorked, IsWorkRun, requests_of}
 use Rattle.chi_requester.proofs.PairLemmas.{free_of_others, of_others}
 use Rattle.chi_requester.proofs.SerialLemmas.{unpaid_alone}
-use Rattle.chi_requester.proofs.ToldLemmas.{accepted_access, retried-append, told_unpaid}
+use Rattle.chi_requester.proofs.ToldLemmas.{access-decided, retried-append, told_unpaid}
 use Rattle.chi_requester.proofs.WorkLemmas.{worked_none}
 
 -- one more history of others than these two leaves a requester's part as it is
@@ -40,7 +41,7 @@ unfolding Told
 unretried region policy limit [] lines told paid = let P : List Line → Type 0 = λ xs. All (λ line. is_retry line ≡ false) xs in subst P (sym told) (All-nil (λ (line : Line). is_retry line ≡ false))
 unretried region policy limit (q ∷ qs) lines told paid =
     let P : List Line → Type 0 = λ xs. All (λ line. is_retry line ≡ false) xs in
-    subst P (sym told.2) (All-append (λ (line : Line). is_retry line ≡ false) told.0 told.1 (piece (refusal q region) refl told.3) (unretried region policy limit qs told.1 told.4 (λ g. let s = split g in omega arith)))
+    subst P (sym told.2) (All-append (λ (line : Line). is_retry line ≡ false) told.0 told.1 (piece (decision q region) refl told.3) (unretried region policy limit qs told.1 told.4 (λ g. let s = split g in omega arith)))
   where
     split : (g : ℕ) → limit * retried region told.0 g + limit * retried region told.1 g ≤ 0
     split g = let e = ap (λ (xs : List Line). retried region xs g) told.2 ∙ retried-append region told.0 told.1 g in
@@ -49,11 +50,10 @@ unretried region policy limit (q ∷ qs) lines told paid =
     single : (line : Line) → told.0 ≡ line ∷ [] → is_retry line ≡ false → All (λ x. is_retry x ≡ false) told.0
     single line is one = let P : List Line → Type 0 = λ xs. All (λ x. is_retry x ≡ false) xs in subst P (sym is) (All-cons (λ (x : Line). is_retry x ≡ false) line [] one (All-nil (λ (x : Line). is_retry x ≡ false)))
 
-    piece : (r : Option Refusal) → refusal q region ≡ r → ToldOf r policy limit q told.0 → All (λ line. is_retry line ≡ false) told.0
-    piece (Some fault) refused is = single (Refused q fault) is refl
-    piece None accepted is =
-        let a = accepted_access region q accepted in
-        let done = told_unpaid region policy limit q a.0 told.0 a.1 is (λ g. let s = split g in omega arith) in
+    piece : (d : Result Operation Refusal) → decision q region ≡ d → ToldOf d policy limit q told.0 → All (λ line. is_retry line ≡ false) told.0
+    piece (Err fault) refused is = single (Refused q fault) is refl
+    piece (Ok a) accepted is =
+        let done = told_unpaid region policy limit q a told.0 (access-decided region q a accepted) is (λ g. let s = split g in omega arith) in
         single (Completed q done.0) done.1 refl
 
 -- a number below n that is outside of the numbers but 0 is 0

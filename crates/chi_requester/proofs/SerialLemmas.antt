@@ -1,5 +1,5 @@
 -- requests that are worked one after another by a seat that holds every number
-use Rattle.std.proofs.Common.{◌≡◌, ℕ, ◌+◌, ◌*◌, ◌<◌, ◌≤◌, Bool, true, false, not, ◌&&◌, ◌==◌, nat_lt, cond, List, [], ◌∷◌, ◌++◌, Option, None, Some, refl, sym, ap, subst, ◌∙◌, arith, append_assoc, append-nil, length, get_or, take, drop, Result, IsErr, true≢false}
+use Rattle.std.proofs.Common.{◌≡◌, ℕ, ◌+◌, ◌*◌, ◌<◌, ◌≤◌, Bool, true, false, not, ◌&&◌, ◌==◌, nat_lt, cond, List, [], ◌∷◌, ◌++◌, Option, Result, Ok, Err, refl, sym, ap, subst, ◌∙◌, arith, append_assoc, append-nil, length, get_or, take, drop, IsErr, true≢false}
 use Rattle.std.proofs.lemmas.Bool.{lt-ltb}
 use Rattle.std.proofs.lemmas.List.{take_more, take-append-drop}
 use Rattle.std.proofs.lemmas.Grind.{flat_map-append}
@@ -7,7 +7,7 @@ use Rattle.chi_fields.specs.declared.refusal.Refusal.{Refusal}
 use Rattle.chi_fields.specs.declared.request.Request.{Request}
 use Rattle.chi_fields.specs.Extent.{Extent}
 use Rattle.chi_fields.specs.Operation.{Operation}
-use Rattle.chi_fields.specs.Refusal.{access, refusal}
+use Rattle.chi_fields.specs.Refusal.{decision}
 use Rattle.chi_lanes.specs.declared.reply.Reply.{Reply}
 use Rattle.chi_lanes.specs.After.{after, answer}
 use Rattle.chi_lanes.specs.Memory.{Memory}
@@ -25,7 +25,7 @@ use Rattle.chi_requester.specs.declared.policy.Policy.{Policy}
 use Rattle.chi_requester.specs.Serial.{IsSerialRun}
 use Rattle.chi_requester.specs.Told.{ToldOf}
 use Rattle.chi_requester.specs.Work.{IsWorked}
-use Rattle.chi_requester.proofs.ToldLemmas.{accepted_access, told_alone, told_unpaid}
+use Rattle.chi_requester.proofs.ToldLemmas.{access-decided, told_alone, told_unpaid}
 use Rattle.chi_requester.proofs.WorkLemmas.{are_left-err, drop-within, entries_one}
 
 -- the lines of requests, and then of others
@@ -33,15 +33,14 @@ pub serial-append : (region : Extent) (qs rs : List Request) (m : Memory) → se
 unfolding serial serial_end
 serial-append region [] rs m = refl
 serial-append region (q ∷ qs) rs m =
-    ap (λ (xs : List Line). serial_line (refusal q region) (access q) q m ∷ xs) (serial-append region qs rs (serial_after (refusal q region) (access q) m))
+    ap (λ (xs : List Line). serial_line (decision q region) q m ∷ xs) (serial-append region qs rs (serial_after (decision q region) m))
 
 -- the entry of a request's line makes the memory that the request leaves
-pub serial_line-entries : (r : Option Refusal) (a : Option Operation) (q : Request) (m : Memory) → access q ≡ a
-    → end_from m (line_entries (serial_line r a q m)) ≡ serial_after r a m
+pub serial_line-entries : (region : Extent) (d : Result Operation Refusal) (q : Request) (m : Memory) → decision q region ≡ d
+    → end_from m (line_entries (serial_line d q m)) ≡ serial_after d m
 unfolding end_from
-serial_line-entries (Some fault) a q m is = refl
-serial_line-entries None (Some a) q m is = ap (λ (x : Option Operation). end_from m (entry_of q (answer a m) x)) is
-serial_line-entries None None q m is = refl
+serial_line-entries region (Err fault) q m is = refl
+serial_line-entries region (Ok a) q m is = ap (λ (x : Option Operation). end_from m (entry_of q (answer a m) x)) (access-decided region q a is)
 
 -- the entries of the lines make the memory that the requests leave
 pub serial_end-entries : (region : Extent) (qs : List Request) (m : Memory) → end_from m (entries (serial region qs m)) ≡ serial_end region qs m
@@ -49,14 +48,14 @@ unfolding serial serial_end end_from
 serial_end-entries region [] m = refl
 serial_end-entries region (q ∷ qs) m =
     end_from-append m (line_entries line) (entries (serial region qs later))
-    ∙ (ap (λ (n : Memory). end_from n (entries (serial region qs later))) (serial_line-entries (refusal q region) (access q) q m refl)
+    ∙ (ap (λ (n : Memory). end_from n (entries (serial region qs later))) (serial_line-entries region (decision q region) q m refl)
     ∙ serial_end-entries region qs later)
   where
     line : Line
-    line = serial_line (refusal q region) (access q) q m
+    line = serial_line (decision q region) q m
 
     later : Memory
-    later = serial_after (refusal q region) (access q) m
+    later = serial_after (decision q region) m
 
 -- a legal history that is free of all other numbers is one requester's
 pub of-alone : (o : Opening) (m : Memory) (src : ℕ) (xs : List Entry) → IsLegalFrom o m xs → IsFreeOf (without src (below o.requesters)) xs → of xs src ≡ xs
@@ -95,22 +94,18 @@ unpaid_alone o limit held seen since lines all legal paid g =
 
 -- the only piece that may be told of a request by whom no other works: its refusal, or its completion with
 -- the answer of the memory before it
-pub piece_alone : (o : Opening) (policy : Policy) (limit : ℕ) (m : Memory) (q : Request) (a : Option Operation) (r : Option Refusal) (piece : List Line)
-    → refusal q o.region ≡ r → access q ≡ a → ToldOf r policy limit q piece → IsLegalFrom o m (entries piece)
-    → ((g : ℕ) → limit * retried o.region piece g ≤ 0) → piece ≡ serial_line r a q m ∷ []
+pub piece_alone : (o : Opening) (policy : Policy) (limit : ℕ) (m : Memory) (q : Request) (d : Result Operation Refusal) (piece : List Line)
+    → decision q o.region ≡ d → ToldOf d policy limit q piece → IsLegalFrom o m (entries piece)
+    → ((g : ℕ) → limit * retried o.region piece g ≤ 0) → piece ≡ serial_line d q m ∷ []
 unfolding IsLegalFrom
-piece_alone o policy limit m q a (Some fault) piece refused is told legal unpaid = told
-piece_alone o policy limit m q None None piece accepted is told legal unpaid = absurd (none_some (sym is ∙ (accepted_access o.region q accepted).1))
-  where
-    none_some : {x : Operation} → None ≡ Some x → ⊥
-    none_some h = cc
-piece_alone o policy limit m q (Some a) None piece accepted is told legal unpaid = done.1 ∙ ap (λ (p : Reply). Completed q p ∷ []) answered
+piece_alone o policy limit m q (Err fault) piece is told legal unpaid = told
+piece_alone o policy limit m q (Ok a) piece is told legal unpaid = done.1 ∙ ap (λ (p : Reply). Completed q p ∷ []) answered
   where
     done : (reply : Reply) × (piece ≡ Completed q reply ∷ [])
-    done = told_unpaid o.region policy limit q a piece is told unpaid
+    done = told_unpaid o.region policy limit q a piece (access-decided o.region q a is) told unpaid
 
     one : IsLegalFrom o m (entry q.src a done.0 ∷ [])
-    one = let P : List Entry → Type 0 = λ es. IsLegalFrom o m es in subst P (ap entries done.1 ∙ entries_one q a done.0 is) legal
+    one = let P : List Entry → Type 0 = λ es. IsLegalFrom o m es in subst P (ap entries done.1 ∙ entries_one q a done.0 (access-decided o.region q a is)) legal
 
     answered : done.0 ≡ answer a m
     answered = one.0.answered
@@ -150,7 +145,7 @@ progress_more o policy limit held start seen seen' qs q first lines lines' piece
     here = ap (end o) before.grown ∙ (end_from-append _ start (entries past) ∙ serial_end-entries o.region qs (end o start))
 
     line : piece ≡ serial o.region (q ∷ []) (end o seen)
-    line = piece_alone o policy limit (end o seen) q (access q) (refusal q o.region) piece refl refl (told_alone o.region policy limit q piece w.told)
+    line = piece_alone o policy limit (end o seen) q (decision q o.region) piece refl (told_alone o.region policy limit q piece w.told)
         (let P : List Entry → Type 0 = λ h. IsLegalFrom o (end o seen) h in subst P (sym mine) since_legal)
         (unpaid_alone o limit held seen w.since piece all since_legal w.paid)
 

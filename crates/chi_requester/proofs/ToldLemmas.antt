@@ -1,14 +1,14 @@
 -- what is told of requests, and the RetryAcks in it
-use Rattle.std.proofs.Common.{◌≡◌, ℕ, ◌+◌, ◌*◌, ◌≤◌, ◌==◌, List, [], ◌∷◌, ◌++◌, Option, None, Some, refl, sym, ap, subst, ◌∙◌, eq-eqb, zero-add, arith, append_assoc, append-nil, inl, inr}
+use Rattle.std.proofs.Common.{◌≡◌, ℕ, ◌+◌, ◌*◌, ◌≤◌, ◌==◌, List, [], ◌∷◌, ◌++◌, Option, None, Some, Ok, refl, sym, ap, subst, ◌∙◌, eq-eqb, zero-add, arith, append_assoc, append-nil, inl, inr}
+use Rattle.std.proofs.lemmas.Grind.{common_steps}
 use Rattle.std.proofs.lemmas.List.Sums.{sum_by-append}
 use Rattle.std.specs.Prelude.{option_map}
 use Rattle.chi_fields.specs.declared.kind.Kind.{Kind}
-use Rattle.chi_fields.specs.declared.refusal.Refusal.TheVariants.{UnknownOpcode}
 use Rattle.chi_fields.specs.declared.request.Request.{Request}
 use Rattle.chi_fields.specs.Extent.{Extent, granule_of}
 use Rattle.chi_fields.specs.Opcode.{kind_of}
 use Rattle.chi_fields.specs.Operation.{Operation}
-use Rattle.chi_fields.specs.Refusal.{access, access_as, refusal, refusal_of}
+use Rattle.chi_fields.specs.Refusal.{access, access_as, decision, decision_as, decision_of}
 use Rattle.chi_lanes.specs.declared.reply.Reply.{Reply}
 use Rattle.chi_history.specs.declared.line.Line.{Line}
 use Rattle.chi_history.specs.declared.line.Line.TheVariants.{Completed, Retried}
@@ -19,17 +19,17 @@ use Rattle.chi_requester.specs.declared.policy.Policy.TheVariants.{Resend, Retur
 use Rattle.chi_requester.specs.Told.{Retold, Told, ToldOf}
 
 -- what may be told of one request may be told of it alone
-pub told_one : (region : Extent) (policy : Policy) (limit : ℕ) (q : Request) (piece : List Line) → ToldOf (refusal q region) policy limit q piece
+pub told_one : (region : Extent) (policy : Policy) (limit : ℕ) (q : Request) (piece : List Line) → ToldOf (decision q region) policy limit q piece
     → Told region policy limit (q ∷ []) piece
 unfolding Told
 told_one region policy limit q piece told = (piece, [], sym (append-nil piece), told, refl)
 
 -- what is told of one request alone may be told of it
 pub told_alone : (region : Extent) (policy : Policy) (limit : ℕ) (q : Request) (piece : List Line) → Told region policy limit (q ∷ []) piece
-    → ToldOf (refusal q region) policy limit q piece
+    → ToldOf (decision q region) policy limit q piece
 unfolding Told
 told_alone region policy limit q piece told =
-    let P : List Line → Type 0 = λ xs. ToldOf (refusal q region) policy limit q xs in
+    let P : List Line → Type 0 = λ xs. ToldOf (decision q region) policy limit q xs in
     let all : piece ≡ told.0 = told.2 ∙ (ap (λ (xs : List Line). told.0 ++ xs) told.4 ∙ append-nil told.0) in
     subst P (sym all) told.3
 
@@ -61,20 +61,22 @@ retold_counted region Return q a piece is told =
     let g : ℕ = granule_of a.addr region in
     ap (λ (p : List Line). retried region p g) told ∙ (retried_one region q a g is ∙ ap one_if (eq-eqb g g refl))
 
--- a request that is not refused describes an access
-pub accepted_access : (region : Extent) (q : Request) → refusal q region ≡ None → (a : Operation) × (access q ≡ Some a)
-accepted_access region q accepted = by_kind (kind_of q.opcode) refl
+-- a request of this kind that is not refused has the access that it describes
+access_as-decided : (region : Extent) (q : Request) (kind : Kind) (a : Operation) → decision_as kind q region ≡ Ok a → access_as kind q ≡ a
+unfolding decision_as
+access_as-decided region q kind a decided = grind (arith, common_steps)
+
+-- so has a request of any kind
+pub access-decided : (region : Extent) (q : Request) (a : Operation) → decision q region ≡ Ok a → access q ≡ Some a
+access-decided region q a = by_kind (kind_of q.opcode)
   where
-    by_kind : (k : Option Kind) → kind_of q.opcode ≡ k → (a : Operation) × (access q ≡ Some a)
-    by_kind (Some kind) is = (access_as kind q, ap (λ (k : Option Kind). option_map (λ (x : Kind). access_as x q) k) is)
-    by_kind None is = absurd (unknown (sym (ap (λ (k : Option Kind). refusal_of k q region) is) ∙ accepted))
-      where
-        unknown : Some UnknownOpcode ≡ None → ⊥
-        unknown h = cc
+    by_kind : (k : Option Kind) → decision_of k q region ≡ Ok a → option_map (λ (kind : Kind). access_as kind q) k ≡ Some a
+    by_kind None decided = cc
+    by_kind (Some kind) decided = ap (λ (o : Operation). Some o) (access_as-decided region q kind a decided)
 
 -- where no RetryAck is paid for, a request that is not refused is told of by its completion alone
 pub told_unpaid : (region : Extent) (policy : Policy) (limit : ℕ) (q : Request) (a : Operation) (piece : List Line) → access q ≡ Some a
-    → ToldOf None policy limit q piece → ((g : ℕ) → limit * retried region piece g ≤ 0) → (reply : Reply) × (piece ≡ Completed q reply ∷ [])
+    → ToldOf (Ok a) policy limit q piece → ((g : ℕ) → limit * retried region piece g ≤ 0) → (reply : Reply) × (piece ≡ Completed q reply ∷ [])
 told_unpaid region policy limit q a piece is told unpaid = elim told [ inl done ↦ done | inr retry ↦ absurd (never retry.0 retry.1) ]
   where
     never : 1 ≤ limit → Retold policy q piece → ⊥
