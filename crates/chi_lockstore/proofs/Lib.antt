@@ -1,3 +1,4 @@
 pub mod Line
+pub mod Room
 pub mod SeatLemmas
 pub mod ZeroLemmas

@@ -7,10 +7,11 @@ use crate::store::LockStore;
 use chi_fields::{Access, Region};
 use chi_history::{Credit, Gate, Home, Numbers, Served};
 use chi_lanes::Reply;
+use std::alloc::Allocator;
 use std::marker::Brand;
 use std::sync::Wait;
 
-impl Home for LockStore {
+impl<A: Allocator> Home for LockStore<A> {
     ghost use Rattle.std.specs.Prelude.{◌≡◌};
     ghost use Rattle.chi_history.specs.Views.{has};
     ghost use Rattle.chi_lockstore.specs.Seats.{zero_opening, IsSeatOf};
@@ -90,7 +91,7 @@ impl Home for LockStore {
     }
 
     fn split<R: Wait>(&self, _rt: &R, seat: &mut LockSeat, src: u8) -> LockSeat {
-        let pass = give::<Brand>(&self.cell, &mut seat.pass, src);
+        let pass = give::<Brand, A>(&self.cell, &mut seat.pass, src);
         let alone = Numbers::only(src);
         seat.numbers.remove(src);
         LockSeat {

@@ -9,7 +9,7 @@ use crossbeam_utils::rule::{Outcome, Protocol};
 pub(crate) type Words = [u64; 8];
 
 /// The cell that has the line.
-pub(crate) type Cell = RuledSeqCell<Words, View, LineRule, 8>;
+pub(crate) type Cell<A> = RuledSeqCell<Words, View, LineRule, 8, A>;
 
 /// What a seat has to step on the line.
 pub(crate) type LinePass = Pass<Words, View>;

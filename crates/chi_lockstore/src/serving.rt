@@ -3,6 +3,7 @@
 ghost use Rattle.std.specs.Prelude.{◌≡◌, ◌≤◌, ℕ, true, IsTrue, replicate};
 ghost use Rattle.chi_fields.specs.Extent.{lies_in};
 ghost use Rattle.chi_history.specs.Views.{has};
+ghost use Rattle.chi_lockstore.specs.Room.{IsSmall};
 ghost use Rattle.chi_lockstore.specs.Seats.{zero_opening, Added, IsAlone};
 ghost use Rattle.crossbeam_utils.specs.Seq.{IsSamePass, cell_view};
 
@@ -10,12 +11,13 @@ use crate::rule::{Cell, LinePass};
 use crate::steps::{look, try_once};
 use chi_fields::{Access, Region};
 use chi_lanes::{Reply, apply};
+use std::alloc::Allocator;
 use std::marker::Brand;
 use std::sync::Wait;
 
 /// Serves the operation on the words found, and again on those found instead, until no other came between.
-pub(crate) fn complete<R: Wait>(
-    cell: &Cell,
+pub(crate) fn complete<A: Allocator, R: Wait>(
+    cell: &Cell<A>,
     rt: &R,
     pass: &mut LinePass,
     src: u8,
@@ -23,6 +25,7 @@ pub(crate) fn complete<R: Wait>(
     region: &Region,
     _requesters: u8,
 ) -> Reply
+    requires small { IsSmall A.row }
     requires own { pass.old.table_id ≡ cell.now.table.shared.table_id }
     requires seat { IsAlone (cell_view pass.old) }
     requires opening { (cell_view pass.old).opening ≡ zero_opening region.now _requesters }
@@ -38,7 +41,7 @@ pub(crate) fn complete<R: Wait>(
     let mut current = look(cell, rt, pass);
     'tries: for _ in rt.forever() {
         let (next, reply) = apply(current[granule], access);
-        match try_once::<Brand, R>(cell, rt, pass, src, access, region, granule, next, current) {
+        match try_once::<Brand, A, R>(cell, rt, pass, src, access, region, granule, next, current) {
             Ok(_) => return reply,
             Err(found) => current = found,
         }

@@ -4,36 +4,38 @@ ghost use Rattle.std.specs.Prelude.{◌≡◌, ◌≤◌, ◌<◌, ℕ, [], true
 ghost use Rattle.chi_fields.specs.Extent.{IsRegion, granule_of, lies_in};
 ghost use Rattle.chi_history.specs.Told.{Applies, Reads, Replaces, Settles};
 ghost use Rattle.chi_history.specs.Views.{all_below, alone, both, has, knower, rest_of};
+ghost use Rattle.chi_lockstore.specs.Room.{IsSmall};
 ghost use Rattle.chi_lockstore.specs.Seats.{zero_opening, IsAlone};
 ghost use Rattle.crossbeam_utils.specs.Seq.{IsSamePass, cell_view};
 
 use crate::asked::{Asks, Gives, Number, Opens, Sets, Tries};
 use crate::rule::{Cell, LinePass, Look, Settle, Whole, Words};
 use chi_fields::{Access, Region};
-use std::alloc::{AllocError, Global};
+use std::alloc::{AllocError, Allocator};
 use std::sync::Wait;
 
 /// A cell of zeros, and the pass of all requesters of this opening.
-pub(crate) fn begin<Q: Opens>(
-    alloc: Global,
+pub(crate) fn begin<Q: Opens, A: Allocator + Copy>(
+    alloc: A,
     _region: &Region,
     _requesters: u8,
-) -> Result<(Cell, LinePass), AllocError>
+) -> Result<(Cell<A>, LinePass), AllocError>
+    requires small { IsSmall A.row }
     requires asked { Q.opening ≡ zero_opening _region.now _requesters }
     requires region { IsRegion _region.now }
     requires room { _region.now.granules ≤ 8 }
     ensures cell { IfOk result (λ r. r.1.table_id ≡ r.0.table.shared.table_id) }
     ensures view { IfOk result (λ r. cell_view r.1 ≡ knower (zero_opening _region.now _requesters) (all_below _requesters) []) }
 {
-    let (cell, mut pass) = Cell::ruled(alloc, [0; 8])?;
+    let (cell, mut pass) = Cell::<A>::ruled(alloc, [0; 8])?;
     let _spare = cell.split_pass::<Sets<Q>>(&mut pass);
     Ok((cell, pass))
 }
 
 /// Exchanges the line for one with `next` in the operation's granule, where it is still `current`. Where it
 /// is not, the words found come back.
-pub(crate) fn try_once<Q: Asks, R: Wait>(
-    cell: &Cell,
+pub(crate) fn try_once<Q: Asks, A: Allocator, R: Wait>(
+    cell: &Cell<A>,
     rt: &R,
     pass: &mut LinePass,
     _src: u8,
@@ -43,6 +45,7 @@ pub(crate) fn try_once<Q: Asks, R: Wait>(
     next: u64,
     current: Words,
 ) -> Result<Words, Words>
+    requires small { IsSmall A.row }
     requires own { pass.old.table_id ≡ cell.now.table.shared.table_id }
     requires asked { (_src ≡ Q.src) × (_access.now ≡ Q.access) × (current ≡ Q.current) }
     requires seat { IsAlone (cell_view pass.old) }
@@ -65,7 +68,8 @@ pub(crate) fn try_once<Q: Asks, R: Wait>(
 }
 
 /// The words of the line. A seat that holds all numbers finds those of what it has seen.
-pub(crate) fn look<R: Wait>(cell: &Cell, rt: &R, pass: &mut LinePass) -> Words
+pub(crate) fn look<A: Allocator, R: Wait>(cell: &Cell<A>, rt: &R, pass: &mut LinePass) -> Words
+    requires small { IsSmall A.row }
     requires own { pass.old.table_id ≡ cell.now.table.shared.table_id }
     requires seat { IsAlone (cell_view pass.old) }
     ensures own { IsSamePass pass.old pass.new }
@@ -75,7 +79,12 @@ pub(crate) fn look<R: Wait>(cell: &Cell, rt: &R, pass: &mut LinePass) -> Words
 }
 
 /// A pass for one of the numbers. The old pass keeps the others.
-pub(crate) fn give<Q: Number>(cell: &Cell, pass: &mut LinePass, _src: u8) -> LinePass
+pub(crate) fn give<Q: Number, A: Allocator>(
+    cell: &Cell<A>,
+    pass: &mut LinePass,
+    _src: u8,
+) -> LinePass
+    requires small { IsSmall A.row }
     requires own { pass.old.table_id ≡ cell.now.table.shared.table_id }
     requires asked { _src ≡ Q.number }
     requires seat { IsAlone (cell_view pass.old) }
@@ -88,7 +97,13 @@ pub(crate) fn give<Q: Number>(cell: &Cell, pass: &mut LinePass, _src: u8) -> Lin
 }
 
 /// Makes two passes one, and looks at the line: only this look tells how what both had seen goes together.
-pub(crate) fn take_in<R: Wait>(cell: &Cell, rt: &R, pass: &mut LinePass, mut other: LinePass)
+pub(crate) fn take_in<A: Allocator, R: Wait>(
+    cell: &Cell<A>,
+    rt: &R,
+    pass: &mut LinePass,
+    mut other: LinePass,
+)
+    requires small { IsSmall A.row }
     requires own { pass.old.table_id ≡ cell.now.table.shared.table_id }
     requires other_own { other.table_id ≡ cell.now.table.shared.table_id }
     requires seat { IsAlone (cell_view pass.old) }

@@ -1,6 +1,6 @@
 //! The locked store, and its opening.
 
-ghost use Rattle.std.specs.Prelude.{◌≡◌, ◌<◌, ◌⊎◌, ◌↔◌, [], IfOk, IsErrOf};
+ghost use Rattle.std.specs.Prelude.{◌≡◌, ◌^◌, ◌<◌, ◌⊎◌, ◌↔◌, [], IfOk, IsErrOf};
 ghost use Rattle.chi_history.specs.Held.{below};
 ghost use Rattle.chi_lockstore.specs.Seats.{zero_opening};
 
@@ -9,19 +9,50 @@ use crate::seat::LockSeat;
 use crate::steps::begin;
 use chi_fields::Region;
 use chi_history::{Home, MOST_NUMBERS, Numbers, OpenFault};
-use std::alloc::Global;
+use std::alloc::{Allocator, Global};
 use std::marker::Brand;
+use std::mem::size_of_val;
 
 /// A home whose memory is one line of words in a cell. An operation reads the line whole, and exchanges it for
 /// a changed one where no other came between; it never answers RetryAck.
-#[derive(Drop)]
-pub struct LockStore {
-    pub(crate) cell: Cell,
+pub struct LockStore<A: Allocator + TypeSize = Global> {
+    pub(crate) cell: Cell<A>,
     pub(crate) region: Region,
     pub(crate) requesters: u8,
+    ghost small: { A.bytes < 2 ^ 62 },
 }
 
-impl LockStore {
+impl<A: Allocator + TypeSize + Drop> Drop for LockStore<A> {
+    fn drop(self) {
+        let LockStore {
+            cell,
+            region: _,
+            requesters: _,
+        } = self;
+        drop(cell);
+    }
+}
+
+/// How many bytes a value of the type takes. Every type has it.
+pub trait TypeSize {
+    ghost use Rattle.std.specs.Prelude.{◌≡◌, ℕ};
+    ghost use Rattle.std.specs.Mem.{type_size};
+
+    ghost bytes: { ℕ };
+
+    ghost bytes_are: { bytes ≡ type_size Self.row };
+}
+
+impl<T> TypeSize for T {
+    ghost use Rattle.std.specs.Prelude.{refl};
+    ghost use Rattle.std.specs.Mem.{type_size};
+
+    ghost bytes = { type_size T.row };
+
+    ghost bytes_are = { refl };
+}
+
+impl<A: Allocator + Copy> LockStore<A> {
     /// A store of this region with 1 to 8 requesters, and the seat that holds all their numbers. The bytes of
     /// the memory are all 0. Memory for the line is asked of `alloc`, and only where the requesters are accepted.
     ///
@@ -29,24 +60,28 @@ impl LockStore {
     /// let (store, seat) = LockStore::open(alloc, region, 8)?;
     /// ```
     pub fn open(
-        alloc: Global,
+        alloc: A,
         region: Region,
         requesters: u8,
-    ) -> Result<(LockStore, LockSeat), OpenFault>
+    ) -> Result<(LockStore<A>, LockSeat), OpenFault>
         ensures refused { IsErrOf result OpenFault.RequesterCount ↔ ((requesters < 1) ⊎ (8 < requesters)) }
         ensures never { ¬ IsErrOf result OpenFault.AttemptCount }
-        ensures own { IfOk result (λ r. ⟦<LockStore as Home>⟧.belongs r.0 r.1) }
-        ensures held { IfOk result (λ r. ⟦<LockStore as Home>⟧.held r.1 ≡ below requesters) }
-        ensures seen { IfOk result (λ r. ⟦<LockStore as Home>⟧.seen r.1 ≡ []) }
-        ensures opening { IfOk result (λ r. ⟦<LockStore as Home>⟧.opening r.0 ≡ zero_opening region requesters) }
-        ensures limit { IfOk result (λ r. ⟦<LockStore as Home>⟧.limit r.0 ≡ 0) }
+        ensures own { IfOk result (λ r. ⟦<LockStore<A> as Home>⟧.belongs r.0 r.1) }
+        ensures held { IfOk result (λ r. ⟦<LockStore<A> as Home>⟧.held r.1 ≡ below requesters) }
+        ensures seen { IfOk result (λ r. ⟦<LockStore<A> as Home>⟧.seen r.1 ≡ []) }
+        ensures opening { IfOk result (λ r. ⟦<LockStore<A> as Home>⟧.opening r.0 ≡ zero_opening region requesters) }
+        ensures limit { IfOk result (λ r. ⟦<LockStore<A> as Home>⟧.limit r.0 ≡ 0) }
     {
         if requesters < 1 || requesters > MOST_NUMBERS {
             return Err(OpenFault::RequesterCount);
         }
+        // Never so: it tells the proof that the cell, which has the allocator in it, fits in memory.
+        if size_of_val(&alloc) >= 1 << 62 {
+            return Err(OpenFault::Memory);
+        }
         // It is read for what it tells: the line has the region's words.
         let _granules = region.granules();
-        let Ok((cell, pass)) = begin::<Brand>(alloc, &region, requesters) else {
+        let Ok((cell, pass)) = begin::<Brand, A>(alloc, &region, requesters) else {
             return Err(OpenFault::Memory);
         };
         let numbers = Numbers::all(requesters);

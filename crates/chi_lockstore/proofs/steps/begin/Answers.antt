@@ -9,16 +9,17 @@ use Rattle.chi_history.specs.Views.{all_below, gone, knower}
 use Rattle.chi_history.proofs.RuledLemmas.{ruled_first}
 use Rattle.chi_lockstore.specs.Seats.{zero_opening}
 use Rattle.chi_lockstore.proofs.Line.{line_opens}
+use Rattle.chi_lockstore.proofs.Room.{cell_fits}
 use Rattle.chi_lockstore.proofs.steps.begin.Goals as goal
 
 pub ruled-requires : goal.ruled-requires
-ruled-requires g c = (search rules, (search rules, ruled_first 8))
+ruled-requires g c = (cell_fits g.row.A c.requires.small, (search rules, ruled_first 8))
 
 pub split_pass-spare-requires : goal.split_pass-spare-requires
 split_pass-spare-requires g c =
     let o : Opening = zero_opening c.args._region.now c.args._requesters in
     let v : View = cell_view c.in_ok-cell.pass in (
-      search rules,
+      cell_fits g.row.A c.requires.small,
       (
         search rules,
         (

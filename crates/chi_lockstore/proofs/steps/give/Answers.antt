@@ -6,12 +6,13 @@ use Rattle.chi_history.specs.declared.view.View.{View}
 use Rattle.chi_history.specs.Rule.{Ruled}
 use Rattle.chi_history.specs.Views.{alone, rest_of}
 use Rattle.chi_lockstore.proofs.Line.{is_live, line_gives}
+use Rattle.chi_lockstore.proofs.Room.{cell_fits}
 use Rattle.chi_lockstore.proofs.steps.give.Goals as goal
 
 pub split_pass-requires : goal.split_pass-requires
 split_pass-requires g c =
     let v : View = cell_view c.args.pass.now in (
-      search rules,
+      cell_fits g.row.A c.requires.small,
       (
         search rules,
         (

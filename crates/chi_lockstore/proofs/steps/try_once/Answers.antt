@@ -9,6 +9,7 @@ use Rattle.chi_history.specs.declared.view.View.{View}
 use Rattle.chi_history.specs.Rule.{Ruled}
 use Rattle.chi_history.specs.Told.{Tries}
 use Rattle.chi_lockstore.proofs.Line.{line_tried, line_tries}
+use Rattle.chi_lockstore.proofs.Room.{cell_fits}
 use Rattle.chi_lockstore.proofs.steps.try_once.Goals as goal
 
 pub compare_exchange_as-requires : goal.compare_exchange_as-requires
@@ -20,7 +21,7 @@ compare_exchange_as-requires g c =
     (c.requires.granule ∙ ap (granule_of a.addr) c.requires.region) c.requires.holds c.len-len.ensures.lawful
     (subst (λ (r : Extent). lies_in a.addr a.len r ≡ true) c.requires.region c.requires.fits) c.requires.applies refl in
     let asked = c.requires.asked in (
-      search rules,
+      cell_fits g.row.A c.requires.small,
       (
         search rules,
         (

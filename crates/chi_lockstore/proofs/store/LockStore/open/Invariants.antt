@@ -3,4 +3,4 @@ use Rattle.chi_lockstore.specs.Seats.{zero_opening}
 use Rattle.chi_lockstore.proofs.store.LockStore.open.Given as goal
 
 abbrev pub ghosts-begin : goal.ghosts-begin
-ghosts-begin a = record { opening = zero_opening a._region.now a._requesters }
+ghosts-begin g a = record { opening = zero_opening a._region.now a._requesters }
