@@ -11,6 +11,7 @@ mod steps;
 mod store;
 #[cfg(test)]
 mod tests;
+mod type_size;
 
 pub use seat::LockSeat;
 pub use store::LockStore;

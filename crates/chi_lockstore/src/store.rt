@@ -7,6 +7,7 @@ ghost use Rattle.chi_lockstore.specs.Seats.{zero_opening};
 use crate::rule::Cell;
 use crate::seat::LockSeat;
 use crate::steps::begin;
+use crate::type_size::TypeSize;
 use chi_fields::Region;
 use chi_history::{Home, MOST_NUMBERS, Numbers, OpenFault};
 use std::alloc::{Allocator, Global};
@@ -15,6 +16,9 @@ use std::mem::size_of_val;
 
 /// A home whose memory is one line of words in a cell. An operation reads the line whole, and exchanges it for
 /// a changed one where no other came between; it never answers RetryAck.
+///
+/// The line's memory is of any allocator. The store keeps that a value of the allocator is small, since the cell
+/// has one in it.
 pub struct LockStore<A: Allocator + TypeSize = Global> {
     pub(crate) cell: Cell<A>,
     pub(crate) region: Region,
@@ -31,25 +35,6 @@ impl<A: Allocator + TypeSize + Drop> Drop for LockStore<A> {
         } = self;
         drop(cell);
     }
-}
-
-/// How many bytes a value of the type takes. Every type has it.
-pub trait TypeSize {
-    ghost use Rattle.std.specs.Prelude.{◌≡◌, ℕ};
-    ghost use Rattle.std.specs.Mem.{type_size};
-
-    ghost bytes: { ℕ };
-
-    ghost bytes_are: { bytes ≡ type_size Self.row };
-}
-
-impl<T> TypeSize for T {
-    ghost use Rattle.std.specs.Prelude.{refl};
-    ghost use Rattle.std.specs.Mem.{type_size};
-
-    ghost bytes = { type_size T.row };
-
-    ghost bytes_are = { refl };
 }
 
 impl<A: Allocator + Copy> LockStore<A> {
@@ -75,7 +60,7 @@ impl<A: Allocator + Copy> LockStore<A> {
         if requesters < 1 || requesters > MOST_NUMBERS {
             return Err(OpenFault::RequesterCount);
         }
-        // Never so: it tells the proof that the cell, which has the allocator in it, fits in memory.
+        // Never so, and known at compile time. It tells the proof that the cell fits in memory.
         if size_of_val(&alloc) >= 1 << 62 {
             return Err(OpenFault::Memory);
         }
