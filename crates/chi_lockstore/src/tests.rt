@@ -1,16 +1,14 @@
 //! The locked store on outside examples.
 
-ghost use Rattle.std.specs.Prelude.{IfOk};
-
 use crate::{LockSeat, LockStore};
 use chi_fields::{Region, Request, decode};
 use chi_history::{Credit, Gate, Home, NoGate, OpenFault, Served};
 use chi_lanes::Reply;
-use std::alloc::Allocator;
 use std::process::Abort;
 use std::sync::Wait;
 use std::test::Fail;
 
+mod allocators;
 mod threads;
 
 const WRITE: u8 = 0x1c;
@@ -229,46 +227,5 @@ fn credit_is_served_or_returned(rt: HostRuntime) -> Result<(), Fail> {
     assert_eq!(rt; reply, Reply::CompData([0; 16]));
     store.return_credit(Credit::issue(0));
     assert_eq!(rt; words_of(&rt, &store, &mut seat), [5, 0, 0, 0, 0, 0, 0, 0]);
-    Ok(())
-}
-
-// A store of one requester over any allocator.
-fn opened<A: Allocator + Copy>(
-    alloc: A,
-    region: Region,
-) -> Result<(LockStore<A>, LockSeat), OpenFault>
-    ensures { IfOk result (λ r. ⟦<LockStore<A> as Home>⟧.belongs r.0 r.1) }
-{
-    LockStore::open(alloc, region, 1)
-}
-
-#[test]
-fn any_allocator(rt: HostRuntime) -> Result<(), Fail> {
-    let (store, mut seat) = opened(rt.alloc(), Region::new(0x1000, 8)?)?;
-    let add = request(LOAD_ADD, 0, 0x0001, one_byte(0x3c));
-    assert_eq!(rt;
-        reply_of(&rt, &store, &mut seat, 0, &add),
-        Reply::CompData([0; 16])
-    );
-    assert_eq!(rt;
-        words_of(&rt, &store, &mut seat),
-        [0x3c, 0, 0, 0, 0, 0, 0, 0]
-    );
-    Ok(())
-}
-
-#[test]
-fn lent_allocator(rt: HostRuntime) -> Result<(), Fail> {
-    let alloc = rt.alloc();
-    let (store, mut seat) = LockStore::open(&alloc, Region::new(0x1000, 8)?, 1)?;
-    let add = request(LOAD_ADD, 0, 0x0001, one_byte(0x3c));
-    assert_eq!(rt;
-        reply_of(&rt, &store, &mut seat, 0, &add),
-        Reply::CompData([0; 16])
-    );
-    assert_eq!(rt;
-        words_of(&rt, &store, &mut seat),
-        [0x3c, 0, 0, 0, 0, 0, 0, 0]
-    );
     Ok(())
 }
