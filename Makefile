@@ -38,4 +38,4 @@ bench: build
 	bench/exchange.sh
 
 corpus: build
-	cd bench && cargo build --quiet --release --offline && out/release/corpus ../$(PROGRAM) 10000 $(SEED)
+	bench/build.sh && cd bench && out/release/corpus ../$(PROGRAM) 10000 $(SEED)

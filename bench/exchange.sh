@@ -36,6 +36,6 @@ build() {
   cp "$copy/crates/time_attempts/out/time_attempts" "$store"
 }
 
-(cd "$bench" && cargo build --quiet --release --offline)
+"$bench/build.sh"
 is_built || build
 "$bench/out/release/exchange" "$rounds" "$bench/out/release/bare" "$bench/out/release/row" "$store"

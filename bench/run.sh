@@ -7,11 +7,7 @@ program=$(realpath "$1")
 shift
 runs=${RUNS:-40}
 cd "$bench"
-if ! ls -d /usr/share/cargo/registry/serde_json-1.* > /dev/null 2>&1; then
-  echo "the plain program wants serde_json: apt-get install librust-serde-json-dev" >&2
-  exit 1
-fi
-cargo build --quiet --release --offline
+./build.sh
 out=out/release
 script=out/script.json
 "$out/script" > "$script"

@@ -9,8 +9,8 @@ pub fn one_history()
 
 /// An entry comes into the history by one exchange of the line that wins, of a number that the stepping seat
 /// holds. Each other step leaves the history: a look at the line, before a try, for a snapshot or after a join,
-/// an exchange that loses, a split, a join, and a pass that goes whole into another. This is so of every view that the step may leave, and of every
-/// history at which the rule then stands.
+/// an exchange that loses, a split, a join, and a pass that goes whole into another. This is so of every view
+/// that the step may leave, and of every history at which the rule then stands.
 pub fn entries_by_winning_exchanges()
     ensures exchange { ReplaceAdds }
     ensures read { ReadLeaves }
