@@ -1,6 +1,6 @@
 //! The locked store on outside examples.
 
-use crate::{LockSeat, LockStore};
+use crate::LockStore;
 use chi_fields::{Region, Request, decode};
 use chi_history::{Credit, Gate, Home, NoGate, OpenFault, Served};
 use chi_lanes::Reply;

@@ -2,7 +2,6 @@
 
 ghost use Rattle.std.specs.Prelude.{◌≡◌, ◌≢◌, Some, None, IfOk, IfErr, Ok, Err};
 ghost use Rattle.serde_json.specs.View.{view};
-ghost use Rattle.chi_fields.specs.Extent.{region_of};
 ghost use Rattle.chi_script.specs.Script.{json_value, object_script, script};
 
 use crate::fault::{MOST_REQUESTS, ScriptFault};
