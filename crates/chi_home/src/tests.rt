@@ -20,6 +20,7 @@ mod hostile_device_tests;
 mod hostile_script_tests;
 mod interference_tests;
 mod race_tests;
+mod refusing;
 mod run_tests;
 mod work_tests;
 
