@@ -15,6 +15,8 @@ mod command_tests;
 mod device_tests;
 mod fault_tests;
 mod gate_tests;
+mod growth_race_tests;
+mod growth_tests;
 mod home_tests;
 mod hostile_device_tests;
 mod hostile_script_tests;
