@@ -15,6 +15,7 @@ mod command_tests;
 mod device_tests;
 mod fault_tests;
 mod gate_tests;
+mod growth_list_tests;
 mod growth_race_tests;
 mod growth_tests;
 mod home_tests;

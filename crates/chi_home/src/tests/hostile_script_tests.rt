@@ -53,11 +53,17 @@ fn assert_refused<T: AllocGlobal + Abort + Threads + Wait + Sync>(
     assert!(rt; is_refused(&race, want), "race of {what}");
 }
 
+// A text between two others.
+fn between<T: AllocGlobal>(rt: &T, ends: (&str, &str), part: &str) -> Result<String, Fail> {
+    let (before, after) = ends;
+    Ok(joined(rt, &[before, part, after])?)
+}
+
 // The first fetch-add's script with one part exchanged for another.
 fn exchanged<T: AllocGlobal + Abort>(rt: &T, part: &str, other: &str) -> Result<String, Fail> {
     let text = script(rt, &[FETCH_ADD])?;
-    let (before, after) = text.split_once(part).expect(rt, "the script has the part");
-    Ok(joined(rt, &[before, other, after])?)
+    let ends = text.split_once(part).expect(rt, "the script has the part");
+    between(rt, ends, other)
 }
 
 // This part exchanged for the other is not as stated for this member.
@@ -182,21 +188,22 @@ fn hostile_scripts_too_long(rt: HostRuntime) -> Result<(), Fail> {
 
 #[test]
 fn hostile_scripts_of_too_many_requests(rt: HostRuntime) -> Result<(), Fail> {
+    let granules = "\"granules\":8";
     let many = script_of_many(&rt, &[READ], 4_097)?;
-    let (_, after) = many
-        .split_once("8")
+    let ends = many
+        .split_once(granules)
         .expect(&rt, "the script has its granules");
-    let text = joined(&rt, &["{\"base\":4096,\"granules\":65535", after])?;
+    let many = between(&rt, ends, "\"granules\":65535")?;
     assert_refused(
         &rt,
-        text.as_bytes(),
+        many.as_bytes(),
         ScriptFault::TooManyRequests,
         "4,097 requests",
     );
-    let (before, _) = text
+    let ends = many
         .rsplit_once(READ)
         .expect(&rt, "the script has its last request");
-    let text = joined(&rt, &[before, READ_OF_SIZE_EIGHT, "]}"])?;
+    let text = between(&rt, ends, READ_OF_SIZE_EIGHT)?;
     assert_refused(
         &rt,
         text.as_bytes(),
