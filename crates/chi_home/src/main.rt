@@ -12,7 +12,7 @@ mod run;
 mod tests;
 mod words;
 
-ghost use Rattle.chi_home.specs.Status.{IsStatus};
+ghost use Rattle.std.specs.Prelude.{◌≡◌, ◌⊎◌};
 
 use crate::fault::EngineFault;
 use crate::words::{REFUSED, run_words, tell_fault};
@@ -31,7 +31,7 @@ fn words_after_name<T: AllocGlobal + Env>(rt: &T) -> io::Result<Vec<String>> {
 
 // Tells why the words cannot be had: want of memory, or a word that is not text. The answer is the status.
 fn tell_no_words<E: Write>(fault: &io::Error, errors: &mut E) -> u8
-    ensures { IsStatus result }
+    ensures { (result ≡ 4) ⊎ (result ≡ 2) }
 {
     match fault.kind() {
         io::ErrorKind::OutOfMemory => tell_fault(&EngineFault::Memory, errors),
