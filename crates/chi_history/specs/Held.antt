@@ -1,5 +1,6 @@
 -- sets of requester numbers
-use Rattle.std.specs.Prelude.{◌≡◌, ℕ, ◌==◌, nat_lt, Bool, true, false, not, ◌&&◌, ◌||◌}
+use Rattle.std.specs.Prelude.{◌≡◌, ℕ, ◌==◌, nat_lt, Bool, true, false, not, ◌&&◌, ◌||◌, List, All}
+use Rattle.chi_fields.specs.declared.request.Request.{Request}
 
 -- the set of the numbers that pass a test
 abbrev pub Held : Type 0
@@ -24,3 +25,7 @@ union held other = λ r. held r || other r
 -- both sets share no number
 abbrev pub Apart : Held → Held → Type 0
 Apart held other = (r : ℕ) → held r ≡ true → other r ≡ false
+
+-- each request is of a requester of the set
+abbrev pub AllFrom : Held → List Request → Type 0
+AllFrom held qs = All (λ q. held q.src ≡ true) qs

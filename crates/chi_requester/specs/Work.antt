@@ -1,5 +1,5 @@
 -- what a requester's work adds to its lines and to the history
-use Rattle.std.specs.Prelude.{◌≡◌, ◌≢◌, ℕ, ◌*◌, ◌==◌, ◌≤◌, true, List, [], ◌∷◌, ◌++◌, All, filter, Result, Ok, Err}
+use Rattle.std.specs.Prelude.{◌≡◌, ◌≢◌, ℕ, ◌*◌, ◌==◌, ◌≤◌, List, [], ◌∷◌, ◌++◌, filter, Result, Ok, Err}
 use Rattle.chi_fields.specs.declared.request.Request.{Request}
 use Rattle.chi_fields.specs.Operation.{Operation}
 use Rattle.chi_lanes.specs.declared.reply.Reply.{Reply}
@@ -15,10 +15,6 @@ use Rattle.chi_requester.specs.declared.fault.WorkFault.{WorkFault}
 use Rattle.chi_requester.specs.declared.policy.Policy.{Policy}
 use Rattle.chi_requester.specs.declared.policy.Policy.TheVariants.{Resend, Return}
 use Rattle.chi_requester.specs.Told.{Told}
-
--- each request is of a requester of the set
-abbrev pub AllFrom : Held → List Request → Type 0
-AllFrom held qs = All (λ q. held q.src ≡ true) qs
 
 -- the requests of one requester, in order
 abbrev pub requests_of : List Request → ℕ → List Request

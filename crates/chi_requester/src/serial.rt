@@ -1,9 +1,8 @@
 //! Requests that are worked one after another.
 
 ghost use Rattle.std.specs.Prelude.{◌≡◌};
-ghost use Rattle.chi_history.specs.Held.{below};
+ghost use Rattle.chi_history.specs.Held.{AllFrom, below};
 ghost use Rattle.chi_requester.specs.Serial.{IsSerialRun};
-ghost use Rattle.chi_requester.specs.Work.{AllFrom};
 
 use crate::fault::WorkFault;
 use crate::policy::Policy;

@@ -1,18 +1,19 @@
 -- the requests of a script are of requesters up to the greatest one
-use Rattle.std.proofs.Common.{◌≡◌, ℕ, ◌≤◌, ◌-◌, ◌^◌, nat_le, nat_lt, Bool, true, false, if◌then◌else◌, List, length, Option, None, Some, Result, Ok, Err, IfOk, refl, subst}
+use Rattle.std.proofs.Common.{◌≡◌, ℕ, ◌+◌, ◌≤◌, ◌-◌, ◌^◌, nat_le, nat_lt, Bool, true, false, if◌then◌else◌, List, length, Option, None, Some, Result, Ok, Err, IfOk, refl, subst, arith}
 use Rattle.std.specs.Prelude.{All, is_some, ok_or, option_and_then}
-use Rattle.std.proofs.lemmas.Bool.{leb-true}
+use Rattle.std.proofs.lemmas.Bool.{leb-true, lt-ltb}
 use Rattle.std.proofs.lemmas.List.Elements.{All-nil, All-cons}
 use Rattle.serde_json.specs.Data.{Data, Items, no_items, item}
 use Rattle.serde_json.specs.Find.{get, as_number, as_u64, as_array, as_object}
 use Rattle.chi_fields.specs.Extent.{Extent, region_of}
 use Rattle.chi_fields.specs.declared.region.RegionFault.{RegionFault}
 use Rattle.chi_fields.specs.declared.request.Request.{Request}
+use Rattle.chi_history.specs.Held.{AllFrom, below}
 use Rattle.chi_script.specs.declared.fault.ScriptFault.TheVariants.{NotJson, NotObject, Missing, BadMember, TooManyRequests}
 use Rattle.chi_script.specs.declared.member.Member.{Member}
 use Rattle.chi_script.specs.declared.member.Member.TheVariants.{Base, Granules, Requests, Src, Txn, Opcode, Size, Addr, Endian, Be, Lanes}
 use Rattle.chi_script.specs.Member.{member_name}
-use Rattle.chi_script.specs.Script.{◌>>=◌, up_to, whole_number, lanes_of, member_by, number_of, request_of, element_of, requests_of, with_requests, object_script, json_value, script}
+use Rattle.chi_script.specs.Script.{◌>>=◌, up_to, whole_number, lanes_of, member_by, number_of, request_of, element_of, requests_of, with_requests, object_script}
 
 -- the requester's number is at most the greatest one
 abbrev pub IsUpTo : ℕ → Request → Type 0
@@ -99,14 +100,7 @@ object_within top d =
     counted top (region_of base granules) qs (nat_lt 4096 (length qs))
     (at_ok (requests_of top elements) qs (All (IsUpTo top)) e3 (requests_within top elements))))))
 
--- by cases on whether the value is an object
-value_by : (top : ℕ) (d : Data) (b : Bool) → IfOk (if b then object_script top d else Err NotObject) (AllUpTo top)
-value_by top d true = object_within top d
-value_by top d false = tt
-
--- each request of a script is of a requester up to the greatest one
-pub script_within : (text : List ℕ) (top : ℕ) (s : Extent × List Request) → script text top ≡ Ok s → AllUpTo top s
-unfolding script
-script_within text top s e =
-    at_ok (script text top) s (AllUpTo top) e
-    (then_ok (ok_or (json_value text) NotJson) _ (AllUpTo top) (λ d e1. value_by top d (is_some (as_object d))))
+-- so each of them stands in the set of those below the next number
+pub object_from : (top : ℕ) (d : Data) (s : Extent × List Request) → object_script top d ≡ Ok s → AllFrom (below (top + 1)) s.1
+object_from top d s read = λ k q inside.
+    let up_to = at_ok (object_script top d) s (AllUpTo top) read (object_within top d) k q inside in lt-ltb _ (top + 1) (omega (arith, up_to))

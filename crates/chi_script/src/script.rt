@@ -1,7 +1,8 @@
 //! Scripts and how one is read.
 
-ghost use Rattle.std.specs.Prelude.{◌≡◌, ◌≢◌, Some, None, IfOk, IfErr, Ok, Err};
+ghost use Rattle.std.specs.Prelude.{◌≡◌, ◌≢◌, ◌+◌, Some, None, IfOk, IfErr, Ok, Err};
 ghost use Rattle.serde_json.specs.View.{view};
+ghost use Rattle.chi_history.specs.Held.{AllFrom, below};
 ghost use Rattle.chi_script.specs.Script.{json_value, object_script, script};
 
 use crate::fault::{MOST_REQUESTS, ScriptFault};
@@ -107,10 +108,11 @@ fn object_script(alloc: Global, object: &Value, top: u8) -> Result<Script, Scrip
 /// ```
 /// let script = read_script(alloc, b"{\"base\":4096,\"granules\":8,\"requests\":[]}", 7)?;
 /// ```
-#[tactic(auto, unfolding(crate::specs::Script::script))]
+#[tactic(auto, unfolding(crate::specs::Script::script), using(crate::proofs::Within::object_from))]
 pub fn read_script(alloc: Global, text: &[u8], top: u8) -> Result<Script, ScriptFault>
     ensures ok { IfOk result (λ s. script text.now top ≡ Ok s) }
     ensures fault { IfErr result (λ f. f ≢ ScriptFault.Memory → script text.now top ≡ Err f) }
+    ensures from { IfOk result (λ s. AllFrom (below (top + 1)) s.1) }
 {
     let value = json(alloc, text)?;
     if value.is_object() {
