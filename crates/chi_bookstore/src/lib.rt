@@ -9,8 +9,6 @@ mod rule;
 mod seat;
 mod steps;
 mod store;
-#[cfg(test)]
-mod tests;
 mod tries;
 
 pub use open::MOST_ATTEMPTS;

@@ -1,8 +1,3 @@
-pub mod Words
-pub mod Opened
-pub mod Engine
-pub mod Run
-pub mod Race
 pub mod Status
 pub mod CommandLine
 pub mod Task

@@ -6,14 +6,15 @@ use Rattle.chi_bookstore.specs.Faults.{IsAttemptCount}
 use Rattle.chi_history.specs.declared.opening.OpenFault.TheVariants as open_fault
 use Rattle.chi_home.specs.declared.command.Task.{Task}
 use Rattle.chi_home.specs.declared.command.Task.TheVariants.{Run, Race}
-use Rattle.chi_home.specs.declared.fault.EngineFault.{EngineFault}
-use Rattle.chi_home.specs.declared.fault.EngineFault.TheVariants.{Open}
-use Rattle.chi_home.specs.declared.options.Options.{Options}
+use Rattle.chi_engine.specs.declared.fault.EngineFault.{EngineFault}
+use Rattle.chi_engine.specs.declared.fault.EngineFault.TheVariants.{Open}
+use Rattle.chi_engine.specs.declared.options.Options.{Options}
 use Rattle.chi_home.specs.CommandLine.{IsTaken, IsWordsFault}
-use Rattle.chi_home.specs.Engine.{KeepsUnworked, TellsOpening}
-use Rattle.chi_home.specs.Race.{RaceOutcome}
-use Rattle.chi_home.specs.Run.{Outcome}
-use Rattle.chi_home.specs.Status.{IsStatusOfWords, KeepsButForHelp, status_of}
+use Rattle.chi_engine.specs.Engine.{KeepsUnworked, TellsOpening}
+use Rattle.chi_engine.specs.Race.{RaceOutcome}
+use Rattle.chi_engine.specs.Run.{Outcome}
+use Rattle.chi_engine.specs.Status.{status_of}
+use Rattle.chi_home.specs.Status.{IsStatusOfWords, KeepsButForHelp}
 
 abbrev pub TaskOutcome : Task → Options → List ℕ → Option (List ℕ) → Option (List ℕ) → Result (Unit {0}) EngineFault → Type 0
 TaskOutcome Run options input old new result = Outcome input old new result

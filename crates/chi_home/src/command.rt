@@ -8,8 +8,8 @@ ghost use Rattle.clap.specs.declared.builder.value_parser.ValueParser.TheVariant
 ghost use Rattle.chi_bookstore.specs.Faults.{IsAttemptCount};
 ghost use Rattle.chi_home.specs.CommandLine.{IsProgram, IsTaken, IsTaskApp, IsWordsFault, option_rule};
 
-use crate::options::{Options, StoreKind};
 use chi_bookstore::MOST_ATTEMPTS;
+use chi_engine::{Options, StoreKind};
 use chi_requester::Policy;
 use clap::builder::ValueParser;
 use clap::error::ErrorKind;

@@ -2,20 +2,14 @@
 #![tactic(auto)]
 
 mod command;
-mod engine;
-mod fault;
-mod input;
-mod options;
-mod race;
-mod run;
 #[cfg(test)]
 mod tests;
 mod words;
 
 ghost use Rattle.std.specs.Prelude.{◌≡◌, ◌⊎◌};
 
-use crate::fault::EngineFault;
 use crate::words::{REFUSED, run_words, tell_fault};
+use chi_engine::EngineFault;
 use std::env::{self, Env};
 use std::io::{self, Write};
 use std::process::ExitCode;

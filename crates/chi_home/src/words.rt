@@ -2,14 +2,13 @@
 
 ghost use Rattle.std.specs.Prelude.{◌≡◌, map, string_bytes, IfSome};
 ghost use Rattle.clap.specs.Values.{kind_of};
-ghost use Rattle.chi_home.specs.Engine.{KeepsUnworked, TellsOpening};
-ghost use Rattle.chi_home.specs.Status.{IsStatus, IsStatusOfWords, KeepsButForHelp, status_of};
+ghost use Rattle.chi_engine.specs.Engine.{KeepsUnworked, TellsOpening};
+ghost use Rattle.chi_engine.specs.Status.{status_of};
+ghost use Rattle.chi_home.specs.Status.{IsStatus, IsStatusOfWords, KeepsButForHelp};
 ghost use Rattle.chi_home.specs.Task.{Ends, ProgramOutcome, TaskOutcome};
 
 use crate::command::{Task, options_of};
-use crate::engine::{engine_race, engine_run};
-use crate::fault::{EngineFault, status_of};
-use crate::options::Options;
+use chi_engine::{EngineFault, Options, engine_race, engine_run, status_of};
 use chi_history::NoGate;
 use chi_script::WriteFault;
 use clap::Error;

@@ -9,8 +9,6 @@ mod seat;
 mod serving;
 mod steps;
 mod store;
-#[cfg(test)]
-mod tests;
 mod type_size;
 
 pub use seat::LockSeat;

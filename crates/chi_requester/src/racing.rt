@@ -1,6 +1,6 @@
 //! Two requesters at work at the same time.
 
-ghost use Rattle.std.specs.Prelude.{◌≡◌, ◌≤◌, true, All};
+ghost use Rattle.std.specs.Prelude.{◌≡◌, ◌≤◌, [], true, All};
 ghost use Rattle.chi_history.specs.Held.{below};
 ghost use Rattle.chi_requester.specs.Race.{IsPairRun, IsRaceRun};
 ghost use Rattle.chi_requester.specs.Work.{IsWorkRun};
@@ -21,6 +21,25 @@ pub struct Race<A: Allocator> {
     pub one: Vec<Line, A>,
     pub two: Vec<Line, A>,
     pub zero: Vec<Line, A>,
+}
+
+impl<A: Allocator + Copy> Race<A> {
+    /// A race of which no line is told yet. It takes no memory.
+    ///
+    /// ```
+    /// let mut race = Race::new(rt.alloc());
+    /// ```
+    pub fn new(alloc: A) -> Race<A>
+        ensures one { result.one.items ≡ [] }
+        ensures two { result.two.items ≡ [] }
+        ensures zero { result.zero.items ≡ [] }
+    {
+        Race {
+            one: Vec::new(alloc),
+            two: Vec::new(alloc),
+            zero: Vec::new(alloc),
+        }
+    }
 }
 
 // What a worker hands back: its seat, its lines, and how its work ended.

@@ -1,0 +1,4 @@
+pub mod WordsLemmas
+pub mod WrittenLemmas
+pub mod RunLemmas
+pub mod RaceLemmas

@@ -1,0 +1,86 @@
+-- what a script's work over a fresh home did
+use Rattle.std.proofs.Common.{◌≡◌, ℕ, ◌<◌, List, [], ◌++◌, length, slice_index, sym, ap, subst, ◌∙◌, append-nil, Result, Ok, Err, IfErr}
+use Rattle.chi_fields.specs.declared.request.Request.{Request}
+use Rattle.chi_fields.specs.Extent.{Extent}
+use Rattle.chi_lanes.specs.Memory.{Memory, word}
+use Rattle.chi_history.specs.declared.entry.Entry.{Entry}
+use Rattle.chi_history.specs.declared.line.Line.{Line}
+use Rattle.chi_history.specs.declared.opening.Opening.{Opening}
+use Rattle.chi_history.specs.Held.{Held}
+use Rattle.chi_history.specs.History.{end, end_from, opening_memory}
+use Rattle.chi_history.specs.Lines.{entries, serial, serial_end}
+use Rattle.chi_requester.specs.declared.fault.WorkFault.{WorkFault}
+use Rattle.chi_requester.specs.Serial.{IsSerialRun}
+use Rattle.chi_requester.proofs.SerialLemmas.{serial_end-entries}
+use Rattle.chi_engine.specs.Opened.{IsFresh}
+use Rattle.chi_engine.specs.Run.{IsCut}
+use Rattle.chi_engine.specs.Words.{granule_words, opening}
+use Rattle.chi_engine.proofs.WordsLemmas.{opening_of_zeros, words_are}
+
+-- the memory at the end of nothing
+start_of : (o : Opening) (region : Extent) (held : Held) (seen : List Entry) → IsFresh o region held seen → end o seen ≡ opening
+unfolding end_from
+start_of o region held seen fresh = ap (end o) fresh.new ∙ opening_of_zeros o region.granules fresh.zeros
+
+-- the lines of the requests worked
+lines_of : (o : Opening) (s : Extent × List Request) (qs : List Request) (held : Held) (seen seen' : List Entry) (lines lines' : List Line) (r : Result (Unit {0}) WorkFault)
+    → IsFresh o s.0 held seen → lines ≡ [] → (run : IsSerialRun r o qs seen seen' lines lines') → lines' ≡ serial s.0 run.worked opening
+lines_of o s qs held seen seen' lines lines' r fresh empty run =
+    run.told ∙ (ap (λ (xs : List Line). xs ++ serial o.region run.worked (end o seen)) empty
+    ∙ (ap (λ (region : Extent). serial region run.worked (end o seen)) fresh.region
+    ∙ ap (serial s.0 run.worked) (start_of o s.0 held seen fresh)))
+
+-- after Ok every request was worked
+all_of : (worked left all : List Request) → worked ++ left ≡ all → left ≡ [] → worked ≡ all
+all_of worked left all parts none = sym (append-nil worked) ∙ (ap (λ (qs : List Request). worked ++ qs) (sym none) ∙ parts)
+
+pub told_all : (o : Opening) (s : Extent × List Request) (qs : List Request) (held : Held) (seen seen' : List Entry) (lines lines' : List Line) (done : Unit {0})
+    → IsFresh o s.0 held seen → lines ≡ [] → qs ≡ s.1 → IsSerialRun (Ok done) o qs seen seen' lines lines' → lines' ≡ serial s.0 s.1 opening
+told_all o s qs held seen seen' lines lines' done fresh empty are run =
+    lines_of o s qs held seen seen' lines lines' (Ok done) fresh empty run
+    ∙ ap (λ (rs : List Request). serial s.0 rs opening) (all_of run.worked run.left s.1 (run.parts ∙ are) run.are_left)
+
+-- the memory that a script leaves
+end_all : (o : Opening) (s : Extent × List Request) (qs : List Request) (held : Held) (seen seen' : List Entry) (lines lines' : List Line) (done : Unit {0})
+    → IsFresh o s.0 held seen → qs ≡ s.1 → IsSerialRun (Ok done) o qs seen seen' lines lines' → end o seen' ≡ serial_end s.0 s.1 opening
+end_all o s qs held seen seen' lines lines' done fresh are run =
+    ap (end o) (run.grown ∙ ap (λ (h : List Entry). h ++ added) fresh.new)
+    ∙ (serial_end-entries' ∙ (ap (λ (region : Extent). serial_end region run.worked (end o seen)) fresh.region
+    ∙ (ap (serial_end s.0 run.worked) begun ∙ ap (λ (rs : List Request). serial_end s.0 rs opening) (all_of run.worked run.left s.1 (run.parts ∙ are) run.are_left))))
+  where
+    begun : end o seen ≡ opening
+    begun = start_of o s.0 held seen fresh
+
+    added : List Entry
+    added = entries (serial o.region run.worked (end o seen))
+
+    first : opening_memory o ≡ end o seen
+    first = opening_of_zeros o s.0.granules fresh.zeros ∙ sym begun
+
+    serial_end-entries' : end_from (opening_memory o) added ≡ serial_end o.region run.worked (end o seen)
+    serial_end-entries' = ap (λ (m : Memory). end_from m added) first ∙ serial_end-entries o.region run.worked (end o seen)
+
+-- the words of that memory
+pub shown_all : (o : Opening) (s : Extent × List Request) (qs : List Request) (held : Held) (seen seen' seen'' : List Entry) (lines lines' : List Line) (done : Unit {0})
+    (words : List ℕ) → IsFresh o s.0 held seen → qs ≡ s.1 → IsSerialRun (Ok done) o qs seen seen' lines lines' → seen'' ≡ seen' → length words ≡ s.0.granules
+    → ((g : ℕ) → g < o.region.granules → slice_index words g ≡ word (end o seen'') o.region g)
+    → words ≡ granule_words (serial_end s.0 s.1 opening) s.0.base s.0.granules
+shown_all o s qs held seen seen' seen'' lines lines' done words fresh are run same count each =
+    words_are (serial_end s.0 s.1 opening) s.0 words count (λ g inside.
+    let P : Extent → Type 0 = λ region. g < region.granules in
+    each g (subst P (sym fresh.region) inside)
+    ∙ (ap (λ (h : List Entry). word (end o h) o.region g) same
+    ∙ (ap (λ (region : Extent). word (end o seen') region g) fresh.region
+    ∙ ap (λ (m : Memory). word m s.0 g) (end_all o s qs held seen seen' lines lines' done fresh are run))))
+
+-- after Memory some were not
+pub cut_after : (r : Result (Unit {0}) WorkFault) (o : Opening) (s : Extent × List Request) (qs : List Request) (held : Held) (seen seen' : List Entry) (lines lines' : List Line)
+    (fault : WorkFault) → IsFresh o s.0 held seen → lines ≡ [] → qs ≡ s.1 → IsSerialRun (Err fault) o qs seen seen' lines lines' → IfErr r (λ _. IsCut s lines')
+cut_after (Ok done) o s qs held seen seen' lines lines' fault fresh empty are run = tt
+cut_after (Err other) o s qs held seen seen' lines lines' fault fresh empty are run = record {
+  worked = run.worked;
+  left = run.left;
+  parts = run.parts ∙ are;
+  some_left = run.are_left;
+  told = lines_of o s qs held seen seen' lines lines' (Err fault) fresh empty run;
+}

@@ -1,0 +1,7 @@
+-- The words are those of the memory at the end of the history.
+use Rattle.std.proofs.Common.{rules}
+use Rattle.chi_engine.proofs.RaceLemmas.{shown_raced}
+use Rattle.chi_engine.proofs.race.race_all.Goals as goal
+
+pub returns-clause-shown : goal.returns-clause-shown
+returns-clause-shown g c = shown_raced _ _ _ _ _ c.snapshot.new.words c.requires.fresh (search rules) c.snapshot.ensures.shown

@@ -1,0 +1,73 @@
+-- what reading the input and opening a store come to, before a script is worked
+use Rattle.std.specs.Prelude.{◌≡◌, ◌≢◌, ℕ, ◌<◌, ◌≤◌, List, length, Option, Result, Ok, Err}
+use Rattle.std.specs.Io.KnownBytes.{Keeps}
+use Rattle.chi_fields.specs.declared.request.Request.{Request}
+use Rattle.chi_fields.specs.Extent.{Extent}
+use Rattle.chi_history.specs.declared.opening.OpenFault.{OpenFault}
+use Rattle.chi_history.specs.declared.opening.OpenFault.TheVariants as open_fault
+use Rattle.chi_script.specs.declared.fault.ScriptFault.TheVariants as script_fault
+use Rattle.chi_script.specs.Script.{script}
+use Rattle.chi_engine.specs.declared.fault.EngineFault.{EngineFault}
+use Rattle.chi_engine.specs.declared.fault.EngineFault.TheVariants.{Read, TooLong, Memory, Script, Open, Work, Write}
+use Rattle.chi_engine.specs.declared.options.Options.{Options}
+use Rattle.chi_engine.specs.Opened.{Opens}
+
+-- the greatest number of bytes of a script
+abbrev pub most_bytes : ℕ
+most_bytes = 4194304
+
+-- what reading the input yields: its script, for requesters up to the greatest one, or a fault
+abbrev pub Yields : List ℕ → ℕ → Result (Extent × List Request) EngineFault → Type 0
+Yields input top (Ok s) = (length input ≤ most_bytes) × (script input top ≡ Ok s)
+Yields input top (Err Read) = Unit {0}
+Yields input top (Err TooLong) = most_bytes < length input
+Yields input top (Err Memory) = Unit {0}
+Yields input top (Err (Script fault)) = fault ≢ script_fault.Memory → script input top ≡ Err fault
+Yields input top (Err fault) = ⊥
+
+-- a store that is refused: never for its requesters, and for its tries just where these are out of range
+abbrev pub Refuses : Options → OpenFault → Type 0
+Refuses options open_fault.RequesterCount = ⊥
+Refuses options open_fault.AttemptCount = Opens options → ⊥
+Refuses options open_fault.Memory = Opens options
+
+-- what an outcome tells of the store: it was opened where a script was worked
+abbrev pub TellsOpening : Options → Result (Unit {0}) EngineFault → Type 0
+TellsOpening options (Ok done) = Opens options
+TellsOpening options (Err (Open fault)) = Refuses options fault
+TellsOpening options (Err (Work fault)) = Opens options
+TellsOpening options (Err (Write fault)) = Opens options
+TellsOpening options (Err fault) = Unit {0}
+
+-- Nothing is written where no script was worked: the input could not be read, is too long or is refused as a script,
+-- the store was refused, or there was no memory for one of these.
+abbrev pub KeepsUnworked : Option (List ℕ) → Option (List ℕ) → Result (Unit {0}) EngineFault → Type 0
+KeepsUnworked old new (Ok done) = Unit {0}
+KeepsUnworked old new (Err (Work fault)) = Unit {0}
+KeepsUnworked old new (Err (Write fault)) = Unit {0}
+KeepsUnworked old new (Err fault) = Keeps old new
+
+-- what is wrong with an input, its reader or its script
+abbrev pub IsInputFault : EngineFault → Type 0
+IsInputFault Read = Unit {0}
+IsInputFault TooLong = Unit {0}
+IsInputFault Memory = Unit {0}
+IsInputFault (Script fault) = Unit {0}
+IsInputFault fault = ⊥
+
+-- The store was refused, or there was no memory for the words of its region; or it was opened, and what it worked
+-- holds.
+abbrev pub FromOpening : Result (Unit {0}) EngineFault → Type 0 → Type 0
+FromOpening (Err (Open fault)) worked = Unit {0}
+FromOpening (Err Memory) worked = Unit {0}
+FromOpening result worked = worked
+
+-- There is no script, for what is wrong with the input or its reader; or the input is a script, and what was made of
+-- it holds.
+abbrev pub FromInput : List ℕ → ℕ → Result (Unit {0}) EngineFault → (Extent × List Request → Type 0) → Type 0
+FromInput input top (Err Read) made = Unit {0}
+FromInput input top (Err TooLong) made = most_bytes < length input
+FromInput input top (Err Memory) made = Unit {0}
+FromInput input top (Err (Script fault)) made = fault ≢ script_fault.Memory → script input top ≡ Err fault
+FromInput input top result made =
+    (length input ≤ most_bytes) × ((s : Extent × List Request) × (script input top ≡ Ok s) × made s)

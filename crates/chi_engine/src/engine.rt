@@ -1,0 +1,69 @@
+//! From a script's bytes to a transcript's bytes.
+
+ghost use Rattle.std.specs.Prelude.{IfSome};
+ghost use Rattle.chi_engine.specs.Engine.{KeepsUnworked, TellsOpening};
+ghost use Rattle.chi_engine.specs.Race.{RaceOutcome};
+ghost use Rattle.chi_engine.specs.Run.{Outcome};
+
+use crate::fault::EngineFault;
+use crate::input::read_whole;
+use crate::options::Options;
+use crate::race::race_script;
+use crate::run::run_script;
+use chi_history::Gate;
+use std::io::{Read, Write};
+use std::sync::Wait;
+use std::thread::Threads;
+
+/// Reads a script, works its requests in order on a memory of zeros, and writes the transcript.
+///
+/// Nothing is written unless the whole script was read and the store was opened. Where there is no memory for
+/// the work, the lines of the requests before it are written, without memory lines. After a fault of the
+/// writer a prefix of the transcript has been written.
+///
+/// ```
+/// engine_run(rt, &mut script.as_bytes(), &mut transcript, &options)?;
+/// ```
+pub fn engine_run<T: AllocGlobal + Wait, R: Read, W: Write>(
+    rt: &T,
+    from: &mut R,
+    to: &mut W,
+    options: &Options,
+) -> Result<(), EngineFault>
+    ensures outcome { IfSome (R.remaining from.old) (λ input. Outcome input (W.contents to.old) (W.contents to.new) result) }
+    ensures opening { TellsOpening options.now result }
+    ensures unworked { KeepsUnworked (W.contents to.old) (W.contents to.new) result }
+{
+    let script = read_whole(rt.alloc(), from, 7)?;
+    run_script(rt, &script, to, options)
+}
+
+/// Reads a script, works the requests of 1 and of 2 at the same time, each with a gate of its own, and then
+/// those of 0, on a memory of zeros, and writes the transcript: the lines of 1, of 2 and of 0, and the memory.
+///
+/// Faults and what they leave written are as in `engine_run`; the lines so far are those of 1, of 2 and of 0.
+///
+/// ```
+/// engine_race(rt, &mut script.as_bytes(), &mut transcript, &options, NoGate, NoGate)?;
+/// ```
+pub fn engine_race<
+    T: AllocGlobal + Threads + Wait + Sync,
+    R: Read,
+    W: Write,
+    G1: Gate + Drop + Send,
+    G2: Gate + Drop + Send,
+>(
+    rt: &T,
+    from: &mut R,
+    to: &mut W,
+    options: &Options,
+    gate1: G1,
+    gate2: G2,
+) -> Result<(), EngineFault>
+    ensures outcome { IfSome (R.remaining from.old) (λ input. RaceOutcome options.now input (W.contents to.old) (W.contents to.new) result) }
+    ensures opening { TellsOpening options.now result }
+    ensures unworked { KeepsUnworked (W.contents to.old) (W.contents to.new) result }
+{
+    let script = read_whole(rt.alloc(), from, 2)?;
+    race_script(rt, &script, to, options, gate1, gate2)
+}

@@ -1,0 +1,14 @@
+//! The engine: from a script's bytes to a transcript's bytes, over the store of the options.
+#![tactic(auto)]
+
+mod engine;
+mod fault;
+mod input;
+mod options;
+mod race;
+mod run;
+
+pub use engine::{engine_race, engine_run};
+pub use fault::{EngineFault, status_of};
+pub use input::MOST_BYTES;
+pub use options::{Options, StoreKind};

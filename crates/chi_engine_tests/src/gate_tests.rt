@@ -1,0 +1,223 @@
+//! Gates that wait for each other: two workers at once, and a RetryAck at a chosen moment.
+
+ghost use Rattle.std.specs.Prelude.{◌≡◌, ◌≤◌};
+ghost use Rattle.chi_history.specs.Held.{below};
+
+use crate::scripts::{ADD_OF_ONE, ADD_OF_TWO, BOOK, LOCK, SEVEN_ZEROS, joined, script};
+use chi_bookstore::BookStore;
+use chi_engine::{Options, StoreKind, engine_race};
+use chi_fields::{Region, Request};
+use chi_history::{Gate, Home};
+use chi_lockstore::LockStore;
+use chi_requester::{Policy, Race, race_two};
+use std::process::Abort;
+use std::sync::Wait;
+use std::sync::atomic::{AtomicU64, Ordering};
+use std::test::Fail;
+use std::thread::{Threads, sleep};
+use std::time::{Clock, Duration};
+
+// A second add by requester 2.
+const SECOND_ADD_OF_TWO: &str =
+    "{\"src\":2,\"txn\":3,\"op\":40,\"size\":3,\"addr\":4096,\"endian\":0,\"be\":255,\"lanes\":\"01000000000000000000000000000000\"}";
+
+// How often each of two gates was paused, and how many of these pauses saw what they waited for.
+#[derive(Drop)]
+struct Pauses {
+    one: AtomicU64,
+    two: AtomicU64,
+    met: AtomicU64,
+}
+
+impl Pauses {
+    fn none() -> Pauses {
+        Pauses {
+            one: AtomicU64::new(0),
+            two: AtomicU64::new(0),
+            met: AtomicU64::new(0),
+        }
+    }
+
+    // The gate of requester 1: its first pause waits for so many of the other's.
+    fn gate_one<'a, C: Clock>(&'a self, clock: &'a C, first: u64) -> WaitingGate<'a, C> {
+        WaitingGate {
+            clock,
+            own: &self.one,
+            other: &self.two,
+            met: &self.met,
+            first,
+        }
+    }
+
+    // The gate of requester 2.
+    fn gate_two<'a, C: Clock>(&'a self, clock: &'a C, first: u64) -> WaitingGate<'a, C> {
+        WaitingGate {
+            clock,
+            own: &self.two,
+            other: &self.one,
+            met: &self.met,
+            first,
+        }
+    }
+}
+
+// A gate that at its first pause sleeps a millisecond a turn until the other was paused so often, for ten thousand
+// turns at most. Its later pauses end at once.
+#[derive(Drop)]
+struct WaitingGate<'a, C> {
+    clock: &'a C,
+    own: &'a AtomicU64,
+    other: &'a AtomicU64,
+    met: &'a AtomicU64,
+    first: u64,
+}
+
+impl<C: Clock> Gate for WaitingGate<'_, C> {
+    fn pause(&mut self, _try_no: u8) {
+        let before = self.own.fetch_add(1, Ordering::SeqCst);
+        if before > 0 {
+            return;
+        }
+        for _ in 0..10_000 {
+            if self.other.load(Ordering::SeqCst) >= self.first {
+                self.met.fetch_add(1, Ordering::SeqCst);
+                return;
+            }
+            sleep(self.clock, Duration::from_millis(1));
+        }
+    }
+}
+
+// Races a script of one request each, with gates that wait for each other.
+fn assert_engine_meets<T: AllocGlobal + Abort + Clock + Threads + Wait + Sync>(
+    rt: &T,
+    options: &Options,
+) -> Result<(), Fail> {
+    let text = script(rt, &[ADD_OF_ONE, ADD_OF_TWO])?;
+    let pauses = Pauses::none();
+    let mut to: Vec<u8> = Vec::new(rt.alloc());
+    engine_race(
+        rt,
+        &mut text.as_bytes(),
+        &mut to,
+        options,
+        pauses.gate_one(rt, 1),
+        pauses.gate_two(rt, 1),
+    )?;
+    assert_eq!(rt; pauses.met.load(Ordering::SeqCst), 2, "gate never met");
+    Ok(())
+}
+
+// An add of 1 to the first eight bytes.
+fn add(src: u8) -> Request
+    ensures { result.src ≡ src }
+{
+    let mut lanes = [0; 16];
+    lanes[0] = 1;
+    Request {
+        src,
+        txn: src,
+        opcode: 0x28,
+        size: 3,
+        addr: 0x1000,
+        endian: false,
+        be: 0x00ff,
+        lanes,
+    }
+}
+
+// The same over a home.
+fn assert_race_meets<H: Home + Sync, T: AllocGlobal + Abort + Clock + Threads + Wait + Sync>(
+    rt: &T,
+    home: &H,
+    seat: &mut H::Seat,
+) -> Result<(), Fail>
+    requires own { H.belongs home.now seat.old }
+    requires all { H.held seat.old ≡ below (H.opening home.now).requesters }
+    requires three { 3 ≤ (H.opening home.now).requesters }
+{
+    let pauses = Pauses::none();
+    let mut race = Race::new(rt.alloc());
+    let (gate1, gate2) = (pauses.gate_one(rt, 1), pauses.gate_two(rt, 1));
+    let requests = [add(1), add(2)];
+    race_two(
+        home,
+        rt,
+        seat,
+        &requests,
+        Policy::Resend,
+        gate1,
+        gate2,
+        &mut race,
+    )?;
+    assert_eq!(rt; pauses.met.load(Ordering::SeqCst), 2, "gate never met");
+    Ok(())
+}
+
+#[test]
+fn gates_meet(rt: HostRuntime) -> Result<(), Fail> {
+    assert_engine_meets(&rt, &LOCK)?;
+    assert_engine_meets(&rt, &BOOK)
+}
+
+#[test]
+fn gates_meet_by_race_two(rt: HostRuntime) -> Result<(), Fail> {
+    let region = Region::new(0x1000, 8)?;
+    let (home, mut seat) = LockStore::open(rt.alloc(), region, 3)?;
+    assert_race_meets(&rt, &home, &mut seat)?;
+    let (home, mut seat) = BookStore::open(rt.alloc(), region, 3, 4)?;
+    assert_race_meets(&rt, &home, &mut seat)
+}
+
+// One add of 1 and two of 2, where the first waits at its gate until both of the others are over.
+fn assert_late<T: AllocGlobal + Abort + Clock + Threads + Wait + Sync>(
+    rt: &T,
+    store: StoreKind,
+    want: &[&str],
+) -> Result<(), Fail> {
+    let text = script(rt, &[ADD_OF_ONE, ADD_OF_TWO, SECOND_ADD_OF_TWO])?;
+    let options = Options {
+        store,
+        attempts: 1,
+        policy: Policy::Return,
+    };
+    let pauses = Pauses::none();
+    let mut to: Vec<u8> = Vec::new(rt.alloc());
+    engine_race(
+        rt,
+        &mut text.as_bytes(),
+        &mut to,
+        &options,
+        pauses.gate_one(rt, 2),
+        pauses.gate_two(rt, 1),
+    )?;
+    assert_eq!(rt; pauses.met.load(Ordering::SeqCst), 2, "gate never met");
+    assert_eq!(rt; to.as_slice(), joined(rt, want)?.as_bytes());
+    Ok(())
+}
+
+#[test]
+fn one_retry_by_two_gates(rt: HostRuntime) -> Result<(), Fail> {
+    assert_late(
+        &rt,
+        StoreKind::Book,
+        &[
+            "1 1 28 AtomicStore.ADD 3 0000000000001000 retry\n",
+            "2 2 28 AtomicStore.ADD 3 0000000000001000 comp\n",
+            "2 3 28 AtomicStore.ADD 3 0000000000001000 comp\n",
+            "m 0000000000001000 0200000000000000\n",
+            SEVEN_ZEROS,
+        ],
+    )?;
+    assert_late(
+        &rt,
+        StoreKind::Lock,
+        &[
+            "1 1 28 AtomicStore.ADD 3 0000000000001000 comp\n",
+            "2 2 28 AtomicStore.ADD 3 0000000000001000 comp\n",
+            "2 3 28 AtomicStore.ADD 3 0000000000001000 comp\n",
+            "m 0000000000001000 0300000000000000\n",
+            SEVEN_ZEROS,
+        ],
+    )
+}

@@ -1,0 +1,19 @@
+//! Tests of the engine: worked examples from bytes to bytes, printed texts, devices and two real threads.
+#![tactic(auto)]
+
+#[cfg(test)]
+mod device_tests;
+#[cfg(test)]
+mod fault_tests;
+#[cfg(test)]
+mod gate_tests;
+#[cfg(test)]
+mod hostile_device_tests;
+#[cfg(test)]
+mod hostile_script_tests;
+#[cfg(test)]
+mod race_tests;
+#[cfg(test)]
+mod run_tests;
+#[cfg(test)]
+mod scripts;

@@ -1,0 +1,11 @@
+-- The seat is of the home, and holds what it held.
+use Rattle.std.proofs.Common.{◌≡◌}
+use Rattle.chi_history.specs.Views.{has}
+use Rattle.chi_bookstore.specs.Seats.{IsSeatOf}
+use Rattle.chi_store_tests.proofs.bookstore_tests.nine_operations_on_one_byte.Given as goal
+
+abbrev pub invariant-rows : goal.invariant-rows
+invariant-rows g l = record {
+  own : IsSeatOf l.home l.seat;
+  held : has l.seat.numbers ≡ has l.initial.seat.numbers;
+}

@@ -1,0 +1,123 @@
+//! What no clause says: each operation once, the refusals, and two real threads.
+
+ghost use Rattle.std.specs.Prelude.{◌≡◌, true};
+ghost use Rattle.chi_history.specs.Views.{has};
+ghost use Rattle.chi_bookstore.specs.Seats.{IsSeatOf};
+
+use chi_bookstore::{BookSeat, BookStore};
+use chi_fields::{Region, Request, decode};
+use chi_history::{Home, OpenFault, Served};
+use chi_lanes::Reply;
+use std::alloc::Allocator;
+use std::test::Fail;
+
+mod threads;
+
+// A request of size `2^size` at 0x1000 with this byte in lane 0.
+fn request(src: u8, opcode: u8, size: u8, be: u16, first: u8) -> Request
+    ensures { result.src ≡ src }
+{
+    let mut lanes = [0; 16];
+    lanes[0] = first;
+    Request {
+        src,
+        txn: 0,
+        opcode,
+        size,
+        addr: 0x1000,
+        endian: false,
+        be,
+        lanes,
+    }
+}
+
+// The reply, where the request is accepted and an exchange wins.
+fn reply_to<A: Allocator>(
+    home: &BookStore<A>,
+    seat: &mut BookSeat,
+    request: &Request,
+) -> Option<Reply>
+    requires own { IsSeatOf home.now seat.old }
+    requires holds { has seat.old.numbers request.now.src ≡ true }
+    ensures own { IsSeatOf home.now seat.new }
+    ensures held { has seat.new.numbers ≡ has seat.old.numbers }
+{
+    let Ok(access) = decode(request, &home.region()) else {
+        return None;
+    };
+    match home.attempt(seat, request.src, &access) {
+        Served::Done { reply, lost: _ } => Some(reply),
+        Served::Retry { credit, lost: _ } => {
+            home.return_credit(credit);
+            None
+        }
+    }
+}
+
+// Returned data with this byte in lane 0.
+fn one_byte(byte: u8) -> Reply {
+    let mut lanes = [0; 16];
+    lanes[0] = byte;
+    Reply::CompData(lanes)
+}
+
+#[test]
+fn nine_operations_on_one_byte(rt: HostRuntime) -> Result<(), Fail> {
+    let region = Region::new(0x1000, 8)?;
+    let (home, mut seat) = BookStore::open(rt.alloc(), region, 8, 4)?;
+    let rows: [(u8, u64); 9] = [
+        (0x30, 0x2c),
+        (0x31, 0xc0),
+        (0x32, 0xcc),
+        (0x33, 0xfc),
+        (0x34, 0x3c),
+        (0x35, 0xf0),
+        (0x36, 0xf0),
+        (0x37, 0x3c),
+        (0x38, 0x3c),
+    ];
+    'rows: for (opcode, after) in rows {
+        let written = reply_to(&home, &mut seat, &request(0, 0x1c, 0, 1, 0xf0));
+        assert_eq!(rt; written, Some(Reply::Comp), "{opcode:x}");
+        let before = reply_to(&home, &mut seat, &request(0, opcode, 0, 1, 0x3c));
+        assert_eq!(rt; before, Some(one_byte(0xf0)), "{opcode:x}");
+        assert!(rt; home.holds_all(&seat));
+        assert_eq!(rt; home.region().granules(), 8);
+        let mut words = [0xff; 8];
+        home.snapshot(&rt, &mut seat, &mut words);
+        assert_eq!(rt; words, [after, 0, 0, 0, 0, 0, 0, 0], "{opcode:x}");
+    }
+    Ok(())
+}
+
+#[test]
+fn open_refusals(rt: HostRuntime) -> Result<(), Fail> {
+    let region = Region::new(0x1000, 8)?;
+    for (requesters, attempts, fault) in [
+        (9, 0, OpenFault::RequesterCount),
+        (0, 4, OpenFault::RequesterCount),
+        (8, 0, OpenFault::AttemptCount),
+        (8, 17, OpenFault::AttemptCount),
+    ] {
+        match BookStore::open(rt.alloc(), region, requesters, attempts) {
+            Ok((_home, _seat)) => assert!(rt; false, "opened"),
+            Err(found) => assert!(rt; found == fault, "{requesters} and {attempts}: {found:?}"),
+        }
+    }
+    let (home, seat) = BookStore::open(rt.alloc(), region, 8, 16)?;
+    assert!(rt; home.holds_all(&seat));
+    assert!(rt; home.holds(&seat, 7));
+    assert!(rt; !home.holds(&seat, 8));
+    Ok(())
+}
+
+#[test]
+fn lent_allocator(rt: HostRuntime) -> Result<(), Fail> {
+    let alloc = rt.alloc();
+    let region = Region::new(0x1000, 8)?;
+    let (home, mut seat) = BookStore::open(&alloc, region, 1, 1)?;
+    let _ = reply_to(&home, &mut seat, &request(0, 0x28, 0, 1, 0x3c));
+    let read = reply_to(&home, &mut seat, &request(0, 0x04, 0, 0, 0));
+    assert_eq!(rt; read, Some(one_byte(0x3c)));
+    Ok(())
+}

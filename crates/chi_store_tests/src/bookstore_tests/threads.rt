@@ -1,0 +1,130 @@
+//! Two threads at one store: at the same granule, and each at its own.
+
+ghost use Rattle.std.specs.Prelude.{◌≡◌, true, IsTrue};
+ghost use Rattle.chi_fields.specs.Extent.{lies_in};
+ghost use Rattle.chi_history.specs.Views.{has};
+ghost use Rattle.chi_bookstore.specs.Seats.{IsSeatOf};
+
+use super::{reply_to, request};
+use chi_bookstore::{BookSeat, BookStore};
+use chi_fields::{Access, Region, Request, decode};
+use chi_history::{Home, Served};
+use chi_lanes::Reply;
+use std::test::Fail;
+use std::thread::join;
+
+// A thousand times the same access, each by `attempt`: the seat, and how many were done.
+fn work(home: &BookStore, mut seat: BookSeat, src: u8, access: &Access) -> (BookSeat, u64)
+    requires own { IsSeatOf home.now seat }
+    requires holds { has seat.numbers src ≡ true }
+    requires fits { IsTrue (lies_in access.now.addr access.now.len home.now.key.region) }
+    ensures own { IsSeatOf home.now result.0 }
+    ensures held { has result.0.numbers ≡ has seat.numbers }
+{
+    let mut done: u64 = 0;
+    for _ in 0..1000 {
+        match home.attempt(&mut seat, src, access) {
+            Served::Done { reply: _, lost: _ } => done = done.saturating_add(1),
+            Served::Retry { credit, lost: _ } => home.return_credit(credit),
+        }
+    }
+    (seat, done)
+}
+
+#[test]
+fn two_threads_attempt(rt: HostRuntime) -> Result<(), Fail> {
+    let region = Region::new(0x1000, 8)?;
+    let (home, mut seat) = BookStore::open(rt.alloc(), region, 3, 4)?;
+    let one = home.split(&rt, &mut seat, 1);
+    let two = home.split(&rt, &mut seat, 2);
+    let add = decode(&request(1, 0x28, 3, 0x00ff, 1), &region)?;
+    let ((one, ones), (two, twos)) = join(
+        &rt,
+        || -> (BookSeat, u64)
+            requires own { IsSeatOf home one }
+            requires holds { has one.numbers 1 ≡ true }
+            requires fits { IsTrue (lies_in add.addr add.len home.key.region) }
+            ensures own { IsSeatOf home result.0 }
+        { work(&home, one, 1, &add) },
+        || -> (BookSeat, u64)
+            requires own { IsSeatOf home two }
+            requires holds { has two.numbers 2 ≡ true }
+            requires fits { IsTrue (lies_in add.addr add.len home.key.region) }
+            ensures own { IsSeatOf home result.0 }
+        { work(&home, two, 2, &add) },
+    );
+    home.rejoin(&rt, &mut seat, one);
+    home.rejoin(&rt, &mut seat, two);
+    assert!(rt; home.holds_all(&seat));
+    let mut words = [0; 8];
+    home.snapshot(&rt, &mut seat, &mut words);
+    assert_eq!(rt; words[0], ones.saturating_add(twos));
+    assert!(rt; ones > 0, "no exchange of 1 won");
+    assert!(rt; twos > 0, "no exchange of 2 won");
+    Ok(())
+}
+
+// Swaps 250 values into the granule of `src`, each marked with `src`: the seat, and how many replies were the
+// value before.
+fn swap_in_turn(
+    home: &BookStore,
+    mut seat: BookSeat,
+    src: u8,
+    addr: u64,
+    be: u16,
+) -> (BookSeat, u64)
+    requires own { IsSeatOf home.now seat }
+    requires holds { has seat.numbers src ≡ true }
+    ensures own { IsSeatOf home.now result.0 }
+    ensures held { has result.0.numbers ≡ has seat.numbers }
+{
+    let lane = if be == 0x00ff { 0 } else { 8 };
+    let mut before = [0; 16];
+    let mut right: u64 = 0;
+    'swaps: for value in 1..=250 {
+        let mut lanes = [0; 16];
+        lanes[lane] = value;
+        lanes[lane + 1] = src;
+        let swap = Request {
+            addr,
+            be,
+            lanes,
+            ..request(src, 0x38, 3, 0, 0)
+        };
+        if reply_to(home, &mut seat, &swap) == Some(Reply::CompData(before)) {
+            right = right.saturating_add(1);
+        }
+        before = lanes;
+    }
+    (seat, right)
+}
+
+#[test]
+fn two_threads_at_their_own_granules(rt: HostRuntime) -> Result<(), Fail> {
+    let region = Region::new(0x1000, 8)?;
+    let (home, mut seat) = BookStore::open(rt.alloc(), region, 3, 1)?;
+    let one = home.split(&rt, &mut seat, 1);
+    let two = home.split(&rt, &mut seat, 2);
+    let ((one, ones), (two, twos)) = join(
+        &rt,
+        || -> (BookSeat, u64)
+            requires own { IsSeatOf home one }
+            requires holds { has one.numbers 1 ≡ true }
+            ensures own { IsSeatOf home result.0 }
+        { swap_in_turn(&home, one, 1, 0x1000, 0x00ff) },
+        || -> (BookSeat, u64)
+            requires own { IsSeatOf home two }
+            requires holds { has two.numbers 2 ≡ true }
+            ensures own { IsSeatOf home result.0 }
+        { swap_in_turn(&home, two, 2, 0x1008, 0xff00) },
+    );
+    home.rejoin(&rt, &mut seat, one);
+    home.rejoin(&rt, &mut seat, two);
+    assert_eq!(rt; ones, 250);
+    assert_eq!(rt; twos, 250);
+    assert!(rt; home.holds_all(&seat));
+    let mut words = [0; 8];
+    home.snapshot(&rt, &mut seat, &mut words);
+    assert_eq!(rt; words, [0x01fa, 0x02fa, 0, 0, 0, 0, 0, 0]);
+    Ok(())
+}

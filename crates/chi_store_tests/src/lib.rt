@@ -1,0 +1,23 @@
+//! Tests of both stores by their calls: work and races over them, interference in the tries, and refused growths.
+#![tactic(auto)]
+
+#[cfg(test)]
+mod additions;
+#[cfg(test)]
+mod bookstore_tests;
+#[cfg(test)]
+mod growth_list_tests;
+#[cfg(test)]
+mod growth_race_tests;
+#[cfg(test)]
+mod growth_tests;
+#[cfg(test)]
+mod home_tests;
+#[cfg(test)]
+mod interference_tests;
+#[cfg(test)]
+mod lockstore_tests;
+#[cfg(test)]
+mod refusing;
+#[cfg(test)]
+mod work_tests;
