@@ -33,6 +33,32 @@ impl fmt::Display for Task {
     }
 }
 
+/// The store that the program is to use.
+#[derive(Clone, Copy)]
+pub enum Store {
+    Book,
+    Lock,
+}
+
+impl Store {
+    /// The greatest number of granules that it takes.
+    fn most_granules(self) -> u16 {
+        match self {
+            Store::Book => 512,
+            Store::Lock => 8,
+        }
+    }
+}
+
+impl fmt::Display for Store {
+    fn fmt(&self, f: &mut fmt::Formatter<'_>) -> fmt::Result {
+        f.write_str(match self {
+            Store::Book => "book",
+            Store::Lock => "lock",
+        })
+    }
+}
+
 pub struct Answer {
     status: Option<i32>,
     out: Vec<u8>,
@@ -108,14 +134,22 @@ fn check_race(script: &Script, out: &[u8]) -> Result<(), String> {
     Ok(())
 }
 
+/// The script that is to be worked, or the text of the fault that is told.
+fn script_of(task: Task, store: Store, text: &[u8]) -> Result<Script, String> {
+    let script =
+        read_script(text, task.most_src()).map_err(|fault| Fault::Script(fault).to_string())?;
+    if script.region.granules > store.most_granules() {
+        return Err("region is over one line".to_string());
+    }
+    Ok(script)
+}
+
 /// The kind of a right answer, or what is wrong with it.
-pub fn check(task: Task, text: &[u8], answer: &Answer) -> Result<String, String> {
-    let (status, errors) = match read_script(text, task.most_src()) {
+pub fn check(task: Task, store: Store, text: &[u8], answer: &Answer) -> Result<String, String> {
+    let script = script_of(task, store, text);
+    let (status, errors) = match &script {
         Ok(_) => (0, String::new()),
-        Err(fault) => {
-            let fault = Fault::Script(fault);
-            (i32::from(fault.status()), format!("chihome: {fault}\n"))
-        }
+        Err(fault) => (3, format!("chihome: {fault}\n")),
     };
     if answer.status != Some(status) {
         return Err(format!("status {:?} in place of {status}", answer.status));
@@ -124,7 +158,7 @@ pub fn check(task: Task, text: &[u8], answer: &Answer) -> Result<String, String>
         let told = String::from_utf8_lossy(&answer.errors);
         return Err(format!("`{told}` in place of `{errors}`"));
     }
-    let Ok(script) = read_script(text, task.most_src()) else {
+    let Ok(script) = script else {
         if !answer.out.is_empty() {
             return Err("something on standard output".to_string());
         }

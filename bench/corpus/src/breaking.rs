@@ -6,7 +6,7 @@ use script::random::Random;
 const PAST: [(&str, &str); 10] = [
     ("base", "18446744073709551616"),
     ("base", "4503599627370496"),
-    ("granules", "9"),
+    ("granules", "513"),
     ("granules", "65536"),
     ("src", "8"),
     ("txn", "256"),

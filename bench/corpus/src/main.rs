@@ -8,7 +8,7 @@ mod answer;
 mod breaking;
 mod text;
 
-use crate::answer::{Answer, Task, answer_of, check};
+use crate::answer::{Answer, Store, Task, answer_of, check};
 use crate::breaking::broken;
 use crate::text::script_text;
 use script::random::Random;
@@ -27,9 +27,8 @@ fn seed_by_clock() -> u64 {
         .map_or(0, |since| since.as_nanos() as u64)
 }
 
-/// The words of a task by chance.
-fn words(random: &mut Random, task: Task) -> Vec<String> {
-    let store = ["book", "lock"][random.below(2) as usize];
+/// The words of a task over this store by chance.
+fn words(random: &mut Random, task: Task, store: Store) -> Vec<String> {
     let attempts = 1 + random.below(16);
     let policy = ["resend", "return"][random.below(2) as usize];
     format!("{task} --store {store} --attempts {attempts} --policy {policy}")
@@ -58,10 +57,11 @@ fn main() -> ExitCode {
         if random.below(2) == 1 {
             text = broken(&mut random, text);
         }
-        let words = words(&mut random, task);
+        let store = [Store::Book, Store::Lock][random.below(2) as usize];
+        let words = words(&mut random, task, store);
         let outcome = answer_of(program, &words, &text)
             .map_err(|fault| fault.to_string())
-            .and_then(|answer: Answer| check(task, &text, &answer));
+            .and_then(|answer: Answer| check(task, store, &text, &answer));
         match outcome {
             Ok(kind) => *counts.entry(kind).or_default() += 1,
             Err(wrong) => {

@@ -8,11 +8,12 @@ use script::request::{Place, accepted, refused, write_request};
 const ADDRESSES: u64 = 1 << 52;
 
 fn place(random: &mut Random) -> Place {
-    let granules = 1 + random.below(8);
+    let most = [8, 512][random.below(2) as usize];
+    let granules = 1 + random.below(most);
     let base = match random.below(3) {
         0 => 64 * random.below(64),
-        1 => ADDRESSES - 64,
-        _ => 64 * random.below(ADDRESSES / 64),
+        1 => ADDRESSES - 64 * granules.div_ceil(8),
+        _ => 64 * random.below(ADDRESSES / 64 - 64),
     };
     Place { base, granules }
 }

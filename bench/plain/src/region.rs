@@ -24,7 +24,7 @@ impl Region {
         if !base.is_multiple_of(64) {
             return Err(RegionFault::BaseNotLineAligned);
         }
-        if !(1..=8).contains(&granules) {
+        if !(1..=512).contains(&granules) {
             return Err(RegionFault::GranuleCount);
         }
         if base > ADDRESSES - 8 * u64::from(granules) {

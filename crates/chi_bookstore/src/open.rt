@@ -2,7 +2,8 @@
 
 ghost use Rattle.std.specs.Prelude.{◌≡◌, [], IfErr, IfOk, replicate};
 ghost use Rattle.chi_history.specs.Held.{below};
-ghost use Rattle.chi_bookstore.specs.Faults.{IsAttemptCount, IsRequesterCount, Meets};
+ghost use Rattle.chi_history.specs.Opened.{IsRequesterCount};
+ghost use Rattle.chi_bookstore.specs.Faults.{IsAttemptCount, Meets};
 
 use crate::rule::Key;
 use crate::seat::BookSeat;
@@ -25,6 +26,8 @@ fn zeros<A: Allocator>(alloc: A, count: u16) -> Result<Vec<u64, A>, AllocError>
 impl<A: Allocator + Copy> BookStore<A> {
     /// Opens a home for so many requesters, 1 to `MOST_NUMBERS`, whose requests get at most so many tries, 1 to
     /// `MOST_ATTEMPTS`. Every byte of the region is 0.
+    ///
+    /// The faults, in order: `RequesterCount`, `AttemptCount`, `Memory`.
     ///
     /// ```
     /// let (home, mut seat) = BookStore::open(rt.alloc(), region, 3, 4)?;

@@ -10,7 +10,9 @@ use Rattle.chi_script.specs.Script.{script}
 use Rattle.chi_engine.specs.declared.fault.EngineFault.{EngineFault}
 use Rattle.chi_engine.specs.declared.fault.EngineFault.TheVariants.{Read, TooLong, Memory, Script, Open, Work, Write}
 use Rattle.chi_engine.specs.declared.options.Options.{Options}
-use Rattle.chi_engine.specs.Opened.{Opens}
+use Rattle.chi_engine.specs.declared.options.StoreKind.{StoreKind}
+use Rattle.chi_engine.specs.declared.options.StoreKind.TheVariants as store_kind
+use Rattle.chi_engine.specs.Opened.{Opens, OpensOn}
 
 -- the greatest number of bytes of a script
 abbrev pub most_bytes : ℕ
@@ -25,10 +27,12 @@ Yields input top (Err Memory) = Unit {0}
 Yields input top (Err (Script fault)) = fault ≢ script_fault.Memory → script input top ≡ Err fault
 Yields input top (Err fault) = ⊥
 
--- a store that is refused: never for its requesters, and for its tries just where these are out of range
+-- a store that is refused: never for its requesters, for its tries just where these are out of range, and for its
+-- region only if it is the locked one
 abbrev pub Refuses : Options → OpenFault → Type 0
 Refuses options open_fault.RequesterCount = ⊥
 Refuses options open_fault.AttemptCount = Opens options → ⊥
+Refuses options open_fault.NotOneLine = options.store ≡ store_kind.Lock
 Refuses options open_fault.Memory = Opens options
 
 -- what an outcome tells of the store: it was opened where a script was worked
@@ -38,6 +42,20 @@ TellsOpening options (Err (Open fault)) = Refuses options fault
 TellsOpening options (Err (Work fault)) = Opens options
 TellsOpening options (Err (Write fault)) = Opens options
 TellsOpening options (Err fault) = Unit {0}
+
+-- a store that is refused on a region of so many granules: for this region just where it does not open on it
+abbrev pub RefusesOn : StoreKind → ℕ → OpenFault → Type 0
+RefusesOn store granules open_fault.NotOneLine = OpensOn store granules → ⊥
+RefusesOn store granules open_fault.Memory = OpensOn store granules
+RefusesOn store granules fault = Unit {0}
+
+-- what an outcome tells of the script's region: the store was opened on it where the script was worked
+abbrev pub TellsRegion : StoreKind → ℕ → Result (Unit {0}) EngineFault → Type 0
+TellsRegion store granules (Ok done) = OpensOn store granules
+TellsRegion store granules (Err (Open fault)) = RefusesOn store granules fault
+TellsRegion store granules (Err (Work fault)) = OpensOn store granules
+TellsRegion store granules (Err (Write fault)) = OpensOn store granules
+TellsRegion store granules (Err fault) = Unit {0}
 
 -- Nothing is written where no script was worked: the input could not be read, is too long or is refused as a script,
 -- the store was refused, or there was no memory for one of these.

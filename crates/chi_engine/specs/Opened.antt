@@ -1,6 +1,7 @@
 -- how a home is opened for the program
 use Rattle.std.specs.Prelude.{◌≡◌, ℕ, List, [], replicate}
 use Rattle.chi_bookstore.specs.Faults.{IsAttemptCount}
+use Rattle.chi_lockstore.specs.Faults.{IsWithinLine}
 use Rattle.chi_fields.specs.Extent.{Extent}
 use Rattle.chi_history.specs.declared.entry.Entry.{Entry}
 use Rattle.chi_history.specs.declared.opening.Opening.{Opening}
@@ -20,6 +21,11 @@ OpensWith Book attempts = IsAttemptCount attempts
 
 abbrev pub Opens : Options → Type 0
 Opens options = OpensWith options.store options.attempts
+
+-- the store opens on a region of so many granules
+abbrev pub OpensOn : StoreKind → ℕ → Type 0
+OpensOn Lock granules = IsWithinLine granules
+OpensOn Book granules = Unit {0}
 
 -- how many lost tries a request may have
 abbrev pub limit_with : StoreKind → ℕ → ℕ

@@ -16,7 +16,7 @@ use Rattle.chi_script.specs.Written.{AppendsFront}
 use Rattle.chi_engine.specs.declared.fault.EngineFault.{EngineFault}
 use Rattle.chi_engine.specs.declared.fault.EngineFault.TheVariants.{Work, Write}
 use Rattle.chi_engine.specs.declared.options.Options.{Options}
-use Rattle.chi_engine.specs.Engine.{FromInput, FromOpening}
+use Rattle.chi_engine.specs.Engine.{FromInput, FromOpening, TellsRegion}
 use Rattle.chi_engine.specs.Opened.{limit_of, requester_count}
 use Rattle.chi_engine.specs.Run.{memory_text}
 
@@ -61,7 +61,8 @@ Races policy limit s old new (Err fault) = ⊥
 
 -- the same over the store of the options
 abbrev pub RacesBy : Options → Extent × List Request → Option (List ℕ) → Option (List ℕ) → Result (Unit {0}) EngineFault → Type 0
-RacesBy options s old new result = FromOpening result (Races options.policy (limit_of options) s old new result)
+RacesBy options s old new result =
+    TellsRegion options.store s.0.granules result × FromOpening result (Races options.policy (limit_of options) s old new result)
 
 -- after Ok the transcript of a race of the input's script was written; what each fault means, and what was
 -- written then

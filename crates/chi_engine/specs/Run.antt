@@ -10,7 +10,8 @@ use Rattle.chi_script.specs.Transcript.{memtext, text}
 use Rattle.chi_script.specs.Written.{AppendsFront}
 use Rattle.chi_engine.specs.declared.fault.EngineFault.{EngineFault}
 use Rattle.chi_engine.specs.declared.fault.EngineFault.TheVariants.{Work, Write}
-use Rattle.chi_engine.specs.Engine.{FromInput, FromOpening}
+use Rattle.chi_engine.specs.declared.options.Options.{Options}
+use Rattle.chi_engine.specs.Engine.{FromInput, FromOpening, TellsRegion}
 use Rattle.chi_engine.specs.Words.{granule_words, opening}
 
 -- the greatest requester number in a run
@@ -41,10 +42,10 @@ Works s old new (Err (Work fault)) = (lines : List Line) × IsCut s lines × App
 Works s old new (Err (Write fault)) = AppendsFront old new (transcript s)
 Works s old new (Err fault) = ⊥
 
--- the same over a store that may be refused
-abbrev pub WorksBy : Extent × List Request → Option (List ℕ) → Option (List ℕ) → Result (Unit {0}) EngineFault → Type 0
-WorksBy s old new result = FromOpening result (Works s old new result)
+-- the same over the store of the options, which may be refused
+abbrev pub WorksBy : Options → Extent × List Request → Option (List ℕ) → Option (List ℕ) → Result (Unit {0}) EngineFault → Type 0
+WorksBy options s old new result = TellsRegion options.store s.0.granules result × FromOpening result (Works s old new result)
 
 -- after Ok the transcript of the input's script was written; what each fault means, and what was written then
-abbrev pub Outcome : List ℕ → Option (List ℕ) → Option (List ℕ) → Result (Unit {0}) EngineFault → Type 0
-Outcome input old new result = FromInput input most_src result (λ s. WorksBy s old new result)
+abbrev pub Outcome : Options → List ℕ → Option (List ℕ) → Option (List ℕ) → Result (Unit {0}) EngineFault → Type 0
+Outcome options input old new result = FromInput input most_src result (λ s. WorksBy options s old new result)

@@ -30,7 +30,7 @@ pub fn engine_run<T: AllocGlobal + Wait, R: Read, W: Write>(
     to: &mut W,
     options: &Options,
 ) -> Result<(), EngineFault>
-    ensures outcome { IfSome (R.remaining from.old) (λ input. Outcome input (W.contents to.old) (W.contents to.new) result) }
+    ensures outcome { IfSome (R.remaining from.old) (λ input. Outcome options.now input (W.contents to.old) (W.contents to.new) result) }
     ensures opening { TellsOpening options.now result }
     ensures unworked { KeepsUnworked (W.contents to.old) (W.contents to.new) result }
 {

@@ -87,7 +87,7 @@ pub(crate) fn run_script<T: AllocGlobal + Wait, W: Write>(
     options: &Options,
 ) -> Result<(), EngineFault>
     requires from { AllFrom (below (most_src + 1)) script.now.1 }
-    ensures worked { WorksBy script.now (W.contents to.old) (W.contents to.new) result }
+    ensures worked { WorksBy options.now script.now (W.contents to.old) (W.contents to.new) result }
     ensures opening { TellsOpening options.now result }
     ensures unworked { KeepsUnworked (W.contents to.old) (W.contents to.new) result }
 {

@@ -74,7 +74,7 @@ fn script_faults(rt: HostRuntime) -> Result<(), Fail> {
     )?;
     assert_refused(
         &rt,
-        "{\"base\":4096,\"granules\":9,\"requests\":[]}",
+        "{\"base\":4096,\"granules\":513,\"requests\":[]}",
         ScriptFault::RegionRefused(RegionFault::GranuleCount),
         "script region is refused: GranuleCount",
     )?;
@@ -87,6 +87,12 @@ fn script_faults(rt: HostRuntime) -> Result<(), Fail> {
     assert_refused(
         &rt,
         "{\"base\":4503599627370496,\"granules\":1,\"requests\":[]}",
+        ScriptFault::RegionRefused(RegionFault::EndPastAddresses),
+        "script region is refused: EndPastAddresses",
+    )?;
+    assert_refused(
+        &rt,
+        "{\"base\":4503599627370432,\"granules\":9,\"requests\":[]}",
         ScriptFault::RegionRefused(RegionFault::EndPastAddresses),
         "script region is refused: EndPastAddresses",
     )
@@ -152,6 +158,11 @@ fn fault_texts_and_statuses(rt: HostRuntime) -> Result<(), Fail> {
         (
             EngineFault::Open(OpenFault::AttemptCount),
             "attempt count is refused",
+            3,
+        ),
+        (
+            EngineFault::Open(OpenFault::NotOneLine),
+            "region is over one line",
             3,
         ),
         (EngineFault::Open(OpenFault::Memory), no_memory, 4),

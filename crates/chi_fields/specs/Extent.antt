@@ -12,14 +12,14 @@ pub record Extent : Type 0 where
 pub record IsRegion (region : Extent) : Type 0 where
   pub line : region.base % 64 ≡ 0
   pub least : 1 ≤ region.granules
-  pub most : region.granules ≤ 8
+  pub most : region.granules ≤ 512
   pub end : region.base + 8 * region.granules ≤ 2 ^ 52
 
 -- the region, or the first fault
 abbrev pub region_of : ℕ → ℕ → Result Extent RegionFault
 region_of base granules =
     if not (base % 64 == 0) then Err BaseNotLineAligned
-    else if nat_lt granules 1 || nat_lt 8 granules then Err GranuleCount
+    else if nat_lt granules 1 || nat_lt 512 granules then Err GranuleCount
     else if nat_lt (2 ^ 52) (base + 8 * granules) then Err EndPastAddresses
     else Ok (record { base = base; granules = granules })
 

@@ -92,7 +92,7 @@ fn region_fault_names_and_texts(rt: HostRuntime) -> Result<(), Fail> {
         (
             RegionFault::GranuleCount,
             "GranuleCount",
-            "the number of granules is not 1 to 8",
+            "the number of granules is not 1 to 512",
         ),
         (
             RegionFault::EndPastAddresses,

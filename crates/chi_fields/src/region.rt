@@ -7,7 +7,7 @@ use std::marker::Model;
 use thiserror::Error;
 
 /// The greatest number of granules in a region.
-pub const MOST_GRANULES: u16 = 8;
+pub const MOST_GRANULES: u16 = 512;
 
 // The addresses end here: they have 52 bits.
 const ADDRESSES: u64 = 1 << 52;
@@ -47,7 +47,7 @@ impl Model for Region {
 impl Region {
     ghost use Rattle.chi_fields.specs.Extent.{IsRegion, lies_in, region_of};
 
-    /// A region of `granules` granules, 1 to 8, from the address `base` on.
+    /// A region of `granules` granules, 1 to 512, from the address `base` on.
     ///
     /// ```
     /// let region = Region::new(0x1000, 8)?;

@@ -4,6 +4,7 @@ pub mod History
 pub mod Laws
 pub mod Lines
 pub mod Numbers
+pub mod Opened
 pub mod Rule
 pub mod Served
 pub mod Told

@@ -13,7 +13,7 @@ pub struct Opening {
     pub image: LinkedList<u64>,
 }
 
-/// Why a home is not opened: the first of these that holds.
+/// Why a home is not opened. Each store says which of these it answers, and in which order.
 #[derive(Clone, Copy, Debug, PartialEq, Eq, Error)]
 pub enum OpenFault {
     #[error("requester count is refused")]
@@ -22,4 +22,6 @@ pub enum OpenFault {
     AttemptCount,
     #[error("no memory")]
     Memory,
+    #[error("region is over one line")]
+    NotOneLine,
 }

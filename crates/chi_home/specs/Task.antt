@@ -17,7 +17,7 @@ use Rattle.chi_engine.specs.Status.{status_of}
 use Rattle.chi_home.specs.Status.{IsStatusOfWords, KeepsButForHelp}
 
 abbrev pub TaskOutcome : Task → Options → List ℕ → Option (List ℕ) → Option (List ℕ) → Result (Unit {0}) EngineFault → Type 0
-TaskOutcome Run options input old new result = Outcome input old new result
+TaskOutcome Run options input old new result = Outcome options input old new result
 TaskOutcome Race options input old new result = RaceOutcome options input old new result
 
 -- 0 where it is done, else the status of its fault
@@ -32,14 +32,14 @@ Ends task options input old new status =
     (result : Result (Unit {0}) EngineFault) × TellsOpening options result × KeepsUnworked old new result
     × IfSome input (λ bytes. TaskOutcome task options bytes old new result) × (status ≡ end_status result)
 
--- the opening of a store was not refused: neither for its requesters nor for its tries
+-- the opening of a store was refused neither for its requesters nor for its tries
 abbrev pub IsUnrefused : Result (Unit {0}) EngineFault → Type 0
 IsUnrefused (Err (Open open_fault.RequesterCount)) = ⊥
 IsUnrefused (Err (Open open_fault.AttemptCount)) = ⊥
 IsUnrefused result = Unit {0}
 
 -- The words name a task, with 1 to 16 tries: `clap` finds no fault in them. The task came to an outcome of this
--- status, which is never that the opening of the store was refused.
+-- status, which is never that the store was refused for its requesters or for its tries.
 abbrev pub DoesTask : List Text → Option (List ℕ) → Option (List ℕ) → Option (List ℕ) → ℕ → Type 0
 DoesTask words input old new status =
     IsTaken words × (task : Task) × (options : Options) × (result : Result (Unit {0}) EngineFault)

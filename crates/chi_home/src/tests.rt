@@ -11,6 +11,8 @@ use std::sync::Wait;
 use std::test::Fail;
 use std::thread::Threads;
 
+mod region_tests;
+
 // A fetch-add of 1 to the first eight bytes.
 const FETCH_ADD: &str =
     "{\"base\":4096,\"granules\":8,\"requests\":[{\"src\":0,\"txn\":1,\"op\":48,\"size\":3,\"addr\":4096,\"endian\":0,\"be\":255,\"lanes\":\"01000000000000000000000000000000\"}]}";

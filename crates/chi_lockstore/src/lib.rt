@@ -11,5 +11,6 @@ mod steps;
 mod store;
 mod type_size;
 
+pub use rule::LINE_GRANULES;
 pub use seat::LockSeat;
 pub use store::LockStore;

@@ -5,11 +5,14 @@ use chi_history::View;
 use crossbeam_utils::atomic::seq_cell::{Pass, RuledSeqCell};
 use crossbeam_utils::rule::{Outcome, Protocol};
 
+/// How many granules a line has: their words are the 64 bytes that a region's base is a multiple of.
+pub const LINE_GRANULES: usize = 8;
+
 /// The line: the words of a region's granules, and zeros after them.
-pub(crate) type Words = [u64; 8];
+pub(crate) type Words = [u64; LINE_GRANULES];
 
 /// The cell that has the line.
-pub(crate) type Cell<A> = RuledSeqCell<Words, View, LineRule, 8, A>;
+pub(crate) type Cell<A> = RuledSeqCell<Words, View, LineRule, LINE_GRANULES, A>;
 
 /// What a seat has to step on the line.
 pub(crate) type LinePass = Pass<Words, View>;

@@ -3,6 +3,7 @@
 ghost use Rattle.std.specs.Prelude.{◌≡◌, ◌≤◌, ℕ, true, IsTrue, replicate};
 ghost use Rattle.chi_fields.specs.Extent.{lies_in};
 ghost use Rattle.chi_history.specs.Views.{has};
+ghost use Rattle.chi_lockstore.specs.Faults.{IsWithinLine};
 ghost use Rattle.chi_lockstore.specs.Room.{IsSmall};
 ghost use Rattle.chi_lockstore.specs.Seats.{zero_opening, Added, IsAlone};
 ghost use Rattle.crossbeam_utils.specs.Seq.{IsSamePass, cell_view};
@@ -26,6 +27,7 @@ pub(crate) fn complete<A: Allocator, R: Wait>(
     _requesters: u8,
 ) -> Reply
     requires small { IsSmall A.row }
+    requires line { IsWithinLine region.now.granules }
     requires own { pass.old.table_id ≡ cell.now.table.shared.table_id }
     requires seat { IsAlone (cell_view pass.old) }
     requires opening { (cell_view pass.old).opening ≡ zero_opening region.now _requesters }
@@ -34,7 +36,7 @@ pub(crate) fn complete<A: Allocator, R: Wait>(
     ensures own { IsSamePass pass.old pass.new }
     ensures added { Added (cell_view pass.old) src access.now result (cell_view pass.new) }
 {
-    // Both are read for what they tell: the access is lawful, and the line has the region's words.
+    // Both are read for what they tell: the access is lawful, and the region is one.
     let _len = access.len();
     let _granules = region.granules();
     let granule = access.granule(region);

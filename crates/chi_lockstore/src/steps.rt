@@ -4,12 +4,13 @@ ghost use Rattle.std.specs.Prelude.{◌≡◌, ◌≤◌, ◌<◌, ℕ, [], true
 ghost use Rattle.chi_fields.specs.Extent.{IsRegion, granule_of, lies_in};
 ghost use Rattle.chi_history.specs.Told.{Applies, Reads, Replaces, Settles};
 ghost use Rattle.chi_history.specs.Views.{all_below, alone, both, has, knower, rest_of};
+ghost use Rattle.chi_lockstore.specs.Faults.{IsWithinLine};
 ghost use Rattle.chi_lockstore.specs.Room.{IsSmall};
 ghost use Rattle.chi_lockstore.specs.Seats.{zero_opening, IsAlone};
 ghost use Rattle.crossbeam_utils.specs.Seq.{IsSamePass, cell_view};
 
 use crate::asked::{Asks, Gives, Number, Opens, Sets, Tries};
-use crate::rule::{Cell, LinePass, Look, Settle, Whole, Words};
+use crate::rule::{Cell, LINE_GRANULES, LinePass, Look, Settle, Whole, Words};
 use chi_fields::{Access, Region};
 use std::alloc::{AllocError, Allocator};
 use std::sync::Wait;
@@ -23,11 +24,11 @@ pub(crate) fn begin<Q: Opens, A: Allocator + Copy>(
     requires small { IsSmall A.row }
     requires asked { Q.opening ≡ zero_opening _region.now _requesters }
     requires region { IsRegion _region.now }
-    requires room { _region.now.granules ≤ 8 }
+    requires line { IsWithinLine _region.now.granules }
     ensures cell { IfOk result (λ r. r.1.table_id ≡ r.0.table.shared.table_id) }
     ensures view { IfOk result (λ r. cell_view r.1 ≡ knower (zero_opening _region.now _requesters) (all_below _requesters) []) }
 {
-    let (cell, mut pass) = Cell::<A>::ruled(alloc, [0; 8])?;
+    let (cell, mut pass) = Cell::<A>::ruled(alloc, [0; LINE_GRANULES])?;
     let _spare = cell.split_pass::<Sets<Q>>(&mut pass);
     Ok((cell, pass))
 }

@@ -51,9 +51,9 @@ unfolding serde_json_on_literals is_utf8 chars script json_value object_script n
 script-two_wrong = refl
 
 -- one granule too many
-pub script-nine_granules : script (codes "{\"base\":4096,\"granules\":9,\"requests\":[]}") 7 ≡ Err (RegionRefused GranuleCount)
+pub script-granules_513 : script (codes "{\"base\":4096,\"granules\":513,\"requests\":[]}") 7 ≡ Err (RegionRefused GranuleCount)
 unfolding serde_json_on_literals is_utf8 chars script json_value object_script requests_of number_of
-script-nine_granules = refl
+script-granules_513 = refl
 
 -- the base's fault comes before that of the number of granules
 pub script-two_faults : script (codes "{\"base\":4097,\"granules\":0,\"requests\":[]}") 7 ≡ Err (RegionRefused BaseNotLineAligned)

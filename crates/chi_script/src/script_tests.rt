@@ -120,7 +120,7 @@ fn script_faults(rt: HostRuntime) -> Result<(), Fail> {
         ("\"4096\"", "8", Some(ScriptFault::BadMember(Member::Base))),
         (
             "4096",
-            "9",
+            "513",
             Some(ScriptFault::RegionRefused(RegionFault::GranuleCount)),
         ),
         (
@@ -128,6 +128,7 @@ fn script_faults(rt: HostRuntime) -> Result<(), Fail> {
             "0",
             Some(ScriptFault::RegionRefused(RegionFault::BaseNotLineAligned)),
         ),
+        ("4096", "512", None),
         ("4503599627370432", "8", None),
         (
             "4503599627370496",

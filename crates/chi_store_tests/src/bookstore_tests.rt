@@ -5,7 +5,7 @@ ghost use Rattle.chi_history.specs.Views.{has};
 ghost use Rattle.chi_bookstore.specs.Seats.{IsSeatOf};
 
 use chi_bookstore::{BookSeat, BookStore};
-use chi_fields::{Region, Request, decode};
+use chi_fields::{Refusal, Region, Request, decode};
 use chi_history::{Home, OpenFault, Served};
 use chi_lanes::Reply;
 use std::alloc::Allocator;
@@ -108,6 +108,27 @@ fn open_refusals(rt: HostRuntime) -> Result<(), Fail> {
     assert!(rt; home.holds_all(&seat));
     assert!(rt; home.holds(&seat, 7));
     assert!(rt; !home.holds(&seat, 8));
+    Ok(())
+}
+
+#[test]
+fn region_of_512_granules(rt: HostRuntime) -> Result<(), Fail> {
+    let region = Region::new(0x1000, 512)?;
+    let (home, mut seat) = BookStore::open(rt.alloc(), region, 8, 4)?;
+    let mut add = request(0, 0x30, 3, 0xff00, 0);
+    add.lanes[8] = 1;
+    add.addr = 0x1ff8;
+    let before = reply_to(&home, &mut seat, &add);
+    assert_eq!(rt; before, Some(Reply::CompData([0; 16])));
+    add.addr = 0x2000;
+    assert_eq!(rt; decode(&add, &region).err(), Some(Refusal::OutOfRegion));
+    assert!(rt; home.holds_all(&seat));
+    assert_eq!(rt; home.region().granules(), 512);
+    let mut words = [0xff; 512];
+    home.snapshot(&rt, &mut seat, &mut words);
+    let mut want = [0; 512];
+    want[511] = 1;
+    assert_eq!(rt; words, want);
     Ok(())
 }
 

@@ -149,6 +149,11 @@ fn open_refusals(rt: HostRuntime) -> Result<(), Fail> {
     assert_eq!(rt; none.err(), Some(OpenFault::RequesterCount));
     let nine = LockStore::open(rt.alloc(), region, 9);
     assert_eq!(rt; nine.err(), Some(OpenFault::RequesterCount));
+    let longer = Region::new(0x1000, 9)?;
+    let over_one_line = LockStore::open(rt.alloc(), longer, 8);
+    assert_eq!(rt; over_one_line.err(), Some(OpenFault::NotOneLine));
+    let both = LockStore::open(rt.alloc(), longer, 9);
+    assert_eq!(rt; both.err(), Some(OpenFault::RequesterCount));
     let (store, seat) = LockStore::open(rt.alloc(), region, 8)?;
     assert!(rt; store.holds_all(&seat));
     assert_eq!(rt; store.requesters(), 8);

@@ -8,13 +8,13 @@ use Rattle.chi_lockstore.proofs.ZeroLemmas.{added_zero, applies_zero}
 use Rattle.chi_lockstore.proofs.serving.complete.Goals as goal
 
 pub offset_bounds-current-granule : goal.offset_bounds-current-granule
-offset_bounds-current-granule g c = omega (arith, c.granules-granules.ensures.region.most, c.granules-granules.ensures.value, c.granule-granule.ensures.within)
+offset_bounds-current-granule g c = omega (arith, c.requires.line, c.granule-granule.ensures.within)
 
 pub bounds-current-granule : goal.bounds-current-granule
-bounds-current-granule g c = omega (arith, c.granules-granules.ensures.region.most, c.granule-granule.ensures.within)
+bounds-current-granule g c = omega (arith, c.requires.line, c.granule-granule.ensures.within)
 
 pub try_once-requires-clause-below : goal.try_once-requires-clause-below
-try_once-requires-clause-below g c = omega (arith, c.granules-granules.ensures.region.most, c.granule-granule.ensures.within)
+try_once-requires-clause-below g c = omega (arith, c.requires.line, c.granule-granule.ensures.within)
 
 pub try_once-requires-clause-applies : goal.try_once-requires-clause-applies
 try_once-requires-clause-applies g c =

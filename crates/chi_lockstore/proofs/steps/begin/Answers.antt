@@ -25,7 +25,7 @@ split_pass-spare-requires g c =
         (
           search rules,
           subst (λ (z : Opening). Forks (Ruled 8) c.in_ok-cell.pass.id v (knower z (all_below z.requesters) []) gone) (sym c.requires.asked)
-              (line_opens o c.in_ok-cell.pass.id v (search rules) c.requires.region c.requires.room),
+              (line_opens o c.in_ok-cell.pass.id v (search rules) c.requires.region c.requires.line),
         ),
       ),
     )
