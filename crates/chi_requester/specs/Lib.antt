@@ -1,4 +1,5 @@
 pub mod Told
 pub mod Work
 pub mod Serial
+pub mod Team
 pub mod Race

@@ -7,7 +7,7 @@ use Rattle.chi_history.specs.declared.entry.Entry.{Entry}
 use Rattle.chi_history.specs.declared.line.Line.{Line}
 use Rattle.chi_history.specs.declared.line.Line.TheVariants.{Completed}
 use Rattle.chi_history.specs.declared.opening.Opening.{Opening}
-use Rattle.chi_history.specs.Held.{Held, without}
+use Rattle.chi_history.specs.Held.{Held, only, union, without}
 use Rattle.chi_history.specs.History.{IsFreeOf, hits, of}
 use Rattle.chi_history.specs.Lines.{entries, retried}
 use Rattle.chi_history.specs.Served.{Completes}
@@ -53,3 +53,21 @@ pub record IsWorkRun (result : Result (Unit {0}) WorkFault) (o : Opening) (polic
   pub appended : List Line
   pub kept : lines' ≡ lines ++ appended
   pub worked : IsWorked o policy limit held src seen seen' done appended
+
+-- The lines tell of these requests of src, and what src did after the history seen is what they tell of. Each
+-- RetryAck was paid for by as many changes of its granule as the limit says, made by others than 0 and src.
+pub record IsRacer (o : Opening) (policy : Policy) (limit : ℕ) (src : ℕ) (seen since : List Entry) (qs : List Request) (lines : List Line) : Type 0 where
+  pub mine : entries lines ≡ of since src
+  pub told : Told o.region policy limit qs lines
+  pub paid : (g : ℕ) → limit * retried o.region lines g ≤ hits o seen since g (union (only 0) (only src))
+
+-- one requester's requests that were worked and those that were not, and the lines appended
+pub record Share : Type 0 where
+  pub done : List Request
+  pub left : List Request
+  pub appended : List Line
+
+-- The requests of src are those worked and then those not worked. Earlier lines stay.
+pub record IsShare (all : List Request) (src : ℕ) (lines lines' : List Line) (share : Share) : Type 0 where
+  pub parts : share.done ++ share.left ≡ requests_of all src
+  pub kept : lines' ≡ lines ++ share.appended

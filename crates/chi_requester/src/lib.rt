@@ -3,13 +3,16 @@
 
 mod fault;
 mod policy;
-mod racing;
+mod race_of_four;
+mod race_of_two;
 mod serial;
 mod single;
+mod team;
 mod working;
 
 pub use fault::WorkFault;
 pub use policy::Policy;
-pub use racing::{Race, race_two};
+pub use race_of_four::{RaceFour, race_four};
+pub use race_of_two::{Race, race_two};
 pub use serial::run_serial;
 pub use working::work;
