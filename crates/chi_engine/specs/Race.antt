@@ -9,7 +9,7 @@ use Rattle.chi_history.specs.declared.opening.Opening.{Opening}
 use Rattle.chi_history.specs.History.{end}
 use Rattle.chi_requester.specs.declared.fault.WorkFault.{WorkFault}
 use Rattle.chi_requester.specs.declared.policy.Policy.{Policy}
-use Rattle.chi_requester.specs.Race.{IsRace, IsRaceRun}
+use Rattle.chi_requester.specs.Race.{IsRace, IsRaceRun, one_and_two}
 use Rattle.chi_requester.specs.Work.{requests_of}
 use Rattle.chi_script.specs.Transcript.{text}
 use Rattle.chi_script.specs.Written.{AppendsFront}
@@ -29,34 +29,30 @@ abbrev pub race_opening : Extent → Opening
 race_opening region = record { region = region; requesters = requester_count; image = replicate region.granules 0 }
 
 -- one legal history stands behind the lines of 1, of 2 and of 0, and every request of the script was worked
-abbrev pub IsRaced : Policy → ℕ → Extent × List Request → List Entry → List Line → List Line → List Line → Type 0
-IsRaced policy limit s since one two zero =
-    IsRace (race_opening s.0) policy limit [] since (requests_of s.1 1) (requests_of s.1 2) (requests_of s.1 0) one two zero
+abbrev pub IsRaced : Policy → ℕ → Extent × List Request → List Entry → (ℕ → List Line) → Type 0
+IsRaced policy limit s since lines = IsRace (race_opening s.0) policy limit one_and_two [] since (requests_of s.1) lines
 
 -- the same of the first requests of each, some not being worked for want of memory
-abbrev pub IsRaceCut : WorkFault → Policy → ℕ → Extent × List Request → List Entry → List Line → List Line → List Line → Type 0
-IsRaceCut fault policy limit s since one two zero = IsRaceRun (Err fault) (race_opening s.0) policy limit s.1 [] since [] [] [] one two zero
+abbrev pub IsRaceCut : WorkFault → Policy → ℕ → Extent × List Request → List Entry → (ℕ → List Line) → Type 0
+IsRaceCut fault policy limit s since lines = IsRaceRun (Err fault) (race_opening s.0) policy limit one_and_two s.1 [] since (λ r. []) lines
 
 -- the lines of 1, of 2 and of 0
-abbrev pub race_lines : List Line → List Line → List Line → List ℕ
-race_lines one two zero = text (one ++ (two ++ zero))
+abbrev pub race_lines : (ℕ → List Line) → List ℕ
+race_lines lines = text (lines 1 ++ (lines 2 ++ lines 0))
 
 -- the transcript of a race: the lines, and the memory at the end of the history
-abbrev pub race_text : Extent → List Entry → List Line → List Line → List Line → List ℕ
-race_text region since one two zero = race_lines one two zero ++ memory_text region (end (race_opening region) since)
+abbrev pub race_text : Extent → List Entry → (ℕ → List Line) → List ℕ
+race_text region since lines = race_lines lines ++ memory_text region (end (race_opening region) since)
 
 -- What is written of a script over a home: after Ok the transcript of a race. Where there was no memory for the
 -- work, a prefix of the lines so far; after a fault of the writer, a prefix of the transcript of a race.
 abbrev pub Races : Policy → ℕ → Extent × List Request → Option (List ℕ) → Option (List ℕ) → Result (Unit {0}) EngineFault → Type 0
 Races policy limit s old new (Ok done) =
-    (since : List Entry) × (one : List Line) × (two : List Line) × (zero : List Line)
-    × IsRaced policy limit s since one two zero × Appends old new (race_text s.0 since one two zero)
+    (since : List Entry) × (lines : ℕ → List Line) × IsRaced policy limit s since lines × Appends old new (race_text s.0 since lines)
 Races policy limit s old new (Err (Work fault)) =
-    (since : List Entry) × (one : List Line) × (two : List Line) × (zero : List Line)
-    × IsRaceCut fault policy limit s since one two zero × AppendsFront old new (race_lines one two zero)
+    (since : List Entry) × (lines : ℕ → List Line) × IsRaceCut fault policy limit s since lines × AppendsFront old new (race_lines lines)
 Races policy limit s old new (Err (Write fault)) =
-    (since : List Entry) × (one : List Line) × (two : List Line) × (zero : List Line)
-    × IsRaced policy limit s since one two zero × AppendsFront old new (race_text s.0 since one two zero)
+    (since : List Entry) × (lines : ℕ → List Line) × IsRaced policy limit s since lines × AppendsFront old new (race_text s.0 since lines)
 Races policy limit s old new (Err fault) = ⊥
 
 -- the same over the store of the options

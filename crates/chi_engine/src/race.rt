@@ -3,6 +3,7 @@
 ghost use Rattle.std.specs.Prelude.{◌≡◌, ◌+◌, [], ◌++◌, length, IfErr, OnOk};
 ghost use Rattle.chi_history.specs.Held.{AllFrom, below};
 ghost use Rattle.chi_history.specs.History.{end};
+ghost use Rattle.chi_requester.specs.Race.{lines_of};
 ghost use Rattle.chi_script.specs.Transcript.{memtext, text};
 ghost use Rattle.chi_script.specs.Written.{Puts};
 ghost use Rattle.chi_engine.specs.Engine.{KeepsUnworked, TellsOpening};
@@ -44,13 +45,11 @@ fn race_all<
     requires own { H.belongs home.now seat.old }
     requires fresh { IsFresh (H.opening home.now) script.now.0 (H.held seat.old) (H.seen seat.old) }
     requires from { AllFrom (below (most_racer + 1)) script.now.1 }
-    requires one_empty { race.old.one.items ≡ [] }
-    requires two_empty { race.old.two.items ≡ [] }
-    requires zero_empty { race.old.zero.items ≡ [] }
+    requires empty { lines_of race.old ≡ (λ r. []) }
     requires room { length words.old ≡ script.now.0.granules }
-    ensures raced { OnOk result (IsRaced policy (H.limit home.now) script.now (H.seen seat.new) race.new.one.items race.new.two.items race.new.zero.items) }
+    ensures raced { OnOk result (IsRaced policy (H.limit home.now) script.now (H.seen seat.new) (lines_of race.new)) }
     ensures shown { OnOk result (words.new ≡ granule_words (end (race_opening script.now.0) (H.seen seat.new)) script.now.0.base script.now.0.granules) }
-    ensures cut { IfErr result (λ fault. IsRaceCut fault policy (H.limit home.now) script.now (H.seen seat.new) race.new.one.items race.new.two.items race.new.zero.items) }
+    ensures cut { IfErr result (λ fault. IsRaceCut fault policy (H.limit home.now) script.now (H.seen seat.new) (lines_of race.new)) }
 {
     race_two(
         home,
@@ -76,7 +75,7 @@ fn write_pair<W: Write>(to: &mut W, race: &Race<Global>) -> Result<(), WriteFaul
 
 // Writes the lines of 1, of 2 and of 0.
 fn write_race_lines<W: Write>(to: &mut W, race: &Race<Global>) -> Result<(), WriteFault>
-    ensures { Puts (W.contents to.old) (W.contents to.new) result (race_lines race.now.one.items race.now.two.items race.now.zero.items) }
+    ensures { Puts (W.contents to.old) (W.contents to.new) result (race_lines (lines_of race.now)) }
 {
     write_pair(to, race)?;
     write_lines(to, race.zero.as_slice())
@@ -91,7 +90,7 @@ fn write_race<W: Write>(
 ) -> Result<(), WriteFault>
     requires { length words.now ≡ region.now.granules }
     ensures { Puts (W.contents to.old) (W.contents to.new) result
-        (race_lines race.now.one.items race.now.two.items race.now.zero.items ++ memtext region.now.base words.now) }
+        (race_lines (lines_of race.now) ++ memtext region.now.base words.now) }
 {
     write_pair(to, race)?;
     write_transcript(to, race.zero.as_slice(), region, words)
