@@ -3,12 +3,14 @@ PREFIX ?= /usr/local
 PROGRAM := crates/chi_home/out/chi_home
 SCRIPT ?= examples/fetch_add.json
 
-.PHONY: help build run test install bench corpus
+.PHONY: help build run test lib dv install bench corpus
 
 help:
 	@echo "make run [SCRIPT=FILE]     prove and build chihome, and show a script and the transcript of chihome run"
 	@echo "make test                  the gate: every proof from nothing, the edits that must fail, tests, runs and what the documents show"
-	@echo "make install PREFIX=DIR    put the program at DIR/bin/chihome"
+	@echo "make lib                   out/libchi_c.a and out/libchi.so, for C, C++, SystemVerilog and Python"
+	@echo "make dv                    the bench in SystemVerilog, in Verilator"
+	@echo "make install PREFIX=DIR    put the program at DIR/bin/chihome, and the libraries, header, package and module below DIR"
 	@echo "make bench                 the speed of chihome and of the lock-free store, beside plain Rust"
 	@echo "make corpus [SEED=N]       chihome on 10,000 scripts by chance, half of them broken, beside plain Rust"
 
@@ -20,15 +22,28 @@ run: build
 	@cat $(SCRIPT); echo; echo
 	@$(PROGRAM) run < $(SCRIPT)
 
-# The gate builds the program that .ci/program and .ci/faults try; its own last line stays the last.
+# The gate builds the program that .ci/program and .ci/faults try, and .ci/c the libraries that it tries; the gate's own
+# last line stays the last.
 test: SHELL := /bin/bash
 test: .SHELLFLAGS := -o pipefail -ec
 test:
 	.ci/credit_spent_once
-	@result=$$(mktemp); trap 'rm -f '$$result EXIT; rt ci 2>&1 | tee $$result; .ci/program; .ci/faults; tail -n 1 $$result
+	@result=$$(mktemp); trap 'rm -f '$$result EXIT; rt ci 2>&1 | tee $$result; .ci/program; .ci/faults; .ci/c; tail -n 1 $$result
 
-install: build
+lib:
+	c/build.sh
+
+dv: lib
+	dv/run.sh
+
+install: build lib
 	install -D -m 755 $(PROGRAM) $(PREFIX)/bin/chihome
+	install -D -m 644 out/libchi_c.a $(PREFIX)/lib/libchi_c.a
+	install -D -m 755 out/libchi.so $(PREFIX)/lib/libchi.so
+	install -D -m 644 include/chi.h $(PREFIX)/include/chi.h
+	install -D -m 644 dv/chi_pkg.sv $(PREFIX)/share/chi/chi_pkg.sv
+	install -D -m 644 dv/chi_dv.c $(PREFIX)/share/chi/chi_dv.c
+	install -D -m 644 python/chi.py $(PREFIX)/share/chi/chi.py
 
 bench: build
 	bench/run.sh $(PROGRAM) run --store book
