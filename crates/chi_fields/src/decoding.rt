@@ -33,6 +33,7 @@ fn len_of(kind: Kind, size: u8) -> Option<u8>
 
 // Whether the byte enables are as the window asks.
 #[tactic(auto, using(crate::proofs::EnableBits::exactly_operand, crate::proofs::EnableBits::exactly_window, crate::proofs::EnableBits::within_operand))]
+#[inline(always)]
 fn enables_fit(kind: Kind, len: u8, lane: u8, enables: u16) -> bool
     requires part { IsLen len }
     requires aligned { lane % len ≡ 0 }
@@ -60,6 +61,7 @@ fn enables_fit(kind: Kind, len: u8, lane: u8, enables: u16) -> bool
 ///
 /// Source: Arm IHI 0050 Issue B, sizes, operand placement and byte enables.
 #[tactic(auto, unfolding(crate::specs::Refusal::decision_as))]
+#[inline(always)]
 pub fn decode(request: &Request, region: &Region) -> Result<Access, Refusal>
     ensures decided { result ≡ decision request.now region.now }
     ensures fits { IfOk result (λ a. IsTrue (lies_in a.addr a.len region.now)) }

@@ -12,7 +12,7 @@ use crate::reply::Reply;
 use chi_fields::{Access, Kind};
 
 // The operation, over the granule of its address.
-#[inline]
+#[inline(always)]
 fn applied(before: u64, access: &Access) -> (u64, Reply)
     ensures changed { (m : Memory) → IsMemory m → before ≡ word_at m (granule_start access.now.addr) →
         result.0 ≡ word_at (after access.now m) (granule_start access.now.addr) }
@@ -48,6 +48,7 @@ fn applied(before: u64, access: &Access) -> (u64, Reply)
 /// ```
 ///
 /// Source: Arm IHI 0050 Issue B, atomic operations, operand placement, byte enables and Endian.
+#[inline(always)]
 pub fn apply(before: u64, access: &Access) -> (u64, Reply)
     ensures changed { (region : Extent) (m : Memory) → IsRegion region → IsMemory m →
         IsTrue (lies_in access.now.addr access.now.len region) →
