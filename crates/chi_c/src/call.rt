@@ -48,7 +48,7 @@ pub(crate) struct Accepted {
 }
 
 // What a call asks for, or the number of the region's fault, or of the first refusal.
-#[inline]
+#[inline(always)]
 pub(crate) fn asked(base: u64, granules: u16, request: &Request) -> Result<Accepted, u32>
     ensures access { IfOk result (λ asked. decided base granules request.now ≡ Ok asked.access) }
     ensures accepted { IfOk result (λ asked. IsAccepted (region base granules) asked.access) }
