@@ -3,7 +3,7 @@ PREFIX ?= /usr/local
 PROGRAM := crates/chi_home/out/chi_home
 SCRIPT ?= examples/fetch_add.json
 
-.PHONY: help build run test lib dv install bench corpus
+.PHONY: help build run test lib dv install bench bench-c corpus
 
 help:
 	@echo "make run [SCRIPT=FILE]     prove and build chihome, and show a script and the transcript of chihome run"
@@ -12,6 +12,7 @@ help:
 	@echo "make dv                    the bench in SystemVerilog, in Verilator"
 	@echo "make install PREFIX=DIR    put the program at DIR/bin/chihome, and the libraries, header, package and module below DIR"
 	@echo "make bench                 the speed of chihome and of the lock-free store, beside plain Rust"
+	@echo "make bench-c               the speed of the calls for C, beside plain C and by DPI"
 	@echo "make corpus [SEED=N]       chihome on 10,000 scripts by chance, half of them broken, beside plain Rust"
 
 build:
@@ -51,6 +52,9 @@ bench: build
 	bench/run.sh $(PROGRAM) race --store book
 	bench/run.sh $(PROGRAM) race --store lock
 	bench/exchange.sh
+
+bench-c: lib
+	bench/c/run.sh
 
 corpus: build
 	bench/build.sh && cd bench && out/release/corpus ../$(PROGRAM) 10000 $(SEED)
