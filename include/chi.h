@@ -40,11 +40,8 @@ enum {
   CHI_ATOMIC_STORE = 0x28,
   CHI_ATOMIC_LOAD = 0x30,
   CHI_ATOMIC_SWAP = 0x38,
-  CHI_ATOMIC_COMPARE = 0x39
-};
-
-/* Operations of AtomicStore and AtomicLoad. */
-enum {
+  CHI_ATOMIC_COMPARE = 0x39,
+  /* operations of AtomicStore and AtomicLoad */
   CHI_ADD = 0,
   CHI_CLR = 1,
   CHI_EOR = 2,
