@@ -51,6 +51,8 @@ bench: build
 	bench/run.sh $(PROGRAM) run --store lock
 	bench/run.sh $(PROGRAM) race --store book
 	bench/run.sh $(PROGRAM) race --store lock
+	GRANULES=512 bench/run.sh $(PROGRAM) run --store book
+	GRANULES=512 bench/run.sh $(PROGRAM) race --store book
 	bench/exchange.sh
 
 bench-c: lib

@@ -1,6 +1,6 @@
 #!/usr/bin/env bash
 # Measures a program of this repository beside the plain Rust one: run.sh PROGRAM [WORD..]
-# Both work the same script of 4,096 requests, from file to file, in turn.
+# Both work the same script of 4,096 requests, from file to file, in turn, on GRANULES granules (8).
 set -eu
 bench=$(cd "$(dirname "$0")" && pwd)
 program=$(realpath "$1")
@@ -10,7 +10,7 @@ cd "$bench"
 ./build.sh
 out=out/release
 script=out/script.json
-"$out/script" > "$script"
+"$out/script" "${GRANULES:-8}" > "$script"
 
 # A transcript without what depends on the order in which threads come: each request's own fields, once.
 told() {

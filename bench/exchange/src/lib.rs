@@ -6,27 +6,56 @@ use std::time::Instant;
 /// How many attempts each thread makes, as in the store's program.
 pub const ATTEMPTS: u32 = 1_000_000;
 
-/// How many threads, and whether they share one granule.
+/// How many granules the region has: four lines of eight.
+pub const GRANULES: u16 = 32;
+
+/// Which granules the threads work on: all on one, each on its own beside the others', or each on its own on a line
+/// of its own.
+#[derive(Clone, Copy)]
+pub enum Granules {
+    One,
+    Own,
+    Lines,
+}
+
+impl Granules {
+    const ALL: [Granules; 3] = [Granules::One, Granules::Own, Granules::Lines];
+
+    /// What a line calls them.
+    pub fn name(self) -> &'static str {
+        match self {
+            Granules::One => "one",
+            Granules::Own => "own",
+            Granules::Lines => "lines",
+        }
+    }
+
+    /// Those of this name.
+    pub fn named(name: &str) -> Option<Granules> {
+        Granules::ALL.into_iter().find(|it| it.name() == name)
+    }
+}
+
+/// How many threads, and which granules they work on.
 #[derive(Clone, Copy)]
 pub struct Case {
     pub threads: usize,
-    pub is_shared: bool,
+    pub granules: Granules,
 }
 
 impl Case {
     /// The granule of the thread of this number.
     pub fn granule(self, number: usize) -> usize {
-        if self.is_shared { 0 } else { number }
-    }
-
-    /// What a line calls the granules.
-    pub fn granules(self) -> &'static str {
-        if self.is_shared { "one" } else { "own" }
+        match self.granules {
+            Granules::One => 0,
+            Granules::Own => number,
+            Granules::Lines => 8 * number,
+        }
     }
 }
 
 /// Times a case: each thread does the work of its number, and answers how many attempts were done. The line has
-/// the threads, `one` or `own`, the nanoseconds, and how many attempts were done.
+/// the threads, the name of the granules, the nanoseconds, and how many attempts were done.
 fn time(case: Case, work: impl Fn(usize) -> u32 + Sync) {
     let work = &work;
     let start = Instant::now();
@@ -41,14 +70,14 @@ fn time(case: Case, work: impl Fn(usize) -> u32 + Sync) {
             .sum::<u64>()
     });
     let taken = start.elapsed().as_nanos();
-    println!("{} {} {taken} {done}", case.threads, case.granules());
+    println!("{} {} {taken} {done}", case.threads, case.granules.name());
 }
 
 /// Times each case, on a home of its own: `work` is given the home, the case and the thread's number.
 pub fn time_all<H: Sync>(open: impl Fn() -> H, work: impl Fn(&H, Case, usize) -> u32 + Sync) {
     for threads in [1, 2, 4] {
-        for is_shared in [true, false] {
-            let case = Case { threads, is_shared };
+        for granules in Granules::ALL {
+            let case = Case { threads, granules };
             let home = open();
             time(case, |number| work(&home, case, number));
         }

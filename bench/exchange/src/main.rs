@@ -60,7 +60,7 @@ fn print(case: Case, [bare, row, store]: &[Times; 3]) {
     println!(
         "| {} | {} | {} | {} | {} | {} | {} | {} and {} |",
         case.threads,
-        case.granules(),
+        case.granules.name(),
         cell(bare),
         cell(row),
         cell(store),

@@ -1,6 +1,6 @@
 //! What a program that times attempts tells.
 
-use exchange::Case;
+use exchange::{Case, Granules};
 use std::process::Command;
 
 /// A line: how long the attempts of all threads of a case took, and how many were done.
@@ -18,7 +18,7 @@ fn line(text: &str) -> Option<Told> {
     Some(Told {
         case: Case {
             threads: threads.parse().ok()?,
-            is_shared: granules == "one",
+            granules: Granules::named(granules)?,
         },
         nanoseconds: nanoseconds.parse().ok()?,
         done: done.parse().ok()?,

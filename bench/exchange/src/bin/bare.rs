@@ -1,6 +1,6 @@
 //! bare: times the bare loop, a load and then exchanges of a word for its successor until one wins.
 
-use exchange::{ATTEMPTS, time_all};
+use exchange::{ATTEMPTS, GRANULES, time_all};
 use std::hint::black_box;
 use std::sync::atomic::{AtomicU64, Ordering::SeqCst};
 
@@ -18,7 +18,7 @@ fn add(word: &AtomicU64) -> u32 {
 }
 
 fn words() -> Vec<AtomicU64> {
-    (0..8).map(|_| AtomicU64::new(0)).collect()
+    (0..GRANULES).map(|_| AtomicU64::new(0)).collect()
 }
 
 fn main() {

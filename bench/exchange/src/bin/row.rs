@@ -1,6 +1,6 @@
 //! row: times the store's call in plain Rust, packet included.
 
-use exchange::{ATTEMPTS, time_all};
+use exchange::{ATTEMPTS, GRANULES, time_all};
 use plain::access::{Access, decode};
 use plain::operation::Reply;
 use plain::region::Region;
@@ -51,7 +51,7 @@ fn add(row: &Row, src: u8, access: &Access) -> u32 {
 }
 
 fn main() {
-    let region = Region::new(BASE, 8).expect("the region is one");
+    let region = Region::new(BASE, GRANULES).expect("the region is one");
     time_all(
         || Row::new(region, MOST_TRIES),
         |row, case, number| {
