@@ -7,7 +7,8 @@ int main(void) {
   const uint8_t lanes[16] = {1};
   uint8_t reply[16], has_lanes;
   for (int turn = 0; turn < 2; turn++) {
-    uint32_t result = chi_serve(words, 8, 0x1000, CHI_ATOMIC_LOAD + CHI_ADD, 3, 0x1000, 0, 0x00ff, lanes, reply, &has_lanes);
+    uint32_t result =
+        chi_serve(words, 8, 0x1000, CHI_ATOMIC_LOAD + CHI_ADD, 3, 0x1000, 0, 0x00ff, lanes, reply, &has_lanes);
     if (result != CHI_DONE)
       return (int)result;
     printf("returned lane 0: %u, word: %u\n", reply[0], (unsigned)words[0]);

@@ -1,4 +1,4 @@
-/* Works the table of worked requests by chi_serve and chi_apply, and compares; then the header's numbers with the names. */
+/* Works the table of worked requests by chi_serve and chi_apply; then compares the header's numbers with the names. */
 #include <chi.h>
 #include <inttypes.h>
 #include <stdio.h>
@@ -108,9 +108,9 @@ static void result_is(uint32_t result, const char *name) {
 static void decoded_is(uint8_t opcode, uint8_t kind, uint8_t op) {
   uint8_t found_kind = LEFT, found_op = LEFT, len = LEFT;
   uint16_t granule = LEFT;
-  uint32_t result = chi_decode(0x1000, 8, opcode, 1, 0x100a, 0xc00, &found_kind,
-                               &found_op, &len, &granule);
-  if (result == CHI_DONE && found_kind == kind && found_op == op && granule == 1 && len == (kind == CHI_KIND_COMPARE ? 1 : 2))
+  uint32_t result = chi_decode(0x1000, 8, opcode, 1, 0x100a, 0xc00, &found_kind, &found_op, &len, &granule);
+  if (result == CHI_DONE && found_kind == kind && found_op == op && granule == 1 &&
+      len == (kind == CHI_KIND_COMPARE ? 1 : 2))
     return;
   failures++;
   fprintf(stderr, "rows: opcode %02x is decoded as kind %u, operation %u\n", opcode, found_kind, found_op);
@@ -160,8 +160,8 @@ int main(int count, char **arguments) {
     if (line[0] == '#')
       continue;
     if (sscanf(line, "%63s %" SCNx64 " %zu %x %u %" SCNx64 " %u %x %32s %u %32s %zu %16s", row.name, &row.base,
-               &row.granules, &row.opcode, &row.size, &row.addr, &row.endian, &row.be, row.lanes, &row.result, row.reply,
-               &row.granule, row.bytes) != 13) {
+               &row.granules, &row.opcode, &row.size, &row.addr, &row.endian, &row.be, row.lanes, &row.result,
+               row.reply, &row.granule, row.bytes) != 13) {
       fprintf(stderr, "rows: not a row: %s", line);
       return 2;
     }

@@ -43,9 +43,7 @@ uint64_t chi_dv_word(const void *handle, uint32_t granule) {
   return granule < memory->granules ? memory->words[granule] : 0;
 }
 
-void chi_dv_close(void *handle) {
-  free(handle);
-}
+void chi_dv_close(void *handle) { free(handle); }
 
 /* A name that lasts until the next call of the same function. */
 const char *chi_dv_op_name(uint8_t opcode) {

@@ -22,12 +22,12 @@ extern "C" {
 /* Results. The region's fault comes first; of the refusals that a request meets, it is the first in this order. */
 enum {
   CHI_DONE = 0,
-  CHI_UNKNOWN_OPCODE = 1,      /* the opcode names no request */
-  CHI_RESERVED_SIZE = 2,       /* the size is 7 or more */
-  CHI_SIZE_OUT_OF_PROFILE = 3, /* the size is not 0 to 3, or for AtomicCompare not 1 to 4 */
-  CHI_MISALIGNED = 4,          /* the address is not a multiple of the operand's length */
-  CHI_OUT_OF_REGION = 5,       /* some byte of the operand is outside the region */
-  CHI_BAD_BYTE_ENABLE = 6,     /* an atomic's byte enables are not its window, or a write's have a bit outside it */
+  CHI_UNKNOWN_OPCODE = 1,         /* the opcode names no request */
+  CHI_RESERVED_SIZE = 2,          /* the size is 7 or more */
+  CHI_SIZE_OUT_OF_PROFILE = 3,    /* the size is not 0 to 3, or for AtomicCompare not 1 to 4 */
+  CHI_MISALIGNED = 4,             /* the address is not a multiple of the operand's length */
+  CHI_OUT_OF_REGION = 5,          /* some byte of the operand is outside the region */
+  CHI_BAD_BYTE_ENABLE = 6,        /* an atomic's byte enables are not its window, or a write's have a bit outside it */
   CHI_BASE_NOT_LINE_ALIGNED = 17, /* the region's base is not a multiple of 64 */
   CHI_GRANULE_COUNT = 18,         /* the region has no granule, or too many */
   CHI_END_PAST_ADDRESSES = 19     /* the region's end is above 2^52 */
@@ -81,11 +81,11 @@ uint32_t chi_apply(uint64_t base, uint16_t granules, uint8_t opcode, uint8_t siz
                    uint16_t be, const uint8_t lanes[16], uint64_t word, uint64_t *new_word, uint8_t reply_lanes[16],
                    uint8_t *has_lanes);
 
-/* Serves one request on a region of as many granules as there are words: words[i] is that of the one at base + 8 * i. */
+/* Serves one request on a region of as many granules as there are words; words[i] is that of base + 8 * i. */
 uint32_t chi_serve(uint64_t *words, size_t granules, uint64_t base, uint8_t opcode, uint8_t size, uint64_t addr,
                    uint8_t endian, uint16_t be, const uint8_t lanes[16], uint8_t reply_lanes[16], uint8_t *has_lanes);
 
-/* Decodes one request: its kind and operation, the operand's length in bytes, and its granule's number in the region. */
+/* Decodes one request: its kind, its operation, the operand's length in bytes and its granule's number. */
 uint32_t chi_decode(uint64_t base, uint16_t granules, uint8_t opcode, uint8_t size, uint64_t addr, uint16_t be,
                     uint8_t *kind, uint8_t *op, uint8_t *len, uint16_t *granule);
 

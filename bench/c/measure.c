@@ -47,7 +47,7 @@ static struct request accepted(uint8_t opcode) {
   if (opcode == CHI_WRITE_NO_SNP_PTL)
     q.be &= (uint16_t)any();
   for (int i = 0; i < 16; i++)
-    q.lanes[i] = any() % 4 ? (uint8_t)-(any() & 1) : (uint8_t)any();
+    q.lanes[i] = any() % 4 ? (uint8_t) - (any() & 1) : (uint8_t)any();
   return q;
 }
 
@@ -73,41 +73,59 @@ static struct request any_request(void) {
   return q;
 }
 
-static void fail(int number, const char *what) {
-  fprintf(stderr, "bench: request %d: another %s than plain C's\n", number, what);
+/* What a call leaves: the result, the word or 0, and the answer. */
+struct outcome {
+  uint32_t result;
+  uint64_t word;
+  uint8_t reply[16], flag;
+};
+
+static struct outcome by_apply(applied *apply, uint64_t region, size_t granules, const struct request *q,
+                               uint64_t word) {
+  struct outcome out = {0, 7, {7}, 7};
+  out.result = apply(region, (uint16_t)granules, q->opcode, q->size, q->addr, q->endian, q->be, q->lanes, word,
+                     &out.word, out.reply, &out.flag);
+  return out;
+}
+
+static struct outcome by_serve(served *serve, uint64_t region, size_t granules, const struct request *q,
+                               uint64_t *words) {
+  struct outcome out = {0, 0, {7}, 7};
+  out.result =
+      serve(words, granules, region, q->opcode, q->size, q->addr, q->endian, q->be, q->lanes, out.reply, &out.flag);
+  return out;
+}
+
+static void wants_same(int number, const char *call, struct outcome x, struct outcome y) {
+  if (x.result == y.result && x.word == y.word && x.flag == y.flag && memcmp(x.reply, y.reply, 16) == 0)
+    return;
+  fprintf(stderr, "bench: request %d: %s does otherwise than plain C\n", number, call);
   exit(1);
 }
 
+/* Whether a million requests by chance, on one memory, have the same outcome. */
 static void agree(void) {
-  uint64_t words[GRANULES + 1] = {0}, plain_words[GRANULES + 1] = {0};
-  unsigned done = 0, refused[20] = {0};
+  uint64_t words[GRANULES] = {0}, plain_words[GRANULES] = {0};
+  unsigned counts[20] = {0};
   for (int i = 0; i < REQUESTS; i++) {
     struct request q = any_request();
     uint64_t region = any() % 64 ? base : any() & 1 ? base + any() % 128 : ((uint64_t)1 << 52) - 64 * (any() % 2);
     size_t granules = any() % 64 ? GRANULES : any() % (GRANULES + 1);
-    uint8_t reply[16], plain_reply[16], flag = 7, plain_flag = 7;
-    uint64_t next = i, plain_next = i;
-    memset(reply, 7, 16);
-    memset(plain_reply, 7, 16);
-    uint32_t number = chi_apply(region, (uint16_t)granules, q.opcode, q.size, q.addr, q.endian, q.be, q.lanes, words[i % GRANULES], &next, reply, &flag);
-    uint32_t plain_number = plain_apply(region, (uint16_t)granules, q.opcode, q.size, q.addr, q.endian, q.be, q.lanes, words[i % GRANULES], &plain_next, plain_reply, &plain_flag);
-    if (number != plain_number)
-      fail(i, "result");
-    if (next != plain_next || flag != plain_flag || memcmp(reply, plain_reply, 16))
-      fail(i, "word or answer");
-    number = chi_serve(words, granules, region, q.opcode, q.size, q.addr, q.endian, q.be, q.lanes, reply, &flag);
-    plain_number = plain_serve(plain_words, granules, region, q.opcode, q.size, q.addr, q.endian, q.be, q.lanes, plain_reply, &plain_flag);
-    if (number != plain_number || flag != plain_flag || memcmp(reply, plain_reply, 16))
-      fail(i, "answer of a memory");
-    if (memcmp(words, plain_words, sizeof words))
-      fail(i, "memory");
-    refused[number]++;
-    done += number == CHI_DONE;
+    uint64_t word = words[i % GRANULES];
+    wants_same(i, "chi_apply", by_apply(chi_apply, region, granules, &q, word),
+               by_apply(plain_apply, region, granules, &q, word));
+    struct outcome out = by_serve(chi_serve, region, granules, &q, words);
+    wants_same(i, "chi_serve", out, by_serve(plain_serve, region, granules, &q, plain_words));
+    if (memcmp(words, plain_words, sizeof words) != 0) {
+      fprintf(stderr, "bench: request %d: chi_serve leaves another memory than plain C\n", i);
+      exit(1);
+    }
+    counts[out.result]++;
   }
-  printf("%d requests agree with plain C: %u done", REQUESTS, done);
-  for (int number = 1; number < 20; number++)
-    if (refused[number])
-      printf(", %u of result %d", refused[number], number);
+  printf("%d requests agree with plain C: %u done", REQUESTS, counts[0]);
+  for (int result = 1; result < 20; result++)
+    if (counts[result])
+      printf(", %u of result %d", counts[result], result);
   printf("\n\n");
 }
 
@@ -144,9 +162,7 @@ static double applied_round(applied *apply, const struct request *set) {
   return (now() - start) / (TURNS * SET);
 }
 
-static double less(double x, double y) {
-  return x < y ? x : y;
-}
+static double less(double x, double y) { return x < y ? x : y; }
 
 /* The best rounds of the two calls and of plain C, in turn, over one set of requests. */
 static void measure(const char *name, const struct request *set) {
@@ -165,9 +181,9 @@ int main(void) {
   static const struct {
     const char *name;
     uint8_t opcode;
-  } kinds[] = {{"ReadNoSnp", CHI_READ_NO_SNP},          {"WriteNoSnpPtl", CHI_WRITE_NO_SNP_PTL},
-               {"AtomicStore ADD", CHI_ATOMIC_STORE},   {"AtomicLoad ADD", CHI_ATOMIC_LOAD},
-               {"AtomicLoad CLR", CHI_ATOMIC_LOAD + 1}, {"AtomicLoad SMAX", CHI_ATOMIC_LOAD + 4},
+  } kinds[] = {{"ReadNoSnp", CHI_READ_NO_SNP},           {"WriteNoSnpPtl", CHI_WRITE_NO_SNP_PTL},
+               {"AtomicStore ADD", CHI_ATOMIC_STORE},    {"AtomicLoad ADD", CHI_ATOMIC_LOAD},
+               {"AtomicLoad CLR", CHI_ATOMIC_LOAD + 1},  {"AtomicLoad SMAX", CHI_ATOMIC_LOAD + 4},
                {"AtomicLoad UMIN", CHI_ATOMIC_LOAD + 7}, {"AtomicSwap", CHI_ATOMIC_SWAP},
                {"AtomicCompare", CHI_ATOMIC_COMPARE}};
   struct request set[SET];

@@ -17,14 +17,11 @@ static uint32_t region_fault(uint64_t base, size_t granules) {
   return CHI_DONE;
 }
 
-static uint16_t enables_of(unsigned first, unsigned count) {
-  return (uint16_t)(((1u << count) - 1) << first);
-}
+static uint16_t enables_of(unsigned first, unsigned count) { return (uint16_t)(((1u << count) - 1) << first); }
 
 /* The first refusal that the request meets; the operand's length where there is none. */
 static inline __attribute__((always_inline)) uint32_t
-refusal(uint64_t base, size_t granules, uint8_t opcode, uint8_t size, uint64_t addr, uint16_t be,
-                        unsigned *length) {
+refusal(uint64_t base, size_t granules, uint8_t opcode, uint8_t size, uint64_t addr, uint16_t be, unsigned *length) {
   int is_compare = opcode == CHI_ATOMIC_COMPARE;
   unsigned lane = addr % 16, len;
   uint16_t window;
@@ -47,9 +44,7 @@ refusal(uint64_t base, size_t granules, uint8_t opcode, uint8_t size, uint64_t a
   return CHI_DONE;
 }
 
-static uint64_t ones(unsigned len) {
-  return ~(uint64_t)0 >> (64 - 8 * len);
-}
+static uint64_t ones(unsigned len) { return ~(uint64_t)0 >> (64 - 8 * len); }
 
 static uint64_t number(const uint8_t *lanes, unsigned lane, unsigned len) {
   uint64_t half;
@@ -57,9 +52,7 @@ static uint64_t number(const uint8_t *lanes, unsigned lane, unsigned len) {
   return half >> (8 * (lane & 7)) & ones(len);
 }
 
-static uint64_t turned(uint64_t value, unsigned len) {
-  return __builtin_bswap64(value) >> (64 - 8 * len);
-}
+static uint64_t turned(uint64_t value, unsigned len) { return __builtin_bswap64(value) >> (64 - 8 * len); }
 
 static uint64_t combined(unsigned op, int big, unsigned len, uint64_t old, uint64_t sent) {
   uint64_t x = big ? turned(old, len) : old, y = big ? turned(sent, len) : sent;
@@ -95,9 +88,9 @@ static uint64_t byte_mask(unsigned enables) {
 }
 
 /* The word after an accepted request, and its answer. */
-static inline __attribute__((always_inline)) uint64_t
-applied(uint8_t opcode, uint64_t addr, uint8_t endian, uint16_t be, const uint8_t *lanes, unsigned len,
-                        uint64_t word, uint8_t *reply_lanes, uint8_t *has_lanes) {
+static inline __attribute__((always_inline)) uint64_t applied(uint8_t opcode, uint64_t addr, uint8_t endian,
+                                                              uint16_t be, const uint8_t *lanes, unsigned len,
+                                                              uint64_t word, uint8_t *reply_lanes, uint8_t *has_lanes) {
   unsigned lane = addr % 16, shift = 8 * (lane & 7);
   uint64_t mask = ones(len) << shift, old = (word & mask) >> shift, sent = number(lanes, lane, len), value = old;
   int has = opcode != CHI_WRITE_NO_SNP_PTL && !(opcode >= CHI_ATOMIC_STORE && opcode < CHI_ATOMIC_LOAD);
@@ -136,7 +129,8 @@ uint32_t plain_apply(uint64_t base, uint16_t granules, uint8_t opcode, uint8_t s
 }
 
 uint32_t plain_serve(uint64_t *words, size_t granules, uint64_t base, uint8_t opcode, uint8_t size, uint64_t addr,
-                     uint8_t endian, uint16_t be, const uint8_t lanes[16], uint8_t reply_lanes[16], uint8_t *has_lanes) {
+                     uint8_t endian, uint16_t be, const uint8_t lanes[16], uint8_t reply_lanes[16],
+                     uint8_t *has_lanes) {
   unsigned len = 0;
   uint32_t result = region_fault(base, granules);
   if (!result)
