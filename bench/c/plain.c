@@ -3,7 +3,7 @@
 #include <chi.h>
 #include <string.h>
 
-enum { MOST_GRANULES = 8 };
+enum { MOST_GRANULES = 512 };
 
 static const uint64_t addresses = (uint64_t)1 << 52;
 

@@ -19,12 +19,12 @@ use std::thread::Threads;
 
 const STORE_ADD: u8 = 0x28;
 
-// How many requests each of 1 and 2 has.
-const EACH: u8 = 10;
+// How many requests each requester has.
+pub(crate) const EACH: u8 = 10;
 
 // Asserts that the lines tell of the first of a requester's additions, in order of their identifiers, each completed once, at
 // most after a RetryAck. Answers how many they are.
-fn assert_told<T: Abort>(rt: &T, src: u8, lines: &[Line]) -> u8 {
+pub(crate) fn assert_told<T: Abort>(rt: &T, src: u8, lines: &[Line]) -> u8 {
     let mut done = 0u8;
     let mut is_retried = false;
     for line in lines {
@@ -63,11 +63,7 @@ fn race_ten<H: Home + Sync, T: AllocGlobal + Abort + Threads + Wait + Sync>(
 {
     let script = additions(rt, STORE_ADD, &[1, 2], u16::from(EACH), 2)?;
     let alloc = Refusing::new(rt.alloc(), number);
-    let mut race = Race {
-        one: Vec::new(&alloc),
-        two: Vec::new(&alloc),
-        zero: Vec::new(&alloc),
-    };
+    let mut race = Race::new(&alloc);
     let outcome = race_two(
         home,
         rt,

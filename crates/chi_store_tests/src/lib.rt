@@ -6,6 +6,10 @@ mod additions;
 #[cfg(test)]
 mod bookstore_tests;
 #[cfg(test)]
+mod four_workers_tests;
+#[cfg(test)]
+mod growth_four_tests;
+#[cfg(test)]
 mod growth_list_tests;
 #[cfg(test)]
 mod growth_race_tests;

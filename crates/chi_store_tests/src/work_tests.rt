@@ -15,10 +15,10 @@ use std::sync::Wait;
 use std::test::Fail;
 use std::thread::Threads;
 
-const STORE_ADD: u8 = 0x28;
+pub(crate) const STORE_ADD: u8 = 0x28;
 
 // How many of the lines are completions.
-fn completed(lines: &[Line]) -> usize {
+pub(crate) fn completed(lines: &[Line]) -> usize {
     lines
         .iter()
         .filter(|line| matches!(line, Line::Completed(_, _)))
