@@ -15,7 +15,7 @@ use Rattle.chi_history.proofs.JoinLemmas.{unites}
 use Rattle.chi_history.proofs.SplitLemmas.{splits}
 use Rattle.chi_history.proofs.StepLemmas.{looks, reads_at, settles, unwritten}
 use Rattle.chi_history.proofs.Steps.{Steps}
-use Rattle.chi_bookstore.specs.declared.rule.Ask.{Ask}
+use Rattle.chi_history.specs.declared.ask.Ask.{Ask}
 use Rattle.chi_bookstore.specs.Plays.{looked, read_one, served, settled}
 
 abbrev pub Rule : Opening → State Ask View → Type 0

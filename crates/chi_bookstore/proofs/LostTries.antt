@@ -8,8 +8,8 @@ use Rattle.chi_history.specs.declared.view.View.{View}
 use Rattle.chi_history.specs.Served.{Completes, Retries}
 use Rattle.chi_history.specs.Views.{has}
 use Rattle.chi_history.proofs.TryLemmas.{lost_none, then_done, then_lost}
-use Rattle.chi_bookstore.specs.declared.rule.Ask.{Ask}
-use Rattle.chi_bookstore.specs.Known.{IsKnown}
+use Rattle.chi_history.specs.declared.ask.Ask.{Ask}
+use Rattle.chi_history.specs.Seats.{IsKnown}
 
 -- after lost tries, of which so many are counted, a seat of the opening holds what it held
 pub record IsAfter (o : Opening) (first : Seat Ask View) (access : Operation) (count : ℕ) (seat : Seat Ask View) : Type 0 where

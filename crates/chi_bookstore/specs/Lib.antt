@@ -1,4 +1,3 @@
 pub mod Plays
-pub mod Known
 pub mod Seats
 pub mod Faults

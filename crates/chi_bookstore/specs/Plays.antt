@@ -4,7 +4,7 @@ use mathlib.Core.Option as plain
 use Rattle.atomic_table.specs.Table.{Me, Step}
 use Rattle.chi_history.specs.declared.view.View.{View}
 use Rattle.chi_history.specs.Told.{Exchanges, Looks, ReadsAt, Settles}
-use Rattle.chi_bookstore.specs.declared.rule.Ask.{Ask}
+use Rattle.chi_history.specs.declared.ask.Ask.{Ask}
 
 abbrev pub looked : Step Ask → Me Ask View → ℕ → Me Ask View → Type 0
 looked s m n m' = Looks m.0 s.word n m'.0 × (m'.1 ≡ m.1)

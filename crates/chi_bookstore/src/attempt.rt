@@ -4,12 +4,11 @@ ghost use Rattle.std.specs.Prelude.{◌≡◌, true, IsTrue};
 ghost use Rattle.chi_fields.specs.Extent.{lies_in};
 ghost use Rattle.chi_history.specs.Served.{IsServed};
 
-use crate::rule::Ask;
 use crate::seat::BookSeat;
 use crate::store::BookStore;
 use crate::tries::try_some;
 use chi_fields::Access;
-use chi_history::{Gate, Home, NoGate, Served};
+use chi_history::{Ask, Gate, Home, NoGate, Served};
 use std::alloc::Allocator;
 
 impl<A: Allocator> BookStore<A> {

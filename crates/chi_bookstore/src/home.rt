@@ -1,12 +1,11 @@
 //! The lock-free home, as a home.
 
-use crate::rule::Ask;
 use crate::seat::BookSeat;
 use crate::steps::{give, read_one, take_in};
 use crate::store::BookStore;
 use crate::tries::try_until_done;
 use chi_fields::{Access, Region};
-use chi_history::{Credit, Gate, Home, Numbers, Served};
+use chi_history::{Ask, Credit, Gate, Home, Numbers, Served};
 use chi_lanes::Reply;
 use std::alloc::Allocator;
 use std::marker::Brand;
@@ -18,7 +17,7 @@ impl<A: Allocator> Home for BookStore<A> {
 
     type Seat = BookSeat;
 
-    ghost opening = { λ home. home.key };
+    ghost opening = { λ home. home.values };
 
     ghost limit = { λ home. home.attempts };
 
@@ -28,16 +27,18 @@ impl<A: Allocator> Home for BookStore<A> {
 
     ghost seen = { λ seat. seat.table_seat.me.0.seen };
 
-    ghost seen_is_legal = { λ home seat own. own.known.legal };
+    ghost is_opening = { λ home. home.opening };
 
-    ghost held_is_opened = { λ home seat own. own.opened };
+    ghost seen_is_legal = { λ home seat own. own.opening.known.legal };
+
+    ghost held_is_opened = { λ home seat own. own.opening.opened };
 
     fn region(&self) -> Region {
-        self.key.region
+        self.values.region()
     }
 
     fn requesters(&self) -> u8 {
-        self.key.requesters
+        self.values.requesters()
     }
 
     fn holds(&self, seat: &BookSeat, src: u8) -> bool {
@@ -45,7 +46,7 @@ impl<A: Allocator> Home for BookStore<A> {
     }
 
     fn holds_all(&self, seat: &BookSeat) -> bool {
-        for n in 0..self.key.requesters {
+        for n in 0..self.values.requesters() {
             if !seat.numbers.has(n) {
                 return false;
             }
@@ -98,7 +99,7 @@ impl<A: Allocator> Home for BookStore<A> {
     }
 
     fn snapshot<R: Wait>(&self, _rt: &R, seat: &mut BookSeat, words: &mut [u64]) {
-        let image = self.key.image.as_slice();
+        let image = self.values.image();
         for granule in 0..words.len() {
             let found = read_one(&self.table, &mut seat.table_seat, granule);
             words[granule] = found ^ image[granule];

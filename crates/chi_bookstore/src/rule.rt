@@ -1,38 +1,13 @@
 //! The rule of the words and seats, and what each step on them tells.
 
-use atomic_table::{Join, Play, Seat, Split, Table, TableRule};
-use chi_fields::{Access, Region};
-use chi_history::View;
+use atomic_table::{Join, Play, Seat, Table, TableRule};
+use chi_history::{Ask, OpeningValues, View};
 use std::alloc::Allocator;
-use std::marker::{Brand, Model, PhantomData};
-
-/// What an exchange is for: the access of one requester.
-#[derive(Clone, Copy)]
-pub struct Ask {
-    pub src: u8,
-    pub access: Access,
-}
-
-/// The values of an opening: the image is the words of the memory at the opening. Contracts see an `Opening`.
-#[derive(Drop)]
-pub struct Key<A: Allocator> {
-    pub region: Region,
-    pub requesters: u8,
-    pub image: Vec<u64, A>,
-}
-
-impl<A: Allocator> Model for Key<A> {
-    ghost use Rattle.chi_history.specs.declared.opening.Opening.{Opening};
-
-    ghost Value = { Opening };
-
-    ghost view = { λ k. record { region = k.region; requesters = k.requesters; image = k.image.items } };
-}
 
 /// The words show the end of one history, and each seat has seen a prefix of it.
 pub struct BookRule;
 
-impl<A: Allocator> TableRule<Ask, View, Key<A>> for BookRule {
+impl<A: Allocator> TableRule<Ask, View, OpeningValues<A>> for BookRule {
     ghost use Rattle.chi_history.specs.Rule.{Kept};
     ghost use Rattle.chi_history.specs.Views.{all_below, knower};
     ghost use Rattle.std.specs.Prelude.{[]};
@@ -43,7 +18,7 @@ impl<A: Allocator> TableRule<Ask, View, Key<A>> for BookRule {
 }
 
 /// The words. There are no slots: an exchange tells the rule what it is for.
-pub type BookTable<A> = Table<Ask, View, Key<A>, BookRule, A>;
+pub type BookTable<A> = Table<Ask, View, OpeningValues<A>, BookRule, A>;
 
 /// What one caller knows of the words.
 pub type TableSeat = Seat<Ask, View>;
@@ -82,30 +57,6 @@ impl Play<Ask, View> for Settle {
     ghost use Rattle.chi_bookstore.specs.Plays.{settled};
 
     ghost then = { settled };
-}
-
-/// Whose number gets a seat of its own.
-pub trait Number {
-    ghost use Rattle.std.specs.Prelude.{ℕ};
-
-    ghost number: { ℕ };
-}
-
-impl Number for Brand {
-    ghost number = { 0 };
-}
-
-/// The cut of a split.
-pub struct Gives<Q> {
-    of: PhantomData<Q>,
-}
-
-impl<Q: Number> Split<View> for Gives<Q> {
-    ghost use Rattle.chi_history.specs.Views.{alone, rest_of};
-
-    ghost left = { λ v. rest_of Q.number v };
-
-    ghost right = { λ v. alone Q.number v };
 }
 
 /// Two seats become one.

@@ -1,24 +1,25 @@
 //! The atomic steps on the words.
 ghost use Rattle.std.specs.Prelude.{◌≡◌, ◌<◌, [], true, IsTrue, IfOk};
 ghost use Rattle.chi_fields.specs.Extent.{lies_in, granule_of};
+ghost use Rattle.chi_history.specs.Opened.{IsOpening};
 ghost use Rattle.chi_history.specs.Views.{all_below, alone, both, has, knower, rest_of};
 ghost use Rattle.chi_history.specs.Told.{Applies, Exchanges, Looks, ReadsAt, Settles};
 
-use crate::rule::{
-    Ask, BookTable, Gives, Glue, Key, Look, Number, ReadOne, Serve, Settle, TableSeat,
-};
+use crate::rule::{BookTable, Glue, Look, ReadOne, Serve, Settle, TableSeat};
+use chi_history::{Ask, Gives, Number, OpeningValues};
 use std::alloc::{AllocError, Allocator};
 
 // The words at the opening, all zeros, and the first seat, which holds every number.
 pub(crate) fn begin<A: Allocator + Copy>(
     alloc: A,
-    key: &Key<A>,
+    values: &OpeningValues<A>,
 ) -> Result<(BookTable<A>, TableSeat), AllocError>
-    ensures { IfOk result (λ r. (r.1.table_id ≡ r.0.shared.table_id) × (r.0.shared.key ≡ key.now) × (r.0.shared.table_id.words ≡ key.now.region.granules) × (r.1.me ≡ (knower key.now (all_below key.now.requesters) [], []))) }
+    requires { IsOpening values.now }
+    ensures { IfOk result (λ r. (r.1.table_id ≡ r.0.shared.table_id) × (r.0.shared.key ≡ values.now) × (r.0.shared.table_id.words ≡ values.now.region.granules) × (r.1.me ≡ (knower values.now (all_below values.now.requesters) [], []))) }
 {
-    let granules = usize::from(key.region.granules());
+    let granules = usize::from(values.region().granules());
     let words = vec![in alloc; 0u64; granules]?;
-    BookTable::of_words(alloc, words.as_slice(), key)
+    BookTable::of_words(alloc, words.as_slice(), values)
 }
 
 // The load of a try.

@@ -1,8 +1,10 @@
 //! The lock-free home.
 
-ghost use Rattle.std.specs.Prelude.{◌≡◌, ◌<◌, ◌≤◌, length};
+ghost use Rattle.std.specs.Prelude.{◌≡◌, ◌≤◌};
+ghost use Rattle.chi_history.specs.Opened.{IsOpening};
 
-use crate::rule::{BookTable, Key};
+use crate::rule::BookTable;
+use chi_history::OpeningValues;
 use std::alloc::{Allocator, Global};
 
 /// A home whose memory is a row of words, one for each granule, that callers load and exchange.
@@ -11,12 +13,10 @@ use std::alloc::{Allocator, Global};
 #[derive(Drop)]
 pub struct BookStore<A: Allocator = Global> {
     pub(crate) table: BookTable<A>,
-    pub(crate) key: Key<A>,
+    pub(crate) values: OpeningValues<A>,
     pub(crate) attempts: u8,
-    ghost key_is: { table.shared.key ≡ key },
-    ghost wide: { table.shared.table_id.words ≡ key.region.granules },
-    ghost imaged: { length key.image ≡ key.region.granules },
-    ghost some_granules: { 0 < key.region.granules },
-    ghost counted: { key.requesters ≤ 8 },
+    ghost key_is: { table.shared.key ≡ values },
+    ghost wide: { table.shared.table_id.words ≡ values.region.granules },
+    ghost opening: { IsOpening values },
     ghost some_attempts: { 1 ≤ attempts },
 }

@@ -4,12 +4,12 @@ ghost use Rattle.std.specs.Prelude.{◌≡◌, ◌≤◌, true, IsTrue, MatchOpt
 ghost use Rattle.chi_fields.specs.Extent.{lies_in};
 ghost use Rattle.chi_history.specs.Views.{has};
 ghost use Rattle.chi_history.specs.Served.{Completes, IsServed, Retries};
-ghost use Rattle.chi_bookstore.specs.Known.{IsKnown};
+ghost use Rattle.chi_history.specs.Seats.{IsKnown};
 
-use crate::rule::{Ask, TableSeat};
+use crate::rule::TableSeat;
 use crate::steps::{exchange, look};
 use crate::store::BookStore;
-use chi_history::{Credit, Gate, NoGate, Served};
+use chi_history::{Ask, Credit, Gate, NoGate, Served};
 use chi_lanes::{Reply, apply};
 use std::alloc::Allocator;
 use std::sync::Wait;
@@ -23,18 +23,18 @@ fn try_once<A: Allocator, G: Gate>(
     try_no: u8,
 ) -> Option<Reply>
     requires own { seat.old.table_id ≡ home.now.table.shared.table_id }
-    requires known { IsKnown home.now.key seat.old.me.0 }
+    requires known { IsKnown home.now.values seat.old.me.0 }
     requires holds { has seat.old.me.0.held ask.now.src ≡ true }
-    requires fits { IsTrue (lies_in ask.now.access.addr ask.now.access.len home.now.key.region) }
+    requires fits { IsTrue (lies_in ask.now.access.addr ask.now.access.len home.now.values.region) }
     ensures own { (seat.new.table_id ≡ seat.old.table_id) × (seat.new.me.1 ≡ seat.old.me.1) }
-    ensures known { IsKnown home.now.key seat.new.me.0 }
+    ensures known { IsKnown home.now.values seat.new.me.0 }
     ensures held { seat.new.me.0.held ≡ seat.old.me.0.held }
     ensures tried { MatchOption result
-        (Retries home.now.key (has seat.old.me.0.held) seat.old.me.0.seen seat.new.me.0.seen ask.now.access 1)
-        (λ reply. Completes home.now.key (has seat.old.me.0.held) seat.old.me.0.seen seat.new.me.0.seen ask.now.src ask.now.access reply 0) }
+        (Retries home.now.values (has seat.old.me.0.held) seat.old.me.0.seen seat.new.me.0.seen ask.now.access 1)
+        (λ reply. Completes home.now.values (has seat.old.me.0.held) seat.old.me.0.seen seat.new.me.0.seen ask.now.src ask.now.access reply 0) }
 {
-    let image = home.key.image.as_slice();
-    let granule = ask.access.granule(&home.key.region);
+    let image = home.values.image();
+    let granule = ask.access.granule(&home.values.region());
     let found = look(&home.table, seat, granule);
     gate.pause(try_no);
     let mask = image[granule];
@@ -52,14 +52,14 @@ pub(crate) fn try_some<A: Allocator, G: Gate>(
     attempts: u8,
 ) -> Served
     requires own { seat.old.table_id ≡ home.now.table.shared.table_id }
-    requires known { IsKnown home.now.key seat.old.me.0 }
+    requires known { IsKnown home.now.values seat.old.me.0 }
     requires holds { has seat.old.me.0.held ask.now.src ≡ true }
-    requires fits { IsTrue (lies_in ask.now.access.addr ask.now.access.len home.now.key.region) }
+    requires fits { IsTrue (lies_in ask.now.access.addr ask.now.access.len home.now.values.region) }
     requires some { 1 ≤ attempts }
     ensures own { (seat.new.table_id ≡ seat.old.table_id) × (seat.new.me.1 ≡ seat.old.me.1) }
-    ensures known { IsKnown home.now.key seat.new.me.0 }
+    ensures known { IsKnown home.now.values seat.new.me.0 }
     ensures held { seat.new.me.0.held ≡ seat.old.me.0.held }
-    ensures served { IsServed home.now.key attempts (has seat.old.me.0.held) seat.old.me.0.seen seat.new.me.0.seen ask.now.src ask.now.access result }
+    ensures served { IsServed home.now.values attempts (has seat.old.me.0.held) seat.old.me.0.seen seat.new.me.0.seen ask.now.src ask.now.access result }
 {
     'tries: for lost in 0..attempts {
         if let Some(reply) = try_once(home, seat, ask, gate, lost + 1) {
@@ -80,13 +80,13 @@ pub(crate) fn try_until_done<R: Wait, A: Allocator>(
     ask: &Ask,
 ) -> Reply
     requires own { seat.old.table_id ≡ home.now.table.shared.table_id }
-    requires known { IsKnown home.now.key seat.old.me.0 }
+    requires known { IsKnown home.now.values seat.old.me.0 }
     requires holds { has seat.old.me.0.held ask.now.src ≡ true }
-    requires fits { IsTrue (lies_in ask.now.access.addr ask.now.access.len home.now.key.region) }
+    requires fits { IsTrue (lies_in ask.now.access.addr ask.now.access.len home.now.values.region) }
     ensures own { (seat.new.table_id ≡ seat.old.table_id) × (seat.new.me.1 ≡ seat.old.me.1) }
-    ensures known { IsKnown home.now.key seat.new.me.0 }
+    ensures known { IsKnown home.now.values seat.new.me.0 }
     ensures held { seat.new.me.0.held ≡ seat.old.me.0.held }
-    ensures done { Completes home.now.key (has seat.old.me.0.held) seat.old.me.0.seen seat.new.me.0.seen ask.now.src ask.now.access result 0 }
+    ensures done { Completes home.now.values (has seat.old.me.0.held) seat.old.me.0.seen seat.new.me.0.seen ask.now.src ask.now.access result 0 }
 {
     let mut gate = NoGate;
     'tries: for _ in rt.forever() {

@@ -9,6 +9,7 @@ pub mod NumbersLemmas
 pub mod PossibleLemmas
 pub mod RuleLemmas
 pub mod RuledLemmas
+pub mod SeatLemmas
 pub mod SplitLemmas
 pub mod StepLemmas
 pub mod Steps

@@ -1,6 +1,5 @@
 -- what a caller has of what a step told
 use Rattle.std.proofs.Common.{◌≡◌, ℕ, ◌^◌, ◌<◌, true, IsTrue, List, [], ◌∷◌, ◌++◌, slice_index, bit_xor, refl, sym, ap, subst, ◌∙◌, zero-le}
-use Rattle.std.specs.Int.Bits.{xor_zero_r}
 use Rattle.chi_fields.specs.Extent.{Extent, IsRegion, granule_of, lies_in}
 use Rattle.chi_fields.specs.Operation.{IsLawful, Operation}
 use Rattle.chi_lanes.specs.declared.reply.Reply.{Reply}
@@ -64,10 +63,6 @@ answers o access found before reply under small fits answered unmask m is_region
     let g : ℕ = granule_of access.addr o.region in
     let first : slice_index o.image g ≡ first_word o g = sym (word-opening_memory o g under small) in
     answered o.region m is_region is_memory fits (unmask ∙ (ap (bit_xor found) first ∙ sym at))
-
--- an image's word that is 0 masks nothing
-pub unmasked_zero : (found first : ℕ) → first ≡ 0 → found ≡ bit_xor found first
-unmasked_zero found first none = sym (ap (bit_xor found) none ∙ xor_zero_r found)
 
 -- what was told of an entry that was added: its operation lies in the region, and is lawful
 added_fits : (v : View) (mid : List Entry) (src : ℕ) (access : Operation) (w : View) → Adds v mid src access w

@@ -11,7 +11,7 @@ use Rattle.chi_history.specs.Held.{Held, nobody}
 use Rattle.chi_history.specs.History.{IsFreeOf, IsLegal, end, hits, hits_from, opening_memory}
 use Rattle.chi_history.specs.Rule.{first_word, shown}
 use Rattle.chi_history.specs.Served.{Completes, Retries, entry}
-use Rattle.chi_history.specs.Told.{Adds, Exchanges, Looks, Sees}
+use Rattle.chi_history.specs.Told.{Adds, Exchanges, Looks, Replaces, Sees}
 use Rattle.chi_history.specs.Views.{has, knower}
 use Rattle.chi_history.proofs.HistoryLemmas.{end_from-append, free-append, hits-append}
 use Rattle.chi_history.proofs.ToldLemmas.{Answers, added}
@@ -74,6 +74,10 @@ seen_try v mid w sees = subst (λ (z : View). IsTried v z) (sym sees.now) (recor
 -- after an entry
 added_try : (v : View) (mid : List Entry) (src : ℕ) (access : Operation) (w : View) → Adds v mid src access w → IsTried v w
 added_try v mid src access w adds = subst (λ (z : View). IsTried v z) (sym adds.now) (record { now = refl; legal = adds.legal })
+
+-- after an exchange of all words
+pub replaced_try : (v : View) (words : List ℕ) (src : ℕ) (access : Operation) (w : View) → Replaces v words src access w → IsTried v w
+replaced_try v words src access w replaces = added_try v replaces.mid src access w replaces.adds
 
 -- an exchange that found the word that was expected
 won : (v : View) (first src : ℕ) (access : Operation) (found : ℕ) (w : View) (x : Exchanges v first src access found w) → found ≡ first → Adds v x.mid src access w

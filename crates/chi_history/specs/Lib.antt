@@ -6,6 +6,7 @@ pub mod Lines
 pub mod Numbers
 pub mod Opened
 pub mod Rule
+pub mod Seats
 pub mod Served
 pub mod Told
 pub mod Views

@@ -19,6 +19,7 @@ pub trait Home {
     ghost use Rattle.chi_history.specs.declared.opening.Opening.{Opening};
     ghost use Rattle.chi_history.specs.Held.{Held, Apart, below, only, union, without};
     ghost use Rattle.chi_history.specs.History.{IsLegal, end};
+    ghost use Rattle.chi_history.specs.Opened.{IsOpening};
     ghost use Rattle.chi_history.specs.Served.{Completes, IsServed, Joins};
 
     /// What callers hold.
@@ -118,6 +119,9 @@ pub trait Home {
 
     /// Gives a credit back. No seat and no history changes.
     fn return_credit(&self, credit: Credit);
+
+    /// The opening's region is one, its image has a word for each granule, and its requesters are 1 to 8.
+    ghost is_opening: { (home : Self) → IsOpening (opening home) };
 
     /// What a seat has seen is a legal history.
     ghost seen_is_legal: { (home : Self) (seat : Self.Seat) → belongs home seat → IsLegal (opening home) (seen seat) };

@@ -1,4 +1,2 @@
-pub mod Line
 pub mod Room
-pub mod SeatLemmas
-pub mod ZeroLemmas
+pub mod Line

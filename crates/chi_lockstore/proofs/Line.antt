@@ -29,13 +29,13 @@ pub line_settles : (id : ℕ) (v : View) → v.live ≡ true → Turns (Ruled 8)
 line_settles id v live x = ruled_steps 8 v.opening id v (λ ws. ws) (λ _. Settles v) live refl (settles 8 v.opening id v live) x
 
 -- the exchange of the line for one with the operation's word
-pub line_tries : (id : ℕ) (v : View) → IsAlone v → (current new : List ℕ) (g next src : ℕ) (access : Operation)
-    → g ≡ granule_of access.addr v.opening.region → has v.held src ≡ true → IsLawful access → lies_in access.addr access.len v.opening.region ≡ true
-    → Applies v.opening access (slice_index current g) next → new ≡ set current g next
+pub line_tries : (o : Opening) (id : ℕ) (v : View) → v ≡ knower o v.held v.seen → (current new : List ℕ) (g next src : ℕ) (access : Operation)
+    → g ≡ granule_of access.addr o.region → has v.held src ≡ true → IsLawful access → lies_in access.addr access.len o.region ≡ true
+    → Applies o access (slice_index current g) next → new ≡ set current g next
     → Turns (Ruled 8) id v (λ x. if pointwise nat_eq x current then new else x) (λ v x y w. Tries v current src access x w)
-line_tries id v is current new g next src access place holds lawful fits applies made x =
-    ruled_steps 8 v.opening id v (λ ws. if pointwise nat_eq ws current then new else ws) (Tries v current src access) (is_live v is) refl
-    (tries 8 v.opening id v is current new g next src access place holds lawful fits applies made) x
+line_tries o id v is current new g next src access place holds lawful fits applies made x =
+    ruled_steps 8 o id v (λ ws. if pointwise nat_eq ws current then new else ws) (Tries v current src access) (ap (λ (z : View). z.live) is)
+    (ap (λ (z : View). z.opening) is) (tries 8 o id v is current new g next src access place holds lawful fits applies made) x
 
 -- one number gets a pass of its own
 pub line_gives : (id : ℕ) (v : View) (src : ℕ) → v.live ≡ true → has v.held src ≡ true → Forks (Ruled 8) id v (rest_of src v) (alone src v)

@@ -33,14 +33,12 @@ impl<Q: Opens> Split<View> for Sets<Q> {
     ghost right = { λ v. gone };
 }
 
-/// An operation of a requester, at these words.
+/// What an exchange of the line is for, and the words that it expects.
 pub(crate) trait Asks {
     ghost use Rattle.std.specs.Prelude.{ℕ, List};
-    ghost use Rattle.chi_fields.specs.Operation.{Operation};
+    ghost use Rattle.chi_history.specs.declared.ask.Ask.{Ask};
 
-    ghost src: { ℕ };
-
-    ghost access: { Operation };
+    ghost ask: { Ask };
 
     ghost current: { List ℕ };
 }
@@ -49,9 +47,7 @@ impl Asks for Brand {
     ghost use Rattle.std.specs.Prelude.{[], false};
     ghost use Rattle.chi_fields.specs.declared.kind.Kind.TheVariants.{Read};
 
-    ghost src = { 0 };
-
-    ghost access = { record { kind = Read; addr = 0; len = 0; endian = false; enables = 0; lanes = [] } };
+    ghost ask = { record { src = 0; access = record { kind = Read; addr = 0; len = 0; endian = false; enables = 0; lanes = [] } } };
 
     ghost current = { [] };
 }
@@ -64,29 +60,5 @@ pub(crate) struct Tries<Q> {
 impl<Q: Asks> Outcome<Words, View> for Tries<Q> {
     ghost use Rattle.chi_history.specs.Told.{Tries as TriesAt};
 
-    ghost then = { λ v x y w. TriesAt v Q.current Q.src Q.access x w };
-}
-
-/// The number that gets a pass of its own.
-pub(crate) trait Number {
-    ghost use Rattle.std.specs.Prelude.{ℕ};
-
-    ghost number: { ℕ };
-}
-
-impl Number for Brand {
-    ghost number = { 0 };
-}
-
-/// The cut that gives one number a pass of its own.
-pub(crate) struct Gives<Q> {
-    of: PhantomData<Q>,
-}
-
-impl<Q: Number> Split<View> for Gives<Q> {
-    ghost use Rattle.chi_history.specs.Views.{alone, rest_of};
-
-    ghost left = { λ v. rest_of Q.number v };
-
-    ghost right = { λ v. alone Q.number v };
+    ghost then = { λ v x y w. TriesAt v Q.current Q.ask.src Q.ask.access x w };
 }

@@ -5,7 +5,7 @@ use crate::serving::complete;
 use crate::steps::{give, look, take_in};
 use crate::store::LockStore;
 use chi_fields::{Access, Region};
-use chi_history::{Credit, Gate, Home, Numbers, Served};
+use chi_history::{Ask, Credit, Gate, Home, Numbers, Served};
 use chi_lanes::Reply;
 use std::alloc::Allocator;
 use std::marker::Brand;
@@ -13,28 +13,28 @@ use std::sync::Wait;
 
 impl<A: Allocator> Home for LockStore<A> {
     ghost use Rattle.std.specs.Prelude.{◌≡◌};
+    ghost use Rattle.chi_history.specs.Seats.{IsSeat};
     ghost use Rattle.chi_history.specs.Views.{has};
-    ghost use Rattle.chi_lockstore.specs.Seats.{zero_opening, IsSeatOf};
     ghost use Rattle.crossbeam_utils.specs.Seq.{cell_view};
 
     type Seat = LockSeat;
 
-    ghost opening = { λ h. zero_opening h.region h.requesters };
+    ghost opening = { λ h. h.values };
 
     ghost limit = { λ _. 0 };
 
-    ghost belongs = { λ h s. (s.pass.table_id ≡ h.cell.table.shared.table_id) × IsSeatOf (zero_opening h.region h.requesters) s.numbers (cell_view s.pass) };
+    ghost belongs = { λ h s. (s.pass.table_id ≡ h.cell.table.shared.table_id) × IsSeat h.values s.numbers (cell_view s.pass) };
 
     ghost held = { λ s. has s.numbers };
 
     ghost seen = { λ s. (cell_view s.pass).seen };
 
     fn region(&self) -> Region {
-        self.region
+        self.values.region()
     }
 
     fn requesters(&self) -> u8 {
-        self.requesters
+        self.values.requesters()
     }
 
     fn holds(&self, seat: &LockSeat, src: u8) -> bool {
@@ -42,7 +42,7 @@ impl<A: Allocator> Home for LockStore<A> {
     }
 
     fn holds_all(&self, seat: &LockSeat) -> bool {
-        for src in 0..self.requesters {
+        for src in 0..self.values.requesters() {
             if !seat.numbers.has(src) {
                 return false;
             }
@@ -59,15 +59,11 @@ impl<A: Allocator> Home for LockStore<A> {
         gate: &mut G,
     ) -> Served {
         gate.pause(1);
-        let reply = complete(
-            &self.cell,
-            rt,
-            &mut seat.pass,
+        let ask = Ask {
             src,
-            access,
-            &self.region,
-            self.requesters,
-        );
+            access: *access,
+        };
+        let reply = complete(&self.cell, &self.values, rt, &mut seat.pass, &ask);
         Served::Done { reply, lost: 0 }
     }
 
@@ -78,16 +74,11 @@ impl<A: Allocator> Home for LockStore<A> {
         credit: Credit,
         access: &Access,
     ) -> Reply {
-        let src = credit.spend();
-        complete(
-            &self.cell,
-            rt,
-            &mut seat.pass,
-            src,
-            access,
-            &self.region,
-            self.requesters,
-        )
+        let ask = Ask {
+            src: credit.spend(),
+            access: *access,
+        };
+        complete(&self.cell, &self.values, rt, &mut seat.pass, &ask)
     }
 
     fn split<R: Wait>(&self, _rt: &R, seat: &mut LockSeat, src: u8) -> LockSeat {
@@ -108,15 +99,19 @@ impl<A: Allocator> Home for LockStore<A> {
 
     fn snapshot<R: Wait>(&self, rt: &R, seat: &mut LockSeat, words: &mut [u64]) {
         let line = look(&self.cell, rt, &mut seat.pass);
-        let granules = usize::from(self.region.granules());
-        words.copy_from_slice(&line[..granules]);
+        let image = self.values.image();
+        for granule in 0..words.len() {
+            words[granule] = line[granule] ^ image[granule];
+        }
     }
 
     fn return_credit(&self, credit: Credit) {
         credit.spend();
     }
 
-    ghost seen_is_legal = { λ h s b. b.1.legal };
+    ghost is_opening = { λ h. h.opening };
+
+    ghost seen_is_legal = { λ h s b. b.1.known.legal };
 
     ghost held_is_opened = { λ h s b. b.1.opened };
 }

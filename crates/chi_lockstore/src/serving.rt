@@ -1,16 +1,18 @@
 //! An operation on the line, until its exchange wins.
 
-ghost use Rattle.std.specs.Prelude.{◌≡◌, ◌≤◌, ℕ, true, IsTrue, replicate};
+ghost use Rattle.std.specs.Prelude.{◌≡◌, true, IsTrue};
 ghost use Rattle.chi_fields.specs.Extent.{lies_in};
+ghost use Rattle.chi_history.specs.Opened.{IsOpening};
+ghost use Rattle.chi_history.specs.Seats.{IsKnown};
+ghost use Rattle.chi_history.specs.Served.{Completes};
 ghost use Rattle.chi_history.specs.Views.{has};
 ghost use Rattle.chi_lockstore.specs.Faults.{IsWithinLine};
 ghost use Rattle.chi_lockstore.specs.Room.{IsSmall};
-ghost use Rattle.chi_lockstore.specs.Seats.{zero_opening, Added, IsAlone};
 ghost use Rattle.crossbeam_utils.specs.Seq.{IsSamePass, cell_view};
 
 use crate::rule::{Cell, LinePass};
 use crate::steps::{look, try_once};
-use chi_fields::{Access, Region};
+use chi_history::{Ask, OpeningValues};
 use chi_lanes::{Reply, apply};
 use std::alloc::Allocator;
 use std::marker::Brand;
@@ -19,31 +21,30 @@ use std::sync::Wait;
 /// Serves the operation on the words found, and again on those found instead, until no other came between.
 pub(crate) fn complete<A: Allocator, R: Wait>(
     cell: &Cell<A>,
+    values: &OpeningValues<A>,
     rt: &R,
     pass: &mut LinePass,
-    src: u8,
-    access: &Access,
-    region: &Region,
-    _requesters: u8,
+    ask: &Ask,
 ) -> Reply
     requires small { IsSmall A.row }
-    requires line { IsWithinLine region.now.granules }
+    requires opening { IsOpening values.now }
+    requires line { IsWithinLine values.now.region.granules }
     requires own { pass.old.table_id ≡ cell.now.table.shared.table_id }
-    requires seat { IsAlone (cell_view pass.old) }
-    requires opening { (cell_view pass.old).opening ≡ zero_opening region.now _requesters }
-    requires holds { has (cell_view pass.old).held src ≡ true }
-    requires fits { IsTrue (lies_in access.now.addr access.now.len region.now) }
+    requires known { IsKnown values.now (cell_view pass.old) }
+    requires holds { has (cell_view pass.old).held ask.now.src ≡ true }
+    requires fits { IsTrue (lies_in ask.now.access.addr ask.now.access.len values.now.region) }
     ensures own { IsSamePass pass.old pass.new }
-    ensures added { Added (cell_view pass.old) src access.now result (cell_view pass.new) }
+    ensures known { IsKnown values.now (cell_view pass.new) }
+    ensures held { (cell_view pass.new).held ≡ (cell_view pass.old).held }
+    ensures done { Completes values.now (has (cell_view pass.old).held) (cell_view pass.old).seen (cell_view pass.new).seen ask.now.src ask.now.access result 0 }
 {
-    // Both are read for what they tell: the access is lawful, and the region is one.
-    let _len = access.len();
-    let _granules = region.granules();
-    let granule = access.granule(region);
+    let image = values.image();
+    let granule = ask.access.granule(&values.region());
+    let mask = image[granule];
     let mut current = look(cell, rt, pass);
     'tries: for _ in rt.forever() {
-        let (next, reply) = apply(current[granule], access);
-        match try_once::<Brand, A, R>(cell, rt, pass, src, access, region, granule, next, current) {
+        let (word, reply) = apply(current[granule] ^ mask, &ask.access);
+        match try_once::<Brand, A, R>(cell, values, rt, pass, ask, granule, word ^ mask, current) {
             Ok(_) => return reply,
             Err(found) => current = found,
         }

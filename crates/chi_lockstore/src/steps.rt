@@ -1,32 +1,33 @@
 //! The steps on the line: each takes effect at one moment, and tells the seat that took it what it learned.
 
 ghost use Rattle.std.specs.Prelude.{◌≡◌, ◌≤◌, ◌<◌, ℕ, [], true, IsTrue, IfOk, slice_index, MatchResult};
-ghost use Rattle.chi_fields.specs.Extent.{IsRegion, granule_of, lies_in};
+ghost use Rattle.chi_fields.specs.Extent.{granule_of, lies_in};
+ghost use Rattle.chi_history.specs.Opened.{IsOpening};
+ghost use Rattle.chi_history.specs.Seats.{IsKnown};
 ghost use Rattle.chi_history.specs.Told.{Applies, Reads, Replaces, Settles};
 ghost use Rattle.chi_history.specs.Views.{all_below, alone, both, has, knower, rest_of};
 ghost use Rattle.chi_lockstore.specs.Faults.{IsWithinLine};
 ghost use Rattle.chi_lockstore.specs.Room.{IsSmall};
-ghost use Rattle.chi_lockstore.specs.Seats.{zero_opening, IsAlone};
+ghost use Rattle.chi_lockstore.specs.Seats.{IsAlone};
 ghost use Rattle.crossbeam_utils.specs.Seq.{IsSamePass, cell_view};
 
-use crate::asked::{Asks, Gives, Number, Opens, Sets, Tries};
+use crate::asked::{Asks, Opens, Sets, Tries};
 use crate::rule::{Cell, LINE_GRANULES, LinePass, Look, Settle, Whole, Words};
-use chi_fields::{Access, Region};
+use chi_history::{Ask, Gives, Number, OpeningValues};
 use std::alloc::{AllocError, Allocator};
 use std::sync::Wait;
 
 /// A cell of zeros, and the pass of all requesters of this opening.
 pub(crate) fn begin<Q: Opens, A: Allocator + Copy>(
     alloc: A,
-    _region: &Region,
-    _requesters: u8,
+    _values: &OpeningValues<A>,
 ) -> Result<(Cell<A>, LinePass), AllocError>
     requires small { IsSmall A.row }
-    requires asked { Q.opening ≡ zero_opening _region.now _requesters }
-    requires region { IsRegion _region.now }
-    requires line { IsWithinLine _region.now.granules }
+    requires asked { Q.opening ≡ _values.now }
+    requires opening { IsOpening _values.now }
+    requires line { IsWithinLine _values.now.region.granules }
     ensures cell { IfOk result (λ r. r.1.table_id ≡ r.0.table.shared.table_id) }
-    ensures view { IfOk result (λ r. cell_view r.1 ≡ knower (zero_opening _region.now _requesters) (all_below _requesters) []) }
+    ensures view { IfOk result (λ r. cell_view r.1 ≡ knower _values.now (all_below _values.now.requesters) []) }
 {
     let (cell, mut pass) = Cell::<A>::ruled(alloc, [0; LINE_GRANULES])?;
     let _spare = cell.split_pass::<Sets<Q>>(&mut pass);
@@ -37,32 +38,30 @@ pub(crate) fn begin<Q: Opens, A: Allocator + Copy>(
 /// is not, the words found come back.
 pub(crate) fn try_once<Q: Asks, A: Allocator, R: Wait>(
     cell: &Cell<A>,
+    _values: &OpeningValues<A>,
     rt: &R,
     pass: &mut LinePass,
-    _src: u8,
-    _access: &Access,
-    _region: &Region,
+    ask: &Ask,
     granule: usize,
     next: u64,
     current: Words,
 ) -> Result<Words, Words>
     requires small { IsSmall A.row }
     requires own { pass.old.table_id ≡ cell.now.table.shared.table_id }
-    requires asked { (_src ≡ Q.src) × (_access.now ≡ Q.access) × (current ≡ Q.current) }
-    requires seat { IsAlone (cell_view pass.old) }
-    requires region { _region.now ≡ (cell_view pass.old).opening.region }
-    requires holds { has (cell_view pass.old).held _src ≡ true }
-    requires fits { IsTrue (lies_in _access.now.addr _access.now.len _region.now) }
-    requires granule { granule ≡ granule_of _access.now.addr _region.now }
+    requires asked { (ask.now ≡ Q.ask) × (current ≡ Q.current) }
+    requires known { IsKnown _values.now (cell_view pass.old) }
+    requires holds { has (cell_view pass.old).held ask.now.src ≡ true }
+    requires fits { IsTrue (lies_in ask.now.access.addr ask.now.access.len _values.now.region) }
+    requires granule { granule ≡ granule_of ask.now.access.addr _values.now.region }
     requires below { granule < 8 }
-    requires applies { Applies (cell_view pass.old).opening _access.now (slice_index current granule) next }
+    requires applies { Applies _values.now ask.now.access (slice_index current granule) next }
     ensures own { IsSamePass pass.old pass.new }
     ensures tried { MatchResult result
-        (λ _. Replaces (cell_view pass.old) current _src _access.now (cell_view pass.new))
+        (λ _. Replaces (cell_view pass.old) current ask.now.src ask.now.access (cell_view pass.new))
         (λ _. cell_view pass.new ≡ cell_view pass.old) }
 {
     // It is read for what it tells: the access is lawful.
-    let _len = _access.len();
+    let _len = ask.access.len();
     let mut new = current;
     new[granule] = next;
     cell.compare_exchange_as::<Tries<Q>, R>(rt, pass, current, new)

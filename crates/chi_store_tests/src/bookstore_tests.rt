@@ -64,7 +64,7 @@ fn one_byte(byte: u8) -> Reply {
 #[test]
 fn nine_operations_on_one_byte(rt: HostRuntime) -> Result<(), Fail> {
     let region = Region::new(0x1000, 8)?;
-    let (home, mut seat) = BookStore::open(rt.alloc(), region, 8, 4)?;
+    let (home, mut seat) = BookStore::open(rt.alloc(), region, 8, 4, &[0; 8])?;
     let rows: [(u8, u64); 9] = [
         (0x30, 0x2c),
         (0x31, 0xc0),
@@ -99,12 +99,12 @@ fn open_refusals(rt: HostRuntime) -> Result<(), Fail> {
         (8, 0, OpenFault::AttemptCount),
         (8, 17, OpenFault::AttemptCount),
     ] {
-        match BookStore::open(rt.alloc(), region, requesters, attempts) {
+        match BookStore::open(rt.alloc(), region, requesters, attempts, &[0; 8]) {
             Ok((_home, _seat)) => assert!(rt; false, "opened"),
             Err(found) => assert!(rt; found == fault, "{requesters} and {attempts}: {found:?}"),
         }
     }
-    let (home, seat) = BookStore::open(rt.alloc(), region, 8, 16)?;
+    let (home, seat) = BookStore::open(rt.alloc(), region, 8, 16, &[0; 8])?;
     assert!(rt; home.holds_all(&seat));
     assert!(rt; home.holds(&seat, 7));
     assert!(rt; !home.holds(&seat, 8));
@@ -114,7 +114,7 @@ fn open_refusals(rt: HostRuntime) -> Result<(), Fail> {
 #[test]
 fn region_of_512_granules(rt: HostRuntime) -> Result<(), Fail> {
     let region = Region::new(0x1000, 512)?;
-    let (home, mut seat) = BookStore::open(rt.alloc(), region, 8, 4)?;
+    let (home, mut seat) = BookStore::open(rt.alloc(), region, 8, 4, &[0; 512])?;
     let mut add = request(0, 0x30, 3, 0xff00, 0);
     add.lanes[8] = 1;
     add.addr = 0x1ff8;
@@ -136,7 +136,7 @@ fn region_of_512_granules(rt: HostRuntime) -> Result<(), Fail> {
 fn lent_allocator(rt: HostRuntime) -> Result<(), Fail> {
     let alloc = rt.alloc();
     let region = Region::new(0x1000, 8)?;
-    let (home, mut seat) = BookStore::open(&alloc, region, 1, 1)?;
+    let (home, mut seat) = BookStore::open(&alloc, region, 1, 1, &[0; 8])?;
     let _ = reply_to(&home, &mut seat, &request(0, 0x28, 0, 1, 0x3c));
     let read = reply_to(&home, &mut seat, &request(0, 0x04, 0, 0, 0));
     assert_eq!(rt; read, Some(one_byte(0x3c)));

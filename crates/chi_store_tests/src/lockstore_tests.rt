@@ -96,7 +96,7 @@ fn words_of<H: Home, R: Abort + Wait>(rt: &R, home: &H, seat: &mut H::Seat) -> [
 
 #[test]
 fn compare_that_differs(rt: HostRuntime) -> Result<(), Fail> {
-    let (store, mut seat) = LockStore::open(rt.alloc(), Region::new(0x1000, 8)?, 1)?;
+    let (store, mut seat) = LockStore::open(rt.alloc(), Region::new(0x1000, 8)?, 1, &[0; 8])?;
     let lanes = [1, 0, 0, 0, 0xff, 0xff, 0xff, 0xff, 0, 0, 0, 0, 0, 0, 0, 0];
     let reply = reply_of(
         &rt,
@@ -129,7 +129,7 @@ fn word_after<H: Home, R: Abort + Wait>(rt: &R, home: &H, seat: &mut H::Seat, op
 
 #[test]
 fn nine_operations_on_one_byte(rt: HostRuntime) -> Result<(), Fail> {
-    let (store, mut seat) = LockStore::open(rt.alloc(), Region::new(0x1000, 8)?, 8)?;
+    let (store, mut seat) = LockStore::open(rt.alloc(), Region::new(0x1000, 8)?, 8, &[0; 8])?;
     assert_eq!(rt; word_after(&rt, &store, &mut seat, LOAD_ADD), 0x2c);
     assert_eq!(rt; word_after(&rt, &store, &mut seat, LOAD_CLR), 0xc0);
     assert_eq!(rt; word_after(&rt, &store, &mut seat, LOAD_EOR), 0xcc);
@@ -145,16 +145,16 @@ fn nine_operations_on_one_byte(rt: HostRuntime) -> Result<(), Fail> {
 #[test]
 fn open_refusals(rt: HostRuntime) -> Result<(), Fail> {
     let region = Region::new(0x1000, 8)?;
-    let none = LockStore::open(rt.alloc(), region, 0);
+    let none = LockStore::open(rt.alloc(), region, 0, &[0; 8]);
     assert_eq!(rt; none.err(), Some(OpenFault::RequesterCount));
-    let nine = LockStore::open(rt.alloc(), region, 9);
+    let nine = LockStore::open(rt.alloc(), region, 9, &[0; 8]);
     assert_eq!(rt; nine.err(), Some(OpenFault::RequesterCount));
     let longer = Region::new(0x1000, 9)?;
-    let over_one_line = LockStore::open(rt.alloc(), longer, 8);
+    let over_one_line = LockStore::open(rt.alloc(), longer, 8, &[0; 9]);
     assert_eq!(rt; over_one_line.err(), Some(OpenFault::NotOneLine));
-    let both = LockStore::open(rt.alloc(), longer, 9);
+    let both = LockStore::open(rt.alloc(), longer, 9, &[0; 9]);
     assert_eq!(rt; both.err(), Some(OpenFault::RequesterCount));
-    let (store, seat) = LockStore::open(rt.alloc(), region, 8)?;
+    let (store, seat) = LockStore::open(rt.alloc(), region, 8, &[0; 8])?;
     assert!(rt; store.holds_all(&seat));
     assert_eq!(rt; store.requesters(), 8);
     assert_eq!(rt; store.region(), region);
@@ -163,7 +163,7 @@ fn open_refusals(rt: HostRuntime) -> Result<(), Fail> {
 
 #[test]
 fn split_and_rejoin(rt: HostRuntime) -> Result<(), Fail> {
-    let (store, mut seat) = LockStore::open(rt.alloc(), Region::new(0x1000, 8)?, 2)?;
+    let (store, mut seat) = LockStore::open(rt.alloc(), Region::new(0x1000, 8)?, 2, &[0; 8])?;
     assert!(rt; store.holds(&seat, 1));
     let mut other = store.split(&rt, &mut seat, 1);
     assert!(rt; !store.holds(&seat, 1));
@@ -200,7 +200,7 @@ impl Gate for Pauses {
 
 #[test]
 fn gate_is_paused_once(rt: HostRuntime) -> Result<(), Fail> {
-    let (store, mut seat) = LockStore::open(rt.alloc(), Region::new(0x1000, 8)?, 1)?;
+    let (store, mut seat) = LockStore::open(rt.alloc(), Region::new(0x1000, 8)?, 1, &[0; 8])?;
     let access = decode(&request(SWAP, 0, 0x0001, one_byte(5)), &store.region())
         .ok()
         .expect(&rt, "the request is accepted");
@@ -223,7 +223,7 @@ fn gate_is_paused_once(rt: HostRuntime) -> Result<(), Fail> {
 
 #[test]
 fn credit_is_served_or_returned(rt: HostRuntime) -> Result<(), Fail> {
-    let (store, mut seat) = LockStore::open(rt.alloc(), Region::new(0x1000, 8)?, 1)?;
+    let (store, mut seat) = LockStore::open(rt.alloc(), Region::new(0x1000, 8)?, 1, &[0; 8])?;
     let access = decode(&request(LOAD_ADD, 0, 0x0001, one_byte(5)), &store.region())
         .ok()
         .expect(&rt, "the request is accepted");

@@ -17,7 +17,7 @@ use std::thread::join;
 fn work(home: &BookStore, mut seat: BookSeat, src: u8, access: &Access) -> (BookSeat, u64)
     requires own { IsSeatOf home.now seat }
     requires holds { has seat.numbers src ≡ true }
-    requires fits { IsTrue (lies_in access.now.addr access.now.len home.now.key.region) }
+    requires fits { IsTrue (lies_in access.now.addr access.now.len home.now.values.region) }
     ensures own { IsSeatOf home.now result.0 }
     ensures held { has result.0.numbers ≡ has seat.numbers }
 {
@@ -34,7 +34,7 @@ fn work(home: &BookStore, mut seat: BookSeat, src: u8, access: &Access) -> (Book
 #[test]
 fn two_threads_attempt(rt: HostRuntime) -> Result<(), Fail> {
     let region = Region::new(0x1000, 8)?;
-    let (home, mut seat) = BookStore::open(rt.alloc(), region, 3, 4)?;
+    let (home, mut seat) = BookStore::open(rt.alloc(), region, 3, 4, &[0; 8])?;
     let one = home.split(&rt, &mut seat, 1);
     let two = home.split(&rt, &mut seat, 2);
     let add = decode(&request(1, 0x28, 3, 0x00ff, 1), &region)?;
@@ -43,13 +43,13 @@ fn two_threads_attempt(rt: HostRuntime) -> Result<(), Fail> {
         || -> (BookSeat, u64)
             requires own { IsSeatOf home one }
             requires holds { has one.numbers 1 ≡ true }
-            requires fits { IsTrue (lies_in add.addr add.len home.key.region) }
+            requires fits { IsTrue (lies_in add.addr add.len home.values.region) }
             ensures own { IsSeatOf home result.0 }
         { work(&home, one, 1, &add) },
         || -> (BookSeat, u64)
             requires own { IsSeatOf home two }
             requires holds { has two.numbers 2 ≡ true }
-            requires fits { IsTrue (lies_in add.addr add.len home.key.region) }
+            requires fits { IsTrue (lies_in add.addr add.len home.values.region) }
             ensures own { IsSeatOf home result.0 }
         { work(&home, two, 2, &add) },
     );
@@ -102,7 +102,7 @@ fn swap_in_turn(
 #[test]
 fn two_threads_at_their_own_granules(rt: HostRuntime) -> Result<(), Fail> {
     let region = Region::new(0x1000, 8)?;
-    let (home, mut seat) = BookStore::open(rt.alloc(), region, 3, 1)?;
+    let (home, mut seat) = BookStore::open(rt.alloc(), region, 3, 1, &[0; 8])?;
     let one = home.split(&rt, &mut seat, 1);
     let two = home.split(&rt, &mut seat, 2);
     let ((one, ones), (two, twos)) = join(

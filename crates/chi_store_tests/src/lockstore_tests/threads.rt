@@ -69,7 +69,7 @@ fn serve_in_two_threads<H: Home + Sync, R: Abort + Wait + Threads + Sync>(
 
 #[test]
 fn two_threads_serve(rt: HostRuntime) -> Result<(), Fail> {
-    let (store, mut zero) = LockStore::open(rt.alloc(), Region::new(0x1000, 8)?, 2)?;
+    let (store, mut zero) = LockStore::open(rt.alloc(), Region::new(0x1000, 8)?, 2, &[0; 8])?;
     assert!(rt; store.holds(&zero, 1));
     let one = store.split(&rt, &mut zero, 1);
     let (mut zero, one) = serve_in_two_threads(&rt, &store, zero, one);

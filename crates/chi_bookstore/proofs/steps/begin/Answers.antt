@@ -1,6 +1,5 @@
 -- A store opens with zeros.
 use Rattle.std.proofs.Common.{rules, ◌≡◌, sym, subst, List, [], ◌∷◌, ℕ, replicate, le_refl}
-use Rattle.chi_fields.specs.Extent.{IsRegion}
 use Rattle.chi_history.specs.declared.opening.Opening.{Opening}
 use Rattle.chi_history.specs.Rule.{Stands}
 use Rattle.chi_history.specs.Views.{all_below, knower}
@@ -9,9 +8,9 @@ use Rattle.chi_bookstore.proofs.steps.begin.Goals as goal
 
 pub of_words-requires : goal.of_words-requires
 of_words-requires g c =
-    let o : Opening = c.args.key.now in
+    let o : Opening = c.args.values.now in
     let zeros : c.as_slice.result.now ≡ replicate o.region.granules 0 = search rules in (
       [],
       subst (λ (ws : List ℕ). Stands o.region.granules o [] ws (knower o (all_below o.requesters) [] ∷ [])) (sym zeros)
-          (opens o.region.granules o (subst (λ (z : Opening). IsRegion z.region) c.key.view_is c.granules.ensures.region) (le_refl o.region.granules)),
+          (opens o.region.granules o c.requires.region (le_refl o.region.granules)),
     )

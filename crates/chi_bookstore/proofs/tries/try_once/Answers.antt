@@ -1,5 +1,5 @@
 -- A try: its load, and its exchange.
-use Rattle.std.proofs.Common.{rules, arith, ◌≡◌, ◌^◌, ◌<◌, ◌∙◌, sym, ap, subst, ℕ, List, slice_index, bit_xor}
+use Rattle.std.proofs.Common.{rules, ◌≡◌, ◌^◌, ◌<◌, ◌∙◌, sym, ap, subst, ℕ, List, slice_index, bit_xor}
 use Rattle.chi_fields.specs.Extent.{granule_of}
 use Rattle.chi_fields.specs.Operation.{Operation}
 use Rattle.chi_history.specs.declared.opening.Opening.{Opening}
@@ -9,22 +9,22 @@ use Rattle.chi_history.specs.Told.{Applies}
 use Rattle.chi_history.specs.Views.{has}
 use Rattle.chi_history.proofs.ToldLemmas.{Answers, answers, applies}
 use Rattle.chi_history.proofs.TryLemmas.{try_lost, try_won}
-use Rattle.chi_bookstore.proofs.Known.{held_try, known_opening, known_try}
+use Rattle.chi_history.proofs.SeatLemmas.{held_try, known_opening, known_try}
 use Rattle.chi_bookstore.proofs.tries.try_once.Goals as goal
 
 pub exchange-now-requires-clause-applies : goal.exchange-now-requires-clause-applies
 exchange-now-requires-clause-applies g c =
-    let o : Opening = c.args.home.now.key in
+    let o : Opening = c.args.home.now.values in
     let a : Operation = c.args.ask.now.access in
     let found : ℕ = c.look-found.result in
-    let image : List ℕ = c.as_slice-image.result.now in
+    let image : List ℕ = c.image-image.result.now in
     let at : ℕ = c.granule-granule.result in
     let next : ℕ = bit_xor c.apply-word.result.0 (slice_index image at) in
     let same : image ≡ o.image = search rules in
     let here : at ≡ granule_of a.addr o.region = search rules in
     let mask : slice_index image at ≡ slice_index o.image (granule_of a.addr o.region) = λ i. slice_index (same i) (here i) in
     let under : granule_of a.addr o.region < o.region.granules = subst (λ (n : ℕ). n < o.region.granules) here (search rules) in
-    let small : slice_index o.image (granule_of a.addr o.region) < 2 ^ 64 = omega arith in
+    let small : slice_index o.image (granule_of a.addr o.region) < 2 ^ 64 = c.args.home.now.opening.words (granule_of a.addr o.region) in
     let asked : Applies o a found next =
     applies o a found (bit_xor found (slice_index image at)) c.apply-word.result.0 next under small c.requires.fits c.apply-word.ensures.changed (ap (bit_xor found) mask)
     (ap (bit_xor c.apply-word.result.0) mask) in
@@ -32,19 +32,19 @@ exchange-now-requires-clause-applies g c =
 
 pub returns-then-now-found : goal.returns-then-now-found
 returns-then-now-found g c =
-    let o : Opening = c.args.home.now.key in
+    let o : Opening = c.args.home.now.values in
     let v : View = c.args.seat.now.me.0 in
     let w : View = c.exchange-now.new.seat.me.0 in
     let a : Operation = c.args.ask.now.access in
     let found : ℕ = c.look-found.result in
-    let image : List ℕ = c.as_slice-image.result.now in
+    let image : List ℕ = c.image-image.result.now in
     let at : ℕ = c.granule-granule.result in
     let is : v.opening ≡ o = known_opening o v c.requires.known in
     let same : image ≡ o.image = search rules in
     let here : at ≡ granule_of a.addr o.region = search rules in
     let mask : slice_index image at ≡ slice_index o.image (granule_of a.addr o.region) = λ i. slice_index (same i) (here i) in
     let under : granule_of a.addr o.region < o.region.granules = subst (λ (n : ℕ). n < o.region.granules) here (search rules) in
-    let small : slice_index o.image (granule_of a.addr o.region) < 2 ^ 64 = omega arith in
+    let small : slice_index o.image (granule_of a.addr o.region) < 2 ^ 64 = c.args.home.now.opening.words (granule_of a.addr o.region) in
     let told : Answers o a found c.apply-word.result.1 =
     answers o a found (bit_xor found (slice_index image at)) c.apply-word.result.1 under small c.requires.fits c.apply-word.ensures.answered (ap (bit_xor found) mask) in
     let won =
@@ -60,7 +60,7 @@ returns-then-now-found g c =
 
 pub returns-else-now-found : goal.returns-else-now-found
 returns-else-now-found g c =
-    let o : Opening = c.args.home.now.key in
+    let o : Opening = c.args.home.now.values in
     let v : View = c.args.seat.now.me.0 in
     let w : View = c.exchange-now.new.seat.me.0 in
     let a : Operation = c.args.ask.now.access in

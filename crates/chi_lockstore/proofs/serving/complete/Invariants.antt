@@ -4,7 +4,7 @@ use Rattle.crossbeam_utils.specs.Seq.{cell_view, IsSamePass}
 use Rattle.chi_lockstore.proofs.serving.complete.Given as goal
 
 abbrev pub ghosts-try_once : goal.ghosts-try_once
-ghosts-try_once g a = record { src = a._src; access = a._access.now; current = a.current }
+ghosts-try_once g a = record { ask = a.ask.now; current = a.current }
 
 abbrev pub invariant-tries : goal.invariant-tries
 invariant-tries g l = record { own : IsSamePass l.fn.pass l.pass; same : cell_view l.pass ≡ cell_view l.fn.pass }

@@ -7,7 +7,6 @@ use Rattle.chi_history.specs.declared.view.View.{View}
 use Rattle.chi_history.specs.Rule.{Ruled}
 use Rattle.chi_history.specs.Views.{all_below, gone, knower}
 use Rattle.chi_history.proofs.RuledLemmas.{ruled_first}
-use Rattle.chi_lockstore.specs.Seats.{zero_opening}
 use Rattle.chi_lockstore.proofs.Line.{line_opens}
 use Rattle.chi_lockstore.proofs.Room.{cell_fits}
 use Rattle.chi_lockstore.proofs.steps.begin.Goals as goal
@@ -17,7 +16,6 @@ ruled-requires g c = (cell_fits g.row.A c.requires.small, (search rules, ruled_f
 
 pub split_pass-spare-requires : goal.split_pass-spare-requires
 split_pass-spare-requires g c =
-    let o : Opening = zero_opening c.args._region.now c.args._requesters in
     let v : View = cell_view c.in_ok-cell.pass in (
       cell_fits g.row.A c.requires.small,
       (
@@ -25,7 +23,7 @@ split_pass-spare-requires g c =
         (
           search rules,
           subst (λ (z : Opening). Forks (Ruled 8) c.in_ok-cell.pass.id v (knower z (all_below z.requesters) []) gone) (sym c.requires.asked)
-              (line_opens o c.in_ok-cell.pass.id v (search rules) c.requires.region c.requires.line),
+              (line_opens c.args._values.now c.in_ok-cell.pass.id v (search rules) c.requires.opening.region c.requires.line),
         ),
       ),
     )

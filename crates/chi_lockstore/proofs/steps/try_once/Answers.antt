@@ -1,10 +1,9 @@
 -- The exchange of the line.
-use Rattle.std.proofs.Common.{rules, ◌≡◌, ap, subst, refl, ◌∙◌, true, ℕ, nat_eq, List, set, if◌then◌else◌}
+use Rattle.std.proofs.Common.{rules, subst, refl, ℕ, nat_eq, List, set, if◌then◌else◌}
 use lib.Pointwise.{pointwise}
 use Rattle.crossbeam_utils.specs.Seq.{cell_view}
 use Rattle.crossbeam_utils.specs.Register.{Turns}
-use Rattle.chi_fields.specs.Extent.{Extent, granule_of, lies_in}
-use Rattle.chi_fields.specs.Operation.{Operation}
+use Rattle.chi_history.specs.declared.ask.Ask.{Ask}
 use Rattle.chi_history.specs.declared.view.View.{View}
 use Rattle.chi_history.specs.Rule.{Ruled}
 use Rattle.chi_history.specs.Told.{Tries}
@@ -15,24 +14,23 @@ use Rattle.chi_lockstore.proofs.steps.try_once.Goals as goal
 pub compare_exchange_as-requires : goal.compare_exchange_as-requires
 compare_exchange_as-requires g c =
     let v : View = cell_view c.args.pass.now in
-    let a : Operation = c.args._access.now in
+    let ask : Ask = c.args.ask.now in
     let new : List ℕ = set c.args.current c.args.granule c.args.next in
-    let step = line_tries c.args.pass.now.id v c.requires.seat c.args.current new c.args.granule c.args.next c.args._src a
-    (c.requires.granule ∙ ap (granule_of a.addr) c.requires.region) c.requires.holds c.len-len.ensures.lawful
-    (subst (λ (r : Extent). lies_in a.addr a.len r ≡ true) c.requires.region c.requires.fits) c.requires.applies refl in
+    let step = line_tries c.args._values.now c.args.pass.now.id v c.requires.known.now c.args.current new c.args.granule c.args.next ask.src ask.access
+    c.requires.granule c.requires.holds c.len-len.ensures.lawful c.requires.fits c.requires.applies refl in
     let asked = c.requires.asked in (
       cell_fits g.row.A c.requires.small,
       (
         search rules,
         (
           c.requires.own,
-          subst (λ (z : ℕ × Operation × List ℕ). Turns (Ruled 8) c.args.pass.now.id v
-              (λ x. if pointwise nat_eq x c.args.current then new else x) (λ v x y w. Tries v z.2 z.0 z.1 x w)) (λ i. (asked.0 i, asked.1 i, asked.2 i)) step,
+          subst (λ (z : Ask × List ℕ). Turns (Ruled 8) c.args.pass.now.id v
+              (λ x. if pointwise nat_eq x c.args.current then new else x) (λ v x y w. Tries v z.1 z.0.src z.0.access x w)) (λ i. (asked.0 i, asked.1 i)) step,
         ),
       ),
     )
 
 pub returns-clause-tried : goal.returns-clause-tried
 returns-clause-tried g c =
-    line_tried c.compare_exchange_as.result (cell_view c.args.pass.now) (cell_view c.compare_exchange_as.new.pass) c.args.current c.args._src c.args._access.now
-    (rw (← c.requires.asked.0, ← c.requires.asked.1, ← c.requires.asked.2) at c.compare_exchange_as.ensures.rule)
+    line_tried c.compare_exchange_as.result (cell_view c.args.pass.now) (cell_view c.compare_exchange_as.new.pass) c.args.current c.args.ask.now.src c.args.ask.now.access
+    (rw (← c.requires.asked.0, ← c.requires.asked.1) at c.compare_exchange_as.ensures.rule)

@@ -9,5 +9,5 @@ invariant-loop-granule g l = record {
   table : l.seat.table_seat.table_id ≡ l.initial.seat.table_seat.table_id;
   same : l.seat.table_seat.me ≡ l.initial.seat.table_seat.me;
   numbers : l.seat.numbers ≡ l.initial.seat.numbers;
-  shown : (k : ℕ) → k < l.granule → slice_index l.words k ≡ word (end l.self.key l.initial.seat.table_seat.me.0.seen) l.self.key.region k;
+  shown : (k : ℕ) → k < l.granule → slice_index l.words k ≡ word (end l.self.values l.initial.seat.table_seat.me.0.seen) l.self.values.region k;
 }

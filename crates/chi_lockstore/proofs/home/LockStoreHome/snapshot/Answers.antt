@@ -1,13 +1,25 @@
--- The words found are those of what the seat has seen.
-use Rattle.std.proofs.Common.{arith, ◌<◌, slice_index, get_or-take, ap, ◌∙◌}
+-- One more word of the memory.
+use Rattle.std.proofs.Common.{rules, ◌≡◌, ◌<◌, ◌∙◌, ap, subst, sym, ℕ, List, bit_xor, slice_index}
 use Rattle.crossbeam_utils.specs.Seq.{cell_view}
-use Rattle.chi_lockstore.proofs.ZeroLemmas.{found_zero}
+use Rattle.chi_lanes.specs.Memory.{word}
+use Rattle.chi_history.specs.declared.opening.Opening.{Opening}
+use Rattle.chi_history.specs.declared.view.View.{View}
+use Rattle.chi_history.specs.History.{end}
+use Rattle.chi_history.proofs.SeatLemmas.{known_opening, one_more, seat_reads}
 use Rattle.chi_lockstore.proofs.home.LockStoreHome.snapshot.Goals as goal
 
-pub returns-clause-shown : goal.returns-clause-shown
-returns-clause-shown g c granule under =
-    let within : granule < c.from-granules.result = omega (arith, c.granules.ensures.value, c.from-granules.ensures) in
-    ap (λ ws. slice_index ws granule) c.copy_from_slice.ensures.after
-    ∙ (get_or-take c.from-granules.result c.look-line.result granule 0 within
-    ∙ found_zero c.args.self.now.region c.args.self.now.requesters c.args.seat.now.numbers (cell_view c.args.seat.now.pass) c.look-line.result
-    (cell_view c.look-line.new.pass) c.requires.own.1 c.requires.all c.look-line.ensures.read granule under)
+pub loop-granule-preserved : goal.loop-granule-preserved
+loop-granule-preserved g c =
+    let o : Opening = c.args.self.now.values in
+    let v : View = cell_view c.args.seat.now.pass in
+    let at : ℕ = c.loop-granule.granule in
+    let found : ℕ = slice_index c.look-line.result at in
+    let reads = c.look-line.ensures.read in
+    let under : at < o.region.granules = search rules in
+    let inside : at < v.opening.region.granules = subst (λ (z : Opening). at < z.region.granules) (sym (known_opening o v c.requires.own.1.known)) under in
+    let is : bit_xor found (slice_index o.image at) ≡ word (end o v.seen) o.region at =
+    seat_reads o c.args.seat.now.numbers v at found c.requires.own.1 c.requires.all under (c.args.self.now.opening.words at) (λ holds. reads.1 holds at inside) in
+    one_more c.loop-granule.words at (bit_xor found (slice_index c.image-image.result.now at)) (λ k. word (end o (cell_view c.look-line.new.pass).seen) o.region k) (search rules)
+    c.loop-granule.invariant
+    (ap (λ (xs : List ℕ). bit_xor found (slice_index xs at)) c.image-image.ensures
+    ∙ (is ∙ ap (λ (z : View). word (end o z.seen) o.region at) (sym reads.0)))

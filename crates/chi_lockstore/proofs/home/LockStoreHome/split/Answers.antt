@@ -3,13 +3,12 @@ use Rattle.std.proofs.Common.{ℕ, List, ◌∙◌}
 use Rattle.crossbeam_utils.specs.Seq.{cell_view}
 use Rattle.chi_history.specs.declared.opening.Opening.{Opening}
 use Rattle.chi_history.specs.declared.view.View.{View}
-use Rattle.chi_lockstore.specs.Seats.{zero_opening}
-use Rattle.chi_lockstore.proofs.SeatLemmas.{seat_one, seat_rest}
+use Rattle.chi_history.proofs.SeatLemmas.{seat_alone, seat_rest}
 use Rattle.chi_lockstore.proofs.home.LockStoreHome.split.Goals as goal
 
 pub returns-clause-own : goal.returns-clause-own
 returns-clause-own g c =
-    let o : Opening = zero_opening c.args.self.now.region c.args.self.now.requesters in
+    let o : Opening = c.args.self.now.values in
     let v : View = cell_view c.args.seat.now.pass in
     let numbers : List ℕ = c.args.seat.now.numbers in (
       (
@@ -18,6 +17,6 @@ returns-clause-own g c =
       ),
       (
         c.give-pass.ensures.own.1 ∙ c.requires.own.0,
-        seat_one o numbers c.only-alone.result v c.args.src (cell_view c.give-pass.result) c.requires.own.1 c.requires.holds c.only-alone.ensures c.give-pass.ensures.alone,
+        seat_alone o numbers c.only-alone.result v c.args.src (cell_view c.give-pass.result) c.requires.own.1 c.requires.holds c.only-alone.ensures c.give-pass.ensures.alone,
       ),
     )
