@@ -7,6 +7,7 @@ use Rattle.chi_history.specs.declared.entry.Entry.{Entry}
 use Rattle.chi_history.specs.declared.line.Line.{Line}
 use Rattle.chi_history.specs.declared.opening.Opening.{Opening}
 use Rattle.chi_history.specs.History.{end}
+use Rattle.chi_history.specs.Opened.{opened}
 use Rattle.chi_requester.specs.declared.fault.WorkFault.{WorkFault}
 use Rattle.chi_requester.specs.declared.policy.Policy.{Policy}
 use Rattle.chi_requester.specs.Race.{IsRace, IsRaceRun, one_and_two}
@@ -26,7 +27,7 @@ most_racer = 2
 
 -- the opening of a home of this region
 abbrev pub race_opening : Extent → Opening
-race_opening region = record { region = region; requesters = requester_count; image = replicate region.granules 0 }
+race_opening region = opened region requester_count (replicate region.granules 0)
 
 -- one legal history stands behind the lines of 1, of 2 and of 0, and every request of the script was worked
 abbrev pub IsRaced : Policy → ℕ → Extent × List Request → List Entry → (ℕ → List Line) → Type 0

@@ -135,7 +135,7 @@ fn race_over<
     }
 }
 
-// Races a script over the store of the options, and writes the transcript.
+// Races a script over the store of the options, which opens with zeros, and writes the transcript.
 pub(crate) fn race_script<
     T: AllocGlobal + Threads + Wait + Sync,
     W: Write,
@@ -162,7 +162,7 @@ pub(crate) fn race_script<
     };
     let words = words.as_mut_slice();
     match options.store {
-        StoreKind::Lock => match LockStore::open(alloc, region, MOST_NUMBERS) {
+        StoreKind::Lock => match LockStore::open(alloc, region, MOST_NUMBERS, words) {
             Ok((home, mut seat)) => {
                 race_over(
                     &home, rt, &mut seat, script, policy, gate1, gate2, words, to,
@@ -170,7 +170,13 @@ pub(crate) fn race_script<
             }
             Err(fault) => Err(EngineFault::Open(fault)),
         },
-        StoreKind::Book => match BookStore::open(alloc, region, MOST_NUMBERS, options.attempts) {
+        StoreKind::Book => match BookStore::open(
+            alloc,
+            region,
+            MOST_NUMBERS,
+            options.attempts,
+            words,
+        ) {
             Ok((home, mut seat)) => {
                 race_over(
                     &home, rt, &mut seat, script, policy, gate1, gate2, words, to,

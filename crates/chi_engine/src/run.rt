@@ -79,7 +79,7 @@ fn run_over<H: Home, T: AllocGlobal + Wait, W: Write>(
     }
 }
 
-// Works a script over the store of the options, and writes the transcript.
+// Works a script over the store of the options, which opens with zeros, and writes the transcript.
 pub(crate) fn run_script<T: AllocGlobal + Wait, W: Write>(
     rt: &T,
     script: &Script,
@@ -99,11 +99,17 @@ pub(crate) fn run_script<T: AllocGlobal + Wait, W: Write>(
     };
     let words = words.as_mut_slice();
     match options.store {
-        StoreKind::Lock => match LockStore::open(alloc, region, MOST_NUMBERS) {
+        StoreKind::Lock => match LockStore::open(alloc, region, MOST_NUMBERS, words) {
             Ok((home, mut seat)) => run_over(&home, rt, &mut seat, script, policy, words, to),
             Err(fault) => Err(EngineFault::Open(fault)),
         },
-        StoreKind::Book => match BookStore::open(alloc, region, MOST_NUMBERS, options.attempts) {
+        StoreKind::Book => match BookStore::open(
+            alloc,
+            region,
+            MOST_NUMBERS,
+            options.attempts,
+            words,
+        ) {
             Ok((home, mut seat)) => run_over(&home, rt, &mut seat, script, policy, words, to),
             Err(fault) => Err(EngineFault::Open(fault)),
         },

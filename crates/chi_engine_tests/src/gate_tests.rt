@@ -163,9 +163,9 @@ fn gates_meet(rt: HostRuntime) -> Result<(), Fail> {
 #[test]
 fn gates_meet_by_race_two(rt: HostRuntime) -> Result<(), Fail> {
     let region = Region::new(0x1000, 8)?;
-    let (home, mut seat) = LockStore::open(rt.alloc(), region, 3)?;
+    let (home, mut seat) = LockStore::open(rt.alloc(), region, 3, &[0; 8])?;
     assert_race_meets(&rt, &home, &mut seat)?;
-    let (home, mut seat) = BookStore::open(rt.alloc(), region, 3, 4)?;
+    let (home, mut seat) = BookStore::open(rt.alloc(), region, 3, 4, &[0; 8])?;
     assert_race_meets(&rt, &home, &mut seat)
 }
 

@@ -55,8 +55,8 @@ fn assert_four_add<H: Home + Sync, T: AllocGlobal + Abort + Threads + Wait + Syn
 #[test]
 fn four_workers(rt: HostRuntime) -> Result<(), Fail> {
     let region = Region::new(0x1000, 8)?;
-    let (home, mut seat) = LockStore::open(rt.alloc(), region, 5)?;
+    let (home, mut seat) = LockStore::open(rt.alloc(), region, 5, &[0; 8])?;
     assert_four_add(&rt, &home, &mut seat)?;
-    let (home, mut seat) = BookStore::open(rt.alloc(), region, 5, 4)?;
+    let (home, mut seat) = BookStore::open(rt.alloc(), region, 5, 4, &[0; 8])?;
     assert_four_add(&rt, &home, &mut seat)
 }

@@ -71,7 +71,7 @@ fn race_lock<T: AllocGlobal + Abort + Threads + Wait + Sync>(
     rt: &T,
     number: u64,
 ) -> Result<bool, Fail> {
-    let (home, mut seat) = LockStore::open(rt.alloc(), Region::new(0x1000, 8)?, 5)?;
+    let (home, mut seat) = LockStore::open(rt.alloc(), Region::new(0x1000, 8)?, 5, &[0; 8])?;
     race_forty(rt, &home, &mut seat, number)
 }
 
@@ -80,7 +80,7 @@ fn race_book<T: AllocGlobal + Abort + Threads + Wait + Sync>(
     rt: &T,
     number: u64,
 ) -> Result<bool, Fail> {
-    let (home, mut seat) = BookStore::open(rt.alloc(), Region::new(0x1000, 8)?, 5, 4)?;
+    let (home, mut seat) = BookStore::open(rt.alloc(), Region::new(0x1000, 8)?, 5, 4, &[0; 8])?;
     race_forty(rt, &home, &mut seat, number)
 }
 

@@ -59,9 +59,9 @@ fn assert_left<H: Home, T: AllocGlobal + Abort + Wait>(
 fn growth_refused_in_forty_requests(rt: HostRuntime) -> Result<(), Fail> {
     let region = Region::new(0x1000, 8)?;
     for (number, count) in LINES {
-        let (home, mut seat) = LockStore::open(rt.alloc(), region, 8)?;
+        let (home, mut seat) = LockStore::open(rt.alloc(), region, 8, &[0; 8])?;
         assert_left(&rt, &home, &mut seat, number, count)?;
-        let (home, mut seat) = BookStore::open(rt.alloc(), region, 8, 4)?;
+        let (home, mut seat) = BookStore::open(rt.alloc(), region, 8, 4, &[0; 8])?;
         assert_left(&rt, &home, &mut seat, number, count)?;
     }
     Ok(())

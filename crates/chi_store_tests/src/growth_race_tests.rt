@@ -96,7 +96,7 @@ fn race_lock<T: AllocGlobal + Abort + Threads + Wait + Sync>(
     rt: &T,
     number: u64,
 ) -> Result<bool, Fail> {
-    let (home, mut seat) = LockStore::open(rt.alloc(), Region::new(0x1000, 8)?, 8)?;
+    let (home, mut seat) = LockStore::open(rt.alloc(), Region::new(0x1000, 8)?, 8, &[0; 8])?;
     race_ten(rt, &home, &mut seat, number)
 }
 
@@ -105,7 +105,7 @@ fn race_book<T: AllocGlobal + Abort + Threads + Wait + Sync>(
     rt: &T,
     number: u64,
 ) -> Result<bool, Fail> {
-    let (home, mut seat) = BookStore::open(rt.alloc(), Region::new(0x1000, 8)?, 8, 4)?;
+    let (home, mut seat) = BookStore::open(rt.alloc(), Region::new(0x1000, 8)?, 8, 4, &[0; 8])?;
     race_ten(rt, &home, &mut seat, number)
 }
 

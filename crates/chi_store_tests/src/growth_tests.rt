@@ -75,7 +75,7 @@ fn assert_opened<H: Home, T: Abort + Wait>(rt: &T, home: &H, seat: &mut H::Seat)
 fn open_lock<T: AllocGlobal + Abort + Wait>(rt: &T, number: u64) -> Result<bool, Fail> {
     let region = Region::new(0x1000, 8)?;
     let alloc = Refusing::new(rt.alloc(), number);
-    match LockStore::open(&alloc, region, 8) {
+    match LockStore::open(&alloc, region, 8, &[0; 8]) {
         Ok((home, mut seat)) => assert_opened(rt, &home, &mut seat),
         Err(fault) => {
             assert_eq!(rt; fault, OpenFault::Memory);
@@ -89,7 +89,7 @@ fn open_lock<T: AllocGlobal + Abort + Wait>(rt: &T, number: u64) -> Result<bool,
 fn open_book<T: AllocGlobal + Abort + Wait>(rt: &T, number: u64) -> Result<bool, Fail> {
     let region = Region::new(0x1000, 8)?;
     let alloc = Refusing::new(rt.alloc(), number);
-    match BookStore::open(&alloc, region, 8, 4) {
+    match BookStore::open(&alloc, region, 8, 4, &[0; 8]) {
         Ok((home, mut seat)) => assert_opened(rt, &home, &mut seat),
         Err(fault) => {
             assert_eq!(rt; fault, OpenFault::Memory);
@@ -162,13 +162,13 @@ fn work_three<H: Home, T: AllocGlobal + Abort + Wait>(
 
 // Works them over the locked store.
 fn work_lock<T: AllocGlobal + Abort + Wait>(rt: &T, number: u64) -> Result<bool, Fail> {
-    let (home, mut seat) = LockStore::open(rt.alloc(), Region::new(0x1000, 8)?, 8)?;
+    let (home, mut seat) = LockStore::open(rt.alloc(), Region::new(0x1000, 8)?, 8, &[0; 8])?;
     Ok(work_three(rt, &home, &mut seat, number))
 }
 
 // Works them over the lock-free store.
 fn work_book<T: AllocGlobal + Abort + Wait>(rt: &T, number: u64) -> Result<bool, Fail> {
-    let (home, mut seat) = BookStore::open(rt.alloc(), Region::new(0x1000, 8)?, 8, 4)?;
+    let (home, mut seat) = BookStore::open(rt.alloc(), Region::new(0x1000, 8)?, 8, 4, &[0; 8])?;
     Ok(work_three(rt, &home, &mut seat, number))
 }
 
@@ -205,13 +205,13 @@ fn serve_three<H: Home, T: AllocGlobal + Abort + Wait>(
 
 // Works them over the locked store.
 fn serial_lock<T: AllocGlobal + Abort + Wait>(rt: &T, number: u64) -> Result<bool, Fail> {
-    let (home, mut seat) = LockStore::open(rt.alloc(), Region::new(0x1000, 8)?, 8)?;
+    let (home, mut seat) = LockStore::open(rt.alloc(), Region::new(0x1000, 8)?, 8, &[0; 8])?;
     Ok(serve_three(rt, &home, &mut seat, number))
 }
 
 // Works them over the lock-free store.
 fn serial_book<T: AllocGlobal + Abort + Wait>(rt: &T, number: u64) -> Result<bool, Fail> {
-    let (home, mut seat) = BookStore::open(rt.alloc(), Region::new(0x1000, 8)?, 8, 4)?;
+    let (home, mut seat) = BookStore::open(rt.alloc(), Region::new(0x1000, 8)?, 8, 4, &[0; 8])?;
     Ok(serve_three(rt, &home, &mut seat, number))
 }
 

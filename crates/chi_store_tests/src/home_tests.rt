@@ -76,9 +76,9 @@ fn assert_callers<H: Home, T: Abort + Wait>(
 #[test]
 fn callers_of_both_stores(rt: HostRuntime) -> Result<(), Fail> {
     let region = Region::new(0x1000, 8)?;
-    let (home, mut seat) = LockStore::open(rt.alloc(), region, 3)?;
+    let (home, mut seat) = LockStore::open(rt.alloc(), region, 3, &[0; 8])?;
     assert_callers(&rt, &home, &mut seat)?;
-    let (home, mut seat) = BookStore::open(rt.alloc(), region, 3, 4)?;
+    let (home, mut seat) = BookStore::open(rt.alloc(), region, 3, 4, &[0; 8])?;
     assert_callers(&rt, &home, &mut seat)
 }
 
@@ -134,8 +134,8 @@ fn assert_own_lines<H: Home + Sync, T: AllocGlobal + Abort + Threads + Wait + Sy
 #[test]
 fn two_threads_of_one_store(rt: HostRuntime) -> Result<(), Fail> {
     let region = Region::new(0x1000, 8)?;
-    let (home, mut seat) = LockStore::open(rt.alloc(), region, 3)?;
+    let (home, mut seat) = LockStore::open(rt.alloc(), region, 3, &[0; 8])?;
     assert_own_lines(&rt, &home, &mut seat)?;
-    let (home, mut seat) = BookStore::open(rt.alloc(), region, 3, 4)?;
+    let (home, mut seat) = BookStore::open(rt.alloc(), region, 3, 4, &[0; 8])?;
     assert_own_lines(&rt, &home, &mut seat)
 }

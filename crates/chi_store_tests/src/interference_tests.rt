@@ -151,7 +151,7 @@ fn opened<T: AllocGlobal + Abort + Wait>(
     ensures other_own { IfOk result (λ r. ⟦<BookStore as Home>⟧.belongs r.0 r.2) }
 {
     let region = Region::new(0x1000, 8)?;
-    let (home, mut seat) = BookStore::open(rt.alloc(), region, 2, attempts)?;
+    let (home, mut seat) = BookStore::open(rt.alloc(), region, 2, attempts, &[0; 8])?;
     assert!(rt; home.holds(&seat, 1));
     let other = home.split(rt, &mut seat, 1);
     Ok((home, seat, other))

@@ -60,9 +60,9 @@ fn assert_adds<H: Home + Sync, T: AllocGlobal + Abort + Threads + Wait + Sync>(
 #[test]
 fn two_workers_add_a_thousand_each(rt: HostRuntime) -> Result<(), Fail> {
     let region = Region::new(0x1000, 8)?;
-    let (home, mut seat) = LockStore::open(rt.alloc(), region, 8)?;
+    let (home, mut seat) = LockStore::open(rt.alloc(), region, 8, &[0; 8])?;
     assert_adds(&rt, &home, &mut seat)?;
-    let (home, mut seat) = BookStore::open(rt.alloc(), region, 8, 4)?;
+    let (home, mut seat) = BookStore::open(rt.alloc(), region, 8, 4, &[0; 8])?;
     assert_adds(&rt, &home, &mut seat)
 }
 
@@ -87,7 +87,7 @@ fn write(src: u8, be: u16) -> Request
 
 #[test]
 fn work_skips_other_requesters(rt: HostRuntime) -> Result<(), Fail> {
-    let (home, mut seat) = LockStore::open(rt.alloc(), Region::new(0x1000, 8)?, 8)?;
+    let (home, mut seat) = LockStore::open(rt.alloc(), Region::new(0x1000, 8)?, 8, &[0; 8])?;
     let requests = [write(0, 0x0000), write(1, 0x00ff), write(0, 0x0042)];
     let mut lines = Vec::new(rt.alloc());
     work(
@@ -140,8 +140,8 @@ fn assert_two_bytes_written<H: Home, T: AllocGlobal + Abort + Wait>(
 #[test]
 fn write_of_no_bytes_then_two_by_run_serial(rt: HostRuntime) -> Result<(), Fail> {
     let region = Region::new(0x1000, 8)?;
-    let (home, mut seat) = LockStore::open(rt.alloc(), region, 8)?;
+    let (home, mut seat) = LockStore::open(rt.alloc(), region, 8, &[0; 8])?;
     assert_two_bytes_written(&rt, &home, &mut seat)?;
-    let (home, mut seat) = BookStore::open(rt.alloc(), region, 8, 4)?;
+    let (home, mut seat) = BookStore::open(rt.alloc(), region, 8, 4, &[0; 8])?;
     assert_two_bytes_written(&rt, &home, &mut seat)
 }
