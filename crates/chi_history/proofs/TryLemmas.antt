@@ -122,24 +122,3 @@ try_won v u w g x src access found reply looks exchange hit answered = at_knower
           then_done v.opening (has v.held) v.seen (v.seen ++ looks.mid) w.seen src access reply 0 0 first
               (added k e'.mid src access w found reply adds e'.found_is answered),
         )
-
--- before the first try
-pub tried_none : (v : View) → v ≡ knower v.opening v.held v.seen → IsLegal v.opening v.seen → IsTried v v
-tried_none v is legal = record { now = is; legal = legal }
-
--- a try, and then another
-pub then_tried : (v u w : View) → IsTried v u → IsTried u w → IsTried v w
-then_tried v u w first second = subst (λ (z : View). IsTried z w → IsTried v w) (sym first.now) (λ t. record { now = t.now; legal = t.legal }) second
-
--- tries that lost, and then more of them, of the seat after the first ones
-pub again_lost : (v u w : View) (access : Operation) (n m : ℕ) → IsTried v u → Retries v.opening (has v.held) v.seen u.seen access n
-    → Retries u.opening (has u.held) u.seen w.seen access m → Retries v.opening (has v.held) v.seen w.seen access (n + m)
-again_lost v u w access n m tried first second =
-    then_lost v.opening (has v.held) v.seen u.seen w.seen access n m first (subst (λ (z : View). Retries z.opening (has z.held) z.seen w.seen access m) tried.now second)
-
--- tries that lost, and then one that won
-pub again_done : (v u w : View) (src : ℕ) (access : Operation) (reply : Reply) (n m : ℕ) → IsTried v u → Retries v.opening (has v.held) v.seen u.seen access n
-    → Completes u.opening (has u.held) u.seen w.seen src access reply m → Completes v.opening (has v.held) v.seen w.seen src access reply (n + m)
-again_done v u w src access reply n m tried first second =
-    then_done v.opening (has v.held) v.seen u.seen w.seen src access reply n m first
-    (subst (λ (z : View). Completes z.opening (has z.held) z.seen w.seen src access reply m) tried.now second)
