@@ -22,6 +22,8 @@ mod interference_tests;
 #[cfg(test)]
 mod lockstore_tests;
 #[cfg(test)]
+mod opening_tests;
+#[cfg(test)]
 mod refusing;
 #[cfg(test)]
 mod work_tests;
