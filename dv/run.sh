@@ -21,3 +21,4 @@ for bug in 1 2 3; do
   echo "planted mistake $bug:"
   printf '%s\n' "$found" | grep '^tb:'
 done
+echo "dv: PASS"
