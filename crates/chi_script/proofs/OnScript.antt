@@ -1,5 +1,5 @@
 -- the scripts of worked texts, computed
-use Rattle.std.proofs.Common.{◌≡◌, [], ◌∷◌, codes, refl, Ok, Err}
+use Rattle.std.proofs.Common.{◌≡◌, [], ◌∷◌, replicate, codes, refl, Ok, Err}
 use Rattle.std.specs.Str.{is_utf8, chars}
 use Rattle.hex.proofs.OnLiterals.{hex_on_literals}
 use Rattle.serde_json.proofs.OnLiterals.{serde_json_on_literals}
@@ -11,12 +11,13 @@ use Rattle.chi_script.proofs.OnText.{fetch_add}
 
 -- one fetch and add
 pub script-fetch_add : script (codes "{\"base\":4096,\"granules\":8,\"requests\":[{\"src\":0,\"txn\":1,\"op\":48,\"size\":3,\"addr\":4096,\"endian\":0,\"be\":255,\"lanes\":\"01000000000000000000000000000000\"}]}") 7
-    ≡ Ok (record { base = 4096; granules = 8 }, fetch_add ∷ [])
+    ≡ Ok (record { region = record { base = 4096; granules = 8 }; image = replicate 8 0; requests = fetch_add ∷ [] })
 unfolding serde_json_on_literals hex_on_literals is_utf8 chars script json_value object_script requests_of element_of request_of number_of
 script-fetch_add = refl
 
 -- no requests
-pub script-empty : script (codes "{\"base\":4096,\"granules\":8,\"requests\":[]}") 7 ≡ Ok (record { base = 4096; granules = 8 }, [])
+pub script-empty : script (codes "{\"base\":4096,\"granules\":8,\"requests\":[]}") 7
+    ≡ Ok (record { region = record { base = 4096; granules = 8 }; image = replicate 8 0; requests = [] })
 unfolding serde_json_on_literals is_utf8 chars script json_value object_script requests_of number_of
 script-empty = refl
 

@@ -1,5 +1,5 @@
 -- the requests of a script are of requesters up to the greatest one
-use Rattle.std.proofs.Common.{◌≡◌, ℕ, ◌+◌, ◌≤◌, ◌-◌, ◌^◌, nat_le, nat_lt, Bool, true, false, if◌then◌else◌, List, length, Option, None, Some, Result, Ok, Err, IfOk, refl, subst, arith}
+use Rattle.std.proofs.Common.{◌≡◌, ℕ, ◌+◌, ◌≤◌, ◌-◌, ◌^◌, nat_le, nat_lt, Bool, true, false, if◌then◌else◌, List, length, replicate, Option, None, Some, Result, Ok, Err, IfOk, refl, subst, arith}
 use Rattle.std.specs.Prelude.{All, is_some, ok_or, option_and_then}
 use Rattle.std.proofs.lemmas.Bool.{leb-true, lt-ltb}
 use Rattle.std.proofs.lemmas.List.Elements.{All-nil, All-cons}
@@ -13,15 +13,15 @@ use Rattle.chi_script.specs.declared.fault.ScriptFault.TheVariants.{NotJson, Not
 use Rattle.chi_script.specs.declared.member.Member.{Member}
 use Rattle.chi_script.specs.declared.member.Member.TheVariants.{Base, Granules, Requests, Src, Txn, Opcode, Size, Addr, Endian, Be, Lanes}
 use Rattle.chi_script.specs.Member.{member_name}
-use Rattle.chi_script.specs.Script.{◌>>=◌, up_to, whole_number, lanes_of, member_by, number_of, request_of, element_of, requests_of, with_requests, object_script}
+use Rattle.chi_script.specs.Script.{◌>>=◌, up_to, whole_number, lanes_of, member_by, number_of, request_of, element_of, requests_of, on_region, object_script, ScriptValue}
 
 -- the requester's number is at most the greatest one
 abbrev pub IsUpTo : ℕ → Request → Type 0
 IsUpTo top q = q.src ≤ top
 
 -- the same of each request of a script
-abbrev pub AllUpTo : ℕ → Extent × List Request → Type 0
-AllUpTo top s = All (IsUpTo top) s.1
+abbrev pub AllUpTo : ℕ → ScriptValue → Type 0
+AllUpTo top s = All (IsUpTo top) s.requests
 
 -- a later step of a walk keeps P
 then_ok : {A B E : Type 0} (x : Result A E) (f : A → Result B E) (P : B → Type 0) → ((a : A) → x ≡ Ok a → IfOk (f a) P) → IfOk (x >>= f) P
@@ -80,14 +80,15 @@ requests_within top (item d ds) =
     (at_ok (requests_of top ds) qs (All (IsUpTo top)) e1 (requests_within top ds))))
 
 -- by cases on the region
-with_by : (top : ℕ) (r : Result Extent RegionFault) (qs : List Request) → All (IsUpTo top) qs → IfOk (with_requests r qs) (AllUpTo top)
-with_by top (Ok region) qs h = h
-with_by top (Err f) qs h = tt
+on_by : (top : ℕ) (r : Result Extent RegionFault) (image : List ℕ) (qs : List Request) → All (IsUpTo top) qs → IfOk (on_region r image qs) (AllUpTo top)
+on_by top (Ok region) image qs h = h
+on_by top (Err f) image qs h = tt
 
 -- by cases on the number of requests
-counted : (top : ℕ) (r : Result Extent RegionFault) (qs : List Request) (b : Bool) → All (IsUpTo top) qs → IfOk (if b then Err TooManyRequests else with_requests r qs) (AllUpTo top)
-counted top r qs true h = tt
-counted top r qs false h = with_by top r qs h
+counted : (top : ℕ) (r : Result Extent RegionFault) (image : List ℕ) (qs : List Request) (b : Bool) → All (IsUpTo top) qs
+    → IfOk (if b then Err TooManyRequests else on_region r image qs) (AllUpTo top)
+counted top r image qs true h = tt
+counted top r image qs false h = on_by top r image qs h
 
 -- so is each requester of an object
 object_within : (top : ℕ) (d : Data) → IfOk (object_script top d) (AllUpTo top)
@@ -97,10 +98,10 @@ object_within top d =
     then_ok (number_of Granules 65535 d) _ (AllUpTo top) (λ granules e1.
     then_ok (member_by Requests as_array d) _ (AllUpTo top) (λ elements e2.
     then_ok (requests_of top elements) _ (AllUpTo top) (λ qs e3.
-    counted top (region_of base granules) qs (nat_lt 4096 (length qs))
+    counted top (region_of base granules) (replicate granules 0) qs (nat_lt 4096 (length qs))
     (at_ok (requests_of top elements) qs (All (IsUpTo top)) e3 (requests_within top elements))))))
 
 -- so each of them stands in the set of those below the next number
-pub object_from : (top : ℕ) (d : Data) (s : Extent × List Request) → object_script top d ≡ Ok s → AllFrom (below (top + 1)) s.1
+pub object_from : (top : ℕ) (d : Data) (s : ScriptValue) → object_script top d ≡ Ok s → AllFrom (below (top + 1)) s.requests
 object_from top d s read = λ k q inside.
     let up_to = at_ok (object_script top d) s (AllUpTo top) read (object_within top d) k q inside in lt-ltb _ (top + 1) (omega (arith, up_to))

@@ -1,5 +1,5 @@
 -- the script that a text is, or its first fault
-use Rattle.std.specs.Prelude.{ℕ, ◌-◌, ◌^◌, ◌==◌, nat_lt, nat_le, if◌then◌else◌, List, [], ◌∷◌, length, Option, None, Some, is_some, option_and_then, Result, Ok, Err}
+use Rattle.std.specs.Prelude.{ℕ, ◌-◌, ◌^◌, ◌==◌, nat_lt, nat_le, if◌then◌else◌, List, [], ◌∷◌, length, replicate, Option, None, Some, is_some, option_and_then, Result, Ok, Err}
 use Rattle.std.specs.Result.{result_ok}
 use Rattle.std.specs.Option.{ok_or}
 use Rattle.std.specs.Str.{is_utf8}
@@ -15,6 +15,12 @@ use Rattle.chi_script.specs.declared.fault.ScriptFault.{ScriptFault}
 use Rattle.chi_script.specs.declared.fault.ScriptFault.TheVariants.{NotJson, NotObject, Missing, BadMember, TooManyRequests, RegionRefused}
 use Rattle.chi_script.specs.declared.member.Member.{Member}
 use Rattle.chi_script.specs.declared.member.Member.TheVariants.{Base, Granules, Requests, Src, Txn, Opcode, Size, Addr, Endian, Be, Lanes}
+
+-- what a script says: a region, the words of its granules at the opening, and the requests
+pub record ScriptValue : Type 0 where
+  pub region : Extent
+  pub image : List ℕ
+  pub requests : List Request
 
 -- the next step of the walk, where this one met no fault
 infixl 10 ◌>>=◌
@@ -65,24 +71,24 @@ requests_of top (item d ds) = do
   requests ← requests_of top ds
   Ok (request ∷ requests)
 
-abbrev pub with_requests : Result Extent RegionFault → List Request → Result (Extent × List Request) ScriptFault
-with_requests (Ok region) requests = Ok (region, requests)
-with_requests (Err fault) requests = Err (RegionRefused fault)
+abbrev pub on_region : Result Extent RegionFault → List ℕ → List Request → Result ScriptValue ScriptFault
+on_region (Ok region) image requests = Ok (record { region = region; image = image; requests = requests })
+on_region (Err fault) image requests = Err (RegionRefused fault)
 
-unfoldable pub object_script : ℕ → Data → Result (Extent × List Request) ScriptFault
+unfoldable pub object_script : ℕ → Data → Result ScriptValue ScriptFault
 object_script top d = do
   base ← number_of Base (2 ^ 64 - 1) d
   granules ← number_of Granules 65535 d
   elements ← member_by Requests as_array d
   requests ← requests_of top elements
-  if nat_lt 4096 (length requests) then Err TooManyRequests else with_requests (region_of base granules) requests
+  if nat_lt 4096 (length requests) then Err TooManyRequests else on_region (region_of base granules) (replicate granules 0) requests
 
 -- the value of a text, where it is JSON in UTF-8
 unfoldable pub json_value : List ℕ → Option Data
 json_value text = if is_utf8 text then read text else None
 
 -- the script that a text is, for requesters up to the greatest one, or the first fault
-unfoldable pub script : List ℕ → ℕ → Result (Extent × List Request) ScriptFault
+unfoldable pub script : List ℕ → ℕ → Result ScriptValue ScriptFault
 script text top = do
   d ← ok_or (json_value text) NotJson
   if is_some (as_object d) then object_script top d else Err NotObject

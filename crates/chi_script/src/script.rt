@@ -1,6 +1,6 @@
 //! Scripts and how one is read.
 
-ghost use Rattle.std.specs.Prelude.{◌≡◌, ◌≢◌, ◌+◌, Some, None, IfOk, IfErr, Ok, Err};
+ghost use Rattle.std.specs.Prelude.{◌≡◌, ◌≢◌, ◌+◌, Some, None, length, replicate, IfOk, IfErr, Ok, Err};
 ghost use Rattle.serde_json.specs.View.{view};
 ghost use Rattle.chi_history.specs.Held.{AllFrom, below};
 ghost use Rattle.chi_script.specs.Script.{json_value, object_script, script};
@@ -10,24 +10,28 @@ use crate::member::Member;
 use crate::walk::{number, requests};
 use chi_fields::{Region, Request};
 use serde_json::Value;
-use std::alloc::Global;
+use std::alloc::{AllocError, Global};
 use std::marker::Model;
 
-/// A region and at most 4,096 requests to the home that serves it. Only `read_script` makes one.
+/// A region, its memory at the opening, and at most 4,096 requests to the home that serves it. Only `read_script`
+/// makes one.
 #[derive(Debug, Drop)]
 pub struct Script {
     region: Region,
+    image: Vec<u64>,
     requests: Vec<Request>,
 }
 
 impl Model for Script {
-    ghost use Rattle.std.specs.Prelude.{List};
-    ghost use Rattle.chi_fields.specs.Extent.{Extent};
-    ghost use Rattle.chi_fields.specs.declared.request.Request.{Request};
+    ghost use Rattle.std.specs.Prelude.{◌≡◌, length};
+    ghost use Rattle.chi_script.specs.Script.{ScriptValue};
 
-    ghost Value = { Extent × List Request };
+    ghost Value = { ScriptValue };
 
-    ghost view = { λ s. (s.region, s.requests.items) };
+    ghost view = { λ s. record { region = s.region; image = s.image.items; requests = s.requests.items } };
+
+    // The image has a word for each granule of the region.
+    ghost invariant = { λ s. length s.image.items ≡ s.region.granules };
 }
 
 impl Script {
@@ -37,9 +41,22 @@ impl Script {
     /// let base = script.region().base(); // 4096
     /// ```
     pub fn region(&self) -> Region
-        ensures { result ≡ self.now.0 }
+        ensures { result ≡ self.now.region }
     {
         self.region
+    }
+
+    /// The words of the region's granules at the opening, as many as there are granules. Byte `k` of a word is its
+    /// bits `8k` to `8k + 7`.
+    ///
+    /// ```
+    /// let (home, seat) = BookStore::open(alloc, script.region(), 8, 4, script.image())?;
+    /// ```
+    pub fn image(&self) -> &[u64]
+        ensures words { result.now ≡ self.now.image }
+        ensures imaged { length self.now.image ≡ self.now.region.granules }
+    {
+        self.image.as_slice()
     }
 
     /// The requests in the script's order, at most 4,096.
@@ -48,7 +65,7 @@ impl Script {
     /// for request in script.requests() { .. }
     /// ```
     pub fn requests(&self) -> &[Request]
-        ensures { result.now ≡ self.now.1 }
+        ensures { result.now ≡ self.now.requests }
     {
         self.requests.as_slice()
     }
@@ -72,6 +89,13 @@ fn json(alloc: Global, text: &[u8]) -> Result<Value, ScriptFault>
     }
 }
 
+// The words of so many granules whose bytes are all 0.
+fn zeros(alloc: Global, granules: u16) -> Result<Vec<u64>, AllocError>
+    ensures { IfOk result (λ words. words.items ≡ replicate granules 0) }
+{
+    vec![in alloc; 0; usize::from(granules)]
+}
+
 // The script that an object is.
 #[tactic(auto, unfolding(crate::specs::Script::object_script))]
 fn object_script(alloc: Global, object: &Value, top: u8) -> Result<Script, ScriptFault>
@@ -90,8 +114,15 @@ fn object_script(alloc: Global, object: &Value, top: u8) -> Result<Script, Scrip
     if requests.len() > MOST_REQUESTS {
         return Err(ScriptFault::TooManyRequests);
     }
+    let Ok(image) = zeros(alloc, granules as u16) else {
+        return Err(ScriptFault::Memory);
+    };
     match Region::new(base, granules as u16) {
-        Ok(region) => Ok(Script { region, requests }),
+        Ok(region) => Ok(Script {
+            region,
+            image,
+            requests,
+        }),
         Err(fault) => Err(ScriptFault::RegionRefused(fault)),
     }
 }
@@ -112,7 +143,7 @@ fn object_script(alloc: Global, object: &Value, top: u8) -> Result<Script, Scrip
 pub fn read_script(alloc: Global, text: &[u8], top: u8) -> Result<Script, ScriptFault>
     ensures ok { IfOk result (λ s. script text.now top ≡ Ok s) }
     ensures fault { IfErr result (λ f. f ≢ ScriptFault.Memory → script text.now top ≡ Err f) }
-    ensures from { IfOk result (λ s. AllFrom (below (top + 1)) s.1) }
+    ensures from { IfOk result (λ s. AllFrom (below (top + 1)) s.requests) }
 {
     let value = json(alloc, text)?;
     if value.is_object() {
