@@ -1,44 +1,37 @@
 -- what a script's race over a fresh home did
-use Rattle.std.proofs.Common.{◌≡◌, ℕ, ◌<◌, true, List, [], ◌++◌, length, slice_index, Ok, refl, sym, ap, subst, ◌∙◌, append-nil}
+use Rattle.std.proofs.Common.{◌≡◌, ℕ, ◌<◌, true, List, [], ◌++◌, length, slice_index, Result, Ok, Err, OnOk, refl, sym, ap, subst, ◌∙◌, append-nil}
 use Rattle.std.proofs.lemmas.Bool.{or_left, or_right}
 use Rattle.chi_fields.specs.declared.request.Request.{Request}
-use Rattle.chi_fields.specs.Extent.{Extent}
 use Rattle.chi_lanes.specs.Memory.{word}
 use Rattle.chi_history.specs.declared.entry.Entry.{Entry}
 use Rattle.chi_history.specs.declared.line.Line.{Line}
 use Rattle.chi_history.specs.declared.opening.Opening.{Opening}
 use Rattle.chi_history.specs.Held.{Held, only, union}
 use Rattle.chi_history.specs.History.{IsLegal, end}
+use Rattle.chi_requester.specs.declared.fault.WorkFault.{WorkFault}
 use Rattle.chi_requester.specs.declared.policy.Policy.{Policy}
 use Rattle.chi_requester.specs.Race.{IsRace, IsRaceRun}
 use Rattle.chi_requester.specs.Work.{requests_of}
-use Rattle.chi_engine.specs.Opened.{IsFresh, requester_count}
-use Rattle.chi_engine.specs.Race.{race_opening}
+use Rattle.chi_script.specs.Script.{ScriptValue}
+use Rattle.chi_engine.specs.Store.{IsFresh, opening_of}
 use Rattle.chi_engine.specs.Words.{granule_words}
 use Rattle.chi_engine.proofs.WordsLemmas.{words_are}
 
--- it is the opening of its region
-pub opening_is : (o : Opening) (region : Extent) (held : Held) (seen : List Entry) → IsFresh o region held seen → o ≡ race_opening region
-opening_is o region held seen fresh =
-    ap (λ (z : Extent). record { region = z; requesters = o.requesters; image = o.image }) fresh.region
-    ∙ (ap (λ (n : ℕ). record { region = region; requesters = n; image = o.image }) fresh.requesters
-    ∙ ap (λ (image : List ℕ). record { region = region; requesters = requester_count; image = image }) fresh.zeros)
-
 -- the words of the memory at the end of the history
-pub shown_raced : (o : Opening) (region : Extent) (held : Held) (seen seen' : List Entry) (words : List ℕ) → IsFresh o region held seen
-    → length words ≡ region.granules → ((g : ℕ) → g < o.region.granules → slice_index words g ≡ word (end o seen') o.region g)
-    → words ≡ granule_words (end (race_opening region) seen') region.base region.granules
-shown_raced o region held seen seen' words fresh count each =
-    words_are (end (race_opening region) seen') region words count (λ g inside.
-    let P : Extent → Type 0 = λ z. g < z.granules in
-    each g (subst P (sym fresh.region) inside) ∙ ap (λ (z : Opening). word (end z seen') z.region g) (opening_is o region held seen fresh))
+pub shown_raced : (o : Opening) (s : ScriptValue) (seen' : List Entry) (words : List ℕ) → o ≡ opening_of s → length words ≡ s.region.granules
+    → ((g : ℕ) → g < o.region.granules → slice_index words g ≡ word (end o seen') o.region g)
+    → words ≡ granule_words (end (opening_of s) seen') s.region.base s.region.granules
+shown_raced o s seen' words opening count each =
+    words_are (end (opening_of s) seen') s.region words count (λ g inside.
+    let P : Opening → Type 0 = λ z. g < z.region.granules in
+    each g (subst P (sym opening) inside) ∙ ap (λ (z : Opening). word (end z seen') z.region g) opening)
 
 -- where the race is over and its lines were none before, every request was worked and told of
-pub raced_whole : (o : Opening) (policy : Policy) (limit : ℕ) (racers : Held) (all : List Request) (region : Extent) (held : Held) (start seen' : List Entry) (lines lines' : ℕ → List Line) (u : Unit {0})
-    → IsFresh o region held start → lines ≡ (λ r. []) → IsRaceRun (Ok u) o policy limit racers all start seen' lines lines'
-    → IsRace (race_opening region) policy limit racers [] seen' (requests_of all) lines'
-raced_whole o policy limit racers all region held start seen' lines lines' u fresh none begun = record {
-  legal = let P : List Entry → Type 0 = λ h. IsLegal (race_opening region) h in subst P (sym run.grown) run.race.legal;
+pub raced_whole : (o : Opening) (policy : Policy) (limit : ℕ) (racers : Held) (all : List Request) (s : ScriptValue) (held : Held) (start seen' : List Entry) (lines lines' : ℕ → List Line) (u : Unit {0})
+    → IsFresh o s held start → lines ≡ (λ r. []) → IsRaceRun (Ok u) o policy limit racers all start seen' lines lines'
+    → IsRace (opening_of s) policy limit racers [] seen' (requests_of all) lines'
+raced_whole o policy limit racers all s held start seen' lines lines' u fresh none begun = record {
+  legal = let P : List Entry → Type 0 = λ h. IsLegal (opening_of s) h in subst P (sym run.grown) run.race.legal;
   raced = run.race.raced;
   last = run.race.last;
   parts = run.grown ∙ run.race.parts;
@@ -50,12 +43,12 @@ raced_whole o policy limit racers all region held start seen' lines lines' u fre
   zero_unretried = rw (told_is 0 zero_in) run.race.zero_unretried;
 }
   where
-    run : IsRaceRun (Ok u) (race_opening region) policy limit racers all [] seen' (λ r. []) lines'
+    run : IsRaceRun (Ok u) (opening_of s) policy limit racers all [] seen' (λ r. []) lines'
     run =
         let P : Opening → Type 0 = λ z. IsRaceRun (Ok u) z policy limit racers all start seen' lines lines' in
-        let Q : List Entry → Type 0 = λ h. IsRaceRun (Ok u) (race_opening region) policy limit racers all h seen' lines lines' in
-        let R : (ℕ → List Line) → Type 0 = λ f. IsRaceRun (Ok u) (race_opening region) policy limit racers all [] seen' f lines' in
-        subst R none (subst Q fresh.new (subst P (opening_is o region held start fresh) begun))
+        let Q : List Entry → Type 0 = λ h. IsRaceRun (Ok u) (opening_of s) policy limit racers all h seen' lines lines' in
+        let R : (ℕ → List Line) → Type 0 = λ f. IsRaceRun (Ok u) (opening_of s) policy limit racers all [] seen' f lines' in
+        subst R none (subst Q fresh.first.1 (subst P (fresh.opening) begun))
 
     zero_in : union racers (only 0) 0 ≡ true
     zero_in = or_right (racers 0) (only 0 0) refl
@@ -65,3 +58,12 @@ raced_whole o policy limit racers all region held start seen' lines lines' u fre
 
     told_is : (r : ℕ) → union racers (only 0) r ≡ true → lines' r ≡ (run.share r).appended
     told_is r is = (run.shares r is).kept
+
+-- the same of a race that may have stopped, by the values that the caller has of its limit, requests and lines
+pub raced_by : (r : Result (Unit {0}) WorkFault) (o : Opening) (policy : Policy) (limit limit' : ℕ) (racers racers' : Held) (all : List Request) (s : ScriptValue) (held : Held)
+    (start seen' : List Entry) (lines lines' lines'' : ℕ → List Line)
+    → IsFresh o s held start → limit ≡ limit' → racers ≡ racers' → all ≡ s.requests → lines ≡ (λ r. []) → lines'' ≡ lines'
+    → IsRaceRun r o policy limit racers all start seen' lines lines' → OnOk r (IsRace (opening_of s) policy limit' racers' [] seen' (requests_of s.requests) lines'')
+raced_by (Ok u) o policy limit limit' racers racers' all s held start seen' lines lines' lines'' fresh bound who are none same begun =
+    rw (← bound, ← who, ← are, same) (raced_whole o policy limit racers all s held start seen' lines lines' u fresh none begun)
+raced_by (Err fault) o policy limit limit' racers racers' all s held start seen' lines lines' lines'' fresh bound who are none same begun = tt

@@ -12,70 +12,78 @@ use Rattle.chi_history.specs.Lines.{entries, serial, serial_end}
 use Rattle.chi_requester.specs.declared.fault.WorkFault.{WorkFault}
 use Rattle.chi_requester.specs.Serial.{IsSerialRun}
 use Rattle.chi_requester.proofs.SerialLemmas.{serial_end-entries}
-use Rattle.chi_engine.specs.Opened.{IsFresh}
+use Rattle.chi_script.specs.Script.{ScriptValue}
 use Rattle.chi_engine.specs.Run.{IsCut}
-use Rattle.chi_engine.specs.Words.{granule_words, opening}
-use Rattle.chi_engine.proofs.WordsLemmas.{opening_of_zeros, words_are}
+use Rattle.chi_engine.specs.Store.{IsFresh, opening_of}
+use Rattle.chi_engine.specs.Words.{granule_words}
+use Rattle.chi_engine.proofs.WordsLemmas.{words_are}
 
--- the memory at the end of nothing
-start_of : (o : Opening) (region : Extent) (held : Held) (seen : List Entry) → IsFresh o region held seen → end o seen ≡ opening
+-- the memory at the opening
+abbrev pub start : ScriptValue → Memory
+start s = opening_memory (opening_of s)
+
+region_is : (o : Opening) (s : ScriptValue) (held : Held) (seen : List Entry) → IsFresh o s held seen → o.region ≡ s.region
+region_is o s held seen fresh = ap (λ (z : Opening). z.region) fresh.opening
+
+-- it is the memory at the end of nothing
+start_of : (o : Opening) (s : ScriptValue) (held : Held) (seen : List Entry) → IsFresh o s held seen → end o seen ≡ start s
 unfolding end_from
-start_of o region held seen fresh = ap (end o) fresh.new ∙ opening_of_zeros o region.granules fresh.zeros
+start_of o s held seen fresh = ap (end o) fresh.first.1 ∙ ap (λ (z : Opening). opening_memory z) fresh.opening
 
 -- the lines of the requests worked
-lines_of : (o : Opening) (s : Extent × List Request) (qs : List Request) (held : Held) (seen seen' : List Entry) (lines lines' : List Line) (r : Result (Unit {0}) WorkFault)
-    → IsFresh o s.0 held seen → lines ≡ [] → (run : IsSerialRun r o qs seen seen' lines lines') → lines' ≡ serial s.0 run.worked opening
+lines_of : (o : Opening) (s : ScriptValue) (qs : List Request) (held : Held) (seen seen' : List Entry) (lines lines' : List Line) (r : Result (Unit {0}) WorkFault)
+    → IsFresh o s held seen → lines ≡ [] → (run : IsSerialRun r o qs seen seen' lines lines') → lines' ≡ serial s.region run.worked (start s)
 lines_of o s qs held seen seen' lines lines' r fresh empty run =
     run.told ∙ (ap (λ (xs : List Line). xs ++ serial o.region run.worked (end o seen)) empty
-    ∙ (ap (λ (region : Extent). serial region run.worked (end o seen)) fresh.region
-    ∙ ap (serial s.0 run.worked) (start_of o s.0 held seen fresh)))
+    ∙ (ap (λ (region : Extent). serial region run.worked (end o seen)) (region_is o s held seen fresh)
+    ∙ ap (serial s.region run.worked) (start_of o s held seen fresh)))
 
 -- after Ok every request was worked
 all_of : (worked left all : List Request) → worked ++ left ≡ all → left ≡ [] → worked ≡ all
 all_of worked left all parts none = sym (append-nil worked) ∙ (ap (λ (qs : List Request). worked ++ qs) (sym none) ∙ parts)
 
-pub told_all : (o : Opening) (s : Extent × List Request) (qs : List Request) (held : Held) (seen seen' : List Entry) (lines lines' : List Line) (done : Unit {0})
-    → IsFresh o s.0 held seen → lines ≡ [] → qs ≡ s.1 → IsSerialRun (Ok done) o qs seen seen' lines lines' → lines' ≡ serial s.0 s.1 opening
+pub told_all : (o : Opening) (s : ScriptValue) (qs : List Request) (held : Held) (seen seen' : List Entry) (lines lines' : List Line) (done : Unit {0})
+    → IsFresh o s held seen → lines ≡ [] → qs ≡ s.requests → IsSerialRun (Ok done) o qs seen seen' lines lines' → lines' ≡ serial s.region s.requests (start s)
 told_all o s qs held seen seen' lines lines' done fresh empty are run =
     lines_of o s qs held seen seen' lines lines' (Ok done) fresh empty run
-    ∙ ap (λ (rs : List Request). serial s.0 rs opening) (all_of run.worked run.left s.1 (run.parts ∙ are) run.are_left)
+    ∙ ap (λ (rs : List Request). serial s.region rs (start s)) (all_of run.worked run.left s.requests (run.parts ∙ are) run.are_left)
 
 -- the memory that a script leaves
-end_all : (o : Opening) (s : Extent × List Request) (qs : List Request) (held : Held) (seen seen' : List Entry) (lines lines' : List Line) (done : Unit {0})
-    → IsFresh o s.0 held seen → qs ≡ s.1 → IsSerialRun (Ok done) o qs seen seen' lines lines' → end o seen' ≡ serial_end s.0 s.1 opening
+end_all : (o : Opening) (s : ScriptValue) (qs : List Request) (held : Held) (seen seen' : List Entry) (lines lines' : List Line) (done : Unit {0})
+    → IsFresh o s held seen → qs ≡ s.requests → IsSerialRun (Ok done) o qs seen seen' lines lines' → end o seen' ≡ serial_end s.region s.requests (start s)
 end_all o s qs held seen seen' lines lines' done fresh are run =
-    ap (end o) (run.grown ∙ ap (λ (h : List Entry). h ++ added) fresh.new)
-    ∙ (serial_end-entries' ∙ (ap (λ (region : Extent). serial_end region run.worked (end o seen)) fresh.region
-    ∙ (ap (serial_end s.0 run.worked) begun ∙ ap (λ (rs : List Request). serial_end s.0 rs opening) (all_of run.worked run.left s.1 (run.parts ∙ are) run.are_left))))
+    ap (end o) (run.grown ∙ ap (λ (h : List Entry). h ++ added) fresh.first.1)
+    ∙ (serial_end-entries' ∙ (ap (λ (region : Extent). serial_end region run.worked (end o seen)) (region_is o s held seen fresh)
+    ∙ (ap (serial_end s.region run.worked) begun ∙ ap (λ (rs : List Request). serial_end s.region rs (start s)) (all_of run.worked run.left s.requests (run.parts ∙ are) run.are_left))))
   where
-    begun : end o seen ≡ opening
-    begun = start_of o s.0 held seen fresh
+    begun : end o seen ≡ start s
+    begun = start_of o s held seen fresh
 
     added : List Entry
     added = entries (serial o.region run.worked (end o seen))
 
     first : opening_memory o ≡ end o seen
-    first = opening_of_zeros o s.0.granules fresh.zeros ∙ sym begun
+    first = ap (λ (z : Opening). opening_memory z) fresh.opening ∙ sym begun
 
     serial_end-entries' : end_from (opening_memory o) added ≡ serial_end o.region run.worked (end o seen)
     serial_end-entries' = ap (λ (m : Memory). end_from m added) first ∙ serial_end-entries o.region run.worked (end o seen)
 
 -- the words of that memory
-pub shown_all : (o : Opening) (s : Extent × List Request) (qs : List Request) (held : Held) (seen seen' seen'' : List Entry) (lines lines' : List Line) (done : Unit {0})
-    (words : List ℕ) → IsFresh o s.0 held seen → qs ≡ s.1 → IsSerialRun (Ok done) o qs seen seen' lines lines' → seen'' ≡ seen' → length words ≡ s.0.granules
+pub shown_all : (o : Opening) (s : ScriptValue) (qs : List Request) (held : Held) (seen seen' seen'' : List Entry) (lines lines' : List Line) (done : Unit {0})
+    (words : List ℕ) → IsFresh o s held seen → qs ≡ s.requests → IsSerialRun (Ok done) o qs seen seen' lines lines' → seen'' ≡ seen' → length words ≡ s.region.granules
     → ((g : ℕ) → g < o.region.granules → slice_index words g ≡ word (end o seen'') o.region g)
-    → words ≡ granule_words (serial_end s.0 s.1 opening) s.0.base s.0.granules
+    → words ≡ granule_words (serial_end s.region s.requests (start s)) s.region.base s.region.granules
 shown_all o s qs held seen seen' seen'' lines lines' done words fresh are run same count each =
-    words_are (serial_end s.0 s.1 opening) s.0 words count (λ g inside.
+    words_are (serial_end s.region s.requests (start s)) s.region words count (λ g inside.
     let P : Extent → Type 0 = λ region. g < region.granules in
-    each g (subst P (sym fresh.region) inside)
+    each g (subst P (sym (region_is o s held seen fresh)) inside)
     ∙ (ap (λ (h : List Entry). word (end o h) o.region g) same
-    ∙ (ap (λ (region : Extent). word (end o seen') region g) fresh.region
-    ∙ ap (λ (m : Memory). word m s.0 g) (end_all o s qs held seen seen' lines lines' done fresh are run))))
+    ∙ (ap (λ (region : Extent). word (end o seen') region g) (region_is o s held seen fresh)
+    ∙ ap (λ (m : Memory). word m s.region g) (end_all o s qs held seen seen' lines lines' done fresh are run))))
 
 -- after Memory some were not
-pub cut_after : (r : Result (Unit {0}) WorkFault) (o : Opening) (s : Extent × List Request) (qs : List Request) (held : Held) (seen seen' : List Entry) (lines lines' : List Line)
-    (fault : WorkFault) → IsFresh o s.0 held seen → lines ≡ [] → qs ≡ s.1 → IsSerialRun (Err fault) o qs seen seen' lines lines' → IfErr r (λ _. IsCut s lines')
+pub cut_after : (r : Result (Unit {0}) WorkFault) (o : Opening) (s : ScriptValue) (qs : List Request) (held : Held) (seen seen' : List Entry) (lines lines' : List Line)
+    (fault : WorkFault) → IsFresh o s held seen → lines ≡ [] → qs ≡ s.requests → IsSerialRun (Err fault) o qs seen seen' lines lines' → IfErr r (λ _. IsCut s lines')
 cut_after (Ok done) o s qs held seen seen' lines lines' fault fresh empty are run = tt
 cut_after (Err other) o s qs held seen seen' lines lines' fault fresh empty are run = record {
   worked = run.worked;

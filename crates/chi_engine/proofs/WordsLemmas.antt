@@ -1,14 +1,8 @@
 -- the words of a region's memory
-use Rattle.std.proofs.Common.{◌≡◌, ℕ, zero, suc, ◌+◌, ◌-◌, ◌*◌, ◌/◌, ◌%◌, ◌^◌, ◌<◌, Bool, true, false, if◌then◌else◌, List, length, take, drop, ◌++◌, take_at, slice_index, replicate, refl, sym, ap, ◌∙◌, arith, inl, inr, ext_get_or}
-use Rattle.std.proofs.Math.Nat.{zero-div}
-use Rattle.std.proofs.Math.Path.{fun_ext}
-use Rattle.std.proofs.lemmas.Bool.{cases_lt}
-use Rattle.std.proofs.lemmas.List.{get_or-replicate, get_or_past, length-replicate}
-use Rattle.chi_fields.specs.Extent.{Extent, lies_in}
+use Rattle.std.proofs.Common.{◌≡◌, ℕ, zero, suc, ◌+◌, ◌*◌, ◌<◌, List, length, take, drop, ◌++◌, take_at, slice_index, refl, sym, ap, ◌∙◌, arith, ext_get_or}
+use Rattle.chi_fields.specs.Extent.{Extent}
 use Rattle.chi_lanes.specs.Memory.{Memory, word, word_at}
-use Rattle.chi_history.specs.declared.opening.Opening.{Opening}
-use Rattle.chi_history.specs.History.{image_byte, opening_memory}
-use Rattle.chi_engine.specs.Words.{granule_words, opening}
+use Rattle.chi_engine.specs.Words.{granule_words}
 
 -- how many words there are
 length-granule_words : (m : Memory) (start n : ℕ) → length (granule_words m start n) ≡ n
@@ -33,24 +27,6 @@ words_are m region words count each =
     (λ i below.
     let inside : i < region.granules = rw count at below in
     each i inside ∙ sym (get_or-granule_words m region.base region.granules i inside))
-
--- zeros, however many
-zeros_are : (count g : ℕ) → slice_index (replicate count 0) g ≡ 0
-zeros_are count g = elim (cases_lt g count) [
-  | inl inside ↦ get_or-replicate count g 0 0 inside
-  | inr past ↦ get_or_past (replicate count 0) g 0 (rw (length-replicate {A = ℕ} count 0) past)
-]
-
--- a memory that opens with zeros
-pub opening_of_zeros : (o : Opening) (count : ℕ) → o.image ≡ replicate count 0 → opening_memory o ≡ opening
-opening_of_zeros o count zeros = fun_ext (λ x.
-    let place : ℕ = (x - o.region.base) / 8 in
-    let none : slice_index o.image place ≡ 0 = rw zeros (zeros_are count place) in
-    by_test (lies_in x 1 o.region) (image_byte o.image (x - o.region.base)) (rw none (ap (λ n. n % 256) (zero-div (256 ^ ((x - o.region.base) % 8))))))
-  where
-    by_test : (b : Bool) (n : ℕ) → n ≡ 0 → (if b then n else 0) ≡ 0
-    by_test true n is = is
-    by_test false n is = refl
 
 -- a slice that was written whole
 pub rewritten : (xs ys : List ℕ) (n : ℕ) → length xs ≡ n → take n (xs ++ drop (length xs) ys) ≡ xs

@@ -25,12 +25,18 @@ puts_two a b c s t (Err fault) p q = record {
 pub puts_then : {E : Type 0} (a b c : Option (List ℕ)) (s t whole : List ℕ) (r : Result (Unit {0}) E) → Appends a b s → Puts b c r t → s ++ t ≡ whole → Puts a c r whole
 puts_then a b c s t whole r p q is = subst (λ (l : List ℕ). Puts a c r l) is (puts_two a b c s t r p q)
 
--- the lines of three requesters, and more after them
-pub three_texts : (one two zero : List Line) → (text one ++ text two) ++ text zero ≡ text (one ++ (two ++ zero))
-three_texts one two zero =
-    append_assoc (text one) (text two) (text zero)
-    ∙ (ap (λ (l : List ℕ). text one ++ l) (sym (flat_map-append line_text two zero)) ∙ sym (flat_map-append line_text one (two ++ zero)))
+-- the lines of five requesters, and more after them
+pub five_texts : (one two three four zero : List Line) → (text (one ++ two) ++ text (three ++ four)) ++ text zero ≡ text (one ++ (two ++ (three ++ (four ++ zero))))
+five_texts one two three four zero =
+    ap (λ (l : List ℕ). l ++ text zero) (sym (flat_map-append line_text (one ++ two) (three ++ four)))
+    ∙ (sym (flat_map-append line_text ((one ++ two) ++ (three ++ four)) zero) ∙ ap text parted)
+  where
+    parted : ((one ++ two) ++ (three ++ four)) ++ zero ≡ one ++ (two ++ (three ++ (four ++ zero)))
+    parted =
+        append_assoc (one ++ two) (three ++ four) zero
+        ∙ (append_assoc one two ((three ++ four) ++ zero) ∙ ap (λ (l : List Line). one ++ (two ++ l)) (append_assoc three four zero))
 
-pub three_texts_then : (one two zero : List Line) (more : List ℕ) → (text one ++ text two) ++ (text zero ++ more) ≡ text (one ++ (two ++ zero)) ++ more
-three_texts_then one two zero more =
-    sym (append_assoc (text one ++ text two) (text zero) more) ∙ ap (λ (l : List ℕ). l ++ more) (three_texts one two zero)
+pub five_texts_then : (one two three four zero : List Line) (more : List ℕ)
+    → (text (one ++ two) ++ text (three ++ four)) ++ (text zero ++ more) ≡ text (one ++ (two ++ (three ++ (four ++ zero)))) ++ more
+five_texts_then one two three four zero more =
+    sym (append_assoc (text (one ++ two) ++ text (three ++ four)) (text zero) more) ∙ ap (λ (l : List ℕ). l ++ more) (five_texts one two three four zero)

@@ -1,25 +1,23 @@
 -- what reading the input and opening a store come to, before a script is worked
 use Rattle.std.specs.Prelude.{◌≡◌, ◌≢◌, ℕ, ◌<◌, ◌≤◌, List, length, Option, Result, Ok, Err}
 use Rattle.std.specs.Io.KnownBytes.{Keeps}
-use Rattle.chi_fields.specs.declared.request.Request.{Request}
-use Rattle.chi_fields.specs.Extent.{Extent}
 use Rattle.chi_history.specs.declared.opening.OpenFault.{OpenFault}
 use Rattle.chi_history.specs.declared.opening.OpenFault.TheVariants as open_fault
 use Rattle.chi_script.specs.declared.fault.ScriptFault.TheVariants as script_fault
-use Rattle.chi_script.specs.Script.{script}
+use Rattle.chi_script.specs.Script.{ScriptValue, script}
 use Rattle.chi_engine.specs.declared.fault.EngineFault.{EngineFault}
 use Rattle.chi_engine.specs.declared.fault.EngineFault.TheVariants.{Read, TooLong, Memory, Script, Open, Work, Write}
 use Rattle.chi_engine.specs.declared.options.Options.{Options}
 use Rattle.chi_engine.specs.declared.options.StoreKind.{StoreKind}
 use Rattle.chi_engine.specs.declared.options.StoreKind.TheVariants as store_kind
-use Rattle.chi_engine.specs.Opened.{Opens, OpensOn}
+use Rattle.chi_engine.specs.Store.{Opens, OpensOn}
 
 -- the greatest number of bytes of a script
 abbrev pub most_bytes : ℕ
 most_bytes = 4194304
 
 -- what reading the input yields: its script, for requesters up to the greatest one, or a fault
-abbrev pub Yields : List ℕ → ℕ → Result (Extent × List Request) EngineFault → Type 0
+abbrev pub Yields : List ℕ → ℕ → Result ScriptValue EngineFault → Type 0
 Yields input top (Ok s) = (length input ≤ most_bytes) × (script input top ≡ Ok s)
 Yields input top (Err Read) = Unit {0}
 Yields input top (Err TooLong) = most_bytes < length input
@@ -82,10 +80,10 @@ FromOpening result worked = worked
 
 -- There is no script, for what is wrong with the input or its reader; or the input is a script, and what was made of
 -- it holds.
-abbrev pub FromInput : List ℕ → ℕ → Result (Unit {0}) EngineFault → (Extent × List Request → Type 0) → Type 0
+abbrev pub FromInput : List ℕ → ℕ → Result (Unit {0}) EngineFault → (ScriptValue → Type 0) → Type 0
 FromInput input top (Err Read) made = Unit {0}
 FromInput input top (Err TooLong) made = most_bytes < length input
 FromInput input top (Err Memory) made = Unit {0}
 FromInput input top (Err (Script fault)) made = fault ≢ script_fault.Memory → script input top ≡ Err fault
 FromInput input top result made =
-    (length input ≤ most_bytes) × ((s : Extent × List Request) × (script input top ≡ Ok s) × made s)
+    (length input ≤ most_bytes) × ((s : ScriptValue) × (script input top ≡ Ok s) × made s)

@@ -1,5 +1,5 @@
 pub mod Words
-pub mod Opened
+pub mod Store
 pub mod Engine
 pub mod Run
 pub mod Race

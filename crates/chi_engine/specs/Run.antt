@@ -1,18 +1,21 @@
--- what a run of the program does: the script of its input, worked from the opening memory on
+-- what a run of the program does: the script of its input, worked from its opening memory on
 use Rattle.std.specs.Prelude.{◌≡◌, ◌≢◌, ℕ, List, [], ◌++◌, Option, Result, Ok, Err}
 use Rattle.std.specs.Io.KnownBytes.{Appends}
 use Rattle.chi_fields.specs.declared.request.Request.{Request}
 use Rattle.chi_fields.specs.Extent.{Extent}
 use Rattle.chi_lanes.specs.Memory.{Memory}
 use Rattle.chi_history.specs.declared.line.Line.{Line}
+use Rattle.chi_history.specs.History.{opening_memory}
 use Rattle.chi_history.specs.Lines.{serial, serial_end}
+use Rattle.chi_script.specs.Script.{ScriptValue}
 use Rattle.chi_script.specs.Transcript.{memtext, text}
 use Rattle.chi_script.specs.Written.{AppendsFront}
 use Rattle.chi_engine.specs.declared.fault.EngineFault.{EngineFault}
 use Rattle.chi_engine.specs.declared.fault.EngineFault.TheVariants.{Work, Write}
 use Rattle.chi_engine.specs.declared.options.Options.{Options}
 use Rattle.chi_engine.specs.Engine.{FromInput, FromOpening, TellsRegion}
-use Rattle.chi_engine.specs.Words.{granule_words, opening}
+use Rattle.chi_engine.specs.Store.{opening_of}
+use Rattle.chi_engine.specs.Words.{granule_words}
 
 -- the greatest requester number in a run
 abbrev pub most_src : ℕ
@@ -23,28 +26,30 @@ abbrev pub memory_text : Extent → Memory → List ℕ
 memory_text region m = memtext region.base (granule_words m region.base region.granules)
 
 -- the transcript of a script: the lines of its requests, worked in order, and the memory after them
-abbrev pub transcript : Extent × List Request → List ℕ
-transcript s = text (serial s.0 s.1 opening) ++ memory_text s.0 (serial_end s.0 s.1 opening)
+abbrev pub transcript : ScriptValue → List ℕ
+transcript s =
+    let start = opening_memory (opening_of s) in
+    text (serial s.region s.requests start) ++ memory_text s.region (serial_end s.region s.requests start)
 
 -- the lines are those of the first requests of the script, worked in order, and some requests were not worked
-pub record IsCut (s : Extent × List Request) (lines : List Line) : Type 0 where
+pub record IsCut (s : ScriptValue) (lines : List Line) : Type 0 where
   pub worked : List Request
   pub left : List Request
-  pub parts : worked ++ left ≡ s.1
+  pub parts : worked ++ left ≡ s.requests
   pub some_left : left ≢ []
-  pub told : lines ≡ serial s.0 worked opening
+  pub told : lines ≡ serial s.region worked (opening_memory (opening_of s))
 
 -- What is written of a script over a home: after Ok its transcript. Where there was no memory for the work, a
 -- prefix of the lines so far; after a fault of the writer, a prefix of the transcript.
-abbrev pub Works : Extent × List Request → Option (List ℕ) → Option (List ℕ) → Result (Unit {0}) EngineFault → Type 0
+abbrev pub Works : ScriptValue → Option (List ℕ) → Option (List ℕ) → Result (Unit {0}) EngineFault → Type 0
 Works s old new (Ok done) = Appends old new (transcript s)
 Works s old new (Err (Work fault)) = (lines : List Line) × IsCut s lines × AppendsFront old new (text lines)
 Works s old new (Err (Write fault)) = AppendsFront old new (transcript s)
 Works s old new (Err fault) = ⊥
 
 -- the same over the store of the options, which may be refused
-abbrev pub WorksBy : Options → Extent × List Request → Option (List ℕ) → Option (List ℕ) → Result (Unit {0}) EngineFault → Type 0
-WorksBy options s old new result = TellsRegion options.store s.0.granules result × FromOpening result (Works s old new result)
+abbrev pub WorksBy : Options → ScriptValue → Option (List ℕ) → Option (List ℕ) → Result (Unit {0}) EngineFault → Type 0
+WorksBy options s old new result = TellsRegion options.store s.region.granules result × FromOpening result (Works s old new result)
 
 -- after Ok the transcript of the input's script was written; what each fault means, and what was written then
 abbrev pub Outcome : Options → List ℕ → Option (List ℕ) → Option (List ℕ) → Result (Unit {0}) EngineFault → Type 0

@@ -2,10 +2,6 @@
 use Rattle.std.specs.Prelude.{ℕ, zero, suc, ◌+◌, List, [], ◌∷◌}
 use Rattle.chi_lanes.specs.Memory.{Memory, word_at}
 
--- all bytes are 0 at the opening
-abbrev pub opening : Memory
-opening = λ _. 0
-
 -- the words of so many granules from an address on
 unfoldable pub granule_words : Memory → ℕ → ℕ → List ℕ
 granule_words m start zero = []

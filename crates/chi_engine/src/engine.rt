@@ -1,21 +1,21 @@
 //! From a script's bytes to a transcript's bytes.
 
-ghost use Rattle.std.specs.Prelude.{IfSome};
+ghost use Rattle.std.specs.Prelude.{◌≡◌, IfSome};
 ghost use Rattle.chi_engine.specs.Engine.{KeepsUnworked, TellsOpening};
-ghost use Rattle.chi_engine.specs.Race.{RaceOutcome};
+ghost use Rattle.chi_engine.specs.Race.{RaceOutcome, most_racer};
 ghost use Rattle.chi_engine.specs.Run.{Outcome};
 
 use crate::fault::EngineFault;
 use crate::input::read_whole;
-use crate::options::Options;
-use crate::race::race_script;
+use crate::options::{Options, Workers};
+use crate::race::{Gates, race_script};
 use crate::run::run_script;
 use chi_history::Gate;
 use std::io::{Read, Write};
 use std::sync::Wait;
 use std::thread::Threads;
 
-/// Reads a script, works its requests in order on a memory of zeros, and writes the transcript.
+/// Reads a script, works its requests in order on the memory that it opens with, and writes the transcript.
 ///
 /// Nothing is written unless the whole script was read and the store was opened. Where there is no memory for
 /// the work, the lines of the requests before it are written, without memory lines. After a fault of the
@@ -38,13 +38,25 @@ pub fn engine_run<T: AllocGlobal + Wait, R: Read, W: Write>(
     run_script(rt, &script, to, options)
 }
 
-/// Reads a script, works the requests of 1 and of 2 at the same time, each with a gate of its own, and then
-/// those of 0, on a memory of zeros, and writes the transcript: the lines of 1, of 2 and of 0, and the memory.
+// The greatest requester number in a race.
+fn most_racer(workers: Workers) -> u8
+    ensures { result ≡ most_racer workers }
+{
+    match workers {
+        Workers::Two => 2,
+        Workers::Four => 4,
+    }
+}
+
+/// Reads a script, works the requests of 1 and of 2, or of 1 to 4, at the same time, each with a gate of its own,
+/// and then those of 0, on the memory that the script opens with, and writes the transcript: the lines of 1 on,
+/// those of 0, and the memory.
 ///
-/// Faults and what they leave written are as in `engine_run`; the lines so far are those of 1, of 2 and of 0.
+/// How many work at the same time the options say; two take the first two gates. Faults and what they leave
+/// written are as in `engine_run`; the lines so far are in the same order.
 ///
 /// ```
-/// engine_race(rt, &mut script.as_bytes(), &mut transcript, &options, NoGate, NoGate)?;
+/// engine_race(rt, &mut script.as_bytes(), &mut transcript, &options, NoGate, NoGate, NoGate, NoGate)?;
 /// ```
 pub fn engine_race<
     T: AllocGlobal + Threads + Wait + Sync,
@@ -52,6 +64,8 @@ pub fn engine_race<
     W: Write,
     G1: Gate + Drop + Send,
     G2: Gate + Drop + Send,
+    G3: Gate + Drop + Send,
+    G4: Gate + Drop + Send,
 >(
     rt: &T,
     from: &mut R,
@@ -59,11 +73,19 @@ pub fn engine_race<
     options: &Options,
     gate1: G1,
     gate2: G2,
+    gate3: G3,
+    gate4: G4,
 ) -> Result<(), EngineFault>
     ensures outcome { IfSome (R.remaining from.old) (λ input. RaceOutcome options.now input (W.contents to.old) (W.contents to.new) result) }
     ensures opening { TellsOpening options.now result }
     ensures unworked { KeepsUnworked (W.contents to.old) (W.contents to.new) result }
 {
-    let script = read_whole(rt.alloc(), from, 2)?;
-    race_script(rt, &script, to, options, gate1, gate2)
+    let script = read_whole(rt.alloc(), from, most_racer(options.workers))?;
+    let gates = Gates {
+        gate1,
+        gate2,
+        gate3,
+        gate4,
+    };
+    race_script(rt, &script, to, options, gates)
 }

@@ -51,7 +51,7 @@ pub(crate) fn read_whole<R: Read>(
 ) -> Result<Script, EngineFault>
     ensures read { IfSome (R.remaining from.old) (λ input. Yields input top result) }
     ensures faults { IfErr result IsInputFault }
-    ensures from { IfOk result (λ script. AllFrom (below (top + 1)) script.1) }
+    ensures from { IfOk result (λ script. AllFrom (below (top + 1)) script.requests) }
 {
     let input = match read_input(alloc, from) {
         Ok(input) => input,

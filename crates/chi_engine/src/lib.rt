@@ -7,8 +7,9 @@ mod input;
 mod options;
 mod race;
 mod run;
+mod store;
 
 pub use engine::{engine_race, engine_run};
 pub use fault::{EngineFault, status_of};
 pub use input::MOST_BYTES;
-pub use options::{Options, StoreKind};
+pub use options::{Options, StoreKind, Workers};

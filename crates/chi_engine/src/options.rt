@@ -1,4 +1,4 @@
-//! What the engines may be told: the store, its tries, and what requesters do after RetryAck.
+//! What the engines may be told: the store, its tries, what requesters do after RetryAck, and how many race.
 
 use chi_requester::Policy;
 
@@ -12,8 +12,17 @@ pub enum StoreKind {
     Book,
 }
 
+/// How many requesters of a race work at the same time: 1 and 2, or 1 to 4.
+///
+/// Source: profile.
+#[derive(Clone, Copy, Debug, PartialEq, Eq)]
+pub enum Workers {
+    Two,
+    Four,
+}
+
 /// How a script is worked. `attempts` is how many tries a request gets before it is answered by RetryAck: 1 to
-/// 16 under `Book`. Under `Lock`, which never answers by RetryAck, it is ignored.
+/// 16 under `Book`. Under `Lock`, which never answers by RetryAck, it is ignored. A run ignores `workers`.
 ///
 /// Source: profile.
 #[derive(Clone, Copy, Debug, PartialEq, Eq)]
@@ -21,4 +30,5 @@ pub struct Options {
     pub store: StoreKind,
     pub attempts: u8,
     pub policy: Policy,
+    pub workers: Workers,
 }

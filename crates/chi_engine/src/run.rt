@@ -1,30 +1,22 @@
-//! A script worked one request after another over the store of the options, and written.
+//! A script's requests executed one after another.
 
-ghost use Rattle.std.specs.Prelude.{◌≡◌, ◌+◌, [], length, replicate, IfErr, IfOk, OnOk};
+ghost use Rattle.std.specs.Prelude.{◌≡◌, ◌+◌, [], length, IfErr, OnOk};
 ghost use Rattle.chi_history.specs.Held.{AllFrom, below};
+ghost use Rattle.chi_history.specs.History.{opening_memory};
 ghost use Rattle.chi_history.specs.Lines.{serial, serial_end};
 ghost use Rattle.chi_engine.specs.Engine.{KeepsUnworked, TellsOpening};
-ghost use Rattle.chi_engine.specs.Opened.{IsFresh};
 ghost use Rattle.chi_engine.specs.Run.{IsCut, Works, WorksBy, most_src};
-ghost use Rattle.chi_engine.specs.Words.{granule_words, opening};
+ghost use Rattle.chi_engine.specs.Store.{IsFresh, opening_of};
+ghost use Rattle.chi_engine.specs.Words.{granule_words};
 
 use crate::fault::EngineFault;
-use crate::options::{Options, StoreKind};
-use chi_bookstore::BookStore;
-use chi_history::{Home, Line, MOST_NUMBERS};
-use chi_lockstore::LockStore;
+use crate::options::Options;
+use crate::store::{on_store, room};
+use chi_history::{Home, Line};
 use chi_requester::{Policy, WorkFault, run_serial};
 use chi_script::{Script, write_lines, write_transcript};
-use std::alloc::{AllocError, Global};
 use std::io::Write;
 use std::sync::Wait;
-
-// The words of so many granules whose bytes are all 0.
-pub(crate) fn zeros(alloc: Global, granules: u16) -> Result<Vec<u64>, AllocError>
-    ensures { IfOk result (λ words. words.items ≡ replicate granules 0) }
-{
-    vec![in alloc; 0; usize::from(granules)]
-}
 
 // Works the requests of a script in order: their lines, and the words of the memory after them.
 fn work_all<H: Home, R: Wait>(
@@ -37,12 +29,13 @@ fn work_all<H: Home, R: Wait>(
     words: &mut [u64],
 ) -> Result<(), WorkFault>
     requires own { H.belongs home.now seat.old }
-    requires fresh { IsFresh (H.opening home.now) script.now.0 (H.held seat.old) (H.seen seat.old) }
-    requires from { AllFrom (below (most_src + 1)) script.now.1 }
+    requires fresh { IsFresh (H.opening home.now) script.now (H.held seat.old) (H.seen seat.old) }
+    requires from { AllFrom (below (most_src + 1)) script.now.requests }
     requires empty { lines.old.items ≡ [] }
-    requires room { length words.old ≡ script.now.0.granules }
-    ensures told { OnOk result (lines.new.items ≡ serial script.now.0 script.now.1 opening) }
-    ensures shown { OnOk result (words.new ≡ granule_words (serial_end script.now.0 script.now.1 opening) script.now.0.base script.now.0.granules) }
+    requires room { length words.old ≡ script.now.region.granules }
+    ensures told { OnOk result (lines.new.items ≡ serial script.now.region script.now.requests (opening_memory (opening_of script.now))) }
+    ensures shown { OnOk result (let last = serial_end script.now.region script.now.requests (opening_memory (opening_of script.now)) in
+        words.new ≡ granule_words last script.now.region.base script.now.region.granules) }
     ensures cut { IfErr result (λ _. IsCut script.now lines.new.items) }
 {
     run_serial(home, rt, seat, script.requests(), policy, lines)?;
@@ -50,8 +43,7 @@ fn work_all<H: Home, R: Wait>(
     Ok(())
 }
 
-// Works a script over a home that was just opened for it, and writes the transcript. The words are room for
-// those of the memory.
+// Works a script over a home that was just opened for it, and writes the transcript.
 fn run_over<H: Home, T: AllocGlobal + Wait, W: Write>(
     home: &H,
     rt: &T,
@@ -62,9 +54,9 @@ fn run_over<H: Home, T: AllocGlobal + Wait, W: Write>(
     to: &mut W,
 ) -> Result<(), EngineFault>
     requires own { H.belongs home.now seat.old }
-    requires fresh { IsFresh (H.opening home.now) script.now.0 (H.held seat.old) (H.seen seat.old) }
-    requires from { AllFrom (below (most_src + 1)) script.now.1 }
-    requires room { length words.old ≡ script.now.0.granules }
+    requires fresh { IsFresh (H.opening home.now) script.now (H.held seat.old) (H.seen seat.old) }
+    requires from { AllFrom (below (most_src + 1)) script.now.requests }
+    requires room { length words.old ≡ script.now.region.granules }
     ensures { Works script.now (W.contents to.old) (W.contents to.new) result }
 {
     let mut lines = Vec::new(rt.alloc());
@@ -79,39 +71,27 @@ fn run_over<H: Home, T: AllocGlobal + Wait, W: Write>(
     }
 }
 
-// Works a script over the store of the options, which opens with zeros, and writes the transcript.
+// Works a script over the store of the options, and writes the transcript.
 pub(crate) fn run_script<T: AllocGlobal + Wait, W: Write>(
     rt: &T,
     script: &Script,
     to: &mut W,
     options: &Options,
 ) -> Result<(), EngineFault>
-    requires from { AllFrom (below (most_src + 1)) script.now.1 }
+    requires from { AllFrom (below (most_src + 1)) script.now.requests }
     ensures worked { WorksBy options.now script.now (W.contents to.old) (W.contents to.new) result }
     ensures opening { TellsOpening options.now result }
     ensures unworked { KeepsUnworked (W.contents to.old) (W.contents to.new) result }
 {
-    let alloc = rt.alloc();
-    let region = script.region();
-    let policy = options.policy;
-    let Ok(mut words) = zeros(alloc, region.granules()) else {
+    let Ok(mut words) = room(rt.alloc(), script.region().granules()) else {
         return Err(EngineFault::Memory);
     };
     let words = words.as_mut_slice();
-    match options.store {
-        StoreKind::Lock => match LockStore::open(alloc, region, MOST_NUMBERS, words) {
-            Ok((home, mut seat)) => run_over(&home, rt, &mut seat, script, policy, words, to),
-            Err(fault) => Err(EngineFault::Open(fault)),
-        },
-        StoreKind::Book => match BookStore::open(
-            alloc,
-            region,
-            MOST_NUMBERS,
-            options.attempts,
-            words,
-        ) {
-            Ok((home, mut seat)) => run_over(&home, rt, &mut seat, script, policy, words, to),
-            Err(fault) => Err(EngineFault::Open(fault)),
-        },
-    }
+    let policy = options.policy;
+    on_store!(
+        rt.alloc(),
+        script,
+        options,
+        |home, seat| run_over(&home, rt, &mut seat, script, policy, words, to)
+    )
 }

@@ -1,11 +1,15 @@
--- every request was worked, and the words are those of the memory at the end of the history
-use Rattle.std.proofs.Common.{rules}
-use Rattle.chi_engine.proofs.RaceLemmas.{raced_whole, shown_raced}
+-- every request was worked, by two workers or by four
+use Rattle.std.proofs.Common.{ap, refl, sym}
+use Rattle.chi_engine.specs.Race.{racers_of}
+use Rattle.chi_engine.proofs.RaceLemmas.{raced_by}
 use Rattle.chi_engine.proofs.race.race_all.Goals as goal
 
-pub returns-clause-shown : goal.returns-clause-shown
-returns-clause-shown g c = shown_raced _ _ _ _ _ c.snapshot.new.words c.requires.fresh (search rules) c.snapshot.ensures.shown
+pub returns-in-Two-clause-raced : goal.returns-in-Two-clause-raced
+returns-in-Two-clause-raced g c =
+    raced_by c.race_two-outcome.result _ _ _ _ _ _ _ c.args.script.now _ _ _ _ _ _ c.requires.fresh c.requires.limit (ap racers_of (sym c.in-Two.is)) c.requests-requests.ensures
+    c.new-race.ensures c.with_no_more.ensures.same c.race_two-outcome.ensures.race
 
-pub returns-clause-raced : goal.returns-clause-raced
-returns-clause-raced g c =
-    rw (c.snapshot.ensures.seen, ← c.requests.ensures) (raced_whole _ _ _ _ _ _ _ _ _ _ _ _ c.requires.fresh c.requires.empty c.in_ok-race_two.ensures.race)
+pub returns-in-Four-clause-raced : goal.returns-in-Four-clause-raced
+returns-in-Four-clause-raced g c =
+    raced_by c.race_four-outcome.result _ _ _ _ _ _ _ c.args.script.now _ _ _ _ _ _ c.requires.fresh c.requires.limit (ap racers_of (sym c.in-Four.is)) c.requests-requests.ensures
+    c.new-race-in-Four.ensures refl c.race_four-outcome.ensures.race

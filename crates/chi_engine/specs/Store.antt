@@ -1,11 +1,12 @@
--- how a home is opened for the program
-use Rattle.std.specs.Prelude.{◌≡◌, ℕ, List, [], replicate}
+-- the store of the options, and how it is opened for a script
+use Rattle.std.specs.Prelude.{◌≡◌, ℕ, List}
 use Rattle.chi_bookstore.specs.Faults.{IsAttemptCount}
 use Rattle.chi_lockstore.specs.Faults.{IsWithinLine}
-use Rattle.chi_fields.specs.Extent.{Extent}
 use Rattle.chi_history.specs.declared.entry.Entry.{Entry}
 use Rattle.chi_history.specs.declared.opening.Opening.{Opening}
-use Rattle.chi_history.specs.Held.{Held, below}
+use Rattle.chi_history.specs.Held.{Held}
+use Rattle.chi_history.specs.Opened.{IsFirst, opened}
+use Rattle.chi_script.specs.Script.{ScriptValue}
 use Rattle.chi_engine.specs.declared.options.Options.{Options}
 use Rattle.chi_engine.specs.declared.options.StoreKind.{StoreKind}
 use Rattle.chi_engine.specs.declared.options.StoreKind.TheVariants.{Lock, Book}
@@ -35,10 +36,11 @@ limit_with Book attempts = attempts
 abbrev pub limit_of : Options → ℕ
 limit_of options = limit_with options.store options.attempts
 
--- It was just opened on this region, with zeros. The seat holds every number, and has seen nothing.
-pub record IsFresh (o : Opening) (extent : Extent) (held : Held) (seen : List Entry) : Type 0 where
-  pub region : o.region ≡ extent
-  pub requesters : o.requesters ≡ requester_count
-  pub zeros : o.image ≡ replicate extent.granules 0
-  pub all : held ≡ below requester_count
-  pub new : seen ≡ []
+-- it is opened on the script's region, with the script's image
+abbrev pub opening_of : ScriptValue → Opening
+opening_of s = opened s.region requester_count s.image
+
+-- it was just opened for the script: the seat holds every number, and has seen nothing
+pub record IsFresh (o : Opening) (s : ScriptValue) (held : Held) (seen : List Entry) : Type 0 where
+  pub opening : o ≡ opening_of s
+  pub first : IsFirst o held seen
