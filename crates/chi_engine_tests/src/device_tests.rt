@@ -1,8 +1,7 @@
 //! Devices that fail.
 
-use crate::scripts::{BOOK, FETCH_ADD, LOCK, script};
-use chi_engine::{EngineFault, Options, engine_race, engine_run};
-use chi_history::NoGate;
+use crate::scripts::{BOOK, FETCH_ADD, LOCK, race_alone, script};
+use chi_engine::{EngineFault, Options, engine_run};
 use chi_script::WriteFault;
 use std::io::{self, Read, Write};
 use std::process::Abort;
@@ -88,7 +87,7 @@ fn assert_unread<T: AllocGlobal + Abort + Threads + Wait + Sync>(
         text: text.as_bytes(),
         left,
     };
-    match engine_race(rt, &mut from, &mut to, options, NoGate, NoGate) {
+    match race_alone(rt, &mut from, &mut to, options) {
         Err(EngineFault::Read) => {}
         _ => panic!(rt; "raced, after {left} bytes"),
     }

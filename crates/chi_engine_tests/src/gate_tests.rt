@@ -1,15 +1,9 @@
-//! Gates that wait for each other: two workers at once, and a RetryAck at a chosen moment.
+//! Gates that wait for each other: a RetryAck at a chosen moment.
 
-ghost use Rattle.std.specs.Prelude.{◌≡◌, ◌≤◌};
-ghost use Rattle.chi_history.specs.Held.{below};
-
-use crate::scripts::{ADD_OF_ONE, ADD_OF_TWO, BOOK, LOCK, SEVEN_ZEROS, joined, script};
-use chi_bookstore::BookStore;
-use chi_engine::{Options, StoreKind, engine_race};
-use chi_fields::{Region, Request};
-use chi_history::{Gate, Home};
-use chi_lockstore::LockStore;
-use chi_requester::{Policy, Race, race_two};
+use crate::scripts::{ADD_OF_ONE, ADD_OF_TWO, SEVEN_ZEROS, joined, script};
+use chi_engine::{Options, StoreKind, Workers, engine_race};
+use chi_history::{Gate, NoGate};
+use chi_requester::Policy;
 use std::process::Abort;
 use std::sync::Wait;
 use std::sync::atomic::{AtomicU64, Ordering};
@@ -88,87 +82,6 @@ impl<C: Clock> Gate for WaitingGate<'_, C> {
     }
 }
 
-// Races a script of one request each, with gates that wait for each other.
-fn assert_engine_meets<T: AllocGlobal + Abort + Clock + Threads + Wait + Sync>(
-    rt: &T,
-    options: &Options,
-) -> Result<(), Fail> {
-    let text = script(rt, &[ADD_OF_ONE, ADD_OF_TWO])?;
-    let pauses = Pauses::none();
-    let mut to: Vec<u8> = Vec::new(rt.alloc());
-    engine_race(
-        rt,
-        &mut text.as_bytes(),
-        &mut to,
-        options,
-        pauses.gate_one(rt, 1),
-        pauses.gate_two(rt, 1),
-    )?;
-    assert_eq!(rt; pauses.met.load(Ordering::SeqCst), 2, "gate never met");
-    Ok(())
-}
-
-// An add of 1 to the first eight bytes.
-fn add(src: u8) -> Request
-    ensures { result.src ≡ src }
-{
-    let mut lanes = [0; 16];
-    lanes[0] = 1;
-    Request {
-        src,
-        txn: src,
-        opcode: 0x28,
-        size: 3,
-        addr: 0x1000,
-        endian: false,
-        be: 0x00ff,
-        lanes,
-    }
-}
-
-// The same over a home.
-fn assert_race_meets<H: Home + Sync, T: AllocGlobal + Abort + Clock + Threads + Wait + Sync>(
-    rt: &T,
-    home: &H,
-    seat: &mut H::Seat,
-) -> Result<(), Fail>
-    requires own { H.belongs home.now seat.old }
-    requires all { H.held seat.old ≡ below (H.opening home.now).requesters }
-    requires three { 3 ≤ (H.opening home.now).requesters }
-{
-    let pauses = Pauses::none();
-    let mut race = Race::new(rt.alloc());
-    let (gate1, gate2) = (pauses.gate_one(rt, 1), pauses.gate_two(rt, 1));
-    let requests = [add(1), add(2)];
-    race_two(
-        home,
-        rt,
-        seat,
-        &requests,
-        Policy::Resend,
-        gate1,
-        gate2,
-        &mut race,
-    )?;
-    assert_eq!(rt; pauses.met.load(Ordering::SeqCst), 2, "gate never met");
-    Ok(())
-}
-
-#[test]
-fn gates_meet(rt: HostRuntime) -> Result<(), Fail> {
-    assert_engine_meets(&rt, &LOCK)?;
-    assert_engine_meets(&rt, &BOOK)
-}
-
-#[test]
-fn gates_meet_by_race_two(rt: HostRuntime) -> Result<(), Fail> {
-    let region = Region::new(0x1000, 8)?;
-    let (home, mut seat) = LockStore::open(rt.alloc(), region, 3, &[0; 8])?;
-    assert_race_meets(&rt, &home, &mut seat)?;
-    let (home, mut seat) = BookStore::open(rt.alloc(), region, 3, 4, &[0; 8])?;
-    assert_race_meets(&rt, &home, &mut seat)
-}
-
 // One add of 1 and two of 2, where the first waits at its gate until both of the others are over.
 fn assert_late<T: AllocGlobal + Abort + Clock + Threads + Wait + Sync>(
     rt: &T,
@@ -180,6 +93,7 @@ fn assert_late<T: AllocGlobal + Abort + Clock + Threads + Wait + Sync>(
         store,
         attempts: 1,
         policy: Policy::Return,
+        workers: Workers::Two,
     };
     let pauses = Pauses::none();
     let mut to: Vec<u8> = Vec::new(rt.alloc());
@@ -190,6 +104,8 @@ fn assert_late<T: AllocGlobal + Abort + Clock + Threads + Wait + Sync>(
         &options,
         pauses.gate_one(rt, 2),
         pauses.gate_two(rt, 1),
+        NoGate,
+        NoGate,
     )?;
     assert_eq!(rt; pauses.met.load(Ordering::SeqCst), 2, "gate never met");
     assert_eq!(rt; to.as_slice(), joined(rt, want)?.as_bytes());

@@ -1,9 +1,10 @@
 //! Readers and writers that fail at each of their calls, and those of one byte a call.
 
-use crate::scripts::{BOOK, FETCH_ADD, FETCH_ADD_LINE, LOCK, SEVEN_ZEROS, joined, script};
-use chi_engine::{EngineFault, Options, StoreKind, engine_race, engine_run};
-use chi_history::{NoGate, OpenFault};
-use chi_requester::Policy;
+use crate::scripts::{
+    BOOK, FETCH_ADD, FETCH_ADD_LINE, LOCK, SEVEN_ZEROS, joined, race_alone, script,
+};
+use chi_engine::{EngineFault, Options, StoreKind, engine_run};
+use chi_history::OpenFault;
 use chi_script::WriteFault;
 use std::io::{self, Read, Write};
 use std::process::Abort;
@@ -76,7 +77,7 @@ fn worked<T: AllocGlobal + Threads + Wait + Sync, R: Read, W: Write>(
     options: &Options,
 ) -> Result<(), EngineFault> {
     if race {
-        engine_race(rt, from, to, options, NoGate, NoGate)
+        race_alone(rt, from, to, options)
     } else {
         engine_run(rt, from, to, options)
     }
@@ -192,11 +193,7 @@ fn hostile_devices_of_a_race(rt: HostRuntime) -> Result<(), Fail> {
 fn attempts_out_of_range_of_a_race(rt: HostRuntime) -> Result<(), Fail> {
     let text = script(&rt, &[FETCH_ADD])?;
     for attempts in [0, 17] {
-        let mut options = Options {
-            store: StoreKind::Book,
-            attempts,
-            policy: Policy::Resend,
-        };
+        let mut options = Options { attempts, ..BOOK };
         let mut to: Vec<u8> = Vec::new(rt.alloc());
         match worked(&rt, true, &mut text.as_bytes(), &mut to, &options) {
             Err(EngineFault::Open(fault)) => assert_eq!(rt; fault, OpenFault::AttemptCount),

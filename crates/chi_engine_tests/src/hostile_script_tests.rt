@@ -1,8 +1,7 @@
 //! Scripts that are broken: each is refused by the fault's name, by reading and by both engines.
 
-use crate::scripts::{BOOK, FETCH_ADD, LOCK, joined, script, script_of_many};
-use chi_engine::{EngineFault, Options, engine_race, engine_run, status_of};
-use chi_history::NoGate;
+use crate::scripts::{BOOK, FETCH_ADD, LOCK, joined, race_alone, script, script_of_many};
+use chi_engine::{EngineFault, Options, engine_run, status_of};
 use chi_script::{Member, ScriptFault, read_script};
 use std::process::Abort;
 use std::sync::Wait;
@@ -25,7 +24,7 @@ fn faults_of<T: AllocGlobal + Abort + Threads + Wait + Sync>(
     let mut to: Vec<u8> = Vec::new(rt.alloc());
     let (mut from, mut again) = (text, text);
     let run = engine_run(rt, &mut from, &mut to, options);
-    let race = engine_race(rt, &mut again, &mut to, options, NoGate, NoGate);
+    let race = race_alone(rt, &mut again, &mut to, options);
     assert_eq!(rt; to.len(), 0, "something was written");
     (run, race)
 }
@@ -85,7 +84,7 @@ fn assert_accepted<T: AllocGlobal + Abort + Threads + Wait + Sync>(
     let text = exchanged(rt, part, other)?;
     let mut to: Vec<u8> = Vec::new(rt.alloc());
     engine_run(rt, &mut text.as_bytes(), &mut to, &BOOK)?;
-    engine_race(rt, &mut text.as_bytes(), &mut to, &LOCK, NoGate, NoGate)?;
+    race_alone(rt, &mut text.as_bytes(), &mut to, &LOCK)?;
     assert_eq!(rt; to.len(), 2 * 367, "{other}");
     Ok(())
 }
@@ -167,7 +166,7 @@ fn hostile_scripts_too_long(rt: HostRuntime) -> Result<(), Fail> {
     text.resize(40 + 4_194_264, b' ')?;
     let mut to: Vec<u8> = Vec::new(rt.alloc());
     engine_run(&rt, &mut text.as_slice(), &mut to, &BOOK)?;
-    engine_race(&rt, &mut text.as_slice(), &mut to, &BOOK, NoGate, NoGate)?;
+    race_alone(&rt, &mut text.as_slice(), &mut to, &BOOK)?;
     assert_eq!(rt; to.len(), 2 * 288);
     text.push(b' ')?;
     let (run, race) = faults_of(&rt, text.as_slice(), &BOOK);

@@ -1,9 +1,10 @@
 //! Scripts for the tests, and the engine run on them.
 
-use chi_engine::{EngineFault, Options, StoreKind, engine_race, engine_run};
+use chi_engine::{EngineFault, Options, StoreKind, Workers, engine_race, engine_run};
 use chi_history::NoGate;
 use chi_requester::Policy;
 use std::alloc::AllocError;
+use std::io::{Read, Write};
 use std::process::Abort;
 use std::sync::Wait;
 use std::test::Fail;
@@ -13,12 +14,14 @@ pub(crate) const LOCK: Options = Options {
     store: StoreKind::Lock,
     attempts: 4,
     policy: Policy::Resend,
+    workers: Workers::Two,
 };
 
 pub(crate) const BOOK: Options = Options {
     store: StoreKind::Book,
     attempts: 4,
     policy: Policy::Resend,
+    workers: Workers::Two,
 };
 
 // The members of a script before its first request.
@@ -34,6 +37,13 @@ pub(crate) const ADD_OF_ONE: &str =
 
 pub(crate) const ADD_OF_TWO: &str =
     "{\"src\":2,\"txn\":2,\"op\":40,\"size\":3,\"addr\":4096,\"endian\":0,\"be\":255,\"lanes\":\"01000000000000000000000000000000\"}";
+
+// The same by requester 3, and by requester 4.
+pub(crate) const ADD_OF_THREE: &str =
+    "{\"src\":3,\"txn\":3,\"op\":40,\"size\":3,\"addr\":4096,\"endian\":0,\"be\":255,\"lanes\":\"01000000000000000000000000000000\"}";
+
+pub(crate) const ADD_OF_FOUR: &str =
+    "{\"src\":4,\"txn\":4,\"op\":40,\"size\":3,\"addr\":4096,\"endian\":0,\"be\":255,\"lanes\":\"01000000000000000000000000000000\"}";
 
 // The line of the first fetch-add.
 pub(crate) const FETCH_ADD_LINE: &str =
@@ -103,6 +113,16 @@ pub(crate) fn assert_run_over_both<T: AllocGlobal + Abort + Wait>(
     assert_run(rt, &BOOK, text, want)
 }
 
+// A race without gates.
+pub(crate) fn race_alone<T: AllocGlobal + Threads + Wait + Sync, R: Read, W: Write>(
+    rt: &T,
+    from: &mut R,
+    to: &mut W,
+    options: &Options,
+) -> Result<(), EngineFault> {
+    engine_race(rt, from, to, options, NoGate, NoGate, NoGate, NoGate)
+}
+
 // What a race of a text without gates comes to, and the bytes that it wrote.
 pub(crate) fn raced<T: AllocGlobal + Threads + Wait + Sync>(
     rt: &T,
@@ -110,6 +130,6 @@ pub(crate) fn raced<T: AllocGlobal + Threads + Wait + Sync>(
     text: &str,
 ) -> (Result<(), EngineFault>, Vec<u8>) {
     let mut to: Vec<u8> = Vec::new(rt.alloc());
-    let outcome = engine_race(rt, &mut text.as_bytes(), &mut to, options, NoGate, NoGate);
+    let outcome = race_alone(rt, &mut text.as_bytes(), &mut to, options);
     (outcome, to)
 }
