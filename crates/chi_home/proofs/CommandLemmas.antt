@@ -8,7 +8,7 @@ use Rattle.clap.specs.declared.error.kind.ErrorKind.{ErrorKind}
 use Rattle.clap.specs.declared.error.kind.ErrorKind.TheVariants as error_kind
 use Rattle.clap.specs.declared.builder.value_parser.ValueParser.TheVariants as value_parser
 use Rattle.clap.proofs.OnLiterals.{clap_on_literals}
-use Rattle.chi_home.specs.CommandLine.{IsProgram, IsTaskApp, IsWordsFault, bare_app, option_rule}
+use Rattle.chi_home.specs.CommandLine.{IsProgram, IsRaceApp, IsTaskApp, IsWordsFault, bare_app, option_rule}
 
 -- the third of a row of tests fails
 pub third_fails : (a b c d : Bool) → (a && (b && (not c && d))) ≡ true → c ≡ false
@@ -28,25 +28,32 @@ stores_of words = option_rule (codes "store") (value_parser.Names words) (codes 
 abbrev policies_of : Bor (List (Bor Text)) → Rule
 policies_of words = option_rule (codes "policy") (value_parser.Names words) (codes "resend")
 
+abbrev workers_of : Bor (List (Bor Text)) → Rule
+workers_of words = option_rule (codes "workers") (value_parser.Names words) (codes "2")
+
 -- the tasks of both names
 both : App → App → App
 both run race = with_subcommand (with_subcommand bare_app run.top) race.top
 
-simple_whatever : (v w x y : Bor (List (Bor Text)))
-    → is_simple_and_free (both (task_of (codes "run") (stores_of v) (policies_of w)) (task_of (codes "race") (stores_of x) (policies_of y))) ≡ true
+simple_whatever : (v w x y z : Bor (List (Bor Text)))
+    → is_simple_and_free (both (task_of (codes "run") (stores_of v) (policies_of w)) (with_rule (task_of (codes "race") (stores_of x) (policies_of y)) (workers_of z))) ≡ true
 unfolding clap_on_literals both task_of
-simple_whatever v w x y = refl
+simple_whatever v w x y z = refl
 
 task_is : (name : Text) (app : App) → (t : IsTaskApp name app) → app ≡ task_of name (stores_of t.2.0) (policies_of t.3.0)
 unfolding task_of
 task_is name app t = t.4 ∙ ap₂ (task_of name) t.2.2 t.3.2
 
+race_is : (app : App) → (t : IsRaceApp app) → app ≡ with_rule (task_of (codes "race") (stores_of t.2.2.0) (policies_of t.2.3.0)) (workers_of t.3.0)
+unfolding task_of
+race_is app t = t.4 ∙ ap₂ with_rule (task_is (codes "race") t.0 t.2) t.3.2
+
 -- `clap` says what it answers to any words
 pub program_is_simple : (app : App) → IsProgram app → is_simple_and_free app ≡ true
 unfolding both
 program_is_simple app p =
-    ap is_simple_and_free (p.4 ∙ ap₂ both (task_is (codes "run") p.0 p.2) (task_is (codes "race") p.1 p.3))
-    ∙ simple_whatever p.2.2.0 p.2.3.0 p.3.2.0 p.3.3.0
+    ap is_simple_and_free (p.4 ∙ ap₂ both (task_is (codes "run") p.0 p.2) (race_is p.1 p.3))
+    ∙ simple_whatever p.2.2.0 p.2.3.0 p.3.2.2.0 p.3.2.3.0 p.3.3.0
 
 -- what `clap` refuses
 pub words_fault : (app : App) (words : List Text) (kind : ErrorKind) → IsProgram app

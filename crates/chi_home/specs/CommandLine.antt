@@ -29,6 +29,12 @@ IsTaskApp name app =
     × (app ≡ with_rule (with_rule (with_rule (new_app name) store)
     (option_rule (codes "attempts") (value_parser.Signed (pos 1) (pos 16)) (codes "4"))) policy)
 
+-- the task of a race: its workers are two or four, too
+abbrev pub IsRaceApp : App → Type 0
+IsRaceApp app =
+    (task : App) × (workers : Rule) × IsTaskApp (codes "race") task
+    × IsChoice (codes "workers") (codes "2" ∷ codes "4" ∷ []) (codes "2") workers × (app ≡ with_rule task workers)
+
 -- the program: it wants a task, and its name is not among its words
 abbrev pub bare_app : App
 bare_app = on_top (λ s. record s { no_binary_name = true; subcommand_required = true }) (new_app (codes "chihome"))
@@ -36,7 +42,7 @@ bare_app = on_top (λ s. record s { no_binary_name = true; subcommand_required =
 -- with its tasks `run` and `race`
 abbrev pub IsProgram : App → Type 0
 IsProgram app =
-    (run : App) × (race : App) × IsTaskApp (codes "run") run × IsTaskApp (codes "race") race
+    (run : App) × (race : App) × IsTaskApp (codes "run") run × IsRaceApp race
     × (app ≡ with_subcommand (with_subcommand bare_app run.top) race.top)
 
 -- why the words name no task: there is no memory, or `clap` finds this fault in them or is asked for help

@@ -6,10 +6,10 @@ ghost use Rattle.clap.specs.Values.{kind_of};
 ghost use Rattle.clap.specs.Walk.{rule_of};
 ghost use Rattle.clap.specs.declared.builder.value_parser.ValueParser.TheVariants as value_parser;
 ghost use Rattle.chi_bookstore.specs.Faults.{IsAttemptCount};
-ghost use Rattle.chi_home.specs.CommandLine.{IsProgram, IsTaken, IsTaskApp, IsWordsFault, option_rule};
+ghost use Rattle.chi_home.specs.CommandLine.{IsProgram, IsRaceApp, IsTaken, IsTaskApp, IsWordsFault, option_rule};
 
 use chi_bookstore::MOST_ATTEMPTS;
-use chi_engine::{Options, StoreKind};
+use chi_engine::{Options, StoreKind, Workers};
 use chi_requester::Policy;
 use clap::builder::ValueParser;
 use clap::error::ErrorKind;
@@ -28,7 +28,7 @@ const ABOUT: &str = "Executes the atomics, reads and writes of a script at a CHI
 const MORE: &str =
     "A script on standard input is one JSON object with a region and requests. The transcript on
 standard output has a line for each request, and then one for each eight bytes of the
-region, which begin as zeros.
+region, which begin as the script's image, or as zeros.
 
   $ echo '{\"base\":4096,\"granules\":1,\"requests\":[{\"src\":0,\"txn\":1,\"op\":48,\"size\":3,
     \"addr\":4096,\"endian\":0,\"be\":255,\"lanes\":\"01000000000000000000000000000000\"}]}' | chihome run
@@ -41,7 +41,7 @@ Statuses: 0 done; 2 command line refused; 3 script or opening refused; 4 no memo
 const RUN_ABOUT: &str = "Works the requests in the order of the script, by one thread";
 
 const RACE_ABOUT: &str =
-    "Works the requests of 1 and of 2 at the same time, each in order, and then those of 0";
+    "Works the requests of 1 and 2, or of 1 to 4, at the same time, each in order, and then those of 0";
 
 // An option of a task that takes a value.
 fn task_option<'a>(
@@ -70,7 +70,7 @@ fn one_of<'a>(words: &'a [&'a str]) -> ValueParser<'a>
     words.into()
 }
 
-// A subcommand with the options of both.
+// A task with the options of both.
 fn task_command<'a>(alloc: Global, name: &'a str, about: &'a str) -> Result<Command<'a>, Error>
     ensures app { IfOk result (λ command. IsTaskApp name.entry.now (app_of command)) }
     ensures memory { IfErr result (λ error. kind_of error ≡ ErrorKind.OutOfMemory) }
@@ -81,7 +81,7 @@ fn task_command<'a>(alloc: Global, name: &'a str, about: &'a str) -> Result<Comm
         "STORE",
         one_of(["lock", "book"].as_slice()),
         "book",
-        "One line under a lock, or a row of granule words without one",
+        "At most 8 granules under a lock, or a row of at most 512 without one",
     );
     let attempts = task_option(
         alloc,
@@ -108,6 +108,22 @@ fn task_command<'a>(alloc: Global, name: &'a str, about: &'a str) -> Result<Comm
     )
 }
 
+// The task of a race, which has its workers too.
+fn race_command<'a>(alloc: Global) -> Result<Command<'a>, Error>
+    ensures app { IfOk result (λ command. IsRaceApp (app_of command)) }
+    ensures memory { IfErr result (λ error. kind_of error ≡ ErrorKind.OutOfMemory) }
+{
+    let workers = task_option(
+        alloc,
+        "workers",
+        "WORKERS",
+        one_of(["2", "4"].as_slice()),
+        "2",
+        "How many requesters work at the same time: 1 and 2, or 1 to 4",
+    );
+    Ok(task_command(alloc, "race", RACE_ABOUT)?.arg(workers)?)
+}
+
 fn whole_command<'a>(alloc: Global) -> Result<Command<'a>, Error>
     ensures app { IfOk result (λ command. IsProgram (app_of command)) }
     ensures memory { IfErr result (λ error. kind_of error ≡ ErrorKind.OutOfMemory) }
@@ -120,7 +136,7 @@ fn whole_command<'a>(alloc: Global) -> Result<Command<'a>, Error>
             .after_help(MORE)
             .subcommand_required(true)
             .subcommand(task_command(alloc, "run", RUN_ABOUT)?)?
-            .subcommand(task_command(alloc, "race", RACE_ABOUT)?)?,
+            .subcommand(race_command(alloc)?)?,
     )
 }
 
@@ -145,6 +161,28 @@ fn chosen_options(chosen: &ArgMatches<'_>) -> Options
         store,
         attempts,
         policy,
+        workers: Workers::Two,
+    }
+}
+
+// How many workers a race was given.
+fn chosen_workers(chosen: &ArgMatches<'_>) -> Workers {
+    match chosen.get_str("workers") {
+        Some("4") => Workers::Four,
+        _ => Workers::Two,
+    }
+}
+
+// The task of this name, and its options.
+fn chosen_task(name: &str, chosen: &ArgMatches<'_>) -> (Task, Options)
+    ensures { IsAttemptCount result.1.attempts }
+{
+    let options = chosen_options(chosen);
+    if name == "race" {
+        let workers = chosen_workers(chosen);
+        (Task::Race, Options { workers, ..options })
+    } else {
+        (Task::Run, options)
     }
 }
 
@@ -165,11 +203,5 @@ pub fn options_of(alloc: Global, words: &[String]) -> Result<(Task, Options), Er
     let Some((name, chosen)) = matches.subcommand() else {
         unreachable!()
     };
-    let options = chosen_options(chosen);
-    let task = if name == "race" {
-        Task::Race
-    } else {
-        Task::Run
-    };
-    Ok((task, options))
+    Ok(chosen_task(name, chosen))
 }

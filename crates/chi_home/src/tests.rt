@@ -2,7 +2,7 @@
 
 use crate::command::{Task, options_of};
 use crate::words::run_words;
-use chi_engine::{Options, StoreKind};
+use chi_engine::{Options, StoreKind, Workers};
 use chi_requester::Policy;
 use std::alloc::AllocError;
 use std::io::{self, Write};
@@ -278,6 +278,7 @@ fn options_of_words(rt: HostRuntime) -> Result<(), Fail> {
         store: StoreKind::Lock,
         attempts: 16,
         policy: Policy::Return,
+        workers: Workers::Two,
     };
     assert_eq!(rt; options, lock);
     let words = words_of(&rt, &["run"])?;
@@ -289,6 +290,7 @@ fn options_of_words(rt: HostRuntime) -> Result<(), Fail> {
         store: StoreKind::Book,
         attempts: 4,
         policy: Policy::Resend,
+        workers: Workers::Two,
     };
     assert_eq!(rt; options, book);
     Ok(())

@@ -34,7 +34,7 @@ fn run_task<T: AllocGlobal + Threads + Wait + Sync, R: Read, W: Write>(
 {
     match task {
         Task::Run => engine_run(rt, from, to, options)?,
-        Task::Race => engine_race(rt, from, to, options, NoGate, NoGate)?,
+        Task::Race => engine_race(rt, from, to, options, NoGate, NoGate, NoGate, NoGate)?,
     }
     match to.flush() {
         Ok(()) => Ok(()),

@@ -1,7 +1,7 @@
 //! Regions of more than one line.
 
 use super::run_on;
-use chi_engine::{EngineFault, Options, StoreKind, engine_race, engine_run};
+use chi_engine::{EngineFault, Options, StoreKind, Workers, engine_race, engine_run};
 use chi_history::{NoGate, OpenFault};
 use chi_requester::Policy;
 use std::alloc::AllocError;
@@ -12,6 +12,7 @@ const LOCK: Options = Options {
     store: StoreKind::Lock,
     attempts: 4,
     policy: Policy::Resend,
+    workers: Workers::Two,
 };
 
 // Adds of 1 to the last granule of 512, and to the one after it.
@@ -65,7 +66,8 @@ fn region_of_512_granules_over_the_lock(rt: HostRuntime) -> Result<(), Fail> {
         let mut to: Vec<u8> = Vec::new(rt.alloc());
         let outcome = engine_run(&rt, &mut text.as_bytes(), &mut to, &LOCK);
         assert_not_one_line(&rt, outcome, to.as_slice());
-        let outcome = engine_race(&rt, &mut text.as_bytes(), &mut to, &LOCK, NoGate, NoGate);
+        let (mut from, gate) = (text.as_bytes(), NoGate);
+        let outcome = engine_race(&rt, &mut from, &mut to, &LOCK, gate, gate, gate, gate);
         assert_not_one_line(&rt, outcome, to.as_slice());
         for task in ["run", "race"] {
             let told = run_on(&rt, &[task, "--store", "lock"], text)?;

@@ -1,6 +1,6 @@
 -- The program has both tasks.
 use Rattle.std.proofs.Common.{ap, ◌≡◌, ◌∙◌, true}
-use Rattle.clap.specs.Simple.{App, Shape, app_of, app_of_fields, on_top, with_subcommand}
+use Rattle.clap.specs.Simple.{App, Shape, app_of, app_of_fields, on_top, with_rule, with_subcommand}
 use Rattle.chi_home.specs.CommandLine.{bare_app}
 use Rattle.chi_home.proofs.CommandLemmas.{third_fails}
 use Rattle.chi_home.proofs.command.whole_command.Goals as goal
@@ -8,7 +8,8 @@ use Rattle.chi_home.proofs.command.whole_command.Goals as goal
 pub returns-clause-app : goal.returns-clause-app
 returns-clause-app c =
     let run = app_of c.in_ok-task_command.field-0 in
-    let race = app_of c.in_ok-task_command-2.field-0 in
+    let race = app_of c.in_ok-race_command.field-0 in
+    let raced = c.in_ok-race_command.ensures.app in
     let unnamed : app_of c.no_binary_name.result ≡ on_top (λ (s : Shape). record s { no_binary_name = true }) (app_of c.new.result) =
     ap app_of_fields c.no_binary_name.ensures ∙ ap (λ (a : App). on_top (λ (s : Shape). record s { no_binary_name = true }) a) (ap app_of_fields c.in_ok-bin_name.ensures.0) in
     let bare : app_of c.subcommand_required.result ≡ bare_app =
@@ -19,8 +20,8 @@ returns-clause-app c =
       run,
       race,
       c.in_ok-task_command.ensures.app,
-      c.in_ok-task_command-2.ensures.app,
-      c.in_ok-subcommand-2.ensures.shape (third_fails _ _ _ _ (ap (λ (a : App). a.top.is_plain) c.in_ok-task_command-2.ensures.app.4))
+      raced,
+      c.in_ok-subcommand-2.ensures.shape (third_fails _ _ _ _ (ap (λ (a : App). a.top.is_plain) (raced.4 ∙ ap (λ (task : App). with_rule task raced.1) raced.2.4)))
           ∙ ap (λ (a : App). with_subcommand a race.top)
           (c.in_ok-subcommand.ensures.shape (third_fails _ _ _ _ (ap (λ (a : App). a.top.is_plain) c.in_ok-task_command.ensures.app.4))
           ∙ ap (λ (a : App). with_subcommand a run.top) bare),
