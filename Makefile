@@ -3,10 +3,11 @@ PREFIX ?= /usr/local
 PROGRAM := crates/chi_home/out/chi_home
 SCRIPT ?= examples/fetch_add.json
 
-.PHONY: help build run test lib dv install bench bench-c corpus
+.PHONY: help try build run test lib dv install bench bench-c corpus
 
 help:
-	@echo "make run [SCRIPT=FILE]     prove and build chihome, and show a script and the transcript of chihome run"
+	@echo "make try [SCRIPT=FILE]     build chihome with no proof, and show a script and the transcript of chihome run"
+	@echo "make run [SCRIPT=FILE]     the same, once chihome is proved"
 	@echo "make test                  the gate: every proof from nothing, the edits that must fail, tests, runs and what the documents show"
 	@echo "make lib                   out/libchi_c.a and out/libchi.so, for C, C++, SystemVerilog and Python"
 	@echo "make dv                    the bench in SystemVerilog, in Verilator"
@@ -14,6 +15,13 @@ help:
 	@echo "make bench                 the speed of chihome and of the lock-free store, beside plain Rust"
 	@echo "make bench-c               the speed of the calls for C, beside plain C and by DPI"
 	@echo "make corpus [SEED=N]       chihome on 10,000 scripts by chance, half of them broken, beside plain Rust"
+
+# What rt says of itself is shown only where it fails.
+try:
+	@echo "make try: nothing is proved here; make run proves chihome first" >&2
+	@cat $(SCRIPT); echo; echo
+	@log=$$(mktemp); trap "rm -f $$log" EXIT; \
+	cd crates/chi_home && rt try -- run < $(abspath $(SCRIPT)) 2> $$log || { cat $$log >&2; exit 1; }
 
 build:
 	@cd crates/chi_home && rt run -- run < stdin > out.log 2>&1 || { cat out.log; rm -f out.log; exit 1; }
