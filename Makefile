@@ -36,6 +36,7 @@ run: build
 test: SHELL := /bin/bash
 test: .SHELLFLAGS := -o pipefail -ec
 test:
+	.ci/documents
 	.ci/credit_spent_once
 	@result=$$(mktemp); trap 'rm -f '$$result EXIT; rt ci 2>&1 | tee $$result; .ci/program; .ci/faults; .ci/c; tail -n 1 $$result
 
