@@ -1,4 +1,5 @@
 pub mod Decimal
+pub mod ImageLemmas
 pub mod OnScript
 pub mod OnText
 pub mod ValueLemmas

@@ -1,5 +1,5 @@
 -- the requests of a script are of requesters up to the greatest one
-use Rattle.std.proofs.Common.{◌≡◌, ℕ, ◌+◌, ◌≤◌, ◌-◌, ◌^◌, nat_le, nat_lt, Bool, true, false, if◌then◌else◌, List, length, replicate, Option, None, Some, Result, Ok, Err, IfOk, refl, subst, arith}
+use Rattle.std.proofs.Common.{◌≡◌, ℕ, ◌+◌, ◌≤◌, ◌-◌, ◌^◌, nat_le, nat_lt, Bool, true, false, if◌then◌else◌, List, length, Option, None, Some, Result, Ok, Err, IfOk, refl, subst, arith}
 use Rattle.std.specs.Prelude.{All, is_some, ok_or, option_and_then}
 use Rattle.std.proofs.lemmas.Bool.{leb-true, lt-ltb}
 use Rattle.std.proofs.lemmas.List.Elements.{All-nil, All-cons}
@@ -9,11 +9,11 @@ use Rattle.chi_fields.specs.Extent.{Extent, region_of}
 use Rattle.chi_fields.specs.declared.region.RegionFault.{RegionFault}
 use Rattle.chi_fields.specs.declared.request.Request.{Request}
 use Rattle.chi_history.specs.Held.{AllFrom, below}
-use Rattle.chi_script.specs.declared.fault.ScriptFault.TheVariants.{NotJson, NotObject, Missing, BadMember, TooManyRequests}
+use Rattle.chi_script.specs.declared.fault.ScriptFault.TheVariants.{Missing, BadMember, TooManyRequests}
 use Rattle.chi_script.specs.declared.member.Member.{Member}
 use Rattle.chi_script.specs.declared.member.Member.TheVariants.{Base, Granules, Requests, Src, Txn, Opcode, Size, Addr, Endian, Be, Lanes}
 use Rattle.chi_script.specs.Member.{member_name}
-use Rattle.chi_script.specs.Script.{◌>>=◌, up_to, whole_number, lanes_of, member_by, number_of, request_of, element_of, requests_of, on_region, object_script, ScriptValue}
+use Rattle.chi_script.specs.Script.{◌>>=◌, up_to, whole_number, hex_bytes, opening_words, member_by, number_of, request_of, element_of, requests_of, on_region, object_script, ScriptValue}
 
 -- the requester's number is at most the greatest one
 abbrev pub IsUpTo : ℕ → Request → Type 0
@@ -60,7 +60,7 @@ request_within top d =
     then_ok (number_of Addr (2 ^ 64 - 1) d) _ (IsUpTo top) (λ addr e4.
     then_ok (number_of Endian 1 d) _ (IsUpTo top) (λ endian e5.
     then_ok (number_of Be 65535 d) _ (IsUpTo top) (λ be e6.
-    then_ok (member_by Lanes lanes_of d) _ (IsUpTo top) (λ lanes e7.
+    then_ok (member_by Lanes (hex_bytes 16) d) _ (IsUpTo top) (λ lanes e7.
     at_ok (number_of Src top d) src (λ n. n ≤ top) e (number_within Src top d)))))))))
 
 -- by cases on whether an element is an object
@@ -96,10 +96,11 @@ unfolding object_script
 object_within top d =
     then_ok (number_of Base (2 ^ 64 - 1) d) _ (AllUpTo top) (λ base e.
     then_ok (number_of Granules 65535 d) _ (AllUpTo top) (λ granules e1.
-    then_ok (member_by Requests as_array d) _ (AllUpTo top) (λ elements e2.
-    then_ok (requests_of top elements) _ (AllUpTo top) (λ qs e3.
-    counted top (region_of base granules) (replicate granules 0) qs (nat_lt 4096 (length qs))
-    (at_ok (requests_of top elements) qs (All (IsUpTo top)) e3 (requests_within top elements))))))
+    then_ok (opening_words granules d) _ (AllUpTo top) (λ image e2.
+    then_ok (member_by Requests as_array d) _ (AllUpTo top) (λ elements e3.
+    then_ok (requests_of top elements) _ (AllUpTo top) (λ qs e4.
+    counted top (region_of base granules) image qs (nat_lt 4096 (length qs))
+    (at_ok (requests_of top elements) qs (All (IsUpTo top)) e4 (requests_within top elements)))))))
 
 -- so each of them stands in the set of those below the next number
 pub object_from : (top : ℕ) (d : Data) (s : ScriptValue) → object_script top d ≡ Ok s → AllFrom (below (top + 1)) s.requests

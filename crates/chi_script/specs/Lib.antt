@@ -1,3 +1,4 @@
+pub mod Laws
 pub mod Member
 pub mod Piece
 pub mod Script

@@ -1,11 +1,12 @@
 -- the names of a script's members
 use Rattle.std.specs.Prelude.{ℕ, List, codes}
 use Rattle.chi_script.specs.declared.member.Member.{Member}
-use Rattle.chi_script.specs.declared.member.Member.TheVariants.{Base, Granules, Requests, Src, Txn, Opcode, Size, Addr, Endian, Be, Lanes}
+use Rattle.chi_script.specs.declared.member.Member.TheVariants.{Base, Granules, Image, Requests, Src, Txn, Opcode, Size, Addr, Endian, Be, Lanes}
 
 abbrev pub member_name : Member → List ℕ
 member_name Base = codes "base"
 member_name Granules = codes "granules"
+member_name Image = codes "image"
 member_name Requests = codes "requests"
 member_name Src = codes "src"
 member_name Txn = codes "txn"

@@ -3,6 +3,8 @@
 
 mod device;
 mod fault;
+mod image;
+pub mod laws;
 mod member;
 mod page;
 mod piece;
@@ -16,6 +18,10 @@ pub use member::Member;
 pub use script::{Script, read_script};
 pub use transcript::{write_lines, write_transcript};
 
+#[cfg(test)]
+mod image_tests;
+#[cfg(test)]
+mod sample_scripts;
 #[cfg(test)]
 mod script_tests;
 #[cfg(test)]

@@ -3,11 +3,12 @@
 ghost use Rattle.std.specs.Prelude.{◌≡◌};
 ghost use Rattle.chi_script.specs.Member.{member_name};
 
-/// A member of a script's object, the first three, or of a request in it.
+/// A member of a script's object, the first four, or of a request in it. All but `Image` are required.
 #[derive(Clone, Copy, Debug, PartialEq, Eq)]
 pub enum Member {
     Base,
     Granules,
+    Image,
     Requests,
     Src,
     Txn,
@@ -31,6 +32,7 @@ impl Member {
         match self {
             Member::Base => "base",
             Member::Granules => "granules",
+            Member::Image => "image",
             Member::Requests => "requests",
             Member::Src => "src",
             Member::Txn => "txn",

@@ -1,16 +1,17 @@
 //! Scripts and how one is read.
 
-ghost use Rattle.std.specs.Prelude.{◌≡◌, ◌≢◌, ◌+◌, Some, None, length, replicate, IfOk, IfErr, Ok, Err};
+ghost use Rattle.std.specs.Prelude.{◌≡◌, ◌≢◌, ◌+◌, Some, None, length, IfOk, IfErr, Ok, Err};
 ghost use Rattle.serde_json.specs.View.{view};
 ghost use Rattle.chi_history.specs.Held.{AllFrom, below};
 ghost use Rattle.chi_script.specs.Script.{json_value, object_script, script};
 
 use crate::fault::{MOST_REQUESTS, ScriptFault};
+use crate::image::opening_words;
 use crate::member::Member;
 use crate::walk::{number, requests};
 use chi_fields::{Region, Request};
 use serde_json::Value;
-use std::alloc::{AllocError, Global};
+use std::alloc::Global;
 use std::marker::Model;
 
 /// A region, its memory at the opening, and at most 4,096 requests to the home that serves it. Only `read_script`
@@ -89,13 +90,6 @@ fn json(alloc: Global, text: &[u8]) -> Result<Value, ScriptFault>
     }
 }
 
-// The words of so many granules whose bytes are all 0.
-fn zeros(alloc: Global, granules: u16) -> Result<Vec<u64>, AllocError>
-    ensures { IfOk result (λ words. words.items ≡ replicate granules 0) }
-{
-    vec![in alloc; 0; usize::from(granules)]
-}
-
 // The script that an object is.
 #[tactic(auto, unfolding(crate::specs::Script::object_script))]
 fn object_script(alloc: Global, object: &Value, top: u8) -> Result<Script, ScriptFault>
@@ -103,7 +97,8 @@ fn object_script(alloc: Global, object: &Value, top: u8) -> Result<Script, Scrip
     ensures fault { IfErr result (λ f. f ≢ ScriptFault.Memory → object_script top (view object.now) ≡ Err f) }
 {
     let base = number(object, Member::Base, u64::MAX)?;
-    let granules = number(object, Member::Granules, 65535)?;
+    let granules = number(object, Member::Granules, 65535)? as u16;
+    let image = opening_words(alloc, object, granules)?;
     let Some(value) = object.get(Member::Requests.name()) else {
         return Err(ScriptFault::Missing(Member::Requests));
     };
@@ -114,10 +109,7 @@ fn object_script(alloc: Global, object: &Value, top: u8) -> Result<Script, Scrip
     if requests.len() > MOST_REQUESTS {
         return Err(ScriptFault::TooManyRequests);
     }
-    let Ok(image) = zeros(alloc, granules as u16) else {
-        return Err(ScriptFault::Memory);
-    };
-    match Region::new(base, granules as u16) {
+    match Region::new(base, granules) {
         Ok(region) => Ok(Script {
             region,
             image,
@@ -130,9 +122,10 @@ fn object_script(alloc: Global, object: &Value, top: u8) -> Result<Script, Scrip
 /// The script that a text is, for requesters up to `top`, or its first fault.
 ///
 /// The text is one JSON object in UTF-8. Its members are `base`, a whole number below 2^64, `granules`, one below
-/// 65536, and `requests`, an array of objects. Each of these has `src`, 0 to `top`; `txn` and `op`, 0 to 255;
-/// `size`, 0 to 7; `addr`, below 2^64; `endian`, 0 or 1; `be`, below 65536; and `lanes`, a text of 32 hex digits,
-/// lane 0 first. Further members are ignored.
+/// 65536, `image`, a text of exactly 16 hex digits for each granule, and `requests`, an array of objects. The image
+/// is the bytes of the region at the opening, in address order; it may be left out, and they are then 0. Each request
+/// has `src`, 0 to `top`; `txn` and `op`, 0 to 255; `size`, 0 to 7; `addr`, below 2^64; `endian`, 0 or 1; `be`, below
+/// 65536; and `lanes`, a text of 32 hex digits, lane 0 first. Further members are ignored.
 ///
 /// `Memory` is answered where a growth is refused before a fault is met.
 ///

@@ -1,6 +1,6 @@
 //! Tests of texts that are no JSON, and of the faults' own texts.
 
-use crate::script_tests::FETCH_ADD_SCRIPT;
+use crate::sample_scripts::FETCH_ADD_SCRIPT;
 use crate::{Member, ScriptFault, read_script};
 use chi_fields::RegionFault;
 use std::test::Fail;

@@ -3,7 +3,7 @@
 ghost use Rattle.std.specs.Prelude.{◌≡◌, ◌≢◌, ◌≤◌, IfOk, IfErr, Ok, Err};
 ghost use Rattle.serde_json.specs.View.{view, items_view};
 ghost use Rattle.serde_json.specs.Find.{as_array};
-ghost use Rattle.chi_script.specs.Script.{number_of, lanes_of, member_by, request_of, element_of, requests_of};
+ghost use Rattle.chi_script.specs.Script.{number_of, hex_bytes, member_by, request_of, element_of, requests_of};
 
 use crate::fault::ScriptFault;
 use crate::member::Member;
@@ -29,7 +29,7 @@ pub(crate) fn number(object: &Value, member: Member, top: u64) -> Result<u64, Sc
 
 // The data packet: a text of 32 hex digits, lane 0 first.
 fn lanes(object: &Value) -> Result<[u8; 16], ScriptFault>
-    ensures { result ≡ member_by Member.Lanes lanes_of (view object.now) }
+    ensures { result ≡ member_by Member.Lanes (hex_bytes 16) (view object.now) }
 {
     let Some(value) = object.get(Member::Lanes.name()) else {
         return Err(ScriptFault::Missing(Member::Lanes));
