@@ -12,6 +12,8 @@ mod hostile_device_tests;
 #[cfg(test)]
 mod hostile_script_tests;
 #[cfg(test)]
+mod image_tests;
+#[cfg(test)]
 mod meeting_tests;
 #[cfg(test)]
 mod race_tests;
