@@ -1,7 +1,15 @@
 //! The store of the options, opened for a script.
 
-ghost use Rattle.std.specs.Prelude.{◌≡◌, length, IfOk};
+ghost use Rattle.std.specs.Prelude.{◌≡◌, length, IfErr, IfOk};
+ghost use Rattle.chi_bookstore.specs.Faults as book_faults;
+ghost use Rattle.chi_lockstore.specs.Faults as lock_faults;
+ghost use Rattle.chi_engine.specs.Store.{IsFresh, OpensOn, OpensWith, requester_count};
 
+use crate::options::{Options, StoreKind};
+use chi_bookstore::{BookSeat, BookStore};
+use chi_history::{Home, MOST_NUMBERS, OpenFault};
+use chi_lockstore::{LockSeat, LockStore};
+use chi_script::Script;
 use std::alloc::{AllocError, Global};
 
 // Room for the words of so many granules.
@@ -11,30 +19,57 @@ pub(crate) fn room(alloc: Global, granules: u16) -> Result<Vec<u64>, AllocError>
     vec![in alloc; 0; usize::from(granules)]
 }
 
-// Opens the store of the options on the region and the image of a script, and then does the work, in which these
-// names stand for the home and its first seat.
+// The locked store, on the region and the image of a script.
+pub(crate) fn open_lock(
+    alloc: Global,
+    script: &Script,
+) -> Result<(LockStore<Global>, LockSeat), OpenFault>
+    ensures own { IfOk result (λ r. ⟦<LockStore<Global> as Home>⟧.belongs r.0 r.1) }
+    ensures fresh { IfOk result (λ r. IsFresh (⟦<LockStore<Global> as Home>⟧.opening r.0) script.now (⟦<LockStore<Global> as Home>⟧.held r.1) (⟦<LockStore<Global> as Home>⟧.seen r.1)) }
+    ensures limit { IfOk result (λ r. ⟦<LockStore<Global> as Home>⟧.limit r.0 ≡ 0) }
+    ensures opens { IfOk result (λ _. OpensOn StoreKind.Lock script.now.region.granules) }
+    ensures refused { IfErr result (lock_faults.Meets script.now.region.granules requester_count) }
+{
+    LockStore::open(alloc, script.region(), MOST_NUMBERS, script.image())
+}
+
+// The lock-free store, with the tries of the options, on the region and the image of a script.
+pub(crate) fn open_book(
+    alloc: Global,
+    script: &Script,
+    options: &Options,
+) -> Result<(BookStore<Global>, BookSeat), OpenFault>
+    ensures own { IfOk result (λ r. ⟦<BookStore<Global> as Home>⟧.belongs r.0 r.1) }
+    ensures fresh { IfOk result (λ r. IsFresh (⟦<BookStore<Global> as Home>⟧.opening r.0) script.now (⟦<BookStore<Global> as Home>⟧.held r.1) (⟦<BookStore<Global> as Home>⟧.seen r.1)) }
+    ensures limit { IfOk result (λ r. ⟦<BookStore<Global> as Home>⟧.limit r.0 ≡ options.now.attempts) }
+    ensures opens { IfOk result (λ _. OpensWith StoreKind.Book options.now.attempts) }
+    ensures refused { IfErr result (book_faults.Meets requester_count options.now.attempts) }
+{
+    let attempts = options.attempts;
+    BookStore::open(
+        alloc,
+        script.region(),
+        MOST_NUMBERS,
+        attempts,
+        script.image(),
+    )
+}
+
+// Opens the store of the options for a script, and then does the work, in which these names stand for the home and
+// its first seat.
 macro_rules! on_store {
-    ($alloc:expr, $script:expr, $options:expr, |$home:ident, $seat:ident| $work:expr) => {{
-        let alloc = $alloc;
-        let region = $script.region();
-        let image = $script.image();
-        let requesters = chi_history::MOST_NUMBERS;
+    ($alloc:expr, $script:expr, $options:expr, |$home:ident, $seat:ident| $work:expr) => {
         match $options.store {
-            $crate::options::StoreKind::Lock => {
-                match chi_lockstore::LockStore::open(alloc, region, requesters, image) {
-                    Ok(($home, mut $seat)) => $work,
-                    Err(fault) => Err($crate::fault::EngineFault::Open(fault)),
-                }
-            }
-            $crate::options::StoreKind::Book => {
-                let attempts = $options.attempts;
-                match chi_bookstore::BookStore::open(alloc, region, requesters, attempts, image) {
-                    Ok(($home, mut $seat)) => $work,
-                    Err(fault) => Err($crate::fault::EngineFault::Open(fault)),
-                }
-            }
+            $crate::options::StoreKind::Lock => match $crate::store::open_lock($alloc, $script) {
+                Ok(($home, mut $seat)) => $work,
+                Err(fault) => Err($crate::fault::EngineFault::Open(fault)),
+            },
+            $crate::options::StoreKind::Book => match $crate::store::open_book($alloc, $script, $options) {
+                Ok(($home, mut $seat)) => $work,
+                Err(fault) => Err($crate::fault::EngineFault::Open(fault)),
+            },
         }
-    }};
+    };
 }
 
 pub(crate) use on_store;
