@@ -35,9 +35,9 @@ IsRaceApp app =
     (task : App) × (workers : Rule) × IsTaskApp (codes "race") task
     × IsChoice (codes "workers") (codes "2" ∷ codes "4" ∷ []) (codes "2") workers × (app ≡ with_rule task workers)
 
--- the program: it wants a task, and its name is not among its words
+-- the program: it wants a task, has a version, and its name is not among its words
 abbrev pub bare_app : App
-bare_app = on_top (λ s. record s { no_binary_name = true; subcommand_required = true }) (new_app (codes "chihome"))
+bare_app = on_top (λ s. record s { no_binary_name = true; has_version = true; subcommand_required = true }) (new_app (codes "chihome"))
 
 -- with its tasks `run` and `race`
 abbrev pub IsProgram : App → Type 0

@@ -23,6 +23,9 @@ pub enum Task {
     Race,
 }
 
+// What `--version` prints after the program's name.
+const VERSION: &str = "0.1.0";
+
 const ABOUT: &str = "Executes the atomics, reads and writes of a script at a CHI home node.";
 
 const MORE: &str =
@@ -133,6 +136,7 @@ fn whole_command<'a>(alloc: Global) -> Result<Command<'a>, Error>
             .bin_name("chihome")?
             .no_binary_name(true)
             .about(ABOUT)
+            .version(VERSION)
             .after_help(MORE)
             .subcommand_required(true)
             .subcommand(task_command(alloc, "run", RUN_ABOUT)?)?

@@ -15,8 +15,9 @@ returns-clause-app c =
     let bare : app_of c.subcommand_required.result ≡ bare_app =
     ap app_of_fields c.subcommand_required.ensures
     ∙ ap (λ (a : App). on_top (λ (s : Shape). record s { subcommand_required = true }) a)
-    (ap app_of_fields c.after_help.ensures ∙ (ap app_of_fields c.about.ensures
-    ∙ (unnamed ∙ ap (λ (a : App). on_top (λ (s : Shape). record s { no_binary_name = true }) a) c.new.ensures.app))) in (
+    (ap app_of_fields c.after_help.ensures ∙ (ap app_of_fields c.version.ensures
+    ∙ ap (λ (a : App). on_top (λ (s : Shape). record s { has_version = true }) a) (ap app_of_fields c.about.ensures
+    ∙ (unnamed ∙ ap (λ (a : App). on_top (λ (s : Shape). record s { no_binary_name = true }) a) c.new.ensures.app)))) in (
       run,
       race,
       c.in_ok-task_command.ensures.app,
