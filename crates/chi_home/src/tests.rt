@@ -1,17 +1,16 @@
 //! The program on the words of its command line.
 
-use crate::command::{Task, options_of};
 use crate::words::run_words;
-use chi_engine::{Options, StoreKind, Workers};
-use chi_requester::Policy;
 use std::alloc::AllocError;
-use std::io::{self, Write};
 use std::process::Abort;
 use std::sync::Wait;
 use std::test::Fail;
 use std::thread::Threads;
 
+mod device_tests;
 mod region_tests;
+mod words_tests;
+mod workers_tests;
 
 // A fetch-add of 1 to the first eight bytes.
 const FETCH_ADD: &str =
@@ -99,34 +98,6 @@ fn assert_words_refused<T: AllocGlobal + Abort + Threads + Wait + Sync>(
     Ok(())
 }
 
-#[test]
-fn words_refused(rt: HostRuntime) -> Result<(), Fail> {
-    assert_words_refused(&rt, &[])?;
-    assert_words_refused(&rt, &["walk"])?;
-    assert_words_refused(&rt, &["run", "--store", "cell"])?;
-    assert_words_refused(&rt, &["run", "--policy", "wait"])?;
-    assert_words_refused(&rt, &["run", "--attempts", "x"])?;
-    assert_words_refused(&rt, &["run", "--attempts", "0"])?;
-    assert_words_refused(&rt, &["run", "--attempts", "17"])?;
-    assert_words_refused(&rt, &["race", "--attempts", "17"])?;
-    assert_words_refused(&rt, &["run", "script.json"])
-}
-
-#[test]
-fn help_is_written(rt: HostRuntime) -> Result<(), Fail> {
-    for words in [
-        ["--help"].as_slice(),
-        ["run", "--help"].as_slice(),
-        ["race", "--help"].as_slice(),
-    ] {
-        let told = run_on(&rt, words, "")?;
-        assert_eq!(rt; told.status, 0);
-        assert!(rt; !told.out.is_empty());
-        assert_eq!(rt; told.errors.len(), 0);
-    }
-    Ok(())
-}
-
 // The program writes this transcript on these words.
 fn assert_transcript<T: AllocGlobal + Abort + Threads + Wait + Sync>(
     rt: &T,
@@ -173,125 +144,21 @@ fn race_of_three_requesters_by_words(rt: HostRuntime) -> Result<(), Fail> {
     Ok(())
 }
 
-#[test]
-fn fault_is_told(rt: HostRuntime) -> Result<(), Fail> {
-    let told = run_on(&rt, &["run"], "[]")?;
+// The script is refused with status 3 and this text, and nothing else is written.
+fn assert_script_refused<T: AllocGlobal + Abort + Threads + Wait + Sync>(
+    rt: &T,
+    words: &[&str],
+    text: &str,
+    want: &str,
+) -> Result<(), Fail> {
+    let told = run_on(rt, words, text)?;
     assert_eq!(rt; told.status, 3);
     assert_eq!(rt; told.out.len(), 0);
-    assert_eq!(rt;
-        told.errors.as_slice(),
-        b"chihome: script is not an object\n".as_slice()
-    );
-    Ok(())
-}
-
-// A writer that takes all and cannot be flushed.
-#[derive(Drop)]
-struct Unflushed {
-    taken: Vec<u8>,
-}
-
-impl Write for Unflushed {
-    fn write(&mut self, buf: &[u8]) -> io::Result<usize> {
-        self.taken.extend_from_slice(buf)?;
-        Ok(buf.len())
-    }
-
-    fn flush(&mut self) -> io::Result<()> {
-        Err(io::Error::from(io::ErrorKind::Other))
-    }
-}
-
-#[test]
-fn flush_that_fails(rt: HostRuntime) -> Result<(), Fail> {
-    for words in [["run"].as_slice(), ["--help"].as_slice()] {
-        let words = words_of(&rt, words)?;
-        let mut to = Unflushed {
-            taken: Vec::new(rt.alloc()),
-        };
-        let mut errors: Vec<u8> = Vec::new(rt.alloc());
-        let status = run_words(
-            &rt,
-            words.as_slice(),
-            &mut FETCH_ADD.as_bytes(),
-            &mut to,
-            &mut errors,
-        );
-        assert_eq!(rt; status, 5);
-        assert!(rt; !to.taken.is_empty());
-        assert_eq!(rt;
-            errors.as_slice(),
-            b"chihome: output could not be written\n".as_slice()
-        );
-    }
-    Ok(())
-}
-
-// A writer that takes nothing.
-#[derive(Drop)]
-struct Unwritable;
-
-impl Write for Unwritable {
-    fn write(&mut self, _buf: &[u8]) -> io::Result<usize> {
-        Err(io::Error::from(io::ErrorKind::Other))
-    }
-
-    fn flush(&mut self) -> io::Result<()> {
-        Ok(())
-    }
-}
-
-#[test]
-fn errors_that_fail_are_ignored(rt: HostRuntime) -> Result<(), Fail> {
-    let words = words_of(&rt, &["run"])?;
-    let mut to: Vec<u8> = Vec::new(rt.alloc());
-    let status = run_words(
-        &rt,
-        words.as_slice(),
-        &mut "{}".as_bytes(),
-        &mut to,
-        &mut Unwritable,
-    );
-    assert_eq!(rt; status, 3);
+    assert_eq!(rt; told.errors.as_slice(), want.as_bytes());
     Ok(())
 }
 
 #[test]
-fn options_of_words(rt: HostRuntime) -> Result<(), Fail> {
-    let words = words_of(
-        &rt,
-        &[
-            "race",
-            "--store",
-            "lock",
-            "--attempts",
-            "16",
-            "--policy",
-            "return",
-        ],
-    )?;
-    let (task, options) = options_of(rt.alloc(), words.as_slice())
-        .ok()
-        .ok_or("refused")?;
-    assert_eq!(rt; task, Task::Race);
-    let lock = Options {
-        store: StoreKind::Lock,
-        attempts: 16,
-        policy: Policy::Return,
-        workers: Workers::Two,
-    };
-    assert_eq!(rt; options, lock);
-    let words = words_of(&rt, &["run"])?;
-    let (task, options) = options_of(rt.alloc(), words.as_slice())
-        .ok()
-        .ok_or("refused")?;
-    assert_eq!(rt; task, Task::Run);
-    let book = Options {
-        store: StoreKind::Book,
-        attempts: 4,
-        policy: Policy::Resend,
-        workers: Workers::Two,
-    };
-    assert_eq!(rt; options, book);
-    Ok(())
+fn fault_is_told(rt: HostRuntime) -> Result<(), Fail> {
+    assert_script_refused(&rt, &["run"], "[]", "chihome: script is not an object\n")
 }

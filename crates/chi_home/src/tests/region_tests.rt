@@ -1,6 +1,6 @@
 //! Regions of more than one line.
 
-use super::run_on;
+use super::{assert_script_refused, run_on};
 use chi_engine::{EngineFault, Options, StoreKind, Workers, engine_race, engine_run};
 use chi_history::{NoGate, OpenFault};
 use chi_requester::Policy;
@@ -70,13 +70,8 @@ fn region_of_512_granules_over_the_lock(rt: HostRuntime) -> Result<(), Fail> {
         let outcome = engine_race(&rt, &mut from, &mut to, &LOCK, gate, gate, gate, gate);
         assert_not_one_line(&rt, outcome, to.as_slice());
         for task in ["run", "race"] {
-            let told = run_on(&rt, &[task, "--store", "lock"], text)?;
-            assert_eq!(rt; told.status, 3);
-            assert_eq!(rt; told.out.len(), 0);
-            assert_eq!(rt;
-                told.errors.as_slice(),
-                b"chihome: region is over one line\n".as_slice()
-            );
+            let words = [task, "--store", "lock"];
+            assert_script_refused(&rt, &words, text, "chihome: region is over one line\n")?;
         }
     }
     Ok(())
