@@ -18,7 +18,7 @@ pub(crate) fn additions(
     each: u16,
     top: u8,
 ) -> Result<Script, Fail>
-    ensures { IfOk result (λ script. AllFrom (below (top + 1)) script.1) }
+    ensures { IfOk result (λ script. AllFrom (below (top + 1)) script.requests) }
 {
     let mut text = String::from_str(rt.alloc(), HEAD)?;
     let mut comma = "";

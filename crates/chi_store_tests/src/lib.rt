@@ -1,4 +1,4 @@
-//! Tests of both stores by their calls: work and races over them, interference in the tries, and refused growths.
+//! Tests of both stores by their calls: work and races over them, and interference in the tries.
 #![tactic(auto)]
 
 #[cfg(test)]
@@ -8,14 +8,6 @@ mod bookstore_tests;
 #[cfg(test)]
 mod four_workers_tests;
 #[cfg(test)]
-mod growth_four_tests;
-#[cfg(test)]
-mod growth_list_tests;
-#[cfg(test)]
-mod growth_race_tests;
-#[cfg(test)]
-mod growth_tests;
-#[cfg(test)]
 mod home_tests;
 #[cfg(test)]
 mod interference_tests;
@@ -23,7 +15,5 @@ mod interference_tests;
 mod lockstore_tests;
 #[cfg(test)]
 mod opening_tests;
-#[cfg(test)]
-mod refusing;
 #[cfg(test)]
 mod work_tests;

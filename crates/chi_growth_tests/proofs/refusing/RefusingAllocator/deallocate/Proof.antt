@@ -34,11 +34,11 @@ use denote.Triple.Statement.{Triple}
 use denote.Triple.Table.{entered}
 use denote.Triple.Walked.{Stays, stay_dropped, walk_of, ends_at, walked, Goes-dropped, walk_Meets}
 use Rattle.std.proofs.alloc.Calls.{Al, α, seen, token, gives_key, Gives, at_gives, Gives-goes, Gives-Gives}
-use Rattle.chi_store_tests.specs.contracts.refusing.Refusing as R
-use Rattle.chi_store_tests.specs.contracts.refusing.RefusingAllocator.deallocate as F
-use Rattle.chi_store_tests.specs.contracts.refusing.RefusingAllocator.deallocate.Key as key
-use Rattle.chi_store_tests.proofs.refusing.RefusingAllocator.deallocate.Statement.{statement}
-use Rattle.chi_store_tests.proofs.refusing.RefusingAllocator.deallocate.Code as code
+use Rattle.chi_growth_tests.specs.contracts.refusing.Refusing as R
+use Rattle.chi_growth_tests.specs.contracts.refusing.RefusingAllocator.deallocate as F
+use Rattle.chi_growth_tests.specs.contracts.refusing.RefusingAllocator.deallocate.Key as key
+use Rattle.chi_growth_tests.proofs.refusing.RefusingAllocator.deallocate.Statement.{statement}
+use Rattle.chi_growth_tests.proofs.refusing.RefusingAllocator.deallocate.Code as code
 
 module _ (Z : Al) where
   abbrev here : Fn

@@ -4,10 +4,9 @@ ghost use Rattle.std.specs.Prelude.{◌≡◌, ◌≤◌};
 ghost use Rattle.chi_history.specs.Held.{below};
 
 use crate::additions::additions;
-use crate::growth_race_tests::{EACH, assert_told};
+use crate::growth_race_tests::{EACH, STORE_ADD, assert_told};
 use crate::growth_tests::in_turn;
 use crate::refusing::Refusing;
-use crate::work_tests::STORE_ADD;
 use chi_bookstore::BookStore;
 use chi_fields::Region;
 use chi_history::{Home, NoGate};

@@ -17,7 +17,7 @@ use std::sync::Wait;
 use std::test::Fail;
 use std::thread::Threads;
 
-const STORE_ADD: u8 = 0x28;
+pub(crate) const STORE_ADD: u8 = 0x28;
 
 // How many requests each requester has.
 pub(crate) const EACH: u8 = 10;

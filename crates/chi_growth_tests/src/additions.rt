@@ -1,0 +1,44 @@
+//! Scripts of additions, whose requesters a contract knows since they were read.
+
+ghost use Rattle.std.specs.Prelude.{◌+◌, IfOk};
+ghost use Rattle.chi_history.specs.Held.{AllFrom, below};
+
+use chi_script::{Script, read_script};
+use std::test::Fail;
+
+const HEAD: &str = "{\"base\":4096,\"granules\":8,\"requests\":[";
+
+// A script of additions of 1 to the first eight bytes: so many by each of these requesters, in turn. Their
+// identifiers rise from 1, and begin again from 0 after 255. The script is read, so that each requester is known to
+// be at most `top`.
+pub(crate) fn additions(
+    rt: &impl AllocGlobal,
+    opcode: u8,
+    requesters: &[u8],
+    each: u16,
+    top: u8,
+) -> Result<Script, Fail>
+    ensures { IfOk result (λ script. AllFrom (below (top + 1)) script.requests) }
+{
+    let mut text = String::from_str(rt.alloc(), HEAD)?;
+    let mut comma = "";
+    for number in 0..each {
+        for src in requesters {
+            text.push_str(comma)?;
+            let numbers = format!(in rt.alloc();
+                "\"src\":{},\"txn\":{},\"op\":{}",
+                *src,
+                (number + 1) % 256,
+                opcode
+            )?;
+            text.push_str("{")?;
+            text.push_str(numbers.as_str())?;
+            text.push_str(
+                ",\"size\":3,\"addr\":4096,\"endian\":0,\"be\":255,\"lanes\":\"01000000000000000000000000000000\"}",
+            )?;
+            comma = ",";
+        }
+    }
+    text.push_str("]}")?;
+    Ok(read_script(rt.alloc(), text.as_bytes(), top)?)
+}

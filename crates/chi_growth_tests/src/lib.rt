@@ -1,0 +1,15 @@
+//! Tests of both stores with each growth of memory refused in turn: in their opening, in work and in races over them.
+#![tactic(auto)]
+
+#[cfg(test)]
+mod additions;
+#[cfg(test)]
+mod growth_four_tests;
+#[cfg(test)]
+mod growth_list_tests;
+#[cfg(test)]
+mod growth_race_tests;
+#[cfg(test)]
+mod growth_tests;
+#[cfg(test)]
+mod refusing;
