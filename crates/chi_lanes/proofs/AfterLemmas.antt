@@ -26,7 +26,7 @@ elsewhere addr len s place aligned other = elim (cases_lt s (granule_start addr)
 ]
 
 -- the sent data is as long as the operand
-length-sent : (o : Operation) → IsLawful o → length (sent o.lanes (lane_of o.addr) o.len) ≡ o.len
+pub length-sent : (o : Operation) → IsLawful o → length (sent o.lanes (lane_of o.addr) o.len) ≡ o.len
 length-sent o is =
     let place = placed o.addr o.len is.part is.aligned in
     length-slice_range o.lanes (lane_of o.addr) o.len (rw is.packet place.packet)
@@ -36,7 +36,7 @@ length-old : (o : Operation) → IsLawful o → (m : Memory) → length (old o m
 length-old o is m = length-bytes_from m o.addr o.len ∙ sym (length-sent o is)
 
 -- the swap value is as long as the operand
-length-swp : (lanes : List ℕ) (l len : ℕ) → length lanes ≡ 16 → IsLen len → l < 16 → length (swp lanes l len) ≡ len
+pub length-swp : (lanes : List ℕ) (l len : ℕ) → length lanes ≡ 16 → IsLen len → l < 16 → length (swp lanes l len) ≡ len
 length-swp lanes l len whole part inside = by_half (l == l - l % (2 * len))
   where
     w : ℕ
@@ -75,7 +75,7 @@ AreBytes-combined op o m is lawful =
     AreBytes-combine op o.endian (old o m) (sent o.lanes l o.len) (AreBytes-bytes_from m is o.addr o.len) (AreBytes-slice_range o.lanes l (l + o.len) lawful.bytes)
 
 -- and as long as the operand
-length-combined : (op : Op) (o : Operation) (m : Memory) → IsLawful o
+pub length-combined : (op : Op) (o : Operation) (m : Memory) → IsLawful o
     → length (combine op o.endian (old o m) (sent o.lanes (lane_of o.addr) o.len)) ≡ o.len
 length-combined op o m lawful =
     length-combine op o.endian (old o m) (sent o.lanes (lane_of o.addr) o.len) (length-old o lawful m) ∙ length-bytes_from m o.addr o.len

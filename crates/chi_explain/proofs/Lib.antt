@@ -1,0 +1,7 @@
+pub mod Agree
+pub mod Idle
+pub mod Lanes
+pub mod Orders
+pub mod Projection
+pub mod Replays
+pub mod Steps

@@ -1,0 +1,13 @@
+-- nothing changes, and no order begins with an operation of the lanes that were gone over
+use Rattle.std.proofs.Common.{◌≡◌, ℕ, ◌<◌}
+use Rattle.chi_explain.specs.Charts.{AllDead, NoneIn}
+use Rattle.chi_explain.proofs.choice.choose.Given as goal
+
+abbrev pub invariant-loop-lane : goal.invariant-loop-lane
+invariant-loop-lane l = l.taken ≡ l.initial.taken
+
+abbrev pub invariant-loop-lane-2 : goal.invariant-loop-lane-2
+invariant-loop-lane-2 l = record {
+  same : l.taken ≡ l.initial.taken;
+  none : AllDead l.ops l.chart l.fn.last l.memo.states.items → (r : ℕ) → r < l.lane → NoneIn l.ops l.chart l.fn.last l.taken l.word r;
+}

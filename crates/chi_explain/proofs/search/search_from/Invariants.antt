@@ -1,0 +1,6 @@
+-- each state of the memo is dead
+use Rattle.chi_explain.specs.Charts.{AllDead}
+use Rattle.chi_explain.proofs.search.search_from.Given as goal
+
+abbrev pub invariant-loop : goal.invariant-loop
+invariant-loop l = AllDead l.ops l.chart l.fn.last l.memo.states.items

@@ -1,0 +1,4 @@
+pub mod Charts
+pub mod Explains
+pub mod Words
+pub mod Verdict

@@ -1,0 +1,199 @@
+//! What comes next at a state of the search.
+
+ghost use Rattle.std.specs.Prelude.{◌≡◌, ℕ, ◌+◌, ◌<◌, ◌⊎◌, List, IsTrue, IsSome, None, Option, IfSome, length, vec_len, slice_index, slice_set, true, false};
+ghost use Rattle.chi_explain.specs.Charts.{AllDead, IsChart, IsDead, NoneIn, Stands, left};
+ghost use Rattle.chi_explain.specs.Explains.{at};
+ghost use Rattle.chi_explain.specs.Words.{Fits, IsIdle, next};
+
+use crate::chart::{Chart, following};
+use crate::memo::{Memo, recalls};
+use crate::observed::Observed;
+use crate::step::{is_idle, step};
+use chi_fields::Region;
+
+/// What can be done at a state: take an operation of a lane, which leaves a word; nothing, since all were taken
+/// and the observed word is left; or nothing, since no order goes on from here.
+#[derive(Clone, Copy)]
+pub(crate) enum Choice {
+    Take { op: usize, lane: usize, word: u64 },
+    Ended,
+    Dead,
+}
+
+// The operation that ends first, of those that come next in their lanes.
+fn first_to_end(ops: &[Observed], chart: &Chart, taken: &[usize]) -> Option<usize>
+    ensures { IfSome result (λ op. left chart.now taken.now op ≡ true) }
+{
+    let mut first = None;
+    for (lane, count) in taken.iter().enumerate() {
+        if let Some(op) = following(chart, lane, *count) {
+            if op < ops.len() {
+                first = match first {
+                    Some(best) => if best < ops.len() && ops[best].end <= ops[op].end {
+                        Some(best)
+                    } else {
+                        Some(op)
+                    },
+                    None => Some(op),
+                };
+            }
+        }
+    }
+    first
+}
+
+// Whether an operation starts after the one that ends first.
+fn is_late(ops: &[Observed], first: Option<usize>, op: usize) -> bool
+    requires { op < length ops.now }
+    ensures { IsTrue result → (other : ℕ) × (first ≡ Some other) × (op ≡ other → ⊥) × ((at ops.now other).end < (at ops.now op).start) }
+{
+    match first {
+        Some(other) => other != op && other < ops.len() && ops[other].end < ops[op].start,
+        None => false,
+    }
+}
+
+// Whether no operation comes next, and the word is the observed one, where one was observed.
+fn is_ended(first: Option<usize>, last: Option<u64>, word: u64) -> bool
+    ensures { result ≡ false → IsSome first ⊎ (IfSome last (λ seen. word ≡ seen) → ⊥) }
+{
+    match (first, last) {
+        (None, Some(seen)) => word == seen,
+        (None, None) => true,
+        (Some(_), _) => false,
+    }
+}
+
+// Whether the memo has the state after one operation more of a lane.
+fn recalls_after(memo: &Memo, taken: &mut [usize], lane: usize, word: u64) -> bool
+    ensures same { taken.new ≡ taken.old }
+    ensures dead { IsTrue result → (trace : List Observed) (chart : Chart) (final : Option ℕ) →
+        AllDead trace chart final memo.now.states.items → IsDead trace chart final (slice_set taken.old lane (slice_index taken.old lane + 1)) word }
+{
+    if lane >= taken.len() || taken[lane] == usize::MAX {
+        return false;
+    }
+    let count = taken[lane];
+    taken[lane] = count + 1;
+    let known = recalls(memo, taken, word);
+    taken[lane] = count;
+    known
+}
+
+// The operation that comes next in a lane, and the word that it leaves, where it is not late and its reply fits.
+fn next_in(
+    region: &Region,
+    ops: &[Observed],
+    chart: &Chart,
+    taken: &[usize],
+    first: Option<usize>,
+    lane: usize,
+    word: u64,
+) -> Option<(usize, u64)>
+    requires chart { (g : ℕ) × IsChart ops.now region.now g chart.now }
+    requires first { IfSome first (λ op. left chart.now taken.now op ≡ true) }
+    requires lane { lane < length taken.now }
+    ensures stands { IfSome result (λ found. Stands chart.now lane (slice_index taken.now lane) found.0) }
+    ensures in_trace { IfSome result (λ found. found.0 < length ops.now) }
+    ensures fits { IfSome result (λ found. Fits (at ops.now found.0) word) }
+    ensures after { IfSome result (λ found. found.1 ≡ next (at ops.now found.0) word) }
+    ensures none { result ≡ None → (final : Option ℕ) → NoneIn ops.now chart.now final taken.now word lane }
+{
+    let op = following(chart, lane, taken[lane])?;
+    if is_late(ops, first, op) {
+        return None;
+    }
+    let after = step(region, &ops[op], word)?;
+    Some((op, after))
+}
+
+// The operation that comes next in a lane, where it can be taken and changes nothing.
+fn idle_in(
+    region: &Region,
+    ops: &[Observed],
+    chart: &Chart,
+    taken: &[usize],
+    first: Option<usize>,
+    lane: usize,
+    word: u64,
+) -> Option<usize>
+    requires chart { (g : ℕ) × IsChart ops.now region.now g chart.now }
+    requires first { IfSome first (λ op. left chart.now taken.now op ≡ true) }
+    requires lane { lane < length taken.now }
+    ensures stands { IfSome result (λ op. Stands chart.now lane (slice_index taken.now lane) op) }
+    ensures idle { IfSome result (λ op. IsIdle (at ops.now op)) }
+{
+    let (op, after) = next_in(region, ops, chart, taken, first, lane, word)?;
+    if is_idle(&ops[op], word, after) {
+        Some(op)
+    } else {
+        None
+    }
+}
+
+// The operation that comes next in a lane, and the word that it leaves, where the state after it is not known to
+// be dead.
+fn open_in(
+    region: &Region,
+    ops: &[Observed],
+    chart: &Chart,
+    memo: &Memo,
+    taken: &mut [usize],
+    first: Option<usize>,
+    lane: usize,
+    word: u64,
+) -> Option<(usize, u64)>
+    requires chart { (g : ℕ) × IsChart ops.now region.now g chart.now }
+    requires first { IfSome first (λ op. left chart.now taken.old op ≡ true) }
+    requires lane { lane < length taken.old }
+    ensures same { taken.new ≡ taken.old }
+    ensures none { result ≡ None → (final : Option ℕ) → AllDead ops.now chart.now final memo.now.states.items →
+        NoneIn ops.now chart.now final taken.old word lane }
+{
+    let (op, after) = next_in(region, ops, chart, taken, first, lane, word)?;
+    if recalls_after(memo, taken, lane, after) {
+        None
+    } else {
+        Some((op, after))
+    }
+}
+
+/// What can be done at a state. An operation that changes nothing is taken at once.
+pub(crate) fn choose(
+    region: &Region,
+    ops: &[Observed],
+    chart: &Chart,
+    memo: &Memo,
+    last: Option<u64>,
+    taken: &mut [usize],
+    word: u64,
+) -> Choice
+    requires chart { (g : ℕ) × IsChart ops.now region.now g chart.now }
+    requires lanes { length taken.old ≡ vec_len chart.now.firsts }
+    ensures same { taken.new ≡ taken.old }
+    ensures dead { result ≡ Choice.Dead → AllDead ops.now chart.now last memo.now.states.items →
+        IsDead ops.now chart.now last taken.old word }
+{
+    let first = first_to_end(ops, chart, taken);
+    if is_ended(first, last, word) {
+        return Choice::Ended;
+    }
+    for lane in 0..taken.len() {
+        if let Some(op) = idle_in(region, ops, chart, taken, first, lane, word) {
+            if recalls_after(memo, taken, lane, word) {
+                return Choice::Dead;
+            }
+            return Choice::Take { op, lane, word };
+        }
+    }
+    for lane in 0..taken.len() {
+        if let Some((op, after)) = open_in(region, ops, chart, memo, taken, first, lane, word) {
+            return Choice::Take {
+                op,
+                lane,
+                word: after,
+            };
+        }
+    }
+    Choice::Dead
+}

@@ -1,0 +1,109 @@
+//! Tests whether an order explains the trace, by one pass for each thing that is asked.
+
+ghost use Rattle.std.specs.Prelude.{◌≡◌, ℕ, ◌<◌, IsTrue, Option, IfOk, IfSome, length, nat_lt, slice_index, option_map};
+ghost use Rattle.chi_lanes.specs.Memory.{word};
+ghost use Rattle.chi_history.specs.History.{IsLegal, end, one_if};
+ghost use Rattle.chi_history.specs.Opened.{opened};
+ghost use Rattle.chi_explain.specs.Explains.{Explains, IsInTime, history, times_in};
+
+use crate::observed::Observed;
+use crate::step::step;
+use chi_fields::Region;
+use std::alloc::{AllocError, Global};
+
+// Whether each operation stands in the order once.
+fn is_once(alloc: Global, ops: &[Observed], order: &[usize]) -> Result<bool, AllocError>
+    ensures { IfOk result (λ is. IsTrue is → (i : ℕ) → times_in order.now i ≡ one_if (nat_lt i (length ops.now))) }
+{
+    let mut seen = vec![in alloc; false; ops.len()]?;
+    for op in order {
+        if *op >= ops.len() || seen[*op] {
+            return Ok(false);
+        }
+        seen[*op] = true;
+    }
+    for known in &seen {
+        if !*known {
+            return Ok(false);
+        }
+    }
+    Ok(true)
+}
+
+// Whether no operation stands before one that ended before it started.
+fn is_in_time(ops: &[Observed], order: &[usize]) -> bool
+    ensures { IsTrue result → IsInTime ops.now order.now }
+{
+    let mut least = u64::MAX;
+    for after in 0..order.len() {
+        let op = order[order.len() - 1 - after];
+        if op >= ops.len() || ops[op].start > least {
+            return false;
+        }
+        least = ops[op].end.min(least);
+    }
+    true
+}
+
+// Whether these words are the observed ones, where some were observed.
+fn ends_with(finals: Option<&[u64]>, words: &[u64]) -> bool
+    ensures { IsTrue result → IfSome (option_map (λ last. last.now) finals.entry) (λ last. last ≡ words.now) }
+{
+    match finals {
+        Some(last) => last == words,
+        None => true,
+    }
+}
+
+// Whether the operations are a legal history from the opening words on that leaves the last words.
+fn is_legal(
+    alloc: Global,
+    region: &Region,
+    opening: &[u64],
+    finals: Option<&[u64]>,
+    ops: &[Observed],
+    order: &[usize],
+) -> Result<bool, AllocError>
+    ensures legal { IfOk result (λ is. IsTrue is → IsLegal (opened region.now 256 opening.now) (history ops.now order.now)) }
+    ensures ending { IfOk result (λ is. IsTrue is → IfSome (option_map (λ words. words.now) finals.entry) (λ words. (g : ℕ) → g < region.now.granules →
+        word (end (opened region.now 256 opening.now) (history ops.now order.now)) region.now g ≡ slice_index words g)) }
+{
+    let granules = usize::from(region.granules());
+    if opening.len() != granules {
+        return Ok(false);
+    }
+    let mut words = Vec::from_slice(alloc, opening)?;
+    for place in order {
+        if *place >= ops.len() {
+            return Ok(false);
+        }
+        let op = ops[*place];
+        if !op.entry.access.fits(region) {
+            return Ok(false);
+        }
+        let granule = op.entry.access.granule(region);
+        match step(region, &op, words[granule]) {
+            Some(after) => words[granule] = after,
+            None => return Ok(false),
+        }
+    }
+    Ok(ends_with(finals, &words))
+}
+
+/// Whether the order explains the trace.
+pub(crate) fn explains(
+    alloc: Global,
+    region: &Region,
+    opening: &[u64],
+    finals: Option<&[u64]>,
+    ops: &[Observed],
+    order: &[usize],
+) -> Result<bool, AllocError>
+    ensures { IfOk result (λ is. IsTrue is →
+        Explains (opened region.now 256 opening.now) (option_map (λ words. words.now) finals.entry) ops.now order.now) }
+{
+    if !is_in_time(ops, order) || !is_once(alloc, ops, order)? {
+        return Ok(false);
+    }
+    is_legal(alloc, region, opening, finals, ops, order)
+}
