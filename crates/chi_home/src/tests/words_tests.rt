@@ -34,6 +34,15 @@ fn help_is_written(rt: HostRuntime) -> Result<(), Fail> {
     Ok(())
 }
 
+#[test]
+fn version_is_written(rt: HostRuntime) -> Result<(), Fail> {
+    let told = run_on(&rt, &["--version"], "")?;
+    assert_eq!(rt; told.status, 0);
+    assert_eq!(rt; told.out.as_slice(), b"chihome 0.1.0\n".as_slice());
+    assert_eq!(rt; told.errors.len(), 0);
+    Ok(())
+}
+
 // The task and the options that these words name.
 pub(super) fn task_of(rt: &impl AllocGlobal, words: &[&str]) -> Result<(Task, Options), Fail> {
     let words = words_of(rt, words)?;
