@@ -8,7 +8,7 @@ use Rattle.chi_history.specs.Opened.{IsRequesterCount}
 abbrev pub IsAttemptCount : ℕ → Type 0
 IsAttemptCount n = (1 ≤ n) × (n ≤ 16)
 
--- which fault these numbers may meet: want of memory comes last, and every region is of one row
+-- which fault these numbers may meet: out of memory comes last, and every region is of one row
 abbrev pub Meets : ℕ → ℕ → OpenFault → Type 0
 Meets requesters attempts RequesterCount = ¬ IsRequesterCount requesters
 Meets requesters attempts AttemptCount = IsRequesterCount requesters × (¬ IsAttemptCount attempts)

@@ -34,7 +34,7 @@ most_racer Four = 4
 abbrev pub IsRaced : Options → ScriptValue → List Entry → (ℕ → List Line) → Type 0
 IsRaced options s since lines = IsRace (opening_of s) options.policy (limit_of options) (racers_of options.workers) [] since (requests_of s.requests) lines
 
--- the same of the first requests of each, some not being worked for want of memory
+-- the same of the first requests of each, some not being worked, since there was no memory
 abbrev pub IsRaceCut : WorkFault → Options → ScriptValue → List Entry → (ℕ → List Line) → Type 0
 IsRaceCut fault options s since lines =
     IsRaceRun (Err fault) (opening_of s) options.policy (limit_of options) (racers_of options.workers) s.requests [] since (λ r. []) lines

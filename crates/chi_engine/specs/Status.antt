@@ -7,7 +7,7 @@ use Rattle.chi_script.specs.declared.fault.ScriptFault.TheVariants as script_fau
 use Rattle.chi_engine.specs.declared.fault.EngineFault.{EngineFault}
 use Rattle.chi_engine.specs.declared.fault.EngineFault.TheVariants.{Read, TooLong, Memory, Script, Open, Work, Write}
 
--- a script that is refused, or that is not read for want of memory
+-- a script that is refused, or for which there is no memory
 abbrev pub script_status : ScriptFault → ℕ
 script_status script_fault.Memory = 4
 script_status _ = 3
@@ -17,7 +17,7 @@ abbrev pub open_status : OpenFault → ℕ
 open_status open_fault.Memory = 4
 open_status _ = 3
 
--- 3 where the script or the opening is refused, 4 for want of memory, 5 where a device failed
+-- 3 where the script or the opening is refused, 4 out of memory, 5 where a device failed
 abbrev pub status_of : EngineFault → ℕ
 status_of Read = 5
 status_of TooLong = 3

@@ -34,8 +34,8 @@ pub enum EngineFault {
     Write(WriteFault),
 }
 
-/// The status that the program ends with on this fault: 3 where the script or the opening is refused, 4 for
-/// want of memory, 5 where a device failed.
+/// The status that the program ends with on this fault: 3 where the script or the opening is refused, 4 out
+/// of memory, 5 where a device failed.
 ///
 /// Source: profile.
 pub fn status_of(fault: &EngineFault) -> u8

@@ -8,7 +8,7 @@ use Rattle.clap.specs.declared.error.kind.ErrorKind.TheVariants as error_kind
 abbrev pub IsStatus : ℕ → Type 0
 IsStatus n = (n ≡ 0) ⊎ ((2 ≤ n) × (n ≤ 5))
 
--- the status where the words name no task: 4 for want of memory, 0 for the help, or 5 where it could not be
+-- the status where the words name no task: 4 out of memory, 0 for the help, or 5 where it could not be
 -- written, and 2 for words that are refused
 abbrev pub IsStatusOfWords : ErrorKind → ℕ → Type 0
 IsStatusOfWords error_kind.OutOfMemory n = n ≡ 4

@@ -23,7 +23,7 @@ fn words_after_name<T: AllocGlobal + Env>(rt: &T) -> io::Result<Vec<String>> {
     Ok(words)
 }
 
-// Tells why the words cannot be had: want of memory, or a word that is not text. The answer is the status.
+// Tells why the words cannot be had: out of memory, or a word that is not text. The answer is the status.
 fn tell_no_words<E: Write>(fault: &io::Error, errors: &mut E) -> u8
     ensures { (result ≡ 4) ⊎ (result ≡ 2) }
 {

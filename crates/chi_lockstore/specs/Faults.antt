@@ -8,7 +8,7 @@ use Rattle.chi_history.specs.Opened.{IsRequesterCount}
 abbrev pub IsWithinLine : ℕ → Type 0
 IsWithinLine granules = granules ≤ 8
 
--- which fault these numbers may meet: want of memory comes last, and no tries are counted
+-- which fault these numbers may meet: out of memory comes last, and no tries are counted
 abbrev pub Meets : ℕ → ℕ → OpenFault → Type 0
 Meets granules requesters RequesterCount = ¬ IsRequesterCount requesters
 Meets granules requesters NotOneLine = IsRequesterCount requesters × (8 < granules)

@@ -1,4 +1,4 @@
--- what is read, and that nothing is read where the error is not want of memory
+-- what is read, and that nothing is read where the error is not out of memory
 use Rattle.std.proofs.Common.{refl}
 use Rattle.chi_script.proofs.ValueLemmas.{value_of_utf8, value_of_none}
 use Rattle.chi_script.proofs.script.json.Goals as goal
