@@ -11,7 +11,8 @@ use std::process::{Command, Stdio};
 #[derive(Clone, Copy)]
 pub enum Task {
     Run,
-    Race,
+    /// By so many workers.
+    Race(u8),
 }
 
 impl Task {
@@ -19,17 +20,17 @@ impl Task {
     pub fn most_src(self) -> u64 {
         match self {
             Task::Run => 7,
-            Task::Race => 2,
+            Task::Race(workers) => u64::from(workers),
         }
     }
 }
 
 impl fmt::Display for Task {
     fn fmt(&self, f: &mut fmt::Formatter<'_>) -> fmt::Result {
-        f.write_str(match self {
-            Task::Run => "run",
-            Task::Race => "race",
-        })
+        match self {
+            Task::Run => write!(f, "run"),
+            Task::Race(workers) => write!(f, "race --workers {workers}"),
+        }
     }
 }
 
@@ -97,21 +98,22 @@ fn request_of(line: &str) -> String {
 }
 
 /// The requests that a race tells of, in the order of its lists.
-fn raced_requests(script: &Script) -> Vec<String> {
+fn raced_requests(script: &Script, workers: u8) -> Vec<String> {
     let text = String::from_utf8_lossy(&transcript(script)).into_owned();
     let lines: Vec<&str> = text
         .lines()
         .filter(|line| !line.starts_with("m "))
         .collect();
-    ["1 ", "2 ", "0 "]
-        .into_iter()
-        .flat_map(|src| lines.iter().filter(move |line| line.starts_with(src)))
+    (1..=workers)
+        .chain([0])
+        .map(|src| format!("{src} "))
+        .flat_map(|src| lines.iter().filter(move |line| line.starts_with(&src)))
         .map(|line| request_of(line))
         .collect()
 }
 
 /// Whether a race's transcript tells of each request once, but for a `retry` before its completion.
-fn check_race(script: &Script, out: &[u8]) -> Result<(), String> {
+fn check_race(script: &Script, workers: u8, out: &[u8]) -> Result<(), String> {
     let text = String::from_utf8_lossy(out);
     let (memory, lines): (Vec<&str>, Vec<&str>) =
         text.lines().partition(|line| line.starts_with("m "));
@@ -125,7 +127,7 @@ fn check_race(script: &Script, out: &[u8]) -> Result<(), String> {
         }
         retried = line.ends_with(" retry");
     }
-    if told != raced_requests(script) {
+    if told != raced_requests(script, workers) {
         return Err("the race tells of other requests".to_string());
     }
     if memory.len() != usize::from(script.region.granules) {
@@ -167,6 +169,8 @@ pub fn check(task: Task, store: Store, text: &[u8], answer: &Answer) -> Result<S
     match task {
         Task::Run if answer.out != transcript(&script) => Err("another transcript".to_string()),
         Task::Run => Ok("run: a transcript".to_string()),
-        Task::Race => check_race(&script, &answer.out).map(|()| "race: a transcript".to_string()),
+        Task::Race(workers) => {
+            check_race(&script, workers, &answer.out).map(|()| format!("{task}: a transcript"))
+        }
     }
 }

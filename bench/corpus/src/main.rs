@@ -52,7 +52,7 @@ fn main() -> ExitCode {
     let mut random = Random::new(seed);
     let mut counts: BTreeMap<String, u64> = BTreeMap::new();
     for number in 0..scripts {
-        let task = [Task::Run, Task::Race][random.below(2) as usize];
+        let task = [Task::Run, Task::Race(2), Task::Race(4)][random.below(3) as usize];
         let mut text = script_text(&mut random, task);
         if random.below(2) == 1 {
             text = broken(&mut random, text);

@@ -35,8 +35,8 @@ pub fn script_text(random: &mut Random, task: Task) -> Vec<u8> {
         } else {
             accepted(random, &place)
         };
-        write_request(&mut text, random, &request, task.most_src() + 1)
-            .expect("a vector takes each write");
+        let src = random.below(task.most_src() + 1);
+        write_request(&mut text, random, &request, src).expect("a vector takes each write");
     }
     text.extend_from_slice(b"]}");
     text

@@ -4,6 +4,7 @@ pub mod access;
 pub mod engine;
 pub mod fault;
 pub mod operation;
+pub mod race;
 pub mod region;
 pub mod request;
 pub mod row;

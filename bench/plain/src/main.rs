@@ -1,13 +1,42 @@
 //! plain: the work of chihome in plain Rust, to be timed beside it.
+//!
+//!     plain [run]
+//!     plain race [--workers 2|4]
 
 use plain::engine::work;
 use plain::fault::Fault;
+use plain::race::race;
 use plain::script::read_script;
+use std::env;
 use std::io::{self, BufWriter, Read, Write};
 use std::process::ExitCode;
 
 const MOST_BYTES: usize = 4_194_304;
-const MOST_SRC: u64 = 7;
+
+/// What is done with a script: its requests are worked one after another, or raced by so many workers.
+enum Task {
+    Run,
+    Race(u8),
+}
+
+impl Task {
+    fn of(words: &[&str]) -> Option<Task> {
+        match words {
+            [] | ["run"] => Some(Task::Run),
+            ["race"] | ["race", "--workers", "2"] => Some(Task::Race(2)),
+            ["race", "--workers", "4"] => Some(Task::Race(4)),
+            _ => None,
+        }
+    }
+
+    /// The greatest number of a requester.
+    fn most_src(&self) -> u64 {
+        match self {
+            Task::Run => 7,
+            Task::Race(workers) => u64::from(*workers),
+        }
+    }
+}
 
 fn read_input() -> Result<Vec<u8>, Fault> {
     let mut text = Vec::new();
@@ -22,15 +51,25 @@ fn read_input() -> Result<Vec<u8>, Fault> {
     Ok(text)
 }
 
-fn run() -> Result<(), Fault> {
-    let script = read_script(&read_input()?, MOST_SRC)?;
+fn execute(task: &Task) -> Result<(), Fault> {
+    let script = read_script(&read_input()?, task.most_src())?;
     let mut to = BufWriter::new(io::stdout().lock());
-    work(&script, &mut to).map_err(|_| Fault::Write)?;
-    to.flush().map_err(|_| Fault::Write)
+    match task {
+        Task::Run => work(&script, &mut to),
+        Task::Race(workers) => race(&script, *workers, &mut to),
+    }
+    .and_then(|()| to.flush())
+    .map_err(|_| Fault::Write)
 }
 
 fn main() -> ExitCode {
-    match run() {
+    let words: Vec<String> = env::args().skip(1).collect();
+    let words: Vec<&str> = words.iter().map(String::as_str).collect();
+    let Some(task) = Task::of(&words) else {
+        eprintln!("usage: plain [run] or plain race [--workers 2|4]");
+        return ExitCode::from(2);
+    };
+    match execute(&task) {
         Ok(()) => ExitCode::SUCCESS,
         Err(fault) => {
             eprintln!("chihome: {fault}");

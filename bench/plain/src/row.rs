@@ -29,6 +29,12 @@ impl Row {
         }
     }
 
+    /// The words of all granules.
+    pub fn words(&self) -> Vec<u64> {
+        let words = self.words.iter();
+        words.map(|word| word.load(Ordering::SeqCst)).collect()
+    }
+
     /// Serves a request by at most so many tries, each a load and one exchange.
     #[inline]
     pub fn attempt(&self, src: u8, access: &Access) -> Served {

@@ -6,12 +6,8 @@ use crate::region::Region;
 use crate::request::{Request, opcode_name};
 use std::io::{self, Write};
 
-/// Writes the line of a request.
-pub fn write_line(
-    to: &mut impl Write,
-    request: &Request,
-    outcome: &Result<Reply, Refusal>,
-) -> io::Result<()> {
+/// Writes a request's own fields.
+fn write_request(to: &mut impl Write, request: &Request) -> io::Result<()> {
     write!(
         to,
         "{} {} {:02x} {} {} {:016x} ",
@@ -21,7 +17,22 @@ pub fn write_line(
         opcode_name(request.opcode),
         request.size,
         request.addr
-    )?;
+    )
+}
+
+/// Writes the line of a request that was answered by RetryAck.
+pub fn write_retry(to: &mut impl Write, request: &Request) -> io::Result<()> {
+    write_request(to, request)?;
+    writeln!(to, "retry")
+}
+
+/// Writes the line of a request that was completed or refused.
+pub fn write_line(
+    to: &mut impl Write,
+    request: &Request,
+    outcome: &Result<Reply, Refusal>,
+) -> io::Result<()> {
+    write_request(to, request)?;
     match outcome {
         Ok(Reply::Comp) => writeln!(to, "comp"),
         Ok(Reply::CompData(lanes)) => writeln!(to, "data {:032x}", u128::from_be_bytes(*lanes)),

@@ -5,10 +5,21 @@ use std::io::{self, Write};
 
 const COMPARE: u64 = 0x39;
 
-/// Where requests go: the region's base and its granules.
+/// Where requests go: a base and granules from there on.
+#[derive(Clone, Copy)]
 pub struct Place {
     pub base: u64,
     pub granules: u64,
+}
+
+impl Place {
+    /// The granule of this number, by itself.
+    pub fn granule(&self, number: u64) -> Place {
+        Place {
+            base: self.base + 8 * number,
+            granules: 1,
+        }
+    }
 }
 
 /// The opcodes of all operations.
@@ -86,18 +97,17 @@ pub fn refused(random: &mut Random, place: &Place) -> Request {
     }
 }
 
-/// Writes a request of one of the requesters, with a packet by chance.
+/// Writes a request of this requester, with a packet by chance.
 pub fn write_request(
     to: &mut impl Write,
     random: &mut Random,
     request: &Request,
-    requesters: u64,
+    src: u64,
 ) -> io::Result<()> {
     let lanes = u128::from(random.next()) << 64 | u128::from(random.next());
     write!(
         to,
-        r#"{{"src": {}, "txn": {}, "op": {}, "size": {}, "addr": {}, "endian": {}, "be": {}, "lanes": "{lanes:032x}"}}"#,
-        random.below(requesters),
+        r#"{{"src": {src}, "txn": {}, "op": {}, "size": {}, "addr": {}, "endian": {}, "be": {}, "lanes": "{lanes:032x}"}}"#,
         random.below(256),
         request.op,
         request.size,
