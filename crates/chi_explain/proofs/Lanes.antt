@@ -1,40 +1,48 @@
 -- what comes first in an order stands next in its lane
-use Rattle.std.proofs.Common.{◌≡◌, ℕ, ◌+◌, ◌-◌, ◌^◌, ◌<◌, ◌≤◌, ◌==◌, nat_lt, Bool, true, false, List, [], ◌∷◌, Option, IfSome, length, set, slice_index, replicate, refl, sym, ap, subst, ◌∙◌, arith, eq-eqb, ne_eqb, ltb-true, lt-ltb, le-ltb, inl, inr, ◌⊎◌, get_or-set_same, get_or-set_other}
-use Rattle.std.proofs.lemmas.Bool.{and_parts, cases_lt, cases_eq}
+use Rattle.std.proofs.Common.{◌≡◌, ℕ, ◌+◌, ◌-◌, ◌^◌, ◌<◌, ◌≤◌, ◌==◌, nat_lt, ◌&&◌, Bool, true, false, List, [], ◌∷◌, Option, Some, None, IfSome, length, set, slice_index, replicate, refl, sym, ap, subst, ◌∙◌, arith, eq-eqb, ne_eqb, ltb-true, leb-true, le-leb, lt-ltb, le-ltb, inl, inr, ◌⊎◌, get_or-set_same, get_or-set_other}
+use Rattle.std.proofs.lemmas.Bool.{and_from, and_parts, cases_lt, cases_eq}
 use Rattle.chi_fields.specs.Extent.{Extent}
 use Rattle.chi_history.specs.History.{one_if}
 use Rattle.chi_explain.specs.declared.chart.Chart.{Chart}
 use Rattle.chi_explain.specs.declared.observed.Observed.{Observed}
 use Rattle.chi_explain.specs.Charts.{IsChart, IsDead, IsPlaced, NoneIn, Stands, is_here, lane, left, place}
-use Rattle.chi_explain.specs.Explains.{at, times_in}
+use Rattle.chi_explain.specs.Explains.{at, has_ended, has_started, times_in}
 use Rattle.chi_explain.specs.Words.{Finishes, Fits, IsIdle, Play, last_word, next}
 use Rattle.chi_history.proofs.WordLemmas.{zeros_are}
 use Rattle.chi_explain.proofs.Orders.{Takes, first_left, idle_first, not_first, peel, without}
 
--- each operation with a place stands at it
-abbrev pub ArePlaced : List Observed → Chart → Type 0
-ArePlaced ts c = (i : ℕ) → 0 < place c i → IsPlaced ts c i
+-- each operation with a place stands at it, and had started
+abbrev pub ArePlaced : List Observed → Option ℕ → Chart → Type 0
+ArePlaced ts u c = (i : ℕ) → 0 < place c i → IsPlaced ts c i × (has_started u (at ts i) ≡ true)
+
+pub are_placed : (ts : List Observed) (u : Option ℕ) (region : Extent) (g : ℕ) (c : Chart) → IsChart ts u region g c → ArePlaced ts u c
+are_placed ts u region g c is i some = (is.placed i some, (and_parts _ _ (and_parts _ _ (sym (is.here i) ∙ lt-ltb 0 (place c i) some)).0).1)
+
+-- what ended before an operation started that had, had ended
+pub ended_before : (u : Option ℕ) (a b : Observed) → has_started u a ≡ true → b.end < a.start → has_ended u b ≡ true
+ended_before None a b started before = refl
+ended_before (Some time) a b started before = let early : a.start ≤ time = leb-true a.start time started in le-leb b.end time (omega arith)
 
 left_is : (c : Chart) (ps : List ℕ) (i : ℕ) → left c ps i ≡ true → slice_index ps (lane c i) < place c i
 left_is c ps i is = ltb-true (slice_index ps (lane c i)) (place c i) is
 
 -- an operation that stands in a lane is one of the trace
-pub in_trace : (ts : List Observed) (region : Extent) (g : ℕ) (c : Chart) (r k i : ℕ) → IsChart ts region g c → Stands c r k i → i < length ts
-in_trace ts region g c r k i is stands =
+pub in_trace : (ts : List Observed) (u : Option ℕ) (region : Extent) (g : ℕ) (c : Chart) (r k i : ℕ) → IsChart ts u region g c → Stands c r k i → i < length ts
+in_trace ts u region g c r k i is stands =
     let some : nat_lt 0 (place c i) ≡ true = lt-ltb 0 (place c i) (omega (arith, stands.place_is)) in
-    ltb-true i (length ts) (and_parts _ _ (sym (is.here i) ∙ some)).0
+    ltb-true i (length ts) (and_parts _ _ (and_parts _ _ (sym (is.here i) ∙ some)).0).0
 
 -- no two operations stand at one place
 pub one_stands : (c : Chart) (r k i j : ℕ) → Stands c r k i → Stands c r k j → i ≡ j
 one_stands c r k i j first second = sym first.row_is ∙ second.row_is
 
 -- what comes first stands next in its lane
-pub first_is_next : (ts : List Observed) (c : Chart) (f : Option ℕ) (ps : List ℕ) (w e : ℕ) (y : List ℕ) → ArePlaced ts c
-    → Finishes ts (left c ps) w f (e ∷ y) → Stands c (lane c e) (slice_index ps (lane c e)) e
-first_is_next ts c f ps w e y placed whole =
-    let above : slice_index ps (lane c e) < place c e = left_is c ps e (first_left ts (left c ps) w f e y whole) in
+pub first_is_next : (ts : List Observed) (u : Option ℕ) (c : Chart) (f : Option ℕ) (ps : List ℕ) (w e : ℕ) (y : List ℕ) → ArePlaced ts u c
+    → Finishes ts u (left c ps) w f (e ∷ y) → Stands c (lane c e) (slice_index ps (lane c e)) e
+first_is_next ts u c f ps w e y placed whole =
+    let above : slice_index ps (lane c e) < place c e = left_is c ps e (first_left ts u (left c ps) w f e y whole) in
     let some : 0 < place c e = omega arith in
-    let here : IsPlaced ts c e = placed e some in
+    let here : IsPlaced ts c e = (placed e some).0 in
     elim here.follows [
       | inl one ↦ subst (λ k. Stands c (lane c e) k e) (omega arith) here.stands
       | inr follows ↦ elim (cases_lt (slice_index ps (lane c e)) (place c e - 1)) [
@@ -44,15 +52,15 @@ first_is_next ts c f ps w e y placed whole =
             let two : 2 ≤ place c e = follows.3 in
             let taken : slice_index ps (lane c follows.0) ≡ slice_index ps (lane c e) = ap (slice_index ps) lane_is in
             let is_left : left c ps follows.0 ≡ true = lt-ltb (slice_index ps (lane c follows.0)) (place c follows.0) (omega arith) in
-            absurd (not_first ts (left c ps) w f e follows.0 y is_left (λ same. let places : place c e ≡ place c follows.0 = ap (place c) same in omega arith) follows.2 whole)
+            absurd (not_first ts u (left c ps) w f e follows.0 y is_left (ended_before u (at ts e) (at ts follows.0) (placed e some).1 follows.2) (λ same. let places : place c e ≡ place c follows.0 = ap (place c) same in omega arith) follows.2 whole)
         | inr past ↦ subst (λ k. Stands c (lane c e) k e) (omega arith) here.stands
       ]
     ]
 
 -- what is left once the next operation of a lane is taken
-pub takes_next : (ts : List Observed) (c : Chart) (ps : List ℕ) (r e : ℕ) → ArePlaced ts c → r < length ps → Stands c r (slice_index ps r) e
+pub takes_next : (ts : List Observed) (u : Option ℕ) (c : Chart) (ps : List ℕ) (r e : ℕ) → ArePlaced ts u c → r < length ps → Stands c r (slice_index ps r) e
     → Takes (left c ps) e (left c (set ps r (slice_index ps r + 1)))
-takes_next ts c ps r e placed within stands i = elim (cases_eq (lane c i) r) [
+takes_next ts u c ps r e placed within stands i = elim (cases_eq (lane c i) r) [
   | inl same ↦
       let taken : slice_index ps (lane c i) ≡ slice_index ps r = ap (slice_index ps) same in
       let more : slice_index (set ps r (slice_index ps r + 1)) (lane c i) ≡ slice_index ps r + 1 =
@@ -74,7 +82,7 @@ takes_next ts c ps r e placed within stands i = elim (cases_eq (lane c i) r) [
   where
     stands_there : lane c i ≡ r → place c i ≡ slice_index ps r + 1 → Stands c r (slice_index ps r) i
     stands_there same place_of =
-        let here : IsPlaced ts c i = placed i (omega arith) in
+        let here : IsPlaced ts c i = (placed i (omega arith)).0 in
         let before : place c i - 1 ≡ slice_index ps r = omega arith in
         subst (λ k. Stands c r k i) before (subst (λ q. Stands c q (place c i - 1) i) same here.stands)
 
@@ -94,67 +102,70 @@ takes_next ts c ps r e placed within stands i = elim (cases_eq (lane c i) r) [
 
 -- no order begins with an operation of a lane
 --   of which nothing is left,
-pub none_if_none : (ts : List Observed) (c : Chart) (f : Option ℕ) (ps : List ℕ) (w r : ℕ) → ArePlaced ts c
-    → ((i : ℕ) → Stands c r (slice_index ps r) i → ⊥) → NoneIn ts c f ps w r
-none_if_none ts c f ps w r placed none e y in_lane whole =
-    none e (subst (λ q. Stands c q (slice_index ps q) e) in_lane (first_is_next ts c f ps w e y placed whole))
+pub none_if_none : (ts : List Observed) (u : Option ℕ) (c : Chart) (f : Option ℕ) (ps : List ℕ) (w r : ℕ) → ArePlaced ts u c
+    → ((i : ℕ) → Stands c r (slice_index ps r) i → ⊥) → NoneIn ts u c f ps w r
+none_if_none ts u c f ps w r placed none e y in_lane whole =
+    none e (subst (λ q. Stands c q (slice_index ps q) e) in_lane (first_is_next ts u c f ps w e y placed whole))
 
 -- what comes first in a lane is its next operation
-first_is : (ts : List Observed) (c : Chart) (f : Option ℕ) (ps : List ℕ) (w r i e : ℕ) (y : List ℕ) → ArePlaced ts c → Stands c r (slice_index ps r) i → lane c e ≡ r
-    → Finishes ts (left c ps) w f (e ∷ y) → e ≡ i
-first_is ts c f ps w r i e y placed stands in_lane whole =
-    one_stands c r (slice_index ps r) e i (subst (λ q. Stands c q (slice_index ps q) e) in_lane (first_is_next ts c f ps w e y placed whole)) stands
+first_is : (ts : List Observed) (u : Option ℕ) (c : Chart) (f : Option ℕ) (ps : List ℕ) (w r i e : ℕ) (y : List ℕ) → ArePlaced ts u c → Stands c r (slice_index ps r) i → lane c e ≡ r
+    → Finishes ts u (left c ps) w f (e ∷ y) → e ≡ i
+first_is ts u c f ps w r i e y placed stands in_lane whole =
+    one_stands c r (slice_index ps r) e i (subst (λ q. Stands c q (slice_index ps q) e) in_lane (first_is_next ts u c f ps w e y placed whole)) stands
 
 --   whose next operation started after one ended that is left,
-pub none_if_late : (ts : List Observed) (c : Chart) (f : Option ℕ) (ps : List ℕ) (w r i j : ℕ) → ArePlaced ts c → Stands c r (slice_index ps r) i
-    → left c ps j ≡ true → (i ≡ j → ⊥) → (at ts j).end < (at ts i).start → NoneIn ts c f ps w r
-none_if_late ts c f ps w r i j placed stands is_left other before e y in_lane whole =
-    let it : e ≡ i = first_is ts c f ps w r i e y placed stands in_lane whole in
-    not_first ts (left c ps) w f i j y is_left other before (subst (λ k. Finishes ts (left c ps) w f (k ∷ y)) it whole)
+pub none_if_late : (ts : List Observed) (u : Option ℕ) (c : Chart) (f : Option ℕ) (ps : List ℕ) (w r i j : ℕ) → ArePlaced ts u c → Stands c r (slice_index ps r) i
+    → left c ps j ≡ true → (i ≡ j → ⊥) → (at ts j).end < (at ts i).start → NoneIn ts u c f ps w r
+none_if_late ts u c f ps w r i j placed stands is_left other before e y in_lane whole =
+    let it : e ≡ i = first_is ts u c f ps w r i e y placed stands in_lane whole in
+    not_first ts u (left c ps) w f i j y is_left
+    (ended_before u (at ts i) (at ts j) (placed i (omega (arith, stands.place_is))).1 before) other before (subst (λ k. Finishes ts u (left c ps) w f (k ∷ y)) it whole)
 
 --   whose next operation does not fit the word,
-pub none_if_unfit : (ts : List Observed) (c : Chart) (f : Option ℕ) (ps : List ℕ) (w r i : ℕ) → ArePlaced ts c → Stands c r (slice_index ps r) i
-    → (Fits (at ts i) w → ⊥) → NoneIn ts c f ps w r
+pub none_if_unfit : (ts : List Observed) (u : Option ℕ) (c : Chart) (f : Option ℕ) (ps : List ℕ) (w r i : ℕ) → ArePlaced ts u c → Stands c r (slice_index ps r) i
+    → (Fits (at ts i) w → ⊥) → NoneIn ts u c f ps w r
 unfolding Play
-none_if_unfit ts c f ps w r i placed stands unfit e y in_lane whole =
-    let it : e ≡ i = first_is ts c f ps w r i e y placed stands in_lane whole in
+none_if_unfit ts u c f ps w r i placed stands unfit e y in_lane whole =
+    let it : e ≡ i = first_is ts u c f ps w r i e y placed stands in_lane whole in
     unfit (subst (λ k. Fits (at ts k) w) it whole.plays.0)
 
 --   or after whose next operation the state is dead
-pub none_if_dead : (ts : List Observed) (c : Chart) (f : Option ℕ) (ps : List ℕ) (w r i v : ℕ) → ArePlaced ts c → r < length ps → Stands c r (slice_index ps r) i
-    → v ≡ next (at ts i) w → IsDead ts c f (set ps r (slice_index ps r + 1)) v → NoneIn ts c f ps w r
-none_if_dead ts c f ps w r i v placed within stands after dead e y in_lane whole =
-    let it : e ≡ i = first_is ts c f ps w r i e y placed stands in_lane whole in
-    let begun : Finishes ts (left c ps) w f (i ∷ y) = subst (λ k. Finishes ts (left c ps) w f (k ∷ y)) it whole in
-    let rest = peel ts (left c ps) (left c (set ps r (slice_index ps r + 1))) w f i y (takes_next ts c ps r i placed within stands) begun in
-    dead y (subst (λ u. Finishes ts (left c (set ps r (slice_index ps r + 1))) u f y) (sym after) rest.1)
+pub none_if_dead : (ts : List Observed) (u : Option ℕ) (c : Chart) (f : Option ℕ) (ps : List ℕ) (w r i v : ℕ) → ArePlaced ts u c → r < length ps → Stands c r (slice_index ps r) i
+    → v ≡ next (at ts i) w → IsDead ts u c f (set ps r (slice_index ps r + 1)) v → NoneIn ts u c f ps w r
+none_if_dead ts u c f ps w r i v placed within stands after dead e y in_lane whole =
+    let it : e ≡ i = first_is ts u c f ps w r i e y placed stands in_lane whole in
+    let begun : Finishes ts u (left c ps) w f (i ∷ y) = subst (λ k. Finishes ts u (left c ps) w f (k ∷ y)) it whole in
+    let rest = peel ts u (left c ps) (left c (set ps r (slice_index ps r + 1))) w f i y (takes_next ts u c ps r i placed within stands) begun in
+    dead y (subst (λ (z : ℕ). Finishes ts u (left c (set ps r (slice_index ps r + 1))) z f y) (sym after) rest.1)
 
 -- a state is dead where no order begins with an operation of any lane, and it is not the end
-pub none_at_all : (ts : List Observed) (c : Chart) (f : Option ℕ) (ps : List ℕ) (w : ℕ) → ArePlaced ts c → length ps ≡ length c.firsts.items
-    → ((r : ℕ) → r < length ps → NoneIn ts c f ps w r) → ((j : ℕ) × (left c ps j ≡ true)) ⊎ (IfSome f (λ v. w ≡ v) → ⊥) → IsDead ts c f ps w
+pub none_at_all : (ts : List Observed) (u : Option ℕ) (c : Chart) (f : Option ℕ) (ps : List ℕ) (w : ℕ) → ArePlaced ts u c → length ps ≡ length c.firsts.items
+    → ((r : ℕ) → r < length ps → NoneIn ts u c f ps w r) → ((j : ℕ) × (left c ps j ≡ true) × (has_ended u (at ts j) ≡ true)) ⊎ (IfSome f (λ v. w ≡ v) → ⊥) → IsDead ts u c f ps w
 unfolding times_in last_word
-none_at_all ts c f ps w placed lanes none more [] whole = elim more [
-  | inl some ↦ let count : 0 ≡ one_if (left c ps some.0) = whole.once some.0 in omega (arith, ap one_if some.1)
+none_at_all ts u c f ps w placed lanes none more [] whole = elim more [
+  | inl some ↦ let count : one_if (left c ps some.0 && has_ended u (at ts some.0)) ≤ 0 = whole.least some.0 in
+      absurd (omega (arith, ap one_if (and_from (left c ps some.0) (has_ended u (at ts some.0)) some.1 some.2)))
   | inr other ↦ other whole.ending
 ]
-none_at_all ts c f ps w placed lanes none more (e ∷ y) whole =
-    let stands = first_is_next ts c f ps w e y placed whole in
+none_at_all ts u c f ps w placed lanes none more (e ∷ y) whole =
+    let stands = first_is_next ts u c f ps w e y placed whole in
     none (lane c e) (omega (arith, lanes, stands.lane_in)) e y refl whole
 
 -- a state is dead where the state after an operation that changes nothing is dead
-pub idle_dead : (ts : List Observed) (c : Chart) (f : Option ℕ) (ps : List ℕ) (w r i : ℕ) → ArePlaced ts c → r < length ps → w < 2 ^ 64 → Stands c r (slice_index ps r) i
-    → IsIdle (at ts i) → IsDead ts c f (set ps r (slice_index ps r + 1)) w → IsDead ts c f ps w
-idle_dead ts c f ps w r i placed within below stands idle dead x whole =
-    dead (without i x) (idle_first ts (left c ps) (left c (set ps r (slice_index ps r + 1))) w f i x (takes_next ts c ps r i placed within stands) idle below whole)
+pub idle_dead : (ts : List Observed) (u : Option ℕ) (c : Chart) (f : Option ℕ) (ps : List ℕ) (w r i : ℕ) → ArePlaced ts u c → r < length ps → w < 2 ^ 64 → Stands c r (slice_index ps r) i
+    → IsIdle (at ts i) → IsDead ts u c f (set ps r (slice_index ps r + 1)) w → IsDead ts u c f ps w
+idle_dead ts u c f ps w r i placed within below stands idle dead x whole =
+    dead (without i x) (idle_first ts u (left c ps) (left c (set ps r (slice_index ps r + 1))) w f i x (takes_next ts u c ps r i placed within stands) idle below whole)
 
 -- at the opening the granule's operations are left
 pub of_trace : (c : Chart) (n i : ℕ) → left c (replicate n 0) i ≡ nat_lt 0 (place c i)
 of_trace c n i = ap (λ k. nat_lt k (place c i)) (zeros_are n (lane c i))
 
-pub begins : (ts : List Observed) (region : Extent) (g : ℕ) (c : Chart) (w : ℕ) (f : Option ℕ) (n : ℕ) (x : List ℕ) → IsChart ts region g c
-    → Finishes ts (is_here ts region g) w f x → Finishes ts (left c (replicate n 0)) w f x
-begins ts region g c w f n x is whole = record {
-  once = λ i. whole.once i ∙ ap one_if (sym (of_trace c n i ∙ is.here i));
+pub begins : (ts : List Observed) (u : Option ℕ) (region : Extent) (g : ℕ) (c : Chart) (w : ℕ) (f : Option ℕ) (n : ℕ) (x : List ℕ) → IsChart ts u region g c
+    → Finishes ts u (is_here ts u region g) w f x → Finishes ts u (left c (replicate n 0)) w f x
+begins ts u region g c w f n x is whole = record {
+  least = λ i. subst (λ (l : Bool). one_if (l && has_ended u (at ts i)) ≤ times_in x i) (sym (of_trace c n i ∙ is.here i)) (whole.least i);
+  most = λ i. subst (λ (l : Bool). times_in x i ≤ one_if l) (sym (of_trace c n i ∙ is.here i)) (whole.most i);
   times = whole.times;
   plays = whole.plays;
   ending = whole.ending;

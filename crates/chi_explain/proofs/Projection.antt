@@ -1,5 +1,5 @@
 -- the operations of one granule, among those of a legal history
-use Rattle.std.proofs.Common.{◌≡◌, ◌≢◌, ℕ, ◌^◌, ◌<◌, ◌==◌, ◌&&◌, nat_lt, Bool, true, false, cond, List, [], ◌∷◌, filter, Option, Some, None, option_map, IfSome, slice_index, refl, sym, ap, subst, ◌∙◌, eqb-true, true≢false}
+use Rattle.std.proofs.Common.{◌≡◌, ◌≢◌, ℕ, ◌^◌, ◌<◌, ◌≤◌, ◌==◌, ◌&&◌, nat_lt, Bool, true, false, cond, List, [], ◌∷◌, filter, Option, Some, None, option_map, IfSome, length, slice_index, refl, sym, ap, subst, ◌∙◌, arith, eqb-true, true≢false}
 use Rattle.std.proofs.lemmas.Bool.{eqb-false}
 use Rattle.chi_fields.specs.Extent.{Extent, IsRegion, granule_of, lies_in}
 use Rattle.chi_lanes.specs.After.{after}
@@ -11,7 +11,7 @@ use Rattle.chi_history.specs.Opened.{opened}
 use Rattle.chi_history.proofs.WordLemmas.{IsMemory-opening_memory, word-opening_memory}
 use Rattle.chi_explain.specs.declared.observed.Observed.{Observed}
 use Rattle.chi_explain.specs.Charts.{is_here, is_of}
-use Rattle.chi_explain.specs.Explains.{Explains, at, history, times_in}
+use Rattle.chi_explain.specs.Explains.{ExplainsUntil, at, has_ended, has_started, history, times_in}
 use Rattle.chi_explain.specs.Words.{Finishes, Fits, Play, last_word, next}
 use Rattle.chi_explain.proofs.Orders.{IsInTime-filter, times_in-filter}
 use Rattle.chi_explain.proofs.Steps.{fits_at, next-below, next_at, word_is}
@@ -63,26 +63,35 @@ project o ts g (i ∷ x) m is is_m legal =
         )
     by_test false outside d here h = absurd (true≢false (sym legal.0.inside ∙ outside))
 
--- an order that explains the trace finishes each of its granules
-pub part_finishes : (region : Extent) (image : List ℕ) (final : Option (List ℕ)) (ts : List Observed) (g : ℕ) (x : List ℕ) → IsRegion region → g < region.granules → slice_index image g < 2 ^ 64
-    → Explains (opened region 256 image) final ts x
-    → Finishes ts (is_here ts region g) (slice_index image g) (option_map (λ words. slice_index words g) final) (filter (is_of ts region g) x)
-part_finishes region image final ts g x is under fits e =
+-- an order that explains the trace up to a time finishes each of its granules
+pub part_finishes : (region : Extent) (image : List ℕ) (final : Option (List ℕ)) (u : Option ℕ) (ts : List Observed) (g : ℕ) (x : List ℕ) → IsRegion region → g < region.granules → slice_index image g < 2 ^ 64
+    → ExplainsUntil (opened region 256 image) final u ts x
+    → Finishes ts u (is_here ts u region g) (slice_index image g) (option_map (λ words. slice_index words g) final) (filter (is_of ts region g) x)
+part_finishes region image final u ts g x is under fits e =
     let o : Opening = opened region 256 image in
     let part = project o ts g x (opening_memory o) is (IsMemory-opening_memory o) e.legal in
     let first : word (opening_memory o) region g ≡ slice_index image g = word-opening_memory o g under fits in
     record {
-      once = λ i. times_in-filter (is_of ts region g) x i ∙ once i (nat_lt i _) (e.once i) (is_of ts region g i);
+      least = λ i. rw (times_in-filter (is_of ts region g) x i) (least i (nat_lt i (length ts)) (has_started u (at ts i)) (has_ended u (at ts i)) (is_of ts region g i) (e.ended i));
+      most = λ i. rw (times_in-filter (is_of ts region g) x i) (most i (nat_lt i (length ts) && has_started u (at ts i)) (is_of ts region g i) (e.started i));
       times = IsInTime-filter ts (is_of ts region g) x e.times;
       plays = subst (λ (w : ℕ). Play ts w (filter (is_of ts region g) x)) first part.0;
       ending = at_end final (last_word ts (slice_index image g) (filter (is_of ts region g) x)) (subst (λ (w : ℕ). last_word ts w (filter (is_of ts region g) x) ≡ word (end_from (opening_memory o) (history ts x)) region g) first part.1) e.ending;
     }
   where
-    once : (i : ℕ) (b : Bool) → times_in x i ≡ one_if b → (d : Bool) → cond d (times_in x i) 0 ≡ one_if (b && d)
-    once i true all true = all
-    once i true all false = refl
-    once i false all true = all
-    once i false all false = refl
+    least : (i : ℕ) (a b d h : Bool) → one_if (a && d) ≤ times_in x i → one_if (((a && b) && h) && d) ≤ cond h (times_in x i) 0
+    least i true true d true whole = whole
+    least i true true d false whole = omega arith
+    least i true false d true whole = omega arith
+    least i true false d false whole = omega arith
+    least i false b d true whole = omega arith
+    least i false b d false whole = omega arith
+
+    most : (i : ℕ) (a h : Bool) → times_in x i ≤ one_if a → cond h (times_in x i) 0 ≤ one_if (a && h)
+    most i true true whole = whole
+    most i true false whole = omega arith
+    most i false true whole = whole
+    most i false false whole = omega arith
 
     at_end : (f : Option (List ℕ)) (w : ℕ) → w ≡ word (end_from (opening_memory (opened region 256 image)) (history ts x)) region g
         → IfSome f (λ words. (k : ℕ) → k < region.granules → word (end_from (opening_memory (opened region 256 image)) (history ts x)) region k ≡ slice_index words k)

@@ -1,7 +1,7 @@
 -- an order that is replayed operation by operation
-use Rattle.std.proofs.Common.{◌≡◌, ℕ, ◌+◌, ◌^◌, ◌<◌, ◌≤◌, ◌==◌, nat_lt, Bool, true, false, List, [], ◌∷◌, ◌++◌, All, Option, Some, None, IfSome, length, get_or, take, drop, set, slice_index, sym, ap, subst, ◌∙◌, arith, eq-eqb, ne_eqb, lt-ltb, le-ltb, inl, inr, get_or-set_same, get_or-set_other, take_all}
-use Rattle.std.proofs.lemmas.Bool.{cases_eq, cases_lt}
-use Rattle.std.proofs.lemmas.List.{drop_all, drop_more, get_or_past, map_more, take_more}
+use Rattle.std.proofs.Common.{◌≡◌, ℕ, ◌+◌, ◌^◌, ◌<◌, ◌≤◌, ◌==◌, ◌&&◌, nat_lt, Bool, true, false, List, [], ◌∷◌, ◌++◌, All, Option, Some, None, IfSome, length, get_or, take, drop, set, slice_index, refl, sym, ap, subst, ◌∙◌, arith, eq-eqb, ne_eqb, lt-ltb, inl, inr, get_or-set_same, get_or-set_other, take_all, true≢false, length-set, ltb-true}
+use Rattle.std.proofs.lemmas.Bool.{and_from, cases_eq}
+use Rattle.std.proofs.lemmas.List.{drop_all, drop_more, map_more, take_more}
 use Rattle.std.proofs.lemmas.List.Elements.{All-cons, All-nil, All-weaker}
 use Rattle.chi_fields.specs.Extent.{IsRegion, granule_of, lies_in}
 use Rattle.chi_fields.specs.Operation.{IsLawful}
@@ -13,11 +13,11 @@ use Rattle.chi_history.specs.History.{IsLegal, IsLegalFrom, end, end_from, one_i
 use Rattle.chi_history.proofs.HistoryLemmas.{legal-append}
 use Rattle.chi_history.proofs.WordLemmas.{IsMemory-end, end-snoc, word-opening_memory, word-snoc_other}
 use Rattle.chi_explain.specs.declared.observed.Observed.{Observed}
-use Rattle.chi_explain.specs.Explains.{IsInTime, at, history, times_in}
+use Rattle.chi_explain.specs.Explains.{IsInTime, at, has_ended, has_started, history, times_in}
 use Rattle.chi_explain.specs.Words.{Fits, next}
 use Rattle.chi_explain.proofs.Steps.{answer_at, next_at, word_is}
 
-times_in-push : (x : List ℕ) (j i : ℕ) → times_in (x ++ j ∷ []) i ≡ times_in x i + one_if (j == i)
+pub times_in-push : (x : List ℕ) (j i : ℕ) → times_in (x ++ j ∷ []) i ≡ times_in x i + one_if (j == i)
 unfolding times_in
 times_in-push [] j i = omega arith
 times_in-push (k ∷ x) j i = let rest = times_in-push x j i in omega arith
@@ -48,16 +48,46 @@ seen_more order k j seen below is within new h i =
           omega (arith, h i, ap one_if kept, ap one_if (ne_eqb j i other))
     ]
 
-pub all_seen : (order : List ℕ) (k n : ℕ) (seen : List Bool) → length order ≤ k → length seen ≡ n → ((i : ℕ) → i < length seen → get_or seen i false ≡ true)
-    → AreSeen order k seen → (i : ℕ) → times_in order i ≡ one_if (nat_lt i n)
-all_seen order k n seen past long all h i =
-    ap (λ x. times_in x i) (sym (take_all k order past)) ∙ (h i ∙ ap one_if marked)
+-- each that is marked had started
+abbrev pub HaveStarted : List Observed → Option ℕ → List Bool → Type 0
+HaveStarted ts u seen = (i : ℕ) → get_or seen i false ≡ true → (i < length seen) × (has_started u (at ts i) ≡ true)
+
+pub started_none : (ts : List Observed) (u : Option ℕ) (seen : List Bool) → ((i : ℕ) → get_or seen i false ≡ false) → HaveStarted ts u seen
+started_none ts u seen none i marked = absurd (true≢false (sym marked ∙ none i))
+
+pub started_more : (ts : List Observed) (u : Option ℕ) (seen : List Bool) (j : ℕ) → j < length seen → has_started u (at ts j) ≡ true → HaveStarted ts u seen → HaveStarted ts u (set seen j true)
+started_more ts u seen j within started h i marked = elim (cases_eq j i) [
+  | inl it ↦ (omega (arith, length-set seen j true), subst (λ k. has_started u (at ts k) ≡ true) it started)
+  | inr other ↦
+      let before = h i (sym (get_or-set_other seen j i true false (λ same. other (sym same))) ∙ marked) in
+      (omega (arith, length-set seen j true, before.0), before.1)
+]
+
+pub ended_once : (ts : List Observed) (u : Option ℕ) (order : List ℕ) (k n : ℕ) (seen : List Bool) → length order ≤ k → ((i : ℕ) → i < n → has_ended u (at ts i) ≡ true → get_or seen i false ≡ true)
+    → AreSeen order k seen → (i : ℕ) → one_if (nat_lt i n && has_ended u (at ts i)) ≤ times_in order i
+ended_once ts u order k n seen past all h i = by_test (nat_lt i n) refl (has_ended u (at ts i)) refl
   where
-    marked : get_or seen i false ≡ nat_lt i n
-    marked = elim (cases_lt i n) [
-      | inl below ↦ all i (omega arith) ∙ sym (lt-ltb i n below)
-      | inr above ↦ get_or_past seen i false (omega arith) ∙ sym (le-ltb i n above)
-    ]
+    count : times_in order i ≡ one_if (get_or seen i false)
+    count = ap (λ x. times_in x i) (sym (take_all k order past)) ∙ h i
+
+    by_test : (a : Bool) → nat_lt i n ≡ a → (b : Bool) → has_ended u (at ts i) ≡ b → one_if (a && b) ≤ times_in order i
+    by_test true inside true ended = omega (arith, count, ap one_if (all i (ltb-true i n inside) ended))
+    by_test true inside false ended = omega arith
+    by_test false outside b ended = omega arith
+
+pub started_once : (ts : List Observed) (u : Option ℕ) (order : List ℕ) (k n : ℕ) (seen : List Bool) → length order ≤ k → length seen ≡ n → HaveStarted ts u seen
+    → AreSeen order k seen → (i : ℕ) → times_in order i ≤ one_if (nat_lt i n && has_started u (at ts i))
+started_once ts u order k n seen past long started h i = by_test (get_or seen i false) refl
+  where
+    count : times_in order i ≡ one_if (get_or seen i false)
+    count = ap (λ x. times_in x i) (sym (take_all k order past)) ∙ h i
+
+    by_test : (b : Bool) → get_or seen i false ≡ b → times_in order i ≤ one_if (nat_lt i n && has_started u (at ts i))
+    by_test true marked =
+        let had = started i marked in
+        let both : (nat_lt i n && has_started u (at ts i)) ≡ true = and_from (nat_lt i n) (has_started u (at ts i)) (lt-ltb i n (omega (arith, had.0, long))) had.1 in
+        omega (arith, count, ap one_if marked, ap one_if both)
+    by_test false marked = omega (arith, count, ap one_if marked)
 
 -- an order is in time from its place k on, and the operations there end at this time or later
 pub record EndsBy (ts : List Observed) (order : List ℕ) (k least : ℕ) : Type 0 where

@@ -1,10 +1,10 @@
 -- the operations of one granule in lanes, where each starts after the one before it ended
-use Rattle.std.specs.Prelude.{◌≡◌, ℕ, ◌+◌, ◌-◌, ◌<◌, ◌≤◌, ◌==◌, nat_lt, Bool, ◌&&◌, ◌⊎◌, List, ◌∷◌, length, slice_index, All, Option}
+use Rattle.std.specs.Prelude.{◌≡◌, ℕ, ◌+◌, ◌-◌, ◌<◌, ◌≤◌, ◌==◌, nat_le, nat_lt, Bool, ◌&&◌, ◌⊎◌, List, ◌∷◌, length, slice_index, All, Option, Some}
 use Rattle.chi_fields.specs.Extent.{Extent, granule_of, lies_in}
 use Rattle.chi_explain.specs.declared.observed.Observed.{Observed}
 use Rattle.chi_explain.specs.declared.chart.Chart.{Chart}
 use Rattle.chi_explain.specs.declared.memo.State.{State}
-use Rattle.chi_explain.specs.Explains.{at}
+use Rattle.chi_explain.specs.Explains.{at, has_started}
 use Rattle.chi_explain.specs.Words.{Finishes}
 
 -- the operation lies in the region, in this granule
@@ -12,9 +12,13 @@ abbrev pub is_of : List Observed → Extent → ℕ → ℕ → Bool
 is_of trace region g i =
     lies_in (at trace i).entry.access.addr (at trace i).entry.access.len region && granule_of (at trace i).entry.access.addr region == g
 
--- the place is one of the trace, and its operation lies in this granule
-abbrev pub is_here : List Observed → Extent → ℕ → ℕ → Bool
-is_here trace region g i = nat_lt i (length trace) && is_of trace region g i
+-- the place is one of the trace, its operation had started, and it lies in this granule
+abbrev pub is_here : List Observed → Option ℕ → Extent → ℕ → ℕ → Bool
+is_here trace until region g i = (nat_lt i (length trace) && has_started until (at trace i)) && is_of trace region g i
+
+-- the operation had started by a time, lies in this granule, and had not ended before
+abbrev pub is_open_at : List Observed → ℕ → Extent → ℕ → ℕ → Bool
+is_open_at trace time region g i = is_here trace (Some time) region g i && nat_le time (at trace i).end
 
 -- the lane of an operation, and its place there, counted from 1; an operation of another granule has place 0
 abbrev pub lane : Chart → ℕ → ℕ
@@ -41,9 +45,9 @@ pub record IsPlaced (trace : List Observed) (c : Chart) (i : ℕ) : Type 0 where
   pub stands : Stands c (lane c i) (place c i - 1) i
   pub follows : (place c i ≡ 1) ⊎ Follows trace c i
 
--- exactly the granule's operations have a place
-pub record IsChart (trace : List Observed) (region : Extent) (g : ℕ) (c : Chart) : Type 0 where
-  pub here : (i : ℕ) → nat_lt 0 (place c i) ≡ is_here trace region g i
+-- exactly the granule's operations that had started have a place
+pub record IsChart (trace : List Observed) (until : Option ℕ) (region : Extent) (g : ℕ) (c : Chart) : Type 0 where
+  pub here : (i : ℕ) → nat_lt 0 (place c i) ≡ is_here trace until region g i
   pub placed : (i : ℕ) → 0 < place c i → IsPlaced trace c i
 
 -- the operation comes after those that were taken, so many of each lane
@@ -51,12 +55,12 @@ abbrev pub left : Chart → List ℕ → ℕ → Bool
 left c taken i = nat_lt (slice_index taken (lane c i)) (place c i)
 
 -- no order finishes the granule once these were taken and have left this word
-abbrev pub IsDead : List Observed → Chart → Option ℕ → List ℕ → ℕ → Type 0
-IsDead trace c final taken w = (order : List ℕ) → Finishes trace (left c taken) w final order → ⊥
+abbrev pub IsDead : List Observed → Option ℕ → Chart → Option ℕ → List ℕ → ℕ → Type 0
+IsDead trace until c final taken w = (order : List ℕ) → Finishes trace until (left c taken) w final order → ⊥
 
-abbrev pub AllDead : List Observed → Chart → Option ℕ → List State → Type 0
-AllDead trace c final states = All (λ s. IsDead trace c final s.taken.items s.word) states
+abbrev pub AllDead : List Observed → Option ℕ → Chart → Option ℕ → List State → Type 0
+AllDead trace until c final states = All (λ s. IsDead trace until c final s.taken.items s.word) states
 
 -- no order that finishes the granule from here on begins with an operation of lane r
-abbrev pub NoneIn : List Observed → Chart → Option ℕ → List ℕ → ℕ → ℕ → Type 0
-NoneIn trace c final taken w r = (e : ℕ) (order : List ℕ) → lane c e ≡ r → Finishes trace (left c taken) w final (e ∷ order) → ⊥
+abbrev pub NoneIn : List Observed → Option ℕ → Chart → Option ℕ → List ℕ → ℕ → ℕ → Type 0
+NoneIn trace until c final taken w r = (e : ℕ) (order : List ℕ) → lane c e ≡ r → Finishes trace until (left c taken) w final (e ∷ order) → ⊥

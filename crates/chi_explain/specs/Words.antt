@@ -1,11 +1,11 @@
 -- one granule's operations, by the word that each finds and leaves
-use Rattle.std.specs.Prelude.{◌≡◌, ℕ, ◌^◌, ◌<◌, Bool, List, [], ◌∷◌, Option, IfSome}
+use Rattle.std.specs.Prelude.{◌≡◌, ℕ, ◌^◌, ◌<◌, ◌≤◌, ◌&&◌, Bool, List, [], ◌∷◌, Option, IfSome}
 use Rattle.chi_lanes.specs.After.{after, answer}
 use Rattle.chi_lanes.specs.Memory.{Memory, granule_start, word_at}
 use Rattle.chi_history.specs.History.{one_if, opening_memory}
 use Rattle.chi_history.specs.Opened.{opened}
 use Rattle.chi_explain.specs.declared.observed.Observed.{Observed}
-use Rattle.chi_explain.specs.Explains.{IsInTime, at, times_in}
+use Rattle.chi_explain.specs.Explains.{IsInTime, at, has_ended, times_in}
 
 -- the memory with this word in the granule that starts here, and with 0 elsewhere
 abbrev pub with_word : ℕ → ℕ → Memory
@@ -29,10 +29,12 @@ unfoldable pub last_word : List Observed → ℕ → List ℕ → ℕ
 last_word trace w [] = w
 last_word trace w (i ∷ order) = last_word trace (next (at trace i) w) order
 
--- The order finishes a granule from a word on: it has each operation that is left once, none before one that
--- ended before it started, each reply is right, and the last word is the observed one, where one was observed.
-pub record Finishes (trace : List Observed) (left : ℕ → Bool) (w : ℕ) (final : Option ℕ) (order : List ℕ) : Type 0 where
-  pub once : (i : ℕ) → times_in order i ≡ one_if (left i)
+-- The order finishes a granule from a word on: each operation that is left and had ended stands in it once, each
+-- other that is left at most once, none before one that ended before it started, each reply is right, and the last
+-- word is the observed one, where one was observed.
+pub record Finishes (trace : List Observed) (until : Option ℕ) (left : ℕ → Bool) (w : ℕ) (final : Option ℕ) (order : List ℕ) : Type 0 where
+  pub least : (i : ℕ) → one_if (left i && has_ended until (at trace i)) ≤ times_in order i
+  pub most : (i : ℕ) → times_in order i ≤ one_if (left i)
   pub times : IsInTime trace order
   pub plays : Play trace w order
   pub ending : IfSome final (λ v. last_word trace w order ≡ v)

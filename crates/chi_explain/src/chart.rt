@@ -3,6 +3,7 @@
 ghost use Rattle.std.specs.Prelude.{◌≡◌, ℕ, ◌+◌, ◌<◌, IsTrue, None, IfSome, length, vec_len};
 ghost use Rattle.chi_explain.specs.Charts.{IsChart, IsPlaced, Stands, is_here, lane, place};
 
+use crate::cut::started_by;
 use crate::observed::Observed;
 use chi_fields::Region;
 
@@ -39,13 +40,19 @@ pub(crate) fn following(chart: &Chart, lane: usize, others: usize) -> Option<usi
     }
 }
 
-// Whether an operation of the trace lies in the region, in this granule.
-fn lies_here(ops: &[Observed], region: &Region, granule: usize, op: usize) -> bool
+/// Whether an operation of the trace had started, and lies in the region, in this granule.
+pub(crate) fn lies_here(
+    ops: &[Observed],
+    until: Option<u64>,
+    region: &Region,
+    granule: usize,
+    op: usize,
+) -> bool
     requires { op < length ops.now }
-    ensures { result ≡ is_here ops.now region.now granule op }
+    ensures { result ≡ is_here ops.now until region.now granule op }
 {
     let access = ops[op].entry.access;
-    access.fits(region) && access.granule(region) == granule
+    started_by(until, &ops[op]) && (access.fits(region) && access.granule(region) == granule)
 }
 
 // Whether an operation stands at its place, after one that ended before it started.
@@ -70,14 +77,20 @@ fn is_placed(ops: &[Observed], chart: &Chart, op: usize) -> bool
 }
 
 /// Whether the chart is one of this granule of the trace.
-pub(crate) fn is_chart(ops: &[Observed], region: &Region, granule: usize, chart: &Chart) -> bool
-    ensures { IsTrue result → IsChart ops.now region.now granule chart.now }
+pub(crate) fn is_chart(
+    ops: &[Observed],
+    until: Option<u64>,
+    region: &Region,
+    granule: usize,
+    chart: &Chart,
+) -> bool
+    ensures { IsTrue result → IsChart ops.now until region.now granule chart.now }
 {
     if chart.lane.len() != ops.len() || chart.place.len() != ops.len() {
         return false;
     }
     for op in 0..ops.len() {
-        let here = lies_here(ops, region, granule, op);
+        let here = lies_here(ops, until, region, granule, op);
         if here != (chart.place[op] > 0) {
             return false;
         }

@@ -1,39 +1,17 @@
 //! Whether a trace can be explained.
 
-ghost use Rattle.std.specs.Prelude.{◌≡◌, ℕ, ◌<◌, ◌≤◌, List, Option, IfOk, IfSome, length, slice_index, option_map};
+ghost use Rattle.std.specs.Prelude.{◌≡◌, ℕ, List, None, Some, IfOk, slice_index, option_map};
 ghost use Rattle.chi_history.specs.Opened.{opened};
 ghost use Rattle.chi_explain.specs.Charts.{is_here};
-ghost use Rattle.chi_explain.specs.Explains.{Explains};
+ghost use Rattle.chi_explain.specs.Explains.{Explains, ExplainsUntil};
 ghost use Rattle.chi_explain.specs.Verdict.{IfExplained, IfUnexplained};
 ghost use Rattle.chi_explain.specs.Words.{Finishes};
 
-use crate::drawing::by_start;
-use crate::granule::explain_granule;
-use crate::merging::{Key, add_keys, merged};
 use crate::observed::Observed;
-use crate::replay::explains;
-use crate::search::Found;
+use crate::trace::search_trace;
 use crate::verdict::Verdict;
 use chi_fields::Region;
 use std::alloc::{AllocError, Global};
-
-// Whether so many words were observed at the end, where some were.
-fn has_words(finals: Option<&[u64]>, count: usize) -> bool {
-    match finals {
-        Some(words) => words.len() == count,
-        None => true,
-    }
-}
-
-// The word of a granule that was observed at the end, where one was.
-fn last_of(finals: Option<&[u64]>, granule: usize) -> Option<u64>
-    ensures { result ≡ option_map (λ words. slice_index words.now granule) finals.entry }
-{
-    match finals {
-        Some(words) => Some(words.get(granule).copied().unwrap_or(0)),
-        None => None,
-    }
-}
 
 /// Whether the operations that were observed can be explained: whether each can be given a place in one legal
 /// history of the region, from the opening words on, so that none stands before one that ended before it
@@ -62,40 +40,37 @@ pub fn explain(
     ensures no { IfOk result (λ verdict. IfUnexplained verdict (λ granule. (order : List ℕ) →
         Explains (opened region.now 256 opening.now) (option_map (λ words. words.now) finals.entry) ops.now order → ⊥)) }
     ensures granule { IfOk result (λ verdict. IfUnexplained verdict (λ granule. (order : List ℕ) →
-        Finishes ops.now (is_here ops.now region.now granule) (slice_index opening.now granule)
+        Finishes ops.now None (is_here ops.now None region.now granule) (slice_index opening.now granule)
         (option_map (λ words. slice_index words.now granule) finals.entry) order → ⊥)) }
 {
-    let granules = usize::from(region.granules());
-    if opening.len() != granules || !has_words(finals, granules) {
-        return Ok(Verdict::Undecided);
-    }
-    let places = by_start(alloc, ops)?;
-    let mut keys: Vec<Key> = Vec::new(alloc);
-    let mut decided = true;
-    for granule in 0..granules {
-        let last = last_of(finals, granule);
-        match explain_granule(
-            alloc,
-            region,
-            granule,
-            opening[granule],
-            last,
-            ops,
-            &places,
-            budget,
-        )? {
-            Found::Path(order) => add_keys(ops, &order, &mut keys)?,
-            Found::Nothing => return Ok(Verdict::Unexplained { granule }),
-            Found::Undecided => decided = false,
-        }
-    }
-    if !decided {
-        return Ok(Verdict::Undecided);
-    }
-    let order = merged(alloc, keys)?;
-    if explains(alloc, region, opening, finals, ops, &order)? {
-        Ok(Verdict::Explained(order))
-    } else {
-        Ok(Verdict::Undecided)
-    }
+    let verdict = search_trace(alloc, region, opening, finals, None, ops, budget)?;
+    Ok(verdict)
+}
+
+/// Whether the operations that were observed can be explained up to a time, the last one included. Those that had
+/// ended have to take effect, and those that had started may. The words at the end are not known.
+///
+/// The answers mean the same as those of `explain`, of what happened until then. `time` is in the unit of the
+/// operations' times.
+///
+/// ```
+/// let verdict = explain_until(alloc, &region, &opening, 4711, &ops, 1_000_000)?;
+/// ```
+pub fn explain_until(
+    alloc: Global,
+    region: &Region,
+    opening: &[u64],
+    time: u64,
+    ops: &[Observed],
+    budget: u64,
+) -> Result<Verdict, AllocError>
+    ensures yes { IfOk result (λ verdict. IfExplained verdict (λ order.
+        ExplainsUntil (opened region.now 256 opening.now) None (Some time) ops.now order)) }
+    ensures no { IfOk result (λ verdict. IfUnexplained verdict (λ granule. (order : List ℕ) →
+        ExplainsUntil (opened region.now 256 opening.now) None (Some time) ops.now order → ⊥)) }
+    ensures granule { IfOk result (λ verdict. IfUnexplained verdict (λ granule. (order : List ℕ) →
+        Finishes ops.now (Some time) (is_here ops.now (Some time) region.now granule) (slice_index opening.now granule) None order → ⊥)) }
+{
+    let verdict = search_trace(alloc, region, opening, None, Some(time), ops, budget)?;
+    Ok(verdict)
 }

@@ -1,11 +1,12 @@
 //! What comes next at a state of the search.
 
-ghost use Rattle.std.specs.Prelude.{◌≡◌, ℕ, ◌+◌, ◌<◌, ◌⊎◌, List, IsTrue, IsSome, None, Option, IfSome, length, vec_len, slice_index, slice_set, true, false};
+ghost use Rattle.std.specs.Prelude.{◌≡◌, ℕ, ◌+◌, ◌<◌, ◌⊎◌, List, IsTrue, Some, None, Option, IfSome, length, vec_len, slice_index, slice_set, true, false};
 ghost use Rattle.chi_explain.specs.Charts.{AllDead, IsChart, IsDead, NoneIn, Stands, left};
-ghost use Rattle.chi_explain.specs.Explains.{at};
+ghost use Rattle.chi_explain.specs.Explains.{at, has_ended};
 ghost use Rattle.chi_explain.specs.Words.{Fits, IsIdle, next};
 
 use crate::chart::{Chart, following};
+use crate::cut::ended_by;
 use crate::memo::{Memo, recalls};
 use crate::observed::Observed;
 use crate::step::{is_idle, step};
@@ -53,22 +54,33 @@ fn is_late(ops: &[Observed], first: Option<usize>, op: usize) -> bool
     }
 }
 
-// Whether no operation comes next, and the word is the observed one, where one was observed.
-fn is_ended(first: Option<usize>, last: Option<u64>, word: u64) -> bool
-    ensures { result ≡ false → IsSome first ⊎ (IfSome last (λ seen. word ≡ seen) → ⊥) }
+// Whether no operation has to come next, and the word is the observed one, where one was observed. `first` is the
+// operation that ends first.
+fn is_ended(
+    ops: &[Observed],
+    until: Option<u64>,
+    first: Option<usize>,
+    last: Option<u64>,
+    word: u64,
+) -> bool
+    ensures { result ≡ false → ((other : ℕ) × (first ≡ Some other) × (has_ended until (at ops.now other) ≡ true)) ⊎ (IfSome last (λ seen. word ≡ seen) → ⊥) }
 {
-    match (first, last) {
-        (None, Some(seen)) => word == seen,
-        (None, None) => true,
-        (Some(_), _) => false,
+    if let Some(other) = first {
+        if other < ops.len() && ended_by(until, &ops[other]) {
+            return false;
+        }
+    }
+    match last {
+        Some(seen) => word == seen,
+        None => true,
     }
 }
 
 // Whether the memo has the state after one operation more of a lane.
 fn recalls_after(memo: &Memo, taken: &mut [usize], lane: usize, word: u64) -> bool
     ensures same { taken.new ≡ taken.old }
-    ensures dead { IsTrue result → (trace : List Observed) (chart : Chart) (final : Option ℕ) →
-        AllDead trace chart final memo.now.states.items → IsDead trace chart final (slice_set taken.old lane (slice_index taken.old lane + 1)) word }
+    ensures dead { IsTrue result → (trace : List Observed) (until : Option ℕ) (chart : Chart) (final : Option ℕ) →
+        AllDead trace until chart final memo.now.states.items → IsDead trace until chart final (slice_set taken.old lane (slice_index taken.old lane + 1)) word }
 {
     if lane >= taken.len() || taken[lane] == usize::MAX {
         return false;
@@ -84,20 +96,21 @@ fn recalls_after(memo: &Memo, taken: &mut [usize], lane: usize, word: u64) -> bo
 fn next_in(
     region: &Region,
     ops: &[Observed],
+    until: Option<u64>,
     chart: &Chart,
     taken: &[usize],
     first: Option<usize>,
     lane: usize,
     word: u64,
 ) -> Option<(usize, u64)>
-    requires chart { (g : ℕ) × IsChart ops.now region.now g chart.now }
+    requires chart { (g : ℕ) × IsChart ops.now until region.now g chart.now }
     requires first { IfSome first (λ op. left chart.now taken.now op ≡ true) }
     requires lane { lane < length taken.now }
     ensures stands { IfSome result (λ found. Stands chart.now lane (slice_index taken.now lane) found.0) }
     ensures in_trace { IfSome result (λ found. found.0 < length ops.now) }
     ensures fits { IfSome result (λ found. Fits (at ops.now found.0) word) }
     ensures after { IfSome result (λ found. found.1 ≡ next (at ops.now found.0) word) }
-    ensures none { result ≡ None → (final : Option ℕ) → NoneIn ops.now chart.now final taken.now word lane }
+    ensures none { result ≡ None → (final : Option ℕ) → NoneIn ops.now until chart.now final taken.now word lane }
 {
     let op = following(chart, lane, taken[lane])?;
     if is_late(ops, first, op) {
@@ -111,19 +124,20 @@ fn next_in(
 fn idle_in(
     region: &Region,
     ops: &[Observed],
+    until: Option<u64>,
     chart: &Chart,
     taken: &[usize],
     first: Option<usize>,
     lane: usize,
     word: u64,
 ) -> Option<usize>
-    requires chart { (g : ℕ) × IsChart ops.now region.now g chart.now }
+    requires chart { (g : ℕ) × IsChart ops.now until region.now g chart.now }
     requires first { IfSome first (λ op. left chart.now taken.now op ≡ true) }
     requires lane { lane < length taken.now }
     ensures stands { IfSome result (λ op. Stands chart.now lane (slice_index taken.now lane) op) }
     ensures idle { IfSome result (λ op. IsIdle (at ops.now op)) }
 {
-    let (op, after) = next_in(region, ops, chart, taken, first, lane, word)?;
+    let (op, after) = next_in(region, ops, until, chart, taken, first, lane, word)?;
     if is_idle(&ops[op], word, after) {
         Some(op)
     } else {
@@ -136,6 +150,7 @@ fn idle_in(
 fn open_in(
     region: &Region,
     ops: &[Observed],
+    until: Option<u64>,
     chart: &Chart,
     memo: &Memo,
     taken: &mut [usize],
@@ -143,14 +158,14 @@ fn open_in(
     lane: usize,
     word: u64,
 ) -> Option<(usize, u64)>
-    requires chart { (g : ℕ) × IsChart ops.now region.now g chart.now }
+    requires chart { (g : ℕ) × IsChart ops.now until region.now g chart.now }
     requires first { IfSome first (λ op. left chart.now taken.old op ≡ true) }
     requires lane { lane < length taken.old }
     ensures same { taken.new ≡ taken.old }
-    ensures none { result ≡ None → (final : Option ℕ) → AllDead ops.now chart.now final memo.now.states.items →
-        NoneIn ops.now chart.now final taken.old word lane }
+    ensures none { result ≡ None → (final : Option ℕ) → AllDead ops.now until chart.now final memo.now.states.items →
+        NoneIn ops.now until chart.now final taken.old word lane }
 {
-    let (op, after) = next_in(region, ops, chart, taken, first, lane, word)?;
+    let (op, after) = next_in(region, ops, until, chart, taken, first, lane, word)?;
     if recalls_after(memo, taken, lane, after) {
         None
     } else {
@@ -162,24 +177,25 @@ fn open_in(
 pub(crate) fn choose(
     region: &Region,
     ops: &[Observed],
+    until: Option<u64>,
     chart: &Chart,
     memo: &Memo,
     last: Option<u64>,
     taken: &mut [usize],
     word: u64,
 ) -> Choice
-    requires chart { (g : ℕ) × IsChart ops.now region.now g chart.now }
+    requires chart { (g : ℕ) × IsChart ops.now until region.now g chart.now }
     requires lanes { length taken.old ≡ vec_len chart.now.firsts }
     ensures same { taken.new ≡ taken.old }
-    ensures dead { result ≡ Choice.Dead → AllDead ops.now chart.now last memo.now.states.items →
-        IsDead ops.now chart.now last taken.old word }
+    ensures dead { result ≡ Choice.Dead → AllDead ops.now until chart.now last memo.now.states.items →
+        IsDead ops.now until chart.now last taken.old word }
 {
     let first = first_to_end(ops, chart, taken);
-    if is_ended(first, last, word) {
+    if is_ended(ops, until, first, last, word) {
         return Choice::Ended;
     }
     for lane in 0..taken.len() {
-        if let Some(op) = idle_in(region, ops, chart, taken, first, lane, word) {
+        if let Some(op) = idle_in(region, ops, until, chart, taken, first, lane, word) {
             if recalls_after(memo, taken, lane, word) {
                 return Choice::Dead;
             }
@@ -187,7 +203,9 @@ pub(crate) fn choose(
         }
     }
     for lane in 0..taken.len() {
-        if let Some((op, after)) = open_in(region, ops, chart, memo, taken, first, lane, word) {
+        if let Some((op, after)) = open_in(
+            region, ops, until, chart, memo, taken, first, lane, word,
+        ) {
             return Choice::Take {
                 op,
                 lane,

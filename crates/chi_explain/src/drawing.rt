@@ -1,6 +1,7 @@
 //! Draws the lanes of one granule. What it draws is tested, so nothing is promised of it.
 
 use crate::chart::Chart;
+use crate::cut::started_by;
 use crate::observed::Observed;
 use chi_fields::Region;
 use std::alloc::{AllocError, Global};
@@ -36,11 +37,12 @@ fn firsts_of(alloc: Global, counts: &[usize]) -> Result<Vec<usize>, AllocError> 
     Ok(firsts)
 }
 
-/// The operations of a granule in lanes: each goes to the first lane that ended before it started. `places` are
+/// The operations of a granule that had started, in lanes: each goes to the first lane that ended before it started. `places` are
 /// the trace's, by their start times.
 pub(crate) fn draw(
     alloc: Global,
     ops: &[Observed],
+    until: Option<u64>,
     region: &Region,
     granule: usize,
     places: &[(u64, usize)],
@@ -53,6 +55,7 @@ pub(crate) fn draw(
     for (_, op) in places {
         let op = *op;
         if op < ops.len()
+            && started_by(until, &ops[op])
             && ops[op].entry.access.fits(region)
             && ops[op].entry.access.granule(region) == granule
         {

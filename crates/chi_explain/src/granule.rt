@@ -20,19 +20,20 @@ pub(crate) fn explain_granule(
     opening: u64,
     last: Option<u64>,
     ops: &[Observed],
+    until: Option<u64>,
     places: &[(u64, usize)],
     budget: u64,
 ) -> Result<Found, AllocError>
     ensures { IfOk result (λ found. found ≡ Found.Nothing →
-        (order : List ℕ) → Finishes ops.now (is_here ops.now region.now granule) opening last order → ⊥) }
+        (order : List ℕ) → Finishes ops.now until (is_here ops.now until region.now granule) opening last order → ⊥) }
 {
-    let chart = draw(alloc, ops, region, granule, places)?;
-    if !is_chart(ops, region, granule, &chart) {
+    let chart = draw(alloc, ops, until, region, granule, places)?;
+    if !is_chart(ops, until, region, granule, &chart) {
         return Ok(Found::Undecided);
     }
     let mut taken = vec![in alloc; 0; chart.firsts.len()]?;
     let found = search_from(
-        alloc, region, ops, &chart, last, opening, &mut taken, budget,
+        alloc, region, ops, until, &chart, last, opening, &mut taken, budget,
     )?;
     Ok(found)
 }

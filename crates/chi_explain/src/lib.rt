@@ -1,25 +1,32 @@
 //! Decides whether a legal history explains the operations that were observed at a home.
 #![tactic(auto)]
 
+mod blame;
 mod chart;
 mod checker;
 mod choice;
+mod cut;
 mod drawing;
 mod granule;
 mod memo;
 mod merging;
 mod observed;
+mod possible;
 mod replay;
 mod search;
 mod step;
+mod trace;
 mod verdict;
 
-pub use checker::explain;
+pub use blame::{Blame, first_unexplained};
+pub use checker::{explain, explain_until};
 pub use observed::Observed;
 pub use verdict::Verdict;
 
 #[cfg(test)]
 mod byte_tests;
+#[cfg(test)]
+mod cut_tests;
 #[cfg(test)]
 mod tests;
 #[cfg(test)]

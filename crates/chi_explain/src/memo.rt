@@ -72,8 +72,8 @@ pub(crate) fn is_same(taken: &[usize], other: &[usize]) -> bool
 
 /// Whether the state is one of the memo.
 pub(crate) fn recalls(memo: &Memo, taken: &[usize], word: u64) -> bool
-    ensures { IsTrue result → (trace : List Observed) (chart : Chart) (final : Option ℕ) →
-        AllDead trace chart final memo.now.states.items → IsDead trace chart final taken.now word }
+    ensures { IsTrue result → (trace : List Observed) (until : Option ℕ) (chart : Chart) (final : Option ℕ) →
+        AllDead trace until chart final memo.now.states.items → IsDead trace until chart final taken.now word }
 {
     let mut found = match memo.newest.get(bucket_of(taken, word, memo.newest.len())) {
         Some(newest) => *newest,
@@ -119,8 +119,8 @@ pub(crate) fn remember(
     taken: &[usize],
     word: u64,
 ) -> Result<(), AllocError>
-    ensures { OnOk result ((trace : List Observed) (chart : Chart) (final : Option ℕ) →
-        AllDead trace chart final memo.old.states.items → IsDead trace chart final taken.now word → AllDead trace chart final memo.new.states.items) }
+    ensures { OnOk result ((trace : List Observed) (until : Option ℕ) (chart : Chart) (final : Option ℕ) →
+        AllDead trace until chart final memo.old.states.items → IsDead trace until chart final taken.now word → AllDead trace until chart final memo.new.states.items) }
 {
     if memo.states.len() >= memo.newest.len() {
         grow(alloc, memo)?;

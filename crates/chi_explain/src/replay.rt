@@ -1,29 +1,40 @@
 //! Tests whether an order explains the trace, by one pass for each thing that is asked.
 
-ghost use Rattle.std.specs.Prelude.{◌≡◌, ℕ, ◌<◌, IsTrue, Option, IfOk, IfSome, length, nat_lt, slice_index, option_map};
+ghost use Rattle.std.specs.Prelude.{◌≡◌, ℕ, ◌<◌, ◌≤◌, ◌&&◌, IsTrue, Option, IfOk, IfSome, length, nat_lt, slice_index, option_map};
 ghost use Rattle.chi_lanes.specs.Memory.{word};
 ghost use Rattle.chi_history.specs.History.{IsLegal, end, one_if};
 ghost use Rattle.chi_history.specs.Opened.{opened};
-ghost use Rattle.chi_explain.specs.Explains.{Explains, IsInTime, history, times_in};
+ghost use Rattle.chi_explain.specs.Explains.{ExplainsUntil, IsInTime, at, has_ended, has_started, history, times_in};
 
+use crate::cut::{ended_by, started_by};
 use crate::observed::Observed;
 use crate::step::step;
 use chi_fields::Region;
 use std::alloc::{AllocError, Global};
 
-// Whether each operation stands in the order once.
-fn is_once(alloc: Global, ops: &[Observed], order: &[usize]) -> Result<bool, AllocError>
-    ensures { IfOk result (λ is. IsTrue is → (i : ℕ) → times_in order.now i ≡ one_if (nat_lt i (length ops.now))) }
+// Whether each operation that had ended stands in the order once, each other that had started at most once, and no
+// other.
+fn is_once(
+    alloc: Global,
+    ops: &[Observed],
+    until: Option<u64>,
+    order: &[usize],
+) -> Result<bool, AllocError>
+    ensures ended { IfOk result (λ is. IsTrue is → (i : ℕ) → one_if (nat_lt i (length ops.now) && has_ended until (at ops.now i)) ≤ times_in order.now i) }
+    ensures started { IfOk result (λ is. IsTrue is → (i : ℕ) → times_in order.now i ≤ one_if (nat_lt i (length ops.now) && has_started until (at ops.now i))) }
 {
     let mut seen = vec![in alloc; false; ops.len()]?;
-    for op in order {
-        if *op >= ops.len() || seen[*op] {
+    for place in order {
+        if *place >= ops.len() || seen[*place] {
             return Ok(false);
         }
-        seen[*op] = true;
+        if !started_by(until, &ops[*place]) {
+            return Ok(false);
+        }
+        seen[*place] = true;
     }
-    for known in &seen {
-        if !*known {
+    for place in 0..ops.len() {
+        if ended_by(until, &ops[place]) && !seen[place] {
             return Ok(false);
         }
     }
@@ -90,19 +101,20 @@ fn is_legal(
     Ok(ends_with(finals, &words))
 }
 
-/// Whether the order explains the trace.
+/// Whether the order explains the trace up to a time.
 pub(crate) fn explains(
     alloc: Global,
     region: &Region,
     opening: &[u64],
     finals: Option<&[u64]>,
+    until: Option<u64>,
     ops: &[Observed],
     order: &[usize],
 ) -> Result<bool, AllocError>
     ensures { IfOk result (λ is. IsTrue is →
-        Explains (opened region.now 256 opening.now) (option_map (λ words. words.now) finals.entry) ops.now order.now) }
+        ExplainsUntil (opened region.now 256 opening.now) (option_map (λ words. words.now) finals.entry) until ops.now order.now) }
 {
-    if !is_in_time(ops, order) || !is_once(alloc, ops, order)? {
+    if !is_in_time(ops, order) || !is_once(alloc, ops, until, order)? {
         return Ok(false);
     }
     is_legal(alloc, region, opening, finals, ops, order)

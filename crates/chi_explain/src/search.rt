@@ -72,22 +72,23 @@ pub(crate) fn search_from(
     alloc: Global,
     region: &Region,
     ops: &[Observed],
+    until: Option<u64>,
     chart: &Chart,
     last: Option<u64>,
     opening: u64,
     taken: &mut [usize],
     budget: u64,
 ) -> Result<Found, AllocError>
-    requires chart { (g : ℕ) × IsChart ops.now region.now g chart.now }
+    requires chart { (g : ℕ) × IsChart ops.now until region.now g chart.now }
     requires lanes { length taken.old ≡ vec_len chart.now.firsts }
     ensures { IfOk result (λ found. found ≡ Found.Nothing →
-        IsDead ops.now chart.now last (replicate (length taken.old) 0) opening) }
+        IsDead ops.now until chart.now last (replicate (length taken.old) 0) opening) }
 {
     let mut memo = no_memo(alloc)?;
     let mut path: Vec<Taken> = Vec::new(alloc);
     let mut word = opening;
     for _ in 0..budget {
-        match choose(region, ops, chart, &memo, last, taken, word) {
+        match choose(region, ops, until, chart, &memo, last, taken, word) {
             Choice::Ended => {
                 let order = ops_of(alloc, &path)?;
                 return Ok(Found::Path(order));

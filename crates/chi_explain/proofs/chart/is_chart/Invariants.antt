@@ -7,6 +7,6 @@ abbrev pub invariant-loop-op : goal.invariant-loop-op
 invariant-loop-op l = record {
   lanes : length l.chart.lane.items ≡ length l.ops;
   places : length l.chart.place.items ≡ length l.ops;
-  here : (i : ℕ) → i < l.op → nat_lt 0 (place l.chart i) ≡ is_here l.ops l.region l.granule i;
+  here : (i : ℕ) → i < l.op → nat_lt 0 (place l.chart i) ≡ is_here l.ops l.fn.until l.region l.granule i;
   placed : (i : ℕ) → i < l.op → 0 < place l.chart i → IsPlaced l.ops l.chart i;
 }
