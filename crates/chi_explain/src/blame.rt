@@ -108,7 +108,7 @@ fn open_at(
 }
 
 /// The first end time up to which the trace cannot be explained, whatever the words at the end, and what was under
-/// way then: up to the time before it the trace can be explained, and up to it none of the orders does.
+/// way then. Up to the time before it an order explains the trace, and up to it none does.
 ///
 /// `None` where no such time was found: where every cut is explained, so that only the words at the end can be
 /// wrong, where one is undecided within the budget, and where the time would be 0.
