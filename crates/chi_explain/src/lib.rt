@@ -28,6 +28,8 @@ mod byte_tests;
 #[cfg(test)]
 mod cut_tests;
 #[cfg(test)]
+mod random_tests;
+#[cfg(test)]
 mod tests;
 #[cfg(test)]
 mod traces;
