@@ -1,0 +1,165 @@
+//! What races of two and of four did over both stores is explained, and no longer once a reply is changed.
+
+ghost use Rattle.std.specs.Prelude.{◌≡◌, ◌≤◌};
+ghost use Rattle.chi_history.specs.Held.{below};
+
+use crate::clock_gate::{Pauses, observe, observe_after};
+use crate::race_scripts::{race_of_four, race_of_two};
+use chi_bookstore::BookStore;
+use chi_explain::{Observed, Verdict, explain};
+use chi_fields::Region;
+use chi_history::Home;
+use chi_lanes::Reply;
+use chi_lockstore::LockStore;
+use chi_requester::{Policy, Race, RaceFour, race_four, race_two};
+use std::process::Abort;
+use std::sync::Wait;
+use std::sync::atomic::{AtomicU64, Ordering};
+use std::test::Fail;
+use std::thread::Threads;
+
+// The words at the opening: the script's image.
+const IMAGE: [u64; 2] = [7, 0x0105];
+
+// Whether the operations are explained by an order, from the image to these words.
+fn is_explained<T: AllocGlobal>(rt: &T, words: &[u64], ops: &[Observed]) -> Result<bool, Fail> {
+    let region = Region::new(0x1000, 2)?;
+    let verdict = explain(rt.alloc(), &region, &IMAGE, Some(words), ops, 1_000_000)?;
+    Ok(matches!(verdict, Verdict::Explained(_)))
+}
+
+// Whether no order explains the operations.
+fn is_unexplained<T: AllocGlobal>(rt: &T, words: &[u64], ops: &[Observed]) -> Result<bool, Fail> {
+    let region = Region::new(0x1000, 2)?;
+    let verdict = explain(rt.alloc(), &region, &IMAGE, Some(words), ops, 1_000_000)?;
+    Ok(matches!(verdict, Verdict::Unexplained { granule: _ }))
+}
+
+// The data with the highest bit of the operand's first byte turned.
+fn changed(lanes: [u8; 16], addr: u64) -> Reply {
+    let mut lanes = lanes;
+    if addr % 16 < 8 {
+        lanes[0] ^= 0x80;
+    } else {
+        lanes[8] ^= 0x80;
+    }
+    Reply::CompData(lanes)
+}
+
+// The operations are explained, and with any one reply changed no order explains them.
+fn assert_explained<T: AllocGlobal + Abort>(
+    rt: &T,
+    words: &[u64],
+    ops: &[Observed],
+) -> Result<(), Fail> {
+    assert!(rt; is_explained(rt, words, ops)?);
+    for place in 0..ops.len() {
+        if let Reply::CompData(lanes) = ops[place].entry.reply {
+            let mut broken = Vec::from_slice(rt.alloc(), ops)?;
+            broken[place].entry.reply = changed(lanes, ops[place].entry.access.addr());
+            assert!(rt; is_unexplained(rt, words, &broken)?);
+        }
+    }
+    Ok(())
+}
+
+// Four operations by each of 1 and 2, and a read by 0.
+fn assert_two<H: Home + Sync, T: AllocGlobal + Abort + Threads + Wait + Sync>(
+    rt: &T,
+    home: &H,
+    seat: &mut H::Seat,
+) -> Result<(), Fail>
+    requires own { H.belongs home.now seat.old }
+    requires all { H.held seat.old ≡ below (H.opening home.now).requesters }
+    requires three { 3 ≤ (H.opening home.now).requesters }
+    requires granules { (H.opening home.now).region.granules ≡ 2 }
+{
+    let script = race_of_two(rt)?;
+    let clock = AtomicU64::new(1);
+    let (one, two) = (Pauses::new(), Pauses::new());
+    let mut race = Race::new(rt.alloc());
+    let (gate1, gate2) = (one.gate(&clock), two.gate(&clock));
+    let policy = Policy::Resend;
+    race_two(
+        home,
+        rt,
+        seat,
+        script.requests(),
+        policy,
+        gate1,
+        gate2,
+        &mut race,
+    )?;
+    let mut words = [0; 2];
+    home.snapshot(rt, seat, &mut words);
+    let region = Region::new(0x1000, 2)?;
+    let end = clock.load(Ordering::SeqCst);
+    let mut ops = Vec::new(rt.alloc());
+    observe(&region, &race.one, &one, end, &mut ops)?;
+    observe(&region, &race.two, &two, end, &mut ops)?;
+    observe_after(&region, &race.zero, end, &mut ops)?;
+    assert_eq!(rt; ops.len(), 9);
+    assert_explained(rt, &words, &ops)
+}
+
+// Four operations by each of 1 to 4, and a read by 0.
+fn assert_four<H: Home + Sync, T: AllocGlobal + Abort + Threads + Wait + Sync>(
+    rt: &T,
+    home: &H,
+    seat: &mut H::Seat,
+) -> Result<(), Fail>
+    requires own { H.belongs home.now seat.old }
+    requires all { H.held seat.old ≡ below (H.opening home.now).requesters }
+    requires five { 5 ≤ (H.opening home.now).requesters }
+    requires granules { (H.opening home.now).region.granules ≡ 2 }
+{
+    let script = race_of_four(rt)?;
+    let clock = AtomicU64::new(1);
+    let (one, two, three, four) = (Pauses::new(), Pauses::new(), Pauses::new(), Pauses::new());
+    let mut race = RaceFour::new(rt.alloc());
+    let (gate1, gate2) = (one.gate(&clock), two.gate(&clock));
+    let (gate3, gate4) = (three.gate(&clock), four.gate(&clock));
+    let policy = Policy::Resend;
+    race_four(
+        home,
+        rt,
+        seat,
+        script.requests(),
+        policy,
+        gate1,
+        gate2,
+        gate3,
+        gate4,
+        &mut race,
+    )?;
+    let mut words = [0; 2];
+    home.snapshot(rt, seat, &mut words);
+    let region = Region::new(0x1000, 2)?;
+    let end = clock.load(Ordering::SeqCst);
+    let mut ops = Vec::new(rt.alloc());
+    observe(&region, &race.one, &one, end, &mut ops)?;
+    observe(&region, &race.two, &two, end, &mut ops)?;
+    observe(&region, &race.three, &three, end, &mut ops)?;
+    observe(&region, &race.four, &four, end, &mut ops)?;
+    observe_after(&region, &race.zero, end, &mut ops)?;
+    assert_eq!(rt; ops.len(), 17);
+    assert_explained(rt, &words, &ops)
+}
+
+#[test]
+fn race_of_two_is_explained(rt: HostRuntime) -> Result<(), Fail> {
+    let region = Region::new(0x1000, 2)?;
+    let (home, mut seat) = LockStore::open(rt.alloc(), region, 3, &IMAGE)?;
+    assert_two(&rt, &home, &mut seat)?;
+    let (home, mut seat) = BookStore::open(rt.alloc(), region, 3, 4, &IMAGE)?;
+    assert_two(&rt, &home, &mut seat)
+}
+
+#[test]
+fn race_of_four_is_explained(rt: HostRuntime) -> Result<(), Fail> {
+    let region = Region::new(0x1000, 2)?;
+    let (home, mut seat) = LockStore::open(rt.alloc(), region, 5, &IMAGE)?;
+    assert_four(&rt, &home, &mut seat)?;
+    let (home, mut seat) = BookStore::open(rt.alloc(), region, 5, 4, &IMAGE)?;
+    assert_four(&rt, &home, &mut seat)
+}
