@@ -39,6 +39,11 @@ pub struct Request {
 pub fn accepted(random: &mut Random, place: &Place) -> Request {
     let op = random.one_of(opcodes());
     let power = random.below(4);
+    of_opcode(random, place, op, power)
+}
+
+/// A request of this opcode that is not refused, whose operand has 2 to this power bytes.
+pub fn of_opcode(random: &mut Random, place: &Place, op: u64, power: u64) -> Request {
     let len = 1 << power;
     let addr = place.base + len * random.below(8 * place.granules / len);
     let lane = addr % 16;
