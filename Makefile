@@ -3,7 +3,7 @@ PREFIX ?= /usr/local
 PROGRAM := crates/chi_home/out/chi_home
 SCRIPT ?= examples/fetch_add.json
 
-.PHONY: help try build run test lib dv install bench bench-c corpus
+.PHONY: help try build run test lib dv install bench bench-c bench-explain corpus
 
 help:
 	@echo "make try [SCRIPT=FILE]     build chihome with no proof, and show a script and the transcript of chihome run"
@@ -14,6 +14,7 @@ help:
 	@echo "make install PREFIX=DIR    put the program at DIR/bin/chihome, and the libraries, header, package and module below DIR"
 	@echo "make bench                 the speed of chihome and of the lock-free store, beside plain Rust"
 	@echo "make bench-c               the speed of the calls for C, beside plain C and by DPI"
+	@echo "make bench-explain         the checker of traces beside every order of 100,000 small ones, and its speed beside plain Rust"
 	@echo "make corpus [SEED=N]       chihome on 10,000 scripts by chance, half of them broken, beside plain Rust"
 
 # What rt says of itself is shown only where it fails.
@@ -69,6 +70,9 @@ bench: build
 
 bench-c: lib
 	bench/c/run.sh
+
+bench-explain:
+	bench/explain.sh $(SEED)
 
 corpus: build
 	bench/build.sh && cd bench && out/release/corpus ../$(PROGRAM) 10000 $(SEED)
