@@ -47,10 +47,10 @@ impl Kinds {
     pub fn bytes(self, random: &mut Random) -> [u8; 8] {
         match self {
             Kinds::Whole { operands, .. } => random.below(operands).to_le_bytes(),
-            Kinds::Every => std::array::from_fn(|_| match random.below(4) {
-                0 => 0,
-                1 => 1,
-                2 => [0x7f, 0x80, 0xff][random.below(3) as usize],
+            Kinds::Every => std::array::from_fn(|_| match random.below(8) {
+                0..4 => 0,
+                4..6 => 1,
+                6 => [0x7f, 0x80, 0xff][random.below(3) as usize],
                 _ => random.next() as u8,
             }),
         }
