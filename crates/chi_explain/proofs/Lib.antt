@@ -1,5 +1,6 @@
 pub mod Agree
 pub mod Idle
+pub mod Illegal
 pub mod Lanes
 pub mod Orders
 pub mod Picked

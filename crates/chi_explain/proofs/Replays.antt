@@ -1,5 +1,5 @@
 -- an order that is replayed operation by operation
-use Rattle.std.proofs.Common.{◌≡◌, ℕ, ◌+◌, ◌^◌, ◌<◌, ◌≤◌, ◌==◌, ◌&&◌, nat_lt, Bool, true, false, List, [], ◌∷◌, ◌++◌, All, Option, Some, None, IfSome, length, get_or, take, drop, set, slice_index, refl, sym, ap, subst, ◌∙◌, arith, eq-eqb, ne_eqb, lt-ltb, inl, inr, get_or-set_same, get_or-set_other, take_all, true≢false, length-set, ltb-true}
+use Rattle.std.proofs.Common.{◌≡◌, ℕ, ◌+◌, ◌^◌, ◌<◌, ◌≤◌, ◌==◌, ◌&&◌, nat_lt, Bool, true, false, List, [], ◌∷◌, ◌++◌, All, Option, length, get_or, take, drop, set, slice_index, refl, sym, ap, subst, ◌∙◌, arith, eq-eqb, ne_eqb, lt-ltb, inl, inr, get_or-set_same, get_or-set_other, take_all, true≢false, length-set, ltb-true}
 use Rattle.std.proofs.lemmas.Bool.{and_from, cases_eq}
 use Rattle.std.proofs.lemmas.List.{drop_all, drop_more, map_more, take_more}
 use Rattle.std.proofs.lemmas.List.Elements.{All-cons, All-nil, All-weaker}
@@ -179,15 +179,3 @@ plays_more o ts order k op g v w words is long below it src lawful inside here u
           get_or-set_other words g h w 0 other
           ∙ (p.left h in_region ∙ sym (word-snoc_other o before op.entry h is lawful inside (λ same. other (same ∙ sym here))))
     ]
-
--- an order that was played to its end is legal, and leaves the words
-pub played_legal : (o : Opening) (ts : List Observed) (order : List ℕ) (k : ℕ) (words : List ℕ) → length order ≤ k → Plays o ts order k words
-    → IsLegal o (history ts order)
-played_legal o ts order k words past p = subst (λ (x : List ℕ). IsLegal o (history ts x)) (take_all k order past) p.legal
-
-pub played_ending : (o : Opening) (ts : List Observed) (order : List ℕ) (k : ℕ) (words : List ℕ) (f : Option (List ℕ)) → length order ≤ k → Plays o ts order k words
-    → IfSome f (λ last. last ≡ words)
-    → IfSome f (λ last. (g : ℕ) → g < o.region.granules → word (end o (history ts order)) o.region g ≡ slice_index last g)
-played_ending o ts order k words None past p same = tt
-played_ending o ts order k words (Some last) past p same = λ g under.
-    ap (λ (x : List ℕ). word (end o (history ts x)) o.region g) (sym (take_all k order past)) ∙ (sym (p.left g under) ∙ ap (λ (ws : List ℕ). slice_index ws g) (sym same))

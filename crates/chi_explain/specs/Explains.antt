@@ -61,6 +61,6 @@ pub record ExplainsUntil (o : Opening) (final : Option (List ℕ)) (until : Opti
   pub legal : IsLegal o (history trace order)
   pub ending : IfSome final (λ words. (g : ℕ) → g < o.region.granules → word (end o (history trace order)) o.region g ≡ slice_index words g)
 
--- some order that explains the trace up to a time leaves this word in a granule
-abbrev pub CanHold : Opening → ℕ → List Observed → ℕ → ℕ → Type 0
-CanHold o time trace g w = (order : List ℕ) × ExplainsUntil o None (Some time) trace order × (word (end o (history trace order)) o.region g ≡ w)
+-- some order that explains the trace up to a time leaves this word in a granule; where there is no time, the whole trace
+abbrev pub CanHold : Opening → Option ℕ → List Observed → ℕ → ℕ → Type 0
+CanHold o until trace g w = (order : List ℕ) × ExplainsUntil o None until trace order × (word (end o (history trace order)) o.region g ≡ w)

@@ -136,7 +136,7 @@ pub fn first_unexplained(
     ensures overlapping { IfOk result (λ found. IfSome found (λ blame. (i : ℕ) →
         times_in blame.overlapping.items i ≡ one_if (is_open_at ops.now blame.time region.now blame.granule i))) }
     ensures words { IfOk result (λ found. IfSome found (λ blame.
-        All (CanHold (opened region.now 256 opening.now) (blame.time - 1) ops.now blame.granule) blame.words.items)) }
+        All (CanHold (opened region.now 256 opening.now) (Some (blame.time - 1)) ops.now blame.granule) blame.words.items)) }
 {
     let time = match first_time(alloc, region, opening, ops, budget)? {
         Some(time) => time,
@@ -162,7 +162,7 @@ pub fn first_unexplained(
         alloc,
         region,
         opening,
-        time - 1,
+        Some(time - 1),
         ops,
         granule,
         &order,

@@ -7,6 +7,7 @@ mod checker;
 mod choice;
 mod cut;
 mod drawing;
+mod ending;
 mod granule;
 mod memo;
 mod merging;
@@ -20,13 +21,17 @@ mod verdict;
 
 pub use blame::{Blame, first_unexplained};
 pub use checker::{explain, explain_until};
+pub use ending::words_at_end;
 pub use observed::Observed;
+pub use replay::words_after;
 pub use verdict::Verdict;
 
 #[cfg(test)]
 mod byte_tests;
 #[cfg(test)]
 mod cut_tests;
+#[cfg(test)]
+mod ending_tests;
 #[cfg(test)]
 mod random_tests;
 #[cfg(test)]

@@ -6,6 +6,7 @@ ghost use Rattle.chi_explain.specs.Explains.{CanHold};
 
 use crate::chart::lies_here;
 use crate::observed::Observed;
+use crate::replay::words_after;
 use crate::step::step;
 use crate::trace::search_trace;
 use crate::verdict::Verdict;
@@ -22,26 +23,6 @@ fn add_word(words: &mut Vec<u64>, word: u64) -> Result<(), AllocError> {
         words.push(word)?;
     }
     Ok(())
-}
-
-// The words after the operations of an order. What it finds is tested, so nothing is promised of it.
-fn words_after(
-    alloc: Global,
-    region: &Region,
-    opening: &[u64],
-    ops: &[Observed],
-    order: &[usize],
-) -> Result<Vec<u64>, AllocError> {
-    let mut words = Vec::from_slice(alloc, opening)?;
-    for place in order {
-        if *place < ops.len() && ops[*place].entry.access.fits(region) {
-            let access = ops[*place].entry.access;
-            if let Some(word) = words.get_mut(access.granule(region)) {
-                *word = apply(*word, &access).0;
-            }
-        }
-    }
-    Ok(words)
 }
 
 // Words that a granule may hold: those along an order, the last first, and what the operations that are open make of
@@ -83,42 +64,47 @@ fn words_to_try(
     Ok(words)
 }
 
-// Whether some order explains the trace up to a time and leaves these words.
+// Whether some order explains the trace up to a time, or the whole trace where there is no time, and leaves these
+// words.
 fn leaves(
     alloc: Global,
     region: &Region,
     opening: &[u64],
-    time: u64,
+    until: Option<u64>,
     ops: &[Observed],
     words: &[u64],
     budget: u64,
 ) -> Result<bool, AllocError>
     ensures { IfOk result (λ is. IsTrue is → (g : ℕ) → g < region.now.granules →
-        CanHold (opened region.now 256 opening.now) time ops.now g (slice_index words.now g)) }
+        CanHold (opened region.now 256 opening.now) until ops.now g (slice_index words.now g)) }
 {
-    match search_trace(alloc, region, opening, Some(words), Some(time), ops, budget)? {
+    match search_trace(alloc, region, opening, Some(words), until, ops, budget)? {
         Verdict::Explained(_) => Ok(true),
         _ => Ok(false),
     }
 }
 
-/// Words that a granule can hold up to a time, at most 16 of them. `order` explains the trace until then, and
+/// Words that a granule can hold up to a time, or at the end where there is no time, at most 16 of them. `order`
+/// explains the trace until then, and
 /// `overlapping` has operations of the granule that can still take effect.
 pub(crate) fn possible_words(
     alloc: Global,
     region: &Region,
     opening: &[u64],
-    time: u64,
+    until: Option<u64>,
     ops: &[Observed],
     granule: usize,
     order: &[usize],
     overlapping: &[usize],
     budget: u64,
 ) -> Result<Vec<u64>, AllocError>
-    ensures { IfOk result (λ words. All (CanHold (opened region.now 256 opening.now) time ops.now granule) words.items) }
+    ensures { IfOk result (λ words. All (CanHold (opened region.now 256 opening.now) until ops.now granule) words.items) }
 {
     let mut found = Vec::new(alloc);
-    let mut words = words_after(alloc, region, opening, ops, order)?;
+    let mut words = match words_after(alloc, region, opening, ops, order)? {
+        Some(words) => words,
+        None => return Ok(found),
+    };
     if granule >= opening.len()
         || granule >= words.len()
         || granule >= usize::from(region.granules())
@@ -136,7 +122,7 @@ pub(crate) fn possible_words(
     )?;
     for word in &tried {
         words[granule] = *word;
-        if leaves(alloc, region, opening, time, ops, &words, budget)? {
+        if leaves(alloc, region, opening, until, ops, &words, budget)? {
             found.push(*word)?;
         }
     }

@@ -1,6 +1,6 @@
 //! Tests whether an order explains the trace, by one pass for each thing that is asked.
 
-ghost use Rattle.std.specs.Prelude.{◌≡◌, ℕ, ◌<◌, ◌≤◌, ◌&&◌, IsTrue, Option, IfOk, IfSome, length, nat_lt, slice_index, option_map};
+ghost use Rattle.std.specs.Prelude.{◌≡◌, ℕ, ◌<◌, ◌≤◌, ◌&&◌, IsTrue, IsSome, None, Option, IfOk, IfSome, length, nat_lt, slice_index, option_map};
 ghost use Rattle.chi_lanes.specs.Memory.{word};
 ghost use Rattle.chi_history.specs.History.{IsLegal, end, one_if};
 ghost use Rattle.chi_history.specs.Opened.{opened};
@@ -66,6 +66,49 @@ fn ends_with(finals: Option<&[u64]>, words: &[u64]) -> bool
     }
 }
 
+/// The words that the operations leave in this order, from the opening words on. `None` where they are no legal
+/// history, and where `opening` does not have a word for each granule.
+///
+/// Source: profile.
+///
+/// ```
+/// let words = words_after(alloc, &region, &opening, &ops, &order)?; // Some([5, 0])
+/// ```
+pub fn words_after(
+    alloc: Global,
+    region: &Region,
+    opening: &[u64],
+    ops: &[Observed],
+    order: &[usize],
+) -> Result<Option<Vec<u64>>, AllocError>
+    ensures legal { IfOk result (λ found. IsSome found → IsLegal (opened region.now 256 opening.now) (history ops.now order.now)) }
+    ensures count { IfOk result (λ found. IfSome found (λ words. length words.items ≡ region.now.granules)) }
+    ensures words { IfOk result (λ found. IfSome found (λ words. (g : ℕ) → g < region.now.granules →
+        slice_index words.items g ≡ word (end (opened region.now 256 opening.now) (history ops.now order.now)) region.now g)) }
+    ensures none { IfOk result (λ found. found ≡ None → length opening.now ≡ region.now.granules →
+        IsLegal (opened region.now 256 opening.now) (history ops.now order.now) → ⊥) }
+{
+    if opening.len() != usize::from(region.granules()) {
+        return Ok(None);
+    }
+    let mut words = Vec::from_slice(alloc, opening)?;
+    for place in order {
+        if *place >= ops.len() {
+            return Ok(None);
+        }
+        let op = ops[*place];
+        if !op.entry.access.fits(region) {
+            return Ok(None);
+        }
+        let granule = op.entry.access.granule(region);
+        match step(region, &op, words[granule]) {
+            Some(after) => words[granule] = after,
+            None => return Ok(None),
+        }
+    }
+    Ok(Some(words))
+}
+
 // Whether the operations are a legal history from the opening words on that leaves the last words.
 fn is_legal(
     alloc: Global,
@@ -79,26 +122,10 @@ fn is_legal(
     ensures ending { IfOk result (λ is. IsTrue is → IfSome (option_map (λ words. words.now) finals.entry) (λ words. (g : ℕ) → g < region.now.granules →
         word (end (opened region.now 256 opening.now) (history ops.now order.now)) region.now g ≡ slice_index words g)) }
 {
-    let granules = usize::from(region.granules());
-    if opening.len() != granules {
-        return Ok(false);
+    match words_after(alloc, region, opening, ops, order)? {
+        Some(words) => Ok(ends_with(finals, &words)),
+        None => Ok(false),
     }
-    let mut words = Vec::from_slice(alloc, opening)?;
-    for place in order {
-        if *place >= ops.len() {
-            return Ok(false);
-        }
-        let op = ops[*place];
-        if !op.entry.access.fits(region) {
-            return Ok(false);
-        }
-        let granule = op.entry.access.granule(region);
-        match step(region, &op, words[granule]) {
-            Some(after) => words[granule] = after,
-            None => return Ok(false),
-        }
-    }
-    Ok(ends_with(finals, &words))
 }
 
 /// Whether the order explains the trace up to a time.

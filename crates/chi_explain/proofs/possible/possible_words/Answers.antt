@@ -15,10 +15,10 @@ loop-word-preserved c =
       held = elim c.if-branch.branch [
         | then-branch+in_ok-push w ↦
             rw w.found-is
-            (subst (All (CanHold (opened c.args.region.now 256 c.args.opening.now) c.args.time c.args.ops.now c.args.granule)) (sym w.in_ok-push.ensures.items)
-            (All-push (CanHold (opened c.args.region.now 256 c.args.opening.now) c.args.time c.args.ops.now c.args.granule) c.loop-word.found.items
+            (subst (All (CanHold (opened c.args.region.now 256 c.args.opening.now) c.args.until c.args.ops.now c.args.granule)) (sym w.in_ok-push.ensures.items)
+            (All-push (CanHold (opened c.args.region.now 256 c.args.opening.now) c.args.until c.args.ops.now c.args.granule) c.loop-word.found.items
             (get_or c.deref-word-items.result.now c.loop-word.word-index 0) c.loop-word.invariant.held
-            (subst (CanHold (opened c.args.region.now 256 c.args.opening.now) c.args.time c.args.ops.now c.args.granule)
+            (subst (CanHold (opened c.args.region.now 256 c.args.opening.now) c.args.until c.args.ops.now c.args.granule)
             (ap (λ (ws : List ℕ). slice_index ws c.args.granule) c.deref.ensures.value
             ∙ get_or-set_same c.loop-word.words.items c.args.granule (get_or c.deref-word-items.result.now c.loop-word.word-index 0) 0 within)
             (c.in_ok-leaves.ensures w.if-branch.true c.args.granule inside))))

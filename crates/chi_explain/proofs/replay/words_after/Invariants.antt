@@ -2,7 +2,7 @@
 use Rattle.std.proofs.Common.{◌≡◌, length}
 use Rattle.chi_history.specs.Opened.{opened}
 use Rattle.chi_explain.proofs.Replays.{Plays}
-use Rattle.chi_explain.proofs.replay.is_legal.Given as goal
+use Rattle.chi_explain.proofs.replay.words_after.Given as goal
 
 abbrev pub invariant-loop-place : goal.invariant-loop-place
 invariant-loop-place l = record {
