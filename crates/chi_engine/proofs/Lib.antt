@@ -1,4 +1,3 @@
-pub mod WordsLemmas
 pub mod WrittenLemmas
 pub mod RunLemmas
 pub mod RaceLemmas

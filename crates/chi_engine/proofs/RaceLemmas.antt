@@ -14,8 +14,8 @@ use Rattle.chi_requester.specs.Race.{IsRace, IsRaceRun}
 use Rattle.chi_requester.specs.Work.{requests_of}
 use Rattle.chi_script.specs.Script.{ScriptValue}
 use Rattle.chi_engine.specs.Store.{IsFresh, opening_of}
-use Rattle.chi_engine.specs.Words.{granule_words}
-use Rattle.chi_engine.proofs.WordsLemmas.{words_are}
+use Rattle.chi_script.specs.RunText.{granule_words}
+use Rattle.chi_script.proofs.GranuleWords.{words_are}
 
 -- the words of the memory at the end of the history
 pub shown_raced : (o : Opening) (s : ScriptValue) (seen' : List Entry) (words : List ℕ) → o ≡ opening_of s → length words ≡ s.region.granules

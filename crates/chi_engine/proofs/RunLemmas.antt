@@ -15,8 +15,8 @@ use Rattle.chi_requester.proofs.SerialLemmas.{serial_end-entries}
 use Rattle.chi_script.specs.Script.{ScriptValue}
 use Rattle.chi_engine.specs.Run.{IsCut}
 use Rattle.chi_engine.specs.Store.{IsFresh, opening_of}
-use Rattle.chi_engine.specs.Words.{granule_words}
-use Rattle.chi_engine.proofs.WordsLemmas.{words_are}
+use Rattle.chi_script.specs.RunText.{granule_words}
+use Rattle.chi_script.proofs.GranuleWords.{words_are}
 
 -- the memory at the opening
 abbrev pub start : ScriptValue → Memory

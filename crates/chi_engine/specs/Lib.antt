@@ -1,4 +1,3 @@
-pub mod Words
 pub mod Store
 pub mod Engine
 pub mod Run

@@ -8,6 +8,7 @@ use Rattle.chi_history.specs.History.{end}
 use Rattle.chi_requester.specs.declared.fault.WorkFault.{WorkFault}
 use Rattle.chi_requester.specs.Race.{IsRace, IsRaceRun, one_and_two, one_to_four}
 use Rattle.chi_requester.specs.Work.{requests_of}
+use Rattle.chi_script.specs.RunText.{memory_text}
 use Rattle.chi_script.specs.Script.{ScriptValue}
 use Rattle.chi_script.specs.Transcript.{text}
 use Rattle.chi_script.specs.Written.{AppendsFront}
@@ -18,7 +19,6 @@ use Rattle.chi_engine.specs.declared.options.Workers.{Workers}
 use Rattle.chi_engine.specs.declared.options.Workers.TheVariants.{Two, Four}
 use Rattle.chi_engine.specs.Engine.{FromInput, FromOpening, TellsRegion}
 use Rattle.chi_engine.specs.Store.{limit_of, opening_of}
-use Rattle.chi_engine.specs.Run.{memory_text}
 
 -- the requesters at work at the same time
 abbrev pub racers_of : Workers → Held

@@ -2,34 +2,26 @@
 use Rattle.std.specs.Prelude.{◌≡◌, ◌≢◌, ℕ, List, [], ◌++◌, Option, Result, Ok, Err}
 use Rattle.std.specs.Io.KnownBytes.{Appends}
 use Rattle.chi_fields.specs.declared.request.Request.{Request}
-use Rattle.chi_fields.specs.Extent.{Extent}
-use Rattle.chi_lanes.specs.Memory.{Memory}
 use Rattle.chi_history.specs.declared.line.Line.{Line}
 use Rattle.chi_history.specs.History.{opening_memory}
-use Rattle.chi_history.specs.Lines.{serial, serial_end}
+use Rattle.chi_history.specs.Lines.{serial}
+use Rattle.chi_script.specs.RunText.{run_text}
 use Rattle.chi_script.specs.Script.{ScriptValue}
-use Rattle.chi_script.specs.Transcript.{memtext, text}
+use Rattle.chi_script.specs.Transcript.{text}
 use Rattle.chi_script.specs.Written.{AppendsFront}
 use Rattle.chi_engine.specs.declared.fault.EngineFault.{EngineFault}
 use Rattle.chi_engine.specs.declared.fault.EngineFault.TheVariants.{Work, Write}
 use Rattle.chi_engine.specs.declared.options.Options.{Options}
 use Rattle.chi_engine.specs.Engine.{FromInput, FromOpening, TellsRegion}
 use Rattle.chi_engine.specs.Store.{opening_of}
-use Rattle.chi_engine.specs.Words.{granule_words}
 
 -- the greatest requester number in a run
 abbrev pub most_src : ℕ
 most_src = 7
 
--- the memory lines of a region
-abbrev pub memory_text : Extent → Memory → List ℕ
-memory_text region m = memtext region.base (granule_words m region.base region.granules)
-
 -- the transcript of a script: the lines of its requests, worked in order, and the memory after them
 abbrev pub transcript : ScriptValue → List ℕ
-transcript s =
-    let start = opening_memory (opening_of s) in
-    text (serial s.region s.requests start) ++ memory_text s.region (serial_end s.region s.requests start)
+transcript s = run_text s.region s.requests (opening_memory (opening_of s))
 
 -- the lines are those of the first requests of the script, worked in order, and some requests were not worked
 pub record IsCut (s : ScriptValue) (lines : List Line) : Type 0 where

@@ -9,7 +9,7 @@ ghost use Rattle.chi_script.specs.Written.{Puts};
 ghost use Rattle.chi_engine.specs.Engine.{KeepsUnworked, TellsOpening};
 ghost use Rattle.chi_engine.specs.Race.{IsRaceCut, IsRaced, Races, RacesBy, most_racer, race_lines};
 ghost use Rattle.chi_engine.specs.Store.{IsFresh, limit_of, opening_of};
-ghost use Rattle.chi_engine.specs.Words.{granule_words};
+ghost use Rattle.chi_script.specs.RunText.{granule_words};
 
 use crate::fault::EngineFault;
 use crate::options::{Options, Workers};

@@ -7,7 +7,7 @@ ghost use Rattle.chi_history.specs.Lines.{serial, serial_end};
 ghost use Rattle.chi_engine.specs.Engine.{KeepsUnworked, TellsOpening};
 ghost use Rattle.chi_engine.specs.Run.{IsCut, Works, WorksBy, most_src};
 ghost use Rattle.chi_engine.specs.Store.{IsFresh, opening_of};
-ghost use Rattle.chi_engine.specs.Words.{granule_words};
+ghost use Rattle.chi_script.specs.RunText.{granule_words};
 
 use crate::fault::EngineFault;
 use crate::options::Options;

@@ -1,4 +1,5 @@
 pub mod Decimal
+pub mod GranuleWords
 pub mod ImageLemmas
 pub mod OnScript
 pub mod OnText

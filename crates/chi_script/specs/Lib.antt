@@ -1,6 +1,7 @@
 pub mod Laws
 pub mod Member
 pub mod Piece
+pub mod RunText
 pub mod Script
 pub mod Transcript
 pub mod Written

@@ -23,8 +23,12 @@ pub enum WriteFault {
     Stuck,
 }
 
-// All bytes to the writer, in as many writes as it needs.
-fn put_all<W: Write>(to: &mut W, bytes: &[u8]) -> Result<(), WriteFault>
+/// Writes all bytes, in as many writes as it takes. After a fault exactly a prefix of them has been written.
+///
+/// ```
+/// write_bytes(&mut out, b"explained\n")?;
+/// ```
+pub fn write_bytes<W: Write>(to: &mut W, bytes: &[u8]) -> Result<(), WriteFault>
     ensures { Puts (W.contents to.old) (W.contents to.new) result bytes.now }
 {
     let mut at = 0;
@@ -43,7 +47,7 @@ pub(crate) fn put_page<W: Write>(to: &mut W, page: &mut Page) -> Result<(), Writ
     ensures writes { Writes (W.contents to.old) page.old (W.contents to.new) page.new result [] }
     ensures empty { OnOk result (page.new ≡ []) }
 {
-    put_all(to, page.bytes())?;
+    write_bytes(to, page.bytes())?;
     page.clear();
     Ok(())
 }
@@ -60,7 +64,7 @@ pub(crate) fn put_bytes<W: Write>(
     if page.room() < bytes.len() {
         put_page(to, page)?;
         if PAGE < bytes.len() {
-            return put_all(to, bytes);
+            return write_bytes(to, bytes);
         }
     }
     page.extend(bytes);

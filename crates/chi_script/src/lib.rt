@@ -12,7 +12,7 @@ mod script;
 mod transcript;
 mod walk;
 
-pub use device::WriteFault;
+pub use device::{WriteFault, write_bytes};
 pub use fault::{MOST_REQUESTS, ScriptFault};
 pub use member::Member;
 pub use script::{Script, read_script};

@@ -3,4 +3,4 @@ use Rattle.chi_script.proofs.Written.{writes_past}
 use Rattle.chi_script.proofs.device.put_bytes.Goals as goal
 
 pub returns-then-bytes-gt-PAGE : goal.returns-then-bytes-gt-PAGE
-returns-then-bytes-gt-PAGE g c = writes_past _ _ _ _ _ _ _ c.in_ok-put_page.ensures.empty c.in_ok-put_page.ensures.writes c.put_all.ensures
+returns-then-bytes-gt-PAGE g c = writes_past _ _ _ _ _ _ _ c.in_ok-put_page.ensures.empty c.in_ok-put_page.ensures.writes c.write_bytes.ensures

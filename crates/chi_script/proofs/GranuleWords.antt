@@ -1,8 +1,8 @@
--- the words of a region's memory
-use Rattle.std.proofs.Common.{◌≡◌, ℕ, zero, suc, ◌+◌, ◌*◌, ◌<◌, List, length, take, drop, ◌++◌, take_at, slice_index, refl, sym, ap, ◌∙◌, arith, ext_get_or}
+-- the words of a region, as a list
+use Rattle.std.proofs.Common.{◌≡◌, ℕ, zero, suc, ◌+◌, ◌*◌, ◌<◌, List, length, slice_index, refl, sym, ap, ◌∙◌, arith, ext_get_or}
 use Rattle.chi_fields.specs.Extent.{Extent}
 use Rattle.chi_lanes.specs.Memory.{Memory, word, word_at}
-use Rattle.chi_engine.specs.Words.{granule_words}
+use Rattle.chi_script.specs.RunText.{granule_words}
 
 -- how many words there are
 length-granule_words : (m : Memory) (start n : ℕ) → length (granule_words m start n) ≡ n
@@ -27,7 +27,3 @@ words_are m region words count each =
     (λ i below.
     let inside : i < region.granules = rw count at below in
     each i inside ∙ sym (get_or-granule_words m region.base region.granules i inside))
-
--- a slice that was written whole
-pub rewritten : (xs ys : List ℕ) (n : ℕ) → length xs ≡ n → take n (xs ++ drop (length xs) ys) ≡ xs
-rewritten xs ys n count = take_at xs (drop (length xs) ys) n count

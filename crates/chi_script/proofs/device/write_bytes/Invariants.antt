@@ -1,7 +1,7 @@
 -- what the writer took so far
 use Rattle.std.proofs.Common.{◌-◌, ◌≤◌, length, take}
 use Rattle.std.specs.Io.KnownBytes.{Appends}
-use Rattle.chi_script.proofs.device.put_all.Given as goal
+use Rattle.chi_script.proofs.device.write_bytes.Given as goal
 
 abbrev pub invariant-writing : goal.invariant-writing
 invariant-writing g l = record {
