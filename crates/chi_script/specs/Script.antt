@@ -1,7 +1,7 @@
 -- the script that a text is, or its first fault
 use Rattle.std.specs.Prelude.{ℕ, ◌-◌, ◌*◌, ◌/◌, ◌^◌, ◌==◌, nat_lt, nat_le, if◌then◌else◌, List, [], ◌∷◌, length, map, replicate, Option, None, Some, is_some, option_and_then, Result, Ok, Err}
 use Rattle.std.specs.Result.{result_ok}
-use Rattle.std.specs.Option.{ok_or, option_map, option_map_or}
+use Rattle.std.specs.Option.{ok_or, option_map, option_transpose, unwrap_or}
 use Rattle.std.specs.Simd.{first_chunks}
 use Rattle.std.specs.Str.{is_utf8}
 use Rattle.hex.specs.Hex.{decode_sized}
@@ -58,10 +58,15 @@ words_of bytes = map little (first_chunks 8 (length bytes / 8) bytes)
 abbrev pub image_of : ℕ → Data → Option (List ℕ)
 image_of granules d = option_map words_of (hex_bytes (8 * granules) d)
 
+-- the words of so many granules that a member states, where it is there
+unfoldable pub stated_words : Member → ℕ → Data → Result (Option (List ℕ)) ScriptFault
+stated_words m granules d = option_transpose (option_map (λ value. ok_or (image_of granules value) (BadMember m)) (get (member_name m) d))
+
 -- the words at the opening: the image's where the member is there, and else zeros
 unfoldable pub opening_words : ℕ → Data → Result (List ℕ) ScriptFault
-opening_words granules d =
-    option_map_or (λ image. ok_or (image_of granules image) (BadMember Image)) (get (member_name Image) d) (Ok (replicate granules 0))
+opening_words granules d = do
+  stated ← stated_words Image granules d
+  Ok (unwrap_or stated (replicate granules 0))
 
 -- a request, of a requester up to the greatest one
 unfoldable pub request_of : ℕ → Data → Result Request ScriptFault

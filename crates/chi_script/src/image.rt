@@ -1,9 +1,10 @@
-//! The memory at the opening, as a script states it.
+//! The words of a region's granules, as a script or a trace states them.
 
-ghost use Rattle.std.specs.Prelude.{◌≡◌, ◌≢◌, ◌*◌, Some, None, Ok, Err, replicate, IfOk, IfErr, IsErr, length};
+ghost use Rattle.std.specs.Prelude.{◌≡◌, ◌≢◌, ◌*◌, Some, None, Ok, Err, replicate, IfOk, IfErr, IfSome, IsErr, length};
+ghost use Rattle.std.specs.Option.{option_map};
 ghost use Rattle.hex.specs.Hex.{decode_sized};
 ghost use Rattle.serde_json.specs.View.{view};
-ghost use Rattle.chi_script.specs.Script.{words_of, image_of, opening_words};
+ghost use Rattle.chi_script.specs.Script.{words_of, image_of, stated_words, opening_words};
 
 use crate::fault::ScriptFault;
 use crate::member::Member;
@@ -31,45 +32,83 @@ fn zeros(alloc: Global, granules: u16) -> Result<Vec<u64>, AllocError>
 }
 
 // The bytes of so many granules, of a text of sixteen hex digits for each.
-fn image_bytes(alloc: Global, text: &str, granules: u16) -> Result<Vec<u8>, ScriptFault>
+fn image_bytes(
+    alloc: Global,
+    text: &str,
+    member: Member,
+    granules: u16,
+) -> Result<Vec<u8>, ScriptFault>
     ensures ok { IfOk result (λ bytes. decode_sized text.now (8 * granules) ≡ Ok bytes.items) }
-    ensures fault { IfErr result (λ f. f ≢ ScriptFault.Memory → (f ≡ ScriptFault.BadMember Member.Image) × IsErr (decode_sized text.now (8 * granules))) }
+    ensures fault { IfErr result (λ f. f ≢ ScriptFault.Memory → (f ≡ ScriptFault.BadMember member) × IsErr (decode_sized text.now (8 * granules))) }
 {
     if text.len() != 16 * usize::from(granules) {
-        return Err(ScriptFault::BadMember(Member::Image));
+        return Err(ScriptFault::BadMember(member));
     }
     match hex::decode(alloc, text) {
         Ok(bytes) => Ok(bytes),
         Err(FromHexError::OutOfMemory) => Err(ScriptFault::Memory),
-        Err(_) => Err(ScriptFault::BadMember(Member::Image)),
+        Err(_) => Err(ScriptFault::BadMember(member)),
     }
 }
 
-// The words of an image of so many granules.
-fn image(alloc: Global, value: &Value, granules: u16) -> Result<Vec<u64>, ScriptFault>
+// The words of so many granules that a member's value states.
+fn image(
+    alloc: Global,
+    value: &Value,
+    member: Member,
+    granules: u16,
+) -> Result<Vec<u64>, ScriptFault>
     ensures ok { IfOk result (λ words. image_of granules (view value.now) ≡ Some words.items) }
-    ensures fault { IfErr result (λ f. f ≢ ScriptFault.Memory → (f ≡ ScriptFault.BadMember Member.Image) × (image_of granules (view value.now) ≡ None)) }
+    ensures fault { IfErr result (λ f. f ≢ ScriptFault.Memory → (f ≡ ScriptFault.BadMember member) × (image_of granules (view value.now) ≡ None)) }
 {
     let Some(text) = value.as_str() else {
-        return Err(ScriptFault::BadMember(Member::Image));
+        return Err(ScriptFault::BadMember(member));
     };
-    let bytes = image_bytes(alloc, text, granules)?;
+    let bytes = image_bytes(alloc, text, member, granules)?;
     words(alloc, bytes.as_slice()).map_err(|_| ScriptFault::Memory)
 }
 
-// The words of the granules at the opening: those of the image, or zeros where there is none.
-#[tactic(auto, unfolding(crate::specs::Script::opening_words))]
-pub(crate) fn opening_words(
+/// The words of `granules` granules that a member of an object states, and `None` where the object has no such
+/// member.
+///
+/// The member is a text of exactly 16 hex digits for each granule, in either case: the bytes of the granules in
+/// address order. Byte `k` of a word is its bits `8k` to `8k + 7`. Any other value is `BadMember`, and `Memory` is
+/// answered where a growth is refused.
+///
+/// ```
+/// let words = stated_words(alloc, &object, Member::Final, region.granules())?;
+/// ```
+#[tactic(auto, unfolding(crate::specs::Script::stated_words))]
+pub fn stated_words(
     alloc: Global,
     object: &Value,
+    member: Member,
     granules: u16,
-) -> Result<Vec<u64>, ScriptFault>
+) -> Result<Option<Vec<u64>>, ScriptFault>
+    ensures ok { IfOk result (λ stated. stated_words member granules (view object.now) ≡ Ok (option_map (λ words. words.items) stated)) }
+    ensures fault { IfErr result (λ f. f ≢ ScriptFault.Memory → stated_words member granules (view object.now) ≡ Err f) }
+    ensures sized { IfOk result (λ stated. IfSome stated (λ words. length words.items ≡ granules)) }
+{
+    match object.get(member.name()) {
+        Some(value) => Ok(Some(image(alloc, value, member, granules)?)),
+        None => Ok(None),
+    }
+}
+
+/// The words of `granules` granules at the opening: those that the member `image` of an object states, and zeros
+/// where the object has no such member.
+///
+/// ```
+/// let image = opening_words(alloc, &object, region.granules())?;
+/// ```
+#[tactic(auto, unfolding(crate::specs::Script::opening_words))]
+pub fn opening_words(alloc: Global, object: &Value, granules: u16) -> Result<Vec<u64>, ScriptFault>
     ensures ok { IfOk result (λ words. opening_words granules (view object.now) ≡ Ok words.items) }
     ensures fault { IfErr result (λ f. f ≢ ScriptFault.Memory → opening_words granules (view object.now) ≡ Err f) }
     ensures imaged { IfOk result (λ words. length words.items ≡ granules) }
 {
-    match object.get(Member::Image.name()) {
-        Some(value) => image(alloc, value, granules),
+    match stated_words(alloc, object, Member::Image, granules)? {
+        Some(words) => Ok(words),
         None => zeros(alloc, granules).map_err(|_| ScriptFault::Memory),
     }
 }

@@ -1,9 +1,14 @@
-//! The members of a script.
+//! The members of a script and of a trace.
 
 ghost use Rattle.std.specs.Prelude.{◌≡◌};
 ghost use Rattle.chi_script.specs.Member.{member_name};
 
-/// A member of a script's object, the first four, or of a request in it. All but `Image` are required.
+/// A member of the object that a script or a trace is, or of a request in it.
+///
+/// - `Base` to `Requests` are the object's. `Image` may be left out.
+/// - `Src` to `Lanes` are a request's.
+/// - `Final`, of the object, and `Start`, `End` and `Reply`, of a request, are of traces alone. `Final` may be left
+///   out.
 #[derive(Clone, Copy, Debug, PartialEq, Eq)]
 pub enum Member {
     Base,
@@ -18,10 +23,14 @@ pub enum Member {
     Endian,
     Be,
     Lanes,
+    Final,
+    Start,
+    End,
+    Reply,
 }
 
 impl Member {
-    /// The member's name in the script.
+    /// The member's name in the object.
     ///
     /// ```
     /// let name = Member::Opcode.name(); // op
@@ -42,6 +51,10 @@ impl Member {
             Member::Endian => "endian",
             Member::Be => "be",
             Member::Lanes => "lanes",
+            Member::Final => "final",
+            Member::Start => "start",
+            Member::End => "end",
+            Member::Reply => "reply",
         }
     }
 }

@@ -72,9 +72,15 @@ impl Script {
     }
 }
 
-// The value of a text that is JSON in UTF-8.
+/// The value of a text that is one JSON text in UTF-8.
+///
+/// `NotJson` is answered where it is none or nests more than 127 deep, and `Memory` where a growth is refused.
+///
+/// ```
+/// let value = json(alloc, b"[]")?;
+/// ```
 #[tactic(auto, unfolding(crate::specs::Script::json_value))]
-fn json(alloc: Global, text: &[u8]) -> Result<Value, ScriptFault>
+pub fn json(alloc: Global, text: &[u8]) -> Result<Value, ScriptFault>
     ensures ok { IfOk result (λ v. json_value text.now ≡ Some (view v)) }
     ensures fault { IfErr result (λ f. f ≢ ScriptFault.Memory → (f ≡ ScriptFault.NotJson) × (json_value text.now ≡ None)) }
 {

@@ -1,4 +1,4 @@
-//! The walk over a script's value.
+//! The walk over the value of a script, and of what has requests as a script has them.
 
 ghost use Rattle.std.specs.Prelude.{◌≡◌, ◌≢◌, ◌≤◌, IfOk, IfErr, Ok, Err};
 ghost use Rattle.serde_json.specs.View.{view, items_view};
@@ -12,9 +12,16 @@ use hex::FromHex;
 use serde_json::Value;
 use std::alloc::Global;
 
-// A member that is a whole number from 0 to a greatest one.
+/// The member of an object that is a whole number from 0 to `top`.
+///
+/// `Missing` is answered where the object has no such member, and `BadMember` where it has another value: also a
+/// number with a fraction or an exponent.
+///
+/// ```
+/// let start = number(&object, Member::Start, u64::MAX)?;
+/// ```
 #[tactic(auto, unfolding(crate::specs::Script::number_of))]
-pub(crate) fn number(object: &Value, member: Member, top: u64) -> Result<u64, ScriptFault>
+pub fn number(object: &Value, member: Member, top: u64) -> Result<u64, ScriptFault>
     ensures value { result ≡ number_of member top (view object.now) }
     ensures small { IfOk result (λ n. n ≤ top) }
 {
@@ -43,9 +50,14 @@ fn lanes(object: &Value) -> Result<[u8; 16], ScriptFault>
     }
 }
 
-// A request, of a requester up to `top`.
+/// The request that an object is, of a requester up to `top`, or the first fault of its members. They are read in
+/// the order `src`, `txn`, `op`, `size`, `addr`, `endian`, `be`, `lanes`, and further members are ignored.
+///
+/// ```
+/// let request = request(&object, 255)?;
+/// ```
 #[tactic(auto, unfolding(crate::specs::Script::request_of))]
-fn request(object: &Value, top: u8) -> Result<Request, ScriptFault>
+pub fn request(object: &Value, top: u8) -> Result<Request, ScriptFault>
     ensures { result ≡ request_of top (view object.now) }
 {
     let src = number(object, Member::Src, u64::from(top))?;
