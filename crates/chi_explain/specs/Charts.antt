@@ -1,4 +1,4 @@
--- the operations of one granule in lanes, where each starts after the one before it ended
+-- the operations of a trace in lanes of their granules, where each starts after the one before it ended
 use Rattle.std.specs.Prelude.{◌≡◌, ℕ, ◌+◌, ◌-◌, ◌<◌, ◌≤◌, ◌==◌, nat_le, nat_lt, Bool, ◌&&◌, ◌⊎◌, List, ◌∷◌, length, slice_index, All, Option, Some}
 use Rattle.chi_fields.specs.Extent.{Extent, granule_of, lies_in}
 use Rattle.chi_explain.specs.declared.observed.Observed.{Observed}
@@ -20,47 +20,81 @@ is_here trace until region g i = (nat_lt i (length trace) && has_started until (
 abbrev pub is_open_at : List Observed → ℕ → Extent → ℕ → ℕ → Bool
 is_open_at trace time region g i = is_here trace (Some time) region g i && nat_le time (at trace i).end
 
--- the lane of an operation, and its place there, counted from 1; an operation of another granule has place 0
+-- the place is one of the trace, its operation had started, and it lies in the region
+abbrev pub is_inside : List Observed → Option ℕ → Extent → ℕ → Bool
+is_inside trace until region i =
+    (nat_lt i (length trace) && has_started until (at trace i)) && lies_in (at trace i).entry.access.addr (at trace i).entry.access.len region
+
+-- the granule of an operation, its lane there, and its place in the lane, counted from 1; an operation that is not
+-- inside has place 0
+abbrev pub granule : Chart → ℕ → ℕ
+granule c i = slice_index c.granule.items i
+
 abbrev pub lane : Chart → ℕ → ℕ
 lane c i = slice_index c.lane.items i
 
 abbrev pub place : Chart → ℕ → ℕ
 place c i = slice_index c.place.items i
 
--- operation i stands in lane r after k others
-pub record Stands (c : Chart) (r k i : ℕ) : Type 0 where
+-- how many lanes a granule has
+abbrev pub lanes : Chart → ℕ → ℕ
+lanes c g = slice_index c.starts.items (g + 1) - slice_index c.starts.items g
+
+-- where lane r of granule g begins in the row, and where it ends
+abbrev pub first : Chart → ℕ → ℕ → ℕ
+first c g r = slice_index c.firsts.items (slice_index c.starts.items g + r)
+
+abbrev pub past : Chart → ℕ → ℕ → ℕ
+past c g r = slice_index c.firsts.items (slice_index c.starts.items g + r + 1)
+
+-- operation i stands in lane r of granule g after k others
+pub record Stands (c : Chart) (g r k i : ℕ) : Type 0 where
+  pub granule_is : granule c i ≡ g
   pub lane_is : lane c i ≡ r
   pub place_is : place c i ≡ k + 1
-  pub lane_in : r < length c.firsts.items
-  pub row_in : slice_index c.firsts.items r + k < length c.row.items
-  pub row_is : slice_index c.row.items (slice_index c.firsts.items r + k) ≡ i
+  pub lane_in : r < lanes c g
+  pub row_in : first c g r + k < past c g r
+  pub row_is : slice_index c.row.items (first c g r + k) ≡ i
   pub in_lanes : i < length c.lane.items
-  pub in_places : i < length c.place.items
+
+-- what the row has for lane r of granule g stands there
+pub record IsLane (c : Chart) (g r : ℕ) : Type 0 where
+  pub number_in : slice_index c.starts.items g + r + 1 < length c.firsts.items
+  pub ordered : first c g r ≤ past c g r
+  pub row_in : past c g r ≤ length c.row.items
+  pub stands : (k : ℕ) → first c g r + k < past c g r → Stands c g r k (slice_index c.row.items (first c g r + k))
+
+pub record AreLanes (c : Chart) (g : ℕ) : Type 0 where
+  pub granule_in : g + 1 < length c.starts.items
+  pub ordered : slice_index c.starts.items g ≤ slice_index c.starts.items (g + 1)
+  pub each : (r : ℕ) → r < lanes c g → IsLane c g r
 
 -- the operation before it in its lane ended before it started
 abbrev pub Follows : List Observed → Chart → ℕ → Type 0
-Follows trace c i = (j : ℕ) × Stands c (lane c i) (place c i - 2) j × ((at trace j).end < (at trace i).start) × (2 ≤ place c i)
+Follows trace c i = (j : ℕ) × Stands c (granule c i) (lane c i) (place c i - 2) j × ((at trace j).end < (at trace i).start) × (2 ≤ place c i)
 
-pub record IsPlaced (trace : List Observed) (c : Chart) (i : ℕ) : Type 0 where
-  pub stands : Stands c (lane c i) (place c i - 1) i
+pub record IsPlaced (trace : List Observed) (region : Extent) (c : Chart) (i : ℕ) : Type 0 where
+  pub granule_is : granule c i ≡ granule_of (at trace i).entry.access.addr region
+  pub stands : Stands c (granule c i) (lane c i) (place c i - 1) i
   pub follows : (place c i ≡ 1) ⊎ Follows trace c i
 
--- exactly the granule's operations that had started have a place
-pub record IsChart (trace : List Observed) (until : Option ℕ) (region : Extent) (g : ℕ) (c : Chart) : Type 0 where
-  pub here : (i : ℕ) → nat_lt 0 (place c i) ≡ is_here trace until region g i
-  pub placed : (i : ℕ) → 0 < place c i → IsPlaced trace c i
+-- exactly the operations that had started and lie in the region have a place
+pub record IsChart (trace : List Observed) (until : Option ℕ) (region : Extent) (c : Chart) : Type 0 where
+  pub lanes : (g : ℕ) → g < region.granules → AreLanes c g
+  pub inside : (i : ℕ) → nat_lt 0 (place c i) ≡ is_inside trace until region i
+  pub placed : (i : ℕ) → 0 < place c i → IsPlaced trace region c i
 
--- the operation comes after those that were taken, so many of each lane
-abbrev pub left : Chart → List ℕ → ℕ → Bool
-left c taken i = nat_lt (slice_index taken (lane c i)) (place c i)
+-- the operation is one of granule g, and comes after those that were taken, so many of each of its lanes
+abbrev pub left : Chart → ℕ → List ℕ → ℕ → Bool
+left c g taken i = (granule c i == g) && nat_lt (slice_index taken (lane c i)) (place c i)
 
--- no order finishes the granule once these were taken and have left this word
-abbrev pub IsDead : List Observed → Option ℕ → Chart → Option ℕ → List ℕ → ℕ → Type 0
-IsDead trace until c final taken w = (order : List ℕ) → Finishes trace until (left c taken) w final order → ⊥
+-- no order finishes granule g once these were taken and have left this word
+abbrev pub IsDead : List Observed → Option ℕ → Chart → ℕ → Option ℕ → List ℕ → ℕ → Type 0
+IsDead trace until c g final taken w = (order : List ℕ) → Finishes trace until (left c g taken) w final order → ⊥
 
-abbrev pub AllDead : List Observed → Option ℕ → Chart → Option ℕ → List State → Type 0
-AllDead trace until c final states = All (λ s. IsDead trace until c final s.taken.items s.word) states
+abbrev pub AllDead : List Observed → Option ℕ → Chart → ℕ → Option ℕ → List State → Type 0
+AllDead trace until c g final states = All (λ s. IsDead trace until c g final s.taken.items s.word) states
 
--- no order that finishes the granule from here on begins with an operation of lane r
-abbrev pub NoneIn : List Observed → Option ℕ → Chart → Option ℕ → List ℕ → ℕ → ℕ → Type 0
-NoneIn trace until c final taken w r = (e : ℕ) (order : List ℕ) → lane c e ≡ r → Finishes trace until (left c taken) w final (e ∷ order) → ⊥
+-- no order that finishes granule g from here on begins with an operation of its lane r
+abbrev pub NoneIn : List Observed → Option ℕ → Chart → ℕ → Option ℕ → List ℕ → ℕ → ℕ → Type 0
+NoneIn trace until c g final taken w r = (e : ℕ) (order : List ℕ) → lane c e ≡ r → Finishes trace until (left c g taken) w final (e ∷ order) → ⊥

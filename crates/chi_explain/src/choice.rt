@@ -1,7 +1,7 @@
 //! What comes next at a state of the search.
 
-ghost use Rattle.std.specs.Prelude.{◌≡◌, ℕ, ◌+◌, ◌<◌, ◌⊎◌, List, IsTrue, Some, None, Option, IfSome, length, vec_len, slice_index, slice_set, true, false};
-ghost use Rattle.chi_explain.specs.Charts.{AllDead, IsChart, IsDead, NoneIn, Stands, left};
+ghost use Rattle.std.specs.Prelude.{◌≡◌, ℕ, ◌+◌, ◌<◌, ◌⊎◌, List, IsTrue, Some, None, Option, IfSome, length, slice_index, slice_set, true, false};
+ghost use Rattle.chi_explain.specs.Charts.{AllDead, AreLanes, IsChart, IsDead, NoneIn, Stands, lanes, left};
 ghost use Rattle.chi_explain.specs.Explains.{at, has_ended};
 ghost use Rattle.chi_explain.specs.Words.{Fits, IsIdle, next};
 
@@ -22,12 +22,14 @@ pub(crate) enum Choice {
 }
 
 // The operation that ends first, of those that come next in their lanes.
-fn first_to_end(ops: &[Observed], chart: &Chart, taken: &[usize]) -> Option<usize>
-    ensures { IfSome result (λ op. left chart.now taken.now op ≡ true) }
+fn first_to_end(ops: &[Observed], chart: &Chart, granule: usize, taken: &[usize]) -> Option<usize>
+    requires lanes { AreLanes chart.now granule }
+    requires counted { length taken.now ≡ lanes chart.now granule }
+    ensures { IfSome result (λ op. left chart.now granule taken.now op ≡ true) }
 {
     let mut first = None;
     for (lane, count) in taken.iter().enumerate() {
-        if let Some(op) = following(chart, lane, *count) {
+        if let Some(op) = following(chart, granule, lane, *count) {
             if op < ops.len() {
                 first = match first {
                     Some(best) => if best < ops.len() && ops[best].end <= ops[op].end {
@@ -79,8 +81,8 @@ fn is_ended(
 // Whether the memo has the state after one operation more of a lane.
 fn recalls_after(memo: &Memo, taken: &mut [usize], lane: usize, word: u64) -> bool
     ensures same { taken.new ≡ taken.old }
-    ensures dead { IsTrue result → (trace : List Observed) (until : Option ℕ) (chart : Chart) (final : Option ℕ) →
-        AllDead trace until chart final memo.now.states.items → IsDead trace until chart final (slice_set taken.old lane (slice_index taken.old lane + 1)) word }
+    ensures dead { IsTrue result → (trace : List Observed) (until : Option ℕ) (chart : Chart) (granule : ℕ) (final : Option ℕ) →
+        AllDead trace until chart granule final memo.now.states.items → IsDead trace until chart granule final (slice_set taken.old lane (slice_index taken.old lane + 1)) word }
 {
     if lane >= taken.len() || taken[lane] == usize::MAX {
         return false;
@@ -98,21 +100,24 @@ fn next_in(
     ops: &[Observed],
     until: Option<u64>,
     chart: &Chart,
+    granule: usize,
     taken: &[usize],
     first: Option<usize>,
     lane: usize,
     word: u64,
 ) -> Option<(usize, u64)>
-    requires chart { (g : ℕ) × IsChart ops.now until region.now g chart.now }
-    requires first { IfSome first (λ op. left chart.now taken.now op ≡ true) }
+    requires chart { IsChart ops.now until region.now chart.now }
+    requires granule { granule < region.now.granules }
+    requires first { IfSome first (λ op. left chart.now granule taken.now op ≡ true) }
+    requires lanes { length taken.now ≡ lanes chart.now granule }
     requires lane { lane < length taken.now }
-    ensures stands { IfSome result (λ found. Stands chart.now lane (slice_index taken.now lane) found.0) }
+    ensures stands { IfSome result (λ found. Stands chart.now granule lane (slice_index taken.now lane) found.0) }
     ensures in_trace { IfSome result (λ found. found.0 < length ops.now) }
     ensures fits { IfSome result (λ found. Fits (at ops.now found.0) word) }
     ensures after { IfSome result (λ found. found.1 ≡ next (at ops.now found.0) word) }
-    ensures none { result ≡ None → (final : Option ℕ) → NoneIn ops.now until chart.now final taken.now word lane }
+    ensures none { result ≡ None → (final : Option ℕ) → NoneIn ops.now until chart.now granule final taken.now word lane }
 {
-    let op = following(chart, lane, taken[lane])?;
+    let op = following(chart, granule, lane, taken[lane])?;
     if is_late(ops, first, op) {
         return None;
     }
@@ -126,18 +131,21 @@ fn idle_in(
     ops: &[Observed],
     until: Option<u64>,
     chart: &Chart,
+    granule: usize,
     taken: &[usize],
     first: Option<usize>,
     lane: usize,
     word: u64,
 ) -> Option<usize>
-    requires chart { (g : ℕ) × IsChart ops.now until region.now g chart.now }
-    requires first { IfSome first (λ op. left chart.now taken.now op ≡ true) }
+    requires chart { IsChart ops.now until region.now chart.now }
+    requires granule { granule < region.now.granules }
+    requires first { IfSome first (λ op. left chart.now granule taken.now op ≡ true) }
+    requires lanes { length taken.now ≡ lanes chart.now granule }
     requires lane { lane < length taken.now }
-    ensures stands { IfSome result (λ op. Stands chart.now lane (slice_index taken.now lane) op) }
+    ensures stands { IfSome result (λ op. Stands chart.now granule lane (slice_index taken.now lane) op) }
     ensures idle { IfSome result (λ op. IsIdle (at ops.now op)) }
 {
-    let (op, after) = next_in(region, ops, until, chart, taken, first, lane, word)?;
+    let (op, after) = next_in(region, ops, until, chart, granule, taken, first, lane, word)?;
     if is_idle(&ops[op], word, after) {
         Some(op)
     } else {
@@ -152,20 +160,23 @@ fn open_in(
     ops: &[Observed],
     until: Option<u64>,
     chart: &Chart,
+    granule: usize,
     memo: &Memo,
     taken: &mut [usize],
     first: Option<usize>,
     lane: usize,
     word: u64,
 ) -> Option<(usize, u64)>
-    requires chart { (g : ℕ) × IsChart ops.now until region.now g chart.now }
-    requires first { IfSome first (λ op. left chart.now taken.old op ≡ true) }
+    requires chart { IsChart ops.now until region.now chart.now }
+    requires granule { granule < region.now.granules }
+    requires first { IfSome first (λ op. left chart.now granule taken.old op ≡ true) }
+    requires lanes { length taken.old ≡ lanes chart.now granule }
     requires lane { lane < length taken.old }
     ensures same { taken.new ≡ taken.old }
-    ensures none { result ≡ None → (final : Option ℕ) → AllDead ops.now until chart.now final memo.now.states.items →
-        NoneIn ops.now until chart.now final taken.old word lane }
+    ensures none { result ≡ None → (final : Option ℕ) → AllDead ops.now until chart.now granule final memo.now.states.items →
+        NoneIn ops.now until chart.now granule final taken.old word lane }
 {
-    let (op, after) = next_in(region, ops, until, chart, taken, first, lane, word)?;
+    let (op, after) = next_in(region, ops, until, chart, granule, taken, first, lane, word)?;
     if recalls_after(memo, taken, lane, after) {
         None
     } else {
@@ -179,23 +190,25 @@ pub(crate) fn choose(
     ops: &[Observed],
     until: Option<u64>,
     chart: &Chart,
+    granule: usize,
     memo: &Memo,
     last: Option<u64>,
     taken: &mut [usize],
     word: u64,
 ) -> Choice
-    requires chart { (g : ℕ) × IsChart ops.now until region.now g chart.now }
-    requires lanes { length taken.old ≡ vec_len chart.now.firsts }
+    requires chart { IsChart ops.now until region.now chart.now }
+    requires granule { granule < region.now.granules }
+    requires lanes { length taken.old ≡ lanes chart.now granule }
     ensures same { taken.new ≡ taken.old }
-    ensures dead { result ≡ Choice.Dead → AllDead ops.now until chart.now last memo.now.states.items →
-        IsDead ops.now until chart.now last taken.old word }
+    ensures dead { result ≡ Choice.Dead → AllDead ops.now until chart.now granule last memo.now.states.items →
+        IsDead ops.now until chart.now granule last taken.old word }
 {
-    let first = first_to_end(ops, chart, taken);
+    let first = first_to_end(ops, chart, granule, taken);
     if is_ended(ops, until, first, last, word) {
         return Choice::Ended;
     }
     for lane in 0..taken.len() {
-        if let Some(op) = idle_in(region, ops, until, chart, taken, first, lane, word) {
+        if let Some(op) = idle_in(region, ops, until, chart, granule, taken, first, lane, word) {
             if recalls_after(memo, taken, lane, word) {
                 return Choice::Dead;
             }
@@ -204,7 +217,7 @@ pub(crate) fn choose(
     }
     for lane in 0..taken.len() {
         if let Some((op, after)) = open_in(
-            region, ops, until, chart, memo, taken, first, lane, word,
+            region, ops, until, chart, granule, memo, taken, first, lane, word,
         ) {
             return Choice::Take {
                 op,

@@ -3,6 +3,7 @@
 
 mod blame;
 mod chart;
+mod charting;
 mod checker;
 mod choice;
 mod cut;

@@ -26,14 +26,14 @@ pub(crate) struct Memo {
 const FEWEST_BUCKETS: usize = 64;
 
 /// A memo of no state.
-pub(crate) fn no_memo(alloc: Global) -> Result<Memo, AllocError>
-    ensures { IfOk result (λ memo. memo.states.items ≡ []) }
+pub(crate) fn no_memo(alloc: Global) -> Memo
+    ensures { result.states.items ≡ [] }
 {
-    Ok(Memo {
+    Memo {
         states: Vec::new(alloc),
-        newest: vec![in alloc; usize::MAX; FEWEST_BUCKETS]?,
+        newest: Vec::new(alloc),
         older: Vec::new(alloc),
-    })
+    }
 }
 
 // A number that differs for most states.
@@ -72,8 +72,8 @@ pub(crate) fn is_same(taken: &[usize], other: &[usize]) -> bool
 
 /// Whether the state is one of the memo.
 pub(crate) fn recalls(memo: &Memo, taken: &[usize], word: u64) -> bool
-    ensures { IsTrue result → (trace : List Observed) (until : Option ℕ) (chart : Chart) (final : Option ℕ) →
-        AllDead trace until chart final memo.now.states.items → IsDead trace until chart final taken.now word }
+    ensures { IsTrue result → (trace : List Observed) (until : Option ℕ) (chart : Chart) (granule : ℕ) (final : Option ℕ) →
+        AllDead trace until chart granule final memo.now.states.items → IsDead trace until chart granule final taken.now word }
 {
     let mut found = match memo.newest.get(bucket_of(taken, word, memo.newest.len())) {
         Some(newest) => *newest,
@@ -119,8 +119,8 @@ pub(crate) fn remember(
     taken: &[usize],
     word: u64,
 ) -> Result<(), AllocError>
-    ensures { OnOk result ((trace : List Observed) (until : Option ℕ) (chart : Chart) (final : Option ℕ) →
-        AllDead trace until chart final memo.old.states.items → IsDead trace until chart final taken.now word → AllDead trace until chart final memo.new.states.items) }
+    ensures { OnOk result ((trace : List Observed) (until : Option ℕ) (chart : Chart) (granule : ℕ) (final : Option ℕ) →
+        AllDead trace until chart granule final memo.old.states.items → IsDead trace until chart granule final taken.now word → AllDead trace until chart granule final memo.new.states.items) }
 {
     if memo.states.len() >= memo.newest.len() {
         grow(alloc, memo)?;

@@ -1,34 +1,44 @@
 //! Puts the orders of the granules together. What it makes is tested, so nothing is promised of it.
 
-use crate::observed::Observed;
+use crate::chart::Chart;
 use std::alloc::{AllocError, Global};
 
-/// A place of the trace, with the greatest start time in its granule's order up to it, and its place there. The
-/// operation can take effect at that time.
-pub(crate) type Key = (u64, usize, usize);
-
-/// Adds the keys of a granule's order.
-pub(crate) fn add_keys(
-    ops: &[Observed],
-    order: &[usize],
-    keys: &mut Vec<Key>,
-) -> Result<(), AllocError> {
-    let mut greatest = 0;
-    for (place, op) in order.iter().enumerate() {
-        if *op < ops.len() {
-            greatest = ops[*op].start.max(greatest);
-            keys.push((greatest, place, *op))?;
+// How many operations of an order have started, up to the first one that has not.
+fn ready(order: &[usize], from: usize, has_started: &[bool]) -> usize {
+    for place in from..order.len() {
+        if !has_started.get(order[place]).copied().unwrap_or(true) {
+            return place;
         }
     }
-    Ok(())
+    order.len().max(from)
 }
 
-/// The places in the order of their keys.
-pub(crate) fn merged(alloc: Global, mut keys: Vec<Key>) -> Result<Vec<usize>, AllocError> {
-    keys.sort()?;
-    let mut order = Vec::with_capacity(alloc, keys.len())?;
-    for (_, _, op) in &keys {
-        order.push(*op)?;
+/// The operations of all granules, each at the first start time by which those up to it in its granule's order had
+/// started. `places` are the trace's, by their start times.
+pub(crate) fn merged(
+    alloc: Global,
+    places: &[(u64, usize)],
+    chart: &Chart,
+    orders: &[Vec<usize>],
+) -> Result<Vec<usize>, AllocError> {
+    let mut has_started = vec![in alloc; false; chart.granule.len()]?;
+    let mut taken = vec![in alloc; 0; orders.len()]?;
+    let mut all = Vec::with_capacity(alloc, places.len())?;
+    for (_, op) in places {
+        if *op < has_started.len() && *op < chart.granule.len() {
+            has_started[*op] = true;
+            let granule = chart.granule[*op];
+            if granule < taken.len() && granule < orders.len() {
+                let order = &orders[granule];
+                let past = ready(order, taken[granule], &has_started);
+                for place in taken[granule]..past {
+                    if place < order.len() {
+                        all.push(order[place])?;
+                    }
+                }
+                taken[granule] = past;
+            }
+        }
     }
-    Ok(order)
+    Ok(all)
 }

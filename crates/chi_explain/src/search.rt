@@ -1,7 +1,7 @@
 //! The search of one granule, until all its operations were taken or the opening is dead.
 
-ghost use Rattle.std.specs.Prelude.{◌≡◌, ℕ, IsTrue, IfOk, length, vec_len, replicate};
-ghost use Rattle.chi_explain.specs.Charts.{IsChart, IsDead};
+ghost use Rattle.std.specs.Prelude.{◌≡◌, ℕ, ◌<◌, IsTrue, IfOk, length, replicate};
+ghost use Rattle.chi_explain.specs.Charts.{IsChart, IsDead, lanes};
 
 use crate::chart::Chart;
 use crate::choice::{Choice, choose};
@@ -74,21 +74,23 @@ pub(crate) fn search_from(
     ops: &[Observed],
     until: Option<u64>,
     chart: &Chart,
+    granule: usize,
     last: Option<u64>,
     opening: u64,
     taken: &mut [usize],
     budget: u64,
 ) -> Result<Found, AllocError>
-    requires chart { (g : ℕ) × IsChart ops.now until region.now g chart.now }
-    requires lanes { length taken.old ≡ vec_len chart.now.firsts }
+    requires chart { IsChart ops.now until region.now chart.now }
+    requires granule { granule < region.now.granules }
+    requires lanes { length taken.old ≡ lanes chart.now granule }
     ensures { IfOk result (λ found. found ≡ Found.Nothing →
-        IsDead ops.now until chart.now last (replicate (length taken.old) 0) opening) }
+        IsDead ops.now until chart.now granule last (replicate (length taken.old) 0) opening) }
 {
-    let mut memo = no_memo(alloc)?;
+    let mut memo = no_memo(alloc);
     let mut path: Vec<Taken> = Vec::new(alloc);
     let mut word = opening;
     for _ in 0..budget {
-        match choose(region, ops, until, chart, &memo, last, taken, word) {
+        match choose(region, ops, until, chart, granule, &memo, last, taken, word) {
             Choice::Ended => {
                 let order = ops_of(alloc, &path)?;
                 return Ok(Found::Path(order));

@@ -7,9 +7,10 @@ ghost use Rattle.chi_explain.specs.Explains.{ExplainsUntil};
 ghost use Rattle.chi_explain.specs.Verdict.{IfExplained, IfUnexplained};
 ghost use Rattle.chi_explain.specs.Words.{Finishes};
 
-use crate::drawing::by_start;
+use crate::charting::is_chart;
+use crate::drawing::{by_start, draw};
 use crate::granule::explain_granule;
-use crate::merging::{Key, add_keys, merged};
+use crate::merging::merged;
 use crate::observed::Observed;
 use crate::replay::explains;
 use crate::search::Found;
@@ -58,7 +59,11 @@ pub(crate) fn search_trace(
         return Ok(Verdict::Undecided);
     }
     let places = by_start(alloc, ops)?;
-    let mut keys: Vec<Key> = Vec::new(alloc);
+    let chart = draw(alloc, ops, until, region, &places)?;
+    if !is_chart(ops, until, region, &chart) {
+        return Ok(Verdict::Undecided);
+    }
+    let mut orders = Vec::with_capacity(alloc, granules)?;
     let mut decided = true;
     for granule in 0..granules {
         let last = last_of(finals, granule);
@@ -70,10 +75,10 @@ pub(crate) fn search_trace(
             last,
             ops,
             until,
-            &places,
+            &chart,
             budget,
         )? {
-            Found::Path(order) => add_keys(ops, &order, &mut keys)?,
+            Found::Path(order) => orders.push(order)?,
             Found::Nothing => return Ok(Verdict::Unexplained { granule }),
             Found::Undecided => decided = false,
         }
@@ -81,7 +86,7 @@ pub(crate) fn search_trace(
     if !decided {
         return Ok(Verdict::Undecided);
     }
-    let order = merged(alloc, keys)?;
+    let order = merged(alloc, &places, &chart, &orders)?;
     if explains(alloc, region, opening, finals, until, ops, &order)? {
         Ok(Verdict::Explained(order))
     } else {

@@ -9,5 +9,5 @@ invariant-loop-lane l = l.taken ≡ l.initial.taken
 abbrev pub invariant-loop-lane-2 : goal.invariant-loop-lane-2
 invariant-loop-lane-2 l = record {
   same : l.taken ≡ l.initial.taken;
-  none : AllDead l.ops l.fn.until l.chart l.fn.last l.memo.states.items → (r : ℕ) → r < l.lane → NoneIn l.ops l.fn.until l.chart l.fn.last l.taken l.word r;
+  none : AllDead l.ops l.fn.until l.chart l.fn.granule l.fn.last l.memo.states.items → (r : ℕ) → r < l.lane → NoneIn l.ops l.fn.until l.chart l.fn.granule l.fn.last l.taken l.word r;
 }

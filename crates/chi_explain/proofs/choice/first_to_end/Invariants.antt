@@ -4,4 +4,4 @@ use Rattle.chi_explain.specs.Charts.{left}
 use Rattle.chi_explain.proofs.choice.first_to_end.Given as goal
 
 abbrev pub invariant-loop-lane : goal.invariant-loop-lane
-invariant-loop-lane l = IfSome l.first (λ op. left l.chart l.taken op ≡ true)
+invariant-loop-lane l = IfSome l.first (λ op. left l.chart l.fn.granule l.taken op ≡ true)

@@ -5,5 +5,5 @@ use Rattle.chi_explain.proofs.search.search_from.Goals as goal
 
 pub loop-preserved : goal.loop-preserved
 loop-preserved c =
-    c.in_ok-remember.ensures c.args.ops.now c.args.until c.args.chart.now c.args.last c.loop.invariant
-    (subst (λ (ps : List ℕ). IsDead c.args.ops.now c.args.until c.args.chart.now c.args.last ps c.loop.word) (sym c.choose.ensures.same) (c.choose.ensures.dead c.in-Dead.is c.loop.invariant))
+    c.in_ok-remember.ensures c.args.ops.now c.args.until c.args.chart.now c.args.granule c.args.last c.loop.invariant
+    (subst (λ (ps : List ℕ). IsDead c.args.ops.now c.args.until c.args.chart.now c.args.granule c.args.last ps c.loop.word) (sym c.choose.ensures.same) (c.choose.ensures.dead c.in-Dead.is c.loop.invariant))
