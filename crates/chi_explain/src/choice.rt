@@ -125,62 +125,16 @@ fn next_in(
     Some((op, after))
 }
 
-// The operation that comes next in a lane, where it can be taken and changes nothing.
-fn idle_in(
-    region: &Region,
-    ops: &[Observed],
-    until: Option<u64>,
-    chart: &Chart,
-    granule: usize,
-    taken: &[usize],
-    first: Option<usize>,
-    lane: usize,
-    word: u64,
-) -> Option<usize>
-    requires chart { IsChart ops.now until region.now chart.now }
-    requires granule { granule < region.now.granules }
-    requires first { IfSome first (λ op. left chart.now granule taken.now op ≡ true) }
-    requires lanes { length taken.now ≡ lanes chart.now granule }
-    requires lane { lane < length taken.now }
-    ensures stands { IfSome result (λ op. Stands chart.now granule lane (slice_index taken.now lane) op) }
-    ensures idle { IfSome result (λ op. IsIdle (at ops.now op)) }
-{
-    let (op, after) = next_in(region, ops, until, chart, granule, taken, first, lane, word)?;
-    if is_idle(&ops[op], word, after) {
-        Some(op)
-    } else {
-        None
-    }
-}
-
-// The operation that comes next in a lane, and the word that it leaves, where the state after it is not known to
-// be dead.
-fn open_in(
-    region: &Region,
-    ops: &[Observed],
-    until: Option<u64>,
-    chart: &Chart,
-    granule: usize,
-    memo: &Memo,
-    taken: &mut [usize],
-    first: Option<usize>,
-    lane: usize,
-    word: u64,
-) -> Option<(usize, u64)>
-    requires chart { IsChart ops.now until region.now chart.now }
-    requires granule { granule < region.now.granules }
-    requires first { IfSome first (λ op. left chart.now granule taken.old op ≡ true) }
-    requires lanes { length taken.old ≡ lanes chart.now granule }
-    requires lane { lane < length taken.old }
+// Takes the next operation of a lane, which leaves this word, where the state after it is not known to be dead.
+fn open_in(memo: &Memo, taken: &mut [usize], lane: usize, op: usize, word: u64) -> Choice
     ensures same { taken.new ≡ taken.old }
-    ensures none { result ≡ None → (final : Option ℕ) → AllDead ops.now until chart.now granule final memo.now.states.items →
-        NoneIn ops.now until chart.now granule final taken.old word lane }
+    ensures dead { result ≡ Choice.Dead → (trace : List Observed) (until : Option ℕ) (chart : Chart) (granule : ℕ) (final : Option ℕ) →
+        AllDead trace until chart granule final memo.now.states.items → IsDead trace until chart granule final (slice_set taken.old lane (slice_index taken.old lane + 1)) word }
 {
-    let (op, after) = next_in(region, ops, until, chart, granule, taken, first, lane, word)?;
-    if recalls_after(memo, taken, lane, after) {
-        None
+    if recalls_after(memo, taken, lane, word) {
+        Choice::Dead
     } else {
-        Some((op, after))
+        Choice::Take { op, lane, word }
     }
 }
 
@@ -207,24 +161,18 @@ pub(crate) fn choose(
     if is_ended(ops, until, first, last, word) {
         return Choice::Ended;
     }
+    let mut choice = Choice::Dead;
     for lane in 0..taken.len() {
-        if let Some(op) = idle_in(region, ops, until, chart, granule, taken, first, lane, word) {
-            if recalls_after(memo, taken, lane, word) {
-                return Choice::Dead;
-            }
-            return Choice::Take { op, lane, word };
-        }
-    }
-    for lane in 0..taken.len() {
-        if let Some((op, after)) = open_in(
-            region, ops, until, chart, granule, memo, taken, first, lane, word,
+        if let Some((op, after)) = next_in(
+            region, ops, until, chart, granule, taken, first, lane, word,
         ) {
-            return Choice::Take {
-                op,
-                lane,
-                word: after,
-            };
+            if is_idle(&ops[op], word, after) {
+                return open_in(memo, taken, lane, op, word);
+            }
+            if let Choice::Dead = choice {
+                choice = open_in(memo, taken, lane, op, after);
+            }
         }
     }
-    Choice::Dead
+    choice
 }

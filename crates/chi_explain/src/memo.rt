@@ -46,12 +46,12 @@ fn hash(taken: &[usize], word: u64) -> u64 {
     hash.wrapping_mul(0xbf58_476d_1ce4_e5b9) >> 20
 }
 
-// The bucket of a state, of so many.
+// The bucket of a state, of so many, which are a power of two or none.
 fn bucket_of(taken: &[usize], word: u64, buckets: usize) -> usize {
     if buckets == 0 {
         0
     } else {
-        (hash(taken, word) % buckets as u64) as usize
+        hash(taken, word) as usize & (buckets - 1)
     }
 }
 
