@@ -131,6 +131,8 @@ pub fn first_unexplained(
         ExplainsUntil (opened region.now 256 opening.now) None (Some blame.time) ops.now order → ⊥)) }
     ensures granule { IfOk result (λ found. IfSome found (λ blame. (order : List ℕ) →
         Finishes ops.now (Some blame.time) (is_here ops.now (Some blame.time) region.now blame.granule) (slice_index opening.now blame.granule) None order → ⊥)) }
+    ensures within { IfOk result (λ found. IfSome found (λ blame. blame.granule < region.now.granules)) }
+    ensures later { IfOk result (λ found. IfSome found (λ blame. 0 < blame.time)) }
     ensures here { IfOk result (λ found. IfSome found (λ blame. is_here ops.now (Some blame.time) region.now blame.granule blame.op ≡ true)) }
     ensures ends { IfOk result (λ found. IfSome found (λ blame. (at ops.now blame.op).end ≡ blame.time)) }
     ensures overlapping { IfOk result (λ found. IfSome found (λ blame. (i : ℕ) →

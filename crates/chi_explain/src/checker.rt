@@ -1,6 +1,6 @@
 //! Whether a trace can be explained.
 
-ghost use Rattle.std.specs.Prelude.{◌≡◌, ℕ, List, None, Some, IfOk, slice_index, option_map};
+ghost use Rattle.std.specs.Prelude.{◌≡◌, ℕ, ◌<◌, List, None, Some, IfOk, slice_index, option_map};
 ghost use Rattle.chi_history.specs.Opened.{opened};
 ghost use Rattle.chi_explain.specs.Charts.{is_here};
 ghost use Rattle.chi_explain.specs.Explains.{Explains, ExplainsUntil};
@@ -42,6 +42,7 @@ pub fn explain(
     ensures granule { IfOk result (λ verdict. IfUnexplained verdict (λ granule. (order : List ℕ) →
         Finishes ops.now None (is_here ops.now None region.now granule) (slice_index opening.now granule)
         (option_map (λ words. slice_index words.now granule) finals.entry) order → ⊥)) }
+    ensures within { IfOk result (λ verdict. IfUnexplained verdict (λ granule. granule < region.now.granules)) }
 {
     let verdict = search_trace(alloc, region, opening, finals, None, ops, budget)?;
     Ok(verdict)
@@ -70,6 +71,7 @@ pub fn explain_until(
         ExplainsUntil (opened region.now 256 opening.now) None (Some time) ops.now order → ⊥)) }
     ensures granule { IfOk result (λ verdict. IfUnexplained verdict (λ granule. (order : List ℕ) →
         Finishes ops.now (Some time) (is_here ops.now (Some time) region.now granule) (slice_index opening.now granule) None order → ⊥)) }
+    ensures within { IfOk result (λ verdict. IfUnexplained verdict (λ granule. granule < region.now.granules)) }
 {
     let verdict = search_trace(alloc, region, opening, None, Some(time), ops, budget)?;
     Ok(verdict)

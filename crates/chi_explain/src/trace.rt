@@ -1,6 +1,6 @@
 //! A whole trace, up to a time.
 
-ghost use Rattle.std.specs.Prelude.{◌≡◌, ℕ, List, IfOk, slice_index, option_map};
+ghost use Rattle.std.specs.Prelude.{◌≡◌, ℕ, ◌<◌, List, IfOk, slice_index, option_map};
 ghost use Rattle.chi_history.specs.Opened.{opened};
 ghost use Rattle.chi_explain.specs.Charts.{is_here};
 ghost use Rattle.chi_explain.specs.Explains.{ExplainsUntil};
@@ -53,6 +53,7 @@ pub(crate) fn search_trace(
     ensures granule { IfOk result (λ verdict. IfUnexplained verdict (λ granule. (order : List ℕ) →
         Finishes ops.now until (is_here ops.now until region.now granule) (slice_index opening.now granule)
         (option_map (λ words. slice_index words.now granule) finals.entry) order → ⊥)) }
+    ensures within { IfOk result (λ verdict. IfUnexplained verdict (λ granule. granule < region.now.granules)) }
 {
     let granules = usize::from(region.granules());
     if opening.len() != granules || !has_words(finals, granules) {

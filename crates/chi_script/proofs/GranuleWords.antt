@@ -5,7 +5,7 @@ use Rattle.chi_lanes.specs.Memory.{Memory, word, word_at}
 use Rattle.chi_script.specs.RunText.{granule_words}
 
 -- how many words there are
-length-granule_words : (m : Memory) (start n : ℕ) → length (granule_words m start n) ≡ n
+pub length-granule_words : (m : Memory) (start n : ℕ) → length (granule_words m start n) ≡ n
 unfolding granule_words
 length-granule_words m start zero = refl
 length-granule_words m start (suc n) = ap suc (length-granule_words m (start + 8) n)

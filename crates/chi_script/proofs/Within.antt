@@ -24,12 +24,12 @@ abbrev pub AllUpTo : ℕ → ScriptValue → Type 0
 AllUpTo top s = All (IsUpTo top) s.requests
 
 -- a later step of a walk keeps P
-then_ok : {A B E : Type 0} (x : Result A E) (f : A → Result B E) (P : B → Type 0) → ((a : A) → x ≡ Ok a → IfOk (f a) P) → IfOk (x >>= f) P
+pub then_ok : {A B E : Type 0} (x : Result A E) (f : A → Result B E) (P : B → Type 0) → ((a : A) → x ≡ Ok a → IfOk (f a) P) → IfOk (x >>= f) P
 then_ok (Ok a) f P h = h a refl
 then_ok (Err e) f P h = tt
 
 -- P of a value that is there
-at_ok : {A E : Type 0} (x : Result A E) (a : A) (P : A → Type 0) → x ≡ Ok a → IfOk x P → P a
+pub at_ok : {A E : Type 0} (x : Result A E) (a : A) (P : A → Type 0) → x ≡ Ok a → IfOk x P → P a
 at_ok x a P e h = subst (λ r. IfOk r P) e h
 
 -- by cases on the test
