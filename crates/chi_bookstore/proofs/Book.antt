@@ -4,51 +4,51 @@ use prog.Atomic.{either}
 use mathlib.Core.Option as plain
 use Rattle.atomic_table.specs.Table.{Allows, Joins, Me, Splits, State, keeps, step}
 use Rattle.chi_fields.specs.Extent.{granule_of, lies_in}
-use Rattle.chi_fields.specs.Operation.{IsLawful}
+use Rattle.chi_fields.specs.Access.{IsLawful}
 use Rattle.chi_history.specs.declared.opening.Opening.{Opening}
 use Rattle.chi_history.specs.declared.view.View.{View}
 use Rattle.chi_history.specs.Rule.{Kept}
-use Rattle.chi_history.specs.Told.{Applies, Exchanges, Looks, ReadsAt, Settles}
+use Rattle.chi_history.specs.StepFacts.{Applies, Exchanges, Looks, ReadsAt, Settles}
 use Rattle.chi_history.specs.Views.{alone, both, gone, has, knower, rest_of}
 use Rattle.chi_history.proofs.ExchangeLemmas.{exchanges}
 use Rattle.chi_history.proofs.JoinLemmas.{unites}
 use Rattle.chi_history.proofs.SplitLemmas.{splits}
 use Rattle.chi_history.proofs.StepLemmas.{looks, reads_at, settles, unwritten}
 use Rattle.chi_history.proofs.Steps.{Steps}
-use Rattle.chi_history.specs.declared.ask.Ask.{Ask}
-use Rattle.chi_bookstore.specs.Plays.{looked, read_one, served, settled}
+use Rattle.chi_history.specs.declared.purpose.Purpose.{Purpose}
+use Rattle.chi_bookstore.specs.TableSteps.{looked, read_one, served, settled}
 
-abbrev pub Rule : Opening → State Ask View → Type 0
+abbrev pub Rule : Opening → State Purpose View → Type 0
 Rule o s = Kept o.region.granules o s.words s.views
 
 -- a step that takes no slot
-pub allows : (o : Opening) (slots id : ℕ) (me : Me Ask View) (i : ℕ) (f : ℕ → ℕ) (then : ℕ → View → Type 0)
+pub allows : (o : Opening) (slots id : ℕ) (me : Me Purpose View) (i : ℕ) (f : ℕ → ℕ) (then : ℕ → View → Type 0)
     → Steps o.region.granules o id me.0 (λ ws. set ws i (f (slice_index ws i))) (λ ws. then (slice_index ws i))
     → Allows (Rule o) slots id me i f (λ n m. then n m.0 × (m.1 ≡ me.1))
 allows o slots id me i f then step s rule _ at _ = let t = step s.words s.views rule at in (t.0, keeps, tt, t.1, (t.2, refl))
 
-pub book_looks : (o : Opening) (slots id : ℕ) (me : Me Ask View) (g : ℕ) → me.0 ≡ knower o me.0.held me.0.seen → g < o.region.granules
+pub book_looks : (o : Opening) (slots id : ℕ) (me : Me Purpose View) (g : ℕ) → me.0 ≡ knower o me.0.held me.0.seen → g < o.region.granules
     → Allows (Rule o) slots id me g (λ n. n) (looked (step slots g 0 0 plain.none) me)
 book_looks o slots id me g is under =
     allows o slots id me g (λ n. n) (Looks me.0 g) (unwritten o.region.granules o id me.0 (λ ws. Looks me.0 g (slice_index ws g)) g (looks o.region.granules o id me.0 is g under))
 
-pub book_exchanges : (o : Opening) (slots id : ℕ) (me : Me Ask View) (g first next : ℕ) (ask : Ask) → me.0 ≡ knower o me.0.held me.0.seen
-    → g ≡ granule_of ask.access.addr o.region → has me.0.held ask.src ≡ true → IsLawful ask.access → lies_in ask.access.addr ask.access.len o.region ≡ true
-    → Applies o ask.access first next
-    → Allows (Rule o) slots id me g (λ n. either (n == first) next n) (served (step slots g first next (plain.some ask)) me)
-book_exchanges o slots id me g first next ask is place holds lawful fits applies s rule _ at _ =
-    let t = exchanges o.region.granules o id me.0 is g first next ask.src ask.access place holds lawful fits applies s.words s.views rule at in
+pub book_exchanges : (o : Opening) (slots id : ℕ) (me : Me Purpose View) (g first next : ℕ) (purpose : Purpose) → me.0 ≡ knower o me.0.held me.0.seen
+    → g ≡ granule_of purpose.access.addr o.region → has me.0.held purpose.src ≡ true → IsLawful purpose.access → lies_in purpose.access.addr purpose.access.len o.region ≡ true
+    → Applies o purpose.access first next
+    → Allows (Rule o) slots id me g (λ n. either (n == first) next n) (served (step slots g first next (plain.some purpose)) me)
+book_exchanges o slots id me g first next purpose is place holds lawful fits applies s rule _ at _ =
+    let t = exchanges o.region.granules o id me.0 is g first next purpose.src purpose.access place holds lawful fits applies s.words s.views rule at in
     let found : ℕ = slice_index s.words g in
-    (t.0, keeps, tt, t.1, ((λ said e. subst (λ (z : Ask). Exchanges me.0 first z.src z.access found t.0) (plain.some-injective ask said e) t.2), refl))
+    (t.0, keeps, tt, t.1, ((λ said e. subst (λ (z : Purpose). Exchanges me.0 first z.src z.access found t.0) (plain.some-injective purpose said e) t.2), refl))
 
-pub book_reads : (o : Opening) (slots id : ℕ) (me : Me Ask View) (g : ℕ) → me.0 ≡ knower o me.0.held me.0.seen → g < o.region.granules
+pub book_reads : (o : Opening) (slots id : ℕ) (me : Me Purpose View) (g : ℕ) → me.0 ≡ knower o me.0.held me.0.seen → g < o.region.granules
     → Allows (Rule o) slots id me g (λ n. n) (read_one (step slots g 0 0 plain.none) me)
 book_reads o slots id me g is under =
     let live : me.0.live ≡ true = ap (λ (z : View). z.live) is in
     let inside : g < me.0.opening.region.granules = subst (λ (z : Opening). g < z.region.granules) (sym (ap (λ (z : View). z.opening) is)) under in
     allows o slots id me g (λ n. n) (ReadsAt me.0 g) (unwritten o.region.granules o id me.0 (λ ws. ReadsAt me.0 g (slice_index ws g)) g (reads_at o.region.granules o id me.0 live g inside))
 
-pub book_settles : (o : Opening) (slots id : ℕ) (me : Me Ask View) → me.0.live ≡ true → Allows (Rule o) slots id me 0 (λ n. n) (settled (step slots 0 0 0 plain.none) me)
+pub book_settles : (o : Opening) (slots id : ℕ) (me : Me Purpose View) → me.0.live ≡ true → Allows (Rule o) slots id me 0 (λ n. n) (settled (step slots 0 0 0 plain.none) me)
 book_settles o slots id me live =
     allows o slots id me 0 (λ n. n) (λ _. Settles me.0) (unwritten o.region.granules o id me.0 (λ _. Settles me.0) 0 (settles o.region.granules o id me.0 live))
 

@@ -1,3 +1,3 @@
-pub mod Plays
-pub mod Seats
-pub mod Faults
+pub mod TableSteps
+pub mod BookSeats
+pub mod BookFaults

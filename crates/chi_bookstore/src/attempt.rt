@@ -2,13 +2,13 @@
 
 ghost use Rattle.std.specs.Prelude.{◌≡◌, true, IsTrue};
 ghost use Rattle.chi_fields.specs.Extent.{lies_in};
-ghost use Rattle.chi_history.specs.Served.{IsServed};
+ghost use Rattle.chi_history.specs.HomeClauses.{IsServed};
 
 use crate::seat::BookSeat;
 use crate::store::BookStore;
 use crate::tries::try_some;
 use chi_fields::Access;
-use chi_history::{Ask, Gate, Home, NoGate, Served};
+use chi_history::{Gate, Home, NoGate, Purpose, Served};
 use std::alloc::Allocator;
 
 impl<A: Allocator> BookStore<A> {
@@ -43,10 +43,10 @@ impl<A: Allocator> BookStore<A> {
         ensures held { ⟦<BookStore<A> as Home>⟧.held seat.new ≡ ⟦<BookStore<A> as Home>⟧.held seat.old }
         ensures served { IsServed (⟦<BookStore<A> as Home>⟧.opening self.now) (⟦<BookStore<A> as Home>⟧.limit self.now) (⟦<BookStore<A> as Home>⟧.held seat.old) (⟦<BookStore<A> as Home>⟧.seen seat.old) (⟦<BookStore<A> as Home>⟧.seen seat.new) src access.now result }
     {
-        let ask = Ask {
+        let purpose = Purpose {
             src,
             access: *access,
         };
-        try_some(self, &mut seat.table_seat, &ask, gate, self.attempts)
+        try_some(self, &mut seat.table_seat, &purpose, gate, self.attempts)
     }
 }

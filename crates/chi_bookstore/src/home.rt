@@ -5,7 +5,7 @@ use crate::steps::{give, read_one, take_in};
 use crate::store::BookStore;
 use crate::tries::try_until_done;
 use chi_fields::{Access, Region};
-use chi_history::{Ask, Credit, Gate, Home, Numbers, Served};
+use chi_history::{Credit, Gate, Home, Numbers, Purpose, Served};
 use chi_lanes::Reply;
 use std::alloc::Allocator;
 use std::marker::Brand;
@@ -13,7 +13,7 @@ use std::sync::Wait;
 
 impl<A: Allocator> Home for BookStore<A> {
     ghost use Rattle.chi_history.specs.Views.{has};
-    ghost use Rattle.chi_bookstore.specs.Seats.{IsSeatOf};
+    ghost use Rattle.chi_bookstore.specs.BookSeats.{IsSeatOf};
 
     type Seat = BookSeat;
 
@@ -72,11 +72,11 @@ impl<A: Allocator> Home for BookStore<A> {
         credit: Credit,
         access: &Access,
     ) -> Reply {
-        let ask = Ask {
+        let purpose = Purpose {
             src: credit.spend(),
             access: *access,
         };
-        try_until_done(rt, self, &mut seat.table_seat, &ask)
+        try_until_done(rt, self, &mut seat.table_seat, &purpose)
     }
 
     fn split<R: Wait>(&self, _rt: &R, seat: &mut BookSeat, src: u8) -> BookSeat {

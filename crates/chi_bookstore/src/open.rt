@@ -1,8 +1,8 @@
 //! The opening of the lock-free home.
 
 ghost use Rattle.std.specs.Prelude.{◌≡◌, IfErr, IfOk, length};
-ghost use Rattle.chi_history.specs.Opened.{IsFirst, IsRequesterCount, opened};
-ghost use Rattle.chi_bookstore.specs.Faults.{IsAttemptCount, Meets};
+ghost use Rattle.chi_history.specs.Openings.{IsFirst, IsRequesterCount, opened};
+ghost use Rattle.chi_bookstore.specs.BookFaults.{IsAttemptCount, IsBookFault};
 
 use crate::seat::BookSeat;
 use crate::steps::begin;
@@ -36,7 +36,7 @@ impl<A: Allocator + Copy> BookStore<A> {
         ensures opening { IfOk result (λ r. ⟦<BookStore<A> as Home>⟧.opening r.0 ≡ opened region requesters image.now) }
         ensures limit { IfOk result (λ r. ⟦<BookStore<A> as Home>⟧.limit r.0 ≡ attempts) }
         ensures counts { IfOk result (λ _. IsRequesterCount requesters × IsAttemptCount attempts) }
-        ensures refused { IfErr result (Meets requesters attempts) }
+        ensures refused { IfErr result (IsBookFault requesters attempts) }
     {
         if requesters < 1 || requesters > MOST_NUMBERS {
             return Err(OpenFault::RequesterCount);

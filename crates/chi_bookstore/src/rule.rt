@@ -1,13 +1,13 @@
 //! The rule of the words and seats, and what each step on them tells.
 
 use atomic_table::{Join, Play, Seat, Table, TableRule};
-use chi_history::{Ask, OpeningValues, View};
+use chi_history::{OpeningValues, Purpose, View};
 use std::alloc::Allocator;
 
 /// The words show the end of one history, and each seat has seen a prefix of it.
 pub struct BookRule;
 
-impl<A: Allocator> TableRule<Ask, View, OpeningValues<A>> for BookRule {
+impl<A: Allocator> TableRule<Purpose, View, OpeningValues<A>> for BookRule {
     ghost use Rattle.chi_history.specs.Rule.{Kept};
     ghost use Rattle.chi_history.specs.Views.{all_below, knower};
     ghost use Rattle.std.specs.Prelude.{[]};
@@ -18,16 +18,16 @@ impl<A: Allocator> TableRule<Ask, View, OpeningValues<A>> for BookRule {
 }
 
 /// The words. There are no slots: an exchange tells the rule what it is for.
-pub type BookTable<A> = Table<Ask, View, OpeningValues<A>, BookRule, A>;
+pub type BookTable<A> = Table<Purpose, View, OpeningValues<A>, BookRule, A>;
 
 /// What one caller knows of the words.
-pub type TableSeat = Seat<Ask, View>;
+pub type TableSeat = Seat<Purpose, View>;
 
 /// The load of a try: the seat has then seen the whole history.
 pub struct Look;
 
-impl Play<Ask, View> for Look {
-    ghost use Rattle.chi_bookstore.specs.Plays.{looked};
+impl Play<Purpose, View> for Look {
+    ghost use Rattle.chi_bookstore.specs.TableSteps.{looked};
 
     ghost then = { looked };
 }
@@ -35,8 +35,8 @@ impl Play<Ask, View> for Look {
 /// The exchange of a try: one that wins adds the entry.
 pub struct Serve;
 
-impl Play<Ask, View> for Serve {
-    ghost use Rattle.chi_bookstore.specs.Plays.{served};
+impl Play<Purpose, View> for Serve {
+    ghost use Rattle.chi_bookstore.specs.TableSteps.{served};
 
     ghost then = { served };
 }
@@ -44,8 +44,8 @@ impl Play<Ask, View> for Serve {
 /// A load of a snapshot.
 pub struct ReadOne;
 
-impl Play<Ask, View> for ReadOne {
-    ghost use Rattle.chi_bookstore.specs.Plays.{read_one};
+impl Play<Purpose, View> for ReadOne {
+    ghost use Rattle.chi_bookstore.specs.TableSteps.{read_one};
 
     ghost then = { read_one };
 }
@@ -53,8 +53,8 @@ impl Play<Ask, View> for ReadOne {
 /// The load after two seats were made one.
 pub struct Settle;
 
-impl Play<Ask, View> for Settle {
-    ghost use Rattle.chi_bookstore.specs.Plays.{settled};
+impl Play<Purpose, View> for Settle {
+    ghost use Rattle.chi_bookstore.specs.TableSteps.{settled};
 
     ghost then = { settled };
 }

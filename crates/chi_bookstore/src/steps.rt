@@ -1,12 +1,12 @@
 //! The atomic steps on the words.
 ghost use Rattle.std.specs.Prelude.{◌≡◌, ◌<◌, [], true, IsTrue, IfOk};
 ghost use Rattle.chi_fields.specs.Extent.{lies_in, granule_of};
-ghost use Rattle.chi_history.specs.Opened.{IsOpening};
+ghost use Rattle.chi_history.specs.Openings.{IsOpening};
 ghost use Rattle.chi_history.specs.Views.{all_below, alone, both, has, knower, rest_of};
-ghost use Rattle.chi_history.specs.Told.{Applies, Exchanges, Looks, ReadsAt, Settles};
+ghost use Rattle.chi_history.specs.StepFacts.{Applies, Exchanges, Looks, ReadsAt, Settles};
 
 use crate::rule::{BookTable, Glue, Look, ReadOne, Serve, Settle, TableSeat};
-use chi_history::{Ask, Gives, Number, OpeningValues};
+use chi_history::{OpeningValues, Purpose, SplitNumber, SplitOff};
 use std::alloc::{AllocError, Allocator};
 
 // The words at the opening, all zeros, and the first seat, which holds every number.
@@ -41,22 +41,22 @@ pub(crate) fn exchange<A: Allocator>(
     granule: usize,
     first: u64,
     next: u64,
-    ask: &Ask,
+    purpose: &Purpose,
 ) -> u64
     requires own { seat.old.table_id ≡ table.now.shared.table_id }
     requires seat { seat.old.me.0 ≡ knower table.now.shared.key seat.old.me.0.held seat.old.me.0.seen }
     requires word { granule < table.now.shared.table_id.words }
-    requires holds { has seat.old.me.0.held ask.now.src ≡ true }
-    requires granule { granule ≡ granule_of ask.now.access.addr table.now.shared.key.region }
-    requires fits { IsTrue (lies_in ask.now.access.addr ask.now.access.len table.now.shared.key.region) }
-    requires applies { Applies table.now.shared.key ask.now.access first next }
+    requires holds { has seat.old.me.0.held purpose.now.src ≡ true }
+    requires granule { granule ≡ granule_of purpose.now.access.addr table.now.shared.key.region }
+    requires fits { IsTrue (lies_in purpose.now.access.addr purpose.now.access.len table.now.shared.key.region) }
+    requires applies { Applies table.now.shared.key purpose.now.access first next }
     ensures own { (seat.new.table_id ≡ seat.old.table_id) × (seat.new.me.1 ≡ seat.old.me.1) }
-    ensures exchanged { Exchanges seat.old.me.0 first ask.now.src ask.now.access result seat.new.me.0 }
+    ensures exchanged { Exchanges seat.old.me.0 first purpose.now.src purpose.now.access result seat.new.me.0 }
 {
-    let _len = ask.access.len();
+    let _len = purpose.access.len();
     table
         .shared
-        .compare_exchange_with::<Serve>(seat, granule, first, next, ask)
+        .compare_exchange_with::<Serve>(seat, granule, first, next, purpose)
 }
 
 // A load of a snapshot, which leaves what the seat has seen.
@@ -76,7 +76,7 @@ pub(crate) fn read_one<A: Allocator>(
 }
 
 // A seat for one number alone. `Q` names the number to the rule.
-pub(crate) fn give<Q: Number, A: Allocator>(
+pub(crate) fn give<Q: SplitNumber, A: Allocator>(
     table: &BookTable<A>,
     seat: &mut TableSeat,
     _src: u8,
@@ -90,7 +90,7 @@ pub(crate) fn give<Q: Number, A: Allocator>(
     ensures rest { seat.new.me ≡ (rest_of _src seat.old.me.0, seat.old.me.1) }
     ensures alone { result.me ≡ (alone _src seat.old.me.0, []) }
 {
-    table.shared.split_seat::<Gives<Q>>(seat)
+    table.shared.split_seat::<SplitOff<Q>>(seat)
 }
 
 // Two seats become one. The load tells what both had seen.

@@ -1,7 +1,7 @@
 //! The lock-free home.
 
 ghost use Rattle.std.specs.Prelude.{◌≡◌, ◌≤◌};
-ghost use Rattle.chi_history.specs.Opened.{IsOpening};
+ghost use Rattle.chi_history.specs.Openings.{IsOpening};
 
 use crate::rule::BookTable;
 use chi_history::OpeningValues;

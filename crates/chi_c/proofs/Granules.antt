@@ -3,14 +3,14 @@ use Rattle.std.proofs.Common.{◌≡◌, ◌≢◌, ℕ, ◌+◌, ◌*◌, ◌%�
 use Rattle.std.proofs.lemmas.Bool.{and_parts, cases_eq, leb-true}
 use Rattle.std.proofs.lemmas.List.{get_or-set_same, get_or-set_other, length-set}
 use Rattle.chi_fields.specs.Extent.{Extent, granule_of}
-use Rattle.chi_fields.specs.Operation.{Operation}
+use Rattle.chi_fields.specs.Access.{Access}
 use Rattle.chi_lanes.specs.After.{after}
 use Rattle.chi_lanes.specs.Memory.{Memory, granule_start, word, word_at}
 use Rattle.chi_lanes.proofs.AfterLemmas.{word-after_other}
 use Rattle.chi_c.specs.Call.{AreWords, IsAccepted}
 
 -- the granule of an operand starts where its address says
-pub start_of_granule : (e : Extent) (o : Operation) → IsAccepted e o → e.base + 8 * granule_of o.addr e ≡ granule_start o.addr
+pub start_of_granule : (e : Extent) (o : Access) → IsAccepted e o → e.base + 8 * granule_of o.addr e ≡ granule_start o.addr
 start_of_granule e o accepted =
     let above : e.base ≤ o.addr = leb-true e.base o.addr (and_parts _ _ accepted.fits).0 in
     let line : e.base % 64 ≡ 0 = accepted.is.line in
@@ -23,7 +23,7 @@ unfolding AreWords
 word-AreWords m base words g are below = are g below
 
 -- the words with that of the operand's granule are those of the memory after the operation
-pub AreWords-after : (e : Extent) (o : Operation) (m : Memory) (words : List ℕ) (g v : ℕ) → IsAccepted e o → AreWords m e.base words
+pub AreWords-after : (e : Extent) (o : Access) (m : Memory) (words : List ℕ) (g v : ℕ) → IsAccepted e o → AreWords m e.base words
     → g ≡ granule_of o.addr e → v ≡ word (after o m) e g → AreWords (after o m) e.base (slice_set words g v)
 unfolding AreWords
 AreWords-after e o m words g v accepted are at made k below =

@@ -1,3 +1,3 @@
 pub mod Call
+pub mod CallNumbers
 pub mod Names
-pub mod Numbers

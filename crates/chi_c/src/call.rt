@@ -2,14 +2,14 @@
 
 ghost use Rattle.std.specs.Prelude.{◌≡◌, ◌<◌, IfErr, IfOk, Ok, Err};
 ghost use Rattle.chi_fields.specs.Extent.{granule_of};
-ghost use Rattle.chi_c.specs.Call.{IsAccepted, bare_request, decided, region, request_of};
+ghost use Rattle.chi_c.specs.Call.{IsAccepted, bare_request, decided, region, call_request};
 
 use crate::numbers::{fault_number, refusal_number};
 use chi_fields::{Access, Region, Request, decode};
 
 // The request of a call, big-endian where `endian` is not 0.
 #[inline]
-pub(crate) fn request_of(
+pub(crate) fn call_request(
     opcode: u8,
     size: u8,
     addr: u64,
@@ -17,7 +17,7 @@ pub(crate) fn request_of(
     be: u16,
     lanes: &[u8; 16],
 ) -> Request
-    ensures { result ≡ request_of opcode size addr endian be lanes.now }
+    ensures { result ≡ call_request opcode size addr endian be lanes.now }
 {
     Request {
         src: 0,
@@ -37,7 +37,7 @@ pub(crate) fn request_of(
 pub(crate) fn bare_request(opcode: u8, size: u8, addr: u64, be: u16) -> Request
     ensures { result ≡ bare_request opcode size addr be }
 {
-    request_of(opcode, size, addr, 0, be, &[0; 16])
+    call_request(opcode, size, addr, 0, be, &[0; 16])
 }
 
 // An accepted access, and the number of its granule in the region.

@@ -4,10 +4,10 @@ ghost use Rattle.std.specs.Prelude.{◌≡◌, ℕ, ◌<◌, ◌≤◌, Err, IfE
 ghost use Rattle.chi_fields.specs.Extent.{region_of};
 ghost use Rattle.chi_lanes.specs.After.{after, answer};
 ghost use Rattle.chi_lanes.specs.Memory.{Memory, IsMemory};
-ghost use Rattle.chi_c.specs.Call.{AreWords, data_flag, decided, lanes_of, request_of, result_number};
+ghost use Rattle.chi_c.specs.Call.{AreWords, data_flag, decided, lanes_of_reply, call_request, result_number};
 
 use crate::answer::write_answer;
-use crate::call::{asked, request_of};
+use crate::call::{asked, call_request};
 use chi_fields::Request;
 use chi_lanes::{Reply, apply};
 
@@ -66,17 +66,17 @@ pub extern "C" fn chi_serve(
     reply_lanes: &mut [u8; 16],
     has_lanes: &mut u8,
 ) -> u32
-    ensures number { let q = request_of opcode size addr endian be lanes.now in
+    ensures number { let q = call_request opcode size addr endian be lanes.now in
         result ≡ result_number (decided base (length words.old) q) }
-    ensures served { let q = request_of opcode size addr endian be lanes.now in
+    ensures served { let q = call_request opcode size addr endian be lanes.now in
         IfOk (decided base (length words.old) q) (λ o. (m : Memory) → IsMemory m → AreWords m base words.old →
         AreWords (after o m) base words.new
-        × (reply_lanes.new ≡ lanes_of (answer o m)) × (has_lanes.new ≡ data_flag (answer o m))) }
-    ensures kept { let q = request_of opcode size addr endian be lanes.now in
+        × (reply_lanes.new ≡ lanes_of_reply (answer o m)) × (has_lanes.new ≡ data_flag (answer o m))) }
+    ensures kept { let q = call_request opcode size addr endian be lanes.now in
         IfErr (decided base (length words.old) q) (λ _. (words.new ≡ words.old)
         × (reply_lanes.new ≡ reply_lanes.old) × (has_lanes.new ≡ has_lanes.old)) }
 {
-    let request = request_of(opcode, size, addr, endian, be, lanes);
+    let request = call_request(opcode, size, addr, endian, be, lanes);
     match served(words, base, &request) {
         Ok(reply) => {
             write_answer(reply, reply_lanes, has_lanes);

@@ -1,7 +1,7 @@
 //! The numbers by which C knows refusals, region faults, kinds and operations.
 
 ghost use Rattle.std.specs.Prelude.{◌≡◌};
-ghost use Rattle.chi_c.specs.Numbers.{fault_number, kind_number, number_of, op_number, refusal_number};
+ghost use Rattle.chi_c.specs.CallNumbers.{fault_number, kind_number, number_of_op, op_number, refusal_number};
 
 use chi_fields::{Kind, Op, Refusal, RegionFault};
 
@@ -51,15 +51,15 @@ pub(crate) fn op_number(kind: Kind) -> u8
     ensures { result ≡ op_number kind }
 {
     match kind {
-        Kind::Store(op) => number_of(op),
-        Kind::Load(op) => number_of(op),
+        Kind::Store(op) => number_of_op(op),
+        Kind::Load(op) => number_of_op(op),
         _ => 8,
     }
 }
 
 // An operation by the opcode's low three bits.
-fn number_of(op: Op) -> u8
-    ensures { result ≡ number_of op }
+fn number_of_op(op: Op) -> u8
+    ensures { result ≡ number_of_op op }
 {
     match op {
         Op::Add => 0,

@@ -39,7 +39,7 @@ fn left(number: u32) -> (u32, u8, u128) {
 
 // The granules that a request leaves in a region of eight of them, of which the first has these bytes and the others 0,
 // and what it answers.
-fn worked(first: u64, asked: Asked) -> ([u64; 8], (u32, u8, u128)) {
+fn executed(first: u64, asked: Asked) -> ([u64; 8], (u32, u8, u128)) {
     let mut words = [first.swap_bytes(), 0, 0, 0, 0, 0, 0, 0];
     let answer = served(&mut words, asked);
     for word in &mut words {
@@ -59,7 +59,7 @@ fn first_fetch_add(rt: HostRuntime) {
         0x01000000000000000000000000000000,
     );
     assert_eq!(rt;
-        worked(0, add),
+        executed(0, add),
         ([0x0100000000000000, 0, 0, 0, 0, 0, 0, 0], (0, 1, 0))
     );
 }
@@ -72,7 +72,7 @@ fn byte_smax_umax_add(rt: HostRuntime) {
         (0x28, 0x80000000000000000000000000000000, 0x0000000000000000),
     ];
     for (opcode, lanes, after) in cases {
-        let (words, answer) = worked(0x8000000000000000, (opcode, 0, 0x1000, 0, 0x0001, lanes));
+        let (words, answer) = executed(0x8000000000000000, (opcode, 0, 0x1000, 0, 0x0001, lanes));
         assert_eq!(rt; words, [after, 0, 0, 0, 0, 0, 0, 0], "{opcode}");
         assert_eq!(rt; answer, (0, 0, 0), "{opcode}");
     }
@@ -94,7 +94,7 @@ fn smin_in_both_byte_orders(rt: HostRuntime) {
             0x000f,
             0x00000080000000000000000000000000,
         );
-        let (words, answer) = worked(0x8000000000000000, least);
+        let (words, answer) = executed(0x8000000000000000, least);
         assert_eq!(rt; words, [after, 0, 0, 0, 0, 0, 0, 0], "{endian}");
         assert_eq!(rt; answer, (0, 1, old), "{endian}");
     }
@@ -119,11 +119,11 @@ fn compare_in_upper_half(rt: HostRuntime) {
         0xaabbccdd000000000000000000000000,
     );
     assert_eq!(rt;
-        worked(0, eight),
+        executed(0, eight),
         ([0, 0x1122334455667788, 0, 0, 0, 0, 0, 0], (0, 1, 0))
     );
     assert_eq!(rt;
-        worked(0, four),
+        executed(0, four),
         ([0x00000000aabbccdd, 0, 0, 0, 0, 0, 0, 0], (0, 1, 0))
     );
 }
@@ -141,7 +141,7 @@ fn refusals_write_nothing(rt: HostRuntime) {
     ];
     for (result, asked) in cases {
         assert_eq!(rt;
-            worked(0x0102030405060708, asked),
+            executed(0x0102030405060708, asked),
             ([0x0102030405060708, 0, 0, 0, 0, 0, 0, 0], left(result)),
             "{result}"
         );

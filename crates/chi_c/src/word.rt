@@ -4,11 +4,11 @@ ghost use Rattle.std.specs.Prelude.{◌≡◌, ℕ, Err, IfErr, IfOk, IsOkAnd};
 ghost use Rattle.chi_fields.specs.Extent.{granule_of};
 ghost use Rattle.chi_lanes.specs.After.{after, answer};
 ghost use Rattle.chi_lanes.specs.Memory.{Memory, IsMemory, granule_start, word_at};
-ghost use Rattle.chi_c.specs.Call.{bare_request, data_flag, decided, lanes_of, region, request_of, result_number};
-ghost use Rattle.chi_c.specs.Numbers.{kind_number, op_number};
+ghost use Rattle.chi_c.specs.Call.{bare_request, data_flag, decided, lanes_of_reply, region, call_request, result_number};
+ghost use Rattle.chi_c.specs.CallNumbers.{kind_number, op_number};
 
 use crate::answer::write_answer;
-use crate::call::{asked, bare_request, request_of};
+use crate::call::{asked, bare_request, call_request};
 use crate::numbers::{kind_number, op_number};
 use chi_fields::Request;
 use chi_lanes::{Reply, apply};
@@ -103,17 +103,17 @@ pub extern "C" fn chi_apply(
     reply_lanes: &mut [u8; 16],
     has_lanes: &mut u8,
 ) -> u32
-    ensures number { let q = request_of opcode size addr endian be lanes.now in
+    ensures number { let q = call_request opcode size addr endian be lanes.now in
         result ≡ result_number (decided base granules q) }
-    ensures applied { let q = request_of opcode size addr endian be lanes.now in
+    ensures applied { let q = call_request opcode size addr endian be lanes.now in
         IfOk (decided base granules q) (λ o. (m : Memory) → IsMemory m → word ≡ word_at m (granule_start o.addr) →
         (new_word.new ≡ word_at (after o m) (granule_start o.addr))
-        × (reply_lanes.new ≡ lanes_of (answer o m)) × (has_lanes.new ≡ data_flag (answer o m))) }
-    ensures kept { let q = request_of opcode size addr endian be lanes.now in
+        × (reply_lanes.new ≡ lanes_of_reply (answer o m)) × (has_lanes.new ≡ data_flag (answer o m))) }
+    ensures kept { let q = call_request opcode size addr endian be lanes.now in
         IfErr (decided base granules q) (λ _. (new_word.new ≡ new_word.old)
         × (reply_lanes.new ≡ reply_lanes.old) × (has_lanes.new ≡ has_lanes.old)) }
 {
-    let request = request_of(opcode, size, addr, endian, be, lanes);
+    let request = call_request(opcode, size, addr, endian, be, lanes);
     match applied(base, granules, &request, word) {
         Ok((after, reply)) => {
             *new_word = after;

@@ -1,3 +1,3 @@
-pub mod WrittenLemmas
+pub mod WritingLemmas
 pub mod RunLemmas
 pub mod RaceLemmas

@@ -6,12 +6,12 @@ use Rattle.chi_lanes.specs.Memory.{word}
 use Rattle.chi_history.specs.declared.entry.Entry.{Entry}
 use Rattle.chi_history.specs.declared.line.Line.{Line}
 use Rattle.chi_history.specs.declared.opening.Opening.{Opening}
-use Rattle.chi_history.specs.Held.{Held, only, union}
+use Rattle.chi_history.specs.NumberSets.{Held, only, union}
 use Rattle.chi_history.specs.History.{IsLegal, end}
 use Rattle.chi_requester.specs.declared.fault.WorkFault.{WorkFault}
 use Rattle.chi_requester.specs.declared.policy.Policy.{Policy}
 use Rattle.chi_requester.specs.Race.{IsRace, IsRaceRun}
-use Rattle.chi_requester.specs.Work.{requests_of}
+use Rattle.chi_requester.specs.Work.{own_requests}
 use Rattle.chi_script.specs.Script.{ScriptValue}
 use Rattle.chi_engine.specs.Store.{IsFresh, opening_of}
 use Rattle.chi_script.specs.RunText.{granule_words}
@@ -29,7 +29,7 @@ shown_raced o s seen' words opening count each =
 -- where the race is over and its lines were none before, every request was worked and told of
 pub raced_whole : (o : Opening) (policy : Policy) (limit : ℕ) (racers : Held) (all : List Request) (s : ScriptValue) (held : Held) (start seen' : List Entry) (lines lines' : ℕ → List Line) (u : Unit {0})
     → IsFresh o s held start → lines ≡ (λ r. []) → IsRaceRun (Ok u) o policy limit racers all start seen' lines lines'
-    → IsRace (opening_of s) policy limit racers [] seen' (requests_of all) lines'
+    → IsRace (opening_of s) policy limit racers [] seen' (own_requests all) lines'
 raced_whole o policy limit racers all s held start seen' lines lines' u fresh none begun = record {
   legal = let P : List Entry → Type 0 = λ h. IsLegal (opening_of s) h in subst P (sym run.grown) run.race.legal;
   raced = run.race.raced;
@@ -53,7 +53,7 @@ raced_whole o policy limit racers all s held start seen' lines lines' u fresh no
     zero_in : union racers (only 0) 0 ≡ true
     zero_in = or_right (racers 0) (only 0 0) refl
 
-    done_is : (r : ℕ) → union racers (only 0) r ≡ true → (run.share r).done ≡ requests_of all r
+    done_is : (r : ℕ) → union racers (only 0) r ≡ true → (run.share r).done ≡ own_requests all r
     done_is r is = sym (append-nil (run.share r).done) ∙ (ap (λ rest. (run.share r).done ++ rest) (sym (run.are_left r is)) ∙ (run.shares r is).parts)
 
     told_is : (r : ℕ) → union racers (only 0) r ≡ true → lines' r ≡ (run.share r).appended
@@ -63,7 +63,7 @@ raced_whole o policy limit racers all s held start seen' lines lines' u fresh no
 pub raced_by : (r : Result (Unit {0}) WorkFault) (o : Opening) (policy : Policy) (limit limit' : ℕ) (racers racers' : Held) (all : List Request) (s : ScriptValue) (held : Held)
     (start seen' : List Entry) (lines lines' lines'' : ℕ → List Line)
     → IsFresh o s held start → limit ≡ limit' → racers ≡ racers' → all ≡ s.requests → lines ≡ (λ r. []) → lines'' ≡ lines'
-    → IsRaceRun r o policy limit racers all start seen' lines lines' → OnOk r (IsRace (opening_of s) policy limit' racers' [] seen' (requests_of s.requests) lines'')
+    → IsRaceRun r o policy limit racers all start seen' lines lines' → OnOk r (IsRace (opening_of s) policy limit' racers' [] seen' (own_requests s.requests) lines'')
 raced_by (Ok u) o policy limit limit' racers racers' all s held start seen' lines lines' lines'' fresh bound who are none same begun =
     rw (← bound, ← who, ← are, same) (raced_whole o policy limit racers all s held start seen' lines lines' u fresh none begun)
 raced_by (Err fault) o policy limit limit' racers racers' all s held start seen' lines lines' lines'' fresh bound who are none same begun = tt

@@ -6,7 +6,7 @@ use Rattle.chi_lanes.specs.Memory.{Memory, word}
 use Rattle.chi_history.specs.declared.entry.Entry.{Entry}
 use Rattle.chi_history.specs.declared.line.Line.{Line}
 use Rattle.chi_history.specs.declared.opening.Opening.{Opening}
-use Rattle.chi_history.specs.Held.{Held}
+use Rattle.chi_history.specs.NumberSets.{Held}
 use Rattle.chi_history.specs.History.{end, end_from, opening_memory}
 use Rattle.chi_history.specs.Lines.{entries, serial, serial_end}
 use Rattle.chi_requester.specs.declared.fault.WorkFault.{WorkFault}
@@ -32,41 +32,41 @@ start_of o s held seen fresh = ap (end o) fresh.first.1 ∙ ap (λ (z : Opening)
 
 -- the lines of the requests worked
 lines_of : (o : Opening) (s : ScriptValue) (qs : List Request) (held : Held) (seen seen' : List Entry) (lines lines' : List Line) (r : Result (Unit {0}) WorkFault)
-    → IsFresh o s held seen → lines ≡ [] → (run : IsSerialRun r o qs seen seen' lines lines') → lines' ≡ serial s.region run.worked (start s)
+    → IsFresh o s held seen → lines ≡ [] → (run : IsSerialRun r o qs seen seen' lines lines') → lines' ≡ serial s.region run.executed (start s)
 lines_of o s qs held seen seen' lines lines' r fresh empty run =
-    run.told ∙ (ap (λ (xs : List Line). xs ++ serial o.region run.worked (end o seen)) empty
-    ∙ (ap (λ (region : Extent). serial region run.worked (end o seen)) (region_is o s held seen fresh)
-    ∙ ap (serial s.region run.worked) (start_of o s held seen fresh)))
+    run.told ∙ (ap (λ (xs : List Line). xs ++ serial o.region run.executed (end o seen)) empty
+    ∙ (ap (λ (region : Extent). serial region run.executed (end o seen)) (region_is o s held seen fresh)
+    ∙ ap (serial s.region run.executed) (start_of o s held seen fresh)))
 
 -- after Ok every request was worked
-all_of : (worked left all : List Request) → worked ++ left ≡ all → left ≡ [] → worked ≡ all
-all_of worked left all parts none = sym (append-nil worked) ∙ (ap (λ (qs : List Request). worked ++ qs) (sym none) ∙ parts)
+all_of : (executed left all : List Request) → executed ++ left ≡ all → left ≡ [] → executed ≡ all
+all_of executed left all parts none = sym (append-nil executed) ∙ (ap (λ (qs : List Request). executed ++ qs) (sym none) ∙ parts)
 
 pub told_all : (o : Opening) (s : ScriptValue) (qs : List Request) (held : Held) (seen seen' : List Entry) (lines lines' : List Line) (done : Unit {0})
     → IsFresh o s held seen → lines ≡ [] → qs ≡ s.requests → IsSerialRun (Ok done) o qs seen seen' lines lines' → lines' ≡ serial s.region s.requests (start s)
 told_all o s qs held seen seen' lines lines' done fresh empty are run =
     lines_of o s qs held seen seen' lines lines' (Ok done) fresh empty run
-    ∙ ap (λ (rs : List Request). serial s.region rs (start s)) (all_of run.worked run.left s.requests (run.parts ∙ are) run.are_left)
+    ∙ ap (λ (rs : List Request). serial s.region rs (start s)) (all_of run.executed run.left s.requests (run.parts ∙ are) run.are_left)
 
 -- the memory that a script leaves
 end_all : (o : Opening) (s : ScriptValue) (qs : List Request) (held : Held) (seen seen' : List Entry) (lines lines' : List Line) (done : Unit {0})
     → IsFresh o s held seen → qs ≡ s.requests → IsSerialRun (Ok done) o qs seen seen' lines lines' → end o seen' ≡ serial_end s.region s.requests (start s)
 end_all o s qs held seen seen' lines lines' done fresh are run =
     ap (end o) (run.grown ∙ ap (λ (h : List Entry). h ++ added) fresh.first.1)
-    ∙ (serial_end-entries' ∙ (ap (λ (region : Extent). serial_end region run.worked (end o seen)) (region_is o s held seen fresh)
-    ∙ (ap (serial_end s.region run.worked) begun ∙ ap (λ (rs : List Request). serial_end s.region rs (start s)) (all_of run.worked run.left s.requests (run.parts ∙ are) run.are_left))))
+    ∙ (serial_end-entries' ∙ (ap (λ (region : Extent). serial_end region run.executed (end o seen)) (region_is o s held seen fresh)
+    ∙ (ap (serial_end s.region run.executed) begun ∙ ap (λ (rs : List Request). serial_end s.region rs (start s)) (all_of run.executed run.left s.requests (run.parts ∙ are) run.are_left))))
   where
     begun : end o seen ≡ start s
     begun = start_of o s held seen fresh
 
     added : List Entry
-    added = entries (serial o.region run.worked (end o seen))
+    added = entries (serial o.region run.executed (end o seen))
 
     first : opening_memory o ≡ end o seen
     first = ap (λ (z : Opening). opening_memory z) fresh.opening ∙ sym begun
 
-    serial_end-entries' : end_from (opening_memory o) added ≡ serial_end o.region run.worked (end o seen)
-    serial_end-entries' = ap (λ (m : Memory). end_from m added) first ∙ serial_end-entries o.region run.worked (end o seen)
+    serial_end-entries' : end_from (opening_memory o) added ≡ serial_end o.region run.executed (end o seen)
+    serial_end-entries' = ap (λ (m : Memory). end_from m added) first ∙ serial_end-entries o.region run.executed (end o seen)
 
 -- the words of that memory
 pub shown_all : (o : Opening) (s : ScriptValue) (qs : List Request) (held : Held) (seen seen' seen'' : List Entry) (lines lines' : List Line) (done : Unit {0})
@@ -86,7 +86,7 @@ pub cut_after : (r : Result (Unit {0}) WorkFault) (o : Opening) (s : ScriptValue
     (fault : WorkFault) → IsFresh o s held seen → lines ≡ [] → qs ≡ s.requests → IsSerialRun (Err fault) o qs seen seen' lines lines' → IfErr r (λ _. IsCut s lines')
 cut_after (Ok done) o s qs held seen seen' lines lines' fault fresh empty are run = tt
 cut_after (Err other) o s qs held seen seen' lines lines' fault fresh empty are run = record {
-  worked = run.worked;
+  executed = run.executed;
   left = run.left;
   parts = run.parts ∙ are;
   some_left = run.are_left;

@@ -34,12 +34,12 @@ Refuses options open_fault.NotOneLine = options.store ≡ store_kind.Lock
 Refuses options open_fault.Memory = Opens options
 
 -- what an outcome tells of the store: it was opened where a script was worked
-abbrev pub TellsOpening : Options → Result (Unit {0}) EngineFault → Type 0
-TellsOpening options (Ok done) = Opens options
-TellsOpening options (Err (Open fault)) = Refuses options fault
-TellsOpening options (Err (Work fault)) = Opens options
-TellsOpening options (Err (Write fault)) = Opens options
-TellsOpening options (Err fault) = Unit {0}
+abbrev pub ReportsOpening : Options → Result (Unit {0}) EngineFault → Type 0
+ReportsOpening options (Ok done) = Opens options
+ReportsOpening options (Err (Open fault)) = Refuses options fault
+ReportsOpening options (Err (Work fault)) = Opens options
+ReportsOpening options (Err (Write fault)) = Opens options
+ReportsOpening options (Err fault) = Unit {0}
 
 -- a store that is refused on a region of so many granules: for this region just where it does not open on it
 abbrev pub RefusesOn : StoreKind → ℕ → OpenFault → Type 0
@@ -48,20 +48,20 @@ RefusesOn store granules open_fault.Memory = OpensOn store granules
 RefusesOn store granules fault = Unit {0}
 
 -- what an outcome tells of the script's region: the store was opened on it where the script was worked
-abbrev pub TellsRegion : StoreKind → ℕ → Result (Unit {0}) EngineFault → Type 0
-TellsRegion store granules (Ok done) = OpensOn store granules
-TellsRegion store granules (Err (Open fault)) = RefusesOn store granules fault
-TellsRegion store granules (Err (Work fault)) = OpensOn store granules
-TellsRegion store granules (Err (Write fault)) = OpensOn store granules
-TellsRegion store granules (Err fault) = Unit {0}
+abbrev pub ReportsRegion : StoreKind → ℕ → Result (Unit {0}) EngineFault → Type 0
+ReportsRegion store granules (Ok done) = OpensOn store granules
+ReportsRegion store granules (Err (Open fault)) = RefusesOn store granules fault
+ReportsRegion store granules (Err (Work fault)) = OpensOn store granules
+ReportsRegion store granules (Err (Write fault)) = OpensOn store granules
+ReportsRegion store granules (Err fault) = Unit {0}
 
 -- Nothing is written where no script was worked: the input could not be read, is too long or is refused as a script,
 -- the store was refused, or there was no memory for one of these.
-abbrev pub KeepsUnworked : Option (List ℕ) → Option (List ℕ) → Result (Unit {0}) EngineFault → Type 0
-KeepsUnworked old new (Ok done) = Unit {0}
-KeepsUnworked old new (Err (Work fault)) = Unit {0}
-KeepsUnworked old new (Err (Write fault)) = Unit {0}
-KeepsUnworked old new (Err fault) = Keeps old new
+abbrev pub KeepsUnexecuted : Option (List ℕ) → Option (List ℕ) → Result (Unit {0}) EngineFault → Type 0
+KeepsUnexecuted old new (Ok done) = Unit {0}
+KeepsUnexecuted old new (Err (Work fault)) = Unit {0}
+KeepsUnexecuted old new (Err (Write fault)) = Unit {0}
+KeepsUnexecuted old new (Err fault) = Keeps old new
 
 -- what is wrong with an input, its reader or its script
 abbrev pub IsInputFault : EngineFault → Type 0
@@ -74,9 +74,9 @@ IsInputFault fault = ⊥
 -- The store was refused, or there was no memory for the words of its region; or it was opened, and what it worked
 -- holds.
 abbrev pub FromOpening : Result (Unit {0}) EngineFault → Type 0 → Type 0
-FromOpening (Err (Open fault)) worked = Unit {0}
-FromOpening (Err Memory) worked = Unit {0}
-FromOpening result worked = worked
+FromOpening (Err (Open fault)) executed = Unit {0}
+FromOpening (Err Memory) executed = Unit {0}
+FromOpening result executed = executed
 
 -- There is no script, for what is wrong with the input or its reader; or the input is a script, and what was made of
 -- it holds.

@@ -1,5 +1,5 @@
 pub mod Store
 pub mod Engine
 pub mod Run
-pub mod Race
-pub mod Status
+pub mod RaceTranscript
+pub mod FaultStatus

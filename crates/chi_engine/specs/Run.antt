@@ -8,11 +8,11 @@ use Rattle.chi_history.specs.Lines.{serial}
 use Rattle.chi_script.specs.RunText.{run_text}
 use Rattle.chi_script.specs.Script.{ScriptValue}
 use Rattle.chi_script.specs.Transcript.{text}
-use Rattle.chi_script.specs.Written.{AppendsFront}
+use Rattle.chi_script.specs.WriterBytes.{AppendsFront}
 use Rattle.chi_engine.specs.declared.fault.EngineFault.{EngineFault}
 use Rattle.chi_engine.specs.declared.fault.EngineFault.TheVariants.{Work, Write}
 use Rattle.chi_engine.specs.declared.options.Options.{Options}
-use Rattle.chi_engine.specs.Engine.{FromInput, FromOpening, TellsRegion}
+use Rattle.chi_engine.specs.Engine.{FromInput, FromOpening, ReportsRegion}
 use Rattle.chi_engine.specs.Store.{opening_of}
 
 -- the greatest requester number in a run
@@ -25,24 +25,24 @@ transcript s = run_text s.region s.requests (opening_memory (opening_of s))
 
 -- the lines are those of the first requests of the script, worked in order, and some requests were not worked
 pub record IsCut (s : ScriptValue) (lines : List Line) : Type 0 where
-  pub worked : List Request
+  pub executed : List Request
   pub left : List Request
-  pub parts : worked ++ left ≡ s.requests
+  pub parts : executed ++ left ≡ s.requests
   pub some_left : left ≢ []
-  pub told : lines ≡ serial s.region worked (opening_memory (opening_of s))
+  pub told : lines ≡ serial s.region executed (opening_memory (opening_of s))
 
 -- What is written of a script over a home: after Ok its transcript. Where there was no memory for the work, a
 -- prefix of the lines so far; after a fault of the writer, a prefix of the transcript.
-abbrev pub Works : ScriptValue → Option (List ℕ) → Option (List ℕ) → Result (Unit {0}) EngineFault → Type 0
-Works s old new (Ok done) = Appends old new (transcript s)
-Works s old new (Err (Work fault)) = (lines : List Line) × IsCut s lines × AppendsFront old new (text lines)
-Works s old new (Err (Write fault)) = AppendsFront old new (transcript s)
-Works s old new (Err fault) = ⊥
+abbrev pub Runs : ScriptValue → Option (List ℕ) → Option (List ℕ) → Result (Unit {0}) EngineFault → Type 0
+Runs s old new (Ok done) = Appends old new (transcript s)
+Runs s old new (Err (Work fault)) = (lines : List Line) × IsCut s lines × AppendsFront old new (text lines)
+Runs s old new (Err (Write fault)) = AppendsFront old new (transcript s)
+Runs s old new (Err fault) = ⊥
 
 -- the same over the store of the options, which may be refused
-abbrev pub WorksBy : Options → ScriptValue → Option (List ℕ) → Option (List ℕ) → Result (Unit {0}) EngineFault → Type 0
-WorksBy options s old new result = TellsRegion options.store s.region.granules result × FromOpening result (Works s old new result)
+abbrev pub RunsBy : Options → ScriptValue → Option (List ℕ) → Option (List ℕ) → Result (Unit {0}) EngineFault → Type 0
+RunsBy options s old new result = ReportsRegion options.store s.region.granules result × FromOpening result (Runs s old new result)
 
 -- after Ok the transcript of the input's script was written; what each fault means, and what was written then
 abbrev pub Outcome : Options → List ℕ → Option (List ℕ) → Option (List ℕ) → Result (Unit {0}) EngineFault → Type 0
-Outcome options input old new result = FromInput input most_src result (λ s. WorksBy options s old new result)
+Outcome options input old new result = FromInput input most_src result (λ s. RunsBy options s old new result)

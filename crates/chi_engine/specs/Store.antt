@@ -1,11 +1,11 @@
 -- the store of the options, and how it is opened for a script
 use Rattle.std.specs.Prelude.{◌≡◌, ℕ, List}
-use Rattle.chi_bookstore.specs.Faults.{IsAttemptCount}
-use Rattle.chi_lockstore.specs.Faults.{IsWithinLine}
+use Rattle.chi_bookstore.specs.BookFaults.{IsAttemptCount}
+use Rattle.chi_lockstore.specs.LockFaults.{IsWithinLine}
 use Rattle.chi_history.specs.declared.entry.Entry.{Entry}
 use Rattle.chi_history.specs.declared.opening.Opening.{Opening}
-use Rattle.chi_history.specs.Held.{Held}
-use Rattle.chi_history.specs.Opened.{IsFirst, opened}
+use Rattle.chi_history.specs.NumberSets.{Held}
+use Rattle.chi_history.specs.Openings.{IsFirst, opened}
 use Rattle.chi_script.specs.Script.{ScriptValue}
 use Rattle.chi_engine.specs.declared.options.Options.{Options}
 use Rattle.chi_engine.specs.declared.options.StoreKind.{StoreKind}

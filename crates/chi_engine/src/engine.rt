@@ -1,8 +1,8 @@
 //! From a script's bytes to a transcript's bytes.
 
 ghost use Rattle.std.specs.Prelude.{◌≡◌, IfSome};
-ghost use Rattle.chi_engine.specs.Engine.{KeepsUnworked, TellsOpening};
-ghost use Rattle.chi_engine.specs.Race.{RaceOutcome, most_racer};
+ghost use Rattle.chi_engine.specs.Engine.{KeepsUnexecuted, ReportsOpening};
+ghost use Rattle.chi_engine.specs.RaceTranscript.{RaceOutcome, most_racer};
 ghost use Rattle.chi_engine.specs.Run.{Outcome};
 
 use crate::fault::EngineFault;
@@ -31,8 +31,8 @@ pub fn engine_run<T: AllocGlobal + Wait, R: Read, W: Write>(
     options: &Options,
 ) -> Result<(), EngineFault>
     ensures outcome { IfSome (R.remaining from.old) (λ input. Outcome options.now input (W.contents to.old) (W.contents to.new) result) }
-    ensures opening { TellsOpening options.now result }
-    ensures unworked { KeepsUnworked (W.contents to.old) (W.contents to.new) result }
+    ensures opening { ReportsOpening options.now result }
+    ensures unexecuted { KeepsUnexecuted (W.contents to.old) (W.contents to.new) result }
 {
     let script = read_whole(rt.alloc(), from, 7)?;
     run_script(rt, &script, to, options)
@@ -77,8 +77,8 @@ pub fn engine_race<
     gate4: G4,
 ) -> Result<(), EngineFault>
     ensures outcome { IfSome (R.remaining from.old) (λ input. RaceOutcome options.now input (W.contents to.old) (W.contents to.new) result) }
-    ensures opening { TellsOpening options.now result }
-    ensures unworked { KeepsUnworked (W.contents to.old) (W.contents to.new) result }
+    ensures opening { ReportsOpening options.now result }
+    ensures unexecuted { KeepsUnexecuted (W.contents to.old) (W.contents to.new) result }
 {
     let script = read_whole(rt.alloc(), from, most_racer(options.workers))?;
     let gates = Gates {

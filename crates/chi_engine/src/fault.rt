@@ -1,7 +1,7 @@
 //! Why a run ends early, and with which status.
 
 ghost use Rattle.std.specs.Prelude.{◌≡◌};
-ghost use Rattle.chi_engine.specs.Status.{status_of};
+ghost use Rattle.chi_engine.specs.FaultStatus.{status_of};
 
 use chi_history::OpenFault;
 use chi_requester::WorkFault;

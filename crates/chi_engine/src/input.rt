@@ -1,7 +1,7 @@
 //! Reads the whole input, up to a limit, and the script that it is.
 
 ghost use Rattle.std.specs.Prelude.{◌+◌, IfErr, IfOk, IfSome};
-ghost use Rattle.chi_history.specs.Held.{AllFrom, below};
+ghost use Rattle.chi_history.specs.NumberSets.{AllFrom, below};
 ghost use Rattle.chi_engine.specs.Engine.{IsInputFault, Yields};
 
 use crate::fault::EngineFault;

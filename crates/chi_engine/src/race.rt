@@ -1,13 +1,13 @@
 //! A script's requests raced: those of two or four requesters at the same time, and then those of 0.
 
 ghost use Rattle.std.specs.Prelude.{◌≡◌, ◌+◌, [], ◌++◌, length, IfErr, OnOk};
-ghost use Rattle.chi_history.specs.Held.{AllFrom, below};
+ghost use Rattle.chi_history.specs.NumberSets.{AllFrom, below};
 ghost use Rattle.chi_history.specs.History.{end};
 ghost use Rattle.chi_requester.specs.Race.{lines_of, lines_of_four};
 ghost use Rattle.chi_script.specs.Transcript.{memtext, text};
-ghost use Rattle.chi_script.specs.Written.{Puts};
-ghost use Rattle.chi_engine.specs.Engine.{KeepsUnworked, TellsOpening};
-ghost use Rattle.chi_engine.specs.Race.{IsRaceCut, IsRaced, Races, RacesBy, most_racer, race_lines};
+ghost use Rattle.chi_script.specs.WriterBytes.{Puts};
+ghost use Rattle.chi_engine.specs.Engine.{KeepsUnexecuted, ReportsOpening};
+ghost use Rattle.chi_engine.specs.RaceTranscript.{IsRaceCut, IsRaced, Races, RacesBy, most_racer, race_lines};
 ghost use Rattle.chi_engine.specs.Store.{IsFresh, limit_of, opening_of};
 ghost use Rattle.chi_script.specs.RunText.{granule_words};
 
@@ -211,9 +211,9 @@ pub(crate) fn race_script<
     gates: Gates<G1, G2, G3, G4>,
 ) -> Result<(), EngineFault>
     requires from { AllFrom (below (most_racer options.now.workers + 1)) script.now.requests }
-    ensures worked { RacesBy options.now script.now (W.contents to.old) (W.contents to.new) result }
-    ensures opening { TellsOpening options.now result }
-    ensures unworked { KeepsUnworked (W.contents to.old) (W.contents to.new) result }
+    ensures executed { RacesBy options.now script.now (W.contents to.old) (W.contents to.new) result }
+    ensures opening { ReportsOpening options.now result }
+    ensures unexecuted { KeepsUnexecuted (W.contents to.old) (W.contents to.new) result }
 {
     let Ok(mut words) = room(rt.alloc(), script.region().granules()) else {
         return Err(EngineFault::Memory);

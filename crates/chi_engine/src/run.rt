@@ -1,11 +1,11 @@
 //! A script's requests executed one after another.
 
 ghost use Rattle.std.specs.Prelude.{◌≡◌, ◌+◌, [], length, IfErr, OnOk};
-ghost use Rattle.chi_history.specs.Held.{AllFrom, below};
+ghost use Rattle.chi_history.specs.NumberSets.{AllFrom, below};
 ghost use Rattle.chi_history.specs.History.{opening_memory};
 ghost use Rattle.chi_history.specs.Lines.{serial, serial_end};
-ghost use Rattle.chi_engine.specs.Engine.{KeepsUnworked, TellsOpening};
-ghost use Rattle.chi_engine.specs.Run.{IsCut, Works, WorksBy, most_src};
+ghost use Rattle.chi_engine.specs.Engine.{KeepsUnexecuted, ReportsOpening};
+ghost use Rattle.chi_engine.specs.Run.{IsCut, Runs, RunsBy, most_src};
 ghost use Rattle.chi_engine.specs.Store.{IsFresh, opening_of};
 ghost use Rattle.chi_script.specs.RunText.{granule_words};
 
@@ -57,7 +57,7 @@ fn run_over<H: Home, T: AllocGlobal + Wait, W: Write>(
     requires fresh { IsFresh (H.opening home.now) script.now (H.held seat.old) (H.seen seat.old) }
     requires from { AllFrom (below (most_src + 1)) script.now.requests }
     requires room { length words.old ≡ script.now.region.granules }
-    ensures { Works script.now (W.contents to.old) (W.contents to.new) result }
+    ensures { Runs script.now (W.contents to.old) (W.contents to.new) result }
 {
     let mut lines = Vec::new(rt.alloc());
     if let Err(fault) = work_all(home, rt, seat, script, policy, &mut lines, words) {
@@ -79,9 +79,9 @@ pub(crate) fn run_script<T: AllocGlobal + Wait, W: Write>(
     options: &Options,
 ) -> Result<(), EngineFault>
     requires from { AllFrom (below (most_src + 1)) script.now.requests }
-    ensures worked { WorksBy options.now script.now (W.contents to.old) (W.contents to.new) result }
-    ensures opening { TellsOpening options.now result }
-    ensures unworked { KeepsUnworked (W.contents to.old) (W.contents to.new) result }
+    ensures executed { RunsBy options.now script.now (W.contents to.old) (W.contents to.new) result }
+    ensures opening { ReportsOpening options.now result }
+    ensures unexecuted { KeepsUnexecuted (W.contents to.old) (W.contents to.new) result }
 {
     let Ok(mut words) = room(rt.alloc(), script.region().granules()) else {
         return Err(EngineFault::Memory);

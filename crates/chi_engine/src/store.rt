@@ -1,8 +1,8 @@
 //! The store of the options, opened for a script.
 
 ghost use Rattle.std.specs.Prelude.{◌≡◌, length, IfErr, IfOk};
-ghost use Rattle.chi_bookstore.specs.Faults as book_faults;
-ghost use Rattle.chi_lockstore.specs.Faults as lock_faults;
+ghost use Rattle.chi_bookstore.specs.BookFaults as book_faults;
+ghost use Rattle.chi_lockstore.specs.LockFaults as lock_faults;
 ghost use Rattle.chi_engine.specs.Store.{IsFresh, OpensOn, OpensWith, requester_count};
 
 use crate::options::{Options, StoreKind};
@@ -28,7 +28,7 @@ pub(crate) fn open_lock(
     ensures fresh { IfOk result (λ r. IsFresh (⟦<LockStore<Global> as Home>⟧.opening r.0) script.now (⟦<LockStore<Global> as Home>⟧.held r.1) (⟦<LockStore<Global> as Home>⟧.seen r.1)) }
     ensures limit { IfOk result (λ r. ⟦<LockStore<Global> as Home>⟧.limit r.0 ≡ 0) }
     ensures opens { IfOk result (λ _. OpensOn StoreKind.Lock script.now.region.granules) }
-    ensures refused { IfErr result (lock_faults.Meets script.now.region.granules requester_count) }
+    ensures refused { IfErr result (lock_faults.IsLockFault script.now.region.granules requester_count) }
 {
     LockStore::open(alloc, script.region(), MOST_NUMBERS, script.image())
 }
@@ -43,7 +43,7 @@ pub(crate) fn open_book(
     ensures fresh { IfOk result (λ r. IsFresh (⟦<BookStore<Global> as Home>⟧.opening r.0) script.now (⟦<BookStore<Global> as Home>⟧.held r.1) (⟦<BookStore<Global> as Home>⟧.seen r.1)) }
     ensures limit { IfOk result (λ r. ⟦<BookStore<Global> as Home>⟧.limit r.0 ≡ options.now.attempts) }
     ensures opens { IfOk result (λ _. OpensWith StoreKind.Book options.now.attempts) }
-    ensures refused { IfErr result (book_faults.Meets requester_count options.now.attempts) }
+    ensures refused { IfErr result (book_faults.IsBookFault requester_count options.now.attempts) }
 {
     let attempts = options.attempts;
     BookStore::open(

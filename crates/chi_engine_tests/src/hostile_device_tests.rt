@@ -69,7 +69,7 @@ impl Read for ByteReader<'_> {
 }
 
 // A run, or a race, of a text.
-fn worked<T: AllocGlobal + Threads + Wait + Sync, R: Read, W: Write>(
+fn executed<T: AllocGlobal + Threads + Wait + Sync, R: Read, W: Write>(
     rt: &T,
     race: bool,
     from: &mut R,
@@ -100,7 +100,7 @@ fn assert_cut<T: AllocGlobal + Abort + Threads + Wait + Sync>(
             at_once: usize::MAX,
             end,
         };
-        match worked(rt, race, &mut text.as_bytes(), &mut to, options) {
+        match executed(rt, race, &mut text.as_bytes(), &mut to, options) {
             Err(EngineFault::Write(fault)) => assert_eq!(rt; fault, want, "after {room} bytes"),
             _ => panic!(rt; "written, after {room} bytes"),
         }
@@ -127,7 +127,7 @@ fn assert_by_bytes<T: AllocGlobal + Abort + Threads + Wait + Sync>(
         calls: usize::MAX,
     };
     assert!(rt;
-        worked(rt, race, &mut from, &mut to, options).is_ok(),
+        executed(rt, race, &mut from, &mut to, options).is_ok(),
         "one byte a call"
     );
     assert_eq!(rt; to.taken.as_slice(), transcript);
@@ -137,7 +137,7 @@ fn assert_by_bytes<T: AllocGlobal + Abort + Threads + Wait + Sync>(
             calls,
         };
         let mut to: Vec<u8> = Vec::new(rt.alloc());
-        match worked(rt, race, &mut from, &mut to, options) {
+        match executed(rt, race, &mut from, &mut to, options) {
             Err(EngineFault::Read) => {}
             _ => panic!(rt; "read, after {calls} calls"),
         }
@@ -195,13 +195,13 @@ fn attempts_out_of_range_of_a_race(rt: HostRuntime) -> Result<(), Fail> {
     for attempts in [0, 17] {
         let mut options = Options { attempts, ..BOOK };
         let mut to: Vec<u8> = Vec::new(rt.alloc());
-        match worked(&rt, true, &mut text.as_bytes(), &mut to, &options) {
+        match executed(&rt, true, &mut text.as_bytes(), &mut to, &options) {
             Err(EngineFault::Open(fault)) => assert_eq!(rt; fault, OpenFault::AttemptCount),
             _ => panic!(rt; "{attempts} attempts are accepted"),
         }
         assert_eq!(rt; to.len(), 0);
         options.store = StoreKind::Lock;
-        worked(&rt, true, &mut text.as_bytes(), &mut to, &options)?;
+        executed(&rt, true, &mut text.as_bytes(), &mut to, &options)?;
         assert_eq!(rt; to.len(), 367);
     }
     Ok(())

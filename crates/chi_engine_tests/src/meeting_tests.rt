@@ -1,7 +1,7 @@
 //! Gates that wait for all of them: two and four workers at once, by the engine and by call.
 
 ghost use Rattle.std.specs.Prelude.{◌≡◌, ◌≤◌};
-ghost use Rattle.chi_history.specs.Held.{below};
+ghost use Rattle.chi_history.specs.NumberSets.{below};
 
 use crate::scripts::{ADD_OF_FOUR, ADD_OF_ONE, ADD_OF_THREE, ADD_OF_TWO, BOOK, LOCK, script};
 use chi_bookstore::BookStore;

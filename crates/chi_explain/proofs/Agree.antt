@@ -2,11 +2,11 @@
 use Rattle.std.proofs.Common.{◌≡◌, ℕ, ◌+◌, ◌-◌, ◌<◌, ◌≤◌, ◌&&◌, nat_le, nat_lt, Bool, true, false, cond, List, get_or, length, slice_index, refl, sym, ap, ◌∙◌, arith, true≢false}
 use Rattle.chi_fields.specs.declared.kind.Kind.{Kind}
 use Rattle.chi_fields.specs.declared.kind.Kind.TheVariants.{Read, Write, Store, Load, Swap, Compare}
-use Rattle.chi_fields.specs.Operation.{IsLawful, Operation, lane_of}
+use Rattle.chi_fields.specs.Access.{IsLawful, Access, lane_of}
 use Rattle.chi_lanes.specs.declared.reply.Reply.TheVariants.{CompData}
 use Rattle.chi_lanes.specs.After.{after, after_as, answer, answer_as, old, same_bytes}
 use Rattle.chi_lanes.specs.Bytes.{little, little_bytes}
-use Rattle.chi_lanes.specs.Combine.{combine}
+use Rattle.chi_lanes.specs.Combination.{combine}
 use Rattle.chi_lanes.specs.Memory.{Memory, IsMemory, bytes_from, granule_start, with_bytes, with_enabled, word_at}
 use Rattle.chi_lanes.specs.Packet.{cmp, in_lanes, sent, swp}
 use Rattle.chi_lanes.proofs.MemoryLemmas.{bytes_from-same, get_or-bytes_from, little_bytes-word_at}
@@ -32,17 +32,17 @@ unfolding word_at
 word_of_same m k start same = ap little (bytes_from-same m k start 8 same)
 
 -- an operand lies in its granule
-pub within_granule : (o : Operation) (m k : Memory) → IsLawful o → Same (granule_start o.addr) 8 m k → Same o.addr o.len m k
+pub within_granule : (o : Access) (m k : Memory) → IsLawful o → Same (granule_start o.addr) 8 m k → Same o.addr o.len m k
 within_granule o m k lawful same x above below =
     let place = placed o.addr o.len lawful.part lawful.aligned in
     let low : granule_start o.addr ≤ x = omega (arith, place.at) in
     let high : x < granule_start o.addr + 8 = omega (arith, place.at, place.room) in
     same x low high
 
-pub old_of_same : (o : Operation) (m k : Memory) → IsLawful o → Same (granule_start o.addr) 8 m k → old o m ≡ old o k
+pub old_of_same : (o : Access) (m k : Memory) → IsLawful o → Same (granule_start o.addr) 8 m k → old o m ≡ old o k
 old_of_same o m k lawful same = bytes_from-same m k o.addr o.len (within_granule o m k lawful same)
 
-answer_as_of_old : (kind : Kind) (o : Operation) (m k : Memory) → old o m ≡ old o k → answer_as kind o m ≡ answer_as kind o k
+answer_as_of_old : (kind : Kind) (o : Access) (m k : Memory) → old o m ≡ old o k → answer_as kind o m ≡ answer_as kind o k
 answer_as_of_old Read o m k same = ap (λ bs. CompData (in_lanes (lane_of o.addr) bs)) same
 answer_as_of_old Write o m k same = refl
 answer_as_of_old (Store op) o m k same = refl
@@ -50,7 +50,7 @@ answer_as_of_old (Load op) o m k same = ap (λ bs. CompData (in_lanes (lane_of o
 answer_as_of_old Swap o m k same = ap (λ bs. CompData (in_lanes (lane_of o.addr) bs)) same
 answer_as_of_old Compare o m k same = ap (λ bs. CompData (in_lanes (lane_of o.addr) bs)) same
 
-pub answer_of_same : (o : Operation) (m k : Memory) → IsLawful o → Same (granule_start o.addr) 8 m k → answer o m ≡ answer o k
+pub answer_of_same : (o : Access) (m k : Memory) → IsLawful o → Same (granule_start o.addr) 8 m k → answer o m ≡ answer o k
 answer_of_same o m k lawful same = answer_as_of_old o.kind o m k (old_of_same o m k lawful same)
 
 -- a byte after the same bytes were written to both
@@ -65,7 +65,7 @@ unfolding with_enabled
 enabled_byte lanes enables m k addr n x byte = λ i. with_enabled lanes enables (λ _. byte i) addr n x
 
 -- a byte after the operation
-after_as_byte : (kind : Kind) (o : Operation) (m k : Memory) (x : ℕ) → old o m ≡ old o k → m x ≡ k x → after_as kind o m x ≡ after_as kind o k x
+after_as_byte : (kind : Kind) (o : Access) (m k : Memory) (x : ℕ) → old o m ≡ old o k → m x ≡ k x → after_as kind o m x ≡ after_as kind o k x
 after_as_byte Read o m k x same byte = byte
 after_as_byte Write o m k x same byte = enabled_byte o.lanes o.enables m k o.addr o.len x byte
 after_as_byte (Store op) o m k x same byte =
@@ -89,7 +89,7 @@ after_as_byte Compare o m k x same byte =
     by_test false false e = byte
 
 -- the word after the operation
-pub after_of_same : (o : Operation) (m k : Memory) → IsLawful o → Same (granule_start o.addr) 8 m k
+pub after_of_same : (o : Access) (m k : Memory) → IsLawful o → Same (granule_start o.addr) 8 m k
     → word_at (after o m) (granule_start o.addr) ≡ word_at (after o k) (granule_start o.addr)
 after_of_same o m k lawful same =
     word_of_same (after o m) (after o k) (granule_start o.addr)

@@ -4,10 +4,10 @@ use Rattle.std.proofs.lemmas.Bool.{cases_lt}
 use Rattle.std.proofs.lemmas.List.{append_cancel_left}
 use Rattle.chi_fields.specs.declared.kind.Kind.{Kind}
 use Rattle.chi_fields.specs.declared.kind.Kind.TheVariants.{Read, Write, Store, Load, Swap, Compare}
-use Rattle.chi_fields.specs.Operation.{IsLawful, Operation, lane_of}
+use Rattle.chi_fields.specs.Access.{IsLawful, Access, lane_of}
 use Rattle.chi_lanes.specs.declared.reply.Reply.TheVariants.{CompData}
 use Rattle.chi_lanes.specs.After.{after_as, answer_as, old, same_bytes}
-use Rattle.chi_lanes.specs.Combine.{combine}
+use Rattle.chi_lanes.specs.Combination.{combine}
 use Rattle.chi_lanes.specs.Memory.{Memory, IsMemory, bytes_from, granule_start, with_bytes, word_at}
 use Rattle.chi_lanes.specs.Packet.{cmp, in_lanes, sent, swp}
 use Rattle.chi_lanes.proofs.AfterLemmas.{IsMemory-after, length-combined, length-sent, length-swp}
@@ -25,7 +25,7 @@ in_lanes-same l xs ys long same =
     ∙ (ap (take (length ys)) rest ∙ take_at ys (replicate (16 - l - length ys) 0) (length ys) refl)
 
 -- a write of as many bytes that leaves the word writes the bytes that were there
-kept_bytes : (o : Operation) (m : Memory) (bs : List ℕ) → IsLawful o → IsMemory m → IsMemory (with_bytes m o.addr bs) → length bs ≡ o.len
+kept_bytes : (o : Access) (m : Memory) (bs : List ℕ) → IsLawful o → IsMemory m → IsMemory (with_bytes m o.addr bs) → length bs ≡ o.len
     → word_at (with_bytes m o.addr bs) (granule_start o.addr) ≡ word_at m (granule_start o.addr) → bs ≡ old o m
 kept_bytes o m bs lawful is is_after long stays =
     let same = agree (with_bytes m o.addr bs) m (granule_start o.addr) is_after is stays in
@@ -48,18 +48,18 @@ rewritten m addr len x = elim (cases_lt x addr) [
 ]
 
 -- where the old bytes are written the word stays
-same_written : (o : Operation) (m : Memory) → IsLawful o → word_at (with_bytes m o.addr (old o m)) (granule_start o.addr) ≡ word_at m (granule_start o.addr)
+same_written : (o : Access) (m : Memory) → IsLawful o → word_at (with_bytes m o.addr (old o m)) (granule_start o.addr) ≡ word_at m (granule_start o.addr)
 same_written o m lawful = word_of_same (with_bytes m o.addr (old o m)) m (granule_start o.addr) (λ x _ _. rewritten m o.addr o.len x)
 
 -- what is said of one memory is true of another with the same old bytes
-kept_also : (o : Operation) (m k : Memory) (bs cs : List ℕ) → IsLawful o → IsMemory m → IsMemory (with_bytes m o.addr bs) → length bs ≡ o.len → bs ≡ cs → old o m ≡ old o k
+kept_also : (o : Access) (m k : Memory) (bs cs : List ℕ) → IsLawful o → IsMemory m → IsMemory (with_bytes m o.addr bs) → length bs ≡ o.len → bs ≡ cs → old o m ≡ old o k
     → word_at (with_bytes m o.addr bs) (granule_start o.addr) ≡ word_at m (granule_start o.addr)
     → word_at (with_bytes k o.addr cs) (granule_start o.addr) ≡ word_at k (granule_start o.addr)
 kept_also o m k bs cs lawful is is_after long same olds stays =
     ap (λ ds. word_at (with_bytes k o.addr ds) (granule_start o.addr)) (sym same ∙ (kept_bytes o m bs lawful is is_after long stays ∙ olds))
     ∙ same_written o k lawful
 
-kept_as : (kind : Kind) (o : Operation) (m k : Memory) (bs : List ℕ) → IsLawful o → IsMemory m → IsMemory (after_as kind o m) → CompData bs ≡ answer_as kind o m → old o m ≡ old o k
+kept_as : (kind : Kind) (o : Access) (m k : Memory) (bs : List ℕ) → IsLawful o → IsMemory m → IsMemory (after_as kind o m) → CompData bs ≡ answer_as kind o m → old o m ≡ old o k
     → word_at (after_as kind o m) (granule_start o.addr) ≡ word_at m (granule_start o.addr)
     → word_at (after_as kind o k) (granule_start o.addr) ≡ word_at k (granule_start o.addr)
 kept_as Read o m k bs lawful is is_after reply olds stays = refl
@@ -91,14 +91,14 @@ kept_as Compare o m k bs lawful is is_after reply olds stays =
     by_test false false e is_after stays = refl
 
 -- data tell the old bytes
-olds_of : (o : Operation) (m k : Memory) (bs : List ℕ) → CompData bs ≡ CompData (in_lanes (lane_of o.addr) (old o m)) → CompData bs ≡ CompData (in_lanes (lane_of o.addr) (old o k))
+olds_of : (o : Access) (m k : Memory) (bs : List ℕ) → CompData bs ≡ CompData (in_lanes (lane_of o.addr) (old o m)) → CompData bs ≡ CompData (in_lanes (lane_of o.addr) (old o k))
     → old o m ≡ old o k
 olds_of o m k bs first second =
     let same : in_lanes (lane_of o.addr) (old o m) ≡ in_lanes (lane_of o.addr) (old o k) = cc in
     in_lanes-same (lane_of o.addr) (old o m) (old o k) (length-bytes_from m o.addr o.len ∙ sym (length-bytes_from k o.addr o.len)) same
 
 -- so do those of an answer of any kind
-olds_as : (kind : Kind) (o : Operation) (m k : Memory) (bs : List ℕ) → CompData bs ≡ answer_as kind o m → CompData bs ≡ answer_as kind o k → old o m ≡ old o k
+olds_as : (kind : Kind) (o : Access) (m k : Memory) (bs : List ℕ) → CompData bs ≡ answer_as kind o m → CompData bs ≡ answer_as kind o k → old o m ≡ old o k
 olds_as Read o m k bs first second = olds_of o m k bs first second
 olds_as Write o m k bs first second = cc
 olds_as (Store op) o m k bs first second = cc

@@ -2,7 +2,7 @@
 use Rattle.std.proofs.Common.{◌≡◌, ℕ, ◌+◌, ◌<◌, ◌≤◌, List, [], ◌∷◌, ◌++◌, length, get_or, take, drop, slice_index, take-append-drop, sym, ap, subst, ◌∙◌, arith, true, false, true≢false}
 use Rattle.std.proofs.lemmas.List.{get_or_past, map-append, map_more}
 use Rattle.chi_fields.specs.Extent.{IsRegion, granule_of, lies_in}
-use Rattle.chi_fields.specs.Operation.{IsLawful}
+use Rattle.chi_fields.specs.Access.{IsLawful}
 use Rattle.chi_lanes.specs.Memory.{granule_start, word, word_at}
 use Rattle.chi_history.specs.declared.opening.Opening.{Opening}
 use Rattle.chi_history.specs.History.{IsLegal, IsLegalEntry, end, opening_memory}

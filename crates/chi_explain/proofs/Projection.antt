@@ -7,7 +7,7 @@ use Rattle.chi_lanes.specs.Memory.{Memory, IsMemory, granule_start, word, word_a
 use Rattle.chi_lanes.proofs.AfterLemmas.{IsMemory-after, word-after_other}
 use Rattle.chi_history.specs.declared.opening.Opening.{Opening}
 use Rattle.chi_history.specs.History.{IsLegalFrom, end_from, one_if, opening_memory}
-use Rattle.chi_history.specs.Opened.{opened}
+use Rattle.chi_history.specs.Openings.{opened}
 use Rattle.chi_history.proofs.WordLemmas.{IsMemory-opening_memory, word-opening_memory}
 use Rattle.chi_explain.specs.declared.observed.Observed.{Observed}
 use Rattle.chi_explain.specs.Charts.{is_here, is_of}

@@ -4,7 +4,7 @@ use Rattle.std.proofs.lemmas.Bool.{and_from, cases_eq}
 use Rattle.std.proofs.lemmas.List.{drop_all, drop_more, map_more, take_more}
 use Rattle.std.proofs.lemmas.List.Elements.{All-cons, All-nil, All-weaker}
 use Rattle.chi_fields.specs.Extent.{IsRegion, granule_of, lies_in}
-use Rattle.chi_fields.specs.Operation.{IsLawful}
+use Rattle.chi_fields.specs.Access.{IsLawful}
 use Rattle.chi_lanes.specs.After.{after}
 use Rattle.chi_lanes.specs.Memory.{Memory, IsMemory, granule_start, word, word_at}
 use Rattle.chi_history.specs.declared.entry.Entry.{Entry}

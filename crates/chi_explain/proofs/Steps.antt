@@ -2,12 +2,12 @@
 use Rattle.std.proofs.Common.{◌≡◌, ℕ, ◌+◌, ◌-◌, ◌*◌, ◌/◌, ◌%◌, ◌^◌, ◌<◌, ◌≤◌, true, [], ◌∷◌, sym, ap, ◌∙◌, arith, add-zero, lit<}
 use Rattle.std.proofs.lemmas.Bool.{and_parts, leb-true}
 use Rattle.chi_fields.specs.Extent.{Extent, IsRegion, granule_of, lies_in}
-use Rattle.chi_fields.specs.Operation.{IsLawful}
+use Rattle.chi_fields.specs.Access.{IsLawful}
 use Rattle.chi_lanes.specs.After.{after, answer}
 use Rattle.chi_lanes.specs.Memory.{Memory, IsMemory, granule_start, word, word_at}
 use Rattle.chi_lanes.proofs.AfterLemmas.{IsMemory-after}
 use Rattle.chi_lanes.proofs.MemoryLemmas.{word_at-below}
-use Rattle.chi_history.specs.Opened.{opened}
+use Rattle.chi_history.specs.Openings.{opened}
 use Rattle.chi_history.proofs.WordLemmas.{IsMemory-opening_memory, word-opening_memory}
 use Rattle.chi_explain.specs.declared.observed.Observed.{Observed}
 use Rattle.chi_explain.specs.Words.{Fits, next, with_word}

@@ -3,7 +3,7 @@ use Rattle.std.specs.Prelude.{◌≡◌, ℕ, ◌^◌, ◌<◌, ◌≤◌, ◌&&
 use Rattle.chi_lanes.specs.After.{after, answer}
 use Rattle.chi_lanes.specs.Memory.{Memory, granule_start, word_at}
 use Rattle.chi_history.specs.History.{one_if, opening_memory}
-use Rattle.chi_history.specs.Opened.{opened}
+use Rattle.chi_history.specs.Openings.{opened}
 use Rattle.chi_explain.specs.declared.observed.Observed.{Observed}
 use Rattle.chi_explain.specs.Explains.{IsInTime, at, has_ended, times_in}
 

@@ -2,7 +2,7 @@
 
 ghost use Rattle.std.specs.Prelude.{◌≡◌, ℕ, ◌-◌, ◌<◌, All, List, None, Some, IfOk, IfSome, length, slice_index, true};
 ghost use Rattle.chi_history.specs.History.{one_if};
-ghost use Rattle.chi_history.specs.Opened.{opened};
+ghost use Rattle.chi_history.specs.Openings.{opened};
 ghost use Rattle.chi_explain.specs.Charts.{is_here, is_open_at};
 ghost use Rattle.chi_explain.specs.Explains.{CanHold, ExplainsUntil, at, times_in};
 ghost use Rattle.chi_explain.specs.Words.{Finishes};

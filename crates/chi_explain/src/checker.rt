@@ -1,7 +1,7 @@
 //! Whether a trace can be explained.
 
 ghost use Rattle.std.specs.Prelude.{◌≡◌, ℕ, ◌<◌, List, None, Some, IfOk, slice_index, option_map};
-ghost use Rattle.chi_history.specs.Opened.{opened};
+ghost use Rattle.chi_history.specs.Openings.{opened};
 ghost use Rattle.chi_explain.specs.Charts.{is_here};
 ghost use Rattle.chi_explain.specs.Explains.{Explains, ExplainsUntil};
 ghost use Rattle.chi_explain.specs.Verdict.{IfExplained, IfUnexplained};

@@ -1,7 +1,7 @@
 //! The words that a granule can hold at the end.
 
 ghost use Rattle.std.specs.Prelude.{All, IfOk, None};
-ghost use Rattle.chi_history.specs.Opened.{opened};
+ghost use Rattle.chi_history.specs.Openings.{opened};
 ghost use Rattle.chi_explain.specs.Explains.{CanHold};
 
 use crate::checker::explain;

@@ -1,7 +1,7 @@
 //! The words that a granule can hold at a time.
 
 ghost use Rattle.std.specs.Prelude.{◌≡◌, ℕ, ◌<◌, IsTrue, All, IfOk, slice_index};
-ghost use Rattle.chi_history.specs.Opened.{opened};
+ghost use Rattle.chi_history.specs.Openings.{opened};
 ghost use Rattle.chi_explain.specs.Explains.{CanHold};
 
 use crate::chart::lies_here;

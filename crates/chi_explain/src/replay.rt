@@ -3,7 +3,7 @@
 ghost use Rattle.std.specs.Prelude.{◌≡◌, ℕ, ◌<◌, ◌≤◌, ◌&&◌, IsTrue, IsSome, None, Option, IfOk, IfSome, length, nat_lt, slice_index, option_map};
 ghost use Rattle.chi_lanes.specs.Memory.{word};
 ghost use Rattle.chi_history.specs.History.{IsLegal, end, one_if};
-ghost use Rattle.chi_history.specs.Opened.{opened};
+ghost use Rattle.chi_history.specs.Openings.{opened};
 ghost use Rattle.chi_explain.specs.Explains.{ExplainsUntil, IsInTime, at, has_ended, has_started, history, times_in};
 
 use crate::cut::{ended_by, started_by};

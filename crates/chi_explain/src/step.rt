@@ -2,7 +2,7 @@
 
 ghost use Rattle.std.specs.Prelude.{◌≡◌, ◌^◌, ◌<◌, ◌↔◌, IsTrue, None, IfSome};
 ghost use Rattle.chi_fields.specs.Extent.{IsRegion, lies_in};
-ghost use Rattle.chi_fields.specs.Operation.{IsLawful};
+ghost use Rattle.chi_fields.specs.Access.{IsLawful};
 ghost use Rattle.chi_explain.specs.Words.{Fits, IsIdle, next};
 
 use crate::observed::Observed;

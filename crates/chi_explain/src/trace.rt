@@ -1,7 +1,7 @@
 //! A whole trace, up to a time.
 
 ghost use Rattle.std.specs.Prelude.{◌≡◌, ℕ, ◌<◌, List, IfOk, slice_index, option_map};
-ghost use Rattle.chi_history.specs.Opened.{opened};
+ghost use Rattle.chi_history.specs.Openings.{opened};
 ghost use Rattle.chi_explain.specs.Charts.{is_here};
 ghost use Rattle.chi_explain.specs.Explains.{ExplainsUntil};
 ghost use Rattle.chi_explain.specs.Verdict.{IfExplained, IfUnexplained};

@@ -1,7 +1,7 @@
 //! Scripts of races on two granules: each worker adds, swaps, compares, stores and reads, and 0 reads after them.
 
 ghost use Rattle.std.specs.Prelude.{◌+◌, IfOk};
-ghost use Rattle.chi_history.specs.Held.{AllFrom, below};
+ghost use Rattle.chi_history.specs.NumberSets.{AllFrom, below};
 
 use chi_script::{Script, read_script};
 use std::test::Fail;

@@ -1,7 +1,7 @@
 //! What races of two and of four did over both stores is explained, and no longer once a reply is changed.
 
 ghost use Rattle.std.specs.Prelude.{◌≡◌, ◌≤◌};
-ghost use Rattle.chi_history.specs.Held.{below};
+ghost use Rattle.chi_history.specs.NumberSets.{below};
 
 use crate::clock_gate::{Pauses, observe, observe_after};
 use crate::race_scripts::{race_of_four, race_of_two};

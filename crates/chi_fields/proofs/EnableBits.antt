@@ -7,7 +7,7 @@ use Rattle.std.proofs.lemmas.Nat.{one_shl}
 use Rattle.std.proofs.lemmas.Nat.Bits.{bit_at-lt, bit_at-zero, bit_at_above, bit_at_cat_low, bit_at_mask_above, bit_at_mask_below, bit_at_mask_inside, same_from_bits, same_from_bits_below}
 use Rattle.std.specs.Int.{bit_at}
 use Rattle.std.specs.List.{list_all, range_with_len}
-use Rattle.chi_fields.specs.Operation.{IsLen, each_lane, enables_exactly, enables_within, is_among}
+use Rattle.chi_fields.specs.Access.{IsLen, each_lane, enables_exactly, enables_within, is_among}
 
 -- a test that passes at each number of a range passes at any one of them
 passes_at : (test : ℕ → Bool) (a n : ℕ) → list_all test (range_with_len a n) ≡ true → (i : ℕ) → a ≤ i → i < a + n → test i ≡ true

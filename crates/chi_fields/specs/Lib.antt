@@ -1,4 +1,4 @@
+pub mod Access
 pub mod Extent
 pub mod Opcode
-pub mod Operation
 pub mod Refusal

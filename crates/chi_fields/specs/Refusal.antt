@@ -7,7 +7,7 @@ use Rattle.chi_fields.specs.declared.refusal.Refusal.TheVariants.{UnknownOpcode,
 use Rattle.chi_fields.specs.declared.request.Request.{Request}
 use Rattle.chi_fields.specs.Extent.{Extent, lies_in}
 use Rattle.chi_fields.specs.Opcode.{kind_of}
-use Rattle.chi_fields.specs.Operation.{Operation, lane_of, enables_fit}
+use Rattle.chi_fields.specs.Access.{Access, lane_of, enables_fit}
 
 -- the operand's length: an AtomicCompare's size counts both values
 abbrev pub len_of : Kind → ℕ → ℕ
@@ -20,7 +20,7 @@ is_in_profile Compare size = nat_le 1 size && nat_le size 4
 is_in_profile _ size = nat_le size 3
 
 -- the operation of this kind that a request describes
-abbrev pub access_as : Kind → Request → Operation
+abbrev pub access_as : Kind → Request → Access
 access_as kind q = record {
   kind = kind;
   addr = q.addr;
@@ -31,11 +31,11 @@ access_as kind q = record {
 }
 
 -- the operation that a request describes, where its opcode names one
-abbrev pub access : Request → Option Operation
-access q = option_map (λ kind. access_as kind q) (kind_of q.opcode)
+abbrev pub access_of : Request → Option Access
+access_of q = option_map (λ kind. access_as kind q) (kind_of q.opcode)
 
 -- the access of a request of this kind, or the first refusal that it meets
-unfoldable pub decision_as : Kind → Request → Extent → Result Operation Refusal
+unfoldable pub decision_as : Kind → Request → Extent → Result Access Refusal
 decision_as kind q region =
     if nat_le 7 q.size then Err ReservedSize
     else if not (is_in_profile kind q.size) then Err SizeOutOfProfile
@@ -44,12 +44,12 @@ decision_as kind q region =
     else if not (enables_fit kind (len_of kind q.size) (lane_of q.addr) q.be) then Err BadByteEnable
     else Ok (access_as kind q)
 
-abbrev pub decision_of : Option Kind → Request → Extent → Result Operation Refusal
+abbrev pub decision_of : Option Kind → Request → Extent → Result Access Refusal
 decision_of None q region = Err UnknownOpcode
 decision_of (Some kind) q region = decision_as kind q region
 
 -- what a home decides of a request: its access, or the first refusal that it meets
-abbrev pub decision : Request → Extent → Result Operation Refusal
+abbrev pub decision : Request → Extent → Result Access Refusal
 decision q region = decision_of (kind_of q.opcode) q region
 
 -- the refusal's name

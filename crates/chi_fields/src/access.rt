@@ -2,7 +2,7 @@
 
 ghost use Rattle.std.specs.Prelude.{◌≡◌, ℕ, ◌%◌, ◌^◌, ◌<◌, slice_index, IsTrue};
 ghost use Rattle.chi_fields.specs.Extent.{lies_in, granule_of};
-ghost use Rattle.chi_fields.specs.Operation.{IsLawful, IsLen, enables_fit, lane_of};
+ghost use Rattle.chi_fields.specs.Access.{IsLawful, IsLen, enables_fit, lane_of};
 ghost use Rattle.chi_fields.specs.Refusal.{access_as, len_of};
 
 use crate::kind::Kind;
@@ -43,9 +43,9 @@ pub struct Access {
 }
 
 impl Model for Access {
-    ghost use Rattle.chi_fields.specs.Operation.{Operation, IsLawful};
+    ghost use Rattle.chi_fields.specs.Access.{Access, IsLawful};
 
-    ghost Value = { Operation };
+    ghost Value = { Access };
 
     ghost view = { λ a. record { kind = a.kind; addr = a.addr; len = a.len; endian = a.endian; enables = a.enables; lanes = a.lanes } };
 

@@ -2,7 +2,7 @@
 
 ghost use Rattle.std.specs.Prelude.{◌≡◌, ℕ, ◌+◌, ◌*◌, ◌%◌, ◌≤◌, ◌<◌, true, false, IfSome, IfNone, IfOk, IsTrue};
 ghost use Rattle.chi_fields.specs.Extent.{lies_in};
-ghost use Rattle.chi_fields.specs.Operation.{IsLawful, IsLen, enables_fit};
+ghost use Rattle.chi_fields.specs.Access.{IsLawful, IsLen, enables_fit};
 ghost use Rattle.chi_fields.specs.Refusal.{decision, len_of, is_in_profile};
 
 use crate::access::Access;

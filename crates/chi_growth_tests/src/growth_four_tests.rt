@@ -1,12 +1,12 @@
 //! Each growth refused in turn in a race of four.
 
 ghost use Rattle.std.specs.Prelude.{◌≡◌, ◌≤◌};
-ghost use Rattle.chi_history.specs.Held.{below};
+ghost use Rattle.chi_history.specs.NumberSets.{below};
 
 use crate::additions::additions;
 use crate::growth_race_tests::{EACH, STORE_ADD, assert_told};
 use crate::growth_tests::in_turn;
-use crate::refusing::Refusing;
+use crate::refusing_allocator::Refusing;
 use chi_bookstore::BookStore;
 use chi_fields::Region;
 use chi_history::{Home, NoGate};

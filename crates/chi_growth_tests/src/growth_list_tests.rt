@@ -1,11 +1,11 @@
 //! The growths of a list of lines: how many lines it has where each growth is refused.
 
 ghost use Rattle.std.specs.Prelude.{◌≡◌};
-ghost use Rattle.chi_history.specs.Held.{below};
+ghost use Rattle.chi_history.specs.NumberSets.{below};
 
 use crate::additions::additions;
 use crate::growth_tests::FETCH_ADD;
-use crate::refusing::Refusing;
+use crate::refusing_allocator::Refusing;
 use chi_bookstore::BookStore;
 use chi_fields::Region;
 use chi_history::{Home, Line};

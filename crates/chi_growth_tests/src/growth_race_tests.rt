@@ -1,11 +1,11 @@
 //! Each growth refused in turn in a race.
 
 ghost use Rattle.std.specs.Prelude.{◌≡◌, ◌≤◌};
-ghost use Rattle.chi_history.specs.Held.{below};
+ghost use Rattle.chi_history.specs.NumberSets.{below};
 
 use crate::additions::additions;
 use crate::growth_tests::{add, in_turn};
-use crate::refusing::Refusing;
+use crate::refusing_allocator::Refusing;
 use chi_bookstore::BookStore;
 use chi_fields::Region;
 use chi_history::{Home, Line, NoGate};

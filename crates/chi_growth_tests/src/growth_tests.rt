@@ -1,9 +1,9 @@
 //! Each growth refused in turn: in the opening of a store, in work and in serial work.
 
 ghost use Rattle.std.specs.Prelude.{◌≡◌, ◌≤◌};
-ghost use Rattle.chi_history.specs.Held.{below};
+ghost use Rattle.chi_history.specs.NumberSets.{below};
 
-use crate::refusing::Refusing;
+use crate::refusing_allocator::Refusing;
 use chi_bookstore::BookStore;
 use chi_fields::{Region, Request};
 use chi_history::{Home, Line, NoGate, OpenFault};

@@ -12,4 +12,4 @@ mod growth_race_tests;
 #[cfg(test)]
 mod growth_tests;
 #[cfg(test)]
-mod refusing;
+mod refusing_allocator;

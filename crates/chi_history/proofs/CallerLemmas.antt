@@ -3,14 +3,14 @@ use Rattle.std.proofs.Common.{◌==◌, eq-eqb, ◌≡◌, ℕ, ◌≤◌, true,
 use Rattle.std.proofs.lemmas.Bool.{cond-true, lt-ltb}
 use Rattle.std.proofs.lemmas.List.{append_cancel_left}
 use Rattle.chi_fields.specs.Extent.{granule_of}
-use Rattle.chi_fields.specs.Operation.{Operation}
+use Rattle.chi_fields.specs.Access.{Access}
 use Rattle.chi_lanes.specs.After.{answer}
 use Rattle.chi_lanes.specs.declared.reply.Reply.{Reply}
 use Rattle.chi_history.specs.declared.entry.Entry.{Entry}
 use Rattle.chi_history.specs.declared.opening.Opening.{Opening}
-use Rattle.chi_history.specs.Held.{Held, below, nobody}
+use Rattle.chi_history.specs.NumberSets.{Held, below, nobody}
 use Rattle.chi_history.specs.History.{IsFreeOf, IsLegal, IsLegalEntry, end, hits, hits_from, of, opening_memory}
-use Rattle.chi_history.specs.Served.{Completes, Joins, Retries, entry}
+use Rattle.chi_history.specs.HomeClauses.{Completes, Joins, Retries, entry}
 use Rattle.chi_history.proofs.HistoryLemmas.{free-all, free-append, legal-back, legal-front, legal_entry, of-append, of-free}
 
 -- nothing of others comes in where a seat holds every number
@@ -19,7 +19,7 @@ none_of_others o held seen mid all legal free =
     free-all o (end o seen) held mid (λ r known. ap (λ (k : Held). k r) all ∙ lt-ltb r o.requesters known) (legal-back o (opening_memory o) seen mid legal) free
 
 -- the history has one entry more, and its reply is the answer at the end of what was seen
-pub completes_alone : (o : Opening) (held : Held) (seen seen' : List Entry) (src : ℕ) (access : Operation) (reply : Reply) (lost : ℕ)
+pub completes_alone : (o : Opening) (held : Held) (seen seen' : List Entry) (src : ℕ) (access : Access) (reply : Reply) (lost : ℕ)
     → held ≡ below o.requesters → IsLegal o seen' → Completes o held seen seen' src access reply lost
     → (seen' ≡ seen ++ entry src access reply ∷ []) × (reply ≡ answer access (end o seen))
 completes_alone o held seen seen' src access reply lost all legal done = (grown, last.answered)
@@ -37,7 +37,7 @@ completes_alone o held seen seen' src access reply lost all legal done = (grown,
     last = legal_entry o (end o seen) (entry src access reply) (legal-back o (opening_memory o) seen (entry src access reply ∷ []) (subst (IsLegal o) grown legal))
 
 -- a seat that holds every number is never answered by RetryAck
-pub never_retried : (o : Opening) (limit : ℕ) (held : Held) (seen seen' : List Entry) (access : Operation) (lost : ℕ)
+pub never_retried : (o : Opening) (limit : ℕ) (held : Held) (seen seen' : List Entry) (access : Access) (lost : ℕ)
     → held ≡ below o.requesters → IsLegal o seen' → Retries o held seen seen' access lost → lost ≡ limit → 1 ≤ limit → ⊥
 unfolding hits_from
 never_retried o limit held seen seen' access lost all legal retried same some =
@@ -46,7 +46,7 @@ never_retried o limit held seen seen' access lost all legal retried same some =
     omega arith
 
 -- what came before a RetryAck and what came after it
-pub done_after_retry : (o : Opening) (held : Held) (seen retried seen' : List Entry) (src : ℕ) (access : Operation) (reply : Reply) (mid more : List Entry)
+pub done_after_retry : (o : Opening) (held : Held) (seen retried seen' : List Entry) (src : ℕ) (access : Access) (reply : Reply) (mid more : List Entry)
     → retried ≡ seen ++ mid → IsFreeOf held mid → seen' ≡ (retried ++ more) ++ entry src access reply ∷ [] → IsFreeOf held more
     → (between : List Entry) × (seen' ≡ (seen ++ between) ++ entry src access reply ∷ []) × IsFreeOf held between
 done_after_retry o held seen retried seen' src access reply mid more before free_before after free_after = (

@@ -4,19 +4,19 @@ use Rattle.std.proofs.lemmas.List.{set-get_or}
 use lib.Pointwise.{pointwise, bytes_decides}
 use prog.Atomic.{either}
 use Rattle.chi_fields.specs.Extent.{granule_of, lies_in}
-use Rattle.chi_fields.specs.Operation.{IsLawful, Operation}
+use Rattle.chi_fields.specs.Access.{IsLawful, Access}
 use Rattle.chi_history.specs.declared.entry.Entry.{Entry}
 use Rattle.chi_history.specs.declared.opening.Opening.{Opening}
 use Rattle.chi_history.specs.declared.view.View.{View}
-use Rattle.chi_history.specs.Rule.{Kept, Stands, shown}
-use Rattle.chi_history.specs.Told.{Adds, Applies, Exchanges, Sees, Tries}
+use Rattle.chi_history.specs.Rule.{Kept, RuleStands, shown}
+use Rattle.chi_history.specs.StepFacts.{Adds, Applies, Exchanges, Sees, Tries}
 use Rattle.chi_history.specs.Views.{has, knower}
 use Rattle.chi_history.proofs.StepLemmas.{appends, granule_below, next_of, sees}
 use Rattle.chi_history.proofs.Steps.{Steps}
 use Rattle.chi_history.proofs.ViewLists.{set_again}
 
 -- an exchange of the operation's word, at a knower
-exchanges_at : (count : ℕ) (o : Opening) (id : ℕ) (held : List ℕ) (seen : List Entry) (first next src : ℕ) (access : Operation) → has held src ≡ true
+exchanges_at : (count : ℕ) (o : Opening) (id : ℕ) (held : List ℕ) (seen : List Entry) (first next src : ℕ) (access : Access) → has held src ≡ true
     → IsLawful access → lies_in access.addr access.len o.region ≡ true → Applies o access first next
     → Steps count o id (knower o held seen)
     (λ ws. set ws (granule_of access.addr o.region) (either (slice_index ws (granule_of access.addr o.region) == first) next (slice_index ws (granule_of access.addr o.region))))
@@ -26,7 +26,7 @@ exchanges_at count o id held seen first next src access holds lawful fits applie
     h : List Entry
     h = kept.0
 
-    s : Stands count o h words views
+    s : RuleStands count o h words views
     s = kept.1
 
     v : View
@@ -49,7 +49,7 @@ exchanges_at count o id held seen first next src access holds lawful fits applie
           knower o held (h ++ next_of o h src access ∷ []),
           (
             h ++ next_of o h src access ∷ [],
-            subst (λ b. Stands count o (h ++ next_of o h src access ∷ []) (set words g (either b next found)) (set views id (knower o held (h ++ next_of o h src access ∷ [])))) (sym is) t.0,
+            subst (λ b. RuleStands count o (h ++ next_of o h src access ∷ []) (set words g (either b next found)) (set views id (knower o held (h ++ next_of o h src access ∷ [])))) (sym is) t.0,
           ),
           record {
             mid = t.1.0;
@@ -61,7 +61,7 @@ exchanges_at count o id held seen first next src access holds lawful fits applie
         let t = sees count o h words views id held seen s at in
         let still : set words g (either (found == first) next found) ≡ words = ap (λ b. set words g (either b next found)) is ∙ set-get_or words g 0 in (
           knower o held h,
-          (h, subst (λ ws. Stands count o h ws (set views id (knower o held h))) (sym still) t.0),
+          (h, subst (λ ws. RuleStands count o h ws (set views id (knower o held h))) (sym still) t.0),
           record {
             mid = t.1.0;
             found_is = shows ∙ ap (λ l. shown o l g) t.1.1;
@@ -70,7 +70,7 @@ exchanges_at count o id held seen first next src access holds lawful fits applie
         )
 
 -- an exchange of the operation's word
-pub exchanges : (count : ℕ) (o : Opening) (id : ℕ) (v : View) → v ≡ knower o v.held v.seen → (g first next src : ℕ) (access : Operation)
+pub exchanges : (count : ℕ) (o : Opening) (id : ℕ) (v : View) → v ≡ knower o v.held v.seen → (g first next src : ℕ) (access : Access)
     → g ≡ granule_of access.addr o.region → has v.held src ≡ true → IsLawful access → lies_in access.addr access.len o.region ≡ true → Applies o access first next
     → Steps count o id v (λ ws. set ws g (either (slice_index ws g == first) next (slice_index ws g))) (λ ws. Exchanges v first src access (slice_index ws g))
 exchanges count o id v is g first next src access place holds lawful fits applies =
@@ -78,7 +78,7 @@ exchanges count o id v is g first next src access place holds lawful fits applie
     (λ i. (sym place i, sym is i)) (exchanges_at count o id v.held v.seen first next src access holds lawful fits applies)
 
 -- an exchange of all words, at a knower
-tries_at : (count : ℕ) (o : Opening) (id : ℕ) (held : List ℕ) (seen : List Entry) (current new : List ℕ) (next src : ℕ) (access : Operation) → has held src ≡ true
+tries_at : (count : ℕ) (o : Opening) (id : ℕ) (held : List ℕ) (seen : List Entry) (current new : List ℕ) (next src : ℕ) (access : Access) → has held src ≡ true
     → IsLawful access → lies_in access.addr access.len o.region ≡ true → Applies o access (slice_index current (granule_of access.addr o.region)) next
     → new ≡ set current (granule_of access.addr o.region) next
     → Steps count o id (knower o held seen) (λ ws. if pointwise nat_eq ws current then new else ws) (Tries (knower o held seen) current src access)
@@ -87,7 +87,7 @@ tries_at count o id held seen current new next src access holds lawful fits appl
     h : List Entry
     h = kept.0
 
-    s : Stands count o h words views
+    s : RuleStands count o h words views
     s = kept.1
 
     v : View
@@ -106,7 +106,7 @@ tries_at count o id held seen current new next src access holds lawful fits appl
           knower o held (h ++ next_of o h src access ∷ []),
           (
             h ++ next_of o h src access ∷ [],
-            subst (λ ws. Stands count o (h ++ next_of o h src access ∷ []) ws (set views id (knower o held (h ++ next_of o h src access ∷ [])))) written t.0,
+            subst (λ ws. RuleStands count o (h ++ next_of o h src access ∷ []) ws (set views id (knower o held (h ++ next_of o h src access ∷ [])))) written t.0,
           ),
           (
             λ _. record { mid = t.1.0; words_are = λ i under. s.written i under ∙ ap (λ l. shown o l i) t.1.1; adds = t.1.2 },
@@ -117,13 +117,13 @@ tries_at count o id held seen current new next src access holds lawful fits appl
       v,
       (
         h,
-        subst (λ (z : List ℕ × List View). Stands count o h z.0 z.1) (λ i. (ap (λ b. cond b new words) (sym is) i, sym (set_again views id v at) i)) s,
+        subst (λ (z : List ℕ × List View). RuleStands count o h z.0 z.1) (λ i. (ap (λ b. cond b new words) (sym is) i, sym (set_again views id v at) i)) s,
       ),
       ((λ same. absurd (true≢false (sym ((bytes_decides words current).1 same) ∙ is))), λ _. refl),
     )
 
 -- an exchange of all words
-pub tries : (count : ℕ) (o : Opening) (id : ℕ) (v : View) → v ≡ knower o v.held v.seen → (current new : List ℕ) (g next src : ℕ) (access : Operation)
+pub tries : (count : ℕ) (o : Opening) (id : ℕ) (v : View) → v ≡ knower o v.held v.seen → (current new : List ℕ) (g next src : ℕ) (access : Access)
     → g ≡ granule_of access.addr o.region → has v.held src ≡ true → IsLawful access → lies_in access.addr access.len o.region ≡ true
     → Applies o access (slice_index current g) next → new ≡ set current g next
     → Steps count o id v (λ ws. if pointwise nat_eq ws current then new else ws) (Tries v current src access)

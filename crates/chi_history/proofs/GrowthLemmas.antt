@@ -4,18 +4,18 @@ use mathlib.Core.Logic.{dite}
 use mathlib.Core.Option as plain
 use native.Mathlib.Decide.{ℕ_discrete}
 use lib.ListN.{get_elem?}
-use Rattle.chi_fields.specs.Operation.{Operation}
+use Rattle.chi_fields.specs.Access.{Access}
 use Rattle.chi_lanes.specs.After.{answer}
 use Rattle.chi_lanes.specs.Memory.{Memory}
 use Rattle.chi_history.specs.declared.entry.Entry.{Entry}
 use Rattle.chi_history.specs.declared.opening.Opening.{Opening}
 use Rattle.chi_history.specs.declared.view.View.{View}
 use Rattle.chi_history.specs.Events.{ExchangeAdds, IsAt, LookLeaves, ReplaceAdds, with_entry}
-use Rattle.chi_history.specs.Held.{Held}
+use Rattle.chi_history.specs.NumberSets.{Held}
 use Rattle.chi_history.specs.History.{IsFreeOf, IsLegalFrom, end, opening_memory}
-use Rattle.chi_history.specs.Rule.{AreHeld, Knows, Stands}
-use Rattle.chi_history.specs.Served.{entry}
-use Rattle.chi_history.specs.Told.{Adds, Exchanges, Sees}
+use Rattle.chi_history.specs.Rule.{AreHeld, Knows, RuleStands}
+use Rattle.chi_history.specs.HomeClauses.{entry}
+use Rattle.chi_history.specs.StepFacts.{Adds, Exchanges, Sees}
 use Rattle.chi_history.specs.Views.{has, knower}
 use Rattle.chi_history.proofs.HistoryLemmas.{free-append, free-back, free-front, legal-back, legal-front, longer}
 use Rattle.chi_history.proofs.LeaveLemmas.{Covers, by_none, goes_on, read_leaves}
@@ -47,7 +47,7 @@ none_of o m views covered (x ∷ xs) legal free =
 record Grows (count : ℕ) (o : Opening) (h : List Entry) (words : List ℕ) (views : List View) (id : ℕ) (held : List ℕ) (seen more : List Entry) (h' : List Entry) (words' : List ℕ) (w : View) : Type 0 where
   place : IsAt count o h words views id (knower o held seen)
   now : w ≡ knower o held (seen ++ more)
-  stands : Stands count o h' words' (set views id w)
+  stands : RuleStands count o h' words' (set views id w)
 
 -- then the history goes on by a tail: behind what the seat had seen stood entries of others, and behind what it
 -- has seen stand entries of others
@@ -152,14 +152,14 @@ adds_one o h views id held seen mid e h' g free mine =
 
 -- a seat that has seen more leaves the history
 sees_stays : (count : ℕ) (o : Opening) (id : ℕ) (held : List ℕ) (seen mid : List Entry) (h h' : List Entry) (words words' : List ℕ) (views : List View)
-    → IsAt count o h words views id (knower o held seen) → (w : View) → Sees (knower o held seen) mid w → Stands count o h' words' (set views id w) → h' ≡ h
+    → IsAt count o h words views id (knower o held seen) → (w : View) → Sees (knower o held seen) mid w → RuleStands count o h' words' (set views id w) → h' ≡ h
 sees_stays count o id held seen mid h h' words words' views place w sees stands =
     stays o h views id held seen mid h' (grown count o h words views id held seen mid h' words' w (record { place = place; now = sees.now; stands = stands })) sees.free
 
 -- a seat that adds an entry adds it alone
-adds_alone : (count : ℕ) (o : Opening) (id : ℕ) (held : List ℕ) (seen mid : List Entry) (src : ℕ) (access : Operation) → has held src ≡ true
+adds_alone : (count : ℕ) (o : Opening) (id : ℕ) (held : List ℕ) (seen mid : List Entry) (src : ℕ) (access : Access) → has held src ≡ true
     → (h h' : List Entry) (words words' : List ℕ) (views : List View) → IsAt count o h words views id (knower o held seen)
-    → (w : View) → Adds (knower o held seen) mid src access w → Stands count o h' words' (set views id w) → (h' ≡ with_entry o h src access) × (w.seen ≡ h')
+    → (w : View) → Adds (knower o held seen) mid src access w → RuleStands count o h' words' (set views id w) → (h' ≡ with_entry o h src access) × (w.seen ≡ h')
 adds_alone count o id held seen mid src access mine h h' words words' views place w adds stands =
     let e : Entry = entry src access (answer access (end o (seen ++ mid))) in
     let more : List Entry = mid ++ e ∷ [] in

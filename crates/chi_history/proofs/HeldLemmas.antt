@@ -1,7 +1,7 @@
 -- sets of requester numbers
 use Rattle.std.proofs.Common.{◌≡◌, ℕ, Bool, true, false, not, refl, sym, ◌∙◌, ◌==◌, true≢false}
 use Rattle.std.proofs.lemmas.Bool.{and_parts}
-use Rattle.chi_history.specs.Held.{Held, Apart, without}
+use Rattle.chi_history.specs.NumberSets.{Held, Apart, without}
 
 -- a number that a set has and another has not is not in both
 pub apart_sym : (held other : Held) → Apart held other → Apart other held

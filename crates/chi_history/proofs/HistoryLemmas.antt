@@ -4,7 +4,7 @@ use Rattle.chi_lanes.specs.After.{after}
 use Rattle.chi_lanes.specs.Memory.{Memory}
 use Rattle.chi_history.specs.declared.entry.Entry.{Entry}
 use Rattle.chi_history.specs.declared.opening.Opening.{Opening}
-use Rattle.chi_history.specs.Held.{Held, nobody, union}
+use Rattle.chi_history.specs.NumberSets.{Held, nobody, union}
 use Rattle.chi_history.specs.History.{end_from, IsLegalEntry, IsLegalFrom, IsFreeOf, of, hits_from}
 
 -- the memory after two histories, one after another

@@ -7,9 +7,9 @@ use lib.ListN.{get_elem?}
 use Rattle.chi_history.specs.declared.entry.Entry.{Entry}
 use Rattle.chi_history.specs.declared.opening.Opening.{Opening}
 use Rattle.chi_history.specs.declared.view.View.{View}
-use Rattle.chi_history.specs.Held.{Apart, Held}
+use Rattle.chi_history.specs.NumberSets.{Apart, Held}
 use Rattle.chi_history.specs.History.{IsFreeOf}
-use Rattle.chi_history.specs.Rule.{AreApart, IsHeld, IsSeen, Knows, Stands}
+use Rattle.chi_history.specs.Rule.{AreApart, IsHeld, IsSeen, Knows, RuleStands}
 use Rattle.chi_history.specs.Views.{both, gone, has}
 use Rattle.chi_history.proofs.HeldLemmas.{apart_sym}
 use Rattle.chi_history.proofs.HistoryLemmas.{free-union}
@@ -139,7 +139,7 @@ unites count o id v other w live words views kept at differ at_other = (
     h : List Entry
     h = kept.0
 
-    s : Stands count o h words views
+    s : RuleStands count o h words views
     s = kept.1
 
     there : get_elem? views other ≡ plain.some w

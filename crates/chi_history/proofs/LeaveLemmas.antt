@@ -7,7 +7,7 @@ use lib.ListN.{get_elem?}
 use Rattle.chi_history.specs.declared.entry.Entry.{Entry}
 use Rattle.chi_history.specs.declared.opening.Opening.{Opening}
 use Rattle.chi_history.specs.declared.view.View.{View}
-use Rattle.chi_history.specs.Rule.{Stands}
+use Rattle.chi_history.specs.Rule.{RuleStands}
 use Rattle.chi_history.specs.Views.{both, gone, has}
 use Rattle.chi_history.proofs.ViewLemmas.{Meets, meets}
 use Rattle.chi_history.proofs.ViewLists.{at_end, at_last, at_longer, at_once, at_set, set_else, set_here}
@@ -27,7 +27,7 @@ Covers views views' = (i : ℕ) (u : View) → get_elem? views i ≡ plain.some 
     → (j : ℕ) × (w : View) × (get_elem? views' j ≡ plain.some w) × ((rest : List Entry) × (w.seen ≡ u.seen ++ rest))
 
 -- then the history goes on
-pub goes_on : (count : ℕ) (o : Opening) (h h' : List Entry) (words words' : List ℕ) (views views' : List View) → Stands count o h words views → Stands count o h' words' views'
+pub goes_on : (count : ℕ) (o : Opening) (h h' : List Entry) (words words' : List ℕ) (views views' : List View) → RuleStands count o h words views → RuleStands count o h' words' views'
     → Covers views views' → (tail : List Entry) × (h' ≡ h ++ tail)
 goes_on count o h h' words words' views views' s s' covers =
     let t = covers s.longest.0 s.longest.1 s.longest.2 in
@@ -38,7 +38,7 @@ goes_on count o h h' words words' views views' s s' covers =
     )
 
 -- and where this is so both ways, it stays
-same_history : (count : ℕ) (o : Opening) (h h' : List Entry) (words words' : List ℕ) (views views' : List View) → Stands count o h words views → Stands count o h' words' views'
+same_history : (count : ℕ) (o : Opening) (h h' : List Entry) (words words' : List ℕ) (views views' : List View) → RuleStands count o h words views → RuleStands count o h' words' views'
     → Covers views views' → Covers views' views → h' ≡ h
 same_history count o h h' words words' views views' s s' there back =
     let first = goes_on count o h h' words words' views views' s s' there in

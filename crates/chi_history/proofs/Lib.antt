@@ -11,9 +11,9 @@ pub mod RuleLemmas
 pub mod RuledLemmas
 pub mod SeatLemmas
 pub mod SplitLemmas
+pub mod StepFactLemmas
 pub mod StepLemmas
 pub mod Steps
-pub mod ToldLemmas
 pub mod TryLemmas
 pub mod ViewLemmas
 pub mod ViewLists

@@ -2,8 +2,8 @@
 use Rattle.std.proofs.Common.{◌≡◌, ℕ, zero, suc, ◌+◌, ◌<◌, ◌≤◌, ◌==◌, nat_eq, Bool, true, false, cond, ◌||◌, List, [], ◌∷◌, ◌++◌, length, refl, sym, ap, ◌∙◌, true≢false, arith, length-append, eq-eqb, eqb-true, inl, inr}
 use Rattle.std.proofs.lemmas.Bool.{cases_Bool, cases_eq, cond-false, cond-true, ne_eqb, or_cases, or_left, or_right}
 use Rattle.std.specs.List.{list_any}
-use Rattle.chi_history.specs.Held.{Held}
-use Rattle.chi_history.specs.Numbers.{IsInOrder, numbers_in, size_below}
+use Rattle.chi_history.specs.NumberSets.{Held}
+use Rattle.chi_history.specs.NumberLists.{IsInOrder, numbers_in, size_below}
 use Rattle.chi_history.specs.Views.{has}
 
 -- the numbers of a list and those of another

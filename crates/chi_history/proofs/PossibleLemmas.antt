@@ -1,20 +1,20 @@
 -- which steps are possible
 use Rattle.std.proofs.Common.{◌≡◌, ℕ, ◌<◌, ◌==◌, Bool, true, false, MatchBool, List, set, slice_index, refl, sym, ap, subst, ◌∙◌, eqb-true}
 use Rattle.chi_fields.specs.Extent.{granule_of, lies_in}
-use Rattle.chi_fields.specs.Operation.{IsLawful, Operation}
+use Rattle.chi_fields.specs.Access.{IsLawful, Access}
 use Rattle.chi_history.specs.declared.entry.Entry.{Entry}
 use Rattle.chi_history.specs.declared.opening.Opening.{Opening}
 use Rattle.chi_history.specs.declared.view.View.{View}
 use Rattle.chi_history.specs.Events.{ExchangeIsPossible, IsAt, LookIsPossible, ReplaceIsPossible, with_entry}
-use Rattle.chi_history.specs.Rule.{Stands, shown}
-use Rattle.chi_history.specs.Told.{Adds, Applies, Exchanges, Looks, Sees, Tries}
+use Rattle.chi_history.specs.Rule.{RuleStands, shown}
+use Rattle.chi_history.specs.StepFacts.{Adds, Applies, Exchanges, Looks, Sees, Tries}
 use Rattle.chi_history.specs.Views.{has, knower}
 use Rattle.chi_history.proofs.StepLemmas.{appends, granule_below, sees}
 
 -- the load of a try, by a seat of the opening
 look_at : (count : ℕ) (o : Opening) (id : ℕ) (held : List ℕ) (seen : List Entry) (g : ℕ) → g < o.region.granules
     → (h : List Entry) (words : List ℕ) (views : List View) → IsAt count o h words views id (knower o held seen)
-    → (w : View) × Looks (knower o held seen) g (slice_index words g) w × Stands count o h words (set views id w) × (w.seen ≡ h)
+    → (w : View) × Looks (knower o held seen) g (slice_index words g) w × RuleStands count o h words (set views id w) × (w.seen ≡ h)
 look_at count o id held seen g under h words views place =
     let t = sees count o h words views id held seen place.stands place.at in (
       knower o held h,
@@ -26,19 +26,19 @@ look_at count o id held seen g under h words views place =
 -- the load of a try
 pub look_possible : LookIsPossible
 look_possible count o id v is g under h words views place =
-    subst (λ (z : View). (w : View) × Looks z g (slice_index words g) w × Stands count o h words (set views id w) × (w.seen ≡ h)) (sym is)
+    subst (λ (z : View). (w : View) × Looks z g (slice_index words g) w × RuleStands count o h words (set views id w) × (w.seen ≡ h)) (sym is)
     (look_at count o id v.held v.seen g under h words views (subst (λ (z : View). IsAt count o h words views id z) is place))
 
 -- what an exchange is to do
-abbrev Does : ℕ → Opening → ℕ → View → ℕ → ℕ → ℕ → Operation → List Entry → List ℕ → List View → Type 0
+abbrev Does : ℕ → Opening → ℕ → View → ℕ → ℕ → ℕ → Access → List Entry → List ℕ → List View → Type 0
 Does count o id v first next src access h words views =
     (w : View) × Exchanges v first src access (slice_index words (granule_of access.addr o.region)) w
     × MatchBool (slice_index words (granule_of access.addr o.region) == first)
-    (Stands count o (with_entry o h src access) (set words (granule_of access.addr o.region) next) (set views id w) × (w.seen ≡ with_entry o h src access))
-    (Stands count o h words (set views id w) × (w.seen ≡ h))
+    (RuleStands count o (with_entry o h src access) (set words (granule_of access.addr o.region) next) (set views id w) × (w.seen ≡ with_entry o h src access))
+    (RuleStands count o h words (set views id w) × (w.seen ≡ h))
 
 -- the exchange, by a seat of the opening
-exchange_at : (count : ℕ) (o : Opening) (id : ℕ) (held : List ℕ) (seen : List Entry) (first next src : ℕ) (access : Operation) → has held src ≡ true → IsLawful access
+exchange_at : (count : ℕ) (o : Opening) (id : ℕ) (held : List ℕ) (seen : List Entry) (first next src : ℕ) (access : Access) → has held src ≡ true → IsLawful access
     → lies_in access.addr access.len o.region ≡ true → Applies o access first next → (h : List Entry) (words : List ℕ) (views : List View)
     → IsAt count o h words views id (knower o held seen) → Does count o id (knower o held seen) first next src access h words views
 exchange_at count o id held seen first next src access holds lawful fits applies h words views place = by_test (found == first) refl
@@ -69,7 +69,7 @@ exchange_at count o id held seen first next src access holds lawful fits applies
             found_is = shows ∙ ap (λ l. shown o l g) t.1.1;
             done = subst (λ b. MatchBool b (Adds v t.1.0 src access w) (Sees v t.1.0 w)) (sym is) t.1.2;
           },
-          subst (λ b. MatchBool b (Stands count o longer (set words g next) (set views id w) × (w.seen ≡ longer)) (Stands count o h words (set views id w) × (w.seen ≡ h))) (sym is) (t.0, refl),
+          subst (λ b. MatchBool b (RuleStands count o longer (set words g next) (set views id w) × (w.seen ≡ longer)) (RuleStands count o h words (set views id w) × (w.seen ≡ h))) (sym is) (t.0, refl),
         )
     by_test false is =
         let t = sees count o h words views id held seen place.stands place.at in
@@ -80,7 +80,7 @@ exchange_at count o id held seen first next src access holds lawful fits applies
             found_is = shows ∙ ap (λ l. shown o l g) t.1.1;
             done = subst (λ b. MatchBool b (Adds v t.1.0 src access w) (Sees v t.1.0 w)) (sym is) t.1.2;
           },
-          subst (λ b. MatchBool b (Stands count o longer (set words g next) (set views id w) × (w.seen ≡ longer)) (Stands count o h words (set views id w) × (w.seen ≡ h))) (sym is) (t.0, refl),
+          subst (λ b. MatchBool b (RuleStands count o longer (set words g next) (set views id w) × (w.seen ≡ longer)) (RuleStands count o h words (set views id w) × (w.seen ≡ h))) (sym is) (t.0, refl),
         )
 
 -- the exchange
@@ -90,11 +90,11 @@ exchange_possible count o id v is first next src access holds lawful fits applie
     (exchange_at count o id v.held v.seen first next src access holds lawful fits applies h words views (subst (λ (z : View). IsAt count o h words views id z) is place))
 
 -- the exchange of all words, by a seat of the opening
-replace_at : (count : ℕ) (o : Opening) (id : ℕ) (held : List ℕ) (seen : List Entry) (next src : ℕ) (access : Operation) → has held src ≡ true → IsLawful access
+replace_at : (count : ℕ) (o : Opening) (id : ℕ) (held : List ℕ) (seen : List Entry) (next src : ℕ) (access : Access) → has held src ≡ true → IsLawful access
     → lies_in access.addr access.len o.region ≡ true → (h : List Entry) (words : List ℕ) (views : List View) → IsAt count o h words views id (knower o held seen)
     → Applies o access (slice_index words (granule_of access.addr o.region)) next
     → (w : View) × Tries (knower o held seen) words src access words w
-    × Stands count o (with_entry o h src access) (set words (granule_of access.addr o.region) next) (set views id w) × (w.seen ≡ with_entry o h src access)
+    × RuleStands count o (with_entry o h src access) (set words (granule_of access.addr o.region) next) (set views id w) × (w.seen ≡ with_entry o h src access)
 replace_at count o id held seen next src access holds lawful fits h words views place applies =
     let t = appends count o h words views id held seen place.stands place.at src access next holds lawful fits applies in (
       knower o held (with_entry o h src access),
@@ -109,5 +109,5 @@ replace_at count o id held seen next src access holds lawful fits h words views 
 -- the exchange of all words
 pub replace_possible : ReplaceIsPossible
 replace_possible count o id v is next src access holds lawful fits h words views place applies =
-    subst (λ (z : View). (w : View) × Tries z words src access words w × Stands count o (with_entry o h src access) (set words (granule_of access.addr o.region) next) (set views id w) × (w.seen ≡ with_entry o h src access)) (sym is)
+    subst (λ (z : View). (w : View) × Tries z words src access words w × RuleStands count o (with_entry o h src access) (set words (granule_of access.addr o.region) next) (set views id w) × (w.seen ≡ with_entry o h src access)) (sym is)
     (replace_at count o id v.held v.seen next src access holds lawful fits h words views (subst (λ (z : View). IsAt count o h words views id z) is place) applies)

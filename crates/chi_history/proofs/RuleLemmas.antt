@@ -7,9 +7,9 @@ use lib.ListN.{get_elem?}
 use Rattle.chi_history.specs.declared.entry.Entry.{Entry}
 use Rattle.chi_history.specs.declared.opening.Opening.{Opening}
 use Rattle.chi_history.specs.declared.view.View.{View}
-use Rattle.chi_history.specs.Held.{Apart}
+use Rattle.chi_history.specs.NumberSets.{Apart}
 use Rattle.chi_history.specs.History.{IsFreeOf, IsLegal}
-use Rattle.chi_history.specs.Rule.{AreApart, EachKnows, IsHeld, IsSeen, Knows, Stands, shown}
+use Rattle.chi_history.specs.Rule.{AreApart, EachKnows, IsHeld, IsSeen, Knows, RuleStands, shown}
 use Rattle.chi_history.specs.Views.{has}
 use Rattle.chi_history.proofs.HeldLemmas.{apart_sym}
 use Rattle.chi_history.proofs.HistoryLemmas.{free-append}
@@ -102,12 +102,12 @@ knows_more o h tail v k free = record {
 }
 
 -- one seat steps, the history goes on by a tail, and no view but the seat's changes
-pub advance : (count : ℕ) (o : Opening) (h : List Entry) (words : List ℕ) (views : List View) → Stands count o h words views
+pub advance : (count : ℕ) (o : Opening) (h : List Entry) (words : List ℕ) (views : List View) → RuleStands count o h words views
     → (id : ℕ) (v w : View) → get_elem? views id ≡ plain.some v → (tail : List Entry) (words' : List ℕ) → IsLegal o (h ++ tail) → length words' ≡ count
     → ((g : ℕ) → g < o.region.granules → slice_index words' g ≡ shown o (h ++ tail) g) → ((g : ℕ) → o.region.granules ≤ g → slice_index words' g ≡ 0)
     → Knows o (h ++ tail) w → Within (has w.held) (has v.held) → Within (has v.held) (has w.held)
     → ((j : ℕ) (u : View) → j ≢ id → get_elem? views j ≡ plain.some u → IsFreeOf (has u.held) tail)
-    → IsSeen (h ++ tail) (set views id w) → Stands count o (h ++ tail) words' (set views id w)
+    → IsSeen (h ++ tail) (set views id w) → RuleStands count o (h ++ tail) words' (set views id w)
 advance count o h words views s id v w at tail words' legal counted written zeros mine within all others seen = record {
   region = s.region;
   room = s.room;
@@ -122,9 +122,9 @@ advance count o h words views s id v w at tail words' legal counted written zero
 }
 
 -- one seat steps, and neither the words nor the history change
-pub unmoved : (count : ℕ) (o : Opening) (h : List Entry) (words : List ℕ) (views : List View) → Stands count o h words views
+pub unmoved : (count : ℕ) (o : Opening) (h : List Entry) (words : List ℕ) (views : List View) → RuleStands count o h words views
     → (id : ℕ) (v w : View) → get_elem? views id ≡ plain.some v → Knows o h w → Within (has w.held) (has v.held) → Within (has v.held) (has w.held)
-    → IsSeen h (set views id w) → Stands count o h words (set views id w)
+    → IsSeen h (set views id w) → RuleStands count o h words (set views id w)
 unmoved count o h words views s id v w at mine within all seen = record {
   region = s.region;
   room = s.room;
@@ -139,9 +139,9 @@ unmoved count o h words views s id v w at mine within all seen = record {
 }
 
 -- a seat comes that holds what no other holds
-pub arrives : (count : ℕ) (o : Opening) (h : List Entry) (words : List ℕ) (views : List View) → Stands count o h words views
+pub arrives : (count : ℕ) (o : Opening) (h : List Entry) (words : List ℕ) (views : List View) → RuleStands count o h words views
     → (w : View) → Knows o h w → ((i : ℕ) (u : View) → get_elem? views i ≡ plain.some u → Apart (has w.held) (has u.held))
-    → Stands count o h words (views ++ w ∷ [])
+    → RuleStands count o h words (views ++ w ∷ [])
 arrives count o h words views s w mine fits = record {
   region = s.region;
   room = s.room;

@@ -5,7 +5,7 @@ use lib.ListN.{get_elem?}
 use Rattle.chi_fields.specs.Extent.{IsRegion}
 use Rattle.chi_history.specs.declared.opening.Opening.{Opening}
 use Rattle.chi_history.specs.declared.view.View.{View}
-use Rattle.chi_history.specs.Rule.{Kept, Ruled, Stands}
+use Rattle.chi_history.specs.Rule.{Kept, Ruled, RuleStands}
 use Rattle.chi_history.specs.Views.{all_below, gone, has, knower, newcomer}
 use Rattle.chi_history.proofs.HeldLemmas.{apart_sym}
 use Rattle.chi_history.proofs.RuleLemmas.{arrives}
@@ -52,8 +52,8 @@ pub ruled_opens : (count : ℕ) (o : Opening) (id : ℕ) → IsRegion o.region �
 ruled_opens count o id is room words views (inl first) at =
     let here : id ≡ 0 = (one_at newcomer newcomer id (subst (λ l. get_elem? l id ≡ plain.some newcomer) first.0 at)).0 in
     let v : View = knower o (all_below o.requesters) [] in
-    let whole : Stands count o [] (replicate count 0) (v ∷ gone ∷ []) =
+    let whole : RuleStands count o [] (replicate count 0) (v ∷ gone ∷ []) =
     arrives count o [] (replicate count 0) (v ∷ []) (opens count o is room) gone (knows_gone o [])
     (λ i u at_i. apart_sym (has u.held) (has gone.held) (gone_apart (has u.held))) in
-    inr (o, ([], subst (λ (z : List ℕ × List View). Stands count o [] z.0 z.1) (λ i. (sym first.1 i, set (sym first.0 i) (sym here i) v ++ gone ∷ [])) whole))
+    inr (o, ([], subst (λ (z : List ℕ × List View). RuleStands count o [] z.0 z.1) (λ i. (sym first.1 i, set (sym first.0 i) (sym here i) v ++ gone ∷ [])) whole))
 ruled_opens count o id is room words views (inr k) at = absurd (true≢false ((k.1.1.each id newcomer at).settled))

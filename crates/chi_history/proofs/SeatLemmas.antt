@@ -4,20 +4,20 @@ use Rattle.std.proofs.lemmas.Bool.{ltb-true, eqb-true}
 use Rattle.std.proofs.lemmas.List.{get_or-set_other, get_or-set_same}
 use borrow.Author.Count.{below_more}
 use Rattle.chi_fields.specs.Extent.{granule_of}
-use Rattle.chi_fields.specs.Operation.{Operation}
+use Rattle.chi_fields.specs.Access.{Access}
 use Rattle.chi_lanes.specs.declared.reply.Reply.{Reply}
 use Rattle.chi_lanes.specs.Memory.{word}
 use Rattle.chi_history.specs.declared.opening.Opening.{Opening}
 use Rattle.chi_history.specs.declared.view.View.{View}
-use Rattle.chi_history.specs.Held.{Held, below, only, union, without}
+use Rattle.chi_history.specs.NumberSets.{Held, below, only, union, without}
 use Rattle.chi_history.specs.History.{IsLegal, IsLegalFrom, end}
 use Rattle.chi_history.specs.Rule.{shown}
 use Rattle.chi_history.specs.Seats.{IsKnown, IsSeat}
-use Rattle.chi_history.specs.Served.{Completes}
-use Rattle.chi_history.specs.Told.{Replaces, Settles}
+use Rattle.chi_history.specs.HomeClauses.{Completes}
+use Rattle.chi_history.specs.StepFacts.{Replaces, Settles}
 use Rattle.chi_history.specs.Views.{all_below, all_but, alone, both, has, knower, rest_of}
 use Rattle.chi_history.proofs.HeldLemmas.{without-held}
-use Rattle.chi_history.proofs.ToldLemmas.{Answers, IsJoined, joined, read_word, replaced}
+use Rattle.chi_history.proofs.StepFactLemmas.{Answers, IsJoined, joined, read_word, replaced}
 use Rattle.chi_history.proofs.TryLemmas.{IsTried, replaced_try}
 use Rattle.chi_history.proofs.ViewLemmas.{has-all_below, has-all_but, has-only}
 
@@ -89,7 +89,7 @@ seat_joined o numbers other whole v u w s t all settled =
     }
 
 -- the seat after an exchange of all words where they were as expected, which completes its request
-pub seat_replaces : (o : Opening) (v : View) (words : List ℕ) (src : ℕ) (access : Operation) (w : View) (reply : Reply) → IsKnown o v → Replaces v words src access w
+pub seat_replaces : (o : Opening) (v : View) (words : List ℕ) (src : ℕ) (access : Access) (w : View) (reply : Reply) → IsKnown o v → Replaces v words src access w
     → Answers o access (slice_index words (granule_of access.addr o.region)) reply
     → IsKnown o w × (w.held ≡ v.held) × Completes o (has v.held) v.seen w.seen src access reply 0
 seat_replaces o v words src access w reply known replaces answered =

@@ -11,9 +11,9 @@ use Rattle.chi_fields.specs.Extent.{IsRegion}
 use Rattle.chi_history.specs.declared.entry.Entry.{Entry}
 use Rattle.chi_history.specs.declared.opening.Opening.{Opening}
 use Rattle.chi_history.specs.declared.view.View.{View}
-use Rattle.chi_history.specs.Held.{Apart, Held}
+use Rattle.chi_history.specs.NumberSets.{Apart, Held}
 use Rattle.chi_history.specs.History.{IsLegalFrom, end_from}
-use Rattle.chi_history.specs.Rule.{IsHeld, IsSeen, Knows, Stands, first_word}
+use Rattle.chi_history.specs.Rule.{IsHeld, IsSeen, Knows, RuleStands, first_word}
 use Rattle.chi_history.specs.Views.{all_below, all_but, alone, gone, has, knower, rest_of}
 use Rattle.chi_history.proofs.HeldLemmas.{without-held}
 use Rattle.chi_history.proofs.HistoryLemmas.{free-nobody, free-within}
@@ -83,11 +83,11 @@ only_or_left src held r is = by_test (r == src) refl
     by_test false differ = inl (ap (λ (f : Held). f r) (has-all_but src held) ∙ (λ i. is i && not (differ i)))
 
 -- one view becomes two, which hold its numbers between them
-cut : (count : ℕ) (o : Opening) (h : List Entry) (words : List ℕ) (views : List View) → Stands count o h words views
+cut : (count : ℕ) (o : Opening) (h : List Entry) (words : List ℕ) (views : List View) → RuleStands count o h words views
     → (id : ℕ) (v left right : View) → get_elem? views id ≡ plain.some v → Knows o h left → Knows o h right
     → Within (has left.held) (has v.held) → Within (has right.held) (has v.held) → Apart (has right.held) (has left.held)
     → ((r : ℕ) → has v.held r ≡ true → (has left.held r ≡ true) ⊎ (has right.held r ≡ true))
-    → IsSeen h (set views id left ++ right ∷ []) → Stands count o h words (set views id left ++ right ∷ [])
+    → IsSeen h (set views id left ++ right ∷ []) → RuleStands count o h words (set views id left ++ right ∷ [])
 cut count o h words views s id v left right at of_left of_right within_left within_right apart either seen = record {
   region = s.region;
   room = s.room;
@@ -137,7 +137,7 @@ moves count o id v words views kept at = (
     h : List Entry
     h = kept.0
 
-    s : Stands count o h words views
+    s : RuleStands count o h words views
     s = kept.1
 
     seen : IsSeen h (set views id gone ++ v ∷ [])
@@ -153,7 +153,7 @@ one_at v u (suc i) at = absurd (plain.some-ne-none u (sym at))
 
 -- a store opens with zeros, and one seat that holds every number and has seen nothing
 pub opens : (count : ℕ) (o : Opening) → IsRegion o.region → o.region.granules ≤ count
-    → Stands count o [] (replicate count 0) (knower o (all_below o.requesters) [] ∷ [])
+    → RuleStands count o [] (replicate count 0) (knower o (all_below o.requesters) [] ∷ [])
 unfolding end_from IsLegalFrom
 opens count o is room = record {
   region = is;

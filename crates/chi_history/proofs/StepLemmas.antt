@@ -9,18 +9,18 @@ use mathlib.Core.Option as plain
 use native.Mathlib.Decide.{ℕ_discrete}
 use lib.ListN.{get_elem?}
 use Rattle.chi_fields.specs.Extent.{granule_of, lies_in}
-use Rattle.chi_fields.specs.Operation.{IsLawful, Operation}
+use Rattle.chi_fields.specs.Access.{IsLawful, Access}
 use Rattle.chi_lanes.specs.After.{answer}
 use Rattle.chi_lanes.specs.Memory.{Memory, word}
 use Rattle.chi_lanes.proofs.Operands.{placed}
 use Rattle.chi_history.specs.declared.entry.Entry.{Entry}
 use Rattle.chi_history.specs.declared.opening.Opening.{Opening}
 use Rattle.chi_history.specs.declared.view.View.{View}
-use Rattle.chi_history.specs.Held.{Held, below}
+use Rattle.chi_history.specs.NumberSets.{Held, below}
 use Rattle.chi_history.specs.History.{IsFreeOf, IsLegal, IsLegalFrom, end, opening_memory}
-use Rattle.chi_history.specs.Rule.{Kept, Knows, Stands, first_word, shown}
-use Rattle.chi_history.specs.Served.{entry}
-use Rattle.chi_history.specs.Told.{Adds, Applies, Looks, Reads, ReadsAt, Sees, Settles}
+use Rattle.chi_history.specs.Rule.{Kept, Knows, RuleStands, first_word, shown}
+use Rattle.chi_history.specs.HomeClauses.{entry}
+use Rattle.chi_history.specs.StepFacts.{Adds, Applies, Looks, Reads, ReadsAt, Sees, Settles}
 use Rattle.chi_history.specs.Views.{has, knower}
 use Rattle.chi_history.proofs.HistoryLemmas.{free-all, legal-append, legal-back, legal-front}
 use Rattle.chi_history.proofs.RuleLemmas.{advance, seen_here, seen_set, unmoved}
@@ -117,8 +117,8 @@ settles count o id v live words views kept at =
 
 -- the seat sees all
 pub sees : (count : ℕ) (o : Opening) (h : List Entry) (words : List ℕ) (views : List View) (id : ℕ) (held : List ℕ) (seen : List Entry)
-    → Stands count o h words views → get_elem? views id ≡ plain.some (knower o held seen)
-    → Stands count o h words (set views id (knower o held h))
+    → RuleStands count o h words views → get_elem? views id ≡ plain.some (knower o held seen)
+    → RuleStands count o h words (set views id (knower o held h))
     × ((mid : List Entry) × (h ≡ seen ++ mid) × Sees (knower o held seen) mid (knower o held h))
 sees count o h words views id held seen s at =
     let v : View = knower o held seen in
@@ -147,7 +147,7 @@ looks count o id v is g under =
     subst (λ (z : View). Steps count o id z (λ ws. ws) (λ ws. Looks z g (slice_index ws g))) (sym is) (looks_at count o id v.held v.seen g under)
 
 -- the granule of an operation that lies in the region is one of the region's
-pub granule_below : (o : Opening) (access : Operation) → IsLawful access → lies_in access.addr access.len o.region ≡ true
+pub granule_below : (o : Opening) (access : Access) → IsLawful access → lies_in access.addr access.len o.region ≡ true
     → granule_of access.addr o.region < o.region.granules
 granule_below o access lawful fits =
     let parts = and_parts _ _ fits in
@@ -157,19 +157,19 @@ granule_below o access lawful fits =
     omega arith
 
 -- the entry of an operation at the end of a history
-abbrev pub next_of : Opening → List Entry → ℕ → Operation → Entry
+abbrev pub next_of : Opening → List Entry → ℕ → Access → Entry
 next_of o h src access = entry src access (answer access (end o h))
 
 -- a history that goes on by such an entry is legal
-legal_next : (o : Opening) (h : List Entry) (src : ℕ) (access : Operation) → IsLegal o h → src < o.requesters → IsLawful access
+legal_next : (o : Opening) (h : List Entry) (src : ℕ) (access : Access) → IsLegal o h → src < o.requesters → IsLawful access
     → lies_in access.addr access.len o.region ≡ true → IsLegal o (h ++ next_of o h src access ∷ [])
 unfolding IsLegalFrom
 legal_next o h src access legal under lawful fits =
     legal-append o (opening_memory o) h (next_of o h src access ∷ []) legal (record { requester = under; inside = fits; answered = refl; lawful = lawful }, tt)
 
 -- the words after an entry more are those that the history shows
-words_after : (count : ℕ) (o : Opening) (h : List Entry) (words : List ℕ) (views : List View) (src : ℕ) (access : Operation) (next : ℕ)
-    → Stands count o h words views → IsLawful access → lies_in access.addr access.len o.region ≡ true
+words_after : (count : ℕ) (o : Opening) (h : List Entry) (words : List ℕ) (views : List View) (src : ℕ) (access : Access) (next : ℕ)
+    → RuleStands count o h words views → IsLawful access → lies_in access.addr access.len o.region ≡ true
     → Applies o access (slice_index words (granule_of access.addr o.region)) next
     → (g : ℕ) → g < o.region.granules → slice_index (set words (granule_of access.addr o.region) next) g ≡ shown o (h ++ next_of o h src access ∷ []) g
 words_after count o h words views src access next s lawful fits applies g under = dite (ℕ_discrete g at)
@@ -193,10 +193,10 @@ words_after count o h words views src access next s lawful fits applies g under 
 
 -- the seat adds an entry of a number that it holds
 pub appends : (count : ℕ) (o : Opening) (h : List Entry) (words : List ℕ) (views : List View) (id : ℕ) (held : List ℕ) (seen : List Entry)
-    → Stands count o h words views → get_elem? views id ≡ plain.some (knower o held seen)
-    → (src : ℕ) (access : Operation) (next : ℕ) → has held src ≡ true → IsLawful access → lies_in access.addr access.len o.region ≡ true
+    → RuleStands count o h words views → get_elem? views id ≡ plain.some (knower o held seen)
+    → (src : ℕ) (access : Access) (next : ℕ) → has held src ≡ true → IsLawful access → lies_in access.addr access.len o.region ≡ true
     → Applies o access (slice_index words (granule_of access.addr o.region)) next
-    → Stands count o (h ++ next_of o h src access ∷ []) (set words (granule_of access.addr o.region) next) (set views id (knower o held (h ++ next_of o h src access ∷ [])))
+    → RuleStands count o (h ++ next_of o h src access ∷ []) (set words (granule_of access.addr o.region) next) (set views id (knower o held (h ++ next_of o h src access ∷ [])))
     × ((mid : List Entry) × (h ≡ seen ++ mid) × Adds (knower o held seen) mid src access (knower o held (h ++ next_of o h src access ∷ [])))
 unfolding IsFreeOf
 appends count o h words views id held seen s at src access next holds lawful fits applies =

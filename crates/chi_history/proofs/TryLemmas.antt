@@ -1,20 +1,20 @@
 -- tries one after another, and the lost ones among them
 use Rattle.std.proofs.Common.{◌≡◌, ◌≢◌, ℕ, ◌+◌, ◌≤◌, MatchBool, List, [], ◌∷◌, ◌++◌, refl, sym, ap, subst, ◌∙◌, arith, append_assoc, append-nil, bit_xor, eq-eqb, ne_eqb, zero-le}
 use Rattle.chi_fields.specs.Extent.{granule_of}
-use Rattle.chi_fields.specs.Operation.{Operation}
+use Rattle.chi_fields.specs.Access.{Access}
 use Rattle.chi_lanes.specs.declared.reply.Reply.{Reply}
 use Rattle.chi_lanes.specs.Memory.{Memory}
 use Rattle.chi_history.specs.declared.entry.Entry.{Entry}
 use Rattle.chi_history.specs.declared.opening.Opening.{Opening}
 use Rattle.chi_history.specs.declared.view.View.{View}
-use Rattle.chi_history.specs.Held.{Held, nobody}
+use Rattle.chi_history.specs.NumberSets.{Held, nobody}
 use Rattle.chi_history.specs.History.{IsFreeOf, IsLegal, end, hits, hits_from, opening_memory}
 use Rattle.chi_history.specs.Rule.{first_word, shown}
-use Rattle.chi_history.specs.Served.{Completes, Retries, entry}
-use Rattle.chi_history.specs.Told.{Adds, Exchanges, Looks, Replaces, Sees}
+use Rattle.chi_history.specs.HomeClauses.{Completes, Retries, entry}
+use Rattle.chi_history.specs.StepFacts.{Adds, Exchanges, Looks, Replaces, Sees}
 use Rattle.chi_history.specs.Views.{has, knower}
 use Rattle.chi_history.proofs.HistoryLemmas.{end_from-append, free-append, hits-append}
-use Rattle.chi_history.proofs.ToldLemmas.{Answers, added}
+use Rattle.chi_history.proofs.StepFactLemmas.{Answers, added}
 use Rattle.chi_history.proofs.WordLemmas.{differs}
 
 -- a seat after a try: it holds what it held
@@ -29,12 +29,12 @@ hits-then o h xs ys g =
     ∙ ap (λ (m : Memory). hits o h xs g nobody + hits_from o m ys g nobody) (sym (end_from-append (opening_memory o) h xs))
 
 -- before the first try
-pub lost_none : (o : Opening) (held : Held) (seen : List Entry) (access : Operation) → Retries o held seen seen access 0
+pub lost_none : (o : Opening) (held : Held) (seen : List Entry) (access : Access) → Retries o held seen seen access 0
 unfolding IsFreeOf
 lost_none o held seen access = ([], sym (append-nil seen), tt, zero-le)
 
 -- lost tries, and then more of them
-pub then_lost : (o : Opening) (held : Held) (seen seen' seen'' : List Entry) (access : Operation) (n m : ℕ) → Retries o held seen seen' access n
+pub then_lost : (o : Opening) (held : Held) (seen seen' seen'' : List Entry) (access : Access) (n m : ℕ) → Retries o held seen seen' access n
     → Retries o held seen' seen'' access m → Retries o held seen seen'' access (n + m)
 then_lost o held seen seen' seen'' access n m first second =
     let g : ℕ = granule_of access.addr o.region in
@@ -49,18 +49,18 @@ then_lost o held seen seen' seen'' access n m first second =
     )
 
 -- lost tries, and then the entry
-pub then_done : (o : Opening) (held : Held) (seen seen' seen'' : List Entry) (src : ℕ) (access : Operation) (reply : Reply) (n m : ℕ) → Retries o held seen seen' access n
+pub then_done : (o : Opening) (held : Held) (seen seen' seen'' : List Entry) (src : ℕ) (access : Access) (reply : Reply) (n m : ℕ) → Retries o held seen seen' access n
     → Completes o held seen' seen'' src access reply m → Completes o held seen seen'' src access reply (n + m)
 then_done o held seen seen' seen'' src access reply n m first second =
     let t = then_lost o held seen seen' (seen' ++ second.0) access n m first (second.0, refl, second.2, second.3) in
     (t.0, second.1 ∙ ap (λ l. l ++ entry src access reply ∷ []) t.1, t.2, t.3)
 
 -- what was seen, and nothing lost
-pub looked : (v : View) (mid : List Entry) (w : View) (access : Operation) → Sees v mid w → Retries v.opening (has v.held) v.seen w.seen access 0
+pub looked : (v : View) (mid : List Entry) (w : View) (access : Access) → Sees v mid w → Retries v.opening (has v.held) v.seen w.seen access 0
 looked v mid w access sees = (mid, ap (λ (z : View). z.seen) sees.now, sees.free, zero-le)
 
 -- a lost exchange: the word found is not the one that was loaded, so an entry between them changed the granule
-pub missed : (u : View) (mid : List Entry) (w : View) (access : Operation) (x y : ℕ) → Sees u mid w → x ≡ shown u.opening u.seen (granule_of access.addr u.opening.region)
+pub missed : (u : View) (mid : List Entry) (w : View) (access : Access) (x y : ℕ) → Sees u mid w → x ≡ shown u.opening u.seen (granule_of access.addr u.opening.region)
     → y ≡ shown u.opening (u.seen ++ mid) (granule_of access.addr u.opening.region) → y ≢ x → Retries u.opening (has u.held) u.seen w.seen access 1
 missed u mid w access x y sees loaded found differ =
     let o : Opening = u.opening in
@@ -72,23 +72,23 @@ seen_try : (v : View) (mid : List Entry) (w : View) → Sees v mid w → IsTried
 seen_try v mid w sees = subst (λ (z : View). IsTried v z) (sym sees.now) (record { now = refl; legal = sees.legal })
 
 -- after an entry
-added_try : (v : View) (mid : List Entry) (src : ℕ) (access : Operation) (w : View) → Adds v mid src access w → IsTried v w
+added_try : (v : View) (mid : List Entry) (src : ℕ) (access : Access) (w : View) → Adds v mid src access w → IsTried v w
 added_try v mid src access w adds = subst (λ (z : View). IsTried v z) (sym adds.now) (record { now = refl; legal = adds.legal })
 
 -- after an exchange of all words
-pub replaced_try : (v : View) (words : List ℕ) (src : ℕ) (access : Operation) (w : View) → Replaces v words src access w → IsTried v w
+pub replaced_try : (v : View) (words : List ℕ) (src : ℕ) (access : Access) (w : View) → Replaces v words src access w → IsTried v w
 replaced_try v words src access w replaces = added_try v replaces.mid src access w replaces.adds
 
 -- an exchange that found the word that was expected
-won : (v : View) (first src : ℕ) (access : Operation) (found : ℕ) (w : View) (x : Exchanges v first src access found w) → found ≡ first → Adds v x.mid src access w
+won : (v : View) (first src : ℕ) (access : Access) (found : ℕ) (w : View) (x : Exchanges v first src access found w) → found ≡ first → Adds v x.mid src access w
 won v first src access found w x hit = subst (λ b. MatchBool b (Adds v x.mid src access w) (Sees v x.mid w)) (eq-eqb found first hit) x.done
 
 -- where it found another word
-lost : (v : View) (first src : ℕ) (access : Operation) (found : ℕ) (w : View) (x : Exchanges v first src access found w) → found ≢ first → Sees v x.mid w
+lost : (v : View) (first src : ℕ) (access : Access) (found : ℕ) (w : View) (x : Exchanges v first src access found w) → found ≢ first → Sees v x.mid w
 lost v first src access found w x miss = subst (λ b. MatchBool b (Adds v x.mid src access w) (Sees v x.mid w)) (ne_eqb found first miss) x.done
 
 -- a try that lost: its load, and an exchange that found another word
-pub try_lost : (v u w : View) (g x src : ℕ) (access : Operation) (found : ℕ) → g ≡ granule_of access.addr v.opening.region → Looks v g x u → Exchanges u x src access found w
+pub try_lost : (v u w : View) (g x src : ℕ) (access : Access) (found : ℕ) → g ≡ granule_of access.addr v.opening.region → Looks v g x u → Exchanges u x src access found w
     → found ≢ x → IsTried v w × Retries v.opening (has v.held) v.seen w.seen access 1
 try_lost v u w g x src access found place looks exchange miss = at_knower u looks.sees.now exchange
   where
@@ -106,7 +106,7 @@ try_lost v u w g x src access found place looks exchange miss = at_knower u look
         )
 
 -- a try that won: its load, and an exchange that found the word that was loaded
-pub try_won : (v u w : View) (g x src : ℕ) (access : Operation) (found : ℕ) (reply : Reply) → Looks v g x u → Exchanges u x src access found w
+pub try_won : (v u w : View) (g x src : ℕ) (access : Access) (found : ℕ) (reply : Reply) → Looks v g x u → Exchanges u x src access found w
     → found ≡ x → Answers v.opening access found reply → IsTried v w × Completes v.opening (has v.held) v.seen w.seen src access reply 0
 try_won v u w g x src access found reply looks exchange hit answered = at_knower u looks.sees.now exchange
   where

@@ -3,9 +3,9 @@ use Rattle.std.proofs.Common.{◌≡◌, ℕ, zero, suc, ◌≤◌, ◌==◌, na
 use Rattle.std.proofs.lemmas.Bool.{leb-true}
 use Rattle.std.proofs.lemmas.Bool.Decides.{nat_tests}
 use Rattle.chi_history.specs.declared.entry.Entry.{Entry}
-use Rattle.chi_history.specs.Held.{Held, Apart, below, only, union, without}
+use Rattle.chi_history.specs.NumberSets.{Held, Apart, below, only, union, without}
 use Rattle.chi_history.specs.History.{IsFreeOf}
-use Rattle.chi_history.specs.Served.{Joins}
+use Rattle.chi_history.specs.HomeClauses.{Joins}
 use Rattle.chi_history.specs.Views.{all_below, all_but, has, longest_of}
 use Rattle.chi_history.proofs.HistoryLemmas.{free-back, free-front, longer}
 

@@ -4,7 +4,7 @@ use Rattle.std.proofs.lemmas.Bool.{cases_lt}
 use Rattle.std.proofs.lemmas.Bool.Decides.{nat_tests}
 use Rattle.std.proofs.lemmas.List.{get_or-replicate, get_or_past, length-replicate}
 use Rattle.chi_fields.specs.Extent.{IsRegion, granule_of, lies_in}
-use Rattle.chi_fields.specs.Operation.{IsLawful}
+use Rattle.chi_fields.specs.Access.{IsLawful}
 use Rattle.chi_lanes.specs.After.{after, same_bytes}
 use Rattle.chi_lanes.specs.Bytes.{little, little_bytes}
 use Rattle.chi_lanes.specs.Memory.{Memory, IsMemory, bytes_from, word, word_at}
@@ -15,7 +15,7 @@ use Rattle.chi_lanes.proofs.MemoryLemmas.{get_or-bytes_from, length-bytes_from}
 use Rattle.chi_lanes.proofs.Operands.{same_bytes-true}
 use Rattle.chi_history.specs.declared.entry.Entry.{Entry}
 use Rattle.chi_history.specs.declared.opening.Opening.{Opening}
-use Rattle.chi_history.specs.Held.{nobody}
+use Rattle.chi_history.specs.NumberSets.{nobody}
 use Rattle.chi_history.specs.History.{IsLegal, IsLegalFrom, end, end_from, hits, hits_from, image_byte, one_if, opening_memory}
 use Rattle.chi_history.proofs.HistoryLemmas.{end_from-append}
 

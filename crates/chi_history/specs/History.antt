@@ -1,12 +1,12 @@
 -- a history of operations, and the memory that it leaves
 use Rattle.std.specs.Prelude.{◌≡◌, ℕ, ◌+◌, ◌-◌, ◌*◌, ◌/◌, ◌%◌, ◌^◌, ◌<◌, ◌==◌, Bool, false, not, ◌&&◌, if◌then◌else◌, List, [], ◌∷◌, slice_index, IsTrue}
 use Rattle.chi_fields.specs.Extent.{Extent, lies_in}
-use Rattle.chi_fields.specs.Operation.{IsLawful, Operation}
+use Rattle.chi_fields.specs.Access.{IsLawful, Access}
 use Rattle.chi_lanes.specs.After.{after, answer, same_bytes}
 use Rattle.chi_lanes.specs.Memory.{Memory, bytes_from}
 use Rattle.chi_history.specs.declared.entry.Entry.{Entry}
 use Rattle.chi_history.specs.declared.opening.Opening.{Opening}
-use Rattle.chi_history.specs.Held.{Held}
+use Rattle.chi_history.specs.NumberSets.{Held}
 
 -- byte k of the words of an image: each word has eight, and its byte i is its bits 8 * i to 8 * i + 7
 abbrev pub image_byte : List ℕ → ℕ → ℕ
@@ -53,7 +53,7 @@ IsFreeOf held [] = Unit {0}
 IsFreeOf held (e ∷ es) = (held e.src ≡ false) × IsFreeOf held es
 
 -- an operation changes some byte of a region's granule
-abbrev pub changes : Operation → Memory → Extent → ℕ → Bool
+abbrev pub changes : Access → Memory → Extent → ℕ → Bool
 changes access m region g = not (same_bytes (bytes_from m (region.base + 8 * g) 8) (bytes_from (after access m) (region.base + 8 * g) 8))
 
 abbrev pub one_if : Bool → ℕ

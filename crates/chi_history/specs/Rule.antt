@@ -7,7 +7,7 @@ use Rattle.chi_lanes.specs.Memory.{word}
 use Rattle.chi_history.specs.declared.entry.Entry.{Entry}
 use Rattle.chi_history.specs.declared.opening.Opening.{Opening}
 use Rattle.chi_history.specs.declared.view.View.{View}
-use Rattle.chi_history.specs.Held.{Apart}
+use Rattle.chi_history.specs.NumberSets.{Apart}
 use Rattle.chi_history.specs.History.{IsFreeOf, IsLegal, end, opening_memory}
 use Rattle.chi_history.specs.Views.{IsJoint, has, newcomer}
 
@@ -54,7 +54,7 @@ AreHeld n views = (r : ℕ) → r < n → IsHeld r views
 
 -- the rule at a history: count words show its end, it is the longest that a seat has seen, and each requester's
 -- number is held
-pub record Stands (count : ℕ) (o : Opening) (h : List Entry) (words : List ℕ) (views : List View) : Type 0 where
+pub record RuleStands (count : ℕ) (o : Opening) (h : List Entry) (words : List ℕ) (views : List View) : Type 0 where
   pub region : IsRegion o.region
   pub room : o.region.granules ≤ count
   pub legal : IsLegal o h
@@ -68,7 +68,7 @@ pub record Stands (count : ℕ) (o : Opening) (h : List Entry) (words : List ℕ
 
 -- the rule of a store whose opening is known
 abbrev pub Kept : ℕ → Opening → List ℕ → List View → Type 0
-Kept count o words views = (h : List Entry) × Stands count o h words views
+Kept count o words views = (h : List Entry) × RuleStands count o h words views
 
 -- the rule of a store whose first view is a constant: until the opening is set, this is the only view, and all words are 0
 abbrev pub Ruled : ℕ → List ℕ → List View → Type 0

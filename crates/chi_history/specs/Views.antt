@@ -4,8 +4,8 @@ use Rattle.chi_history.specs.declared.entry.Entry.{Entry}
 use Rattle.chi_history.specs.declared.opening.Opening.{Opening}
 use Rattle.chi_history.specs.declared.view.Part.{Part}
 use Rattle.chi_history.specs.declared.view.View.{View}
-use Rattle.chi_history.specs.Held.{Held, Apart, nobody}
-use Rattle.chi_history.specs.Served.{Joins}
+use Rattle.chi_history.specs.NumberSets.{Held, Apart, nobody}
+use Rattle.chi_history.specs.HomeClauses.{Joins}
 
 -- the numbers of a list, as a set
 unfoldable pub has : List ℕ → Held

@@ -5,9 +5,9 @@ ghost use Rattle.chi_fields.specs.Extent.{lies_in};
 ghost use Rattle.chi_lanes.specs.After.{answer};
 ghost use Rattle.chi_lanes.specs.Memory.{word};
 ghost use Rattle.chi_history.specs.declared.entry.Entry.{Entry};
-ghost use Rattle.chi_history.specs.Held.{below};
+ghost use Rattle.chi_history.specs.NumberSets.{below};
 ghost use Rattle.chi_history.specs.History.{IsFreeOf, end, of};
-ghost use Rattle.chi_history.specs.Served.{entry};
+ghost use Rattle.chi_history.specs.HomeClauses.{entry};
 
 use crate::gate::NoGate;
 use crate::home::Home;

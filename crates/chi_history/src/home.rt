@@ -17,10 +17,10 @@ pub trait Home {
     ghost use Rattle.chi_lanes.specs.Memory.{word};
     ghost use Rattle.chi_history.specs.declared.entry.Entry.{Entry};
     ghost use Rattle.chi_history.specs.declared.opening.Opening.{Opening};
-    ghost use Rattle.chi_history.specs.Held.{Held, Apart, below, only, union, without};
+    ghost use Rattle.chi_history.specs.NumberSets.{Held, Apart, below, only, union, without};
     ghost use Rattle.chi_history.specs.History.{IsLegal, end};
-    ghost use Rattle.chi_history.specs.Opened.{IsOpening};
-    ghost use Rattle.chi_history.specs.Served.{Completes, IsServed, Joins};
+    ghost use Rattle.chi_history.specs.Openings.{IsOpening};
+    ghost use Rattle.chi_history.specs.HomeClauses.{Completes, IsServed, Joins};
 
     /// What callers hold.
     type Seat: Drop + Send;

@@ -1,6 +1,6 @@
 //! Laws of histories. Each function does nothing: its contract is the law, for proofs that call it.
 
-ghost use Rattle.chi_history.specs.Laws.{HitsAdd, ChangesOwnGranuleAlone, DifferingWordsAreHit, EndsAdd, PrefixIsLegal, EntriesOfAdd, FreeHasNone, FreeAdds, FreeOfAllIsEmpty, OneIsPrefix};
+ghost use Rattle.chi_history.specs.HistoryLaws.{HitsAdd, ChangesOwnGranuleAlone, DifferingWordsAreHit, EndsAdd, PrefixIsLegal, EntriesOfAdd, FreeHasNone, FreeAdds, FreeOfAllIsEmpty, OneIsPrefix};
 
 /// Hits over two stretches are those over the first and those over the second, which stands after it.
 pub fn hits_add()

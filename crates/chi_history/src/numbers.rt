@@ -1,8 +1,8 @@
 //! A set of requester numbers.
 
 ghost use Rattle.std.specs.Prelude.{◌≡◌, ℕ, ◌<◌, ◌≤◌, true};
-ghost use Rattle.chi_history.specs.Held.{below, only, union, without};
-ghost use Rattle.chi_history.specs.Numbers.{size_of};
+ghost use Rattle.chi_history.specs.NumberSets.{below, only, union, without};
+ghost use Rattle.chi_history.specs.NumberLists.{size_of};
 ghost use Rattle.chi_history.specs.Views.{has};
 
 use arrayvec::ArrayVec;
@@ -24,7 +24,7 @@ pub struct Numbers {
 
 impl Model for Numbers {
     ghost use Rattle.std.specs.Prelude.{List, ℕ};
-    ghost use Rattle.chi_history.specs.Numbers.{IsInOrder};
+    ghost use Rattle.chi_history.specs.NumberLists.{IsInOrder};
 
     ghost Value = { List ℕ };
 
@@ -35,7 +35,7 @@ impl Model for Numbers {
 
 impl Numbers {
     /// The numbers from 0 to `n - 1`.
-    #[tactic(auto, unfolding(crate::specs::Numbers::numbers_in))]
+    #[tactic(auto, unfolding(crate::specs::NumberLists::numbers_in))]
     pub fn all(n: u8) -> Numbers
         requires some { 1 ≤ n }
         requires most { n ≤ 8 }
@@ -51,7 +51,7 @@ impl Numbers {
     }
 
     /// That number alone.
-    #[tactic(auto, unfolding(crate::specs::Numbers::numbers_in))]
+    #[tactic(auto, unfolding(crate::specs::NumberLists::numbers_in))]
     pub fn only(n: u8) -> Numbers
         requires { n < 8 }
         ensures { has result ≡ only n }
@@ -94,7 +94,7 @@ impl Numbers {
     }
 
     /// Takes a number out.
-    #[tactic(auto, unfolding(crate::specs::Numbers::numbers_in))]
+    #[tactic(auto, unfolding(crate::specs::NumberLists::numbers_in))]
     pub fn remove(&mut self, n: u8)
         requires { has self.old n ≡ true }
         ensures { has self.new ≡ without n (has self.old) }
@@ -109,7 +109,7 @@ impl Numbers {
     }
 
     /// Puts the numbers of another set in.
-    #[tactic(auto, unfolding(crate::specs::Numbers::numbers_in))]
+    #[tactic(auto, unfolding(crate::specs::NumberLists::numbers_in))]
     pub fn merge(&mut self, other: Numbers)
         ensures { has self.new ≡ union (has self.old) (has other) }
     {

@@ -1,7 +1,7 @@
 //! What a store keeps of its opening.
 
 ghost use Rattle.std.specs.Prelude.{◌≡◌, IfOk, length};
-ghost use Rattle.chi_history.specs.Opened.{IsOpening, IsRequesterCount, opened};
+ghost use Rattle.chi_history.specs.Openings.{IsOpening, IsRequesterCount, opened};
 
 use chi_fields::Region;
 use std::alloc::{AllocError, Allocator};

@@ -8,7 +8,7 @@ use Rattle.clap.specs.declared.error.kind.ErrorKind.{ErrorKind}
 use Rattle.clap.specs.declared.error.kind.ErrorKind.TheVariants as error_kind
 use Rattle.clap.specs.declared.builder.value_parser.ValueParser.TheVariants as value_parser
 use Rattle.clap.proofs.OnLiterals.{clap_on_literals}
-use Rattle.chi_home.specs.CommandLine.{IsProgram, IsRaceApp, IsTaskApp, IsWordsFault, bare_app, option_rule}
+use Rattle.chi_home.specs.CommandLine.{IsProgram, IsRaceApp, IsTaskApp, IsArgumentsFault, bare_app, option_rule}
 
 -- the third of a row of tests fails
 pub third_fails : (a b c d : Bool) → (a && (b && (not c && d))) ≡ true → c ≡ false
@@ -56,7 +56,7 @@ program_is_simple app p =
     ∙ simple_whatever p.2.2.0 p.2.3.0 p.3.2.2.0 p.3.2.3.0 p.3.3.0
 
 -- what `clap` refuses
-pub words_fault : (app : App) (words : List Text) (kind : ErrorKind) → IsProgram app
-    → (kind ≡ error_kind.OutOfMemory) ⊎ IsAmong kind (fault_of app words) → IsWordsFault words kind
-words_fault app words kind p (inl memory) = inl memory
-words_fault app words kind p (inr among) = inr (app, p, among)
+pub arguments_fault : (app : App) (arguments : List Text) (kind : ErrorKind) → IsProgram app
+    → (kind ≡ error_kind.OutOfMemory) ⊎ IsAmong kind (fault_of app arguments) → IsArgumentsFault arguments kind
+arguments_fault app arguments kind p (inl memory) = inl memory
+arguments_fault app arguments kind p (inr among) = inr (app, p, among)

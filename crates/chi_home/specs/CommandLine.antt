@@ -46,10 +46,10 @@ IsProgram app =
     × (app ≡ with_subcommand (with_subcommand bare_app run.top) race.top)
 
 -- why the words name no task: there is no memory, or `clap` finds this fault in them or is asked for help
-abbrev pub IsWordsFault : List Text → ErrorKind → Type 0
-IsWordsFault words kind =
-    (kind ≡ error_kind.OutOfMemory) ⊎ ((app : App) × IsProgram app × IsAmong kind (fault_of app words))
+abbrev pub IsArgumentsFault : List Text → ErrorKind → Type 0
+IsArgumentsFault arguments kind =
+    (kind ≡ error_kind.OutOfMemory) ⊎ ((app : App) × IsProgram app × IsAmong kind (fault_of app arguments))
 
 -- the words name a task: `clap` finds no fault in them
 abbrev pub IsTaken : List Text → Type 0
-IsTaken words = (app : App) × IsProgram app × (fault_of app words ≡ [])
+IsTaken arguments = (app : App) × IsProgram app × (fault_of app arguments ≡ [])

@@ -1,3 +1,3 @@
-pub mod Status
+pub mod ProgramStatus
 pub mod CommandLine
 pub mod Task

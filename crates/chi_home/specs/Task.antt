@@ -2,19 +2,19 @@
 use Rattle.std.specs.Prelude.{◌≡◌, ℕ, ◌⊎◌, List, Option, Result, Ok, Err, IfSome}
 use Rattle.clap.specs.declared.error.kind.ErrorKind.{ErrorKind}
 use Rattle.clap.specs.Walk.{Text}
-use Rattle.chi_bookstore.specs.Faults.{IsAttemptCount}
+use Rattle.chi_bookstore.specs.BookFaults.{IsAttemptCount}
 use Rattle.chi_history.specs.declared.opening.OpenFault.TheVariants as open_fault
 use Rattle.chi_home.specs.declared.command.Task.{Task}
 use Rattle.chi_home.specs.declared.command.Task.TheVariants.{Run, Race}
 use Rattle.chi_engine.specs.declared.fault.EngineFault.{EngineFault}
 use Rattle.chi_engine.specs.declared.fault.EngineFault.TheVariants.{Open}
 use Rattle.chi_engine.specs.declared.options.Options.{Options}
-use Rattle.chi_home.specs.CommandLine.{IsTaken, IsWordsFault}
-use Rattle.chi_engine.specs.Engine.{KeepsUnworked, TellsOpening}
-use Rattle.chi_engine.specs.Race.{RaceOutcome}
+use Rattle.chi_home.specs.CommandLine.{IsTaken, IsArgumentsFault}
+use Rattle.chi_engine.specs.Engine.{KeepsUnexecuted, ReportsOpening}
+use Rattle.chi_engine.specs.RaceTranscript.{RaceOutcome}
 use Rattle.chi_engine.specs.Run.{Outcome}
-use Rattle.chi_engine.specs.Status.{status_of}
-use Rattle.chi_home.specs.Status.{IsStatusOfWords, KeepsButForHelp}
+use Rattle.chi_engine.specs.FaultStatus.{status_of}
+use Rattle.chi_home.specs.ProgramStatus.{IsStatusOfArguments, KeepsButForHelp}
 
 abbrev pub TaskOutcome : Task → Options → List ℕ → Option (List ℕ) → Option (List ℕ) → Result (Unit {0}) EngineFault → Type 0
 TaskOutcome Run options input old new result = Outcome options input old new result
@@ -29,7 +29,7 @@ end_status (Err fault) = status_of fault
 -- input where the reader tells that.
 abbrev pub Ends : Task → Options → Option (List ℕ) → Option (List ℕ) → Option (List ℕ) → ℕ → Type 0
 Ends task options input old new status =
-    (result : Result (Unit {0}) EngineFault) × TellsOpening options result × KeepsUnworked old new result
+    (result : Result (Unit {0}) EngineFault) × ReportsOpening options result × KeepsUnexecuted old new result
     × IfSome input (λ bytes. TaskOutcome task options bytes old new result) × (status ≡ end_status result)
 
 -- the opening of a store was refused neither for its requesters nor for its tries
@@ -41,17 +41,17 @@ IsUnrefused result = Unit {0}
 -- The words name a task, with 1 to 16 tries: `clap` finds no fault in them. The task came to an outcome of this
 -- status, which is never that the store was refused for its requesters or for its tries.
 abbrev pub DoesTask : List Text → Option (List ℕ) → Option (List ℕ) → Option (List ℕ) → ℕ → Type 0
-DoesTask words input old new status =
-    IsTaken words × (task : Task) × (options : Options) × (result : Result (Unit {0}) EngineFault)
-    × IsAttemptCount options.attempts × IsUnrefused result × KeepsUnworked old new result
+DoesTask arguments input old new status =
+    IsTaken arguments × (task : Task) × (options : Options) × (result : Result (Unit {0}) EngineFault)
+    × IsAttemptCount options.attempts × IsUnrefused result × KeepsUnexecuted old new result
     × IfSome input (λ bytes. TaskOutcome task options bytes old new result) × (status ≡ end_status result)
 
 -- The words name no task, for this kind of fault in them. The status is that of the kind, and where the transcript
 -- goes only help is written.
-abbrev pub TellsWords : List Text → Option (List ℕ) → Option (List ℕ) → ℕ → Type 0
-TellsWords words old new status =
-    (kind : ErrorKind) × IsWordsFault words kind × IsStatusOfWords kind status × KeepsButForHelp kind old new
+abbrev pub ReportsArguments : List Text → Option (List ℕ) → Option (List ℕ) → ℕ → Type 0
+ReportsArguments arguments old new status =
+    (kind : ErrorKind) × IsArgumentsFault arguments kind × IsStatusOfArguments kind status × KeepsButForHelp kind old new
 
 -- what the program does with its words
 abbrev pub ProgramOutcome : List Text → Option (List ℕ) → Option (List ℕ) → Option (List ℕ) → ℕ → Type 0
-ProgramOutcome words input old new status = TellsWords words old new status ⊎ DoesTask words input old new status
+ProgramOutcome arguments input old new status = ReportsArguments arguments old new status ⊎ DoesTask arguments input old new status

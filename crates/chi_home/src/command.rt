@@ -5,8 +5,8 @@ ghost use Rattle.clap.specs.Simple.{app_of};
 ghost use Rattle.clap.specs.Values.{kind_of};
 ghost use Rattle.clap.specs.Walk.{rule_of};
 ghost use Rattle.clap.specs.declared.builder.value_parser.ValueParser.TheVariants as value_parser;
-ghost use Rattle.chi_bookstore.specs.Faults.{IsAttemptCount};
-ghost use Rattle.chi_home.specs.CommandLine.{IsProgram, IsRaceApp, IsTaken, IsTaskApp, IsWordsFault, option_rule};
+ghost use Rattle.chi_bookstore.specs.BookFaults.{IsAttemptCount};
+ghost use Rattle.chi_home.specs.CommandLine.{IsProgram, IsRaceApp, IsTaken, IsTaskApp, IsArgumentsFault, option_rule};
 
 use chi_bookstore::MOST_ATTEMPTS;
 use chi_engine::{Options, StoreKind, Workers};
@@ -198,12 +198,12 @@ fn chosen_task(name: &str, chosen: &ArgMatches<'_>) -> (Task, Options)
 /// ```
 /// let (task, options) = options_of(alloc, &words)?; // race --store lock --policy return
 /// ```
-pub fn options_of(alloc: Global, words: &[String]) -> Result<(Task, Options), Error>
+pub fn options_of(alloc: Global, arguments: &[String]) -> Result<(Task, Options), Error>
     ensures attempts { IfOk result (λ r. IsAttemptCount r.1.attempts) }
-    ensures taken { IfOk result (λ _. IsTaken (map string_bytes words.now)) }
-    ensures refused { IfErr result (λ error. IsWordsFault (map string_bytes words.now) (kind_of error)) }
+    ensures taken { IfOk result (λ _. IsTaken (map string_bytes arguments.now)) }
+    ensures refused { IfErr result (λ error. IsArgumentsFault (map string_bytes arguments.now) (kind_of error)) }
 {
-    let matches = whole_command(alloc)?.try_get_matches_from(words)?;
+    let matches = whole_command(alloc)?.try_get_matches_from(arguments)?;
     let Some((name, chosen)) = matches.subcommand() else {
         unreachable!()
     };

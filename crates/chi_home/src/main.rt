@@ -1,36 +1,36 @@
 //! chihome: far atomics at a home node, from a script on standard input to a transcript on standard output.
 #![tactic(auto)]
 
+mod arguments;
 mod command;
 #[cfg(test)]
 mod tests;
-mod words;
 
 ghost use Rattle.std.specs.Prelude.{◌≡◌, ◌⊎◌};
 
-use crate::words::{REFUSED, run_words, tell_fault};
+use crate::arguments::{REFUSED, report_fault, run_words};
 use chi_engine::EngineFault;
 use std::env::{self, Env};
 use std::io::{self, Write};
 use std::process::ExitCode;
 
 // The words after the program's name.
-fn words_after_name<T: AllocGlobal + Env>(rt: &T) -> io::Result<Vec<String>> {
-    let mut words = Vec::new(rt.alloc());
-    for word in env::args(rt)?.skip(1) {
-        words.push(word)?;
+fn arguments_after_name<T: AllocGlobal + Env>(rt: &T) -> io::Result<Vec<String>> {
+    let mut arguments = Vec::new(rt.alloc());
+    for argument in env::args(rt)?.skip(1) {
+        arguments.push(argument)?;
     }
-    Ok(words)
+    Ok(arguments)
 }
 
 // Tells why the words cannot be had: out of memory, or a word that is not text. The answer is the status.
-fn tell_no_words<E: Write>(fault: &io::Error, errors: &mut E) -> u8
+fn report_no_arguments<E: Write>(fault: &io::Error, errors: &mut E) -> u8
     ensures { (result ≡ 4) ⊎ (result ≡ 2) }
 {
     match fault.kind() {
-        io::ErrorKind::OutOfMemory => tell_fault(&EngineFault::Memory, errors),
+        io::ErrorKind::OutOfMemory => report_fault(&EngineFault::Memory, errors),
         _ => {
-            let _told = writeln!(errors, "chihome: {fault}");
+            let _written = writeln!(errors, "chihome: {fault}");
             REFUSED
         }
     }
@@ -38,13 +38,13 @@ fn tell_no_words<E: Write>(fault: &io::Error, errors: &mut E) -> u8
 
 fn main(rt: HostRuntime) -> ExitCode {
     let mut errors = rt.stderr();
-    let status = match words_after_name(&rt) {
-        Ok(words) => {
+    let status = match arguments_after_name(&rt) {
+        Ok(arguments) => {
             let mut from = rt.reader();
             let mut to = io::writer(&rt);
-            run_words(&rt, words.as_slice(), &mut from, &mut to, &mut errors)
+            run_words(&rt, arguments.as_slice(), &mut from, &mut to, &mut errors)
         }
-        Err(fault) => tell_no_words(&fault, &mut errors),
+        Err(fault) => report_no_arguments(&fault, &mut errors),
     };
     ExitCode::from(status)
 }

@@ -1,15 +1,15 @@
 //! The program on the words of its command line.
 
-use crate::words::run_words;
+use crate::arguments::run_words;
 use std::alloc::AllocError;
 use std::process::Abort;
 use std::sync::Wait;
 use std::test::Fail;
 use std::thread::Threads;
 
+mod arguments_tests;
 mod device_tests;
 mod region_tests;
-mod words_tests;
 mod workers_tests;
 
 // A fetch-add of 1 to the first eight bytes.
@@ -47,17 +47,17 @@ m 0000000000001038 0000000000000000
 ";
 
 // These words, as the program is given them.
-fn words_of(rt: &impl AllocGlobal, words: &[&str]) -> Result<Vec<String>, AllocError> {
+fn arguments_of(rt: &impl AllocGlobal, arguments: &[&str]) -> Result<Vec<String>, AllocError> {
     let mut all = Vec::new(rt.alloc());
-    for word in words {
-        all.push(String::from_str(rt.alloc(), word)?)?;
+    for argument in arguments {
+        all.push(String::from_str(rt.alloc(), argument)?)?;
     }
     Ok(all)
 }
 
 // What the program did: its status, and what it wrote on standard output and on standard error.
 #[derive(Drop)]
-struct Told {
+struct Output {
     status: u8,
     out: Vec<u8>,
     errors: Vec<u8>,
@@ -66,20 +66,20 @@ struct Told {
 // Runs the program on these words, with this text on its standard input.
 fn run_on<T: AllocGlobal + Threads + Wait + Sync>(
     rt: &T,
-    words: &[&str],
+    arguments: &[&str],
     text: &str,
-) -> Result<Told, AllocError> {
-    let words = words_of(rt, words)?;
+) -> Result<Output, AllocError> {
+    let arguments = arguments_of(rt, arguments)?;
     let mut out: Vec<u8> = Vec::new(rt.alloc());
     let mut errors: Vec<u8> = Vec::new(rt.alloc());
     let status = run_words(
         rt,
-        words.as_slice(),
+        arguments.as_slice(),
         &mut text.as_bytes(),
         &mut out,
         &mut errors,
     );
-    Ok(Told {
+    Ok(Output {
         status,
         out,
         errors,
@@ -87,33 +87,33 @@ fn run_on<T: AllocGlobal + Threads + Wait + Sync>(
 }
 
 // The words are refused with status 2, and only standard error is written.
-fn assert_words_refused<T: AllocGlobal + Abort + Threads + Wait + Sync>(
+fn assert_arguments_refused<T: AllocGlobal + Abort + Threads + Wait + Sync>(
     rt: &T,
-    words: &[&str],
+    arguments: &[&str],
 ) -> Result<(), Fail> {
-    let told = run_on(rt, words, "")?;
-    assert_eq!(rt; told.status, 2);
-    assert_eq!(rt; told.out.len(), 0);
-    assert!(rt; !told.errors.is_empty());
+    let output = run_on(rt, arguments, "")?;
+    assert_eq!(rt; output.status, 2);
+    assert_eq!(rt; output.out.len(), 0);
+    assert!(rt; !output.errors.is_empty());
     Ok(())
 }
 
 // The program writes this transcript on these words.
 fn assert_transcript<T: AllocGlobal + Abort + Threads + Wait + Sync>(
     rt: &T,
-    words: &[&str],
+    arguments: &[&str],
     text: &str,
     want: &str,
 ) -> Result<(), Fail> {
-    let told = run_on(rt, words, text)?;
-    assert_eq!(rt; told.status, 0);
-    assert_eq!(rt; told.out.as_slice(), want.as_bytes());
-    assert_eq!(rt; told.errors.len(), 0);
+    let output = run_on(rt, arguments, text)?;
+    assert_eq!(rt; output.status, 0);
+    assert_eq!(rt; output.out.as_slice(), want.as_bytes());
+    assert_eq!(rt; output.errors.len(), 0);
     Ok(())
 }
 
 #[test]
-fn first_fetch_add_by_words(rt: HostRuntime) -> Result<(), Fail> {
+fn first_fetch_add_by_arguments(rt: HostRuntime) -> Result<(), Fail> {
     let all = [
         ["run"].as_slice(),
         ["run", "--store", "lock"].as_slice(),
@@ -130,16 +130,16 @@ fn first_fetch_add_by_words(rt: HostRuntime) -> Result<(), Fail> {
         ["race"].as_slice(),
         ["race", "--store", "lock"].as_slice(),
     ];
-    for words in all {
-        assert_transcript(&rt, words, FETCH_ADD, FETCH_ADD_TRANSCRIPT)?;
+    for arguments in all {
+        assert_transcript(&rt, arguments, FETCH_ADD, FETCH_ADD_TRANSCRIPT)?;
     }
     Ok(())
 }
 
 #[test]
-fn race_of_three_requesters_by_words(rt: HostRuntime) -> Result<(), Fail> {
-    for words in [["race"].as_slice(), ["race", "--store", "lock"].as_slice()] {
-        assert_transcript(&rt, words, THREE_REQUESTERS, THREE_TRANSCRIPT)?;
+fn race_of_three_requesters_by_arguments(rt: HostRuntime) -> Result<(), Fail> {
+    for arguments in [["race"].as_slice(), ["race", "--store", "lock"].as_slice()] {
+        assert_transcript(&rt, arguments, THREE_REQUESTERS, THREE_TRANSCRIPT)?;
     }
     Ok(())
 }
@@ -147,18 +147,18 @@ fn race_of_three_requesters_by_words(rt: HostRuntime) -> Result<(), Fail> {
 // The script is refused with status 3 and this text, and nothing else is written.
 fn assert_script_refused<T: AllocGlobal + Abort + Threads + Wait + Sync>(
     rt: &T,
-    words: &[&str],
+    arguments: &[&str],
     text: &str,
     want: &str,
 ) -> Result<(), Fail> {
-    let told = run_on(rt, words, text)?;
-    assert_eq!(rt; told.status, 3);
-    assert_eq!(rt; told.out.len(), 0);
-    assert_eq!(rt; told.errors.as_slice(), want.as_bytes());
+    let output = run_on(rt, arguments, text)?;
+    assert_eq!(rt; output.status, 3);
+    assert_eq!(rt; output.out.len(), 0);
+    assert_eq!(rt; output.errors.as_slice(), want.as_bytes());
     Ok(())
 }
 
 #[test]
-fn fault_is_told(rt: HostRuntime) -> Result<(), Fail> {
+fn fault_is_reported(rt: HostRuntime) -> Result<(), Fail> {
     assert_script_refused(&rt, &["run"], "[]", "chihome: script is not an object\n")
 }

@@ -4,7 +4,7 @@ use Rattle.std.specs.Int.{bit_at, bit_not}
 use Rattle.std.proofs.lemmas.Nat.{mod-pow-add, shr_split, shr-shr}
 use Rattle.std.proofs.lemmas.Nat.Bits.{bit_at_cat_low, bit_at_and, bit_at_or, bit_at_xor, bit_at_not, bit_at-lt}
 use Rattle.chi_lanes.specs.Bytes.{little, little_bytes}
-use Rattle.chi_lanes.specs.Combine.{from_bits, bitwise}
+use Rattle.chi_lanes.specs.Combination.{from_bits, bitwise}
 use Rattle.chi_lanes.proofs.Digits.{little_little_bytes}
 
 -- the low bits of a number spell it, cut to so many bits

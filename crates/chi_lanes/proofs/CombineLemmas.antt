@@ -4,12 +4,12 @@ use Rattle.std.proofs.lemmas.Nat.{and_mask}
 use Rattle.std.proofs.lemmas.Nat.Bits.{ones_shr}
 use Rattle.std.proofs.Math.Pow.{mod-mod-pow}
 use Rattle.chi_lanes.specs.Bytes.{little, num, snum, bytes, little_bytes}
-use Rattle.chi_lanes.specs.Combine.{combine}
+use Rattle.chi_lanes.specs.Combination.{combine}
 use Rattle.chi_fields.specs.declared.kind.Op.{Op}
 use Rattle.chi_fields.specs.declared.kind.Op.TheVariants.{Add, Clr, Eor, Set, SMax, SMin, UMax, UMin}
 use Rattle.chi_lanes.proofs.Digits.{length-little_bytes, little_little_bytes, little_bytes_little, pow_bytes}
 use Rattle.chi_lanes.proofs.BitwiseLemmas.{cleared_bit, length-bitwise, AreBytes-bitwise}
-use Rattle.chi_lanes.proofs.Reversed.{length-bytes, little-reverse, AreBytes-little_bytes, AreBytes-bytes}
+use Rattle.chi_lanes.proofs.ReversedBytes.{length-bytes, little-reverse, AreBytes-little_bytes, AreBytes-bytes}
 
 -- the bytes of what a number's bytes spell in an order are its bytes in that order
 pub little_bytes-num : (endian : Bool) (len n : ℕ) → little_bytes len (num endian (little_bytes len n)) ≡ bytes endian len n

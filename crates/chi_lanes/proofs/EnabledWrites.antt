@@ -5,7 +5,7 @@ use Rattle.std.proofs.lemmas.Nat.Bits.{bit_at-lt}
 use Rattle.std.specs.Int.{bit_at}
 use Rattle.chi_lanes.specs.Bytes.{little_bytes, AreBytes}
 use Rattle.chi_lanes.specs.Memory.{Memory, IsMemory, word_at, with_enabled}
-use Rattle.chi_fields.specs.Operation.{lane_of}
+use Rattle.chi_fields.specs.Access.{lane_of}
 use Rattle.chi_lanes.proofs.Digits.{same_from_bytes, length-little_bytes}
 use Rattle.chi_lanes.proofs.MemoryLemmas.{get_or-bytes_from, little_bytes-word_at, word_at-below, with_enabled-on, with_enabled-off, IsMemory-with_enabled}
 use Rattle.chi_lanes.proofs.Runs.{slice_index-slice_range}

@@ -9,7 +9,7 @@ pub mod Enables
 pub mod MaskedBytes
 pub mod Masks
 pub mod MemoryLemmas
-pub mod Reversed
+pub mod ReversedBytes
 pub mod Runs
 pub mod SignedLemmas
 pub mod StdBytes

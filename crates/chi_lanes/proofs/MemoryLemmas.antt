@@ -3,7 +3,7 @@ use Rattle.std.proofs.Common.{◌≡◌, ℕ, zero, suc, ◌+◌, ◌-◌, ◌^�
 use Rattle.std.proofs.lemmas.Bool.Decides.{nat_tests}
 use Rattle.std.proofs.lemmas.Bool.{cases_lt}
 use Rattle.chi_lanes.specs.Bytes.{little, little_bytes, AreBytes}
-use Rattle.chi_fields.specs.Operation.{lane_of}
+use Rattle.chi_fields.specs.Access.{lane_of}
 use Rattle.std.specs.Int.{bit_at}
 use Rattle.chi_lanes.specs.Memory.{Memory, IsMemory, bytes_from, with_bytes, word_at, with_enabled}
 use Rattle.chi_lanes.proofs.Digits.{little_bytes_little, little-bound, same_from_bytes, length-little_bytes}

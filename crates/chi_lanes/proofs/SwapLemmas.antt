@@ -6,7 +6,7 @@ use Rattle.std.proofs.lemmas.Nat.{shl-shr}
 use Rattle.std.proofs.lemmas.List.{length-replicate}
 use Rattle.chi_lanes.specs.Bytes.{big, little_bytes}
 use Rattle.chi_lanes.proofs.Digits.{length-little_bytes, little_bytes-add, pow_bytes}
-use Rattle.chi_lanes.proofs.Reversed.{big-append, big-zeros, little_bytes-zero, big-bound, AreBytes-little_bytes}
+use Rattle.chi_lanes.proofs.ReversedBytes.{big-append, big-zeros, little_bytes-zero, big-bound, AreBytes-little_bytes}
 
 -- all eight bytes turned
 swap_bytes_is : (n : ℕ) → swap_bytes w64 n ≡ big (little_bytes 8 n)

@@ -1,6 +1,6 @@
 pub mod After
+pub mod ByteLaws
 pub mod Bytes
-pub mod Combine
-pub mod Laws
+pub mod Combination
 pub mod Memory
 pub mod Packet

@@ -2,7 +2,7 @@
 use Rattle.std.specs.Prelude.{ℕ, zero, suc, ◌+◌, ◌-◌, ◌*◌, ◌/◌, ◌<◌, List, [], ◌∷◌, length, slice_index, ◌&&◌, if◌then◌else◌, ◌==◌, nat_lt, nat_le}
 use Rattle.std.specs.Int.{bit_at}
 use Rattle.chi_fields.specs.Extent.{Extent}
-use Rattle.chi_fields.specs.Operation.{lane_of}
+use Rattle.chi_fields.specs.Access.{lane_of}
 use Rattle.chi_lanes.specs.Bytes.{little}
 
 -- the byte at each address

@@ -1,7 +1,7 @@
 //! Runs of lanes of a granule's word, by shifts and masks. Lane 0 is its least significant byte.
 
 ghost use Rattle.std.specs.Prelude.{◌≡◌, ◌+◌, ◌-◌, ◌*◌, ◌%◌, ◌^◌, ◌<◌, ◌≤◌, ◌++◌, false, replicate, take, drop, slice_range};
-ghost use Rattle.chi_fields.specs.Operation.{IsLen};
+ghost use Rattle.chi_fields.specs.Access.{IsLen};
 ghost use Rattle.chi_lanes.specs.Bytes.{little_bytes, num};
 ghost use Rattle.chi_lanes.specs.Packet.{cmp, swp};
 

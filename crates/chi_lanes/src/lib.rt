@@ -2,7 +2,7 @@
 #![tactic(auto)]
 
 mod byte_order;
-mod combined;
+mod combination;
 mod kernels;
 pub mod laws;
 mod operand;

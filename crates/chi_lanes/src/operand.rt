@@ -1,7 +1,7 @@
 //! The operand of an access: in the word of its granule, and in the data packet.
 
 ghost use Rattle.std.specs.Prelude.{◌≡◌, ℕ, ◌+◌, ◌^◌, ◌<◌, ◌≤◌};
-ghost use Rattle.chi_fields.specs.Operation.{lane_of};
+ghost use Rattle.chi_fields.specs.Access.{lane_of};
 ghost use Rattle.chi_fields.specs.declared.kind.Kind.{Kind};
 ghost use Rattle.chi_lanes.specs.After.{after_compare, old};
 ghost use Rattle.chi_lanes.specs.Bytes.{little_bytes};

@@ -5,7 +5,7 @@ ghost use Rattle.chi_fields.specs.Extent.{Extent, IsRegion, granule_of, lies_in}
 ghost use Rattle.chi_lanes.specs.After.{after, answer};
 ghost use Rattle.chi_lanes.specs.Memory.{Memory, IsMemory, granule_start, word, word_at};
 
-use crate::combined::combined;
+use crate::combination::combined;
 use crate::operand::{compared, old_value, sent_of, stored, written};
 use crate::packet::answer_lanes;
 use crate::reply::Reply;

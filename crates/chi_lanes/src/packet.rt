@@ -2,7 +2,7 @@
 
 ghost use Rattle.std.specs.Prelude.{◌≡◌, ℕ, ◌+◌, ◌*◌, ◌%◌, ◌^◌, ◌<◌, false, slice_index, slice_range, if◌then◌else◌};
 ghost use Rattle.std.specs.Int.{bit_at};
-ghost use Rattle.chi_fields.specs.Operation.{IsLen};
+ghost use Rattle.chi_fields.specs.Access.{IsLen};
 ghost use Rattle.chi_lanes.specs.Bytes.{little_bytes, num};
 ghost use Rattle.chi_lanes.specs.Packet.{in_lanes, sent};
 

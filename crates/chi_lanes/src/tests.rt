@@ -33,14 +33,14 @@ fn data(lanes: u128) -> Reply {
 
 // The granule after a request in the region of 8 granules from 0x1000 on, and the answer. The digits of a
 // granule are its bytes in the order of their addresses.
-fn worked(granule: u64, request: Request) -> Result<(u64, Reply), Fail> {
+fn executed(granule: u64, request: Request) -> Result<(u64, Reply), Fail> {
     let access = decode(&request, &Region::new(0x1000, 8)?)?;
     let (after, reply) = apply(granule.swap_bytes(), &access);
     Ok((after.swap_bytes(), reply))
 }
 
 // The answer to a request in that region, whose granules are then as it leaves them.
-fn worked_in(granules: &mut [u64; 8], request: Request) -> Result<Reply, Fail> {
+fn executed_in(granules: &mut [u64; 8], request: Request) -> Result<Reply, Fail> {
     let region = Region::new(0x1000, 8)?;
     let access = decode(&request, &region)?;
     let granule = access.granule(&region);
@@ -52,9 +52,9 @@ fn worked_in(granules: &mut [u64; 8], request: Request) -> Result<Reply, Fail> {
 #[test]
 fn first_fetch_add(rt: HostRuntime) -> Result<(), Fail> {
     let add = request(0x30, 3, 0x1000, 0x00ff, 0x01000000000000000000000000000000);
-    assert_eq!(rt; worked(0, add)?, (0x0100000000000000, data(0)));
+    assert_eq!(rt; executed(0, add)?, (0x0100000000000000, data(0)));
     assert_eq!(rt;
-        worked(0x0100000000000000, add)?,
+        executed(0x0100000000000000, add)?,
         (0x0200000000000000, data(0x01000000000000000000000000000000))
     );
     Ok(())
@@ -67,9 +67,9 @@ fn big_endian_carry(rt: HostRuntime) -> Result<(), Fail> {
     let answer = data(0x000000000000ffff0000000000000000);
     for (add, after) in [(big_endian(add), 0), (add, 0x000000000000ff00)] {
         let mut granules = [0; 8];
-        assert_eq!(rt; worked_in(&mut granules, write)?, Reply::Comp);
+        assert_eq!(rt; executed_in(&mut granules, write)?, Reply::Comp);
         assert_eq!(rt; granules, [0x000000000000ffff, 0, 0, 0, 0, 0, 0, 0]);
-        assert_eq!(rt; worked_in(&mut granules, add)?, answer);
+        assert_eq!(rt; executed_in(&mut granules, add)?, answer);
         assert_eq!(rt; granules, [after, 0, 0, 0, 0, 0, 0, 0]);
     }
     Ok(())
@@ -85,7 +85,7 @@ fn byte_smax_umax_add(rt: HostRuntime) -> Result<(), Fail> {
     for (opcode, lanes, after) in cases {
         let store = request(opcode, 0, 0x1000, 0x0001, lanes);
         assert_eq!(rt;
-            worked(0x8000000000000000, store)?,
+            executed(0x8000000000000000, store)?,
             (after, Reply::Comp),
             "{opcode}"
         );
@@ -98,11 +98,11 @@ fn smin_in_both_byte_orders(rt: HostRuntime) -> Result<(), Fail> {
     let least = request(0x35, 2, 0x1000, 0x000f, 0x00000080000000000000000000000000);
     let answer = data(0x80000000000000000000000000000000);
     assert_eq!(rt;
-        worked(0x8000000000000000, big_endian(least))?,
+        executed(0x8000000000000000, big_endian(least))?,
         (0x8000000000000000, answer)
     );
     assert_eq!(rt;
-        worked(0x8000000000000000, least)?,
+        executed(0x8000000000000000, least)?,
         (0x0000008000000000, answer)
     );
     Ok(())
@@ -111,7 +111,7 @@ fn smin_in_both_byte_orders(rt: HostRuntime) -> Result<(), Fail> {
 #[test]
 fn compare_one_byte_upper_half(rt: HostRuntime) -> Result<(), Fail> {
     let compare = request(0x39, 1, 0x1003, 0x000c, 0x00005a00000000000000000000000000);
-    assert_eq!(rt; worked(0, compare)?, (0x0000005a00000000, data(0)));
+    assert_eq!(rt; executed(0, compare)?, (0x0000005a00000000, data(0)));
     Ok(())
 }
 
@@ -119,7 +119,7 @@ fn compare_one_byte_upper_half(rt: HostRuntime) -> Result<(), Fail> {
 fn compare_eight_bytes_upper_half(rt: HostRuntime) -> Result<(), Fail> {
     let compare = request(0x39, 4, 0x1008, 0xffff, 0x11223344556677880000000000000000);
     let mut granules = [0; 8];
-    assert_eq!(rt; worked_in(&mut granules, compare)?, data(0));
+    assert_eq!(rt; executed_in(&mut granules, compare)?, data(0));
     assert_eq!(rt; granules, [0, 0x1122334455667788, 0, 0, 0, 0, 0, 0]);
     Ok(())
 }
@@ -127,14 +127,14 @@ fn compare_eight_bytes_upper_half(rt: HostRuntime) -> Result<(), Fail> {
 #[test]
 fn compare_four_bytes_upper_half(rt: HostRuntime) -> Result<(), Fail> {
     let compare = request(0x39, 3, 0x1004, 0x00ff, 0xaabbccdd000000000000000000000000);
-    assert_eq!(rt; worked(0, compare)?, (0x00000000aabbccdd, data(0)));
+    assert_eq!(rt; executed(0, compare)?, (0x00000000aabbccdd, data(0)));
     Ok(())
 }
 
 #[test]
 fn compare_that_differs(rt: HostRuntime) -> Result<(), Fail> {
     let compare = request(0x39, 3, 0x1000, 0x00ff, 0x01000000ffffffff0000000000000000);
-    assert_eq!(rt; worked(0, compare)?, (0, data(0)));
+    assert_eq!(rt; executed(0, compare)?, (0, data(0)));
     Ok(())
 }
 
@@ -144,7 +144,7 @@ fn write_of_no_bytes_then_two(rt: HostRuntime) -> Result<(), Fail> {
     let mut granules = [0; 8];
     for (be, after) in [(0x0000, 0), (0x0042, 0x00a100000000a600)] {
         let write = request(0x1c, 3, 0x1000, be, lanes);
-        assert_eq!(rt; worked_in(&mut granules, write)?, Reply::Comp);
+        assert_eq!(rt; executed_in(&mut granules, write)?, Reply::Comp);
         assert_eq!(rt; granules, [after, 0, 0, 0, 0, 0, 0, 0]);
     }
     Ok(())
@@ -168,14 +168,14 @@ fn nine_operations_on_one_byte(rt: HostRuntime) -> Result<(), Fail> {
     let write = request(0x1c, 0, 0x1000, 0x0001, before);
     let mut granules = [0; 8];
     for (opcode, after) in operations {
-        assert_eq!(rt; worked_in(&mut granules, write)?, Reply::Comp);
+        assert_eq!(rt; executed_in(&mut granules, write)?, Reply::Comp);
         let load = request(opcode, 0, 0x1000, 0x0001, sent);
-        assert_eq!(rt; worked_in(&mut granules, load)?, data(before), "{opcode}");
+        assert_eq!(rt; executed_in(&mut granules, load)?, data(before), "{opcode}");
         assert_eq!(rt; granules, [after, 0, 0, 0, 0, 0, 0, 0], "{opcode}");
         if opcode < 0x38 {
-            assert_eq!(rt; worked_in(&mut granules, write)?, Reply::Comp);
+            assert_eq!(rt; executed_in(&mut granules, write)?, Reply::Comp);
             let store = request(opcode - 8, 0, 0x1000, 0x0001, sent);
-            assert_eq!(rt; worked_in(&mut granules, store)?, Reply::Comp, "{opcode}");
+            assert_eq!(rt; executed_in(&mut granules, store)?, Reply::Comp, "{opcode}");
             assert_eq!(rt; granules, [after, 0, 0, 0, 0, 0, 0, 0], "{opcode}");
         }
     }
@@ -187,9 +187,9 @@ fn write_then_read_upper_half(rt: HostRuntime) -> Result<(), Fail> {
     let write = request(0x1c, 3, 0x1008, 0xff00, 0x00000000000000000102030405060708);
     let read = request(0x04, 2, 0x100c, 0, 0);
     let mut granules = [0; 8];
-    assert_eq!(rt; worked_in(&mut granules, write)?, Reply::Comp);
+    assert_eq!(rt; executed_in(&mut granules, write)?, Reply::Comp);
     let answer = data(0x00000000000000000000000005060708);
-    assert_eq!(rt; worked_in(&mut granules, read)?, answer);
+    assert_eq!(rt; executed_in(&mut granules, read)?, answer);
     assert_eq!(rt; granules, [0, 0x0102030405060708, 0, 0, 0, 0, 0, 0]);
     Ok(())
 }
@@ -199,7 +199,7 @@ fn write_then_read_upper_half(rt: HostRuntime) -> Result<(), Fail> {
 fn swap_in_upper_half(rt: HostRuntime) -> Result<(), Fail> {
     let swap = request(0x38, 1, 0x100a, 0x0c00, 0x00000000000000000000aabb00000000);
     assert_eq!(rt;
-        worked(0x1122334455667788, swap)?,
+        executed(0x1122334455667788, swap)?,
         (0x1122aabb55667788, data(0x00000000000000000000334400000000))
     );
     Ok(())

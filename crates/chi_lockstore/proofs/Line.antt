@@ -3,13 +3,13 @@ use Rattle.std.proofs.Common.{◌≡◌, ◌≤◌, ℕ, true, false, true≢fal
 use lib.Pointwise.{pointwise, bytes_decides}
 use Rattle.crossbeam_utils.specs.Register.{Forks, Merges, Turns}
 use Rattle.chi_fields.specs.Extent.{IsRegion, granule_of, lies_in}
-use Rattle.chi_fields.specs.Operation.{IsLawful, Operation}
+use Rattle.chi_fields.specs.Access.{IsLawful, Access}
 use Rattle.chi_history.specs.declared.opening.Opening.{Opening}
 use Rattle.chi_history.specs.declared.view.View.{View}
 use Rattle.chi_history.specs.Rule.{Ruled}
-use Rattle.chi_history.specs.Told.{Applies, Reads, Replaces, Settles, Tries}
+use Rattle.chi_history.specs.StepFacts.{Applies, Reads, Replaces, Settles, Tries}
 use Rattle.chi_history.specs.Views.{all_below, alone, newcomer, both, gone, has, knower, rest_of}
-use Rattle.chi_lockstore.specs.Seats.{IsAlone}
+use Rattle.chi_lockstore.specs.LockSeats.{IsAlone}
 use Rattle.chi_history.proofs.ExchangeLemmas.{tries}
 use Rattle.chi_history.proofs.JoinLemmas.{unites}
 use Rattle.chi_history.proofs.RuledLemmas.{ruled_opens, ruled_parts, ruled_steps, ruled_unites}
@@ -29,7 +29,7 @@ pub line_settles : (id : ℕ) (v : View) → v.live ≡ true → Turns (Ruled 8)
 line_settles id v live x = ruled_steps 8 v.opening id v (λ ws. ws) (λ _. Settles v) live refl (settles 8 v.opening id v live) x
 
 -- the exchange of the line for one with the operation's word
-pub line_tries : (o : Opening) (id : ℕ) (v : View) → v ≡ knower o v.held v.seen → (current new : List ℕ) (g next src : ℕ) (access : Operation)
+pub line_tries : (o : Opening) (id : ℕ) (v : View) → v ≡ knower o v.held v.seen → (current new : List ℕ) (g next src : ℕ) (access : Access)
     → g ≡ granule_of access.addr o.region → has v.held src ≡ true → IsLawful access → lies_in access.addr access.len o.region ≡ true
     → Applies o access (slice_index current g) next → new ≡ set current g next
     → Turns (Ruled 8) id v (λ x. if pointwise nat_eq x current then new else x) (λ v x y w. Tries v current src access x w)
@@ -50,7 +50,7 @@ pub line_unites : (id : ℕ) (v : View) (other : ℕ) (w : View) → v.live ≡ 
 line_unites id v other w live = ruled_unites 8 v.opening id v other w (both v w) gone live refl (unites 8 v.opening id v other w live)
 
 -- what the exchange of the line tells its caller
-pub line_tried : (r : Result (List ℕ) (List ℕ)) (v w : View) (current : List ℕ) (src : ℕ) (access : Operation)
+pub line_tried : (r : Result (List ℕ) (List ℕ)) (v w : View) (current : List ℕ) (src : ℕ) (access : Access)
     → MatchResult r (λ x. (pointwise nat_eq x current ≡ true) × Tries v current src access x w) (λ x. (pointwise nat_eq x current ≡ false) × Tries v current src access x w)
     → MatchResult r (λ _. Replaces v current src access w) (λ _. w ≡ v)
 line_tried (Ok x) v w current src access told =

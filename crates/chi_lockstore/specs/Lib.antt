@@ -1,3 +1,3 @@
-pub mod Faults
+pub mod LockFaults
+pub mod LockSeats
 pub mod Room
-pub mod Seats

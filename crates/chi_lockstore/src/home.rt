@@ -1,11 +1,11 @@
 //! The locked store as a home.
 
 use crate::seat::LockSeat;
-use crate::serving::complete;
+use crate::service::complete;
 use crate::steps::{give, look, take_in};
 use crate::store::LockStore;
 use chi_fields::{Access, Region};
-use chi_history::{Ask, Credit, Gate, Home, Numbers, Served};
+use chi_history::{Credit, Gate, Home, Numbers, Purpose, Served};
 use chi_lanes::Reply;
 use std::alloc::Allocator;
 use std::marker::Brand;
@@ -59,11 +59,11 @@ impl<A: Allocator> Home for LockStore<A> {
         gate: &mut G,
     ) -> Served {
         gate.pause(1);
-        let ask = Ask {
+        let purpose = Purpose {
             src,
             access: *access,
         };
-        let reply = complete(&self.cell, &self.values, rt, &mut seat.pass, &ask);
+        let reply = complete(&self.cell, &self.values, rt, &mut seat.pass, &purpose);
         Served::Done { reply, lost: 0 }
     }
 
@@ -74,11 +74,11 @@ impl<A: Allocator> Home for LockStore<A> {
         credit: Credit,
         access: &Access,
     ) -> Reply {
-        let ask = Ask {
+        let purpose = Purpose {
             src: credit.spend(),
             access: *access,
         };
-        complete(&self.cell, &self.values, rt, &mut seat.pass, &ask)
+        complete(&self.cell, &self.values, rt, &mut seat.pass, &purpose)
     }
 
     fn split<R: Wait>(&self, _rt: &R, seat: &mut LockSeat, src: u8) -> LockSeat {

@@ -1,12 +1,12 @@
 //! A home whose line of words stands in one cell under a lock.
 #![tactic(auto)]
 
-mod asked;
 mod home;
 pub mod laws;
 mod rule;
 mod seat;
-mod serving;
+mod service;
+mod step_kinds;
 mod steps;
 mod store;
 mod type_size;

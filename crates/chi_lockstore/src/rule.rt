@@ -33,7 +33,7 @@ impl Protocol<Words, View> for LineRule {
 pub(crate) struct Look;
 
 impl Outcome<Words, View> for Look {
-    ghost use Rattle.chi_history.specs.Told.{Reads};
+    ghost use Rattle.chi_history.specs.StepFacts.{Reads};
 
     ghost then = { λ v x y w. Reads v x w };
 }
@@ -42,7 +42,7 @@ impl Outcome<Words, View> for Look {
 pub(crate) struct Settle;
 
 impl Outcome<Words, View> for Settle {
-    ghost use Rattle.chi_history.specs.Told.{Settles};
+    ghost use Rattle.chi_history.specs.StepFacts.{Settles};
 
     ghost then = { λ v x y w. Settles v w };
 }

@@ -2,23 +2,23 @@
 
 ghost use Rattle.std.specs.Prelude.{◌≡◌, ◌≤◌, ◌<◌, ℕ, [], true, IsTrue, IfOk, slice_index, MatchResult};
 ghost use Rattle.chi_fields.specs.Extent.{granule_of, lies_in};
-ghost use Rattle.chi_history.specs.Opened.{IsOpening};
+ghost use Rattle.chi_history.specs.Openings.{IsOpening};
 ghost use Rattle.chi_history.specs.Seats.{IsKnown};
-ghost use Rattle.chi_history.specs.Told.{Applies, Reads, Replaces, Settles};
+ghost use Rattle.chi_history.specs.StepFacts.{Applies, Reads, Replaces, Settles};
 ghost use Rattle.chi_history.specs.Views.{all_below, alone, both, has, knower, rest_of};
-ghost use Rattle.chi_lockstore.specs.Faults.{IsWithinLine};
+ghost use Rattle.chi_lockstore.specs.LockFaults.{IsWithinLine};
 ghost use Rattle.chi_lockstore.specs.Room.{IsSmall};
-ghost use Rattle.chi_lockstore.specs.Seats.{IsAlone};
+ghost use Rattle.chi_lockstore.specs.LockSeats.{IsAlone};
 ghost use Rattle.crossbeam_utils.specs.Seq.{IsSamePass, cell_view};
 
-use crate::asked::{Asks, Opens, Sets, Tries};
 use crate::rule::{Cell, LINE_GRANULES, LinePass, Look, Settle, Whole, Words};
-use chi_history::{Ask, Gives, Number, OpeningValues};
+use crate::step_kinds::{ChosenExchange, ChosenOpening, LineExchange, OpeningCut};
+use chi_history::{OpeningValues, Purpose, SplitNumber, SplitOff};
 use std::alloc::{AllocError, Allocator};
 use std::sync::Wait;
 
 /// A cell of zeros, and the pass of all requesters of this opening.
-pub(crate) fn begin<Q: Opens, A: Allocator + Copy>(
+pub(crate) fn begin<Q: ChosenOpening, A: Allocator + Copy>(
     alloc: A,
     _values: &OpeningValues<A>,
 ) -> Result<(Cell<A>, LinePass), AllocError>
@@ -30,41 +30,41 @@ pub(crate) fn begin<Q: Opens, A: Allocator + Copy>(
     ensures view { IfOk result (λ r. cell_view r.1 ≡ knower _values.now (all_below _values.now.requesters) []) }
 {
     let (cell, mut pass) = Cell::<A>::ruled(alloc, [0; LINE_GRANULES])?;
-    let _spare = cell.split_pass::<Sets<Q>>(&mut pass);
+    let _spare = cell.split_pass::<OpeningCut<Q>>(&mut pass);
     Ok((cell, pass))
 }
 
 /// Exchanges the line for one with `next` in the operation's granule, where it is still `current`. Where it
 /// is not, the words found come back.
-pub(crate) fn try_once<Q: Asks, A: Allocator, R: Wait>(
+pub(crate) fn try_once<Q: ChosenExchange, A: Allocator, R: Wait>(
     cell: &Cell<A>,
     _values: &OpeningValues<A>,
     rt: &R,
     pass: &mut LinePass,
-    ask: &Ask,
+    purpose: &Purpose,
     granule: usize,
     next: u64,
     current: Words,
 ) -> Result<Words, Words>
     requires small { IsSmall A.row }
     requires own { pass.old.table_id ≡ cell.now.table.shared.table_id }
-    requires asked { (ask.now ≡ Q.ask) × (current ≡ Q.current) }
+    requires asked { (purpose.now ≡ Q.purpose) × (current ≡ Q.current) }
     requires known { IsKnown _values.now (cell_view pass.old) }
-    requires holds { has (cell_view pass.old).held ask.now.src ≡ true }
-    requires fits { IsTrue (lies_in ask.now.access.addr ask.now.access.len _values.now.region) }
-    requires granule { granule ≡ granule_of ask.now.access.addr _values.now.region }
+    requires holds { has (cell_view pass.old).held purpose.now.src ≡ true }
+    requires fits { IsTrue (lies_in purpose.now.access.addr purpose.now.access.len _values.now.region) }
+    requires granule { granule ≡ granule_of purpose.now.access.addr _values.now.region }
     requires below { granule < 8 }
-    requires applies { Applies _values.now ask.now.access (slice_index current granule) next }
+    requires applies { Applies _values.now purpose.now.access (slice_index current granule) next }
     ensures own { IsSamePass pass.old pass.new }
     ensures tried { MatchResult result
-        (λ _. Replaces (cell_view pass.old) current ask.now.src ask.now.access (cell_view pass.new))
+        (λ _. Replaces (cell_view pass.old) current purpose.now.src purpose.now.access (cell_view pass.new))
         (λ _. cell_view pass.new ≡ cell_view pass.old) }
 {
     // It is read for what it tells: the access is lawful.
-    let _len = ask.access.len();
+    let _len = purpose.access.len();
     let mut new = current;
     new[granule] = next;
-    cell.compare_exchange_as::<Tries<Q>, R>(rt, pass, current, new)
+    cell.compare_exchange_as::<LineExchange<Q>, R>(rt, pass, current, new)
 }
 
 /// The words of the line. A seat that holds all numbers finds those of what it has seen.
@@ -79,7 +79,7 @@ pub(crate) fn look<A: Allocator, R: Wait>(cell: &Cell<A>, rt: &R, pass: &mut Lin
 }
 
 /// A pass for one of the numbers. The old pass keeps the others.
-pub(crate) fn give<Q: Number, A: Allocator>(
+pub(crate) fn give<Q: SplitNumber, A: Allocator>(
     cell: &Cell<A>,
     pass: &mut LinePass,
     _src: u8,
@@ -93,7 +93,7 @@ pub(crate) fn give<Q: Number, A: Allocator>(
     ensures rest { cell_view pass.new ≡ rest_of _src (cell_view pass.old) }
     ensures alone { cell_view result ≡ alone _src (cell_view pass.old) }
 {
-    cell.split_pass::<Gives<Q>>(pass)
+    cell.split_pass::<SplitOff<Q>>(pass)
 }
 
 /// Makes two passes one, and looks at the line: only this look tells how what both had seen goes together.

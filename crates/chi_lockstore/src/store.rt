@@ -1,8 +1,8 @@
 //! The locked store, and its opening.
 
 ghost use Rattle.std.specs.Prelude.{◌≡◌, ◌^◌, ◌<◌, IfErr, IfOk, length};
-ghost use Rattle.chi_history.specs.Opened.{IsFirst, IsOpening, IsRequesterCount, opened};
-ghost use Rattle.chi_lockstore.specs.Faults.{IsWithinLine, Meets};
+ghost use Rattle.chi_history.specs.Openings.{IsFirst, IsOpening, IsRequesterCount, opened};
+ghost use Rattle.chi_lockstore.specs.LockFaults.{IsWithinLine, IsLockFault};
 
 use crate::rule::{Cell, LINE_GRANULES};
 use crate::seat::LockSeat;
@@ -59,7 +59,7 @@ impl<A: Allocator + Copy> LockStore<A> {
         ensures opening { IfOk result (λ r. ⟦<LockStore<A> as Home>⟧.opening r.0 ≡ opened region requesters image.now) }
         ensures limit { IfOk result (λ r. ⟦<LockStore<A> as Home>⟧.limit r.0 ≡ 0) }
         ensures counts { IfOk result (λ _. IsRequesterCount requesters × IsWithinLine region.granules) }
-        ensures refused { IfErr result (Meets region.granules requesters) }
+        ensures refused { IfErr result (IsLockFault region.granules requesters) }
     {
         if requesters < 1 || requesters > MOST_NUMBERS {
             return Err(OpenFault::RequesterCount);

@@ -2,7 +2,7 @@
 use Rattle.std.proofs.Common.{◌≡◌, ℕ, ◌≤◌, Bool, true, false, not, ◌&&◌, ◌||◌, ◌==◌, nat_lt, if◌then◌else◌, refl, sym, ap, subst, ◌∙◌, eqb-true, arith, true≢false}
 use Rattle.std.proofs.Math.Bool.{and-true, or-false}
 use Rattle.std.proofs.lemmas.Bool.{lt-ltb}
-use Rattle.chi_history.specs.Held.{Held, below, nobody, only, union, without}
+use Rattle.chi_history.specs.NumberSets.{Held, below, nobody, only, union, without}
 use Rattle.chi_requester.specs.Race.{one_and_two, one_to_four}
 
 -- a number that is not in a set is none of the set's

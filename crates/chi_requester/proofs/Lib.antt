@@ -1,4 +1,4 @@
-pub mod ToldLemmas
+pub mod ReportLemmas
 pub mod WorkLemmas
 pub mod RequestLemmas
 pub mod SerialLemmas

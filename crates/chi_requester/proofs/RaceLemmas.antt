@@ -6,7 +6,7 @@ use Rattle.std.proofs.lemmas.List.Elements.{All-append, All-cons, All-nil}
 use Rattle.chi_fields.specs.declared.refusal.Refusal.{Refusal}
 use Rattle.chi_fields.specs.declared.request.Request.{Request}
 use Rattle.chi_fields.specs.Extent.{Extent}
-use Rattle.chi_fields.specs.Operation.{Operation}
+use Rattle.chi_fields.specs.Access.{Access}
 use Rattle.chi_fields.specs.Refusal.{decision}
 use Rattle.chi_lanes.specs.After.{after}
 use Rattle.chi_lanes.specs.Memory.{Memory}
@@ -14,7 +14,7 @@ use Rattle.chi_history.specs.declared.entry.Entry.{Entry}
 use Rattle.chi_history.specs.declared.line.Line.{Line}
 use Rattle.chi_history.specs.declared.line.Line.TheVariants.{Completed, Refused}
 use Rattle.chi_history.specs.declared.opening.Opening.{Opening}
-use Rattle.chi_history.specs.Held.{Held, below, nobody, only, union, without}
+use Rattle.chi_history.specs.NumberSets.{Held, below, nobody, only, union, without}
 use Rattle.chi_history.specs.History.{IsFreeOf, IsLegal, IsLegalFrom, end, of}
 use Rattle.chi_history.specs.Lines.{retried}
 use Rattle.chi_history.proofs.HistoryLemmas.{legal-back, legal-front, of-append, of-free}
@@ -22,13 +22,13 @@ use Rattle.chi_requester.specs.declared.fault.WorkFault.{WorkFault}
 use Rattle.chi_requester.specs.declared.policy.Policy.{Policy}
 use Rattle.chi_requester.specs.Race.{IsOf, IsRaceRun, is_retry}
 use Rattle.chi_requester.specs.Team.{AreLeftBy, IsTeamRun}
-use Rattle.chi_requester.specs.Told.{Told, ToldOf}
-use Rattle.chi_requester.specs.Work.{IsShare, IsWorked, IsWorkRun, Share, requests_of}
+use Rattle.chi_requester.specs.Reports.{Told, ToldOf}
+use Rattle.chi_requester.specs.Work.{IsShare, IsExecuted, IsWorkRun, Share, own_requests}
 use Rattle.chi_requester.proofs.FamilyLemmas.{apart_from, put, put_each, put_other, whole_split}
 use Rattle.chi_requester.proofs.SerialLemmas.{unpaid_alone}
 use Rattle.chi_requester.proofs.TeamLemmas.{left_more, left_still, racer_more}
-use Rattle.chi_requester.proofs.ToldLemmas.{access-decided, retried-append, told_unpaid}
-use Rattle.chi_requester.proofs.WorkLemmas.{worked_none}
+use Rattle.chi_requester.proofs.ReportLemmas.{access_of-decided, retried-append, told_unpaid}
+use Rattle.chi_requester.proofs.WorkLemmas.{executed_none}
 
 -- the entries of a legal history that is free of a set are of the numbers outside it
 pub of_others : (o : Opening) (m : Memory) (held others : Held) (xs : List Entry) → union held others ≡ below o.requesters → IsLegalFrom o m xs → IsFreeOf held xs → IsOf others xs
@@ -60,16 +60,16 @@ unretried region policy limit (q ∷ qs) lines told paid =
     single : (line : Line) → told.0 ≡ line ∷ [] → is_retry line ≡ false → All (λ x. is_retry x ≡ false) told.0
     single line is one = let P : List Line → Type 0 = λ xs. All (λ x. is_retry x ≡ false) xs in subst P (sym is) (All-cons (λ (x : Line). is_retry x ≡ false) line [] one (All-nil (λ (x : Line). is_retry x ≡ false)))
 
-    piece : (d : Result Operation Refusal) → decision q region ≡ d → ToldOf d policy limit q told.0 → All (λ line. is_retry line ≡ false) told.0
+    piece : (d : Result Access Refusal) → decision q region ≡ d → ToldOf d policy limit q told.0 → All (λ line. is_retry line ≡ false) told.0
     piece (Err fault) refused is = single (Refused q fault) is refl
     piece (Ok a) accepted is =
-        let done = told_unpaid region policy limit q a told.0 (access-decided region q a accepted) is (λ g. let s = split g in omega arith) in
+        let done = told_unpaid region policy limit q a told.0 (access_of-decided region q a accepted) is (λ g. let s = split g in omega arith) in
         single (Completed q done.0) done.1 refl
 
 -- 0 worked after the racers, by a seat that had taken theirs back
 pub race_run : {o : Opening} {policy : Policy} {limit : ℕ} {all : List Request} {kept racers held : Held} {start seen seen' : List Entry} {lines lines' lines'' : ℕ → List Line}
     {first result : Result (Unit {0}) WorkFault} (last : Share) → racers 0 ≡ false → union kept racers ≡ below o.requesters → IsLegal o seen'
-    → (t : IsTeamRun first o policy limit all kept racers held start seen lines lines') → (w : IsWorked o policy limit held 0 seen seen' last.done last.appended)
+    → (t : IsTeamRun first o policy limit all kept racers held start seen lines lines') → (w : IsExecuted o policy limit held 0 seen seen' last.done last.appended)
     → ((r : ℕ) → lines'' (suc r) ≡ lines' (suc r)) → IsShare all 0 (lines 0) (lines'' 0) last → AreLeftBy result (union racers (only 0)) (put 0 last t.share)
     → ((r : ℕ) → racers r ≡ true → (t.share r).left ≢ [] → last.done ≡ []) → IsRaceRun result o policy limit racers all start seen' lines lines''
 race_run {o = o} {policy = policy} {limit = limit} {all = all} {kept = kept} {racers = racers} {held = held} {start = start} {seen = seen} {seen' = seen'} {lines = lines} {lines' = lines'} {lines'' = lines''}
@@ -115,10 +115,10 @@ pub race_stopped : {o : Opening} {policy : Policy} {limit : ℕ} {all : List Req
     (result : Result (Unit {0}) WorkFault) → racers 0 ≡ false → union kept racers ≡ below o.requesters → IsLegal o seen → IsErr result → lines' 0 ≡ lines 0
     → IsTeamRun (Err fault) o policy limit all kept racers held start seen lines lines' → IsRaceRun result o policy limit racers all start seen lines lines'
 race_stopped {o = o} {policy = policy} {limit = limit} {all = all} {racers = racers} {held = held} {seen = seen} {lines = lines} {fault = fault} result apart whole legal failed same t =
-    race_run idle apart whole legal t (worked_none o policy limit held 0 seen) (λ r. refl) (record { parts = refl; kept = same ∙ sym (append-nil (lines 0)) }) (left result failed) (λ r is some. refl)
+    race_run idle apart whole legal t (executed_none o policy limit held 0 seen) (λ r. refl) (record { parts = refl; kept = same ∙ sym (append-nil (lines 0)) }) (left result failed) (λ r is some. refl)
   where
     idle : Share
-    idle = record { done = []; left = requests_of all 0; appended = [] }
+    idle = record { done = []; left = own_requests all 0; appended = [] }
 
     left : (x : Result (Unit {0}) WorkFault) → IsErr x → AreLeftBy x (union racers (only 0)) (put 0 idle t.share)
     left (Ok u) is = cc
@@ -129,7 +129,7 @@ pub race_done : {o : Opening} {policy : Policy} {limit : ℕ} {all : List Reques
     {result : Result (Unit {0}) WorkFault} → racers 0 ≡ false → union kept racers ≡ below o.requesters → IsLegal o seen' → IsTeamRun (Ok u) o policy limit all kept racers held start seen lines lines'
     → lines' 0 ≡ lines 0 → ((r : ℕ) → lines'' (suc r) ≡ lines' (suc r)) → IsWorkRun result o policy limit held 0 all seen seen' (lines' 0) (lines'' 0) → IsRaceRun result o policy limit racers all start seen' lines lines''
 race_done {racers = racers} {u = u} {result = result} apart whole legal t same past z =
-    race_run last apart whole legal t z.worked past (record { parts = z.parts; kept = z.kept ∙ ap (λ xs. xs ++ z.appended) same })
+    race_run last apart whole legal t z.executed past (record { parts = z.parts; kept = z.kept ∙ ap (λ xs. xs ++ z.appended) same })
     (left_more (Ok u) result racers 0 last t.share apart t.are_left z.are_left) (λ r is some. absurd (some (t.are_left r is)))
   where
     last : Share

@@ -6,7 +6,7 @@ use Rattle.std.proofs.lemmas.Grind.{flat_map-append}
 use Rattle.chi_fields.specs.declared.refusal.Refusal.{Refusal}
 use Rattle.chi_fields.specs.declared.request.Request.{Request}
 use Rattle.chi_fields.specs.Extent.{Extent}
-use Rattle.chi_fields.specs.Operation.{Operation}
+use Rattle.chi_fields.specs.Access.{Access}
 use Rattle.chi_fields.specs.Refusal.{decision}
 use Rattle.chi_lanes.specs.declared.reply.Reply.{Reply}
 use Rattle.chi_lanes.specs.After.{after, answer}
@@ -15,17 +15,17 @@ use Rattle.chi_history.specs.declared.entry.Entry.{Entry}
 use Rattle.chi_history.specs.declared.line.Line.{Line}
 use Rattle.chi_history.specs.declared.line.Line.TheVariants.{Completed}
 use Rattle.chi_history.specs.declared.opening.Opening.{Opening}
-use Rattle.chi_history.specs.Held.{Held, below, without}
+use Rattle.chi_history.specs.NumberSets.{Held, below, without}
 use Rattle.chi_history.specs.History.{IsFreeOf, IsLegal, IsLegalFrom, changes, end, end_from, hits, hits_from, of, one_if}
 use Rattle.chi_history.specs.Lines.{entries, entry_of, line_entries, retried, serial, serial_after, serial_end, serial_line}
-use Rattle.chi_history.specs.Served.{entry}
+use Rattle.chi_history.specs.HomeClauses.{entry}
 use Rattle.chi_history.proofs.HistoryLemmas.{end_from-append, legal-back}
 use Rattle.chi_requester.specs.declared.fault.WorkFault.{WorkFault}
 use Rattle.chi_requester.specs.declared.policy.Policy.{Policy}
 use Rattle.chi_requester.specs.Serial.{IsSerialRun}
-use Rattle.chi_requester.specs.Told.{ToldOf}
-use Rattle.chi_requester.specs.Work.{IsWorked}
-use Rattle.chi_requester.proofs.ToldLemmas.{access-decided, told_alone, told_unpaid}
+use Rattle.chi_requester.specs.Reports.{ToldOf}
+use Rattle.chi_requester.specs.Work.{IsExecuted}
+use Rattle.chi_requester.proofs.ReportLemmas.{access_of-decided, told_alone, told_unpaid}
 use Rattle.chi_requester.proofs.WorkLemmas.{are_left-err, drop-within, entries_one}
 
 -- the lines of requests, and then of others
@@ -36,11 +36,11 @@ serial-append region (q ∷ qs) rs m =
     ap (λ (xs : List Line). serial_line (decision q region) q m ∷ xs) (serial-append region qs rs (serial_after (decision q region) m))
 
 -- the entry of a request's line makes the memory that the request leaves
-pub serial_line-entries : (region : Extent) (d : Result Operation Refusal) (q : Request) (m : Memory) → decision q region ≡ d
+pub serial_line-entries : (region : Extent) (d : Result Access Refusal) (q : Request) (m : Memory) → decision q region ≡ d
     → end_from m (line_entries (serial_line d q m)) ≡ serial_after d m
 unfolding end_from
 serial_line-entries region (Err fault) q m is = refl
-serial_line-entries region (Ok a) q m is = ap (λ (x : Option Operation). end_from m (entry_of q (answer a m) x)) (access-decided region q a is)
+serial_line-entries region (Ok a) q m is = ap (λ (x : Option Access). end_from m (entry_of q (answer a m) x)) (access_of-decided region q a is)
 
 -- the entries of the lines make the memory that the requests leave
 pub serial_end-entries : (region : Extent) (qs : List Request) (m : Memory) → end_from m (entries (serial region qs m)) ≡ serial_end region qs m
@@ -94,7 +94,7 @@ unpaid_alone o limit held seen since lines all legal paid g =
 
 -- the only piece that may be told of a request by whom no other works: its refusal, or its completion with
 -- the answer of the memory before it
-pub piece_alone : (o : Opening) (policy : Policy) (limit : ℕ) (m : Memory) (q : Request) (d : Result Operation Refusal) (piece : List Line)
+pub piece_alone : (o : Opening) (policy : Policy) (limit : ℕ) (m : Memory) (q : Request) (d : Result Access Refusal) (piece : List Line)
     → decision q o.region ≡ d → ToldOf d policy limit q piece → IsLegalFrom o m (entries piece)
     → ((g : ℕ) → limit * retried o.region piece g ≤ 0) → piece ≡ serial_line d q m ∷ []
 unfolding IsLegalFrom
@@ -102,10 +102,10 @@ piece_alone o policy limit m q (Err fault) piece is told legal unpaid = told
 piece_alone o policy limit m q (Ok a) piece is told legal unpaid = done.1 ∙ ap (λ (p : Reply). Completed q p ∷ []) answered
   where
     done : (reply : Reply) × (piece ≡ Completed q reply ∷ [])
-    done = told_unpaid o.region policy limit q a piece (access-decided o.region q a is) told unpaid
+    done = told_unpaid o.region policy limit q a piece (access_of-decided o.region q a is) told unpaid
 
     one : IsLegalFrom o m (entry q.src a done.0 ∷ [])
-    one = let P : List Entry → Type 0 = λ es. IsLegalFrom o m es in subst P (ap entries done.1 ∙ entries_one q a done.0 (access-decided o.region q a is)) legal
+    one = let P : List Entry → Type 0 = λ es. IsLegalFrom o m es in subst P (ap entries done.1 ∙ entries_one q a done.0 (access_of-decided o.region q a is)) legal
 
     answered : done.0 ≡ answer a m
     answered = one.0.answered
@@ -123,7 +123,7 @@ progress_none o seen lines = record { told = sym (append-nil lines); grown = sym
 -- one more
 pub progress_more : (o : Opening) (policy : Policy) (limit : ℕ) (held : Held) (start seen seen' : List Entry) (qs : List Request) (q : Request) (first lines lines' piece : List Line)
     → held ≡ below o.requesters → IsLegal o seen' → Progress o qs start seen first lines → lines' ≡ lines ++ piece
-    → IsWorked o policy limit held q.src seen seen' (q ∷ []) piece → Progress o (qs ++ q ∷ []) start seen' first lines'
+    → IsExecuted o policy limit held q.src seen seen' (q ∷ []) piece → Progress o (qs ++ q ∷ []) start seen' first lines'
 unfolding serial serial_end
 progress_more o policy limit held start seen seen' qs q first lines lines' piece all legal before more w = record {
   told = more ∙ (ap (λ (xs : List Line). xs ++ piece) before.told ∙ (append_assoc first past piece ∙ ap (λ (xs : List Line). first ++ xs) both));
@@ -155,7 +155,7 @@ progress_more o policy limit held start seen seen' qs q first lines lines' piece
 -- the request at an index, after those before it
 pub progress_next : (o : Opening) (policy : Policy) (limit : ℕ) (held : Held) (start seen seen' : List Entry) (qs : List Request) (i : ℕ) (d : Request) (first lines lines' piece : List Line)
     → i < length qs → held ≡ below o.requesters → IsLegal o seen' → Progress o (take i qs) start seen first lines → lines' ≡ lines ++ piece
-    → IsWorked o policy limit held (get_or qs i d).src seen seen' (get_or qs i d ∷ []) piece → Progress o (take (i + 1) qs) start seen' first lines'
+    → IsExecuted o policy limit held (get_or qs i d).src seen seen' (get_or qs i d ∷ []) piece → Progress o (take (i + 1) qs) start seen' first lines'
 progress_next o policy limit held start seen seen' qs i d first lines lines' piece within all legal before more w =
     let P : List Request → Type 0 = λ rs. Progress o rs start seen' first lines' in
     subst P (sym (take_more qs i d within)) (progress_more o policy limit held start seen seen' (take i qs) (get_or qs i d) first lines lines' piece all legal before more w)
@@ -164,7 +164,7 @@ progress_next o policy limit held start seen seen' qs i d first lines lines' pie
 pub serial_stopped : (result : Result (Unit {0}) WorkFault) (o : Opening) (qs : List Request) (i : ℕ) (start seen seen' : List Entry) (first lines lines' : List Line)
     → i < length qs → IsErr result → Progress o (take i qs) start seen first lines → lines' ≡ lines → seen' ≡ seen → IsSerialRun result o qs start seen' first lines'
 serial_stopped result o qs i start seen seen' first lines lines' within failed before same_lines same_seen = record {
-  worked = take i qs;
+  executed = take i qs;
   left = drop i qs;
   parts = take-append-drop i qs;
   are_left = are_left-err result (drop i qs) failed (drop-within qs i within);

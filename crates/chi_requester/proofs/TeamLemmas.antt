@@ -10,16 +10,16 @@ use Rattle.chi_fields.specs.declared.request.Request.{Request}
 use Rattle.chi_history.specs.declared.entry.Entry.{Entry}
 use Rattle.chi_history.specs.declared.line.Line.{Line}
 use Rattle.chi_history.specs.declared.opening.Opening.{Opening}
-use Rattle.chi_history.specs.Held.{Held, nobody, only, union}
+use Rattle.chi_history.specs.NumberSets.{Held, nobody, only, union}
 use Rattle.chi_history.specs.History.{IsFreeOf, end, hits_from, of}
-use Rattle.chi_history.specs.Served.{Joins}
+use Rattle.chi_history.specs.HomeClauses.{Joins}
 use Rattle.chi_history.proofs.HistoryLemmas.{free-append, free-front, free-within, hits-append, of-append, of-free}
 use Rattle.chi_requester.specs.declared.fault.WorkFault.{WorkFault}
 use Rattle.chi_requester.specs.declared.policy.Policy.{Policy}
 use Rattle.chi_requester.specs.declared.team.WorkEnd.{WorkEnd}
 use Rattle.chi_requester.specs.declared.team.Worker.{Worker}
 use Rattle.chi_requester.specs.Team.{AreLeftBy, HasEnded, IsTeamRun}
-use Rattle.chi_requester.specs.Work.{AreLeft, IsRacer, IsShare, IsWorked, Share}
+use Rattle.chi_requester.specs.Work.{AreLeft, IsRacer, IsShare, IsExecuted, Share}
 use Rattle.chi_requester.proofs.FamilyLemmas.{put, put_each, put_other}
 
 -- entries that are free of a set hit alike whether it is left out or not
@@ -39,7 +39,7 @@ racer_more {o = o} {src = src} {seen = seen} {since = since} racer more others =
 
 -- what a requester did by its number alone, where 0 did nothing
 pub racer_alone : {o : Opening} {policy : Policy} {limit src : ℕ} {seen seen' : List Entry} {qs : List Request} {lines : List Line}
-    → (w : IsWorked o policy limit (only src) src seen seen' qs lines) → IsFreeOf (only 0) w.since → IsRacer o policy limit src seen w.since qs lines
+    → (w : IsExecuted o policy limit (only src) src seen seen' qs lines) → IsFreeOf (only 0) w.since → IsRacer o policy limit src seen w.since qs lines
 racer_alone {o = o} {src = src} {seen = seen} w free = record {
   mine = w.mine;
   told = w.told;
@@ -97,7 +97,7 @@ team_back {seen_of = seen_of} {o = o} {policy = policy} {limit = limit} {all = a
           subst P (sym both) (left_more first work.outcome team src new t.share apart t.are_left run.are_left);
     }
   where
-    open w use {worked as run}
+    open w use {executed as run}
 
     src : ℕ
     src = worker.src
@@ -111,12 +111,12 @@ team_back {seen_of = seen_of} {o = o} {policy = policy} {limit = limit} {all = a
     free : IsFreeOf kept (t.since ++ joined.more)
     free = free-append kept t.since joined.more t.free (free-within held kept joined.more (λ r is. ap (λ (s : Held). s r) t.held_is ∙ or_left (kept r) (team r) is) joined.free)
 
-    longer_by : t.since ++ joined.more ≡ run.worked.since ++ joined.other_more
-    longer_by = append_cancel_left start _ _ (sym grown ∙ (joined.other_grown ∙ (ap (λ h. h ++ joined.other_more) (run.worked.grown ∙ ap (λ h. h ++ run.worked.since) start_is)
-        ∙ append_assoc start run.worked.since joined.other_more)))
+    longer_by : t.since ++ joined.more ≡ run.executed.since ++ joined.other_more
+    longer_by = append_cancel_left start _ _ (sym grown ∙ (joined.other_grown ∙ (ap (λ h. h ++ joined.other_more) (run.executed.grown ∙ ap (λ h. h ++ run.executed.since) start_is)
+        ∙ append_assoc start run.executed.since joined.other_more)))
 
     racer : IsRacer o policy limit src start (t.since ++ joined.more) run.done run.appended
     racer =
         let P : List Entry → Type 0 = λ h. IsFreeOf kept h in
-        let zero_free = free-within kept (only 0) run.worked.since (λ r is. ap kept (eqb-true r 0 is) ∙ t.zero_kept) (free-front kept run.worked.since joined.other_more (subst P longer_by free)) in
-        rw (longer_by, ← start_is) (racer_more (racer_alone run.worked zero_free) joined.other_more (of-free _ joined.other_more src (ap (λ (s : Held). s src) w.alone ∙ eq-eqb src src refl) joined.other_free))
+        let zero_free = free-within kept (only 0) run.executed.since (λ r is. ap kept (eqb-true r 0 is) ∙ t.zero_kept) (free-front kept run.executed.since joined.other_more (subst P longer_by free)) in
+        rw (longer_by, ← start_is) (racer_more (racer_alone run.executed zero_free) joined.other_more (of-free _ joined.other_more src (ap (λ (s : Held). s src) w.alone ∙ eq-eqb src src refl) joined.other_free))

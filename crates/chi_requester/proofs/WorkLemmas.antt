@@ -4,24 +4,24 @@ use Rattle.std.proofs.lemmas.Grind.{flat_map-append}
 use Rattle.chi_fields.specs.declared.refusal.Refusal.{Refusal}
 use Rattle.chi_fields.specs.declared.request.Request.{Request}
 use Rattle.chi_fields.specs.Extent.{granule_of}
-use Rattle.chi_fields.specs.Operation.{Operation}
-use Rattle.chi_fields.specs.Refusal.{access}
+use Rattle.chi_fields.specs.Access.{Access}
+use Rattle.chi_fields.specs.Refusal.{access_of}
 use Rattle.chi_lanes.specs.declared.reply.Reply.{Reply}
 use Rattle.chi_history.specs.declared.entry.Entry.{Entry}
 use Rattle.chi_history.specs.declared.line.Line.{Line}
 use Rattle.chi_history.specs.declared.line.Line.TheVariants.{Completed, Refused, Retried}
 use Rattle.chi_history.specs.declared.opening.Opening.{Opening}
-use Rattle.chi_history.specs.Held.{Held, without}
+use Rattle.chi_history.specs.NumberSets.{Held, without}
 use Rattle.chi_history.specs.History.{IsFreeOf, end, end_from, hits, hits_from, of, one_if}
 use Rattle.chi_history.specs.Lines.{entries, entry_of, line_entries, retried}
-use Rattle.chi_history.specs.Served.{Completes, Retries, entry}
+use Rattle.chi_history.specs.HomeClauses.{Completes, Retries, entry}
 use Rattle.chi_history.proofs.HeldLemmas.{without-held}
 use Rattle.chi_history.proofs.HistoryLemmas.{end_from-append, free-append, free-within, hits-append, hits-free, of-append, of-free}
 use Rattle.chi_requester.specs.declared.fault.WorkFault.{WorkFault}
 use Rattle.chi_requester.specs.declared.policy.Policy.{Policy}
-use Rattle.chi_requester.specs.Told.{Told}
-use Rattle.chi_requester.specs.Work.{AreLeft, IsWorked}
-use Rattle.chi_requester.proofs.ToldLemmas.{retried-append, retried_one, told-append}
+use Rattle.chi_requester.specs.Reports.{Told}
+use Rattle.chi_requester.specs.Work.{AreLeft, IsExecuted}
+use Rattle.chi_requester.proofs.ReportLemmas.{retried-append, retried_one, told-append}
 
 -- after a fault some requests are left
 pub are_left-err : (result : Result (Unit {0}) WorkFault) (rest : List Request) → IsErr result → rest ≢ [] → AreLeft result rest
@@ -34,8 +34,8 @@ drop-within [] i within left = absurd (omega arith)
 drop-within (q ∷ qs) i within left = let e = drop-cons (q ∷ qs) i q within in cc
 
 -- the completion of a request is one entry
-pub entries_one : (q : Request) (a : Operation) (reply : Reply) → access q ≡ Some a → entries (Completed q reply ∷ []) ≡ entry q.src a reply ∷ []
-entries_one q a reply is = ap (λ (x : Option Operation). entry_of q reply x ++ []) is
+pub entries_one : (q : Request) (a : Access) (reply : Reply) → access_of q ≡ Some a → entries (Completed q reply ∷ []) ≡ entry q.src a reply ∷ []
+entries_one q a reply is = ap (λ (x : Option Access). entry_of q reply x ++ []) is
 
 -- a set has no number that was taken out
 pub without-src : (src : ℕ) (held : Held) → without src held src ≡ false
@@ -55,14 +55,14 @@ pub record Adds (o : Opening) (limit : ℕ) (held : Held) (src : ℕ) (seen seen
   pub paid : (g : ℕ) → limit * retried o.region lines g ≤ hits o seen since g held
 
 -- the work on requests, from what it adds and what is told of them
-pub worked_from : (o : Opening) (policy : Policy) (limit : ℕ) (held : Held) (src : ℕ) (seen seen' : List Entry) (qs : List Request) (lines : List Line)
-    → Adds o limit held src seen seen' lines → Told o.region policy limit qs lines → IsWorked o policy limit held src seen seen' qs lines
-worked_from o policy limit held src seen seen' qs lines x told =
+pub executed_from : (o : Opening) (policy : Policy) (limit : ℕ) (held : Held) (src : ℕ) (seen seen' : List Entry) (qs : List Request) (lines : List Line)
+    → Adds o limit held src seen seen' lines → Told o.region policy limit qs lines → IsExecuted o policy limit held src seen seen' qs lines
+executed_from o policy limit held src seen seen' qs lines x told =
     record { since = x.since; grown = x.grown; mine = x.mine; free = x.free; paid = x.paid; told = told }
 
 -- what the work on requests adds
 pub adds_of : (o : Opening) (policy : Policy) (limit : ℕ) (held : Held) (src : ℕ) (seen seen' : List Entry) (qs : List Request) (lines : List Line)
-    → IsWorked o policy limit held src seen seen' qs lines → Adds o limit held src seen seen' lines
+    → IsExecuted o policy limit held src seen seen' qs lines → Adds o limit held src seen seen' lines
 adds_of o policy limit held src seen seen' qs lines w = record { since = w.since; grown = w.grown; mine = w.mine; free = w.free; paid = w.paid }
 
 -- where there are no lines nothing is added
@@ -77,8 +77,8 @@ unfolding of IsFreeOf hits_from
 adds_refused o limit held src seen q fault = record { since = []; grown = sym (append-nil seen); mine = refl; free = tt; paid = λ g. omega arith }
 
 -- a completion adds the request's entry
-pub adds_done : (o : Opening) (limit : ℕ) (held : Held) (seen seen' : List Entry) (q : Request) (a : Operation) (reply : Reply) (lost : ℕ)
-    → held q.src ≡ true → access q ≡ Some a → Completes o held seen seen' q.src a reply lost → Adds o limit held q.src seen seen' (Completed q reply ∷ [])
+pub adds_done : (o : Opening) (limit : ℕ) (held : Held) (seen seen' : List Entry) (q : Request) (a : Access) (reply : Reply) (lost : ℕ)
+    → held q.src ≡ true → access_of q ≡ Some a → Completes o held seen seen' q.src a reply lost → Adds o limit held q.src seen seen' (Completed q reply ∷ [])
 unfolding of IsFreeOf
 adds_done o limit held seen seen' q a reply lost holds is done = record {
   since = done.0 ++ made;
@@ -95,8 +95,8 @@ adds_done o limit held seen seen' q a reply lost holds is done = record {
     own = of-append done.0 made q.src ∙ rw (of-free held done.0 q.src holds done.2, eq-eqb q.src q.src refl) refl
 
 -- a RetryAck adds none, and was paid for
-pub adds_retried : (o : Opening) (limit : ℕ) (held : Held) (seen seen' : List Entry) (q : Request) (a : Operation) (lost : ℕ)
-    → held q.src ≡ true → access q ≡ Some a → Retries o held seen seen' a lost → lost ≡ limit → Adds o limit held q.src seen seen' (Retried q ∷ [])
+pub adds_retried : (o : Opening) (limit : ℕ) (held : Held) (seen seen' : List Entry) (q : Request) (a : Access) (lost : ℕ)
+    → held q.src ≡ true → access_of q ≡ Some a → Retries o held seen seen' a lost → lost ≡ limit → Adds o limit held q.src seen seen' (Retried q ∷ [])
 adds_retried o limit held seen seen' q a lost holds is retry whole = record {
   since = retry.0;
   grown = retry.1;
@@ -138,15 +138,15 @@ adds-append o limit held src seen seen' seen'' xs ys first second = record {
         rw count (omega arith)
 
 -- no request
-pub worked_none : (o : Opening) (policy : Policy) (limit : ℕ) (held : Held) (src : ℕ) (seen : List Entry) → IsWorked o policy limit held src seen seen [] []
+pub executed_none : (o : Opening) (policy : Policy) (limit : ℕ) (held : Held) (src : ℕ) (seen : List Entry) → IsExecuted o policy limit held src seen seen [] []
 unfolding Told
-worked_none o policy limit held src seen = worked_from o policy limit held src seen seen [] [] (adds_none o limit held src seen) refl
+executed_none o policy limit held src seen = executed_from o policy limit held src seen seen [] [] (adds_none o limit held src seen) refl
 
 -- some requests, and then others
-pub worked-append : (o : Opening) (policy : Policy) (limit : ℕ) (held : Held) (src : ℕ) (seen seen' seen'' : List Entry) (qs rs : List Request) (xs ys : List Line)
-    → IsWorked o policy limit held src seen seen' qs xs → IsWorked o policy limit held src seen' seen'' rs ys
-    → IsWorked o policy limit held src seen seen'' (qs ++ rs) (xs ++ ys)
-worked-append o policy limit held src seen seen' seen'' qs rs xs ys first second =
-    worked_from o policy limit held src seen seen'' (qs ++ rs) (xs ++ ys)
+pub executed-append : (o : Opening) (policy : Policy) (limit : ℕ) (held : Held) (src : ℕ) (seen seen' seen'' : List Entry) (qs rs : List Request) (xs ys : List Line)
+    → IsExecuted o policy limit held src seen seen' qs xs → IsExecuted o policy limit held src seen' seen'' rs ys
+    → IsExecuted o policy limit held src seen seen'' (qs ++ rs) (xs ++ ys)
+executed-append o policy limit held src seen seen' seen'' qs rs xs ys first second =
+    executed_from o policy limit held src seen seen'' (qs ++ rs) (xs ++ ys)
     (adds-append o limit held src seen seen' seen'' xs ys (adds_of o policy limit held src seen seen' qs xs first) (adds_of o policy limit held src seen' seen'' rs ys second))
     (told-append o.region policy limit qs rs xs ys first.told second.told)

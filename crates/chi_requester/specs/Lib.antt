@@ -1,4 +1,4 @@
-pub mod Told
+pub mod Reports
 pub mod Work
 pub mod Serial
 pub mod Team

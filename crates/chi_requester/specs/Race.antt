@@ -5,7 +5,7 @@ use Rattle.chi_history.specs.declared.entry.Entry.{Entry}
 use Rattle.chi_history.specs.declared.line.Line.{Line}
 use Rattle.chi_history.specs.declared.line.Line.TheVariants.{Completed, Refused, Retried}
 use Rattle.chi_history.specs.declared.opening.Opening.{Opening}
-use Rattle.chi_history.specs.Held.{Held, only, union}
+use Rattle.chi_history.specs.NumberSets.{Held, only, union}
 use Rattle.chi_history.specs.History.{IsLegal, of}
 use Rattle.chi_history.specs.Lines.{entries}
 use Rattle.chi_requester.specs.declared.fault.WorkFault.{WorkFault}
@@ -13,7 +13,7 @@ use Rattle.chi_requester.specs.declared.policy.Policy.{Policy}
 use Rattle.chi_requester.specs.declared.race_of_four.RaceFour.{RaceFour}
 use Rattle.chi_requester.specs.declared.race_of_two.Race.{Race}
 use Rattle.chi_requester.specs.Team.{AreLeftBy}
-use Rattle.chi_requester.specs.Told.{Told}
+use Rattle.chi_requester.specs.Reports.{Told}
 use Rattle.chi_requester.specs.Work.{IsRacer, IsShare, Share}
 
 abbrev pub one_and_two : Held

@@ -13,9 +13,9 @@ use Rattle.chi_requester.specs.Work.{AreLeft}
 -- are theirs, one after another from the memory at the end of what was seen, and the history went on by just
 -- the entries of these lines.
 pub record IsSerialRun (result : Result (Unit {0}) WorkFault) (o : Opening) (all : List Request) (seen seen' : List Entry) (lines lines' : List Line) : Type 0 where
-  pub worked : List Request
+  pub executed : List Request
   pub left : List Request
-  pub parts : worked ++ left ≡ all
+  pub parts : executed ++ left ≡ all
   pub are_left : AreLeft result left
-  pub told : lines' ≡ lines ++ serial o.region worked (end o seen)
-  pub grown : seen' ≡ seen ++ entries (serial o.region worked (end o seen))
+  pub told : lines' ≡ lines ++ serial o.region executed (end o seen)
+  pub grown : seen' ≡ seen ++ entries (serial o.region executed (end o seen))

@@ -4,7 +4,7 @@ use Rattle.chi_fields.specs.declared.request.Request.{Request}
 use Rattle.chi_history.specs.declared.entry.Entry.{Entry}
 use Rattle.chi_history.specs.declared.line.Line.{Line}
 use Rattle.chi_history.specs.declared.opening.Opening.{Opening}
-use Rattle.chi_history.specs.Held.{Held, only, union}
+use Rattle.chi_history.specs.NumberSets.{Held, only, union}
 use Rattle.chi_history.specs.History.{IsFreeOf}
 use Rattle.chi_requester.specs.declared.fault.WorkFault.{WorkFault}
 use Rattle.chi_requester.specs.declared.policy.Policy.{Policy}
@@ -22,7 +22,7 @@ pub record HasEnded {S G A : Type 0} (Belongs : S → Type 0) (held : S → Held
     (worker : Worker S G A) (work : WorkEnd S A) : Type 0 where
   pub own : Belongs work.seat
   pub alone : held work.seat ≡ only worker.src
-  pub worked : IsWorkRun work.outcome o policy limit (only worker.src) worker.src all (seen worker.seat) (seen work.seat) worker.lines.items work.lines.items
+  pub executed : IsWorkRun work.outcome o policy limit (only worker.src) worker.src all (seen worker.seat) (seen work.seat) worker.lines.items work.lines.items
 
 -- the requests of the set that were not worked: none after Ok, and at least one after Memory
 abbrev pub AreLeftBy : Result (Unit {0}) WorkFault → Held → (ℕ → Share) → Type 0

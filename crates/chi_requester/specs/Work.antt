@@ -1,24 +1,24 @@
 -- what a requester's work adds to its lines and to the history
 use Rattle.std.specs.Prelude.{◌≡◌, ◌≢◌, ℕ, ◌*◌, ◌==◌, ◌≤◌, List, [], ◌∷◌, ◌++◌, filter, Result, Ok, Err}
 use Rattle.chi_fields.specs.declared.request.Request.{Request}
-use Rattle.chi_fields.specs.Operation.{Operation}
+use Rattle.chi_fields.specs.Access.{Access}
 use Rattle.chi_lanes.specs.declared.reply.Reply.{Reply}
 use Rattle.chi_history.specs.declared.entry.Entry.{Entry}
 use Rattle.chi_history.specs.declared.line.Line.{Line}
 use Rattle.chi_history.specs.declared.line.Line.TheVariants.{Completed}
 use Rattle.chi_history.specs.declared.opening.Opening.{Opening}
-use Rattle.chi_history.specs.Held.{Held, only, union, without}
+use Rattle.chi_history.specs.NumberSets.{Held, only, union, without}
 use Rattle.chi_history.specs.History.{IsFreeOf, hits, of}
 use Rattle.chi_history.specs.Lines.{entries, retried}
-use Rattle.chi_history.specs.Served.{Completes}
+use Rattle.chi_history.specs.HomeClauses.{Completes}
 use Rattle.chi_requester.specs.declared.fault.WorkFault.{WorkFault}
 use Rattle.chi_requester.specs.declared.policy.Policy.{Policy}
 use Rattle.chi_requester.specs.declared.policy.Policy.TheVariants.{Resend, Return}
-use Rattle.chi_requester.specs.Told.{Told}
+use Rattle.chi_requester.specs.Reports.{Told}
 
 -- the requests of one requester, in order
-abbrev pub requests_of : List Request → ℕ → List Request
-requests_of qs src = filter (λ q. q.src == src) qs
+abbrev pub own_requests : List Request → ℕ → List Request
+own_requests qs src = filter (λ q. q.src == src) qs
 
 -- the requests that were not worked: none after Ok, and at least one after Memory
 abbrev pub AreLeft : Result (Unit {0}) WorkFault → List Request → Type 0
@@ -27,7 +27,7 @@ AreLeft (Err _) rest = rest ≢ []
 
 -- what follows a RetryAck to the requester src: under Resend the request is completed on the credit, and the
 -- line that tells so is appended; under Return nothing more is done
-abbrev pub IsFollowed : Policy → Opening → Held → ℕ → List Entry → List Entry → Request → Operation → List Line → List Line → Type 0
+abbrev pub IsFollowed : Policy → Opening → Held → ℕ → List Entry → List Entry → Request → Access → List Line → List Line → Type 0
 IsFollowed Resend o held src seen seen' q a lines lines' =
     (reply : Reply) × (lines' ≡ lines ++ Completed q reply ∷ []) × Completes o held seen seen' src a reply 0
 IsFollowed Return o held src seen seen' q a lines lines' = (lines' ≡ lines) × (seen' ≡ seen)
@@ -35,7 +35,7 @@ IsFollowed Return o held src seen seen' q a lines lines' = (lines' ≡ lines) ×
 -- The lines tell of these requests of the requester src, in order. The history went on by the entries of the
 -- completed ones, and by entries of numbers that the seat does not hold. Each RetryAck was paid for by as many
 -- changes of its granule as the limit says, made by others.
-pub record IsWorked (o : Opening) (policy : Policy) (limit : ℕ) (held : Held) (src : ℕ) (seen seen' : List Entry) (qs : List Request) (lines : List Line) : Type 0 where
+pub record IsExecuted (o : Opening) (policy : Policy) (limit : ℕ) (held : Held) (src : ℕ) (seen seen' : List Entry) (qs : List Request) (lines : List Line) : Type 0 where
   pub since : List Entry
   pub grown : seen' ≡ seen ++ since
   pub mine : entries lines ≡ of since src
@@ -48,11 +48,11 @@ pub record IsWorked (o : Opening) (policy : Policy) (limit : ℕ) (held : Held) 
 pub record IsWorkRun (result : Result (Unit {0}) WorkFault) (o : Opening) (policy : Policy) (limit : ℕ) (held : Held) (src : ℕ) (all : List Request) (seen seen' : List Entry) (lines lines' : List Line) : Type 0 where
   pub done : List Request
   pub left : List Request
-  pub parts : done ++ left ≡ requests_of all src
+  pub parts : done ++ left ≡ own_requests all src
   pub are_left : AreLeft result left
   pub appended : List Line
   pub kept : lines' ≡ lines ++ appended
-  pub worked : IsWorked o policy limit held src seen seen' done appended
+  pub executed : IsExecuted o policy limit held src seen seen' done appended
 
 -- The lines tell of these requests of src, and what src did after the history seen is what they tell of. Each
 -- RetryAck was paid for by as many changes of its granule as the limit says, made by others than 0 and src.
@@ -69,5 +69,5 @@ pub record Share : Type 0 where
 
 -- The requests of src are those worked and then those not worked. Earlier lines stay.
 pub record IsShare (all : List Request) (src : ℕ) (lines lines' : List Line) (share : Share) : Type 0 where
-  pub parts : share.done ++ share.left ≡ requests_of all src
+  pub parts : share.done ++ share.left ≡ own_requests all src
   pub kept : lines' ≡ lines ++ share.appended

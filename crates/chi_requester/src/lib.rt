@@ -5,14 +5,14 @@ mod fault;
 mod policy;
 mod race_of_four;
 mod race_of_two;
+mod requester_work;
 mod serial;
 mod single;
 mod team;
-mod working;
 
 pub use fault::WorkFault;
 pub use policy::Policy;
 pub use race_of_four::{RaceFour, race_four};
 pub use race_of_two::{Race, race_two};
+pub use requester_work::work;
 pub use serial::run_serial;
-pub use working::work;

@@ -1,14 +1,14 @@
 //! Four requesters who work at the same time, and 0 after them.
 
 ghost use Rattle.std.specs.Prelude.{◌≡◌, ◌≤◌, [], All};
-ghost use Rattle.chi_history.specs.Held.{below, without};
+ghost use Rattle.chi_history.specs.NumberSets.{below, without};
 ghost use Rattle.chi_requester.specs.Race.{IsRaceRun, lines_of_four, one_to_four};
 ghost use Rattle.chi_requester.specs.Team.{HasEnded, IsReady, IsTeamRun};
 
 use crate::fault::WorkFault;
 use crate::policy::Policy;
+use crate::requester_work::work;
 use crate::team::{WorkEnd, Worker, work_both};
-use crate::working::work;
 use chi_fields::Request;
 use chi_history::{Gate, Home, Line, NoGate};
 use std::alloc::Allocator;

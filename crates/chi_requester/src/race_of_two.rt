@@ -1,14 +1,14 @@
 //! Two requesters who work at the same time, and 0 after them.
 
 ghost use Rattle.std.specs.Prelude.{◌≡◌, ◌≤◌, [], All};
-ghost use Rattle.chi_history.specs.Held.{below, without};
+ghost use Rattle.chi_history.specs.NumberSets.{below, without};
 ghost use Rattle.chi_requester.specs.Race.{IsRaceRun, lines_of, one_and_two};
 ghost use Rattle.chi_requester.specs.Team.{IsTeamRun};
 
 use crate::fault::WorkFault;
 use crate::policy::Policy;
+use crate::requester_work::work;
 use crate::team::{Worker, work_both};
-use crate::working::work;
 use chi_fields::Request;
 use chi_history::{Gate, Home, Line, NoGate};
 use std::alloc::Allocator;

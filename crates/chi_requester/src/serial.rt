@@ -1,7 +1,7 @@
 //! Requests that are worked one after another.
 
 ghost use Rattle.std.specs.Prelude.{◌≡◌};
-ghost use Rattle.chi_history.specs.Held.{AllFrom, below};
+ghost use Rattle.chi_history.specs.NumberSets.{AllFrom, below};
 ghost use Rattle.chi_requester.specs.Serial.{IsSerialRun};
 
 use crate::fault::WorkFault;

@@ -3,7 +3,7 @@
 ghost use Rattle.std.specs.Prelude.{◌≡◌, ◌+◌, ◌≤◌, ◌++◌, List, [], ◌∷◌, true, IsTrue, MatchResult, vec_len, vec_capacity};
 ghost use Rattle.chi_fields.specs.Extent.{lies_in};
 ghost use Rattle.chi_history.specs.declared.line.Line.{Line};
-ghost use Rattle.chi_requester.specs.Work.{IsFollowed, IsWorked};
+ghost use Rattle.chi_requester.specs.Work.{IsFollowed, IsExecuted};
 
 use crate::fault::WorkFault;
 use crate::policy::Policy;
@@ -56,8 +56,8 @@ fn serve_request<H: Home, R: Wait, G: Gate, A: Allocator>(
     requires room { vec_len lines.old + 2 ≤ vec_capacity lines.old }
     ensures own { H.belongs home.now seat.new }
     ensures held { H.held seat.new ≡ H.held seat.old }
-    ensures worked { (piece : List Line) × (lines.new.items ≡ lines.old.items ++ piece)
-        × IsWorked (H.opening home.now) policy (H.limit home.now) (H.held seat.old) request.now.src
+    ensures executed { (piece : List Line) × (lines.new.items ≡ lines.old.items ++ piece)
+        × IsExecuted (H.opening home.now) policy (H.limit home.now) (H.held seat.old) request.now.src
         (H.seen seat.old) (H.seen seat.new) (request.now ∷ []) piece }
 {
     match decode(request, &home.region()) {
@@ -88,9 +88,9 @@ pub(crate) fn work_request<H: Home, R: Wait, G: Gate, A: Allocator>(
     requires holds { H.held seat.old request.now.src ≡ true }
     ensures own { H.belongs home.now seat.new }
     ensures held { H.held seat.new ≡ H.held seat.old }
-    ensures worked { MatchResult result
+    ensures executed { MatchResult result
         (λ _. (piece : List Line) × (lines.new.items ≡ lines.old.items ++ piece)
-        × IsWorked (H.opening home.now) policy (H.limit home.now) (H.held seat.old) request.now.src
+        × IsExecuted (H.opening home.now) policy (H.limit home.now) (H.held seat.old) request.now.src
         (H.seen seat.old) (H.seen seat.new) (request.now ∷ []) piece)
         (λ _. (lines.new.items ≡ lines.old.items) × (H.seen seat.new ≡ H.seen seat.old)) }
 {

@@ -4,7 +4,7 @@ ghost use Rattle.chi_requester.specs.Team.{HasEnded, IsReady};
 
 use crate::fault::WorkFault;
 use crate::policy::Policy;
-use crate::working::work;
+use crate::requester_work::work;
 use chi_fields::Request;
 use chi_history::{Gate, Home, Line};
 use std::alloc::Allocator;

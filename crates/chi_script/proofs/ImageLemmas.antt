@@ -17,7 +17,7 @@ use Rattle.chi_lanes.proofs.Digits.{little_bytes_little, little_little_bytes}
 use Rattle.chi_lanes.proofs.MaskedBytes.{slice_index-little_bytes}
 use Rattle.chi_lanes.proofs.StdBytes.{from_le_bytes_is}
 use Rattle.chi_history.specs.History.{image_byte}
-use Rattle.chi_script.specs.Laws.{ImageHasBytes}
+use Rattle.chi_script.specs.ImageLaws.{ImageHasBytes}
 use Rattle.chi_script.specs.Script.{image_of, words_of}
 
 -- eight bytes

@@ -1,8 +1,8 @@
 pub mod Decimal
 pub mod GranuleWords
 pub mod ImageLemmas
-pub mod OnScript
-pub mod OnText
+pub mod RequesterBounds
+pub mod ScriptExamples
+pub mod TextExamples
 pub mod ValueLemmas
-pub mod Within
-pub mod Written
+pub mod WriterBytesLemmas

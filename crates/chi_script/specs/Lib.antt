@@ -1,7 +1,7 @@
-pub mod Laws
+pub mod ImageLaws
 pub mod Member
 pub mod Piece
 pub mod RunText
 pub mod Script
 pub mod Transcript
-pub mod Written
+pub mod WriterBytes

@@ -1,7 +1,7 @@
 //! Bytes to a writer, through a page.
 
 ghost use Rattle.std.specs.Prelude.{◌≡◌, [], OnOk};
-ghost use Rattle.chi_script.specs.Written.{Puts, Writes};
+ghost use Rattle.chi_script.specs.WriterBytes.{Puts, Writes};
 
 use crate::page::{PAGE, Page};
 use std::io::Write;

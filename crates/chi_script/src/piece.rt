@@ -3,7 +3,7 @@
 ghost use Rattle.std.specs.Prelude.{◌≡◌, ◌≤◌, length, drop, decimal, flat_map};
 ghost use Rattle.hex.specs.Hex.{encode_lower};
 ghost use Rattle.chi_script.specs.Piece.{piece_text};
-ghost use Rattle.chi_script.specs.Written.{Writes};
+ghost use Rattle.chi_script.specs.WriterBytes.{Writes};
 
 use crate::device::{WriteFault, put_bytes};
 use crate::page::Page;
@@ -13,7 +13,7 @@ use std::io::Write;
 // significant byte first, a granule's word with its byte at the lowest address first, or a data packet.
 #[derive(Clone, Copy)]
 pub(crate) enum Piece {
-    Words(&'static str),
+    Text(&'static str),
     Decimal(u8),
     Byte(u8),
     Address(u64),
@@ -61,7 +61,7 @@ fn put_piece<W: Write>(to: &mut W, page: &mut Page, piece: Piece) -> Result<(), 
     ensures { Writes (W.contents to.old) page.old (W.contents to.new) page.new result (piece_text piece) }
 {
     match piece {
-        Piece::Words(words) => put_bytes(to, page, words.as_bytes()),
+        Piece::Text(text) => put_bytes(to, page, text.as_bytes()),
         Piece::Decimal(number) => put_decimal(to, page, number),
         Piece::Byte(byte) => put_hex(to, page, &[byte]),
         Piece::Address(addr) => put_hex(to, page, &addr.to_be_bytes()),

@@ -2,7 +2,7 @@
 
 ghost use Rattle.std.specs.Prelude.{◌≡◌, ◌≢◌, ◌+◌, Some, None, length, IfOk, IfErr, Ok, Err};
 ghost use Rattle.serde_json.specs.View.{view};
-ghost use Rattle.chi_history.specs.Held.{AllFrom, below};
+ghost use Rattle.chi_history.specs.NumberSets.{AllFrom, below};
 ghost use Rattle.chi_script.specs.Script.{json_value, object_script, script};
 
 use crate::fault::{MOST_REQUESTS, ScriptFault};
@@ -138,7 +138,7 @@ fn object_script(alloc: Global, object: &Value, top: u8) -> Result<Script, Scrip
 /// ```
 /// let script = read_script(alloc, b"{\"base\":4096,\"granules\":8,\"requests\":[]}", 7)?;
 /// ```
-#[tactic(auto, unfolding(crate::specs::Script::script), using(crate::proofs::Within::object_from))]
+#[tactic(auto, unfolding(crate::specs::Script::script), using(crate::proofs::RequesterBounds::object_from))]
 pub fn read_script(alloc: Global, text: &[u8], top: u8) -> Result<Script, ScriptFault>
     ensures ok { IfOk result (λ s. script text.now top ≡ Ok s) }
     ensures fault { IfErr result (λ f. f ≢ ScriptFault.Memory → script text.now top ≡ Err f) }

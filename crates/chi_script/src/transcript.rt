@@ -2,7 +2,7 @@
 
 ghost use Rattle.std.specs.Prelude.{◌≡◌, ◌+◌, ◌*◌, ◌^◌, ◌≤◌, ◌++◌, codes, length};
 ghost use Rattle.chi_script.specs.Transcript.{request_of_line, request_text, outcome_text, line_text, text, granule_text, memtext};
-ghost use Rattle.chi_script.specs.Written.{Puts, Writes};
+ghost use Rattle.chi_script.specs.WriterBytes.{Puts, Writes};
 
 use crate::device::{WriteFault, put_page};
 use crate::page::Page;
@@ -32,17 +32,17 @@ fn put_request<W: Write>(to: &mut W, page: &mut Page, request: &Request) -> Resu
         page,
         &[
             Piece::Decimal(request.src),
-            Piece::Words(" "),
+            Piece::Text(" "),
             Piece::Decimal(request.txn),
-            Piece::Words(" "),
+            Piece::Text(" "),
             Piece::Byte(request.opcode),
-            Piece::Words(" "),
-            Piece::Words(op_name(request.opcode)),
-            Piece::Words(" "),
+            Piece::Text(" "),
+            Piece::Text(op_name(request.opcode)),
+            Piece::Text(" "),
             Piece::Decimal(request.size),
-            Piece::Words(" "),
+            Piece::Text(" "),
             Piece::Address(request.addr),
-            Piece::Words(" "),
+            Piece::Text(" "),
         ],
     )
 }
@@ -52,15 +52,15 @@ fn put_outcome<W: Write>(to: &mut W, page: &mut Page, line: &Line) -> Result<(),
     ensures { Writes (W.contents to.old) page.old (W.contents to.new) page.new result (outcome_text line.now ++ codes "\n") }
 {
     match line {
-        Line::Completed(_, Reply::Comp) => put_pieces(to, page, &[Piece::Words("comp\n")]),
+        Line::Completed(_, Reply::Comp) => put_pieces(to, page, &[Piece::Text("comp\n")]),
         Line::Completed(_, Reply::CompData(lanes)) => {
             put_pieces(
                 to,
                 page,
                 &[
-                    Piece::Words("data "),
+                    Piece::Text("data "),
                     Piece::Lanes(*lanes),
-                    Piece::Words("\n"),
+                    Piece::Text("\n"),
                 ],
             )
         }
@@ -69,13 +69,13 @@ fn put_outcome<W: Write>(to: &mut W, page: &mut Page, line: &Line) -> Result<(),
                 to,
                 page,
                 &[
-                    Piece::Words("refused "),
-                    Piece::Words(refusal_name(*refusal)),
-                    Piece::Words("\n"),
+                    Piece::Text("refused "),
+                    Piece::Text(refusal_name(*refusal)),
+                    Piece::Text("\n"),
                 ],
             )
         }
-        Line::Retried(_) => put_pieces(to, page, &[Piece::Words("retry\n")]),
+        Line::Retried(_) => put_pieces(to, page, &[Piece::Text("retry\n")]),
     }
 }
 
@@ -110,11 +110,11 @@ fn put_granule<W: Write>(
         to,
         page,
         &[
-            Piece::Words("m "),
+            Piece::Text("m "),
             Piece::Address(addr),
-            Piece::Words(" "),
+            Piece::Text(" "),
             Piece::Word(word),
-            Piece::Words("\n"),
+            Piece::Text("\n"),
         ],
     )
 }

@@ -1,7 +1,7 @@
 //! Scripts of additions, whose requesters a contract knows since they were read.
 
 ghost use Rattle.std.specs.Prelude.{◌+◌, IfOk};
-ghost use Rattle.chi_history.specs.Held.{AllFrom, below};
+ghost use Rattle.chi_history.specs.NumberSets.{AllFrom, below};
 
 use chi_script::{Script, read_script};
 use std::test::Fail;

@@ -2,7 +2,7 @@
 
 ghost use Rattle.std.specs.Prelude.{◌≡◌, true};
 ghost use Rattle.chi_history.specs.Views.{has};
-ghost use Rattle.chi_bookstore.specs.Seats.{IsSeatOf};
+ghost use Rattle.chi_bookstore.specs.BookSeats.{IsSeatOf};
 
 use chi_bookstore::{BookSeat, BookStore};
 use chi_fields::{Refusal, Region, Request, decode};

@@ -1,7 +1,7 @@
 //! Four requesters at work at the same time, over both stores.
 
 ghost use Rattle.std.specs.Prelude.{◌≡◌, ◌≤◌};
-ghost use Rattle.chi_history.specs.Held.{below};
+ghost use Rattle.chi_history.specs.NumberSets.{below};
 
 use crate::additions::additions;
 use crate::work_tests::{STORE_ADD, completed};

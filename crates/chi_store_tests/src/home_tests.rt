@@ -1,7 +1,7 @@
 //! Both stores by their calls: generic callers of a home, and two threads whose requests differ.
 
 ghost use Rattle.std.specs.Prelude.{◌≡◌, ◌≤◌};
-ghost use Rattle.chi_history.specs.Held.{below};
+ghost use Rattle.chi_history.specs.NumberSets.{below};
 
 use chi_bookstore::BookStore;
 use chi_fields::{Region, Request, decode};

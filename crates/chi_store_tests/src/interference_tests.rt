@@ -298,7 +298,7 @@ fn other_calls_are_no_interference(rt: HostRuntime) -> Result<(), Fail> {
 
 // The lines of so many fetch-adds of 5, worked with so many tries, where requester 1 adds 1 at each pause; the
 // first granule after them; and how many pauses there were.
-fn worked<T: AllocGlobal + Abort + Wait>(
+fn executed<T: AllocGlobal + Abort + Wait>(
     rt: &T,
     attempts: u8,
     policy: Policy,
@@ -321,12 +321,12 @@ fn worked<T: AllocGlobal + Abort + Wait>(
 #[test]
 fn interfering_gate(rt: HostRuntime) -> Result<(), Fail> {
     let fetch = fetch_add();
-    let (lines, after, tries) = worked(&rt, 2, Policy::Resend, &[fetch])?;
+    let (lines, after, tries) = executed(&rt, 2, Policy::Resend, &[fetch])?;
     let want = [Line::Retried(fetch), Line::Completed(fetch, one_byte(2))];
     assert_eq!(rt; lines.as_slice(), want.as_slice());
     assert_eq!(rt; after, one_byte(7));
     assert_eq!(rt; tries.as_slice(), [1, 2].as_slice());
-    let (lines, after, tries) = worked(&rt, 2, Policy::Return, &[fetch])?;
+    let (lines, after, tries) = executed(&rt, 2, Policy::Return, &[fetch])?;
     let want = [Line::Retried(fetch)];
     assert_eq!(rt; lines.as_slice(), want.as_slice());
     assert_eq!(rt; after, one_byte(2));
@@ -336,7 +336,7 @@ fn interfering_gate(rt: HostRuntime) -> Result<(), Fail> {
 
 #[test]
 fn interfering_gate_as_text(rt: HostRuntime) -> Result<(), Fail> {
-    let (lines, _after, _tries) = worked(&rt, 2, Policy::Resend, &[fetch_add()])?;
+    let (lines, _after, _tries) = executed(&rt, 2, Policy::Resend, &[fetch_add()])?;
     let mut to: Vec<u8> = Vec::new(rt.alloc());
     write_lines(&mut to, lines.as_slice())?;
     let want =
@@ -348,11 +348,11 @@ fn interfering_gate_as_text(rt: HostRuntime) -> Result<(), Fail> {
 #[test]
 fn work_under_interference(rt: HostRuntime) -> Result<(), Fail> {
     let fetch = fetch_add();
-    let (lines, after, tries) = worked(&rt, 1, Policy::Return, &[fetch; 3])?;
+    let (lines, after, tries) = executed(&rt, 1, Policy::Return, &[fetch; 3])?;
     assert_eq!(rt; lines.as_slice(), [Line::Retried(fetch); 3].as_slice());
     assert_eq!(rt; after, one_byte(0x03));
     assert_eq!(rt; tries.as_slice(), [1, 1, 1].as_slice());
-    let (lines, after, tries) = worked(&rt, 1, Policy::Resend, &[fetch; 3])?;
+    let (lines, after, tries) = executed(&rt, 1, Policy::Resend, &[fetch; 3])?;
     let want = [
         Line::Retried(fetch),
         Line::Completed(fetch, one_byte(0x01)),

@@ -1,7 +1,7 @@
 //! Both stores opened on an image that is not zeros.
 
 ghost use Rattle.std.specs.Prelude.{◌≡◌, ◌≤◌};
-ghost use Rattle.chi_history.specs.Held.{below};
+ghost use Rattle.chi_history.specs.NumberSets.{below};
 
 use chi_bookstore::BookStore;
 use chi_fields::{Region, Request};

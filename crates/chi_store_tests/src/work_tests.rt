@@ -1,7 +1,7 @@
 //! Requesters' work over a store: two at once, and one that skips the others.
 
 ghost use Rattle.std.specs.Prelude.{◌≡◌, ◌≤◌};
-ghost use Rattle.chi_history.specs.Held.{below};
+ghost use Rattle.chi_history.specs.NumberSets.{below};
 
 use crate::additions::additions;
 use chi_bookstore::BookStore;

@@ -1,7 +1,7 @@
 //! Devices that fail under the program: an output that cannot be flushed, and errors that cannot be written.
 
-use super::{FETCH_ADD, words_of};
-use crate::words::run_words;
+use super::{FETCH_ADD, arguments_of};
+use crate::arguments::run_words;
 use std::io::{self, Write};
 use std::test::Fail;
 
@@ -24,15 +24,15 @@ impl Write for Unflushed {
 
 #[test]
 fn flush_that_fails(rt: HostRuntime) -> Result<(), Fail> {
-    for words in [["run"].as_slice(), ["--help"].as_slice()] {
-        let words = words_of(&rt, words)?;
+    for arguments in [["run"].as_slice(), ["--help"].as_slice()] {
+        let arguments = arguments_of(&rt, arguments)?;
         let mut to = Unflushed {
             taken: Vec::new(rt.alloc()),
         };
         let mut errors: Vec<u8> = Vec::new(rt.alloc());
         let status = run_words(
             &rt,
-            words.as_slice(),
+            arguments.as_slice(),
             &mut FETCH_ADD.as_bytes(),
             &mut to,
             &mut errors,
@@ -63,11 +63,11 @@ impl Write for Unwritable {
 
 #[test]
 fn errors_that_fail_are_ignored(rt: HostRuntime) -> Result<(), Fail> {
-    let words = words_of(&rt, &["run"])?;
+    let arguments = arguments_of(&rt, &["run"])?;
     let mut to: Vec<u8> = Vec::new(rt.alloc());
     let status = run_words(
         &rt,
-        words.as_slice(),
+        arguments.as_slice(),
         &mut "{}".as_bytes(),
         &mut to,
         &mut Unwritable,

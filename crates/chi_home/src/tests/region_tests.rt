@@ -42,11 +42,11 @@ fn last_and_next_told(rt: &impl AllocGlobal) -> Result<String, AllocError> {
 fn region_of_512_granules(rt: HostRuntime) -> Result<(), Fail> {
     let want = last_and_next_told(&rt)?;
     assert_eq!(rt; want.len(), LAST_AND_NEXT_LINES.len() + 18_432);
-    for words in [["run"].as_slice(), ["race"].as_slice()] {
-        let told = run_on(&rt, words, LAST_AND_NEXT)?;
-        assert_eq!(rt; told.status, 0);
-        assert_eq!(rt; told.out.as_slice(), want.as_bytes());
-        assert_eq!(rt; told.errors.len(), 0);
+    for arguments in [["run"].as_slice(), ["race"].as_slice()] {
+        let output = run_on(&rt, arguments, LAST_AND_NEXT)?;
+        assert_eq!(rt; output.status, 0);
+        assert_eq!(rt; output.out.as_slice(), want.as_bytes());
+        assert_eq!(rt; output.errors.len(), 0);
     }
     Ok(())
 }
@@ -70,8 +70,8 @@ fn region_of_512_granules_over_the_lock(rt: HostRuntime) -> Result<(), Fail> {
         let outcome = engine_race(&rt, &mut from, &mut to, &LOCK, gate, gate, gate, gate);
         assert_not_one_line(&rt, outcome, to.as_slice());
         for task in ["run", "race"] {
-            let words = [task, "--store", "lock"];
-            assert_script_refused(&rt, &words, text, "chihome: region is over one line\n")?;
+            let arguments = [task, "--store", "lock"];
+            assert_script_refused(&rt, &arguments, text, "chihome: region is over one line\n")?;
         }
     }
     Ok(())

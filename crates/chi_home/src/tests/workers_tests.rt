@@ -1,7 +1,7 @@
 //! Two and four workers by the words of the command line.
 
-use super::words_tests::task_of;
-use super::{assert_script_refused, assert_transcript, assert_words_refused};
+use super::arguments_tests::task_of;
+use super::{assert_arguments_refused, assert_script_refused, assert_transcript};
 use crate::command::Task;
 use chi_engine::{Options, StoreKind, Workers};
 use chi_requester::Policy;
@@ -34,43 +34,43 @@ const BY_FIVE: &str =
 const SRC_REFUSED: &str = "chihome: script member src is not as stated\n";
 
 #[test]
-fn race_of_five_requesters_by_words(rt: HostRuntime) -> Result<(), Fail> {
-    for words in [
+fn race_of_five_requesters_by_arguments(rt: HostRuntime) -> Result<(), Fail> {
+    for arguments in [
         ["race", "--workers", "4"].as_slice(),
         ["race", "--workers", "4", "--store", "lock"].as_slice(),
     ] {
-        assert_transcript(&rt, words, FIVE_REQUESTERS, FIVE_TRANSCRIPT)?;
+        assert_transcript(&rt, arguments, FIVE_REQUESTERS, FIVE_TRANSCRIPT)?;
     }
     Ok(())
 }
 
 #[test]
 fn requester_over_the_workers(rt: HostRuntime) -> Result<(), Fail> {
-    for words in [
+    for arguments in [
         ["race"].as_slice(),
         ["race", "--workers", "2"].as_slice(),
         ["race", "--workers", "2", "--store", "lock"].as_slice(),
     ] {
-        assert_script_refused(&rt, words, BY_THREE, SRC_REFUSED)?;
+        assert_script_refused(&rt, arguments, BY_THREE, SRC_REFUSED)?;
     }
-    for words in [
+    for arguments in [
         ["race", "--workers", "4"].as_slice(),
         ["race", "--workers", "4", "--store", "lock"].as_slice(),
     ] {
-        assert_script_refused(&rt, words, BY_FIVE, SRC_REFUSED)?;
+        assert_script_refused(&rt, arguments, BY_FIVE, SRC_REFUSED)?;
     }
     Ok(())
 }
 
 #[test]
 fn workers_refused(rt: HostRuntime) -> Result<(), Fail> {
-    assert_words_refused(&rt, &["run", "--workers", "2"])?;
-    assert_words_refused(&rt, &["race", "--workers", "3"])
+    assert_arguments_refused(&rt, &["run", "--workers", "2"])?;
+    assert_arguments_refused(&rt, &["race", "--workers", "3"])
 }
 
 #[test]
 fn options_of_workers(rt: HostRuntime) -> Result<(), Fail> {
-    for (words, task, workers) in [
+    for (arguments, task, workers) in [
         (
             ["race", "--workers", "4"].as_slice(),
             Task::Race,
@@ -90,7 +90,7 @@ fn options_of_workers(rt: HostRuntime) -> Result<(), Fail> {
             policy: Policy::Resend,
             workers,
         };
-        assert_eq!(rt; task_of(&rt, words)?, (task, want));
+        assert_eq!(rt; task_of(&rt, arguments)?, (task, want));
     }
     Ok(())
 }

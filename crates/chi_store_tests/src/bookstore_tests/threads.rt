@@ -3,7 +3,7 @@
 ghost use Rattle.std.specs.Prelude.{◌≡◌, true, IsTrue};
 ghost use Rattle.chi_fields.specs.Extent.{lies_in};
 ghost use Rattle.chi_history.specs.Views.{has};
-ghost use Rattle.chi_bookstore.specs.Seats.{IsSeatOf};
+ghost use Rattle.chi_bookstore.specs.BookSeats.{IsSeatOf};
 
 use super::{reply_to, request};
 use chi_bookstore::{BookSeat, BookStore};

@@ -9,8 +9,8 @@ compare_exchange_with-requires g c =
     let r = c.requires in (
       r.own,
       r.word,
-      book_exchanges t.key t.table_id.slots c.args.seat.now.id c.args.seat.now.me c.args.granule c.args.first c.args.next c.args.ask.now r.seat r.granule r.holds c.len-len.ensures.lawful r.fits r.applies,
+      book_exchanges t.key t.table_id.slots c.args.seat.now.id c.args.seat.now.me c.args.granule c.args.first c.args.next c.args.purpose.now r.seat r.granule r.holds c.len-len.ensures.lawful r.fits r.applies,
     )
 
 pub returns-clause-exchanged : goal.returns-clause-exchanged
-returns-clause-exchanged g c = c.compare_exchange_with.ensures.2.0 c.args.ask.now refl
+returns-clause-exchanged g c = c.compare_exchange_with.ensures.2.0 c.args.purpose.now refl

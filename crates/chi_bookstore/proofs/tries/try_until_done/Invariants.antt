@@ -3,4 +3,4 @@ use Rattle.chi_bookstore.proofs.LostTries.{IsAfter}
 use Rattle.chi_bookstore.proofs.tries.try_until_done.Given as goal
 
 abbrev pub invariant-tries : goal.invariant-tries
-invariant-tries g l = IsAfter l.home.values l.initial.seat l.ask.access 0 l.seat
+invariant-tries g l = IsAfter l.home.values l.initial.seat l.purpose.access 0 l.seat

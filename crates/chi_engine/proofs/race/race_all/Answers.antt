@@ -1,6 +1,6 @@
 -- every request was worked, by two workers or by four
 use Rattle.std.proofs.Common.{ap, refl, sym}
-use Rattle.chi_engine.specs.Race.{racers_of}
+use Rattle.chi_engine.specs.RaceTranscript.{racers_of}
 use Rattle.chi_engine.proofs.RaceLemmas.{raced_by}
 use Rattle.chi_engine.proofs.race.race_all.Goals as goal
 

@@ -2,7 +2,7 @@
 use Rattle.std.proofs.Common.{sym}
 use Rattle.std.proofs.lemmas.Grind.{flat_map-append}
 use Rattle.chi_script.specs.Transcript.{line_text, text}
-use Rattle.chi_engine.proofs.WrittenLemmas.{puts_cut, puts_then}
+use Rattle.chi_engine.proofs.WritingLemmas.{puts_cut, puts_then}
 use Rattle.chi_engine.proofs.race.write_pair.Goals as goal
 
 pub returns-in_err-write_lines : goal.returns-in_err-write_lines

@@ -1,7 +1,7 @@
 -- the lines of 0 and the memory lines after those of 1 to 4
 use Rattle.std.proofs.Common.{◌++◌}
 use Rattle.chi_script.specs.Transcript.{memtext, text}
-use Rattle.chi_engine.proofs.WrittenLemmas.{five_texts_then, puts_cut, puts_then}
+use Rattle.chi_engine.proofs.WritingLemmas.{five_texts_then, puts_cut, puts_then}
 use Rattle.chi_engine.proofs.race.write_race.Goals as goal
 
 pub returns-in_err-write_racers : goal.returns-in_err-write_racers

@@ -1,6 +1,6 @@
 -- the lines of 0 after those of 1 to 4
 use Rattle.chi_script.specs.Transcript.{text}
-use Rattle.chi_engine.proofs.WrittenLemmas.{five_texts, puts_cut, puts_then}
+use Rattle.chi_engine.proofs.WritingLemmas.{five_texts, puts_cut, puts_then}
 use Rattle.chi_engine.proofs.race.write_race_lines.Goals as goal
 
 pub returns-in_err-write_racers : goal.returns-in_err-write_racers

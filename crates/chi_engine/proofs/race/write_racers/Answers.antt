@@ -1,7 +1,7 @@
 -- the lines of 3 and 4 after those of 1 and 2
 use Rattle.std.proofs.Common.{refl, ◌++◌}
 use Rattle.chi_script.specs.Transcript.{text}
-use Rattle.chi_engine.proofs.WrittenLemmas.{puts_cut, puts_then}
+use Rattle.chi_engine.proofs.WritingLemmas.{puts_cut, puts_then}
 use Rattle.chi_engine.proofs.race.write_racers.Goals as goal
 
 pub returns-in_err-write_pair : goal.returns-in_err-write_pair

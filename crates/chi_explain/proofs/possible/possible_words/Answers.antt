@@ -1,7 +1,7 @@
 -- one word more, which some order leaves, or which is left out
 use Rattle.std.proofs.Common.{◌<◌, ℕ, List, All, length, get_or, slice_index, sym, ap, subst, ◌∙◌, arith, length-set, get_or-set_same}
 use Rattle.std.proofs.lemmas.List.Elements.{All-push}
-use Rattle.chi_history.specs.Opened.{opened}
+use Rattle.chi_history.specs.Openings.{opened}
 use Rattle.chi_explain.specs.Explains.{CanHold}
 use Rattle.chi_explain.proofs.possible.possible_words.Goals as goal
 use Rattle.chi_explain.proofs.possible.possible_words.Goals.{then-branch+in_ok-push, else-branch}

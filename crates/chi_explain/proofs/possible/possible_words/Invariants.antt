@@ -1,6 +1,6 @@
 -- the granule can hold each word so far
 use Rattle.std.proofs.Common.{◌≡◌, All, length}
-use Rattle.chi_history.specs.Opened.{opened}
+use Rattle.chi_history.specs.Openings.{opened}
 use Rattle.chi_explain.specs.Explains.{CanHold}
 use Rattle.chi_explain.proofs.possible.possible_words.Given as goal
 

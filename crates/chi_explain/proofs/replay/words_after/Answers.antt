@@ -1,7 +1,7 @@
 -- one operation more, which fits the word of its granule
 use Rattle.std.proofs.Common.{◌≡◌, ℕ, List, length, get_or, sym, ap, subst, ◌∙◌, arith, length-set, refl}
 use Rattle.std.proofs.lemmas.List.{get_or_read}
-use Rattle.chi_history.specs.Opened.{opened}
+use Rattle.chi_history.specs.Openings.{opened}
 use Rattle.chi_explain.specs.Explains.{at, nothing}
 use Rattle.chi_explain.proofs.Illegal.{illegal_outside, illegal_past, illegal_unfit}
 use Rattle.chi_explain.proofs.Replays.{Plays, plays_more, plays_none}

@@ -1,6 +1,6 @@
 -- the operations so far are a legal history that leaves these words
 use Rattle.std.proofs.Common.{◌≡◌, length}
-use Rattle.chi_history.specs.Opened.{opened}
+use Rattle.chi_history.specs.Openings.{opened}
 use Rattle.chi_explain.proofs.Replays.{Plays}
 use Rattle.chi_explain.proofs.replay.words_after.Given as goal
 

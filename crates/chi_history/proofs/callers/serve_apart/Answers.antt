@@ -1,7 +1,7 @@
 -- What was added has the one entry of each.
 use Rattle.std.proofs.Common.{rules, ◌≡◌, true, refl, ◌++◌, [], ◌∷◌}
 use Rattle.chi_history.specs.History.{IsFreeOf}
-use Rattle.chi_history.specs.Served.{entry}
+use Rattle.chi_history.specs.HomeClauses.{entry}
 use Rattle.chi_history.proofs.CallerLemmas.{served_apart}
 use Rattle.chi_history.proofs.callers.serve_apart.Goals as goal
 

@@ -1,8 +1,8 @@
 -- What came before the RetryAck is of others too.
 use Rattle.std.proofs.Common.{◌≡◌, ℕ, List, [], ◌∷◌, ◌++◌, subst}
 use Rattle.chi_history.specs.declared.entry.Entry.{Entry}
-use Rattle.chi_history.specs.Held.{Held}
-use Rattle.chi_history.specs.Served.{entry}
+use Rattle.chi_history.specs.NumberSets.{Held}
+use Rattle.chi_history.specs.HomeClauses.{entry}
 use Rattle.chi_history.specs.History.{IsFreeOf}
 use Rattle.chi_history.proofs.CallerLemmas.{done_after_retry}
 use Rattle.chi_history.proofs.callers.serve_until_done.Goals as goal

@@ -1,6 +1,6 @@
 -- The law is a lemma in each byte order.
 use Rattle.std.proofs.Common.{◌∙◌, mod-eq_of_lt}
-use Rattle.chi_lanes.proofs.Reversed.{AreBytes-bytes, length-bytes, num-bytes}
+use Rattle.chi_lanes.proofs.ReversedBytes.{AreBytes-bytes, length-bytes, num-bytes}
 use Rattle.chi_lanes.proofs.laws.bytes_spell_number.Goals as goal
 
 pub returns : goal.returns

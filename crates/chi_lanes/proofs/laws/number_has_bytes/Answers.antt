@@ -1,5 +1,5 @@
 -- The law is a lemma in each byte order.
-use Rattle.chi_lanes.proofs.Reversed.{bytes-num, num-bound}
+use Rattle.chi_lanes.proofs.ReversedBytes.{bytes-num, num-bound}
 use Rattle.chi_lanes.proofs.laws.number_has_bytes.Goals as goal
 
 pub returns : goal.returns

@@ -1,6 +1,6 @@
 -- Equal numbers are equal bytes, and the other way round.
 use Rattle.std.proofs.Common.{◌≡◌, ap, sym, ◌∙◌, true, false, List, ℕ}
-use Rattle.chi_fields.specs.Operation.{lane_of}
+use Rattle.chi_fields.specs.Access.{lane_of}
 use Rattle.chi_lanes.specs.After.{old, same_bytes}
 use Rattle.chi_lanes.specs.Bytes.{little_bytes}
 use Rattle.chi_lanes.specs.Packet.{cmp}

@@ -1,5 +1,5 @@
 -- The sent lanes are read as a number.
-use Rattle.chi_fields.specs.Operation.{lane_of}
+use Rattle.chi_fields.specs.Access.{lane_of}
 use Rattle.chi_lanes.proofs.Operands.{lanes_of_value, placed}
 use Rattle.chi_lanes.proofs.operand.sent_of.Goals as goal
 

@@ -1,6 +1,6 @@
 -- The swap value's lanes are read as a number.
 use Rattle.std.proofs.Common.{arith}
-use Rattle.chi_fields.specs.Operation.{lane_of}
+use Rattle.chi_fields.specs.Access.{lane_of}
 use Rattle.chi_lanes.proofs.Operands.{swap_of_value}
 use Rattle.chi_lanes.proofs.operand.swap_of.Goals as goal
 

@@ -2,7 +2,7 @@
 use Rattle.std.proofs.Common.{rules, ap, ◌∙◌, ◌≤◌, ◌<◌, ◌^◌, ◌≡◌, ◌/◌, ◌*◌, arith, ℕ, nat_le, if◌then◌else◌, refl, slice_range, ◌+◌, slice_index, ◌%◌}
 use Rattle.std.specs.Int.{bit_at}
 use Rattle.std.proofs.lemmas.Bool.Decides.{nat_tests}
-use Rattle.chi_fields.specs.Operation.{lane_of}
+use Rattle.chi_fields.specs.Access.{lane_of}
 use Rattle.chi_fields.proofs.EnableBits.{enabled_lane}
 use Rattle.chi_lanes.specs.Bytes.{little_bytes}
 use Rattle.chi_lanes.proofs.EnabledWrites.{EnablesWithin, word_at-with_enabled}

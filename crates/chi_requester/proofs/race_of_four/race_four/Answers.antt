@@ -14,4 +14,4 @@ pub returns-clause-race : goal.returns-clause-race
 returns-clause-race g c =
     let laws = g.met.H.Home g.world.𝓛 g.world.𝓜 g.world.𝓡 ((λ s x. x), (λ x. x), (λ x. x), λ x. x) in
     race_done refl (whole_four _ c.requires.five) (laws.seen_is_legal c.args.home.now c.work.new.seat c.work.ensures.own)
-    c.in_ok-race_quad.ensures.team c.race_quad.ensures.zero (λ r. refl) c.work.ensures.worked
+    c.in_ok-race_quad.ensures.team c.race_quad.ensures.zero (λ r. refl) c.work.ensures.executed

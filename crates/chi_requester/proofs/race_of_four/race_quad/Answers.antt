@@ -1,7 +1,7 @@
 -- the four seats are taken back
 use Rattle.std.proofs.Common.{ap, refl, sym, ◌∙◌, arith}
 use Rattle.std.proofs.lemmas.Bool.{lt-ltb}
-use Rattle.chi_history.specs.Held.{without}
+use Rattle.chi_history.specs.NumberSets.{without}
 use Rattle.chi_requester.proofs.FamilyLemmas.{whole_four}
 use Rattle.chi_requester.proofs.TeamLemmas.{team_back, team_none}
 use Rattle.chi_requester.proofs.race_of_four.race_quad.Goals as goal

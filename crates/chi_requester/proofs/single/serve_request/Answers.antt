@@ -3,25 +3,25 @@ use Rattle.std.proofs.Common.{◌≡◌, [], ◌∷◌, Ok, Err, subst, sym}
 use Rattle.chi_fields.specs.Extent.{Extent}
 use Rattle.chi_fields.specs.Refusal.{decision}
 use Rattle.chi_history.specs.declared.line.Line.TheVariants.{Completed, Refused}
-use Rattle.chi_requester.proofs.RequestLemmas.{worked_refused, worked_done, worked_followed}
+use Rattle.chi_requester.proofs.RequestLemmas.{executed_refused, executed_done, executed_followed}
 use Rattle.chi_requester.proofs.single.serve_request.Goals as goal
 
-pub returns-in-Err-clause-worked : goal.returns-in-Err-clause-worked
-returns-in-Err-clause-worked g c =
+pub returns-in-Err-clause-executed : goal.returns-in-Err-clause-executed
+returns-in-Err-clause-executed g c =
     let P : Extent → Type 0 = λ region. Err c.in-Err.refusal ≡ decision c.args.request.now region in
-    (Refused c.args.request.now c.in-Err.refusal ∷ [], c.push_reserved.ensures.items, worked_refused _ _ _ _ _ _ _ (sym (subst P c.region.ensures c.in-Err.ensures.decided)))
+    (Refused c.args.request.now c.in-Err.refusal ∷ [], c.push_reserved.ensures.items, executed_refused _ _ _ _ _ _ _ (sym (subst P c.region.ensures c.in-Err.ensures.decided)))
 
-pub returns-in-Done-clause-worked : goal.returns-in-Done-clause-worked
-returns-in-Done-clause-worked g c =
+pub returns-in-Done-clause-executed : goal.returns-in-Done-clause-executed
+returns-in-Done-clause-executed g c =
     let P : Extent → Type 0 = λ region. Ok c.in-Ok.access ≡ decision c.args.request.now region in (
       Completed c.args.request.now c.in-Done.reply ∷ [],
       c.push_reserved-in-Done.ensures.items,
-      worked_done _ _ _ _ _ _ _ _ _ c.in-Done.lost c.requires.holds (sym (subst P c.region.ensures c.in-Ok.ensures.decided)) c.in-Done.ensures.served.0,
+      executed_done _ _ _ _ _ _ _ _ _ c.in-Done.lost c.requires.holds (sym (subst P c.region.ensures c.in-Ok.ensures.decided)) c.in-Done.ensures.served.0,
     )
 
-pub returns-in-Retry-clause-worked : goal.returns-in-Retry-clause-worked
-returns-in-Retry-clause-worked g c =
+pub returns-in-Retry-clause-executed : goal.returns-in-Retry-clause-executed
+returns-in-Retry-clause-executed g c =
     let P : Extent → Type 0 = λ region. Ok c.in-Ok.access ≡ decision c.args.request.now region in
     let served = c.in-Retry.ensures.served in
-    worked_followed _ _ _ _ _ _ _ _ _ _ c.in-Retry.lost c.in-Retry.credit _ _ _ c.requires.holds (sym (subst P c.region.ensures c.in-Ok.ensures.decided))
+    executed_followed _ _ _ _ _ _ _ _ _ _ c.in-Retry.lost c.in-Retry.credit _ _ _ c.requires.holds (sym (subst P c.region.ensures c.in-Ok.ensures.decided))
     served.0 served.1 served.2 served.3 c.serve.ensures.held c.push_reserved-in-Retry.ensures.items c.follow.ensures.followed

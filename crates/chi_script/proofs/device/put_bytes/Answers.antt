@@ -1,5 +1,5 @@
 -- what is more than a page goes past it, when the page is empty
-use Rattle.chi_script.proofs.Written.{writes_past}
+use Rattle.chi_script.proofs.WriterBytesLemmas.{writes_past}
 use Rattle.chi_script.proofs.device.put_bytes.Goals as goal
 
 pub returns-then-bytes-gt-PAGE : goal.returns-then-bytes-gt-PAGE

@@ -1,5 +1,5 @@
 -- each write adds what it took, and a fault leaves a prefix
-use Rattle.chi_script.proofs.Written.{front_cut, taken_kept, taken_more, within_more}
+use Rattle.chi_script.proofs.WriterBytesLemmas.{front_cut, taken_kept, taken_more, within_more}
 use Rattle.chi_script.proofs.device.write_bytes.Goals as goal
 
 pub returns-in-Ok-eq0 : goal.returns-in-Ok-eq0

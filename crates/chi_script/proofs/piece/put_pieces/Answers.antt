@@ -3,7 +3,7 @@ use Rattle.std.proofs.Common.{drop, ◌+◌}
 use Rattle.std.proofs.lemmas.List.{at_drop_more, at_drop_all}
 use Rattle.std.specs.List.{flat_map}
 use Rattle.chi_script.specs.Piece.{piece_text}
-use Rattle.chi_script.proofs.Written.{leads_start, leads_next, leads_cut, leads_end}
+use Rattle.chi_script.proofs.WriterBytesLemmas.{leads_start, leads_next, leads_cut, leads_end}
 use Rattle.chi_script.proofs.piece.put_pieces.Goals as goal
 
 pub pieces-init : goal.pieces-init

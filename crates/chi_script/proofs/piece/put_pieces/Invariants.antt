@@ -2,7 +2,7 @@
 use Rattle.std.proofs.Common.{drop}
 use Rattle.std.specs.List.{flat_map}
 use Rattle.chi_script.specs.Piece.{piece_text}
-use Rattle.chi_script.proofs.Written.{Leads}
+use Rattle.chi_script.proofs.WriterBytesLemmas.{Leads}
 use Rattle.chi_script.proofs.piece.put_pieces.Given as goal
 
 abbrev pub invariant-pieces : goal.invariant-pieces

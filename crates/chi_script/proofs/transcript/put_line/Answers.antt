@@ -1,6 +1,6 @@
 -- a line is the request's fields and then what became of it
 use Rattle.chi_script.specs.Transcript.{line_text}
-use Rattle.chi_script.proofs.Written.{cut_before, writes_both}
+use Rattle.chi_script.proofs.WriterBytesLemmas.{cut_before, writes_both}
 use Rattle.chi_script.proofs.transcript.put_line.Goals as goal
 
 pub returns-in_err-put_request : goal.returns-in_err-put_request

@@ -2,7 +2,7 @@
 use Rattle.std.proofs.Common.{drop, ◌+◌, arith}
 use Rattle.std.proofs.lemmas.List.{at_drop_more, at_drop_all}
 use Rattle.chi_script.specs.Transcript.{memtext}
-use Rattle.chi_script.proofs.Written.{leads_start, leads_next, leads_cut, leads_end}
+use Rattle.chi_script.proofs.WriterBytesLemmas.{leads_start, leads_next, leads_cut, leads_end}
 use Rattle.chi_script.proofs.transcript.put_memory.Goals as goal
 
 pub words-init : goal.words-init

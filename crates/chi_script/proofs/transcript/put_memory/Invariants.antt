@@ -1,7 +1,7 @@
 -- the memory lines so far are in the writer and the page
 use Rattle.std.proofs.Common.{◌≡◌, ◌+◌, ◌*◌, drop}
 use Rattle.chi_script.specs.Transcript.{memtext}
-use Rattle.chi_script.proofs.Written.{Leads}
+use Rattle.chi_script.proofs.WriterBytesLemmas.{Leads}
 use Rattle.chi_script.proofs.transcript.put_memory.Given as goal
 
 abbrev pub invariant-words : goal.invariant-words

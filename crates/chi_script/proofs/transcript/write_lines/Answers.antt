@@ -1,5 +1,5 @@
 -- the lines, and then what is left in the page
-use Rattle.chi_script.proofs.Written.{puts_all}
+use Rattle.chi_script.proofs.WriterBytesLemmas.{puts_all}
 use Rattle.chi_script.proofs.transcript.write_lines.Goals as goal
 
 pub returns : goal.returns

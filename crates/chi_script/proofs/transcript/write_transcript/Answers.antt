@@ -1,5 +1,5 @@
 -- the lines, the memory, and then what is left in the page
-use Rattle.chi_script.proofs.Written.{moves_then, puts_before, puts_after, puts_all}
+use Rattle.chi_script.proofs.WriterBytesLemmas.{moves_then, puts_before, puts_after, puts_all}
 use Rattle.chi_script.proofs.transcript.write_transcript.Goals as goal
 
 pub returns-in_err-put_lines : goal.returns-in_err-put_lines

@@ -5,8 +5,8 @@ use Rattle.chi_lanes.specs.Memory.{word}
 use Rattle.chi_history.specs.declared.opening.Opening.{Opening}
 use Rattle.chi_history.specs.declared.view.View.{View}
 use Rattle.chi_history.specs.History.{end}
-use Rattle.chi_history.specs.Told.{ReadsAt}
-use Rattle.chi_history.specs.declared.ask.Ask.{Ask}
+use Rattle.chi_history.specs.StepFacts.{ReadsAt}
+use Rattle.chi_history.specs.declared.purpose.Purpose.{Purpose}
 use Rattle.chi_history.proofs.SeatLemmas.{one_more, seat_reads}
 use Rattle.chi_bookstore.proofs.home.BookStoreHome.snapshot.Goals as goal
 
@@ -26,7 +26,7 @@ loop-granule-preserved g c =
     seat_reads o c.args.seat.now.numbers v at found own.opening c.requires.all under (c.args.self.now.opening.words at) reads.1 in
     record {
       table = told.own.0 ∙ c.loop-granule.invariant.table;
-      same = ◌∙◌ {A = Me Ask View} (λ i. (told.reads.0 i, told.own.1 i)) same;
+      same = ◌∙◌ {A = Me Purpose View} (λ i. (told.reads.0 i, told.own.1 i)) same;
       numbers = c.loop-granule.invariant.numbers;
       shown = one_more c.loop-granule.words at (bit_xor found (slice_index c.image-image.result.now at)) (λ k. word (end o v.seen) o.region k)
           (search rules) c.loop-granule.invariant.shown (ap (λ (xs : List ℕ). bit_xor found (slice_index xs at)) c.image-image.ensures ∙ is);

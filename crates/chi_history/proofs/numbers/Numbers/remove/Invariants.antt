@@ -1,8 +1,8 @@
 -- The numbers so far are those of the set below the next.
 use Rattle.std.proofs.Common.{◌≡◌, ◌≤◌}
 use Rattle.arrayvec.specs.ArrayVec.{array_vec_len}
-use Rattle.chi_history.specs.Held.{without}
-use Rattle.chi_history.specs.Numbers.{numbers_in}
+use Rattle.chi_history.specs.NumberSets.{without}
+use Rattle.chi_history.specs.NumberLists.{numbers_in}
 use Rattle.chi_history.specs.Views.{has}
 use Rattle.chi_history.proofs.numbers.Numbers.remove.Given as goal
 

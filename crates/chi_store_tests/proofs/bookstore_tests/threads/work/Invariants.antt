@@ -1,7 +1,7 @@
 -- The seat is of the home, and holds what it held.
 use Rattle.std.proofs.Common.{◌≡◌}
 use Rattle.chi_history.specs.Views.{has}
-use Rattle.chi_bookstore.specs.Seats.{IsSeatOf}
+use Rattle.chi_bookstore.specs.BookSeats.{IsSeatOf}
 use Rattle.chi_store_tests.proofs.bookstore_tests.threads.work.Given as goal
 
 abbrev pub invariant-loop : goal.invariant-loop

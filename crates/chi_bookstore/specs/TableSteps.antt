@@ -1,0 +1,19 @@
+-- what the steps of the table tell
+use Rattle.std.specs.Prelude.{◌≡◌, ℕ}
+use mathlib.Core.Option as plain
+use Rattle.atomic_table.specs.Table.{Me, Step}
+use Rattle.chi_history.specs.declared.view.View.{View}
+use Rattle.chi_history.specs.StepFacts.{Exchanges, Looks, ReadsAt, Settles}
+use Rattle.chi_history.specs.declared.purpose.Purpose.{Purpose}
+
+abbrev pub looked : Step Purpose → Me Purpose View → ℕ → Me Purpose View → Type 0
+looked s m n m' = Looks m.0 s.word n m'.0 × (m'.1 ≡ m.1)
+
+abbrev pub served : Step Purpose → Me Purpose View → ℕ → Me Purpose View → Type 0
+served s m n m' = ((purpose : Purpose) → s.said ≡ plain.some purpose → Exchanges m.0 s.first purpose.src purpose.access n m'.0) × (m'.1 ≡ m.1)
+
+abbrev pub read_one : Step Purpose → Me Purpose View → ℕ → Me Purpose View → Type 0
+read_one s m n m' = ReadsAt m.0 s.word n m'.0 × (m'.1 ≡ m.1)
+
+abbrev pub settled : Step Purpose → Me Purpose View → ℕ → Me Purpose View → Type 0
+settled s m n m' = Settles m.0 m'.0 × (m'.1 ≡ m.1)

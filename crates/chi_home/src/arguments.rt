@@ -1,0 +1,110 @@
+//! The program on the words of its command line.
+
+ghost use Rattle.std.specs.Prelude.{◌≡◌, map, string_bytes, IfSome};
+ghost use Rattle.clap.specs.Values.{kind_of};
+ghost use Rattle.chi_engine.specs.Engine.{KeepsUnexecuted, ReportsOpening};
+ghost use Rattle.chi_engine.specs.FaultStatus.{status_of};
+ghost use Rattle.chi_home.specs.ProgramStatus.{IsStatus, IsStatusOfArguments, KeepsButForHelp};
+ghost use Rattle.chi_home.specs.Task.{Ends, ProgramOutcome, TaskOutcome};
+
+use crate::command::{Task, options_of};
+use chi_engine::{EngineFault, Options, engine_race, engine_run, status_of};
+use chi_history::NoGate;
+use chi_script::WriteFault;
+use clap::Error;
+use clap::error::ErrorKind;
+use std::io::{Read, Write};
+use std::sync::Wait;
+use std::thread::Threads;
+
+/// The status where the command line is refused.
+pub(crate) const REFUSED: u8 = 2;
+
+// Does a task with a script, and flushes what was written. A fault of the flush is one of the writer.
+fn run_task<T: AllocGlobal + Threads + Wait + Sync, R: Read, W: Write>(
+    rt: &T,
+    task: Task,
+    options: &Options,
+    from: &mut R,
+    to: &mut W,
+) -> Result<(), EngineFault>
+    ensures outcome { IfSome (R.remaining from.old) (λ input. TaskOutcome task options.now input (W.contents to.old) (W.contents to.new) result) }
+    ensures opening { ReportsOpening options.now result }
+    ensures unexecuted { KeepsUnexecuted (W.contents to.old) (W.contents to.new) result }
+{
+    match task {
+        Task::Run => engine_run(rt, from, to, options)?,
+        Task::Race => engine_race(rt, from, to, options, NoGate, NoGate, NoGate, NoGate)?,
+    }
+    match to.flush() {
+        Ok(()) => Ok(()),
+        Err(_) => Err(EngineFault::Write(WriteFault::Failed)),
+    }
+}
+
+// Tells why the engine ended early. The status is that of the fault.
+pub(crate) fn report_fault<E: Write>(fault: &EngineFault, errors: &mut E) -> u8
+    ensures { result ≡ status_of fault.now }
+{
+    let _written = writeln!(errors, "chihome: {fault}");
+    status_of(fault)
+}
+
+// Does a task with a script, and tells its fault. The status is 0 where the task was done.
+fn end_task<T: AllocGlobal + Threads + Wait + Sync, R: Read, W: Write, E: Write>(
+    rt: &T,
+    task: Task,
+    options: &Options,
+    from: &mut R,
+    to: &mut W,
+    errors: &mut E,
+) -> u8
+    ensures ends { Ends task options.now (R.remaining from.old) (W.contents to.old) (W.contents to.new) result }
+    ensures status { IsStatus result }
+{
+    match run_task(rt, task, options, from, to) {
+        Ok(()) => 0,
+        Err(fault) => report_fault(&fault, errors),
+    }
+}
+
+// Tells what `clap` answers to the words: help to `to`, and a refusal to `errors`.
+fn report_arguments<W: Write, E: Write>(error: &Error, to: &mut W, errors: &mut E) -> u8
+    ensures status { IsStatusOfArguments (kind_of error.now) result }
+    ensures kept { KeepsButForHelp (kind_of error.now) (W.contents to.old) (W.contents to.new) }
+{
+    if error.kind() == ErrorKind::OutOfMemory {
+        return report_fault(&EngineFault::Memory, errors);
+    }
+    if error.use_stderr() {
+        let _written = write!(errors, "{error}");
+        return REFUSED;
+    }
+    match write!(to, "{error}").and_then(|()| to.flush()) {
+        Ok(()) => 0,
+        Err(_) => report_fault(&EngineFault::Write(WriteFault::Failed), errors),
+    }
+}
+
+/// The program: reads the words after its name, does the task that they name with a script from `from`, and
+/// writes the transcript to `to`. A fault is told to `errors`, whose own faults are ignored. The answer is the
+/// status to end with.
+///
+/// ```
+/// let status = run_words(&rt, &words, &mut input, &mut output, &mut errors);
+/// ```
+pub fn run_words<T: AllocGlobal + Threads + Wait + Sync, R: Read, W: Write, E: Write>(
+    rt: &T,
+    arguments: &[String],
+    from: &mut R,
+    to: &mut W,
+    errors: &mut E,
+) -> u8
+    ensures outcome { ProgramOutcome (map string_bytes arguments.now) (R.remaining from.old) (W.contents to.old) (W.contents to.new) result }
+    ensures status { IsStatus result }
+{
+    match options_of(rt.alloc(), arguments) {
+        Ok((task, options)) => end_task(rt, task, &options, from, to, errors),
+        Err(error) => report_arguments(&error, to, errors),
+    }
+}

@@ -1,7 +1,0 @@
--- a number that fits is spelled by its bytes
-use Rattle.chi_lanes.proofs.CombineLemmas.{num-little_bytes}
-use Rattle.chi_lanes.proofs.combined.ordered.Goals as goal
-
-pub returns-else-endian-clause-number : goal.returns-else-endian-clause-number
-returns-else-endian-clause-number c =
-    rw c.if-endian.false (num-little_bytes c.args.len c.args.value c.requires.fits)
