@@ -1,4 +1,4 @@
-/* Works the table of worked requests by chi_serve and chi_apply; then compares the header's numbers with the names. */
+/* Executes the table of requests by chi_serve and chi_apply; then compares the header's numbers with the names. */
 #include <chi.h>
 #include <inttypes.h>
 #include <stdio.h>
@@ -104,7 +104,7 @@ static void result_is(uint32_t result, const char *name) {
   wants_name(length, buffer, name);
 }
 
-/* A kind and an operation as chi_decode tells them. */
+/* A kind and an operation as chi_decode answers them. */
 static void decoded_is(uint8_t opcode, uint8_t kind, uint8_t op) {
   uint8_t found_kind = LEFT, found_op = LEFT, len = LEFT;
   uint16_t granule = LEFT;

@@ -76,7 +76,7 @@ enum {
  * outside the operand; else it becomes 0, and so do the lanes.
  */
 
-/* Works one request on the word of its granule. */
+/* Executes one request on the word of its granule. */
 uint32_t chi_apply(uint64_t base, uint16_t granules, uint8_t opcode, uint8_t size, uint64_t addr, uint8_t endian,
                    uint16_t be, const uint8_t lanes[16], uint64_t word, uint64_t *new_word, uint8_t reply_lanes[16],
                    uint8_t *has_lanes);

@@ -1,4 +1,4 @@
-"""Works the table of worked requests by the module chi, and compares."""
+"""Executes the table of requests by the module chi, and compares."""
 
 import doctest
 import sys

@@ -1,4 +1,4 @@
--- what the steps of the table tell
+-- what the steps of the table show
 use Rattle.std.specs.Prelude.{◌≡◌, ℕ}
 use mathlib.Core.Option as plain
 use Rattle.atomic_table.specs.Table.{Me, Step}

@@ -1,4 +1,4 @@
-//! The rule of the words and seats, and what each step on them tells.
+//! The rule of the words and seats, and what each step on them shows.
 
 use atomic_table::{Join, Play, Seat, Table, TableRule};
 use chi_history::{OpeningValues, Purpose, View};
@@ -17,7 +17,7 @@ impl<A: Allocator> TableRule<Purpose, View, OpeningValues<A>> for BookRule {
     ghost first = { λ k. knower k (all_below k.requesters) [] };
 }
 
-/// The words. There are no slots: an exchange tells the rule what it is for.
+/// The words. There are no slots: an exchange names its purpose to the rule.
 pub type BookTable<A> = Table<Purpose, View, OpeningValues<A>, BookRule, A>;
 
 /// What one caller knows of the words.

@@ -93,7 +93,7 @@ pub(crate) fn give<Q: SplitNumber, A: Allocator>(
     table.shared.split_seat::<SplitOff<Q>>(seat)
 }
 
-// Two seats become one. The load tells what both had seen.
+// Two seats become one. The load shows what both had seen.
 pub(crate) fn take_in<A: Allocator>(table: &BookTable<A>, seat: &mut TableSeat, other: TableSeat)
     requires own { (seat.old.table_id ≡ table.now.shared.table_id) × (seat.old.me.1 ≡ []) }
     requires other_own { (other.table_id ≡ table.now.shared.table_id) × (other.me.1 ≡ []) }

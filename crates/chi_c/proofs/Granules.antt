@@ -22,7 +22,7 @@ pub word-AreWords : (m : Memory) (base : ℕ) (words : List ℕ) (g : ℕ) → A
 unfolding AreWords
 word-AreWords m base words g are below = are g below
 
--- the words with that of the operand's granule are those of the memory after the operation
+-- the words with that of the operand's granule are those of the memory after the access
 pub AreWords-after : (e : Extent) (o : Access) (m : Memory) (words : List ℕ) (g v : ℕ) → IsAccepted e o → AreWords m e.base words
     → g ≡ granule_of o.addr e → v ≡ word (after o m) e g → AreWords (after o m) e.base (slice_set words g v)
 unfolding AreWords

@@ -33,7 +33,7 @@ abbrev pub numbered_region : Result Extent RegionFault → Result Extent ℕ
 numbered_region (Ok region) = Ok region
 numbered_region (Err fault) = Err (fault_number fault)
 
--- the operation, or the number of the refusal
+-- the access, or the number of the refusal
 abbrev pub numbered_decision : Result Access Refusal → Result Access ℕ
 numbered_decision (Ok o) = Ok o
 numbered_decision (Err refusal) = Err (refusal_number refusal)
@@ -43,7 +43,7 @@ abbrev pub decided_in : Result Extent ℕ → Request → Result Access ℕ
 decided_in (Ok region) q = numbered_decision (decision q region)
 decided_in (Err number) q = Err number
 
--- what is decided of a call: the operation, or the number of the region's fault, or of the first refusal
+-- what is decided of a call: the access, or the number of the region's fault, or of the first refusal
 abbrev pub decided : ℕ → ℕ → Request → Result Access ℕ
 decided base granules q = decided_in (numbered_region (region_of base granules)) q
 
@@ -56,7 +56,7 @@ result_number (Err number) = number
 abbrev pub region : ℕ → ℕ → Extent
 region base granules = record { base = base; granules = granules }
 
--- what is known of an operation that was accepted in a region
+-- what is known of an access that was accepted in a region
 pub record IsAccepted (region : Extent) (o : Access) : Type 0 where
   pub is : IsRegion region
   pub fits : IsTrue (lies_in o.addr o.len region)

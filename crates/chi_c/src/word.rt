@@ -73,7 +73,7 @@ fn applied(base: u64, granules: u16, request: &Request, word: u64) -> Result<(u6
     Ok(apply(word, &asked.access))
 }
 
-/// Works one request on the word of its granule: writes the word after it and the answer, and returns 0.
+/// Executes one request on the word of its granule: writes the word after it and the answer, and returns 0.
 ///
 /// Byte `k` of a word is its bits `8k` to `8k + 7`, and stands for the granule's address plus `k`. The region
 /// has `granules` granules of eight bytes from `base` on. Data are big-endian where `endian` is not 0, bit `i`

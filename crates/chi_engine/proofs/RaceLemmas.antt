@@ -26,7 +26,7 @@ shown_raced o s seen' words opening count each =
     let P : Opening → Type 0 = λ z. g < z.region.granules in
     each g (subst P (sym opening) inside) ∙ ap (λ (z : Opening). word (end z seen') z.region g) opening)
 
--- where the race is over and its lines were none before, every request was worked and told of
+-- where the race is over and its lines were none before, every request was executed and reported
 pub raced_whole : (o : Opening) (policy : Policy) (limit : ℕ) (racers : Held) (all : List Request) (s : ScriptValue) (held : Held) (start seen' : List Entry) (lines lines' : ℕ → List Line) (u : Unit {0})
     → IsFresh o s held start → lines ≡ (λ r. []) → IsRaceRun (Ok u) o policy limit racers all start seen' lines lines'
     → IsRace (opening_of s) policy limit racers [] seen' (own_requests all) lines'

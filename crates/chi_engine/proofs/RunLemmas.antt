@@ -30,7 +30,7 @@ start_of : (o : Opening) (s : ScriptValue) (held : Held) (seen : List Entry) →
 unfolding end_from
 start_of o s held seen fresh = ap (end o) fresh.first.1 ∙ ap (λ (z : Opening). opening_memory z) fresh.opening
 
--- the lines of the requests worked
+-- the lines of the requests executed
 lines_of : (o : Opening) (s : ScriptValue) (qs : List Request) (held : Held) (seen seen' : List Entry) (lines lines' : List Line) (r : Result (Unit {0}) WorkFault)
     → IsFresh o s held seen → lines ≡ [] → (run : IsSerialRun r o qs seen seen' lines lines') → lines' ≡ serial s.region run.executed (start s)
 lines_of o s qs held seen seen' lines lines' r fresh empty run =
@@ -38,7 +38,7 @@ lines_of o s qs held seen seen' lines lines' r fresh empty run =
     ∙ (ap (λ (region : Extent). serial region run.executed (end o seen)) (region_is o s held seen fresh)
     ∙ ap (serial s.region run.executed) (start_of o s held seen fresh)))
 
--- after Ok every request was worked
+-- after Ok every request was executed
 all_of : (executed left all : List Request) → executed ++ left ≡ all → left ≡ [] → executed ≡ all
 all_of executed left all parts none = sym (append-nil executed) ∙ (ap (λ (qs : List Request). executed ++ qs) (sym none) ∙ parts)
 

@@ -1,4 +1,4 @@
--- what reading the input and opening a store come to, before a script is worked
+-- what reading the input and opening a store come to, before a script is executed
 use Rattle.std.specs.Prelude.{◌≡◌, ◌≢◌, ℕ, ◌<◌, ◌≤◌, List, length, Option, Result, Ok, Err}
 use Rattle.std.specs.Io.KnownBytes.{Keeps}
 use Rattle.chi_history.specs.declared.opening.OpenFault.{OpenFault}
@@ -33,7 +33,7 @@ Refuses options open_fault.AttemptCount = Opens options → ⊥
 Refuses options open_fault.NotOneLine = options.store ≡ store_kind.Lock
 Refuses options open_fault.Memory = Opens options
 
--- what an outcome tells of the store: it was opened where a script was worked
+-- what an outcome reports of the store: it was opened where a script was executed
 abbrev pub ReportsOpening : Options → Result (Unit {0}) EngineFault → Type 0
 ReportsOpening options (Ok done) = Opens options
 ReportsOpening options (Err (Open fault)) = Refuses options fault
@@ -47,7 +47,7 @@ RefusesOn store granules open_fault.NotOneLine = OpensOn store granules → ⊥
 RefusesOn store granules open_fault.Memory = OpensOn store granules
 RefusesOn store granules fault = Unit {0}
 
--- what an outcome tells of the script's region: the store was opened on it where the script was worked
+-- what an outcome reports of the script's region: the store was opened on it where the script was executed
 abbrev pub ReportsRegion : StoreKind → ℕ → Result (Unit {0}) EngineFault → Type 0
 ReportsRegion store granules (Ok done) = OpensOn store granules
 ReportsRegion store granules (Err (Open fault)) = RefusesOn store granules fault
@@ -55,7 +55,7 @@ ReportsRegion store granules (Err (Work fault)) = OpensOn store granules
 ReportsRegion store granules (Err (Write fault)) = OpensOn store granules
 ReportsRegion store granules (Err fault) = Unit {0}
 
--- Nothing is written where no script was worked: the input could not be read, is too long or is refused as a script,
+-- Nothing is written where no script was executed: the input could not be read, is too long or is refused as a script,
 -- the store was refused, or there was no memory for one of these.
 abbrev pub KeepsUnexecuted : Option (List ℕ) → Option (List ℕ) → Result (Unit {0}) EngineFault → Type 0
 KeepsUnexecuted old new (Ok done) = Unit {0}
@@ -71,7 +71,7 @@ IsInputFault Memory = Unit {0}
 IsInputFault (Script fault) = Unit {0}
 IsInputFault fault = ⊥
 
--- The store was refused, or there was no memory for the words of its region; or it was opened, and what it worked
+-- The store was refused, or there was no memory for the words of its region; or it was opened, and what it executed
 -- holds.
 abbrev pub FromOpening : Result (Unit {0}) EngineFault → Type 0 → Type 0
 FromOpening (Err (Open fault)) executed = Unit {0}

@@ -30,11 +30,11 @@ abbrev pub most_racer : Workers → ℕ
 most_racer Two = 2
 most_racer Four = 4
 
--- one legal history stands behind the lines of the racers and of 0, and every request of the script was worked
+-- one legal history stands behind the lines of the racers and of 0, and every request of the script was executed
 abbrev pub IsRaced : Options → ScriptValue → List Entry → (ℕ → List Line) → Type 0
 IsRaced options s since lines = IsRace (opening_of s) options.policy (limit_of options) (racers_of options.workers) [] since (own_requests s.requests) lines
 
--- the same of the first requests of each, some not being worked, since there was no memory
+-- the same of the first requests of each, some not being executed, since there was no memory
 abbrev pub IsRaceCut : WorkFault → Options → ScriptValue → List Entry → (ℕ → List Line) → Type 0
 IsRaceCut fault options s since lines =
     IsRaceRun (Err fault) (opening_of s) options.policy (limit_of options) (racers_of options.workers) s.requests [] since (λ r. []) lines

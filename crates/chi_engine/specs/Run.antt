@@ -1,4 +1,4 @@
--- what a run of the program does: the script of its input, worked from its opening memory on
+-- what a run of the program does: the script of its input, executed from its opening memory on
 use Rattle.std.specs.Prelude.{◌≡◌, ◌≢◌, ℕ, List, [], ◌++◌, Option, Result, Ok, Err}
 use Rattle.std.specs.Io.KnownBytes.{Appends}
 use Rattle.chi_fields.specs.declared.request.Request.{Request}
@@ -19,11 +19,11 @@ use Rattle.chi_engine.specs.Store.{opening_of}
 abbrev pub most_src : ℕ
 most_src = 7
 
--- the transcript of a script: the lines of its requests, worked in order, and the memory after them
+-- the transcript of a script: the lines of its requests, executed in order, and the memory after them
 abbrev pub transcript : ScriptValue → List ℕ
 transcript s = run_text s.region s.requests (opening_memory (opening_of s))
 
--- the lines are those of the first requests of the script, worked in order, and some requests were not worked
+-- the lines are those of the first requests of the script, executed in order, and some requests were not executed
 pub record IsCut (s : ScriptValue) (lines : List Line) : Type 0 where
   pub executed : List Request
   pub left : List Request

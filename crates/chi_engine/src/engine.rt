@@ -15,7 +15,7 @@ use std::io::{Read, Write};
 use std::sync::Wait;
 use std::thread::Threads;
 
-/// Reads a script, works its requests in order on the memory that it opens with, and writes the transcript.
+/// Reads a script, executes its requests in order on the memory that it opens with, and writes the transcript.
 ///
 /// Nothing is written unless the whole script was read and the store was opened. Where there is no memory for
 /// the work, the lines of the requests before it are written, without memory lines. After a fault of the
@@ -48,8 +48,8 @@ fn most_racer(workers: Workers) -> u8
     }
 }
 
-/// Reads a script, works the requests of 1 and of 2, or of 1 to 4, at the same time, each with a gate of its own,
-/// and then those of 0, on the memory that the script opens with, and writes the transcript: the lines of 1 on,
+/// Reads a script, executes the requests of 1 and of 2, or of 1 to 4, at the same time, each with a gate of its
+/// own, and then those of 0, on the memory that the script opens with, and writes the transcript: the lines of 1 on,
 /// those of 0, and the memory.
 ///
 /// How many work at the same time the options say; two take the first two gates. Faults and what they leave

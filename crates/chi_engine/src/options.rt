@@ -1,8 +1,8 @@
-//! What the engines may be told: the store, its tries, what requesters do after RetryAck, and how many race.
+//! What the engines let a caller choose: the store, its tries, what requesters do after RetryAck, and how many race.
 
 use chi_requester::Policy;
 
-/// The store that serves the requests: one line of words in a cell under a lock, or a row of granule words
+/// The store that serves the requests: one cache line in a cell under a lock, or a row of granule words
 /// without one.
 ///
 /// Source: profile.
@@ -21,7 +21,7 @@ pub enum Workers {
     Four,
 }
 
-/// How a script is worked. `attempts` is how many tries a request gets before it is answered by RetryAck: 1 to
+/// How a script is executed. `attempts` is how many tries a request gets before it is answered by RetryAck: 1 to
 /// 16 under `Book`. Under `Lock`, which never answers by RetryAck, it is ignored. A run ignores `workers`.
 ///
 /// Source: profile.

@@ -49,7 +49,7 @@ fn with_no_more(race: Race<Global>) -> RaceFour<Global>
 }
 
 // Races the requests of a script by the workers of the options: the lines of each requester, and whether every
-// request was worked.
+// request was executed.
 fn race_all<
     H: Home + Sync,
     T: AllocGlobal + Threads + Wait + Sync,

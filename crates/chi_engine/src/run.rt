@@ -18,7 +18,7 @@ use chi_script::{Script, write_lines, write_transcript};
 use std::io::Write;
 use std::sync::Wait;
 
-// Works the requests of a script in order: their lines, and the words of the memory after them.
+// Executes the requests of a script in order: their lines, and the words of the memory after them.
 fn work_all<H: Home, R: Wait>(
     home: &H,
     rt: &R,
@@ -43,7 +43,7 @@ fn work_all<H: Home, R: Wait>(
     Ok(())
 }
 
-// Works a script over a home that was just opened for it, and writes the transcript.
+// Executes a script over a home that was just opened for it, and writes the transcript.
 fn run_over<H: Home, T: AllocGlobal + Wait, W: Write>(
     home: &H,
     rt: &T,
@@ -71,7 +71,7 @@ fn run_over<H: Home, T: AllocGlobal + Wait, W: Write>(
     }
 }
 
-// Works a script over the store of the options, and writes the transcript.
+// Executes a script over the store of the options, and writes the transcript.
 pub(crate) fn run_script<T: AllocGlobal + Wait, W: Write>(
     rt: &T,
     script: &Script,

@@ -15,7 +15,7 @@ use std::thread::Threads;
 const READ_OF_THREE: &str =
     "{\"src\":3,\"txn\":0,\"op\":4,\"size\":3,\"addr\":4096,\"endian\":0,\"be\":0,\"lanes\":\"00000000000000000000000000000000\"}";
 
-// The fault is of the script, and tells this text with this status.
+// The fault is of the script, and is reported by this text with this status.
 fn assert_told<T: AllocGlobal + Abort>(
     rt: &T,
     outcome: Result<(), EngineFault>,

@@ -75,7 +75,7 @@ fn assert_bad<T: AllocGlobal + Abort + Threads + Wait + Sync>(
     Ok(())
 }
 
-// The first fetch-add with one part exchanged for another is worked as it was.
+// The first fetch-add with one part exchanged for another is executed as it was.
 fn assert_accepted<T: AllocGlobal + Abort + Threads + Wait + Sync>(
     rt: &T,
     part: &str,

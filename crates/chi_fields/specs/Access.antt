@@ -1,4 +1,4 @@
--- an operation: what it does, where, and with which data
+-- an access: what it does, where, and with which data
 use Rattle.std.specs.Prelude.{◌≡◌, ℕ, ◌+◌, ◌-◌, ◌*◌, ◌%◌, ◌^◌, ◌==◌, nat_le, nat_lt, Bool, true, ◌&&◌, ◌||◌, ◌<◌, if◌then◌else◌, List, length, slice_index, ◌⊎◌, IsTrue}
 use Rattle.std.specs.Int.{bit_at}
 use Rattle.std.specs.List.{list_all, range_with_len}

@@ -19,7 +19,7 @@ abbrev pub is_in_profile : Kind → ℕ → Bool
 is_in_profile Compare size = nat_le 1 size && nat_le size 4
 is_in_profile _ size = nat_le size 3
 
--- the operation of this kind that a request describes
+-- the access of this kind that a request describes
 abbrev pub access_as : Kind → Request → Access
 access_as kind q = record {
   kind = kind;
@@ -30,7 +30,7 @@ access_as kind q = record {
   lanes = q.lanes;
 }
 
--- the operation that a request describes, where its opcode names one
+-- the access that a request describes, where its opcode names one
 abbrev pub access_of : Request → Option Access
 access_of q = option_map (λ kind. access_as kind q) (kind_of q.opcode)
 

@@ -55,7 +55,7 @@ impl Model for Access {
 }
 
 impl Access {
-    // What the request describes, as an operation of this kind and length.
+    // What the request describes, as an access of this kind and length.
     pub(crate) fn of(request: &Request, kind: Kind, len: u8) -> Access
         requires part { IsLen len }
         requires aligned { request.now.addr % len ≡ 0 }
@@ -75,7 +75,7 @@ impl Access {
         }
     }
 
-    /// What the operation does.
+    /// What the access does.
     pub fn kind(&self) -> Kind
         ensures value { result ≡ self.now.kind }
         ensures lawful { IsLawful self.now }
@@ -99,7 +99,7 @@ impl Access {
         usize::from(self.len)
     }
 
-    /// The request's byte order: true is big-endian. It is kept also where the operation ignores it.
+    /// The request's byte order: true is big-endian. It is kept also where the access's kind ignores it.
     pub fn endian(&self) -> bool
         ensures { result ≡ self.now.endian }
     {

@@ -20,7 +20,7 @@ use std::test::Fail;
 // twice as many, each time that there is no room for two more. There is no sixth growth.
 const LINES: [(u64, usize); 6] = [(1, 0), (2, 3), (3, 7), (4, 15), (5, 31), (6, 40)];
 
-// Works the first fetch-add forty times with the growth of this number refused: so many lines are left, each with
+// Executes the first fetch-add forty times with the growth of this number refused: so many lines are left, each with
 // the number of those before it, and as much was added.
 fn assert_left<H: Home, T: AllocGlobal + Abort + Wait>(
     rt: &T,

@@ -22,7 +22,7 @@ pub(crate) const STORE_ADD: u8 = 0x28;
 // How many requests each requester has.
 pub(crate) const EACH: u8 = 10;
 
-// Asserts that the lines tell of the first of a requester's additions, in order of their identifiers, each completed once, at
+// Asserts that the lines report the first of a requester's additions, in order of their identifiers, each completed once, at
 // most after a RetryAck. Answers how many they are.
 pub(crate) fn assert_told<T: Abort>(rt: &T, src: u8, lines: &[Line]) -> u8 {
     let mut done = 0u8;

@@ -130,7 +130,7 @@ fn assert_first<H: Home, T: Abort + Wait>(
     assert_eq!(rt; words, [lines.len() as u64, 0, 0, 0, 0, 0, 0, 0]);
 }
 
-// Works three fetch-adds by requester 0.
+// Executes three fetch-adds by requester 0.
 fn work_three<H: Home, T: AllocGlobal + Abort + Wait>(
     rt: &T,
     home: &H,
@@ -160,13 +160,13 @@ fn work_three<H: Home, T: AllocGlobal + Abort + Wait>(
     alloc.has_refused()
 }
 
-// Works them over the locked store.
+// Executes them over the locked store.
 fn work_lock<T: AllocGlobal + Abort + Wait>(rt: &T, number: u64) -> Result<bool, Fail> {
     let (home, mut seat) = LockStore::open(rt.alloc(), Region::new(0x1000, 8)?, 8, &[0; 8])?;
     Ok(work_three(rt, &home, &mut seat, number))
 }
 
-// Works them over the lock-free store.
+// Executes them over the lock-free store.
 fn work_book<T: AllocGlobal + Abort + Wait>(rt: &T, number: u64) -> Result<bool, Fail> {
     let (home, mut seat) = BookStore::open(rt.alloc(), Region::new(0x1000, 8)?, 8, 4, &[0; 8])?;
     Ok(work_three(rt, &home, &mut seat, number))
@@ -178,7 +178,7 @@ fn growth_refused_in_work(rt: HostRuntime) -> Result<(), Fail> {
     in_turn(&rt, |number| work_book(&rt, number))
 }
 
-// Works three fetch-adds one after another.
+// Executes three fetch-adds one after another.
 fn serve_three<H: Home, T: AllocGlobal + Abort + Wait>(
     rt: &T,
     home: &H,
@@ -203,13 +203,13 @@ fn serve_three<H: Home, T: AllocGlobal + Abort + Wait>(
     alloc.has_refused()
 }
 
-// Works them over the locked store.
+// Executes them over the locked store.
 fn serial_lock<T: AllocGlobal + Abort + Wait>(rt: &T, number: u64) -> Result<bool, Fail> {
     let (home, mut seat) = LockStore::open(rt.alloc(), Region::new(0x1000, 8)?, 8, &[0; 8])?;
     Ok(serve_three(rt, &home, &mut seat, number))
 }
 
-// Works them over the lock-free store.
+// Executes them over the lock-free store.
 fn serial_book<T: AllocGlobal + Abort + Wait>(rt: &T, number: u64) -> Result<bool, Fail> {
     let (home, mut seat) = BookStore::open(rt.alloc(), Region::new(0x1000, 8)?, 8, 4, &[0; 8])?;
     Ok(serve_three(rt, &home, &mut seat, number))

@@ -1,4 +1,4 @@
--- what a call tells a caller whose seat holds every number, or a part of them
+-- what a call shows a caller whose seat holds every number, or a part of them
 use Rattle.std.proofs.Common.{◌==◌, eq-eqb, ◌≡◌, ℕ, ◌≤◌, true, List, [], ◌∷◌, ◌++◌, sym, ap, ◌∙◌, subst, arith, append_assoc, append-nil}
 use Rattle.std.proofs.lemmas.Bool.{cond-true, lt-ltb}
 use Rattle.std.proofs.lemmas.List.{append_cancel_left}

@@ -15,7 +15,7 @@ use Rattle.chi_history.proofs.StepLemmas.{appends, granule_below, next_of, sees}
 use Rattle.chi_history.proofs.Steps.{Steps}
 use Rattle.chi_history.proofs.ViewLists.{set_again}
 
--- an exchange of the operation's word, at a knower
+-- an exchange of the access's word, at a knower
 exchanges_at : (count : ℕ) (o : Opening) (id : ℕ) (held : List ℕ) (seen : List Entry) (first next src : ℕ) (access : Access) → has held src ≡ true
     → IsLawful access → lies_in access.addr access.len o.region ≡ true → Applies o access first next
     → Steps count o id (knower o held seen)
@@ -69,7 +69,7 @@ exchanges_at count o id held seen first next src access holds lawful fits applie
           },
         )
 
--- an exchange of the operation's word
+-- an exchange of the access's word
 pub exchanges : (count : ℕ) (o : Opening) (id : ℕ) (v : View) → v ≡ knower o v.held v.seen → (g first next src : ℕ) (access : Access)
     → g ≡ granule_of access.addr o.region → has v.held src ≡ true → IsLawful access → lies_in access.addr access.len o.region ≡ true → Applies o access first next
     → Steps count o id v (λ ws. set ws g (either (slice_index ws g == first) next (slice_index ws g))) (λ ws. Exchanges v first src access (slice_index ws g))

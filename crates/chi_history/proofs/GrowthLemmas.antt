@@ -102,7 +102,7 @@ grown count o h words views id held seen more h' words' w g = record {
     k' : Knows o h' w
     k' = g.stands.each id w (set_here views id w v g.place.at)
 
--- a stretch of the tail that is free of what the seat holds is empty
+-- a stretch of the tail that contains no entry of what the seat holds is empty
 none_more : (o : Opening) (h : List Entry) (views : List View) (id : ℕ) (held : List ℕ) (seen more : List Entry) (h' : List Entry)
     → (g : Grown o h views id held seen more h') → (m : Memory) (xs : List Entry) → IsLegalFrom o m xs → IsFreeOf (has held) xs
     → ((other : Held) → IsFreeOf other g.tail → IsFreeOf other xs) → xs ≡ []

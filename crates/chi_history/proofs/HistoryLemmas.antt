@@ -51,7 +51,7 @@ unfolding IsFreeOf
 free-back held [] ys whole = whole
 free-back held (x ∷ xs) ys whole = free-back held xs ys whole.1
 
--- what is free of a set is free of a smaller one
+-- what contains no entry of a set contains none of a smaller one
 pub free-within : (held other : Held) (xs : List Entry) → ((r : ℕ) → other r ≡ true → held r ≡ true) → IsFreeOf held xs → IsFreeOf other xs
 unfolding IsFreeOf
 free-within held other [] within free = tt
@@ -61,19 +61,19 @@ free-within held other (x ∷ xs) within free = (not_in (other x.src) refl, free
     not_in true is = absurd (true≢false (sym (within x.src is) ∙ free.0))
     not_in false is = is
 
--- what is free of two sets is free of their union
+-- what contains no entry of two sets contains none of their union
 pub free-union : (held other : Held) (xs : List Entry) → IsFreeOf held xs → IsFreeOf other xs → IsFreeOf (union held other) xs
 unfolding IsFreeOf
 free-union held other [] first second = tt
 free-union held other (x ∷ xs) first second = (rw (first.0, second.0) refl, free-union held other xs first.1 second.1)
 
--- every history is free of no number
+-- every history contains no entry of the empty set
 pub free-nobody : (xs : List Entry) → IsFreeOf nobody xs
 unfolding IsFreeOf
 free-nobody [] = tt
 free-nobody (x ∷ xs) = (refl, free-nobody xs)
 
--- a legal history that is free of every requester's number is empty
+-- a legal history that contains no entry of any requester is empty
 pub free-all : (o : Opening) (m : Memory) (held : Held) (xs : List Entry) → ((r : ℕ) → r < o.requesters → held r ≡ true)
     → IsLegalFrom o m xs → IsFreeOf held xs → xs ≡ []
 unfolding IsFreeOf IsLegalFrom
@@ -90,7 +90,7 @@ of-append (x ∷ xs) ys r = by_test (x.src == r) (of-append xs ys r)
     by_test true rest = ap (λ (es : List Entry). x ∷ es) rest
     by_test false rest = rest
 
--- a history that is free of a number has none of its entries
+-- a history that contains no entry of a set has none of a number in it
 pub of-free : (held : Held) (xs : List Entry) (r : ℕ) → held r ≡ true → IsFreeOf held xs → of xs r ≡ []
 unfolding of IsFreeOf
 of-free held [] r in_it free = refl
@@ -107,7 +107,7 @@ unfolding hits_from end_from
 hits-append o m [] ys g held = omega arith
 hits-append o m (x ∷ xs) ys g held = let rest = hits-append o (after x.access m) xs ys g held in omega arith
 
--- a history that is free of a set has the hits that are not of the set, and those of anybody
+-- a history that contains no entry of a set has the hits that are not of the set, and those of anybody
 pub hits-free : (o : Opening) (m : Memory) (xs : List Entry) (g : ℕ) (held : Held) → IsFreeOf held xs
     → hits_from o m xs g nobody ≡ hits_from o m xs g held
 unfolding hits_from IsFreeOf

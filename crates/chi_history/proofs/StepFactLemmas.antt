@@ -1,4 +1,4 @@
--- what a caller has of what a step told
+-- what a caller has of what a step showed
 use Rattle.std.proofs.Common.{◌≡◌, ℕ, ◌^◌, ◌<◌, true, IsTrue, List, [], ◌∷◌, ◌++◌, slice_index, bit_xor, refl, sym, ap, subst, ◌∙◌, zero-le}
 use Rattle.chi_fields.specs.Extent.{Extent, IsRegion, granule_of, lies_in}
 use Rattle.chi_fields.specs.Access.{IsLawful, Access}
@@ -41,7 +41,7 @@ read_word o h g found under small is =
     ap (bit_xor found) (sym (word-opening_memory o g under small))
     ∙ (ap (λ n. bit_xor n (first_word o g)) is ∙ unmasked (word (end o h) o.region g) (first_word o g))
 
--- what the word of an operation becomes, as it is computed over the unmasked word
+-- what the word of an access becomes, as it is computed over the unmasked word
 pub applies : (o : Opening) (access : Access) (found before result next : ℕ) → granule_of access.addr o.region < o.region.granules → slice_index o.image (granule_of access.addr o.region) < 2 ^ 64
     → lies_in access.addr access.len o.region ≡ true
     → ((region : Extent) (m : Memory) → IsRegion region → IsMemory m → IsTrue (lies_in access.addr access.len region) → before ≡ word m region (granule_of access.addr region)
@@ -64,7 +64,7 @@ answers o access found before reply under small fits answered unmask m is_region
     let first : slice_index o.image g ≡ first_word o g = sym (word-opening_memory o g under small) in
     answered o.region m is_region is_memory fits (unmask ∙ (ap (bit_xor found) first ∙ sym at))
 
--- what was told of an entry that was added: its operation lies in the region, and is lawful
+-- what is known of an entry that was added: its access lies in the region, and is lawful
 added_fits : (v : View) (mid : List Entry) (src : ℕ) (access : Access) (w : View) → Adds v mid src access w
     → (lies_in access.addr access.len v.opening.region ≡ true) × IsLawful access
 unfolding IsLegalFrom
@@ -94,7 +94,7 @@ replaced v words src access w reply replaces answered =
     let g : ℕ = granule_of access.addr v.opening.region in
     added v replaces.mid src access w (slice_index words g) reply replaces.adds (replaces.words_are g (granule_below v.opening access fit.1 fit.0)) answered
 
--- what the look after a merge tells
+-- what the look after a merge shows
 pub joined : (v w u : View) → Settles (both v w) u → IsJoined v w u
 joined v w u settles = subst (λ (z : View). IsJoined v w z) (sym settles.now) (record {
   now = refl;

@@ -146,7 +146,7 @@ pub looks : (count : ℕ) (o : Opening) (id : ℕ) (v : View) → v ≡ knower o
 looks count o id v is g under =
     subst (λ (z : View). Steps count o id z (λ ws. ws) (λ ws. Looks z g (slice_index ws g))) (sym is) (looks_at count o id v.held v.seen g under)
 
--- the granule of an operation that lies in the region is one of the region's
+-- the granule of an access that lies in the region is one of the region's
 pub granule_below : (o : Opening) (access : Access) → IsLawful access → lies_in access.addr access.len o.region ≡ true
     → granule_of access.addr o.region < o.region.granules
 granule_below o access lawful fits =
@@ -156,7 +156,7 @@ granule_below o access lawful fits =
     let some : 1 ≤ access.len = (placed access.addr access.len lawful.part lawful.aligned).some in
     omega arith
 
--- the entry of an operation at the end of a history
+-- the entry of an access at the end of a history
 abbrev pub next_of : Opening → List Entry → ℕ → Access → Entry
 next_of o h src access = entry src access (answer access (end o h))
 

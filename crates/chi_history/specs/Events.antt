@@ -24,7 +24,7 @@ pub record IsAt (count : ℕ) (o : Opening) (h : List Entry) (words : List ℕ) 
   pub stands : RuleStands count o h words views
   pub at : get_elem? views id ≡ plain.some v
 
--- the history with the entry of an operation more
+-- the history with the entry of an access more
 abbrev pub with_entry : Opening → List Entry → ℕ → Access → List Entry
 with_entry o h src access = h ++ entry src access (answer access (end o h)) ∷ []
 
@@ -85,7 +85,7 @@ ExchangeIsPossible = (count : ℕ) (o : Opening) (id : ℕ) (v : View) → v ≡
     × (w.seen ≡ with_entry o h src access))
     (RuleStands count o h words (slice_set views id w) × (w.seen ≡ h))
 
--- So is an exchange of all words that are as they were expected, for those that the operation leaves.
+-- So is an exchange of all words that are as they were expected, for those that the access leaves.
 abbrev pub ReplaceIsPossible : Type 0
 ReplaceIsPossible = (count : ℕ) (o : Opening) (id : ℕ) (v : View) → v ≡ knower o v.held v.seen → (next src : ℕ) (access : Access)
     → has v.held src ≡ true → IsLawful access → lies_in access.addr access.len o.region ≡ true

@@ -52,7 +52,7 @@ unfoldable pub IsFreeOf : Held → List Entry → Type 0
 IsFreeOf held [] = Unit {0}
 IsFreeOf held (e ∷ es) = (held e.src ≡ false) × IsFreeOf held es
 
--- an operation changes some byte of a region's granule
+-- an access changes some byte of a region's granule
 abbrev pub changes : Access → Memory → Extent → ℕ → Bool
 changes access m region g = not (same_bytes (bytes_from m (region.base + 8 * g) 8) (bytes_from (after access m) (region.base + 8 * g) 8))
 

@@ -32,15 +32,15 @@ PrefixIsLegal = (o : Opening) (h x : List Entry) → IsLegal o (h ++ x) → IsLe
 abbrev pub EntriesOfAdd : Type 0
 EntriesOfAdd = (x y : List Entry) (r : ℕ) → of (x ++ y) r ≡ of x r ++ of y r
 
--- a stretch that is free of a number has no entry of it
+-- a stretch that contains no entry of a set has none of a number in it
 abbrev pub FreeHasNone : Type 0
 FreeHasNone = (held : Held) (x : List Entry) (r : ℕ) → held r ≡ true → IsFreeOf held x → of x r ≡ []
 
--- two stretches that are free of a set make one that is
+-- two stretches that contain no entry of a set make one that contains none
 abbrev pub FreeAdds : Type 0
 FreeAdds = (held : Held) (x y : List Entry) → IsFreeOf held x → IsFreeOf held y → IsFreeOf held (x ++ y)
 
--- a stretch of a legal history that is free of every requester is empty
+-- a stretch of a legal history that contains no entry of any requester is empty
 abbrev pub FreeOfAllIsEmpty : Type 0
 FreeOfAllIsEmpty = (o : Opening) (h x : List Entry) (held : Held) → ((r : ℕ) → r < o.requesters → held r ≡ true)
     → IsLegal o (h ++ x) → IsFreeOf held x → x ≡ []

@@ -1,4 +1,4 @@
--- what the lines of a transcript tell of a history
+-- what the lines of a transcript report of a history
 use Rattle.std.specs.Prelude.{ℕ, ◌==◌, Bool, false, List, [], ◌∷◌, Option, None, Some, Result, Ok, Err, count_by}
 use Rattle.std.specs.List.{flat_map}
 use Rattle.chi_fields.specs.declared.refusal.Refusal.{Refusal}
@@ -52,7 +52,7 @@ abbrev pub serial_after : Result Access Refusal → Memory → Memory
 serial_after (Ok a) m = after a m
 serial_after (Err fault) m = m
 
--- the lines of requests that are worked one after another, from a memory on
+-- the lines of requests that are executed one after another, from a memory on
 unfoldable pub serial : Extent → List Request → Memory → List Line
 serial region [] m = []
 serial region (q ∷ qs) m = serial_line (decision q region) q m ∷ serial region qs (serial_after (decision q region) m)

@@ -1,4 +1,4 @@
--- what a step tells the seat that takes it: of its view before, and of that after
+-- what a step shows the seat that takes it: of its view before, and of that after
 use Rattle.std.specs.Prelude.{◌≡◌, ℕ, ◌<◌, ◌==◌, true, List, [], ◌∷◌, ◌++◌, slice_index, bit_xor, MatchBool}
 use Rattle.chi_fields.specs.Extent.{IsRegion, granule_of}
 use Rattle.chi_fields.specs.Access.{Access}
@@ -19,7 +19,7 @@ pub record Sees (v : View) (mid : List Entry) (w : View) : Type 0 where
   pub free : IsFreeOf (has v.held) mid
   pub legal : IsLegal v.opening (v.seen ++ mid)
 
--- the entry of an operation, at the end of a history
+-- the entry of an access, at the end of a history
 abbrev pub next_entry : View → List Entry → ℕ → Access → Entry
 next_entry v h src access = entry src access (answer access (end v.opening h))
 
@@ -67,7 +67,7 @@ pub record Settles (v w : View) : Type 0 where
   pub legal : IsLegal v.opening v.seen
   pub numbers : (r : ℕ) → has v.held r ≡ true → r < v.opening.requesters
 
--- `next` is what a store keeps after the operation, of every memory whose granule it keeps as `found`
+-- `next` is what a store keeps after the access, of every memory whose granule it keeps as `found`
 abbrev pub Applies : Opening → Access → ℕ → ℕ → Type 0
 Applies o access found next = (m : Memory) → IsRegion o.region → IsMemory m
     → word m o.region (granule_of access.addr o.region) ≡ bit_xor found (first_word o (granule_of access.addr o.region))

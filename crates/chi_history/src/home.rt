@@ -7,7 +7,7 @@ use chi_fields::{Access, Region};
 use chi_lanes::Reply;
 use std::sync::Wait;
 
-/// A home that executes the operations of many requesters on the memory of its region.
+/// A home that executes the accesses of many requesters on the memory of its region.
 ///
 /// Each call is made with a seat, which holds the numbers of some requesters. Contracts see a seat as the set
 /// `held` of these numbers and the legal history `seen`; a seat is of the opening that it comes from.

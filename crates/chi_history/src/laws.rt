@@ -32,17 +32,17 @@ pub fn entries_of_add()
     ensures { EntriesOfAdd }
 {}
 
-/// A stretch that is free of a number has no entry of it.
+/// A stretch that contains no entry of a set has none of a number in it.
 pub fn free_has_none()
     ensures { FreeHasNone }
 {}
 
-/// Two stretches that are free of a set make one that is.
+/// Two stretches that contain no entry of a set make one that contains none.
 pub fn free_adds()
     ensures { FreeAdds }
 {}
 
-/// A stretch of a legal history that is free of every requester is empty.
+/// A stretch of a legal history that contains no entry of any requester is empty.
 pub fn free_of_all_is_empty()
     ensures { FreeOfAllIsEmpty }
 {}

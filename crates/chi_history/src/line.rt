@@ -1,4 +1,4 @@
-//! What became of a request, as a transcript tells it.
+//! What became of a request, as a transcript reports it.
 
 use chi_fields::{Refusal, Request};
 use chi_lanes::Reply;

@@ -48,7 +48,7 @@ race_is : (app : App) → (t : IsRaceApp app) → app ≡ with_rule (task_of (co
 unfolding task_of
 race_is app t = t.4 ∙ ap₂ with_rule (task_is (codes "race") t.0 t.2) t.3.2
 
--- `clap` says what it answers to any words
+-- `clap` says what it answers to any arguments
 pub program_is_simple : (app : App) → IsProgram app → is_simple_and_free app ≡ true
 unfolding both
 program_is_simple app p =

@@ -35,7 +35,7 @@ IsRaceApp app =
     (task : App) × (workers : Rule) × IsTaskApp (codes "race") task
     × IsChoice (codes "workers") (codes "2" ∷ codes "4" ∷ []) (codes "2") workers × (app ≡ with_rule task workers)
 
--- the program: it wants a task, has a version, and its name is not among its words
+-- the program: it wants a task, has a version, and its name is not among its arguments
 abbrev pub bare_app : App
 bare_app = on_top (λ s. record s { no_binary_name = true; has_version = true; subcommand_required = true }) (new_app (codes "chihome"))
 
@@ -45,11 +45,11 @@ IsProgram app =
     (run : App) × (race : App) × IsTaskApp (codes "run") run × IsRaceApp race
     × (app ≡ with_subcommand (with_subcommand bare_app run.top) race.top)
 
--- why the words name no task: there is no memory, or `clap` finds this fault in them or is asked for help
+-- why the arguments name no task: there is no memory, or `clap` finds this fault in them or is asked for help
 abbrev pub IsArgumentsFault : List Text → ErrorKind → Type 0
 IsArgumentsFault arguments kind =
     (kind ≡ error_kind.OutOfMemory) ⊎ ((app : App) × IsProgram app × IsAmong kind (fault_of app arguments))
 
--- the words name a task: `clap` finds no fault in them
+-- the arguments name a task: `clap` finds no fault in them
 abbrev pub IsTaken : List Text → Type 0
 IsTaken arguments = (app : App) × IsProgram app × (fault_of app arguments ≡ [])

@@ -8,8 +8,8 @@ use Rattle.clap.specs.declared.error.kind.ErrorKind.TheVariants as error_kind
 abbrev pub IsStatus : ℕ → Type 0
 IsStatus n = (n ≡ 0) ⊎ ((2 ≤ n) × (n ≤ 5))
 
--- the status where the words name no task: 4 out of memory, 0 for the help, or 5 where it could not be
--- written, and 2 for words that are refused
+-- the status where the arguments name no task: 4 out of memory, 0 for the help, or 5 where it could not be
+-- written, and 2 for arguments that are refused
 abbrev pub IsStatusOfArguments : ErrorKind → ℕ → Type 0
 IsStatusOfArguments error_kind.OutOfMemory n = n ≡ 4
 IsStatusOfArguments error_kind.DisplayHelp n = (n ≡ 0) ⊎ (n ≡ 5)

@@ -25,8 +25,8 @@ abbrev pub end_status : Result (Unit {0}) EngineFault → ℕ
 end_status (Ok done) = 0
 end_status (Err fault) = status_of fault
 
--- The task came to an outcome of this status: what it tells of the store, what it wrote, and what it made of the
--- input where the reader tells that.
+-- The task came to an outcome of this status: what it reports of the store, what it wrote, and what it made of the
+-- input where the reader's bytes are known.
 abbrev pub Ends : Task → Options → Option (List ℕ) → Option (List ℕ) → Option (List ℕ) → ℕ → Type 0
 Ends task options input old new status =
     (result : Result (Unit {0}) EngineFault) × ReportsOpening options result × KeepsUnexecuted old new result
@@ -38,7 +38,7 @@ IsUnrefused (Err (Open open_fault.RequesterCount)) = ⊥
 IsUnrefused (Err (Open open_fault.AttemptCount)) = ⊥
 IsUnrefused result = Unit {0}
 
--- The words name a task, with 1 to 16 tries: `clap` finds no fault in them. The task came to an outcome of this
+-- The arguments name a task, with 1 to 16 tries: `clap` finds no fault in them. The task came to an outcome of this
 -- status, which is never that the store was refused for its requesters or for its tries.
 abbrev pub DoesTask : List Text → Option (List ℕ) → Option (List ℕ) → Option (List ℕ) → ℕ → Type 0
 DoesTask arguments input old new status =
@@ -46,12 +46,12 @@ DoesTask arguments input old new status =
     × IsAttemptCount options.attempts × IsUnrefused result × KeepsUnexecuted old new result
     × IfSome input (λ bytes. TaskOutcome task options bytes old new result) × (status ≡ end_status result)
 
--- The words name no task, for this kind of fault in them. The status is that of the kind, and where the transcript
+-- The arguments name no task, for this kind of fault in them. The status is that of the kind, and where the transcript
 -- goes only help is written.
 abbrev pub ReportsArguments : List Text → Option (List ℕ) → Option (List ℕ) → ℕ → Type 0
 ReportsArguments arguments old new status =
     (kind : ErrorKind) × IsArgumentsFault arguments kind × IsStatusOfArguments kind status × KeepsButForHelp kind old new
 
--- what the program does with its words
+-- what the program does with its arguments
 abbrev pub ProgramOutcome : List Text → Option (List ℕ) → Option (List ℕ) → Option (List ℕ) → ℕ → Type 0
 ProgramOutcome arguments input old new status = ReportsArguments arguments old new status ⊎ DoesTask arguments input old new status

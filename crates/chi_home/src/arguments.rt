@@ -1,4 +1,4 @@
-//! The program on the words of its command line.
+//! The program on the arguments of its command line.
 
 ghost use Rattle.std.specs.Prelude.{◌≡◌, map, string_bytes, IfSome};
 ghost use Rattle.clap.specs.Values.{kind_of};
@@ -42,7 +42,7 @@ fn run_task<T: AllocGlobal + Threads + Wait + Sync, R: Read, W: Write>(
     }
 }
 
-// Tells why the engine ended early. The status is that of the fault.
+// Reports why the engine ended early. The status is that of the fault.
 pub(crate) fn report_fault<E: Write>(fault: &EngineFault, errors: &mut E) -> u8
     ensures { result ≡ status_of fault.now }
 {
@@ -50,7 +50,7 @@ pub(crate) fn report_fault<E: Write>(fault: &EngineFault, errors: &mut E) -> u8
     status_of(fault)
 }
 
-// Does a task with a script, and tells its fault. The status is 0 where the task was done.
+// Does a task with a script, and reports its fault. The status is 0 where the task was done.
 fn end_task<T: AllocGlobal + Threads + Wait + Sync, R: Read, W: Write, E: Write>(
     rt: &T,
     task: Task,
@@ -68,7 +68,7 @@ fn end_task<T: AllocGlobal + Threads + Wait + Sync, R: Read, W: Write, E: Write>
     }
 }
 
-// Tells what `clap` answers to the words: help to `to`, and a refusal to `errors`.
+// Reports what `clap` answers to the arguments: help to `to`, and a refusal to `errors`.
 fn report_arguments<W: Write, E: Write>(error: &Error, to: &mut W, errors: &mut E) -> u8
     ensures status { IsStatusOfArguments (kind_of error.now) result }
     ensures kept { KeepsButForHelp (kind_of error.now) (W.contents to.old) (W.contents to.new) }
@@ -86,12 +86,12 @@ fn report_arguments<W: Write, E: Write>(error: &Error, to: &mut W, errors: &mut 
     }
 }
 
-/// The program: reads the words after its name, does the task that they name with a script from `from`, and
-/// writes the transcript to `to`. A fault is told to `errors`, whose own faults are ignored. The answer is the
+/// The program: reads the arguments after its name, does the task that they name with a script from `from`, and
+/// writes the transcript to `to`. A fault is reported to `errors`, whose own faults are ignored. The answer is the
 /// status to end with.
 ///
 /// ```
-/// let status = run_words(&rt, &words, &mut input, &mut output, &mut errors);
+/// let status = run_words(&rt, &arguments, &mut input, &mut output, &mut errors);
 /// ```
 pub fn run_words<T: AllocGlobal + Threads + Wait + Sync, R: Read, W: Write, E: Write>(
     rt: &T,

@@ -16,7 +16,7 @@ use clap::error::ErrorKind;
 use clap::{Arg, ArgMatches, Command, Error, value_parser};
 use std::alloc::Global;
 
-/// What is done with a script: its requests are worked one after another, or raced.
+/// What is done with a script: its requests are executed one after another, or raced.
 #[derive(Clone, Copy, Debug, PartialEq, Eq)]
 pub enum Task {
     Run,
@@ -41,10 +41,10 @@ region, which begin as the script's image, or as zeros.
 Statuses: 0 done; 2 command line refused; 3 script or opening refused; 4 no memory;
 5 a read or a write failed.";
 
-const RUN_ABOUT: &str = "Works the requests in the order of the script, by one thread";
+const RUN_ABOUT: &str = "Executes the requests in the order of the script, by one thread";
 
 const RACE_ABOUT: &str =
-    "Works the requests of 1 and 2, or of 1 to 4, at the same time, each in order, and then those of 0";
+    "Executes the requests of 1 and 2, or of 1 to 4, at the same time, each in order, and then those of 0";
 
 // An option of a task that takes a value.
 fn task_option<'a>(
@@ -144,8 +144,8 @@ fn whole_command<'a>(alloc: Global) -> Result<Command<'a>, Error>
     )
 }
 
-// The options that a subcommand was given, or that stand in for them. `clap` lets no other words and attempts
-// through than these.
+// The options that a subcommand was given, or that stand in for them. `clap` lets no other values through than
+// these.
 fn chosen_options(chosen: &ArgMatches<'_>) -> Options
     ensures { IsAttemptCount result.attempts }
 {
@@ -190,13 +190,13 @@ fn chosen_task(name: &str, chosen: &ArgMatches<'_>) -> (Task, Options)
     }
 }
 
-/// Reads the words after the program's name: `run` or `race`, and its options.
+/// Reads the arguments after the program's name: `run` or `race`, and its options.
 ///
-/// Which words are refused, and as what, `clap`'s definitions say of the program's command line. Which task and
+/// Which arguments are refused, and as what, `clap`'s definitions say of the program's command line. Which task and
 /// options the others name no contract says; tests show it.
 ///
 /// ```
-/// let (task, options) = options_of(alloc, &words)?; // race --store lock --policy return
+/// let (task, options) = options_of(alloc, &arguments)?; // race --store lock --policy return
 /// ```
 pub fn options_of(alloc: Global, arguments: &[String]) -> Result<(Task, Options), Error>
     ensures attempts { IfOk result (λ r. IsAttemptCount r.1.attempts) }

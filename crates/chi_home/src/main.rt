@@ -14,7 +14,7 @@ use std::env::{self, Env};
 use std::io::{self, Write};
 use std::process::ExitCode;
 
-// The words after the program's name.
+// The arguments after the program's name.
 fn arguments_after_name<T: AllocGlobal + Env>(rt: &T) -> io::Result<Vec<String>> {
     let mut arguments = Vec::new(rt.alloc());
     for argument in env::args(rt)?.skip(1) {
@@ -23,7 +23,7 @@ fn arguments_after_name<T: AllocGlobal + Env>(rt: &T) -> io::Result<Vec<String>>
     Ok(arguments)
 }
 
-// Tells why the words cannot be had: out of memory, or a word that is not text. The answer is the status.
+// Reports why the arguments cannot be had: out of memory, or an argument that is not text. The answer is the status.
 fn report_no_arguments<E: Write>(fault: &io::Error, errors: &mut E) -> u8
     ensures { (result ≡ 4) ⊎ (result ≡ 2) }
 {

@@ -1,4 +1,4 @@
-//! The program on the words of its command line.
+//! The program on the arguments of its command line.
 
 use crate::arguments::run_words;
 use std::alloc::AllocError;
@@ -46,7 +46,7 @@ m 0000000000001030 0000000000000000
 m 0000000000001038 0000000000000000
 ";
 
-// These words, as the program is given them.
+// These arguments, as the program is given them.
 fn arguments_of(rt: &impl AllocGlobal, arguments: &[&str]) -> Result<Vec<String>, AllocError> {
     let mut all = Vec::new(rt.alloc());
     for argument in arguments {
@@ -63,7 +63,7 @@ struct Output {
     errors: Vec<u8>,
 }
 
-// Runs the program on these words, with this text on its standard input.
+// Runs the program on these arguments, with this text on its standard input.
 fn run_on<T: AllocGlobal + Threads + Wait + Sync>(
     rt: &T,
     arguments: &[&str],
@@ -86,7 +86,7 @@ fn run_on<T: AllocGlobal + Threads + Wait + Sync>(
     })
 }
 
-// The words are refused with status 2, and only standard error is written.
+// The arguments are refused with status 2, and only standard error is written.
 fn assert_arguments_refused<T: AllocGlobal + Abort + Threads + Wait + Sync>(
     rt: &T,
     arguments: &[&str],
@@ -98,7 +98,7 @@ fn assert_arguments_refused<T: AllocGlobal + Abort + Threads + Wait + Sync>(
     Ok(())
 }
 
-// The program writes this transcript on these words.
+// The program writes this transcript on these arguments.
 fn assert_transcript<T: AllocGlobal + Abort + Threads + Wait + Sync>(
     rt: &T,
     arguments: &[&str],

@@ -1,4 +1,4 @@
--- what an operation leaves of a memory: bytes, and the words of every other granule
+-- what an access leaves of a memory: bytes, and the words of every other granule
 use Rattle.std.proofs.Common.{◌≡◌, ◌≢◌, ℕ, ◌+◌, ◌-◌, ◌*◌, ◌/◌, ◌%◌, ◌<◌, ◌≤◌, ◌==◌, ◌⊎◌, inl, inr, Bool, true, false, cond, List, length, slice_range, refl, sym, ap, ◌∙◌, arith}
 use Rattle.std.proofs.lemmas.Bool.{and_parts, cases_lt, leb-true}
 use Rattle.chi_fields.specs.declared.kind.Kind.{Kind}
@@ -67,7 +67,7 @@ AreBytes-swp lanes l len are = by_half (l == l - l % (2 * len))
     by_half true = AreBytes-slice_range lanes (w + len) (w + 2 * len) are
     by_half false = AreBytes-slice_range lanes w (w + len) are
 
--- what an operation combines is of bytes
+-- what an access combines is of bytes
 AreBytes-combined : (op : Op) (o : Access) (m : Memory) → IsMemory m → IsLawful o
     → AreBytes (combine op o.endian (old o m) (sent o.lanes (lane_of o.addr) o.len))
 AreBytes-combined op o m is lawful =
@@ -80,7 +80,7 @@ pub length-combined : (op : Op) (o : Access) (m : Memory) → IsLawful o
 length-combined op o m lawful =
     length-combine op o.endian (old o m) (sent o.lanes (lane_of o.addr) o.len) (length-old o lawful m) ∙ length-bytes_from m o.addr o.len
 
--- an operation of any kind leaves a memory a memory
+-- an access of any kind leaves a memory a memory
 IsMemory-after_as : (kind : Kind) (o : Access) (m : Memory) → IsMemory m → IsLawful o → IsMemory (after_as kind o m)
 IsMemory-after_as Read o m is lawful = is
 IsMemory-after_as Write o m is lawful = IsMemory-with_enabled o.lanes o.enables m lawful.bytes is o.addr o.len
@@ -95,7 +95,7 @@ IsMemory-after_as Compare o m is lawful = by_test (same_bytes (old o m) (cmp o.l
     by_test true = IsMemory-with_bytes m is o.addr (swp o.lanes (lane_of o.addr) o.len) (AreBytes-swp o.lanes (lane_of o.addr) o.len lawful.bytes)
     by_test false = is
 
--- a lawful operation leaves a memory a memory
+-- a lawful access leaves a memory a memory
 pub IsMemory-after : (o : Access) (m : Memory) → IsMemory m → IsLawful o → IsMemory (after o m)
 IsMemory-after o m is lawful = IsMemory-after_as o.kind o m is lawful
 
@@ -106,7 +106,7 @@ written_other o m bs s lawful long aligned other =
     let place = placed o.addr o.len lawful.part lawful.aligned in
     word_at-outside m o.addr bs s (rw long (elsewhere o.addr o.len s place aligned other))
 
--- an operation of any kind leaves the words of other granules
+-- an access of any kind leaves the words of other granules
 word_at-after_as : (kind : Kind) (o : Access) (m : Memory) (s : ℕ) → IsLawful o → s % 8 ≡ 0 → s ≢ granule_start o.addr
     → word_at (after_as kind o m) s ≡ word_at m s
 word_at-after_as Read o m s lawful aligned other = refl
@@ -127,7 +127,7 @@ word_at-after_as Compare o m s lawful aligned other = by_test (same_bytes (old o
         written_other o m (swp o.lanes (lane_of o.addr) o.len) s lawful (length-swp o.lanes (lane_of o.addr) o.len lawful.packet lawful.part lane_below) aligned other
     by_test false = refl
 
--- a lawful operation leaves the word of every granule but its own
+-- a lawful access leaves the word of every granule but its own
 pub word_at-after_other : (o : Access) (m : Memory) (s : ℕ) → IsLawful o → s % 8 ≡ 0 → s ≢ granule_start o.addr
     → word_at (after o m) s ≡ word_at m s
 word_at-after_other o m s lawful aligned other = word_at-after_as o.kind o m s lawful aligned other
@@ -137,7 +137,7 @@ start_of_granule : (base addr g : ℕ) → base % 64 ≡ 0 → base ≤ addr →
     → ((base + 8 * g) % 8 ≡ 0) × (base + 8 * g ≢ granule_start addr)
 start_of_granule base addr g line above other = (omega arith, λ same. other (omega arith))
 
--- the same over a region in which the operation lies
+-- the same over a region in which the access lies
 pub word-after_other : (o : Access) (m : Memory) (region : Extent) (g : ℕ) → IsLawful o → IsRegion region
     → lies_in o.addr o.len region ≡ true → g ≢ granule_of o.addr region → word (after o m) region g ≡ word m region g
 word-after_other o m region g lawful is_region fits other =

@@ -1,4 +1,4 @@
--- the operand of a lawful operation, in its granule's word and in the packet
+-- the operand of a lawful access, in its granule's word and in the packet
 use Rattle.std.proofs.Common.{◌≡◌, ℕ, ◌+◌, ◌-◌, ◌*◌, ◌%◌, ◌^◌, ◌<◌, ◌≤◌, ◌==◌, Bool, true, false, cond, List, [], ◌∷◌, ◌++◌, length, take, drop, slice_range, refl, sym, ap, ◌∙◌, arith, inl, inr, eqb-true, eq-eqb, true≢false, ◌≢◌}
 use Rattle.std.proofs.lemmas.Bool.{and_from, and_parts}
 use Rattle.chi_fields.specs.Access.{IsLen, lane_of}

@@ -1,4 +1,4 @@
--- what an operation makes of a memory, and what it answers
+-- what an access makes of a memory, and what it answers
 use Rattle.std.specs.Prelude.{ℕ, ◌==◌, Bool, true, false, ◌&&◌, if◌then◌else◌, List, [], ◌∷◌}
 use Rattle.chi_fields.specs.declared.kind.Kind.{Kind}
 use Rattle.chi_fields.specs.declared.kind.Kind.TheVariants.{Read, Write, Store, Load, Swap, Compare}
@@ -32,7 +32,7 @@ after_as (Load op) o m = with_bytes m o.addr (combine op o.endian (old o m) (sen
 after_as Swap o m = with_bytes m o.addr (sent o.lanes (lane_of o.addr) o.len)
 after_as Compare o m = after_compare o m
 
--- the memory after an operation
+-- the memory after an access
 abbrev pub after : Access → Memory → Memory
 after o m = after_as o.kind o m
 
@@ -41,6 +41,6 @@ answer_as Write o m = Comp
 answer_as (Store op) o m = Comp
 answer_as _ o m = CompData (in_lanes (lane_of o.addr) (old o m))
 
--- what the operation answers, of the memory before it
+-- what the access answers, of the memory before it
 abbrev pub answer : Access → Memory → Reply
 answer o m = answer_as o.kind o m

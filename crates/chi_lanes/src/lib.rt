@@ -1,4 +1,4 @@
-//! Operations on the packed words of granules.
+//! Accesses on the packed words of granules.
 #![tactic(auto)]
 
 mod byte_order;

@@ -1,4 +1,4 @@
-//! An operation on the word of its granule.
+//! An access on the word of its granule.
 
 ghost use Rattle.std.specs.Prelude.{◌≡◌, ℕ, IsTrue};
 ghost use Rattle.chi_fields.specs.Extent.{Extent, IsRegion, granule_of, lies_in};
@@ -11,7 +11,7 @@ use crate::packet::answer_lanes;
 use crate::reply::Reply;
 use chi_fields::{Access, Kind};
 
-// The operation, over the granule of its address.
+// The access, over the granule of its address.
 #[inline(always)]
 fn applied(before: u64, access: &Access) -> (u64, Reply)
     ensures changed { (m : Memory) → IsMemory m → before ≡ word_at m (granule_start access.now.addr) →
@@ -37,7 +37,7 @@ fn applied(before: u64, access: &Access) -> (u64, Reply)
     }
 }
 
-/// The word of an operation's granule after it, and the reply.
+/// The word of an access's granule after it, and the reply.
 ///
 /// Byte `k` of a word is its bits `8k` to `8k + 7`, and stands for the granule's address plus `k`. The word
 /// and the reply are those of the byte definition, for every region that the access fits and every memory

@@ -1,4 +1,4 @@
-//! Tests of operations on the words of granules, by the bytes before and after them and the answers.
+//! Tests of accesses on the words of granules, by the bytes before and after them and the answers.
 
 use crate::{Reply, apply};
 use chi_fields::{Region, Request, decode};

@@ -28,7 +28,7 @@ line_reads id v live x = ruled_steps 8 v.opening id v (λ ws. ws) (Reads v) live
 pub line_settles : (id : ℕ) (v : View) → v.live ≡ true → Turns (Ruled 8) id v (λ x. x) (λ v x y w. Settles v w)
 line_settles id v live x = ruled_steps 8 v.opening id v (λ ws. ws) (λ _. Settles v) live refl (settles 8 v.opening id v live) x
 
--- the exchange of the line for one with the operation's word
+-- the exchange of the line for one with the access's word
 pub line_tries : (o : Opening) (id : ℕ) (v : View) → v ≡ knower o v.held v.seen → (current new : List ℕ) (g next src : ℕ) (access : Access)
     → g ≡ granule_of access.addr o.region → has v.held src ≡ true → IsLawful access → lies_in access.addr access.len o.region ≡ true
     → Applies o access (slice_index current g) next → new ≡ set current g next
@@ -49,7 +49,7 @@ line_moves id v live = ruled_parts 8 v.opening id v gone v live refl (moves 8 v.
 pub line_unites : (id : ℕ) (v : View) (other : ℕ) (w : View) → v.live ≡ true → Merges (Ruled 8) id v other w (both v w) gone
 line_unites id v other w live = ruled_unites 8 v.opening id v other w (both v w) gone live refl (unites 8 v.opening id v other w live)
 
--- what the exchange of the line tells its caller
+-- what the exchange of the line shows its caller
 pub line_tried : (r : Result (List ℕ) (List ℕ)) (v w : View) (current : List ℕ) (src : ℕ) (access : Access)
     → MatchResult r (λ x. (pointwise nat_eq x current ≡ true) × Tries v current src access x w) (λ x. (pointwise nat_eq x current ≡ false) × Tries v current src access x w)
     → MatchResult r (λ _. Replaces v current src access w) (λ _. w ≡ v)

@@ -1,4 +1,4 @@
-//! A home whose line of words stands in one cell under a lock.
+//! A home whose cache line stands in one cell under a lock.
 #![tactic(auto)]
 
 mod home;

@@ -1,4 +1,4 @@
-//! The cell of the line's words, its rule, and what looks at it tell.
+//! The cell of the cache line, its rule, and what looks at it show.
 
 use atomic_table::{Join, Split};
 use chi_history::View;
@@ -8,7 +8,7 @@ use crossbeam_utils::rule::{Outcome, Protocol};
 /// How many granules a line has: their words are the 64 bytes that a region's base is a multiple of.
 pub const LINE_GRANULES: usize = 8;
 
-/// The line: the words of a region's granules, and zeros after them.
+/// The cache line: the words of a region's granules, and zeros after them.
 pub(crate) type Words = [u64; LINE_GRANULES];
 
 /// The cell that has the line.

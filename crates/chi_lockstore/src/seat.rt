@@ -4,7 +4,7 @@ use crate::rule::LinePass;
 use chi_history::Numbers;
 
 /// What a caller holds of a [`LockStore`](crate::LockStore): the numbers of some requesters, and the pass by
-/// which their operations are served. It is not copied.
+/// which their accesses are served. It is not copied.
 #[derive(Drop)]
 pub struct LockSeat {
     pub(crate) pass: LinePass,

@@ -1,4 +1,4 @@
-//! An operation on the line, until its exchange wins.
+//! An access on the line, until its exchange wins.
 
 ghost use Rattle.std.specs.Prelude.{◌≡◌, true, IsTrue};
 ghost use Rattle.chi_fields.specs.Extent.{lies_in};
@@ -18,7 +18,7 @@ use std::alloc::Allocator;
 use std::marker::Brand;
 use std::sync::Wait;
 
-/// Serves the operation on the words found, and again on those found instead, until no other came between.
+/// Serves the access on the words found, and again on those found instead, until no other came between.
 pub(crate) fn complete<A: Allocator, R: Wait>(
     cell: &Cell<A>,
     values: &OpeningValues<A>,

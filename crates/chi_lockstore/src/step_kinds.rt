@@ -1,4 +1,4 @@
-//! What a caller asks of a step on the line. Each value is picked where the step is called.
+//! The kinds of steps on the line that a caller chooses a value for. Each value is picked where the step is called.
 
 use crate::rule::Words;
 use atomic_table::Split;
@@ -52,7 +52,7 @@ impl ChosenExchange for Brand {
     ghost current = { [] };
 }
 
-/// The exchange of the line for what the operation makes of it.
+/// The exchange of the line for what the access makes of it.
 pub(crate) struct LineExchange<Q> {
     of: PhantomData<Q>,
 }

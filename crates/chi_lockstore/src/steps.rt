@@ -1,4 +1,4 @@
-//! The steps on the line: each takes effect at one moment, and tells the seat that took it what it learned.
+//! The steps on the line: each takes effect at one moment, and shows the seat that took it what was found.
 
 ghost use Rattle.std.specs.Prelude.{◌≡◌, ◌≤◌, ◌<◌, ℕ, [], true, IsTrue, IfOk, slice_index, MatchResult};
 ghost use Rattle.chi_fields.specs.Extent.{granule_of, lies_in};
@@ -34,7 +34,7 @@ pub(crate) fn begin<Q: ChosenOpening, A: Allocator + Copy>(
     Ok((cell, pass))
 }
 
-/// Exchanges the line for one with `next` in the operation's granule, where it is still `current`. Where it
+/// Exchanges the line for one with `next` in the access's granule, where it is still `current`. Where it
 /// is not, the words found come back.
 pub(crate) fn try_once<Q: ChosenExchange, A: Allocator, R: Wait>(
     cell: &Cell<A>,
@@ -96,7 +96,7 @@ pub(crate) fn give<Q: SplitNumber, A: Allocator>(
     cell.split_pass::<SplitOff<Q>>(pass)
 }
 
-/// Makes two passes one, and looks at the line: only this look tells how what both had seen goes together.
+/// Makes two passes one, and looks at the line: only this look shows how what both had seen goes together.
 pub(crate) fn take_in<A: Allocator, R: Wait>(
     cell: &Cell<A>,
     rt: &R,

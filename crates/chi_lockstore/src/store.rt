@@ -14,9 +14,9 @@ use std::alloc::{Allocator, Global};
 use std::marker::Brand;
 use std::mem::size_of_val;
 
-/// A home whose memory is one line of words in a cell, each as the exclusive-or with its word at the opening. An
-/// operation reads the line whole, and exchanges it for a changed one where no other came between; it never
-/// answers RetryAck.
+/// A home whose memory is one cache line in a cell, each word as the exclusive-or with its word at the opening. An
+/// access reads the line whole, and exchanges it for a changed one where no other came between; RetryAck never
+/// answers it.
 ///
 /// The line's memory is of any allocator. The store keeps that a value of the allocator is small, since the cell
 /// has one in it.
@@ -67,7 +67,7 @@ impl<A: Allocator + Copy> LockStore<A> {
         if usize::from(region.granules()) > LINE_GRANULES {
             return Err(OpenFault::NotOneLine);
         }
-        // Never so, and known at compile time. It tells the proof that the cell fits in memory.
+        // Never so, and known at compile time. By it the proof knows that the cell fits in memory.
         if size_of_val(&alloc) >= 1 << 62 {
             return Err(OpenFault::Memory);
         }

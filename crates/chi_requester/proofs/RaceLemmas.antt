@@ -30,7 +30,7 @@ use Rattle.chi_requester.proofs.TeamLemmas.{left_more, left_still, racer_more}
 use Rattle.chi_requester.proofs.ReportLemmas.{access_of-decided, retried-append, told_unpaid}
 use Rattle.chi_requester.proofs.WorkLemmas.{executed_none}
 
--- the entries of a legal history that is free of a set are of the numbers outside it
+-- the entries of a legal history that contains no entry of a set are of the numbers outside it
 pub of_others : (o : Opening) (m : Memory) (held others : Held) (xs : List Entry) → union held others ≡ below o.requesters → IsLegalFrom o m xs → IsFreeOf held xs → IsOf others xs
 unfolding IsLegalFrom IsFreeOf IsOf
 of_others o m held others [] whole legal free = tt
@@ -66,7 +66,7 @@ unretried region policy limit (q ∷ qs) lines told paid =
         let done = told_unpaid region policy limit q a told.0 (access_of-decided region q a accepted) is (λ g. let s = split g in omega arith) in
         single (Completed q done.0) done.1 refl
 
--- 0 worked after the racers, by a seat that had taken theirs back
+-- the requests of 0 were executed after those of the racers, by a seat that had taken theirs back
 pub race_run : {o : Opening} {policy : Policy} {limit : ℕ} {all : List Request} {kept racers held : Held} {start seen seen' : List Entry} {lines lines' lines'' : ℕ → List Line}
     {first result : Result (Unit {0}) WorkFault} (last : Share) → racers 0 ≡ false → union kept racers ≡ below o.requesters → IsLegal o seen'
     → (t : IsTeamRun first o policy limit all kept racers held start seen lines lines') → (w : IsExecuted o policy limit held 0 seen seen' last.done last.appended)
@@ -124,7 +124,7 @@ race_stopped {o = o} {policy = policy} {limit = limit} {all = all} {racers = rac
     left (Ok u) is = cc
     left (Err e) is = left_still racers 0 idle t.share fault e apart t.are_left
 
--- 0 worked, after the racers were done
+-- the requests of 0 were executed, after the racers were done
 pub race_done : {o : Opening} {policy : Policy} {limit : ℕ} {all : List Request} {kept racers held : Held} {start seen seen' : List Entry} {lines lines' lines'' : ℕ → List Line} {u : Unit {0}}
     {result : Result (Unit {0}) WorkFault} → racers 0 ≡ false → union kept racers ≡ below o.requesters → IsLegal o seen' → IsTeamRun (Ok u) o policy limit all kept racers held start seen lines lines'
     → lines' 0 ≡ lines 0 → ((r : ℕ) → lines'' (suc r) ≡ lines' (suc r)) → IsWorkRun result o policy limit held 0 all seen seen' (lines' 0) (lines'' 0) → IsRaceRun result o policy limit racers all start seen' lines lines''

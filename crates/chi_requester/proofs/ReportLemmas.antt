@@ -1,4 +1,4 @@
--- what is told of requests, and the RetryAcks in it
+-- what is reported of requests, and the RetryAcks in it
 use Rattle.std.proofs.Common.{◌≡◌, ℕ, ◌+◌, ◌*◌, ◌≤◌, ◌==◌, List, [], ◌∷◌, ◌++◌, Option, None, Some, Ok, refl, sym, ap, subst, ◌∙◌, eq-eqb, zero-add, arith, append_assoc, append-nil, inl, inr}
 use Rattle.std.proofs.lemmas.Grind.{common_steps}
 use Rattle.std.proofs.lemmas.List.Sums.{sum_by-append}
@@ -18,13 +18,13 @@ use Rattle.chi_requester.specs.declared.policy.Policy.{Policy}
 use Rattle.chi_requester.specs.declared.policy.Policy.TheVariants.{Resend, Return}
 use Rattle.chi_requester.specs.Reports.{Retold, Told, ToldOf}
 
--- what may be told of one request may be told of it alone
+-- what may be reported of one request may be reported of it alone
 pub told_one : (region : Extent) (policy : Policy) (limit : ℕ) (q : Request) (piece : List Line) → ToldOf (decision q region) policy limit q piece
     → Told region policy limit (q ∷ []) piece
 unfolding Told
 told_one region policy limit q piece told = (piece, [], sym (append-nil piece), told, refl)
 
--- what is told of one request alone may be told of it
+-- what is reported of one request alone may be reported of it
 pub told_alone : (region : Extent) (policy : Policy) (limit : ℕ) (q : Request) (piece : List Line) → Told region policy limit (q ∷ []) piece
     → ToldOf (decision q region) policy limit q piece
 unfolding Told
@@ -33,7 +33,7 @@ told_alone region policy limit q piece told =
     let all : piece ≡ told.0 = told.2 ∙ (ap (λ (xs : List Line). told.0 ++ xs) told.4 ∙ append-nil told.0) in
     subst P (sym all) told.3
 
--- what is told of some requests, and then of others, is told of all of them
+-- what is reported of some requests, and then of others, is reported of all of them
 pub told-append : (region : Extent) (policy : Policy) (limit : ℕ) (qs rs : List Request) (xs ys : List Line) → Told region policy limit qs xs → Told region policy limit rs ys
     → Told region policy limit (qs ++ rs) (xs ++ ys)
 unfolding Told
@@ -50,7 +50,7 @@ pub retried_one : (region : Extent) (q : Request) (a : Access) (g : ℕ) → acc
     → retried region (Retried q ∷ []) g ≡ one_if (granule_of a.addr region == g)
 retried_one region q a g is = zero-add (one_if (is_in_granule region g (access_of q))) ∙ ap (λ (x : Option Access). one_if (is_in_granule region g x)) is
 
--- what is told of a request that was answered by RetryAck has one RetryAck, under either policy
+-- what is reported of a request that was answered by RetryAck has one RetryAck, under either policy
 pub retold_counted : (region : Extent) (policy : Policy) (q : Request) (a : Access) (piece : List Line) → access_of q ≡ Some a → Retold policy q piece
     → retried region piece (granule_of a.addr region) ≡ 1
 retold_counted region Resend q a piece is told =
@@ -74,7 +74,7 @@ access_of-decided region q a = by_kind (kind_of q.opcode)
     by_kind None decided = cc
     by_kind (Some kind) decided = ap (λ (o : Access). Some o) (access_as-decided region q kind a decided)
 
--- where no RetryAck is paid for, a request that is not refused is told of by its completion alone
+-- where no RetryAck is paid for, a request that is not refused is reported by its completion alone
 pub told_unpaid : (region : Extent) (policy : Policy) (limit : ℕ) (q : Request) (a : Access) (piece : List Line) → access_of q ≡ Some a
     → ToldOf (Ok a) policy limit q piece → ((g : ℕ) → limit * retried region piece g ≤ 0) → (reply : Reply) × (piece ≡ Completed q reply ∷ [])
 told_unpaid region policy limit q a piece is told unpaid = elim told [ inl done ↦ done | inr retry ↦ absurd (never retry.0 retry.1) ]

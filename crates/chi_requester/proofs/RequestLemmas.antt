@@ -19,7 +19,7 @@ use Rattle.chi_requester.specs.Work.{IsFollowed, IsExecuted}
 use Rattle.chi_requester.proofs.ReportLemmas.{access_of-decided, told_one}
 use Rattle.chi_requester.proofs.WorkLemmas.{Adds, adds-append, adds_done, adds_refused, adds_retried, executed_from}
 
--- what may be told of a request, as it is decided, may be told of it alone
+-- what may be reported of a request, as it is decided, may be reported of it alone
 told_decided : (region : Extent) (policy : Policy) (limit : ℕ) (q : Request) (d : Result Access Refusal) (piece : List Line) → decision q region ≡ d → ToldOf d policy limit q piece
     → Told region policy limit (q ∷ []) piece
 told_decided region policy limit q d piece is told =

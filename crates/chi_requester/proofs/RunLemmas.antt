@@ -12,7 +12,7 @@ use Rattle.chi_requester.specs.declared.policy.Policy.{Policy}
 use Rattle.chi_requester.specs.Work.{IsExecuted, IsWorkRun, own_requests}
 use Rattle.chi_requester.proofs.WorkLemmas.{are_left-err, executed-append, executed_none}
 
--- these requests were worked, and their lines were appended
+-- these requests were executed, and their lines were appended
 pub record ExecutedSoFar (o : Opening) (policy : Policy) (limit : ℕ) (held : Held) (src : ℕ) (qs : List Request) (seen seen' : List Entry) (lines lines' : List Line) : Type 0 where
   pub appended : List Line
   pub kept : lines' ≡ lines ++ appended

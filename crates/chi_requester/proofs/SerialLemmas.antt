@@ -1,4 +1,4 @@
--- requests that are worked one after another by a seat that holds every number
+-- requests that are executed one after another by a seat that holds every number
 use Rattle.std.proofs.Common.{◌≡◌, ℕ, ◌+◌, ◌*◌, ◌<◌, ◌≤◌, Bool, true, false, not, ◌&&◌, ◌==◌, nat_lt, cond, List, [], ◌∷◌, ◌++◌, Option, Result, Ok, Err, refl, sym, ap, subst, ◌∙◌, arith, append_assoc, append-nil, length, get_or, take, drop, IsErr, true≢false}
 use Rattle.std.proofs.lemmas.Bool.{lt-ltb}
 use Rattle.std.proofs.lemmas.List.{take_more, take-append-drop}
@@ -57,7 +57,7 @@ serial_end-entries region (q ∷ qs) m =
     later : Memory
     later = serial_after (decision q region) m
 
--- a legal history that is free of all other numbers is one requester's
+-- a legal history that contains no entry of any other number is one requester's
 pub of-alone : (o : Opening) (m : Memory) (src : ℕ) (xs : List Entry) → IsLegalFrom o m xs → IsFreeOf (without src (below o.requesters)) xs → of xs src ≡ xs
 unfolding IsLegalFrom IsFreeOf of
 of-alone o m src [] legal free = refl
@@ -92,8 +92,8 @@ unpaid_alone o limit held seen since lines all legal paid g =
     let own = paid g in
     omega arith
 
--- the only piece that may be told of a request by whom no other works: its refusal, or its completion with
--- the answer of the memory before it
+-- the only piece that may be reported of a request beside which no other is executed: its refusal, or its
+-- completion with the answer of the memory before it
 pub piece_alone : (o : Opening) (policy : Policy) (limit : ℕ) (m : Memory) (q : Request) (d : Result Access Refusal) (piece : List Line)
     → decision q o.region ≡ d → ToldOf d policy limit q piece → IsLegalFrom o m (entries piece)
     → ((g : ℕ) → limit * retried o.region piece g ≤ 0) → piece ≡ serial_line d q m ∷ []
@@ -110,7 +110,7 @@ piece_alone o policy limit m q (Ok a) piece is told legal unpaid = done.1 ∙ ap
     answered : done.0 ≡ answer a m
     answered = one.0.answered
 
--- these requests were worked, one after another, and no other
+-- these requests were executed, one after another, and no other
 pub record Progress (o : Opening) (qs : List Request) (seen seen' : List Entry) (lines lines' : List Line) : Type 0 where
   pub told : lines' ≡ lines ++ serial o.region qs (end o seen)
   pub grown : seen' ≡ seen ++ entries (serial o.region qs (end o seen))

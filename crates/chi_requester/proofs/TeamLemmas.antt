@@ -22,7 +22,7 @@ use Rattle.chi_requester.specs.Team.{AreLeftBy, HasEnded, IsTeamRun}
 use Rattle.chi_requester.specs.Work.{AreLeft, IsRacer, IsShare, IsExecuted, Share}
 use Rattle.chi_requester.proofs.FamilyLemmas.{put, put_each, put_other}
 
--- entries that are free of a set hit alike whether it is left out or not
+-- entries of which none is of a set hit alike whether it is left out or not
 pub hits_outside : (o : Opening) (m : Memory) (extra held : Held) (xs : List Entry) (g : ℕ) → IsFreeOf extra xs → hits_from o m xs g held ≡ hits_from o m xs g (union extra held)
 unfolding hits_from IsFreeOf
 hits_outside o m extra held [] g free = refl

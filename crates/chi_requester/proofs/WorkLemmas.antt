@@ -45,7 +45,7 @@ without-src src held = by_test (held src)
     by_test true = ap not (eq-eqb src src refl)
     by_test false = refl
 
--- what these lines tell of src was added to the history, with entries of numbers that the seat does not hold,
+-- what these lines report of src was added to the history, with entries of numbers that the seat does not hold,
 -- and their RetryAcks were paid for: the work, whatever requests it was on
 pub record Adds (o : Opening) (limit : ℕ) (held : Held) (src : ℕ) (seen seen' : List Entry) (lines : List Line) : Type 0 where
   pub since : List Entry
@@ -54,7 +54,7 @@ pub record Adds (o : Opening) (limit : ℕ) (held : Held) (src : ℕ) (seen seen
   pub free : IsFreeOf (without src held) since
   pub paid : (g : ℕ) → limit * retried o.region lines g ≤ hits o seen since g held
 
--- the work on requests, from what it adds and what is told of them
+-- the work on requests, from what it adds and what is reported of them
 pub executed_from : (o : Opening) (policy : Policy) (limit : ℕ) (held : Held) (src : ℕ) (seen seen' : List Entry) (qs : List Request) (lines : List Line)
     → Adds o limit held src seen seen' lines → Told o.region policy limit qs lines → IsExecuted o policy limit held src seen seen' qs lines
 executed_from o policy limit held src seen seen' qs lines x told =

@@ -39,7 +39,7 @@ is_retry (Completed q reply) = false
 is_retry (Refused q fault) = false
 is_retry (Retried q) = true
 
--- A legal history: first entries of the racers, in any order, and then entries of 0. The lines of each tell of
+-- A legal history: first entries of the racers, in any order, and then entries of 0. The lines of each report
 -- its requests and entries, and 0 had no RetryAck.
 pub record IsRace (o : Opening) (policy : Policy) (limit : ℕ) (racers : Held) (seen since : List Entry) (qs : ℕ → List Request) (lines : ℕ → List Line) : Type 0 where
   pub legal : IsLegal o (seen ++ since)
@@ -53,7 +53,7 @@ pub record IsRace (o : Opening) (policy : Policy) (limit : ℕ) (racers : Held) 
   pub zero_told : Told o.region policy limit (qs 0) (lines 0)
   pub zero_unretried : All (λ line. is_retry line ≡ false) (lines 0)
 
--- The racers' requests were worked at the same time, and then those of 0: all of them after Ok. After Memory a
+-- The racers' requests were executed at the same time, and then those of 0: all of them after Ok. After Memory a
 -- prefix of each one's, at least one of these proper; and none of 0's where that of a racer is proper. Earlier
 -- lines stay.
 pub record IsRaceRun (result : Result (Unit {0}) WorkFault) (o : Opening) (policy : Policy) (limit : ℕ) (racers : Held) (all : List Request)

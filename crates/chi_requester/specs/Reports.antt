@@ -1,4 +1,4 @@
--- what the lines of a requester's work tell of its requests, under a policy
+-- what the lines of a requester's work report of its requests, under a policy
 use Rattle.std.specs.Prelude.{◌≡◌, ℕ, ◌≤◌, List, [], ◌∷◌, ◌++◌, ◌⊎◌, Result, Ok, Err}
 use Rattle.chi_fields.specs.declared.refusal.Refusal.{Refusal}
 use Rattle.chi_fields.specs.declared.request.Request.{Request}
@@ -11,13 +11,13 @@ use Rattle.chi_history.specs.declared.line.Line.TheVariants.{Completed, Refused,
 use Rattle.chi_requester.specs.declared.policy.Policy.{Policy}
 use Rattle.chi_requester.specs.declared.policy.Policy.TheVariants.{Resend, Return}
 
--- what is told of a request that was answered by RetryAck: under Resend this, and then its completion on the
+-- what is reported of a request that was answered by RetryAck: under Resend this, and then its completion on the
 -- credit; under Return this alone
 abbrev pub Retold : Policy → Request → List Line → Type 0
 Retold Resend q piece = (reply : Reply) × (piece ≡ Retried q ∷ Completed q reply ∷ [])
 Retold Return q piece = piece ≡ Retried q ∷ []
 
--- What may be told of one request: its refusal alone; else its completion alone, or, only where the home
+-- What may be reported of one request: its refusal alone; else its completion alone, or, only where the home
 -- retries, a RetryAck and what the policy does after it.
 abbrev pub ToldOf : Result Access Refusal → Policy → ℕ → Request → List Line → Type 0
 ToldOf (Err fault) policy limit q piece = piece ≡ Refused q fault ∷ []

@@ -17,19 +17,19 @@ pub record IsReady {S G A : Type 0} (Belongs : S → Type 0) (held : S → Held)
   pub own : Belongs worker.seat
   pub alone : held worker.seat ≡ only worker.src
 
--- the worker worked its requests, and still holds its number alone
+-- the worker executed its requests, and still holds its number alone
 pub record HasEnded {S G A : Type 0} (Belongs : S → Type 0) (held : S → Held) (seen : S → List Entry) (o : Opening) (policy : Policy) (limit : ℕ) (all : List Request)
     (worker : Worker S G A) (work : WorkEnd S A) : Type 0 where
   pub own : Belongs work.seat
   pub alone : held work.seat ≡ only worker.src
   pub executed : IsWorkRun work.outcome o policy limit (only worker.src) worker.src all (seen worker.seat) (seen work.seat) worker.lines.items work.lines.items
 
--- the requests of the set that were not worked: none after Ok, and at least one after Memory
+-- the requests of the set that were not executed: none after Ok, and at least one after Memory
 abbrev pub AreLeftBy : Result (Unit {0}) WorkFault → Held → (ℕ → Share) → Type 0
 AreLeftBy (Ok _) set share = (r : ℕ) → set r ≡ true → (share r).left ≡ []
 AreLeftBy (Err _) set share = (r : ℕ) × (set r ≡ true) × ((share r).left ≢ [])
 
--- The team worked its requests by seats of their own, which a seat that had kept other numbers, 0 among them,
+-- The team executed its requests by seats of their own, which a seat that had kept other numbers, 0 among them,
 -- has taken back. What was added is of none that was kept. Earlier lines of the team stay.
 pub record IsTeamRun (result : Result (Unit {0}) WorkFault) (o : Opening) (policy : Policy) (limit : ℕ) (all : List Request) (kept team held : Held)
     (seen seen' : List Entry) (lines lines' : ℕ → List Line) : Type 0 where

@@ -20,19 +20,19 @@ use Rattle.chi_requester.specs.Reports.{Told}
 abbrev pub own_requests : List Request → ℕ → List Request
 own_requests qs src = filter (λ q. q.src == src) qs
 
--- the requests that were not worked: none after Ok, and at least one after Memory
+-- the requests that were not executed: none after Ok, and at least one after Memory
 abbrev pub AreLeft : Result (Unit {0}) WorkFault → List Request → Type 0
 AreLeft (Ok _) rest = rest ≡ []
 AreLeft (Err _) rest = rest ≢ []
 
 -- what follows a RetryAck to the requester src: under Resend the request is completed on the credit, and the
--- line that tells so is appended; under Return nothing more is done
+-- line of it is appended; under Return nothing more is done
 abbrev pub IsFollowed : Policy → Opening → Held → ℕ → List Entry → List Entry → Request → Access → List Line → List Line → Type 0
 IsFollowed Resend o held src seen seen' q a lines lines' =
     (reply : Reply) × (lines' ≡ lines ++ Completed q reply ∷ []) × Completes o held seen seen' src a reply 0
 IsFollowed Return o held src seen seen' q a lines lines' = (lines' ≡ lines) × (seen' ≡ seen)
 
--- The lines tell of these requests of the requester src, in order. The history went on by the entries of the
+-- The lines report these requests of the requester src, in order. The history went on by the entries of the
 -- completed ones, and by entries of numbers that the seat does not hold. Each RetryAck was paid for by as many
 -- changes of its granule as the limit says, made by others.
 pub record IsExecuted (o : Opening) (policy : Policy) (limit : ℕ) (held : Held) (src : ℕ) (seen seen' : List Entry) (qs : List Request) (lines : List Line) : Type 0 where
@@ -43,7 +43,7 @@ pub record IsExecuted (o : Opening) (policy : Policy) (limit : ℕ) (held : Held
   pub paid : (g : ℕ) → limit * retried o.region lines g ≤ hits o seen since g held
   pub told : Told o.region policy limit qs lines
 
--- The requests of src were worked, all of them after Ok, and a proper prefix of them after Memory. Earlier
+-- The requests of src were executed, all of them after Ok, and a proper prefix of them after Memory. Earlier
 -- lines stay.
 pub record IsWorkRun (result : Result (Unit {0}) WorkFault) (o : Opening) (policy : Policy) (limit : ℕ) (held : Held) (src : ℕ) (all : List Request) (seen seen' : List Entry) (lines lines' : List Line) : Type 0 where
   pub done : List Request
@@ -54,20 +54,20 @@ pub record IsWorkRun (result : Result (Unit {0}) WorkFault) (o : Opening) (polic
   pub kept : lines' ≡ lines ++ appended
   pub executed : IsExecuted o policy limit held src seen seen' done appended
 
--- The lines tell of these requests of src, and what src did after the history seen is what they tell of. Each
+-- The lines report these requests of src, and what src did after the history seen is what they report. Each
 -- RetryAck was paid for by as many changes of its granule as the limit says, made by others than 0 and src.
 pub record IsRacer (o : Opening) (policy : Policy) (limit : ℕ) (src : ℕ) (seen since : List Entry) (qs : List Request) (lines : List Line) : Type 0 where
   pub mine : entries lines ≡ of since src
   pub told : Told o.region policy limit qs lines
   pub paid : (g : ℕ) → limit * retried o.region lines g ≤ hits o seen since g (union (only 0) (only src))
 
--- one requester's requests that were worked and those that were not, and the lines appended
+-- one requester's requests that were executed and those that were not, and the lines appended
 pub record Share : Type 0 where
   pub done : List Request
   pub left : List Request
   pub appended : List Line
 
--- The requests of src are those worked and then those not worked. Earlier lines stay.
+-- The requests of src are those executed and then those not executed. Earlier lines stay.
 pub record IsShare (all : List Request) (src : ℕ) (lines lines' : List Line) (share : Share) : Type 0 where
   pub parts : share.done ++ share.left ≡ own_requests all src
   pub kept : lines' ≡ lines ++ share.appended

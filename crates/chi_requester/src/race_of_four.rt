@@ -27,7 +27,7 @@ pub struct RaceFour<A: Allocator> {
 }
 
 impl<A: Allocator + Copy> RaceFour<A> {
-    /// A race of which no line is told yet. It takes no memory.
+    /// A race of which no line is reported yet. It takes no memory.
     ///
     /// ```
     /// let mut race = RaceFour::new(rt.alloc());
@@ -45,7 +45,7 @@ impl<A: Allocator + Copy> RaceFour<A> {
     }
 }
 
-// Works the requests of four at the same time.
+// Executes the requests of four at the same time.
 fn work_four<
     H: Home + Sync,
     R: Threads + Wait + Sync,
@@ -89,7 +89,7 @@ fn work_four<
     )
 }
 
-// Splits 1 to 4 off, works their requests at the same time, and takes the seats back.
+// Splits 1 to 4 off, executes their requests at the same time, and takes the seats back.
 fn race_quad<
     H: Home + Sync,
     R: Threads + Wait + Sync,
@@ -160,14 +160,14 @@ fn race_quad<
         .and(four.outcome)
 }
 
-/// Works the requests of 1 to 4 at the same time, each by a seat and a gate of its own, and then those of 0, by
+/// Executes the requests of 1 to 4 at the same time, each by a seat and a gate of its own, and then those of 0, by
 /// a seat that holds every number.
 ///
 /// After RetryAck `Resend` sends the request again on its credit, and `Return` gives the credit back and leaves
 /// the request. To 0 RetryAck never comes.
 ///
-/// Where a thread cannot be started, its worker is worked in the caller's. Where one of 1 to 4 stops by `Memory`,
-/// the others work to their end, the requests of 0 are not worked, and `Memory` is answered. The lines so far
+/// Where a thread cannot be started, its requests are executed in the caller's. Where one of 1 to 4 stops by `Memory`,
+/// the others work to their end, the requests of 0 are not executed, and `Memory` is answered. The lines so far
 /// stay, and the seat holds every number again.
 ///
 /// ```

@@ -25,7 +25,7 @@ pub struct Race<A: Allocator> {
 }
 
 impl<A: Allocator + Copy> Race<A> {
-    /// A race of which no line is told yet. It takes no memory.
+    /// A race of which no line is reported yet. It takes no memory.
     ///
     /// ```
     /// let mut race = Race::new(rt.alloc());
@@ -41,7 +41,7 @@ impl<A: Allocator + Copy> Race<A> {
     }
 }
 
-// Splits 1 and 2 off, works their requests at the same time, and takes both seats back.
+// Splits 1 and 2 off, executes their requests at the same time, and takes both seats back.
 fn race_pair<
     H: Home + Sync,
     R: Threads + Wait + Sync,
@@ -89,15 +89,15 @@ fn race_pair<
     one.outcome.and(two.outcome)
 }
 
-/// Works the requests of 1 and of 2 at the same time, each by a seat and a gate of its own, and then those of
+/// Executes the requests of 1 and of 2 at the same time, each by a seat and a gate of its own, and then those of
 /// 0, by a seat that holds every number.
 ///
 /// After RetryAck `Resend` sends the request again on its credit, and `Return` gives the credit back and leaves
 /// the request. To 0 RetryAck never comes.
 ///
-/// Where no thread can be started, both are worked in the caller's. Where 1 or 2 stops by `Memory`, the other
-/// works to its end, the requests of 0 are not worked, and `Memory` is answered. The lines so far stay, and
-/// the seat holds every number again.
+/// Where no thread can be started, the requests of both are executed in the caller's. Where 1 or 2 stops by
+/// `Memory`, the other works to its end, the requests of 0 are not executed, and `Memory` is answered. The lines
+/// so far stay, and the seat holds every number again.
 ///
 /// ```
 /// race_two(&home, rt, &mut seat, script.requests(), Policy::Return, NoGate, NoGate, &mut race)?;

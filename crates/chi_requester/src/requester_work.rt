@@ -11,12 +11,12 @@ use chi_history::{Gate, Home, Line};
 use std::alloc::Allocator;
 use std::sync::Wait;
 
-/// Works the requests of the requester `src` in order, and skips the others.
+/// Executes the requests of the requester `src` in order, and skips the others.
 ///
-/// Each is refused, or executed once, or answered by RetryAck. After RetryAck `Resend` sends the request again
-/// on its credit, so that it is executed once too; `Return` gives the credit back, and the request is not
-/// executed. `Memory` comes before the request that it stops: the lines before it stay, and the requests from
-/// it on are not worked.
+/// Each is refused, or completed once, or answered by RetryAck. After RetryAck `Resend` sends the request again
+/// on its credit, so that it is completed once too; `Return` gives the credit back, and the request is not
+/// completed. `Memory` comes before the request that it stops: the lines before it stay, and the requests from
+/// it on are not executed.
 ///
 /// ```
 /// work(&home, rt, &mut seat, 1, script.requests(), Policy::Resend, &mut NoGate, &mut lines)?;

@@ -1,4 +1,4 @@
-//! Requests that are worked one after another.
+//! Requests that are executed one after another.
 
 ghost use Rattle.std.specs.Prelude.{◌≡◌};
 ghost use Rattle.chi_history.specs.NumberSets.{AllFrom, below};
@@ -12,11 +12,11 @@ use chi_history::{Home, Line, NoGate};
 use std::alloc::Allocator;
 use std::sync::Wait;
 
-/// Works the requests in order, each for its own requester, by a seat that holds every number.
+/// Executes the requests in order, each for its own requester, by a seat that holds every number.
 ///
-/// Each is refused or executed before the next one. Nobody else changes memory meanwhile, so RetryAck never
+/// Each is refused or completed before the next one. Nobody else changes memory meanwhile, so RetryAck never
 /// comes, and `Resend` and `Return` do the same. `Memory` comes before the request that it stops: the lines of
-/// the requests before it stay, and the requests from it on are not worked.
+/// the requests before it stay, and the requests from it on are not executed.
 ///
 /// ```
 /// run_serial(&home, rt, &mut seat, script.requests(), Policy::Resend, &mut lines)?;

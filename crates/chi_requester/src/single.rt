@@ -74,7 +74,7 @@ fn serve_request<H: Home, R: Wait, G: Gate, A: Allocator>(
     }
 }
 
-// Works one request: takes room for its lines, and then serves it. Without that room nothing is done.
+// Executes one request: takes room for its lines, and then serves it. Without that room nothing is done.
 pub(crate) fn work_request<H: Home, R: Wait, G: Gate, A: Allocator>(
     home: &H,
     rt: &R,

@@ -12,7 +12,7 @@ use std::sync::Wait;
 use std::thread;
 use std::thread::Threads;
 
-// A requester's number, and what it works by.
+// A requester's number, and what it executes its requests by.
 #[derive(Drop)]
 pub(crate) struct Worker<S, G, A: Allocator> {
     pub(crate) src: u8,
@@ -29,7 +29,7 @@ pub(crate) struct WorkEnd<S, A: Allocator> {
     pub(crate) outcome: Result<(), WorkFault>,
 }
 
-// Works by what the worker has, and hands the seat and the lines back.
+// Executes the worker's requests by what it has, and hands the seat and the lines back.
 fn work_alone<H: Home, R: Wait, G: Gate + Drop, A: Allocator>(
     home: &H,
     rt: &R,
@@ -56,7 +56,7 @@ fn work_alone<H: Home, R: Wait, G: Gate + Drop, A: Allocator>(
     }
 }
 
-// Works the requests of two at the same time.
+// Executes the requests of two at the same time.
 pub(crate) fn work_both<
     H: Home + Sync,
     R: Threads + Wait + Sync,

@@ -18,7 +18,7 @@ address_text addr = encode_lower (to_be_bytes w64 addr)
 abbrev pub word_text : ℕ → List ℕ
 word_text word = encode_lower (to_le_bytes w64 word)
 
--- the request that a line tells of
+-- the request that a line reports
 abbrev pub request_of_line : Line → Request
 request_of_line (Completed q reply) = q
 request_of_line (Refused q refusal) = q

@@ -9,7 +9,7 @@ use crate::device::{WriteFault, put_bytes};
 use crate::page::Page;
 use std::io::Write;
 
-// A piece of a line: words as they stand, a decimal number, a byte in hex digits, an address with its most
+// A piece of a line: a text as it stands, a decimal number, a byte in hex digits, an address with its most
 // significant byte first, a granule's word with its byte at the lowest address first, or a data packet.
 #[derive(Clone, Copy)]
 pub(crate) enum Piece {

@@ -12,7 +12,7 @@ use chi_history::Line;
 use chi_lanes::Reply;
 use std::io::Write;
 
-// The request that a line tells of.
+// The request that a line reports.
 fn request_of_line(line: &Line) -> Request
     ensures { result ≡ request_of_line line.now }
 {

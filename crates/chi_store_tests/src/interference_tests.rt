@@ -296,7 +296,7 @@ fn other_calls_are_no_interference(rt: HostRuntime) -> Result<(), Fail> {
     assert_no_interference(&rt, &add_of_one(), Some(take_one), 2)
 }
 
-// The lines of so many fetch-adds of 5, worked with so many tries, where requester 1 adds 1 at each pause; the
+// The lines of so many fetch-adds of 5, executed with so many tries, where requester 1 adds 1 at each pause; the
 // first granule after them; and how many pauses there were.
 fn executed<T: AllocGlobal + Abort + Wait>(
     rt: &T,

@@ -1,4 +1,4 @@
-//! The words of the command line: those that are refused, help, and the options that the others name.
+//! The arguments of the command line: those that are refused, help, and the options that the others name.
 
 use super::{arguments_of, assert_arguments_refused, run_on};
 use crate::command::{Task, options_of};
@@ -43,7 +43,7 @@ fn version_is_written(rt: HostRuntime) -> Result<(), Fail> {
     Ok(())
 }
 
-// The task and the options that these words name.
+// The task and the options that these arguments name.
 pub(super) fn task_of(rt: &impl AllocGlobal, arguments: &[&str]) -> Result<(Task, Options), Fail> {
     let arguments = arguments_of(rt, arguments)?;
     Ok(

@@ -1,4 +1,4 @@
-//! Two and four workers by the words of the command line.
+//! Two and four workers by the arguments of the command line.
 
 use super::arguments_tests::task_of;
 use super::{assert_arguments_refused, assert_script_refused, assert_transcript};

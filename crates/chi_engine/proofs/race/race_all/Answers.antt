@@ -1,4 +1,4 @@
--- every request was worked, by two workers or by four
+-- every request was executed, by two workers or by four
 use Rattle.std.proofs.Common.{ap, refl, sym}
 use Rattle.chi_engine.specs.RaceTranscript.{racers_of}
 use Rattle.chi_engine.proofs.RaceLemmas.{raced_by}

@@ -1,4 +1,4 @@
--- What is answered to the words is what `clap` finds in them, or out of memory.
+-- What is answered to the arguments is what `clap` finds in them, or out of memory.
 use Rattle.std.proofs.Common.{map, string_bytes}
 use Rattle.std.proofs.lemmas.Result.{err_from_is_err_and}
 use Rattle.clap.specs.Simple.{app_of}

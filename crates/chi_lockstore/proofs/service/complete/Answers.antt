@@ -1,4 +1,4 @@
--- Each try is of what the operation makes of the words found.
+-- Each try is of what the access makes of the words found.
 use Rattle.std.proofs.Common.{rules, arith, ◌≡◌, ◌^◌, ◌<◌, ap, subst, ℕ, bit_xor, slice_index}
 use Rattle.crossbeam_utils.specs.Seq.{cell_view}
 use Rattle.chi_fields.specs.Extent.{Extent, granule_of}

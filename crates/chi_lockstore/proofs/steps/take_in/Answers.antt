@@ -1,4 +1,4 @@
--- Two passes become one, and the look after it tells what both had seen.
+-- Two passes become one, and the look after it shows what both had seen.
 use Rattle.std.proofs.Common.{rules, ap}
 use Rattle.crossbeam_utils.specs.Seq.{cell_view}
 use Rattle.chi_history.specs.declared.view.View.{View}

@@ -1,4 +1,4 @@
--- one of the two stopped, or 0 works after them
+-- one of the two stopped, or the requests of 0 are executed after theirs
 use Rattle.std.proofs.Common.{refl}
 use Rattle.chi_requester.proofs.FamilyLemmas.{whole_two}
 use Rattle.chi_requester.proofs.RaceLemmas.{race_done, race_stopped}

@@ -1,4 +1,4 @@
--- the requester's requests before the index were worked
+-- the requester's requests before the index were executed
 use Rattle.std.proofs.Common.{◌≡◌, take}
 use Rattle.chi_requester.specs.Work.{own_requests}
 use Rattle.chi_requester.proofs.RunLemmas.{ExecutedSoFar}

@@ -1,4 +1,4 @@
--- the requests before the index were worked
+-- the requests before the index were executed
 use Rattle.std.proofs.Common.{◌≡◌, take}
 use Rattle.chi_requester.proofs.SerialLemmas.{Progress}
 use Rattle.chi_requester.proofs.serial.run_serial.Given as goal
