@@ -8,7 +8,7 @@ use Rattle.chi_lanes.specs.After.{after, after_as, answer, answer_as, old, same_
 use Rattle.chi_lanes.specs.Bytes.{little, little_bytes}
 use Rattle.chi_lanes.specs.Combination.{combine}
 use Rattle.chi_lanes.specs.Memory.{Memory, IsMemory, bytes_from, granule_start, with_bytes, with_enabled, word_at}
-use Rattle.chi_lanes.specs.Packet.{cmp, in_lanes, sent, swp}
+use Rattle.chi_lanes.specs.Packet.{in_lanes, sent, swp}
 use Rattle.chi_lanes.proofs.MemoryLemmas.{bytes_from-same, get_or-bytes_from, little_bytes-word_at}
 use Rattle.chi_lanes.proofs.Operands.{placed}
 
@@ -77,7 +77,7 @@ after_as_byte Compare o m k x same byte =
     by_test (same_bytes (old o m) compared) (same_bytes (old o k) compared) (ap (λ bs. same_bytes bs compared) same)
   where
     compared : List ℕ
-    compared = cmp o.lanes (lane_of o.addr) o.len
+    compared = sent o.lanes (lane_of o.addr) o.len
 
     swapped : List ℕ
     swapped = swp o.lanes (lane_of o.addr) o.len

@@ -9,7 +9,7 @@ use Rattle.chi_lanes.specs.declared.reply.Reply.TheVariants.{CompData}
 use Rattle.chi_lanes.specs.After.{after_as, answer_as, old, same_bytes}
 use Rattle.chi_lanes.specs.Combination.{combine}
 use Rattle.chi_lanes.specs.Memory.{Memory, IsMemory, bytes_from, granule_start, with_bytes, word_at}
-use Rattle.chi_lanes.specs.Packet.{cmp, in_lanes, sent, swp}
+use Rattle.chi_lanes.specs.Packet.{in_lanes, sent, swp}
 use Rattle.chi_lanes.proofs.AfterLemmas.{IsMemory-after, length-combined, length-sent, length-swp}
 use Rattle.chi_lanes.proofs.MemoryLemmas.{bytes_from-same, bytes_from-with_bytes, get_or-bytes_from, length-bytes_from, with_bytes-inside, with_bytes-outside}
 use Rattle.chi_explain.specs.declared.observed.Observed.{Observed}
@@ -73,7 +73,7 @@ kept_as Compare o m k bs lawful is is_after reply olds stays =
     by_test (same_bytes (old o m) compared) (same_bytes (old o k) compared) (ap (λ ds. same_bytes ds compared) olds) is_after stays
   where
     compared : List ℕ
-    compared = cmp o.lanes (lane_of o.addr) o.len
+    compared = sent o.lanes (lane_of o.addr) o.len
 
     swapped : List ℕ
     swapped = swp o.lanes (lane_of o.addr) o.len

@@ -11,7 +11,7 @@ use Rattle.chi_lanes.specs.After.{after, after_as, old, same_bytes}
 use Rattle.chi_lanes.specs.Bytes.{AreBytes}
 use Rattle.chi_lanes.specs.Combination.{combine}
 use Rattle.chi_lanes.specs.Memory.{Memory, IsMemory, granule_start, with_bytes, word, word_at}
-use Rattle.chi_lanes.specs.Packet.{cmp, sent, swp}
+use Rattle.chi_lanes.specs.Packet.{sent, swp}
 use Rattle.chi_lanes.proofs.ByteLists.{AreBytes-slice_range}
 use Rattle.chi_lanes.proofs.CombineLemmas.{AreBytes-combine, length-combine}
 use Rattle.chi_lanes.proofs.MemoryLemmas.{AreBytes-bytes_from, IsMemory-with_bytes, IsMemory-with_enabled, length-bytes_from, word_at-outside, word_at-outside_enabled}
@@ -89,7 +89,7 @@ IsMemory-after_as (Load op) o m is lawful = IsMemory-with_bytes m is o.addr _ (A
 IsMemory-after_as Swap o m is lawful =
     let l = lane_of o.addr in
     IsMemory-with_bytes m is o.addr (sent o.lanes l o.len) (AreBytes-slice_range o.lanes l (l + o.len) lawful.bytes)
-IsMemory-after_as Compare o m is lawful = by_test (same_bytes (old o m) (cmp o.lanes (lane_of o.addr) o.len))
+IsMemory-after_as Compare o m is lawful = by_test (same_bytes (old o m) (sent o.lanes (lane_of o.addr) o.len))
   where
     by_test : (b : Bool) → IsMemory (cond b (with_bytes m o.addr (swp o.lanes (lane_of o.addr) o.len)) m)
     by_test true = IsMemory-with_bytes m is o.addr (swp o.lanes (lane_of o.addr) o.len) (AreBytes-swp o.lanes (lane_of o.addr) o.len lawful.bytes)
@@ -117,7 +117,7 @@ word_at-after_as (Store op) o m s lawful aligned other = written_other o m _ s l
 word_at-after_as (Load op) o m s lawful aligned other = written_other o m _ s lawful (length-combined op o m lawful) aligned other
 word_at-after_as Swap o m s lawful aligned other =
     written_other o m (sent o.lanes (lane_of o.addr) o.len) s lawful (length-sent o lawful) aligned other
-word_at-after_as Compare o m s lawful aligned other = by_test (same_bytes (old o m) (cmp o.lanes (lane_of o.addr) o.len))
+word_at-after_as Compare o m s lawful aligned other = by_test (same_bytes (old o m) (sent o.lanes (lane_of o.addr) o.len))
   where
     lane_below : lane_of o.addr < 16
     lane_below = omega arith

@@ -1,15 +1,12 @@
 -- the 16 lanes of a data packet
 use Rattle.std.specs.Prelude.{ℕ, ◌+◌, ◌-◌, ◌*◌, ◌%◌, ◌==◌, List, ◌++◌, length, replicate, slice_range, if◌then◌else◌}
 
--- the sent data of an operand of len bytes whose first lane is l
+-- The sent data of an operand of len bytes whose first lane is l. Of an AtomicCompare it is the compare value, which
+-- stands in the half of the window that the address names.
 abbrev pub sent : List ℕ → ℕ → ℕ → List ℕ
 sent lanes l len = slice_range lanes l (l + len)
 
--- the compare value, which stands in the half of the window that the address names
-abbrev pub cmp : List ℕ → ℕ → ℕ → List ℕ
-cmp lanes l len = slice_range lanes l (l + len)
-
--- the swap value, which stands in the window's other half; w is the window's first lane
+-- the swap value of an AtomicCompare, which stands in the window's other half; w is the window's first lane
 abbrev pub swp : List ℕ → ℕ → ℕ → List ℕ
 swp lanes l len =
     let w = l - l % (2 * len) in

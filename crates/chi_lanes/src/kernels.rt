@@ -1,11 +1,7 @@
 //! Runs of lanes of a granule's word, by shifts and masks. Lane 0 is its least significant byte.
 
-ghost use Rattle.std.specs.Prelude.{◌≡◌, ◌+◌, ◌-◌, ◌*◌, ◌%◌, ◌^◌, ◌<◌, ◌≤◌, ◌++◌, false, replicate, take, drop, slice_range};
-ghost use Rattle.chi_fields.specs.Access.{IsLen};
+ghost use Rattle.std.specs.Prelude.{◌≡◌, ◌+◌, ◌-◌, ◌*◌, ◌^◌, ◌<◌, ◌≤◌, ◌++◌, false, replicate, take, drop, slice_range};
 ghost use Rattle.chi_lanes.specs.Bytes.{little_bytes, num};
-ghost use Rattle.chi_lanes.specs.Packet.{cmp, swp};
-
-use crate::packet::packet_half;
 
 /// The word whose `len` bytes from `lane` on are 255 and whose other bytes are 0.
 ///
@@ -48,41 +44,4 @@ pub fn insert(word: u64, lane: usize, len: usize, value: u64) -> u64
         ≡ take lane (little_bytes 8 word) ++ (little_bytes len value ++ drop (lane + len) (little_bytes 8 word)) }
 {
     (word & !lane_mask(lane, len)) | (value << (8 * lane))
-}
-
-/// The compare value of an AtomicCompare at `lane`: the little-endian number of `len` lanes from there on.
-///
-/// `len` is the value's 1, 2, 4 or 8 bytes, and `lane` a multiple of it from 0 to 15.
-/// Where lane `i` holds `i`, `compare_half(&lanes, 2, 2)` is `0x0302`.
-#[inline]
-pub fn compare_half(lanes: &[u8; 16], lane: usize, len: usize) -> u64
-    requires part { IsLen len }
-    requires aligned { lane % len ≡ 0 }
-    requires inside { lane < 16 }
-    ensures value { result ≡ num false (cmp lanes.now lane len) }
-    ensures below { result < 256 ^ len }
-{
-    let upper = lane >= 8;
-    extract(packet_half(lanes, upper), lane % 8, len)
-}
-
-/// The swap value of an AtomicCompare at `lane`: the little-endian number of the other half of its window.
-///
-/// The window is the `2 * len` lanes, aligned to that, that hold `lane`. `len` is the value's 1, 2, 4 or 8
-/// bytes, and `lane` a multiple of it from 0 to 15.
-/// Where lane `i` holds `i`, `swap_half(&lanes, 2, 2)` is `0x0100`.
-#[inline]
-pub fn swap_half(lanes: &[u8; 16], lane: usize, len: usize) -> u64
-    requires part { IsLen len }
-    requires aligned { lane % len ≡ 0 }
-    requires inside { lane < 16 }
-    ensures value { result ≡ num false (swp lanes.now lane len) }
-    ensures below { result < 256 ^ len }
-{
-    let first = lane - lane % (2 * len);
-    if lane == first {
-        compare_half(lanes, first + len, len)
-    } else {
-        compare_half(lanes, first, len)
-    }
 }

@@ -11,8 +11,9 @@ mod packet;
 mod reply;
 
 pub use byte_order::swap_order;
-pub use kernels::{compare_half, extract, insert, lane_mask, swap_half};
+pub use kernels::{extract, insert, lane_mask};
 pub use operation::apply;
+pub use packet::{compare_half, swap_half};
 pub use reply::Reply;
 
 #[cfg(test)]

@@ -8,8 +8,8 @@ ghost use Rattle.chi_lanes.specs.Bytes.{little_bytes};
 ghost use Rattle.chi_lanes.specs.Memory.{Memory, IsMemory, granule_start, with_bytes, with_enabled, word_at};
 ghost use Rattle.chi_lanes.specs.Packet.{sent, swp};
 
-use crate::kernels::{extract, insert, swap_half};
-use crate::packet::{enabled_mask, masked, packet_half, sent_value};
+use crate::kernels::{extract, insert};
+use crate::packet::{enabled_mask, lanes_value, masked, packet_half, swap_half};
 use chi_fields::Access;
 
 // The number of the operand's old bytes.
@@ -28,7 +28,7 @@ pub(crate) fn sent_of(access: &Access) -> u64
     ensures below { result < 256 ^ access.now.len }
     ensures bytes { little_bytes access.now.len result ≡ sent access.now.lanes (lane_of access.now.addr) access.now.len }
 {
-    sent_value(&access.lanes(), (access.addr() % 16) as usize, access.len())
+    lanes_value(&access.lanes(), (access.addr() % 16) as usize, access.len())
 }
 
 // The number of the swap value of an AtomicCompare.

@@ -4,9 +4,9 @@ ghost use Rattle.std.specs.Prelude.{◌≡◌, ℕ, ◌+◌, ◌*◌, ◌%◌, �
 ghost use Rattle.std.specs.Int.{bit_at};
 ghost use Rattle.chi_fields.specs.Access.{IsLen};
 ghost use Rattle.chi_lanes.specs.Bytes.{little_bytes, num};
-ghost use Rattle.chi_lanes.specs.Packet.{in_lanes, sent};
+ghost use Rattle.chi_lanes.specs.Packet.{in_lanes, sent, swp};
 
-use crate::kernels::compare_half;
+use crate::kernels::extract;
 
 /// 1 in each byte of a word.
 const EACH_BYTE: u64 = 0x0101_0101_0101_0101;
@@ -29,16 +29,54 @@ pub(crate) fn packet_half(lanes: &[u8; 16], upper: bool) -> u64
     u64::from_le_bytes(bytes)
 }
 
-/// The little-endian number that a packet sends for an operand of `len` bytes at `lane`.
+/// The little-endian number of `len` lanes of a packet from `lane` on: of the sent data and of each half of an
+/// AtomicCompare's window.
 #[inline]
-pub(crate) fn sent_value(lanes: &[u8; 16], lane: usize, len: usize) -> u64
+pub(crate) fn lanes_value(lanes: &[u8; 16], lane: usize, len: usize) -> u64
     requires part { IsLen len }
     requires aligned { lane % len ≡ 0 }
     requires inside { lane < 16 }
     ensures value { result ≡ num false (sent lanes.now lane len) }
     ensures below { result < 256 ^ len }
 {
-    compare_half(lanes, lane, len)
+    let upper = lane >= 8;
+    extract(packet_half(lanes, upper), lane % 8, len)
+}
+
+/// The compare value of an AtomicCompare at `lane`: the little-endian number of `len` lanes from there on.
+///
+/// `len` is the value's 1, 2, 4 or 8 bytes, and `lane` a multiple of it from 0 to 15.
+/// Where lane `i` holds `i`, `compare_half(&lanes, 2, 2)` is `0x0302`.
+#[inline]
+pub fn compare_half(lanes: &[u8; 16], lane: usize, len: usize) -> u64
+    requires part { IsLen len }
+    requires aligned { lane % len ≡ 0 }
+    requires inside { lane < 16 }
+    ensures value { result ≡ num false (sent lanes.now lane len) }
+    ensures below { result < 256 ^ len }
+{
+    lanes_value(lanes, lane, len)
+}
+
+/// The swap value of an AtomicCompare at `lane`: the little-endian number of the other half of its window.
+///
+/// The window is the `2 * len` lanes, aligned to that, that hold `lane`. `len` is the value's 1, 2, 4 or 8
+/// bytes, and `lane` a multiple of it from 0 to 15.
+/// Where lane `i` holds `i`, `swap_half(&lanes, 2, 2)` is `0x0100`.
+#[inline]
+pub fn swap_half(lanes: &[u8; 16], lane: usize, len: usize) -> u64
+    requires part { IsLen len }
+    requires aligned { lane % len ≡ 0 }
+    requires inside { lane < 16 }
+    ensures value { result ≡ num false (swp lanes.now lane len) }
+    ensures below { result < 256 ^ len }
+{
+    let first = lane - lane % (2 * len);
+    if lane == first {
+        lanes_value(lanes, first + len, len)
+    } else {
+        lanes_value(lanes, first, len)
+    }
 }
 
 /// The lanes of an answer: the `len` bytes of `value` from `lane` on, least significant first, else 0.

@@ -7,6 +7,6 @@ pub returns-clause-bytes : goal.returns-clause-bytes
 returns-clause-bytes c =
     let o = c.args.access.now in
     let lawful = c.addr.ensures.lawful in
-    let read = rw (c.lanes.ensures, c.addr.ensures.value, c.len.ensures.value) at c.sent_value.ensures.value in
-    lanes_of_value o.lanes (lane_of o.addr) o.len c.sent_value.result lawful.packet lawful.bytes
+    let read = rw (c.lanes.ensures, c.addr.ensures.value, c.len.ensures.value) at c.lanes_value.ensures.value in
+    lanes_of_value o.lanes (lane_of o.addr) o.len c.lanes_value.result lawful.packet lawful.bytes
     (placed o.addr o.len lawful.part lawful.aligned).packet read

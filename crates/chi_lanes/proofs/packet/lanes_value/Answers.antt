@@ -3,7 +3,7 @@ use Rattle.std.proofs.Common.{◌∙◌, ap, arith, ℕ, ◌≡◌, ◌+◌, ◌
 use Rattle.std.proofs.lemmas.Bool.Decides.{nat_tests}
 use Rattle.chi_lanes.specs.Bytes.{little}
 use Rattle.chi_lanes.proofs.Runs.{range_in_half}
-use Rattle.chi_lanes.proofs.kernels.compare_half.Goals as goal
+use Rattle.chi_lanes.proofs.packet.lanes_value.Goals as goal
 
 pub returns-clause-value : goal.returns-clause-value
 returns-clause-value c =
