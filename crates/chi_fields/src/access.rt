@@ -91,6 +91,20 @@ impl Access {
         self.addr
     }
 
+    /// The lane of the operand's first byte, 0 to 15: the byte of address `x` stands in lane `x mod 16` of the data
+    /// packet, of what is sent and of what is returned.
+    ///
+    /// ```
+    /// let first = access.lanes()[access.lane()];
+    /// ```
+    ///
+    /// Source: Arm IHI 0050 Issue B, operand placement.
+    pub fn lane(&self) -> usize
+        ensures { result ≡ lane_of self.now.addr }
+    {
+        (self.addr % 16) as usize
+    }
+
     /// The operand's length: 1, 2, 4 or 8 bytes.
     pub fn len(&self) -> usize
         ensures value { result ≡ self.now.len }

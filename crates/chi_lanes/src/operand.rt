@@ -28,7 +28,7 @@ pub(crate) fn sent_of(access: &Access) -> u64
     ensures below { result < 256 ^ access.now.len }
     ensures bytes { little_bytes access.now.len result ≡ sent access.now.lanes (lane_of access.now.addr) access.now.len }
 {
-    lanes_value(&access.lanes(), (access.addr() % 16) as usize, access.len())
+    lanes_value(&access.lanes(), access.lane(), access.len())
 }
 
 // The number of the swap value of an AtomicCompare.
@@ -37,7 +37,7 @@ pub(crate) fn swap_of(access: &Access) -> u64
     ensures below { result < 256 ^ access.now.len }
     ensures bytes { little_bytes access.now.len result ≡ swp access.now.lanes (lane_of access.now.addr) access.now.len }
 {
-    swap_half(&access.lanes(), (access.addr() % 16) as usize, access.len())
+    swap_half(&access.lanes(), access.lane(), access.len())
 }
 
 // The word with this number in the operand.
@@ -57,7 +57,7 @@ pub(crate) fn written(before: u64, access: &Access) -> u64
     ensures { (m : Memory) → IsMemory m → before ≡ word_at m (granule_start access.now.addr) →
         result ≡ word_at (with_enabled access.now.lanes access.now.enables m access.now.addr access.now.len) (granule_start access.now.addr) }
 {
-    let upper = access.addr() % 16 >= 8;
+    let upper = access.lane() >= 8;
     let first: u32 = if upper { 8 } else { 0 };
     let enables = ((access.enables() >> first) & 0xff) as u8;
     masked(

@@ -20,7 +20,7 @@ fn applied(before: u64, access: &Access) -> (u64, Reply)
         result.1 ≡ answer access.now m }
 {
     let old = old_value(before, access);
-    let returned = Reply::CompData(answer_lanes((access.addr() % 16) as usize, access.len(), old));
+    let returned = Reply::CompData(answer_lanes(access.lane(), access.len(), old));
     match access.kind() {
         Kind::Read => (before, returned),
         Kind::Write => (written(before, access), Reply::Comp),

@@ -13,7 +13,7 @@ use Rattle.chi_lanes.proofs.operand.written.Goals.{then-upper, else-upper}
 pub returns : goal.returns
 returns c m is at_start =
     let o = c.args.access.now in
-    let lawful = c.addr.ensures.lawful in
+    let lawful = c.enables.ensures.lawful in
     let within : EnablesWithin o.enables o.addr o.len = enabled_lane (lane_of o.addr) o.len o.enables (rw c.requires at lawful.enabled) in
     let below : c.masked.result < 2 ^ 64 = search rules in
     let first : ℕ = if nat_le 8 (lane_of o.addr) then 8 else 0 in
@@ -22,7 +22,7 @@ returns c m is at_start =
       | then-upper w ↦ let test : 8 ≤ o.addr % 16 = omega arith in w.first-is ∙ grind (arith, nat_tests)
       | else-upper w ↦ let test : o.addr % 16 < 8 = omega arith in w.first-is ∙ grind (arith, nat_tests)
     ] in
-    let half : little_bytes 8 c.packet_half.result ≡ slice_range o.lanes first (first + 8) = rw (c.lanes.ensures, c.addr.ensures.value) at c.packet_half.ensures in
+    let half : little_bytes 8 c.packet_half.result ≡ slice_range o.lanes first (first + 8) = rw (c.lanes.ensures, c.lane-upper.ensures) at c.packet_half.ensures in
     let mask : (k : ℕ) → k < 8 → slice_index (little_bytes 8 c.enabled_mask.result) k ≡ 255 * bit_at o.enables (first + k) =
     λ k inside. rw (c.enables.ensures.value, chosen) at (c.enabled_mask.ensures k inside) ∙ ap (λ b. 255 * b) (bit_at-half o.enables first k inside) in
     word_at-with_enabled m is o.lanes lawful.bytes o.enables o.addr o.len (o.addr / 8 * 8) first c.packet_half.result c.enabled_mask.result
