@@ -18,7 +18,8 @@ fn numbered_op(number: u8) -> Op
         4 => Op::SMax,
         5 => Op::SMin,
         6 => Op::UMax,
-        _ => Op::UMin,
+        7 => Op::UMin,
+        _ => unreachable!(),
     }
 }
 
