@@ -6,6 +6,7 @@ ghost use Rattle.chi_history.specs.Views.{all_below, alone, both, has, knower, r
 ghost use Rattle.chi_history.specs.StepFacts.{Applies, Exchanges, Looks, ReadsAt, Settles};
 
 use crate::rule::{BookTable, Glue, Look, ReadOne, Serve, Settle, TableSeat};
+use chi_fields::laws::access_is_lawful;
 use chi_history::{OpeningValues, Purpose, SplitNumber, SplitOff};
 use std::alloc::{AllocError, Allocator};
 
@@ -53,7 +54,7 @@ pub(crate) fn exchange<A: Allocator>(
     ensures own { (seat.new.table_id ≡ seat.old.table_id) × (seat.new.me.1 ≡ seat.old.me.1) }
     ensures exchanged { Exchanges seat.old.me.0 first purpose.now.src purpose.now.access result seat.new.me.0 }
 {
-    let _len = purpose.access.len();
+    access_is_lawful(&purpose.access);
     table
         .shared
         .compare_exchange_with::<Serve>(seat, granule, first, next, purpose)

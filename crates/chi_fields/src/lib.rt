@@ -4,6 +4,7 @@
 mod access;
 mod decoding;
 mod kind;
+pub mod laws;
 mod opcode;
 mod refusal;
 mod region;

@@ -4,6 +4,7 @@ ghost use Rattle.std.specs.Prelude.{◌≡◌, IfOk, length};
 ghost use Rattle.chi_history.specs.Openings.{IsOpening, IsRequesterCount, opened};
 
 use chi_fields::Region;
+use chi_fields::laws::region_is_lawful;
 use std::alloc::{AllocError, Allocator};
 use std::marker::Model;
 
@@ -37,8 +38,7 @@ impl<A: Allocator> OpeningValues<A> {
         ensures values { IfOk result (λ v. v ≡ opened region requesters image.now) }
         ensures opening { IfOk result (λ v. IsOpening v) }
     {
-        // It is read for what it tells: the region is one.
-        let _granules = region.granules();
+        region_is_lawful(&region);
         Ok(OpeningValues {
             region,
             requesters,

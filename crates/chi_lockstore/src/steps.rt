@@ -13,6 +13,7 @@ ghost use Rattle.crossbeam_utils.specs.Seq.{IsSamePass, cell_view};
 
 use crate::rule::{Cell, LINE_GRANULES, LinePass, Look, Settle, Whole, Words};
 use crate::step_kinds::{ChosenExchange, ChosenOpening, LineExchange, OpeningCut};
+use chi_fields::laws::access_is_lawful;
 use chi_history::{OpeningValues, Purpose, SplitNumber, SplitOff};
 use std::alloc::{AllocError, Allocator};
 use std::sync::Wait;
@@ -60,8 +61,7 @@ pub(crate) fn try_once<Q: ChosenExchange, A: Allocator, R: Wait>(
         (λ _. Replaces (cell_view pass.old) current purpose.now.src purpose.now.access (cell_view pass.new))
         (λ _. cell_view pass.new ≡ cell_view pass.old) }
 {
-    // It is read for what it tells: the access is lawful.
-    let _len = purpose.access.len();
+    access_is_lawful(&purpose.access);
     let mut new = current;
     new[granule] = next;
     cell.compare_exchange_as::<LineExchange<Q>, R>(rt, pass, current, new)

@@ -9,7 +9,7 @@ compare_exchange_with-requires g c =
     let r = c.requires in (
       r.own,
       r.word,
-      book_exchanges t.key t.table_id.slots c.args.seat.now.id c.args.seat.now.me c.args.granule c.args.first c.args.next c.args.purpose.now r.seat r.granule r.holds c.len-len.ensures.lawful r.fits r.applies,
+      book_exchanges t.key t.table_id.slots c.args.seat.now.id c.args.seat.now.me c.args.granule c.args.first c.args.next c.args.purpose.now r.seat r.granule r.holds c.access_is_lawful.ensures r.fits r.applies,
     )
 
 pub returns-clause-exchanged : goal.returns-clause-exchanged

@@ -17,7 +17,7 @@ compare_exchange_as-requires g c =
     let purpose : Purpose = c.args.purpose.now in
     let new : List ℕ = set c.args.current c.args.granule c.args.next in
     let step = line_tries c.args._values.now c.args.pass.now.id v c.requires.known.now c.args.current new c.args.granule c.args.next purpose.src purpose.access
-    c.requires.granule c.requires.holds c.len-len.ensures.lawful c.requires.fits c.requires.applies refl in
+    c.requires.granule c.requires.holds c.access_is_lawful.ensures c.requires.fits c.requires.applies refl in
     let asked = c.requires.asked in (
       cell_fits g.row.A c.requires.small,
       (
