@@ -67,6 +67,7 @@ pub record IsLane (c : Chart) (g r : ℕ) : Type 0 where
 pub record AreLanes (c : Chart) (g : ℕ) : Type 0 where
   pub granule_in : g + 1 < length c.starts.items
   pub ordered : slice_index c.starts.items g ≤ slice_index c.starts.items (g + 1)
+  pub numbers_in : slice_index c.starts.items (g + 1) < length c.firsts.items
   pub each : (r : ℕ) → r < lanes c g → IsLane c g r
 
 -- the operation before it in its lane ended before it started

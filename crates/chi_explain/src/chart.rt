@@ -52,6 +52,15 @@ pub(crate) fn lanes_of(chart: &Chart, granule: usize) -> usize
     chart.starts[granule + 1] - chart.starts[granule]
 }
 
+/// How many operations of a granule the row has. Nothing is promised of it.
+pub(crate) fn count_of(chart: &Chart, granule: usize) -> usize
+    requires { AreLanes chart.now granule }
+{
+    let first = chart.firsts[chart.starts[granule]];
+    let past = chart.firsts[chart.starts[granule + 1]];
+    past.saturating_sub(first)
+}
+
 /// The operation of a granule's lane that stands after so many others.
 pub(crate) fn following(chart: &Chart, granule: usize, lane: usize, others: usize) -> Option<usize>
     requires lanes { AreLanes chart.now granule }

@@ -28,17 +28,12 @@ fn first_to_end(ops: &[Observed], chart: &Chart, granule: usize, taken: &[usize]
     ensures { IfSome result (λ op. left chart.now granule taken.now op ≡ true) }
 {
     let mut first = None;
+    let mut least = u64::MAX;
     for (lane, count) in taken.iter().enumerate() {
         if let Some(op) = following(chart, granule, lane, *count) {
-            if op < ops.len() {
-                first = match first {
-                    Some(best) => if best < ops.len() && ops[best].end <= ops[op].end {
-                        Some(best)
-                    } else {
-                        Some(op)
-                    },
-                    None => Some(op),
-                };
+            if op < ops.len() && ops[op].end <= least {
+                first = Some(op);
+                least = ops[op].end;
             }
         }
     }

@@ -15,41 +15,75 @@ pub(crate) fn by_start(alloc: Global, ops: &[Observed]) -> Result<Vec<(u64, usiz
     Ok(places)
 }
 
-// A lane: when its last operation ended, and how many it has.
+// A lane: its number among those of its granule, when its last operation ended, how many it has, and the granule's
+// next lane.
 #[derive(Clone, Copy)]
 struct Lane {
+    number: usize,
     end: u64,
     count: usize,
+    next: usize,
 }
 
-// Puts an operation at the end of the first lane that ended before it started. The lane, and how many operations it
-// has then.
-fn put(lanes: &mut Vec<Lane>, op: &Observed) -> Result<(usize, usize), AllocError> {
-    for lane in 0..lanes.len() {
-        if lanes[lane].end < op.start {
-            let count = lanes[lane].count.wrapping_add(1);
-            lanes[lane] = Lane { end: op.end, count };
-            return Ok((lane, count));
+// The lanes so far. `heads` has the first lane of each granule; there is none at a number past the lanes.
+#[derive(Drop)]
+struct Drawing {
+    heads: Vec<usize>,
+    lanes: Vec<Lane>,
+}
+
+// Puts an operation at the end of its granule's first lane that ended before it started. The lane's number, and how
+// many operations it has then.
+fn put(drawing: &mut Drawing, granule: usize, op: &Observed) -> Result<(usize, usize), AllocError> {
+    let mut at = drawing.heads.get(granule).copied().unwrap_or(usize::MAX);
+    let mut before = usize::MAX;
+    let mut number = 0;
+    for _ in 0..drawing.lanes.len() {
+        if at >= drawing.lanes.len() {
+            break;
         }
+        let lane = drawing.lanes[at];
+        if lane.end < op.start {
+            let count = lane.count.wrapping_add(1);
+            drawing.lanes[at].end = op.end;
+            drawing.lanes[at].count = count;
+            return Ok((lane.number, count));
+        }
+        number = lane.number.wrapping_add(1);
+        before = at;
+        at = lane.next;
     }
-    lanes.push(Lane {
+    let fresh = drawing.lanes.len();
+    if before < fresh {
+        drawing.lanes[before].next = fresh;
+    } else if let Some(head) = drawing.heads.get_mut(granule) {
+        *head = fresh;
+    }
+    drawing.lanes.push(Lane {
+        number,
         end: op.end,
         count: 1,
+        next: usize::MAX,
     })?;
-    Ok((lanes.len() - 1, 1))
+    Ok((number, 1))
 }
 
-// Numbers the lanes of all granules, and says where each begins in the row. The number of the first lane of each
-// granule and the number of all, and where each lane begins and where the last one ends.
-fn numbered(alloc: Global, granules: &[Vec<Lane>]) -> Result<(Vec<usize>, Vec<usize>), AllocError> {
-    let mut starts = Vec::with_capacity(alloc, granules.len())?;
-    let mut firsts = Vec::with_capacity(alloc, granules.len())?;
+// The number of the first lane of each granule and the number of all, and where each lane begins in the row and where
+// the last one ends.
+fn numbered(alloc: Global, drawing: &Drawing) -> Result<(Vec<usize>, Vec<usize>), AllocError> {
+    let mut starts = Vec::with_capacity(alloc, drawing.heads.len())?;
+    let mut firsts = Vec::with_capacity(alloc, drawing.lanes.len())?;
     let mut first: usize = 0;
-    for lanes in granules {
+    for head in &drawing.heads {
         starts.push(firsts.len())?;
-        for lane in lanes {
+        let mut at = *head;
+        for _ in 0..drawing.lanes.len() {
+            if at >= drawing.lanes.len() {
+                break;
+            }
             firsts.push(first)?;
-            first = first.wrapping_add(lane.count);
+            first = first.wrapping_add(drawing.lanes[at].count);
+            at = drawing.lanes[at].next;
         }
     }
     starts.push(firsts.len())?;
@@ -87,25 +121,23 @@ pub(crate) fn draw(
     let mut granule = vec![in alloc; 0; ops.len()]?;
     let mut lane = vec![in alloc; 0; ops.len()]?;
     let mut place = vec![in alloc; 0; ops.len()]?;
-    let mut granules: Vec<Vec<Lane>> = Vec::new(alloc);
-    for _ in 0..region.granules() {
-        granules.push(Vec::new(alloc))?;
-    }
+    let mut drawing = Drawing {
+        heads: vec![in alloc; usize::MAX; usize::from(region.granules())]?,
+        lanes: Vec::new(alloc),
+    };
     let mut count: usize = 0;
     for (_, op) in places {
         let op = *op;
         if op < ops.len() && lies_inside(ops, until, region, op) {
             let own = ops[op].entry.access.granule(region);
-            if let Some(lanes) = granules.get_mut(own) {
-                let (found, number) = put(lanes, &ops[op])?;
-                granule[op] = own;
-                lane[op] = found;
-                place[op] = number;
-                count = count.wrapping_add(1);
-            }
+            let (found, number) = put(&mut drawing, own, &ops[op])?;
+            granule[op] = own;
+            lane[op] = found;
+            place[op] = number;
+            count = count.wrapping_add(1);
         }
     }
-    let (starts, firsts) = numbered(alloc, &granules)?;
+    let (starts, firsts) = numbered(alloc, &drawing)?;
     let row = vec![in alloc; 0; count]?;
     let mut chart = Chart {
         granule,

@@ -3,7 +3,7 @@
 ghost use Rattle.std.specs.Prelude.{◌≡◌, ℕ, ◌<◌, IsTrue, IfOk, length, replicate};
 ghost use Rattle.chi_explain.specs.Charts.{IsChart, IsDead, lanes};
 
-use crate::chart::Chart;
+use crate::chart::{Chart, count_of};
 use crate::choice::{Choice, choose};
 use crate::memo::{no_memo, remember};
 use crate::observed::Observed;
@@ -87,7 +87,7 @@ pub(crate) fn search_from(
         IsDead ops.now until chart.now granule last (replicate (length taken.old) 0) opening) }
 {
     let mut memo = no_memo(alloc);
-    let mut path: Vec<Taken> = Vec::new(alloc);
+    let mut path = Vec::with_capacity(alloc, count_of(chart, granule))?;
     let mut word = opening;
     for _ in 0..budget {
         match choose(region, ops, until, chart, granule, &memo, last, taken, word) {
