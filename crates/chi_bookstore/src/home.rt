@@ -46,12 +46,7 @@ impl<A: Allocator> Home for BookStore<A> {
     }
 
     fn holds_all(&self, seat: &BookSeat) -> bool {
-        for n in 0..self.values.requesters() {
-            if !seat.numbers.has(n) {
-                return false;
-            }
-        }
-        true
+        seat.numbers.has_all(self.values.requesters())
     }
 
     fn serve<R: Wait, G: Gate>(

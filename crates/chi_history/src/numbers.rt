@@ -1,6 +1,6 @@
 //! A set of requester numbers.
 
-ghost use Rattle.std.specs.Prelude.{◌≡◌, ℕ, ◌<◌, ◌≤◌, true};
+ghost use Rattle.std.specs.Prelude.{◌≡◌, ◌↔◌, ℕ, ◌<◌, ◌≤◌, true, IsTrue};
 ghost use Rattle.chi_history.specs.NumberSets.{below, only, union, without};
 ghost use Rattle.chi_history.specs.NumberLists.{size_of};
 ghost use Rattle.chi_history.specs.Views.{has};
@@ -70,6 +70,22 @@ impl Numbers {
         ensures { result ≡ has self.now n }
     {
         self.items.contains(&n)
+    }
+
+    /// Whether the set has each number from 0 to `n - 1`.
+    ///
+    /// ```
+    /// let is_whole = numbers.has_all(requesters);
+    /// ```
+    pub fn has_all(&self, n: u8) -> bool
+        ensures { IsTrue result ↔ ((k : ℕ) → k < n → has self.now k ≡ true) }
+    {
+        'numbers: for k in 0..n {
+            if !self.has(k) {
+                return false;
+            }
+        }
+        true
     }
 
     // Whether the set has the number k, which is not n.

@@ -42,12 +42,7 @@ impl<A: Allocator> Home for LockStore<A> {
     }
 
     fn holds_all(&self, seat: &LockSeat) -> bool {
-        for src in 0..self.values.requesters() {
-            if !seat.numbers.has(src) {
-                return false;
-            }
-        }
-        true
+        seat.numbers.has_all(self.values.requesters())
     }
 
     fn serve<R: Wait, G: Gate>(
