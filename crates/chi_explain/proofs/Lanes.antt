@@ -5,7 +5,7 @@ use Rattle.chi_fields.specs.Extent.{Extent, granule_of}
 use Rattle.chi_history.specs.History.{one_if}
 use Rattle.chi_explain.specs.declared.chart.Chart.{Chart}
 use Rattle.chi_explain.specs.declared.observed.Observed.{Observed}
-use Rattle.chi_explain.specs.Charts.{IsChart, IsDead, IsPlaced, NoneIn, Stands, granule, is_here, is_inside, lane, lanes, left, place}
+use Rattle.chi_explain.specs.Charts.{IsChart, IsDead, IsPlaced, NoneIn, Stands, granule, is_here, lane, lanes, left, place}
 use Rattle.chi_explain.specs.Explains.{at, has_ended, has_started, times_in}
 use Rattle.chi_explain.specs.Words.{Finishes, Fits, IsIdle, Play, last_word, next}
 use Rattle.chi_history.proofs.WordLemmas.{zeros_are}

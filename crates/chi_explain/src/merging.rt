@@ -3,7 +3,7 @@
 use crate::chart::Chart;
 use std::alloc::{AllocError, Global};
 
-// How many operations of an order have started, up to the first one that has not.
+// The first place of an order, from one on, whose operation has not started.
 fn ready(order: &[usize], from: usize, has_started: &[bool]) -> usize {
     for place in from..order.len() {
         if !has_started.get(order[place]).copied().unwrap_or(true) {

@@ -1,9 +1,9 @@
 -- one operation more; and past the trace nothing has a place
-use Rattle.std.proofs.Common.{◌≡◌, ℕ, ◌<◌, ◌≤◌, ◌&&◌, nat_lt, Bool, true, false, not, length, below_more, refl, sym, ap, ◌∙◌, arith, le-ltb, lt-ltb, true≢false, inl, inr}
+use Rattle.std.proofs.Common.{◌≡◌, ℕ, ◌≤◌, nat_lt, Bool, true, false, not, length, below_more, refl, sym, ap, ◌∙◌, arith, le-ltb, lt-ltb, true≢false, inl, inr}
 use Rattle.std.proofs.lemmas.Bool.{and_left, cases_lt}
 use Rattle.std.proofs.lemmas.List.{get_or_past, get_or_read}
 use Rattle.chi_explain.specs.declared.chart.Chart.{Chart}
-use Rattle.chi_explain.specs.Charts.{is_inside, place}
+use Rattle.chi_explain.specs.Charts.{place}
 use mathlib.Core.Bool.{beq}
 use Rattle.chi_explain.proofs.charting.is_chart.Goals as goal
 use Rattle.chi_explain.proofs.charting.is_chart.Goals.{else-inside-via-then-inside+else-not-is_placed, else-inside-via-else-inside}

@@ -1,6 +1,6 @@
 -- what was tested of the operations before this one
 use Rattle.std.proofs.Common.{◌≡◌, ℕ, ◌<◌, nat_lt, length}
-use Rattle.chi_explain.specs.Charts.{AreLanes, IsPlaced, is_inside, place}
+use Rattle.chi_explain.specs.Charts.{IsPlaced, is_inside, place}
 use Rattle.chi_explain.proofs.charting.is_chart.Given as goal
 
 abbrev pub invariant-loop-op : goal.invariant-loop-op
