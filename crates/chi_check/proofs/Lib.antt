@@ -1,0 +1,7 @@
+pub mod CheckLemmas
+pub mod CommandLemmas
+pub mod DecodedLemmas
+pub mod OnTrace
+pub mod TextLemmas
+pub mod TraceLemmas
+pub mod Witness

@@ -1,0 +1,53 @@
+-- the statuses of answers and faults
+use Rattle.std.specs.Prelude.{◌≡◌, ℕ, ◌⊎◌, ◌≤◌, List, Option}
+use Rattle.std.specs.Io.KnownBytes.{Keeps}
+use Rattle.clap.specs.declared.error.kind.ErrorKind.{ErrorKind}
+use Rattle.clap.specs.declared.error.kind.ErrorKind.TheVariants as error_kind
+use Rattle.chi_check.specs.declared.answer.Answer.{Answer}
+use Rattle.chi_check.specs.declared.answer.Answer.TheVariants.{Explained, Blamed, Unexplained, Undecided}
+use Rattle.chi_check.specs.declared.fault.CheckFault.{CheckFault}
+use Rattle.chi_check.specs.declared.fault.CheckFault.TheVariants.{Read, TooLong, Memory, Trace, Write}
+use Rattle.chi_check.specs.declared.trace_fault.TraceFault.{TraceFault}
+use Rattle.chi_check.specs.declared.trace_fault.TraceFault.TheVariants as trace_fault
+
+-- a trace that is refused, or for which there is no memory
+abbrev pub trace_status : TraceFault → ℕ
+trace_status trace_fault.Memory = 4
+trace_status _ = 3
+
+-- 3 where the trace is refused, 4 out of memory, 5 where a device failed
+abbrev pub status_of : CheckFault → ℕ
+status_of Read = 5
+status_of TooLong = 3
+status_of Memory = 4
+status_of (Trace fault) = trace_status fault
+status_of (Write fault) = 5
+
+-- 0 where the trace is explained, 1 where it is not, 6 where that is undecided
+abbrev pub answer_status : Answer → ℕ
+answer_status (Explained order words) = 0
+answer_status (Blamed blame) = 1
+answer_status (Unexplained granule words) = 1
+answer_status Undecided = 6
+
+-- the status of an answer
+abbrev pub IsAnswerStatus : ℕ → Type 0
+IsAnswerStatus n = (n ≡ 0) ⊎ ((n ≡ 1) ⊎ (n ≡ 6))
+
+-- 0 explained, 1 not explained, 2 arguments refused, 3 to 5 for the faults, 6 undecided
+abbrev pub IsStatus : ℕ → Type 0
+IsStatus n = n ≤ 6
+
+-- the status where the arguments name no task: 4 out of memory, 0 for the help, or 5 where it could not be written,
+-- and 2 for arguments that are refused
+abbrev pub IsStatusOfArguments : ErrorKind → ℕ → Type 0
+IsStatusOfArguments error_kind.OutOfMemory n = n ≡ 4
+IsStatusOfArguments error_kind.DisplayHelp n = (n ≡ 0) ⊎ (n ≡ 5)
+IsStatusOfArguments error_kind.DisplayVersion n = (n ≡ 0) ⊎ (n ≡ 5)
+IsStatusOfArguments _ n = n ≡ 2
+
+-- where the answer goes nothing but help is written
+abbrev pub KeepsButForHelp : ErrorKind → Option (List ℕ) → Option (List ℕ) → Type 0
+KeepsButForHelp error_kind.DisplayHelp old new = Unit {0}
+KeepsButForHelp error_kind.DisplayVersion old new = Unit {0}
+KeepsButForHelp _ old new = Keeps old new

@@ -1,0 +1,40 @@
+-- the command line of the program, as `clap` reads it
+use Rattle.std.specs.Prelude.{◌≡◌, ◌-◌, ◌^◌, true, List, [], ◌∷◌, ◌⊎◌, Some, codes}
+use Rattle.clap.specs.Walk.{Rule, Text}
+use Rattle.clap.specs.Simple.{App, new_app, new_rule, on_top, with_rule, with_subcommand}
+use Rattle.clap.specs.Kinds.{IsAmong}
+use Rattle.clap.specs.Faults.{fault_of}
+use Rattle.clap.specs.declared.builder.action.ArgAction.TheVariants.{SetTrue}
+use Rattle.clap.specs.declared.builder.value_parser.ValueParser.{ValueParser}
+use Rattle.clap.specs.declared.builder.value_parser.ValueParser.TheVariants as value_parser
+use Rattle.clap.specs.declared.error.kind.ErrorKind.{ErrorKind}
+use Rattle.clap.specs.declared.error.kind.ErrorKind.TheVariants as error_kind
+
+-- an option that takes a value, and its default
+abbrev pub option_rule : Text → ValueParser → Text → Rule
+option_rule name values default =
+    record (new_rule name) { long = Some name; value_names = 1; parser = Some values; defaults = default ∷ [] }
+
+-- an option that is there or not
+abbrev pub switch_rule : Text → Rule
+switch_rule name = record (new_rule name) { long = Some name; action = Some SetTrue }
+
+-- the task `explain`: its witness may be asked for, and its budget is a whole number below 2^64
+abbrev pub task_app : App
+task_app = with_rule (with_rule (new_app (codes "explain")) (switch_rule (codes "witness")))
+    (option_rule (codes "budget") (value_parser.Unsigned 0 (2 ^ 64 - 1)) (codes "1000000"))
+
+-- the program: it wants its task, has a version, and its name is not among its arguments
+abbrev pub bare_app : App
+bare_app = on_top (λ s. record s { no_binary_name = true; has_version = true; subcommand_required = true }) (new_app (codes "chicheck"))
+
+abbrev pub program_app : App
+program_app = with_subcommand bare_app task_app.top
+
+-- why the arguments name no task: there is no memory, or `clap` finds this fault in them or is asked for help
+abbrev pub IsArgumentsFault : List Text → ErrorKind → Type 0
+IsArgumentsFault arguments kind = (kind ≡ error_kind.OutOfMemory) ⊎ IsAmong kind (fault_of program_app arguments)
+
+-- the arguments name the task: `clap` finds no fault in them
+abbrev pub IsTaken : List Text → Type 0
+IsTaken arguments = fault_of program_app arguments ≡ []

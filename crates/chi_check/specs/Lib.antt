@@ -1,0 +1,9 @@
+pub mod Answer
+pub mod AnswerText
+pub mod Check
+pub mod CheckStatus
+pub mod CommandLine
+pub mod Decoded
+pub mod Part
+pub mod ProgramOutcome
+pub mod Trace

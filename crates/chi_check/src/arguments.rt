@@ -1,0 +1,103 @@
+//! The program on the arguments of its command line.
+
+ghost use Rattle.std.specs.Prelude.{◌≡◌, map, string_bytes, IfOk, IfSome};
+ghost use Rattle.clap.specs.Values.{kind_of};
+ghost use Rattle.chi_check.specs.Check.{KeepsUnanswered, Outcome};
+ghost use Rattle.chi_check.specs.CheckStatus.{IsAnswerStatus, IsStatus, IsStatusOfArguments, KeepsButForHelp, status_of};
+ghost use Rattle.chi_check.specs.ProgramOutcome.{Ends, ProgramOutcome};
+
+use crate::check::check;
+use crate::command::options_of;
+use crate::fault::{CheckFault, status_of};
+use crate::options::CheckOptions;
+use chi_script::WriteFault;
+use clap::Error;
+use clap::error::ErrorKind;
+use std::alloc::Global;
+use std::io::{Read, Write};
+
+/// The status where the command line is refused.
+pub(crate) const REFUSED: u8 = 2;
+
+// Checks a trace, and flushes what was written. A fault of the flush is one of the writer.
+fn run_check<R: Read, W: Write>(
+    alloc: Global,
+    options: &CheckOptions,
+    from: &mut R,
+    to: &mut W,
+) -> Result<u8, CheckFault>
+    ensures outcome { IfSome (R.remaining from.old) (λ input. Outcome options.now input (W.contents to.old) (W.contents to.new) result) }
+    ensures unanswered { KeepsUnanswered (W.contents to.old) (W.contents to.new) result }
+    ensures status { IfOk result IsAnswerStatus }
+{
+    let status = check(alloc, from, to, options)?;
+    match to.flush() {
+        Ok(()) => Ok(status),
+        Err(_) => Err(CheckFault::Write(WriteFault::Failed)),
+    }
+}
+
+// Reports why there is no answer. The status is that of the fault.
+pub(crate) fn report_fault<E: Write>(fault: &CheckFault, errors: &mut E) -> u8
+    ensures { result ≡ status_of fault.now }
+{
+    let _written = writeln!(errors, "chicheck: {fault}");
+    status_of(fault)
+}
+
+// Checks a trace, and reports its fault.
+fn end_check<R: Read, W: Write, E: Write>(
+    alloc: Global,
+    options: &CheckOptions,
+    from: &mut R,
+    to: &mut W,
+    errors: &mut E,
+) -> u8
+    ensures ends { Ends options.now (R.remaining from.old) (W.contents to.old) (W.contents to.new) result }
+    ensures status { IsStatus result }
+{
+    match run_check(alloc, options, from, to) {
+        Ok(status) => status,
+        Err(fault) => report_fault(&fault, errors),
+    }
+}
+
+// Reports what `clap` answers to the arguments: help to `to`, and a refusal to `errors`.
+fn report_arguments<W: Write, E: Write>(error: &Error, to: &mut W, errors: &mut E) -> u8
+    ensures status { IsStatusOfArguments (kind_of error.now) result }
+    ensures kept { KeepsButForHelp (kind_of error.now) (W.contents to.old) (W.contents to.new) }
+{
+    if error.kind() == ErrorKind::OutOfMemory {
+        return report_fault(&CheckFault::Memory, errors);
+    }
+    if error.use_stderr() {
+        let _written = write!(errors, "{error}");
+        return REFUSED;
+    }
+    match write!(to, "{error}").and_then(|()| to.flush()) {
+        Ok(()) => 0,
+        Err(_) => report_fault(&CheckFault::Write(WriteFault::Failed), errors),
+    }
+}
+
+/// The program: reads the arguments after its name, checks the trace from `from` as they say, and writes the answer to
+/// `to`. A fault is reported to `errors`, whose own faults are ignored. The answer is the status to end with.
+///
+/// ```
+/// let status = run_arguments(alloc, &arguments, &mut input, &mut output, &mut errors);
+/// ```
+pub fn run_arguments<R: Read, W: Write, E: Write>(
+    alloc: Global,
+    arguments: &[String],
+    from: &mut R,
+    to: &mut W,
+    errors: &mut E,
+) -> u8
+    ensures outcome { ProgramOutcome (map string_bytes arguments.now) (R.remaining from.old) (W.contents to.old) (W.contents to.new) result }
+    ensures status { IsStatus result }
+{
+    match options_of(alloc, arguments) {
+        Ok(options) => end_check(alloc, &options, from, to, errors),
+        Err(error) => report_arguments(&error, to, errors),
+    }
+}

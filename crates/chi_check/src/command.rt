@@ -1,0 +1,116 @@
+//! The command line.
+
+ghost use Rattle.std.specs.Prelude.{◌≡◌, ◌-◌, ◌^◌, false, codes, map, string_bytes, IfErr, IfOk};
+ghost use Rattle.clap.specs.Simple.{app_of};
+ghost use Rattle.clap.specs.Values.{kind_of};
+ghost use Rattle.clap.specs.Walk.{rule_of};
+ghost use Rattle.clap.specs.declared.builder.value_parser.ValueParser.TheVariants as value_parser;
+ghost use Rattle.chi_check.specs.CommandLine.{IsArgumentsFault, IsTaken, option_rule, program_app, switch_rule, task_app};
+
+use crate::options::CheckOptions;
+use clap::error::ErrorKind;
+use clap::{Arg, ArgAction, ArgMatches, Command, Error, value_parser};
+use std::alloc::Global;
+
+// What `--version` prints after the program's name.
+const VERSION: &str = "0.1.0";
+
+const ABOUT: &str = "Says whether what was observed at a CHI home node can be explained.";
+
+const MORE: &str =
+    "A trace on standard input is a script of chihome whose requests have the members start, end
+and reply too. It may have the member final, the words at the end. The answer on standard
+output is `explained`, `not explained` with where, or `undecided`.
+
+  $ echo '{\"base\":4096,\"granules\":1,\"requests\":[{\"src\":0,\"txn\":1,\"op\":4,\"size\":3,
+    \"addr\":4096,\"endian\":0,\"be\":0,\"lanes\":\"00000000000000000000000000000000\",
+    \"start\":10,\"end\":20,\"reply\":\"00000000000000000000000000000000\"}]}' | chicheck explain
+  explained
+
+Statuses: 0 explained; 1 not explained; 2 command line refused; 3 trace refused; 4 no memory;
+5 a read or a write failed; 6 undecided.";
+
+const EXPLAIN_ABOUT: &str = "Looks for an order of the operations that is a legal history";
+
+// How many states of each granule are looked at where no number is given.
+const BUDGET: u64 = 1_000_000;
+
+// The option that takes the number of states.
+fn budget_option<'a>(alloc: Global) -> Arg<'a>
+    ensures rule { rule_of result ≡ option_rule (codes "budget") (value_parser.Unsigned 0 (2 ^ 64 - 1)) (codes "1000000") }
+    ensures local { result.global ≡ false }
+{
+    Arg::new(alloc, "budget")
+        .long("budget")
+        .value_name("N")
+        .value_parser(value_parser!(u64))
+        .default_value("1000000")
+        .help("States of each granule that are looked at for an answer")
+}
+
+// The option that asks for the order found.
+fn witness_option<'a>(alloc: Global) -> Arg<'a>
+    ensures rule { rule_of result ≡ switch_rule (codes "witness") }
+    ensures local { result.global ≡ false }
+{
+    Arg::new(alloc, "witness")
+        .long("witness")
+        .action(ArgAction::SetTrue)
+        .help("Writes the operations in the order found, and the memory after them")
+}
+
+// The task `explain`.
+fn explain_command<'a>(alloc: Global) -> Result<Command<'a>, Error>
+    ensures app { IfOk result (λ command. app_of command ≡ task_app) }
+    ensures memory { IfErr result (λ error. kind_of error ≡ ErrorKind.OutOfMemory) }
+{
+    Ok(
+        Command::new(alloc, "explain")
+            .about(EXPLAIN_ABOUT)
+            .arg(witness_option(alloc))?
+            .arg(budget_option(alloc))?,
+    )
+}
+
+fn whole_command<'a>(alloc: Global) -> Result<Command<'a>, Error>
+    ensures app { IfOk result (λ command. app_of command ≡ program_app) }
+    ensures memory { IfErr result (λ error. kind_of error ≡ ErrorKind.OutOfMemory) }
+{
+    Ok(
+        Command::new(alloc, "chicheck")
+            .bin_name("chicheck")?
+            .no_binary_name(true)
+            .about(ABOUT)
+            .version(VERSION)
+            .after_help(MORE)
+            .subcommand_required(true)
+            .subcommand(explain_command(alloc)?)?,
+    )
+}
+
+// The options that the task was given, or that stand in for them.
+fn chosen_options(chosen: &ArgMatches<'_>) -> CheckOptions {
+    CheckOptions {
+        witness: chosen.get_flag("witness"),
+        budget: chosen.get_one::<u64>("budget").unwrap_or(BUDGET),
+    }
+}
+
+/// Reads the arguments after the program's name: `explain`, and its options.
+///
+/// Which arguments are refused, and as what, `clap`'s definitions say of the program's command line. Which options the
+/// others name no contract says; tests show it.
+///
+/// ```
+/// let options = options_of(alloc, &arguments)?; // explain --witness --budget 1000
+/// ```
+pub fn options_of(alloc: Global, arguments: &[String]) -> Result<CheckOptions, Error>
+    ensures taken { IfOk result (λ _. IsTaken (map string_bytes arguments.now)) }
+    ensures refused { IfErr result (λ error. IsArgumentsFault (map string_bytes arguments.now) (kind_of error)) }
+{
+    let matches = whole_command(alloc)?.try_get_matches_from(arguments)?;
+    let Some((_, chosen)) = matches.subcommand() else {
+        unreachable!()
+    };
+    Ok(chosen_options(chosen))
+}

@@ -1,0 +1,46 @@
+//! Why a trace is not answered, and with which status.
+
+ghost use Rattle.std.specs.Prelude.{◌≡◌};
+ghost use Rattle.chi_check.specs.CheckStatus.{status_of};
+
+use crate::trace_fault::TraceFault;
+use chi_script::WriteFault;
+use thiserror::Error;
+
+/// Why no whole answer was written.
+///
+/// - `Read`: the reader answered a fault, which may also be that it was interrupted.
+/// - `TooLong`: the input has more than 67,108,864 bytes.
+/// - `Memory`: no memory for the input, for the search or for the answer.
+/// - `Trace`: the trace was refused. Up to here nothing is written.
+/// - `Write`: the answer was not written whole.
+#[derive(Debug, Drop, Error)]
+pub enum CheckFault {
+    #[error("input could not be read")]
+    Read,
+    #[error("trace is over 67108864 bytes")]
+    TooLong,
+    #[error("no memory")]
+    Memory,
+    #[error(transparent)]
+    Trace(TraceFault),
+    #[error(transparent)]
+    Write(WriteFault),
+}
+
+/// The status that the program ends with on this fault: 3 where the trace is refused, 4 out of memory, 5 where a
+/// device failed.
+///
+/// Source: profile.
+pub fn status_of(fault: &CheckFault) -> u8
+    ensures { result ≡ status_of fault.now }
+{
+    match fault {
+        CheckFault::Read => 5,
+        CheckFault::TooLong => 3,
+        CheckFault::Memory => 4,
+        CheckFault::Trace(TraceFault::Memory) => 4,
+        CheckFault::Trace(_) => 3,
+        CheckFault::Write(_) => 5,
+    }
+}

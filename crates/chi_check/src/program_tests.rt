@@ -1,0 +1,179 @@
+//! The program on traces whose answers were worked by hand.
+
+use crate::arguments::run_arguments;
+use crate::check::check;
+use crate::fault::CheckFault;
+use crate::options::CheckOptions;
+use chi_script::WriteFault;
+use std::alloc::AllocError;
+use std::io::{self, Read, Write};
+use std::test::Fail;
+
+// An AtomicLoad ADD of 1 to the upper granule by 1, and then one by 2 that answered the word before both.
+const LOST_UPDATE: &str =
+    "{\"base\":4096,\"granules\":2,\"requests\":[{\"src\":1,\"txn\":1,\"op\":48,\"size\":3,\"addr\":4104,\"endian\":0,\"be\":65280,\"lanes\":\"00000000000000000100000000000000\",\"start\":10,\"end\":20,\"reply\":\"00000000000000000000000000000000\"},{\"src\":2,\"txn\":1,\"op\":48,\"size\":3,\"addr\":4104,\"endian\":0,\"be\":65280,\"lanes\":\"00000000000000000100000000000000\",\"start\":30,\"end\":40,\"reply\":\"00000000000000000000000000000000\"}]}";
+
+const LOST_UPDATE_ANSWER: &str = "not explained: granule 0000000000001008
+at 40: 2 1 30 AtomicLoad.ADD 3 0000000000001008 data 00000000000000000000000000000000
+  the granule can hold 0100000000000000
+  open from 30 to 40: 2 1 30 AtomicLoad.ADD 3 0000000000001008 data 00000000000000000000000000000000
+  explained up to 39 (operations: 1)
+";
+
+// Two swaps that overlap, of which the first one listed came last.
+const SWAPS: &str =
+    "{\"base\":4096,\"granules\":1,\"image\":\"0500000000000000\",\"final\":\"0700000000000000\",\"requests\":[{\"src\":1,\"txn\":1,\"op\":56,\"size\":3,\"addr\":4096,\"endian\":0,\"be\":255,\"lanes\":\"07000000000000000000000000000000\",\"start\":10,\"end\":30,\"reply\":\"09000000000000000000000000000000\"},{\"src\":2,\"txn\":1,\"op\":56,\"size\":3,\"addr\":4096,\"endian\":0,\"be\":255,\"lanes\":\"09000000000000000000000000000000\",\"start\":12,\"end\":28,\"reply\":\"05000000000000000000000000000000\"}]}";
+
+const SWAPS_WITNESS: &str = "explained
+2 1 38 AtomicSwap 3 0000000000001000 data 05000000000000000000000000000000
+1 1 38 AtomicSwap 3 0000000000001000 data 09000000000000000000000000000000
+m 0000000000001000 0700000000000000
+";
+
+// A write of 6, after which 4 is left.
+const LOST_WRITE: &str =
+    "{\"base\":4096,\"granules\":1,\"final\":\"0400000000000000\",\"requests\":[{\"src\":1,\"txn\":1,\"op\":28,\"size\":3,\"addr\":4096,\"endian\":0,\"be\":255,\"lanes\":\"06000000000000000000000000000000\",\"start\":10,\"end\":20,\"reply\":\"comp\"}]}";
+
+const LOST_WRITE_ANSWER: &str = "not explained: granule 0000000000001000
+at the end: 0400000000000000
+  the granule can hold 0600000000000000
+";
+
+// What the program did: its status, and what it wrote on standard output and on standard error.
+#[derive(Drop)]
+struct Output {
+    status: u8,
+    out: Vec<u8>,
+    errors: Vec<u8>,
+}
+
+// Runs the program on these arguments, with this text on its standard input.
+fn run_on(rt: &impl AllocGlobal, words: &[&str], text: &str) -> Result<Output, AllocError> {
+    let mut arguments = Vec::new(rt.alloc());
+    for word in words {
+        arguments.push(String::from_str(rt.alloc(), word)?)?;
+    }
+    let mut out: Vec<u8> = Vec::new(rt.alloc());
+    let mut errors: Vec<u8> = Vec::new(rt.alloc());
+    let status = run_arguments(
+        rt.alloc(),
+        arguments.as_slice(),
+        &mut text.as_bytes(),
+        &mut out,
+        &mut errors,
+    );
+    Ok(Output {
+        status,
+        out,
+        errors,
+    })
+}
+
+#[test]
+fn traces_and_their_answers(rt: HostRuntime) -> Result<(), Fail> {
+    for (words, trace, status, answer) in [
+        (["explain"].as_slice(), LOST_UPDATE, 1, LOST_UPDATE_ANSWER),
+        (
+            ["explain", "--witness"].as_slice(),
+            LOST_UPDATE,
+            1,
+            LOST_UPDATE_ANSWER,
+        ),
+        (["explain"].as_slice(), SWAPS, 0, "explained\n"),
+        (["explain", "--witness"].as_slice(), SWAPS, 0, SWAPS_WITNESS),
+        (["explain"].as_slice(), LOST_WRITE, 1, LOST_WRITE_ANSWER),
+        (
+            ["explain", "--budget", "0"].as_slice(),
+            SWAPS,
+            6,
+            "undecided within 0 states of a granule\n",
+        ),
+    ] {
+        let output = run_on(&rt, words, trace)?;
+        assert_eq!(rt; output.out.as_slice(), answer.as_bytes());
+        assert_eq!(rt; output.status, status);
+        assert_eq!(rt; output.errors.len(), 0);
+    }
+    Ok(())
+}
+
+#[test]
+fn traces_that_are_refused(rt: HostRuntime) -> Result<(), Fail> {
+    for (trace, text) in [
+        ("[]", "chicheck: trace is not an object\n"),
+        (
+            "{\"base\":4096,\"granules\":1,\"requests\":[{}]}",
+            "chicheck: request 0 member src is missing\n",
+        ),
+    ] {
+        let output = run_on(&rt, &["explain"], trace)?;
+        assert_eq!(rt; output.errors.as_slice(), text.as_bytes());
+        assert_eq!(rt; output.status, 3);
+        assert_eq!(rt; output.out.len(), 0);
+    }
+    Ok(())
+}
+
+#[test]
+fn arguments_that_are_refused(rt: HostRuntime) -> Result<(), Fail> {
+    for words in [
+        [].as_slice(),
+        ["run"].as_slice(),
+        ["explain", "trace.json"].as_slice(),
+        ["explain", "--budget", "x"].as_slice(),
+        ["explain", "--budget", "-1"].as_slice(),
+        ["explain", "--budget", "18446744073709551616"].as_slice(),
+    ] {
+        let output = run_on(&rt, words, SWAPS)?;
+        assert_eq!(rt; output.status, 2);
+        assert_eq!(rt; output.out.len(), 0);
+        assert!(rt; !output.errors.is_empty());
+    }
+    Ok(())
+}
+
+#[test]
+fn help_and_version(rt: HostRuntime) -> Result<(), Fail> {
+    let help = run_on(&rt, &["explain", "--help"], "")?;
+    assert_eq!(rt; help.status, 0);
+    assert!(rt; !help.out.is_empty());
+    let version = run_on(&rt, &["--version"], "")?;
+    assert_eq!(rt; version.status, 0);
+    assert_eq!(rt; version.out.as_slice(), b"chicheck 0.1.0\n".as_slice());
+    Ok(())
+}
+
+// A reader that fails at once, and a writer that fails at once.
+#[derive(Drop)]
+struct Broken;
+
+impl Read for Broken {
+    fn read(&mut self, _buf: &mut [u8]) -> io::Result<usize> {
+        Err(io::Error::from(io::ErrorKind::Other))
+    }
+}
+
+impl Write for Broken {
+    fn write(&mut self, _buf: &[u8]) -> io::Result<usize> {
+        Err(io::Error::from(io::ErrorKind::Other))
+    }
+
+    fn flush(&mut self) -> io::Result<()> {
+        Ok(())
+    }
+}
+
+#[test]
+fn devices_that_fail(rt: HostRuntime) -> Result<(), Fail> {
+    let options = CheckOptions {
+        witness: false,
+        budget: 1000,
+    };
+    let mut out: Vec<u8> = Vec::new(rt.alloc());
+    let read = check(rt.alloc(), &mut Broken, &mut out, &options);
+    assert!(rt; matches!(read, Err(CheckFault::Read)));
+    assert_eq!(rt; out.len(), 0);
+    let written = check(rt.alloc(), &mut SWAPS.as_bytes(), &mut Broken, &options);
+    assert!(rt; matches!(written, Err(CheckFault::Write(WriteFault::Failed))));
+    Ok(())
+}
