@@ -1,17 +1,19 @@
 # chihome: far atomics at a CHI home node, proved in Rattle.
 PREFIX ?= /usr/local
 PROGRAM := crates/chi_home/out/chi_home
+CHECKER := crates/chi_check/out/chi_check
 SCRIPT ?= examples/fetch_add.json
 
-.PHONY: help try build run test lib dv install bench bench-c bench-explain corpus
+.PHONY: help try build checker run test lib dv install bench bench-c bench-explain corpus
 
 help:
 	@echo "make try [SCRIPT=FILE]     build chihome with no proof, and show a script and the transcript of chihome run"
 	@echo "make run [SCRIPT=FILE]     the same, once chihome is proved"
 	@echo "make test                  the gate: every proof from nothing, the edits that must fail, tests, runs and what the documents show"
+	@echo "make checker               chicheck, proved: the program that explains traces"
 	@echo "make lib                   out/libchi_c.a and out/libchi.so, for C, C++, SystemVerilog and Python"
 	@echo "make dv                    the bench in SystemVerilog, in Verilator"
-	@echo "make install PREFIX=DIR    put the program at DIR/bin/chihome, and the libraries, header, package and module below DIR"
+	@echo "make install PREFIX=DIR    put the programs chihome and chicheck into DIR/bin, and the libraries, header, package and module below DIR"
 	@echo "make bench                 the speed of chihome and of the lock-free store, beside plain Rust"
 	@echo "make bench-c               the speed of the calls for C, beside plain C and by DPI"
 	@echo "make bench-explain         the checker of traces beside every order of 100,000 small ones, and its speed beside plain Rust"
@@ -28,6 +30,10 @@ build:
 	@cd crates/chi_home && rt run -- run < stdin > out.log 2>&1 || { cat out.log; rm -f out.log; exit 1; }
 	@rm -f crates/chi_home/out.log
 
+checker:
+	@cd crates/chi_check && rt run -- explain < stdin > out.log 2>&1 || { cat out.log; rm -f out.log; exit 1; }
+	@rm -f crates/chi_check/out.log
+
 run: build
 	@cat $(SCRIPT); echo; echo
 	@$(PROGRAM) run < $(SCRIPT)
@@ -39,7 +45,7 @@ test: .SHELLFLAGS := -o pipefail -ec
 test:
 	.ci/documents
 	.ci/credit_spent_once
-	@result=$$(mktemp); trap 'rm -f '$$result EXIT; rt ci 2>&1 | tee $$result; .ci/program; .ci/faults; .ci/c; tail -n 1 $$result
+	@result=$$(mktemp); trap 'rm -f '$$result EXIT; rt ci 2>&1 | tee $$result; .ci/program; .ci/checker; .ci/faults; .ci/c; tail -n 1 $$result
 
 lib:
 	c/build.sh
@@ -47,8 +53,9 @@ lib:
 dv: lib
 	dv/run.sh
 
-install: build lib
+install: build checker lib
 	install -D -m 755 $(PROGRAM) $(PREFIX)/bin/chihome
+	install -D -m 755 $(CHECKER) $(PREFIX)/bin/chicheck
 	install -D -m 644 out/libchi_c.a $(PREFIX)/lib/libchi_c.a
 	install -D -m 755 out/libchi.so $(PREFIX)/lib/libchi.so
 	install -D -m 644 include/chi.h $(PREFIX)/include/chi.h
@@ -71,8 +78,9 @@ bench: build
 bench-c: lib
 	bench/c/run.sh
 
-bench-explain:
+bench-explain: checker
 	bench/explain.sh $(SEED)
+	bench/chicheck.py $(SEED)
 
 corpus: build
 	bench/build.sh && cd bench && out/release/corpus ../$(PROGRAM) 10000 $(SEED)
