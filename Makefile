@@ -12,7 +12,7 @@ help:
 	@echo "make test                  the gate: every proof from nothing, the edits that must fail, tests, runs and what the documents show"
 	@echo "make checker               chicheck, proved: the program that explains traces"
 	@echo "make lib                   out/libchi_c.a and out/libchi.so, for C, C++, SystemVerilog and Python"
-	@echo "make dv                    the bench in SystemVerilog, in Verilator"
+	@echo "make dv                    the benches in SystemVerilog, in Verilator: the calls, and a monitor whose traces chicheck judges"
 	@echo "make install PREFIX=DIR    put the programs chihome and chicheck into DIR/bin, and the libraries, header, package and module below DIR"
 	@echo "make bench                 the speed of chihome and of the lock-free store, beside plain Rust"
 	@echo "make bench-c               the speed of the calls for C, beside plain C and by DPI"
@@ -50,7 +50,7 @@ test:
 lib:
 	c/build.sh
 
-dv: lib
+dv: lib checker
 	dv/run.sh
 
 install: build checker lib
@@ -60,6 +60,7 @@ install: build checker lib
 	install -D -m 755 out/libchi.so $(PREFIX)/lib/libchi.so
 	install -D -m 644 include/chi.h $(PREFIX)/include/chi.h
 	install -D -m 644 dv/chi_pkg.sv $(PREFIX)/share/chi/chi_pkg.sv
+	install -D -m 644 dv/chi_monitor.sv $(PREFIX)/share/chi/chi_monitor.sv
 	install -D -m 644 dv/chi_dv.c $(PREFIX)/share/chi/chi_dv.c
 	install -D -m 644 python/chi.py $(PREFIX)/share/chi/chi.py
 
