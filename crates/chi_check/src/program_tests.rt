@@ -7,6 +7,7 @@ use crate::options::CheckOptions;
 use chi_script::WriteFault;
 use std::alloc::AllocError;
 use std::io::{self, Read, Write};
+use std::process::Abort;
 use std::test::Fail;
 
 // An AtomicLoad ADD of 1 to the upper granule by 1, and then one by 2 that answered the word before both.
@@ -114,22 +115,23 @@ fn traces_that_are_refused(rt: HostRuntime) -> Result<(), Fail> {
     Ok(())
 }
 
+// These arguments are refused, and nothing is written on standard output.
+fn assert_refused<T: AllocGlobal + Abort>(rt: &T, words: &[&str]) -> Result<(), Fail> {
+    let output = run_on(rt, words, SWAPS)?;
+    assert_eq!(rt; output.status, 2);
+    assert_eq!(rt; output.out.len(), 0);
+    assert!(rt; !output.errors.is_empty());
+    Ok(())
+}
+
 #[test]
 fn arguments_that_are_refused(rt: HostRuntime) -> Result<(), Fail> {
-    for words in [
-        [].as_slice(),
-        ["run"].as_slice(),
-        ["explain", "trace.json"].as_slice(),
-        ["explain", "--budget", "x"].as_slice(),
-        ["explain", "--budget", "-1"].as_slice(),
-        ["explain", "--budget", "18446744073709551616"].as_slice(),
-    ] {
-        let output = run_on(&rt, words, SWAPS)?;
-        assert_eq!(rt; output.status, 2);
-        assert_eq!(rt; output.out.len(), 0);
-        assert!(rt; !output.errors.is_empty());
-    }
-    Ok(())
+    assert_refused(&rt, &[])?;
+    assert_refused(&rt, &["run"])?;
+    assert_refused(&rt, &["explain", "trace.json"])?;
+    assert_refused(&rt, &["explain", "--budget", "x"])?;
+    assert_refused(&rt, &["explain", "--budget", "-1"])?;
+    assert_refused(&rt, &["explain", "--budget", "18446744073709551616"])
 }
 
 #[test]
