@@ -8,9 +8,10 @@ ghost use Rattle.chi_explain.specs.Explains.{CanHold, ExplainsUntil, at, times_i
 ghost use Rattle.chi_explain.specs.Words.{Finishes};
 
 use crate::chart::lies_here;
-use crate::checker::explain_until;
 use crate::observed::Observed;
 use crate::possible::possible_words;
+use crate::progress::{NoProgress, Progress};
+use crate::trace::search_trace;
 use crate::verdict::Verdict;
 use chi_fields::Region;
 use std::alloc::{AllocError, Global};
@@ -35,12 +36,13 @@ pub struct Blame {
 
 // The first end time up to which the trace is not explained, as a bisection finds it. What it finds is tested, so
 // nothing is promised of it.
-fn first_time(
+fn first_time<P: Progress>(
     alloc: Global,
     region: &Region,
     opening: &[u64],
     ops: &[Observed],
     budget: u64,
+    progress: &mut P,
 ) -> Result<Option<u64>, AllocError> {
     let mut ends = Vec::with_capacity(alloc, ops.len())?;
     for op in ops {
@@ -54,11 +56,11 @@ fn first_time(
             return Ok(ends.get(low).copied());
         }
         let middle = low + (high - low) / 2;
-        let time = match ends.get(middle) {
-            Some(time) => *time,
+        let until = match ends.get(middle) {
+            Some(time) => Some(*time),
             None => return Ok(None),
         };
-        match explain_until(alloc, region, opening, time, ops, budget)? {
+        match search_trace(alloc, region, opening, None, until, ops, budget, progress)? {
             Verdict::Explained(_) => low = middle + 1,
             Verdict::Unexplained { granule: _ } => high = middle,
             Verdict::Undecided => return Ok(None),
@@ -140,18 +142,59 @@ pub fn first_unexplained(
     ensures words { IfOk result (λ found. IfSome found (λ blame.
         All (CanHold (opened region.now 256 opening.now) (Some (blame.time - 1)) ops.now blame.granule) blame.words.items)) }
 {
-    let time = match first_time(alloc, region, opening, ops, budget)? {
+    let found = first_unexplained_with_progress(
+        alloc,
+        region,
+        opening,
+        ops,
+        budget,
+        &mut NoProgress,
+    )?;
+    Ok(found)
+}
+
+/// As `first_unexplained`, and `progress` is told how far the search is, of one time after the other.
+///
+/// ```
+/// let found = first_unexplained_with_progress(alloc, &region, &opening, &ops, 1_000_000, &mut states)?;
+/// ```
+pub fn first_unexplained_with_progress<P: Progress>(
+    alloc: Global,
+    region: &Region,
+    opening: &[u64],
+    ops: &[Observed],
+    budget: u64,
+    progress: &mut P,
+) -> Result<Option<Blame>, AllocError>
+    ensures before { IfOk result (λ found. IfSome found (λ blame.
+        ExplainsUntil (opened region.now 256 opening.now) None (Some (blame.time - 1)) ops.now blame.order.items)) }
+    ensures after { IfOk result (λ found. IfSome found (λ blame. (order : List ℕ) →
+        ExplainsUntil (opened region.now 256 opening.now) None (Some blame.time) ops.now order → ⊥)) }
+    ensures granule { IfOk result (λ found. IfSome found (λ blame. (order : List ℕ) →
+        Finishes ops.now (Some blame.time) (is_here ops.now (Some blame.time) region.now blame.granule) (slice_index opening.now blame.granule) None order → ⊥)) }
+    ensures within { IfOk result (λ found. IfSome found (λ blame. blame.granule < region.now.granules)) }
+    ensures later { IfOk result (λ found. IfSome found (λ blame. 0 < blame.time)) }
+    ensures here { IfOk result (λ found. IfSome found (λ blame. is_here ops.now (Some blame.time) region.now blame.granule blame.op ≡ true)) }
+    ensures ends { IfOk result (λ found. IfSome found (λ blame. (at ops.now blame.op).end ≡ blame.time)) }
+    ensures overlapping { IfOk result (λ found. IfSome found (λ blame. (i : ℕ) →
+        times_in blame.overlapping.items i ≡ one_if (is_open_at ops.now blame.time region.now blame.granule i))) }
+    ensures words { IfOk result (λ found. IfSome found (λ blame.
+        All (CanHold (opened region.now 256 opening.now) (Some (blame.time - 1)) ops.now blame.granule) blame.words.items)) }
+{
+    let time = match first_time(alloc, region, opening, ops, budget, progress)? {
         Some(time) => time,
         None => return Ok(None),
     };
     if time == 0 {
         return Ok(None);
     }
-    let granule = match explain_until(alloc, region, opening, time, ops, budget)? {
+    let until = Some(time);
+    let granule = match search_trace(alloc, region, opening, None, until, ops, budget, progress)? {
         Verdict::Unexplained { granule } => granule,
         _ => return Ok(None),
     };
-    let order = match explain_until(alloc, region, opening, time - 1, ops, budget)? {
+    let before = Some(time - 1);
+    let order = match search_trace(alloc, region, opening, None, before, ops, budget, progress)? {
         Verdict::Explained(order) => order,
         _ => return Ok(None),
     };
@@ -164,12 +207,13 @@ pub fn first_unexplained(
         alloc,
         region,
         opening,
-        Some(time - 1),
+        before,
         ops,
         granule,
         &order,
         &overlapping,
         budget,
+        progress,
     )?;
     Ok(Some(Blame {
         granule,

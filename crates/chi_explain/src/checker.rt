@@ -8,6 +8,7 @@ ghost use Rattle.chi_explain.specs.Verdict.{IfExplained, IfUnexplained};
 ghost use Rattle.chi_explain.specs.Words.{Finishes};
 
 use crate::observed::Observed;
+use crate::progress::{NoProgress, Progress};
 use crate::trace::search_trace;
 use crate::verdict::Verdict;
 use chi_fields::Region;
@@ -44,7 +45,42 @@ pub fn explain(
         (option_map (λ words. slice_index words.now granule) finals.entry) order → ⊥)) }
     ensures within { IfOk result (λ verdict. IfUnexplained verdict (λ granule. granule < region.now.granules)) }
 {
-    let verdict = search_trace(alloc, region, opening, finals, None, ops, budget)?;
+    let verdict = explain_with_progress(
+        alloc,
+        region,
+        opening,
+        finals,
+        ops,
+        budget,
+        &mut NoProgress,
+    )?;
+    Ok(verdict)
+}
+
+/// As `explain`, and `progress` is told how far the search is.
+///
+/// ```
+/// let verdict = explain_with_progress(alloc, &region, &opening, Some(&finals), &ops, 1_000_000, &mut states)?;
+/// ```
+pub fn explain_with_progress<P: Progress>(
+    alloc: Global,
+    region: &Region,
+    opening: &[u64],
+    finals: Option<&[u64]>,
+    ops: &[Observed],
+    budget: u64,
+    progress: &mut P,
+) -> Result<Verdict, AllocError>
+    ensures yes { IfOk result (λ verdict. IfExplained verdict (λ order.
+        Explains (opened region.now 256 opening.now) (option_map (λ words. words.now) finals.entry) ops.now order)) }
+    ensures no { IfOk result (λ verdict. IfUnexplained verdict (λ granule. (order : List ℕ) →
+        Explains (opened region.now 256 opening.now) (option_map (λ words. words.now) finals.entry) ops.now order → ⊥)) }
+    ensures granule { IfOk result (λ verdict. IfUnexplained verdict (λ granule. (order : List ℕ) →
+        Finishes ops.now None (is_here ops.now None region.now granule) (slice_index opening.now granule)
+        (option_map (λ words. slice_index words.now granule) finals.entry) order → ⊥)) }
+    ensures within { IfOk result (λ verdict. IfUnexplained verdict (λ granule. granule < region.now.granules)) }
+{
+    let verdict = search_trace(alloc, region, opening, finals, None, ops, budget, progress)?;
     Ok(verdict)
 }
 
@@ -73,6 +109,16 @@ pub fn explain_until(
         Finishes ops.now (Some time) (is_here ops.now (Some time) region.now granule) (slice_index opening.now granule) None order → ⊥)) }
     ensures within { IfOk result (λ verdict. IfUnexplained verdict (λ granule. granule < region.now.granules)) }
 {
-    let verdict = search_trace(alloc, region, opening, None, Some(time), ops, budget)?;
+    let until = Some(time);
+    let verdict = search_trace(
+        alloc,
+        region,
+        opening,
+        None,
+        until,
+        ops,
+        budget,
+        &mut NoProgress,
+    )?;
     Ok(verdict)
 }

@@ -4,9 +4,10 @@ ghost use Rattle.std.specs.Prelude.{All, IfOk, None};
 ghost use Rattle.chi_history.specs.Openings.{opened};
 ghost use Rattle.chi_explain.specs.Explains.{CanHold};
 
-use crate::checker::explain;
 use crate::observed::Observed;
 use crate::possible::possible_words;
+use crate::progress::{NoProgress, Progress};
+use crate::trace::search_trace;
 use crate::verdict::Verdict;
 use chi_fields::Region;
 use std::alloc::{AllocError, Global};
@@ -31,7 +32,35 @@ pub fn words_at_end(
 ) -> Result<Vec<u64>, AllocError>
     ensures { IfOk result (λ words. All (CanHold (opened region.now 256 opening.now) None ops.now granule) words.items) }
 {
-    match explain(alloc, region, opening, None, ops, budget)? {
+    let words = words_at_end_with_progress(
+        alloc,
+        region,
+        opening,
+        ops,
+        granule,
+        budget,
+        &mut NoProgress,
+    )?;
+    Ok(words)
+}
+
+/// As `words_at_end`, and `progress` is told how far the search is.
+///
+/// ```
+/// let words = words_at_end_with_progress(alloc, &region, &opening, &ops, granule, 1_000_000, &mut states)?;
+/// ```
+pub fn words_at_end_with_progress<P: Progress>(
+    alloc: Global,
+    region: &Region,
+    opening: &[u64],
+    ops: &[Observed],
+    granule: usize,
+    budget: u64,
+    progress: &mut P,
+) -> Result<Vec<u64>, AllocError>
+    ensures { IfOk result (λ words. All (CanHold (opened region.now 256 opening.now) None ops.now granule) words.items) }
+{
+    match search_trace(alloc, region, opening, None, None, ops, budget, progress)? {
         Verdict::Explained(order) => {
             let words = possible_words(
                 alloc,
@@ -43,6 +72,7 @@ pub fn words_at_end(
                 &order,
                 &[],
                 budget,
+                progress,
             )?;
             Ok(words)
         }

@@ -6,13 +6,14 @@ ghost use Rattle.chi_explain.specs.Words.{Finishes};
 
 use crate::chart::{Chart, lanes_of};
 use crate::observed::Observed;
+use crate::progress::Progress;
 use crate::search::{Found, search_from};
 use chi_fields::Region;
 use std::alloc::{AllocError, Global};
 
 /// Searches one granule of the trace, over at most so many states: from its opening word to its last one, where
 /// that was observed.
-pub(crate) fn explain_granule(
+pub(crate) fn explain_granule<P: Progress>(
     alloc: Global,
     region: &Region,
     granule: usize,
@@ -22,6 +23,7 @@ pub(crate) fn explain_granule(
     until: Option<u64>,
     chart: &Chart,
     budget: u64,
+    progress: &mut P,
 ) -> Result<Found, AllocError>
     requires chart { IsChart ops.now until region.now chart.now }
     requires granule { granule < region.now.granules }
@@ -30,7 +32,7 @@ pub(crate) fn explain_granule(
 {
     let mut taken = vec![in alloc; 0; lanes_of(chart, granule)]?;
     let found = search_from(
-        alloc, region, ops, until, chart, granule, last, opening, &mut taken, budget,
+        alloc, region, ops, until, chart, granule, last, opening, &mut taken, budget, progress,
     )?;
     Ok(found)
 }

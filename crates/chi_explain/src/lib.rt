@@ -14,16 +14,18 @@ mod memo;
 mod merging;
 mod observed;
 mod possible;
+mod progress;
 mod replay;
 mod search;
 mod step;
 mod trace;
 mod verdict;
 
-pub use blame::{Blame, first_unexplained};
-pub use checker::{explain, explain_until};
-pub use ending::words_at_end;
+pub use blame::{Blame, first_unexplained, first_unexplained_with_progress};
+pub use checker::{explain, explain_until, explain_with_progress};
+pub use ending::{words_at_end, words_at_end_with_progress};
 pub use observed::Observed;
+pub use progress::{NoProgress, Progress};
 pub use replay::words_after;
 pub use verdict::Verdict;
 
@@ -33,6 +35,8 @@ mod byte_tests;
 mod cut_tests;
 #[cfg(test)]
 mod ending_tests;
+#[cfg(test)]
+mod progress_tests;
 #[cfg(test)]
 mod random_tests;
 #[cfg(test)]

@@ -6,6 +6,7 @@ ghost use Rattle.chi_explain.specs.Explains.{CanHold};
 
 use crate::chart::lies_here;
 use crate::observed::Observed;
+use crate::progress::Progress;
 use crate::replay::words_after;
 use crate::step::step;
 use crate::trace::search_trace;
@@ -66,7 +67,7 @@ fn words_to_try(
 
 // Whether some order explains the trace up to a time, or the whole trace where there is no time, and leaves these
 // words.
-fn leaves(
+fn leaves<P: Progress>(
     alloc: Global,
     region: &Region,
     opening: &[u64],
@@ -74,11 +75,13 @@ fn leaves(
     ops: &[Observed],
     words: &[u64],
     budget: u64,
+    progress: &mut P,
 ) -> Result<bool, AllocError>
     ensures { IfOk result (λ is. IsTrue is → (g : ℕ) → g < region.now.granules →
         CanHold (opened region.now 256 opening.now) until ops.now g (slice_index words.now g)) }
 {
-    match search_trace(alloc, region, opening, Some(words), until, ops, budget)? {
+    let finals = Some(words);
+    match search_trace(alloc, region, opening, finals, until, ops, budget, progress)? {
         Verdict::Explained(_) => Ok(true),
         _ => Ok(false),
     }
@@ -87,7 +90,7 @@ fn leaves(
 /// Words that a granule can hold up to a time, or at the end where there is no time, at most 16 of them. `order`
 /// explains the trace until then, and
 /// `overlapping` has operations of the granule that can still take effect.
-pub(crate) fn possible_words(
+pub(crate) fn possible_words<P: Progress>(
     alloc: Global,
     region: &Region,
     opening: &[u64],
@@ -97,6 +100,7 @@ pub(crate) fn possible_words(
     order: &[usize],
     overlapping: &[usize],
     budget: u64,
+    progress: &mut P,
 ) -> Result<Vec<u64>, AllocError>
     ensures { IfOk result (λ words. All (CanHold (opened region.now 256 opening.now) until ops.now granule) words.items) }
 {
@@ -122,7 +126,7 @@ pub(crate) fn possible_words(
     )?;
     for word in &tried {
         words[granule] = *word;
-        if leaves(alloc, region, opening, until, ops, &words, budget)? {
+        if leaves(alloc, region, opening, until, ops, &words, budget, progress)? {
             found.push(*word)?;
         }
     }

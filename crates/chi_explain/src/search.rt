@@ -7,6 +7,7 @@ use crate::chart::{Chart, count_of};
 use crate::choice::{Choice, choose};
 use crate::memo::{no_memo, remember};
 use crate::observed::Observed;
+use crate::progress::Progress;
 use chi_fields::Region;
 use std::alloc::{AllocError, Global};
 
@@ -68,7 +69,7 @@ fn ops_of(alloc: Global, path: &[Taken]) -> Result<Vec<usize>, AllocError> {
 
 /// Searches from an opening word for an order of a granule's operations, over at most so many states. `taken`
 /// has a zero for each lane.
-pub(crate) fn search_from(
+pub(crate) fn search_from<P: Progress>(
     alloc: Global,
     region: &Region,
     ops: &[Observed],
@@ -79,6 +80,7 @@ pub(crate) fn search_from(
     opening: u64,
     taken: &mut [usize],
     budget: u64,
+    progress: &mut P,
 ) -> Result<Found, AllocError>
     requires chart { IsChart ops.now until region.now chart.now }
     requires granule { granule < region.now.granules }
@@ -90,6 +92,7 @@ pub(crate) fn search_from(
     let mut path = Vec::with_capacity(alloc, count_of(chart, granule))?;
     let mut word = opening;
     for _ in 0..budget {
+        progress.look(region, until, granule);
         match choose(region, ops, until, chart, granule, &memo, last, taken, word) {
             Choice::Ended => {
                 let order = ops_of(alloc, &path)?;

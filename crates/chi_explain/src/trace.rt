@@ -12,6 +12,7 @@ use crate::drawing::{by_start, draw};
 use crate::granule::explain_granule;
 use crate::merging::merged;
 use crate::observed::Observed;
+use crate::progress::Progress;
 use crate::replay::explains;
 use crate::search::Found;
 use crate::verdict::Verdict;
@@ -37,7 +38,7 @@ fn last_of(finals: Option<&[u64]>, granule: usize) -> Option<u64>
 }
 
 /// What is found of the trace up to a time, the last one included; where there is no time, of the whole trace.
-pub(crate) fn search_trace(
+pub(crate) fn search_trace<P: Progress>(
     alloc: Global,
     region: &Region,
     opening: &[u64],
@@ -45,6 +46,7 @@ pub(crate) fn search_trace(
     until: Option<u64>,
     ops: &[Observed],
     budget: u64,
+    progress: &mut P,
 ) -> Result<Verdict, AllocError>
     ensures yes { IfOk result (λ verdict. IfExplained verdict (λ order.
         ExplainsUntil (opened region.now 256 opening.now) (option_map (λ words. words.now) finals.entry) until ops.now order)) }
@@ -78,6 +80,7 @@ pub(crate) fn search_trace(
             until,
             &chart,
             budget,
+            progress,
         )? {
             Found::Path(order) => orders.push(order)?,
             Found::Nothing => return Ok(Verdict::Unexplained { granule }),

@@ -7,7 +7,7 @@ use Rattle.chi_explain.proofs.possible.possible_words.Goals as goal
 use Rattle.chi_explain.proofs.possible.possible_words.Goals.{then-branch+in_ok-push, else-branch}
 
 pub loop-word-preserved : goal.loop-word-preserved
-loop-word-preserved c =
+loop-word-preserved g c =
     let within : c.args.granule < length c.loop-word.words.items = omega (arith, c.loop-word.invariant.counted, c.if-granule-len.false, c.len.ensures) in
     let inside : c.args.granule < c.args.region.now.granules = omega (arith, c.if-granule-from.false, c.from.ensures, c.granules.ensures.value) in
     record {

@@ -5,7 +5,7 @@ use Rattle.chi_explain.specs.Explains.{CanHold}
 use Rattle.chi_explain.proofs.possible.possible_words.Given as goal
 
 abbrev pub invariant-loop-word : goal.invariant-loop-word
-invariant-loop-word l = record {
+invariant-loop-word g l = record {
   counted : length l.words.items ≡ length l.initial.words.items;
   held : All (CanHold (opened l.region 256 l.opening) l.fn.until l.ops l.granule) l.found.items;
 }

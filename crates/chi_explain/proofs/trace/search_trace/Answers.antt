@@ -10,7 +10,7 @@ map_twice f g None = refl
 map_twice f g (Some a) = refl
 
 pub returns-in-Nothing-clause-no : goal.returns-in-Nothing-clause-no
-returns-in-Nothing-clause-no c order e =
+returns-in-Nothing-clause-no g c order e =
     let part = part_finishes c.args.region.now c.args.opening.now (option_map (λ words. words.now) c.args.finals) c.args.until c.args.ops.now c.loop-granule.granule order c.granules.ensures.region
     (omega (arith, c.loop-granule-test.true, c.from-granules.ensures, c.granules.ensures.value)) (c.type_inv.opening c.loop-granule.granule).fits e in
     c.in_ok-order.ensures c.in-Nothing.is (filter (is_of c.args.ops.now c.args.region.now c.loop-granule.granule) order)
