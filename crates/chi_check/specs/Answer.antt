@@ -52,4 +52,4 @@ IsAnswer t (Explained order words) =
 IsAnswer t (Blamed blame) = IsUnexplained t × IsBlame t blame
 IsAnswer t (Unexplained granule words) =
     (granule < t.region.granules) × IsUnexplained t × IsUnexplainedIn t granule × All (CanHold (opening_of t) None t.operations granule) words.items
-IsAnswer t Undecided = ⊤
+IsAnswer t (Undecided states) = ⊤

@@ -63,9 +63,13 @@ end_lines None granule words = flat_map word_line words
 end_lines (Some finals) granule [] = []
 end_lines (Some finals) granule (word ∷ words) = end_line (slice_index finals granule) ++ flat_map word_line (word ∷ words)
 
+-- no answer was found: how many states were looked at, and how many of a granule could be
+unfoldable pub undecided_line : ℕ → ℕ → List ℕ
+undecided_line states budget = codes "undecided after " ++ decimal states ++ codes " states, at most " ++ decimal budget ++ codes " of a granule\n"
+
 -- the text of an answer, with the operations in the order found where a witness is asked for
 abbrev pub answer_text : Bool → ℕ → TraceValue → Answer → List ℕ
 answer_text witness budget t (Explained order words) = codes "explained\n" ++ (if witness then witness_text t order.items else [])
 answer_text witness budget t (Blamed blame) = blame_text t blame
 answer_text witness budget t (Unexplained granule words) = granule_line t granule ++ end_lines t.finals granule words.items
-answer_text witness budget t Undecided = codes "undecided within " ++ decimal budget ++ codes " states of a granule\n"
+answer_text witness budget t (Undecided states) = undecided_line states budget

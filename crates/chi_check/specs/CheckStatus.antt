@@ -28,7 +28,7 @@ abbrev pub answer_status : Answer → ℕ
 answer_status (Explained order words) = 0
 answer_status (Blamed blame) = 1
 answer_status (Unexplained granule words) = 1
-answer_status Undecided = 6
+answer_status (Undecided states) = 6
 
 -- the status of an answer
 abbrev pub IsAnswerStatus : ℕ → Type 0

@@ -3,8 +3,12 @@
 ghost use Rattle.std.specs.Prelude.{◌<◌, IfOk};
 ghost use Rattle.chi_check.specs.Answer.{IsAnswer, IsExplained, IsUnexplained, IsUnexplainedIn};
 
+use crate::states::States;
 use crate::trace::Trace;
-use chi_explain::{Blame, Verdict, explain, first_unexplained, words_after, words_at_end};
+use chi_explain::{
+    Blame, Progress, Verdict, explain_with_progress, first_unexplained_with_progress, words_after,
+    words_at_end_with_progress,
+};
 use std::alloc::{AllocError, Global};
 
 /// What is answered of a trace.
@@ -13,13 +17,13 @@ use std::alloc::{AllocError, Global};
 /// - `Blamed`: they cannot be explained, and where they stop being explainable.
 /// - `Unexplained`: those of a granule cannot be explained. The words are some with which they could be, where only the
 ///   word at the end is wrong.
-/// - `Undecided`: neither was found within the budget.
+/// - `Undecided`: neither was found within the budget, for which so many states were looked at.
 #[derive(Debug, Drop)]
 pub enum Answer {
     Explained { order: Vec<usize>, words: Vec<u64> },
     Blamed(Blame),
     Unexplained { granule: usize, words: Vec<u64> },
-    Undecided,
+    Undecided { states: u64 },
 }
 
 // The answer of a trace that an order explains.
@@ -41,11 +45,12 @@ fn explained(alloc: Global, trace: &Trace, order: Vec<usize>) -> Result<Answer, 
 }
 
 // The answer of a trace that no order explains, not even the operations of this granule.
-fn unexplained(
+fn unexplained<P: Progress>(
     alloc: Global,
     trace: &Trace,
     granule: usize,
     budget: u64,
+    progress: &mut P,
 ) -> Result<Answer, AllocError>
     requires trace { IsUnexplained trace.now }
     requires granule { IsUnexplainedIn trace.now granule }
@@ -55,10 +60,15 @@ fn unexplained(
     let region = trace.region();
     let image = trace.image();
     let operations = trace.operations();
-    if let Some(blame) = first_unexplained(alloc, &region, image, operations, budget)? {
+    let found = first_unexplained_with_progress(
+        alloc, &region, image, operations, budget, progress,
+    )?;
+    if let Some(blame) = found {
         return Ok(Answer::Blamed(blame));
     }
-    let words = words_at_end(alloc, &region, image, operations, granule, budget)?;
+    let words = words_at_end_with_progress(
+        alloc, &region, image, operations, granule, budget, progress,
+    )?;
     Ok(Answer::Unexplained { granule, words })
 }
 
@@ -66,22 +76,34 @@ fn unexplained(
 /// granule at a time.
 ///
 /// ```
-/// let answer = answer_of(alloc, &trace, 1_000_000)?;
+/// let answer = answer_of(alloc, &trace, 1_000_000, &mut NoProgress)?;
 /// ```
-pub fn answer_of(alloc: Global, trace: &Trace, budget: u64) -> Result<Answer, AllocError>
+pub fn answer_of<P: Progress>(
+    alloc: Global,
+    trace: &Trace,
+    budget: u64,
+    progress: &mut P,
+) -> Result<Answer, AllocError>
     ensures { IfOk result (IsAnswer trace.now) }
 {
-    let verdict = explain(
+    let mut states = States::new(progress);
+    let verdict = explain_with_progress(
         alloc,
         &trace.region(),
         trace.image(),
         trace.finals(),
         trace.operations(),
         budget,
+        &mut states,
     )?;
     match verdict {
         Verdict::Explained(order) => explained(alloc, trace, order),
-        Verdict::Unexplained { granule } => unexplained(alloc, trace, granule, budget),
-        Verdict::Undecided => Ok(Answer::Undecided),
+        Verdict::Unexplained { granule } => {
+            unexplained(alloc, trace, granule, budget, &mut states)
+        }
+        Verdict::Undecided => {
+            let count = states.count();
+            Ok(Answer::Undecided { states: count })
+        }
     }
 }

@@ -10,6 +10,7 @@ use crate::check::check;
 use crate::command::options_of;
 use crate::fault::{CheckFault, status_of};
 use crate::options::CheckOptions;
+use crate::progress_line::ShownProgress;
 use chi_script::WriteFault;
 use clap::Error;
 use clap::error::ErrorKind;
@@ -20,17 +21,18 @@ use std::io::{Read, Write};
 pub(crate) const REFUSED: u8 = 2;
 
 // Checks a trace, and flushes what was written. A fault of the flush is one of the writer.
-fn run_check<R: Read, W: Write>(
+fn run_check<R: Read, W: Write, P: ShownProgress>(
     alloc: Global,
     options: &CheckOptions,
     from: &mut R,
     to: &mut W,
+    progress: &mut P,
 ) -> Result<u8, CheckFault>
     ensures outcome { IfSome (R.remaining from.old) (λ input. Outcome options.now input (W.contents to.old) (W.contents to.new) result) }
     ensures unanswered { KeepsUnanswered (W.contents to.old) (W.contents to.new) result }
     ensures status { IfOk result IsAnswerStatus }
 {
-    let status = check(alloc, from, to, options)?;
+    let status = check(alloc, from, to, options, progress)?;
     match to.flush() {
         Ok(()) => Ok(status),
         Err(_) => Err(CheckFault::Write(WriteFault::Failed)),
@@ -46,17 +48,18 @@ pub(crate) fn report_fault<E: Write>(fault: &CheckFault, errors: &mut E) -> u8
 }
 
 // Checks a trace, and reports its fault.
-fn end_check<R: Read, W: Write, E: Write>(
+fn end_check<R: Read, W: Write, E: Write, P: ShownProgress>(
     alloc: Global,
     options: &CheckOptions,
     from: &mut R,
     to: &mut W,
     errors: &mut E,
+    progress: &mut P,
 ) -> u8
     ensures ends { Ends options.now (R.remaining from.old) (W.contents to.old) (W.contents to.new) result }
     ensures status { IsStatus result }
 {
-    match run_check(alloc, options, from, to) {
+    match run_check(alloc, options, from, to, progress) {
         Ok(status) => status,
         Err(fault) => report_fault(&fault, errors),
     }
@@ -81,23 +84,25 @@ fn report_arguments<W: Write, E: Write>(error: &Error, to: &mut W, errors: &mut 
 }
 
 /// The program: reads the arguments after its name, checks the trace from `from` as they say, and writes the answer to
-/// `to`. A fault is reported to `errors`, whose own faults are ignored. The answer is the status to end with.
+/// `to`. A fault is reported to `errors`, whose own faults are ignored, and `progress` is told how far the search is. The
+/// answer is the status to end with.
 ///
 /// ```
-/// let status = run_arguments(alloc, &arguments, &mut input, &mut output, &mut errors);
+/// let status = run_arguments(alloc, &arguments, &mut input, &mut output, &mut errors, &mut NoProgress);
 /// ```
-pub fn run_arguments<R: Read, W: Write, E: Write>(
+pub fn run_arguments<R: Read, W: Write, E: Write, P: ShownProgress>(
     alloc: Global,
     arguments: &[String],
     from: &mut R,
     to: &mut W,
     errors: &mut E,
+    progress: &mut P,
 ) -> u8
     ensures outcome { ProgramOutcome (map string_bytes arguments.now) (R.remaining from.old) (W.contents to.old) (W.contents to.new) result }
     ensures status { IsStatus result }
 {
     match options_of(alloc, arguments) {
-        Ok(options) => end_check(alloc, &options, from, to, errors),
+        Ok(options) => end_check(alloc, &options, from, to, errors, progress),
         Err(error) => report_arguments(&error, to, errors),
     }
 }

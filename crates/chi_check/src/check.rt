@@ -9,6 +9,7 @@ use crate::answer::{Answer, answer_of};
 use crate::answer_text::answer_text;
 use crate::fault::CheckFault;
 use crate::options::CheckOptions;
+use crate::progress_line::ShownProgress;
 use crate::trace::{Trace, read_trace};
 use chi_script::{InputFault, read_input, write_bytes};
 use std::alloc::{AllocError, Global};
@@ -28,7 +29,7 @@ fn answer_status(answer: &Answer) -> u8
             granule: _,
             words: _,
         } => 1,
-        Answer::Undecided => 6,
+        Answer::Undecided { states: _ } => 6,
     }
 }
 
@@ -47,15 +48,18 @@ fn read_bytes<R: Read>(alloc: Global, from: &mut R) -> Result<Vec<u8>, CheckFaul
 }
 
 // The status and the text of the answer of a trace.
-fn answered(
+fn answered<P: ShownProgress>(
     alloc: Global,
     trace: &Trace,
     options: &CheckOptions,
+    progress: &mut P,
 ) -> Result<(u8, Vec<u8>), AllocError>
     requires { AreDecoded trace.now.region trace.now.requests trace.now.operations }
     ensures { IfOk result (λ r. IsAnswered options.now trace.now r.0 r.1.items) }
 {
-    let answer = answer_of(alloc, trace, options.budget)?;
+    let found = answer_of(alloc, trace, options.budget, progress);
+    progress.clear();
+    let answer = found?;
     let text = answer_text(alloc, trace, &answer, options.witness, options.budget)?;
     Ok((answer_status(&answer), text))
 }
@@ -64,16 +68,17 @@ fn answered(
 /// it cannot, 6 where that is undecided within the budget.
 ///
 /// Nothing is written unless the whole trace was read and its answer found. After a fault of the writer a prefix of the
-/// answer has been written.
+/// answer has been written. `progress` is told how far the search is, and cleared before the answer is written.
 ///
 /// ```
-/// let status = check(alloc, &mut trace.as_bytes(), &mut answer, &options)?; // explained
+/// let status = check(alloc, &mut trace.as_bytes(), &mut answer, &options, &mut NoProgress)?; // explained
 /// ```
-pub fn check<R: Read, W: Write>(
+pub fn check<R: Read, W: Write, P: ShownProgress>(
     alloc: Global,
     from: &mut R,
     to: &mut W,
     options: &CheckOptions,
+    progress: &mut P,
 ) -> Result<u8, CheckFault>
     ensures outcome { IfSome (R.remaining from.old) (λ input. Outcome options.now input (W.contents to.old) (W.contents to.new) result) }
     ensures unanswered { KeepsUnanswered (W.contents to.old) (W.contents to.new) result }
@@ -84,7 +89,7 @@ pub fn check<R: Read, W: Write>(
         Ok(trace) => trace,
         Err(fault) => return Err(CheckFault::Trace(fault)),
     };
-    let Ok((status, text)) = answered(alloc, &trace, options) else {
+    let Ok((status, text)) = answered(alloc, &trace, options, progress) else {
         return Err(CheckFault::Memory);
     };
     match write_bytes(to, &text) {

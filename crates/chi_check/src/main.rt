@@ -2,6 +2,7 @@
 #![tactic(auto)]
 
 mod answer;
+mod answer_lines;
 mod answer_text;
 mod arguments;
 mod check;
@@ -12,8 +13,12 @@ mod options;
 mod part;
 #[cfg(test)]
 mod program_tests;
+mod progress_line;
+#[cfg(test)]
+mod progress_line_tests;
 #[cfg(test)]
 mod sample_traces;
+mod states;
 mod trace;
 mod trace_fault;
 #[cfg(test)]
@@ -27,6 +32,7 @@ ghost use Rattle.std.specs.Prelude.{◌≡◌, ◌⊎◌};
 
 use crate::arguments::{REFUSED, report_fault, run_arguments};
 use crate::fault::CheckFault;
+use crate::progress_line::ProgressLine;
 use std::env::{self, Env};
 use std::io::{self, Write};
 use std::process::ExitCode;
@@ -55,6 +61,7 @@ fn report_no_arguments<E: Write>(fault: &io::Error, errors: &mut E) -> u8
 
 fn main(rt: HostRuntime) -> ExitCode {
     let mut errors = rt.stderr();
+    let mut progress = ProgressLine::new(&rt, rt.stderr());
     let status = match arguments_after_name(&rt) {
         Ok(arguments) => {
             let mut from = rt.reader();
@@ -65,6 +72,7 @@ fn main(rt: HostRuntime) -> ExitCode {
                 &mut from,
                 &mut to,
                 &mut errors,
+                &mut progress,
             )
         }
         Err(fault) => report_no_arguments(&fault, &mut errors),

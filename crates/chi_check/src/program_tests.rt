@@ -4,6 +4,7 @@ use crate::arguments::run_arguments;
 use crate::check::check;
 use crate::fault::CheckFault;
 use crate::options::CheckOptions;
+use chi_explain::NoProgress;
 use chi_script::WriteFault;
 use std::alloc::AllocError;
 use std::io::{self, Read, Write};
@@ -62,6 +63,7 @@ fn run_on(rt: &impl AllocGlobal, words: &[&str], text: &str) -> Result<Output, A
         &mut text.as_bytes(),
         &mut out,
         &mut errors,
+        &mut NoProgress,
     );
     Ok(Output {
         status,
@@ -87,7 +89,7 @@ fn traces_and_their_answers(rt: HostRuntime) -> Result<(), Fail> {
             ["explain", "--budget", "0"].as_slice(),
             SWAPS,
             6,
-            "undecided within 0 states of a granule\n",
+            "undecided after 0 states, at most 0 of a granule\n",
         ),
     ] {
         let output = run_on(&rt, words, trace)?;
@@ -172,10 +174,16 @@ fn devices_that_fail(rt: HostRuntime) -> Result<(), Fail> {
         budget: 1000,
     };
     let mut out: Vec<u8> = Vec::new(rt.alloc());
-    let read = check(rt.alloc(), &mut Broken, &mut out, &options);
+    let read = check(rt.alloc(), &mut Broken, &mut out, &options, &mut NoProgress);
     assert!(rt; matches!(read, Err(CheckFault::Read)));
     assert_eq!(rt; out.len(), 0);
-    let written = check(rt.alloc(), &mut SWAPS.as_bytes(), &mut Broken, &options);
+    let written = check(
+        rt.alloc(),
+        &mut SWAPS.as_bytes(),
+        &mut Broken,
+        &options,
+        &mut NoProgress,
+    );
     assert!(rt; matches!(written, Err(CheckFault::Write(WriteFault::Failed))));
     Ok(())
 }

@@ -2,23 +2,23 @@
 use Rattle.chi_check.proofs.answer.unexplained.Goals as goal
 
 pub returns-in-Some : goal.returns-in-Some
-returns-in-Some c = (
+returns-in-Some g c = (
   c.requires.trace,
   record {
-    within = rw (c.in-Some.is, c.region-region.ensures) at c.in_ok-blame.ensures.within;
-    later = rw c.in-Some.is at c.in_ok-blame.ensures.later;
-    before = rw (c.in-Some.is, c.region-region.ensures, c.image-image.ensures.words, c.operations-operations.ensures.operations) at c.in_ok-blame.ensures.before;
-    after = rw (c.in-Some.is, c.region-region.ensures, c.image-image.ensures.words, c.operations-operations.ensures.operations) at c.in_ok-blame.ensures.after;
-    granule = rw (c.in-Some.is, c.region-region.ensures, c.image-image.ensures.words, c.operations-operations.ensures.operations) at c.in_ok-blame.ensures.granule;
-    here = rw (c.in-Some.is, c.region-region.ensures, c.operations-operations.ensures.operations) at c.in_ok-blame.ensures.here;
-    ends = rw (c.in-Some.is, c.operations-operations.ensures.operations) at c.in_ok-blame.ensures.ends;
-    overlapping = rw (c.in-Some.is, c.region-region.ensures, c.operations-operations.ensures.operations) at c.in_ok-blame.ensures.overlapping;
-    words = rw (c.in-Some.is, c.region-region.ensures, c.image-image.ensures.words, c.operations-operations.ensures.operations) at c.in_ok-blame.ensures.words;
+    within = rw (c.in-Some.is, c.region-region.ensures) at c.in_ok-found.ensures.within;
+    later = rw c.in-Some.is at c.in_ok-found.ensures.later;
+    before = rw (c.in-Some.is, c.region-region.ensures, c.image-image.ensures.words, c.operations-operations.ensures.operations) at c.in_ok-found.ensures.before;
+    after = rw (c.in-Some.is, c.region-region.ensures, c.image-image.ensures.words, c.operations-operations.ensures.operations) at c.in_ok-found.ensures.after;
+    granule = rw (c.in-Some.is, c.region-region.ensures, c.image-image.ensures.words, c.operations-operations.ensures.operations) at c.in_ok-found.ensures.granule;
+    here = rw (c.in-Some.is, c.region-region.ensures, c.operations-operations.ensures.operations) at c.in_ok-found.ensures.here;
+    ends = rw (c.in-Some.is, c.operations-operations.ensures.operations) at c.in_ok-found.ensures.ends;
+    overlapping = rw (c.in-Some.is, c.region-region.ensures, c.operations-operations.ensures.operations) at c.in_ok-found.ensures.overlapping;
+    words = rw (c.in-Some.is, c.region-region.ensures, c.image-image.ensures.words, c.operations-operations.ensures.operations) at c.in_ok-found.ensures.words;
   },
 )
 
 pub returns : goal.returns
-returns c = (
+returns g c = (
   c.requires.within,
   c.requires.trace,
   c.requires.granule,

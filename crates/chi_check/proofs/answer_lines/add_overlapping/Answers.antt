@@ -1,7 +1,7 @@
 -- one line more
 use Rattle.chi_check.specs.AnswerText.{open_line}
 use Rattle.chi_check.proofs.TextLemmas.{part_more}
-use Rattle.chi_check.proofs.answer_text.add_overlapping.Goals as goal
+use Rattle.chi_check.proofs.answer_lines.add_overlapping.Goals as goal
 
 pub loop-place-preserved : goal.loop-place-preserved
 loop-place-preserved c =

@@ -1,7 +1,7 @@
 -- one line more
 use Rattle.chi_check.specs.AnswerText.{word_line}
 use Rattle.chi_check.proofs.TextLemmas.{part_more}
-use Rattle.chi_check.proofs.answer_text.add_words.Goals as goal
+use Rattle.chi_check.proofs.answer_lines.add_words.Goals as goal
 
 pub loop-word-preserved : goal.loop-word-preserved
 loop-word-preserved c =

@@ -1,7 +1,7 @@
 -- the parts are the line
 use Rattle.std.proofs.Common.{append_assoc, append-nil}
 use Rattle.chi_check.specs.AnswerText.{blamed_line}
-use Rattle.chi_check.proofs.answer_text.add_blamed.Goals as goal
+use Rattle.chi_check.proofs.answer_lines.add_blamed.Goals as goal
 
 pub returns : goal.returns
 unfolding blamed_line

@@ -1,0 +1,123 @@
+//! The line that says how far a search is.
+
+ghost use Rattle.std.specs.Prelude.{◌≡◌, None};
+ghost use Rattle.std.specs.Io.KnownBytes.{Keeps};
+
+use chi_explain::{NoProgress, Progress};
+use chi_fields::Region;
+use std::io::{IsTerminal, Write};
+use std::time::{Clock, Duration, Instant};
+
+// How many milliseconds go by before the line is written, and before it is written over.
+const FIRST: u64 = 1000;
+
+const NEXT: u64 = 100;
+
+// How many states are looked at between two looks at the clock.
+const STATES: u64 = 4096;
+
+/// Shows how far a search is, until something else is written.
+pub trait ShownProgress: Progress {
+    /// Takes back what is shown.
+    fn clear(&mut self);
+}
+
+impl ShownProgress for NoProgress {
+    fn clear(&mut self) {}
+}
+
+/// A line on a terminal that says how many granules a search is done with. It is first written where a second has gone
+/// by since the program began, and then written over ten times a second. Where `to` is no terminal nothing is written.
+///
+/// Its own faults are ignored.
+#[derive(Drop)]
+pub struct ProgressLine<'a, C, W> {
+    clock: &'a C,
+    to: W,
+    began: Option<Instant>,
+    shown: Option<Instant>,
+    states: u64,
+}
+
+impl<'a, C: Clock, W: Write + IsTerminal> ProgressLine<'a, C, W> {
+    /// A line that is not written yet. The program begins now.
+    ///
+    /// ```
+    /// let mut progress = ProgressLine::new(&rt, rt.stderr());
+    /// ```
+    pub fn new(clock: &'a C, to: W) -> ProgressLine<'a, C, W>
+        ensures unwritten { Keeps (W.contents to) (W.contents result.to) }
+        ensures unshown { result.shown ≡ None }
+    {
+        let began = if to.is_terminal() {
+            Instant::now(clock).ok()
+        } else {
+            None
+        };
+        ProgressLine {
+            clock,
+            to,
+            began,
+            shown: None,
+            states: 0,
+        }
+    }
+}
+
+impl<'a, C: Clock, W: Write> ProgressLine<'a, C, W> {
+    // The time, where the line is to be written.
+    fn due(&self) -> Option<Instant> {
+        let began = self.began?;
+        let now = Instant::now(self.clock).ok()?;
+        let is_due = match self.shown {
+            Some(shown) => now.duration_since(shown) >= Duration::from_millis(NEXT),
+            None => now.duration_since(began) >= Duration::from_millis(FIRST),
+        };
+        if is_due { Some(now) } else { None }
+    }
+
+    // Writes the line over the one that stands there.
+    fn show(&mut self, region: &Region, until: Option<u64>, granule: usize) {
+        let granules = region.granules();
+        let _written = match until {
+            Some(time) => write!(
+                self.to,
+                "\rchicheck: {granule} of {granules} granules up to {time}\u{1b}[K"
+            ),
+            None => write!(
+                self.to,
+                "\rchicheck: {granule} of {granules} granules\u{1b}[K"
+            ),
+        };
+    }
+}
+
+impl<'a, C: Clock, W: Write> Progress for ProgressLine<'a, C, W> {
+    fn look(&mut self, region: &Region, until: Option<u64>, granule: usize)
+        ensures quiet { self.old.began ≡ None → Keeps (W.contents self.old.to) (W.contents self.new.to) }
+    {
+        if self.began.is_none() {
+            return;
+        }
+        self.states = self.states.wrapping_add(1);
+        if self.states % STATES != 0 {
+            return;
+        }
+        if let Some(now) = self.due() {
+            self.show(region, until, granule);
+            self.shown = Some(now);
+        }
+    }
+}
+
+impl<'a, C: Clock, W: Write> ShownProgress for ProgressLine<'a, C, W> {
+    fn clear(&mut self)
+        ensures quiet { self.old.shown ≡ None → Keeps (W.contents self.old.to) (W.contents self.new.to) }
+        ensures cleared { self.new.shown ≡ None }
+    {
+        if self.shown.is_some() {
+            let _written = write!(self.to, "\r\u{1b}[K");
+            self.shown = None;
+        }
+    }
+}
