@@ -1,6 +1,7 @@
 //! A home whose cache line stands in one cell under a lock.
 #![tactic(auto)]
 
+mod cell_steps;
 mod home;
 pub mod laws;
 mod rule;

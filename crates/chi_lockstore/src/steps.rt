@@ -11,6 +11,7 @@ ghost use Rattle.chi_lockstore.specs.Room.{IsSmall};
 ghost use Rattle.chi_lockstore.specs.LockSeats.{IsAlone};
 ghost use Rattle.crossbeam_utils.specs.Seq.{IsSamePass, cell_view};
 
+use crate::cell_steps::{cut, load};
 use crate::rule::{Cell, LINE_GRANULES, LinePass, Look, Settle, Whole, Words};
 use crate::step_kinds::{ChosenExchange, ChosenOpening, LineExchange, OpeningCut};
 use chi_fields::laws::access_is_lawful;
@@ -31,7 +32,7 @@ pub(crate) fn begin<Q: ChosenOpening, A: Allocator + Copy>(
     ensures view { IfOk result (λ r. cell_view r.1 ≡ knower _values.now (all_below _values.now.requesters) []) }
 {
     let (cell, mut pass) = Cell::<A>::ruled(alloc, [0; LINE_GRANULES])?;
-    let _spare = cell.split_pass::<OpeningCut<Q>>(&mut pass);
+    let _spare = cut::<OpeningCut<Q>, A>(&cell, &mut pass);
     Ok((cell, pass))
 }
 
@@ -75,7 +76,7 @@ pub(crate) fn look<A: Allocator, R: Wait>(cell: &Cell<A>, rt: &R, pass: &mut Lin
     ensures own { IsSamePass pass.old pass.new }
     ensures read { Reads (cell_view pass.old) result (cell_view pass.new) }
 {
-    cell.load_as::<Look, R>(rt, pass)
+    load::<Look, A, R>(cell, rt, pass)
 }
 
 /// A pass for one of the numbers. The old pass keeps the others.
@@ -93,7 +94,7 @@ pub(crate) fn give<Q: SplitNumber, A: Allocator>(
     ensures rest { cell_view pass.new ≡ rest_of _src (cell_view pass.old) }
     ensures alone { cell_view result ≡ alone _src (cell_view pass.old) }
 {
-    cell.split_pass::<SplitOff<Q>>(pass)
+    cut::<SplitOff<Q>, A>(cell, pass)
 }
 
 /// Makes two passes one, and looks at the line: only this look shows how what both had seen goes together.
@@ -111,7 +112,7 @@ pub(crate) fn take_in<A: Allocator, R: Wait>(
     ensures own { IsSamePass pass.old pass.new }
     ensures settled { Settles (both (cell_view pass.old) (cell_view other)) (cell_view pass.new) }
 {
-    let free = cell.split_pass::<Whole>(&mut other);
+    let free = cut::<Whole, A>(cell, &mut other);
     cell.join_pass::<Whole>(pass, free);
-    cell.load_as::<Settle, R>(rt, pass);
+    load::<Settle, A, R>(cell, rt, pass);
 }

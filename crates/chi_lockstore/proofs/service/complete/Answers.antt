@@ -1,5 +1,5 @@
 -- Each try is of what the access makes of the words found.
-use Rattle.std.proofs.Common.{rules, arith, ◌≡◌, ◌^◌, ◌<◌, ap, subst, ℕ, bit_xor, slice_index}
+use Rattle.std.proofs.Common.{rules, arith, ◌≡◌, ◌<◌, ap, subst, ℕ, bit_xor, slice_index}
 use Rattle.crossbeam_utils.specs.Seq.{cell_view}
 use Rattle.chi_fields.specs.Extent.{Extent, granule_of}
 use Rattle.chi_fields.specs.Access.{Access}

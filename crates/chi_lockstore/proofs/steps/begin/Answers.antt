@@ -14,16 +14,8 @@ use Rattle.chi_lockstore.proofs.steps.begin.Goals as goal
 pub ruled-requires : goal.ruled-requires
 ruled-requires g c = (cell_fits g.row.A c.requires.small, (search rules, ruled_first 8))
 
-pub split_pass-spare-requires : goal.split_pass-spare-requires
-split_pass-spare-requires g c =
-    let v : View = cell_view c.in_ok-cell.pass in (
-      cell_fits g.row.A c.requires.small,
-      (
-        search rules,
-        (
-          search rules,
-          subst (λ (z : Opening). Forks (Ruled 8) c.in_ok-cell.pass.id v (knower z (all_below z.requesters) []) gone) (sym c.requires.asked)
-              (line_opens c.args._values.now c.in_ok-cell.pass.id v (search rules) c.requires.opening.region c.requires.line),
-        ),
-      ),
-    )
+pub cut-spare-requires-clause-rule : goal.cut-spare-requires-clause-rule
+cut-spare-requires-clause-rule g c =
+    let v : View = cell_view c.in_ok-cell.pass in
+    subst (λ (z : Opening). Forks (Ruled 8) c.in_ok-cell.pass.id v (knower z (all_below z.requesters) []) gone) (sym c.requires.asked)
+    (line_opens c.args._values.now c.in_ok-cell.pass.id v (search rules) c.requires.opening.region c.requires.line)
