@@ -1,7 +1,7 @@
 //! Gates that wait for each other: a RetryAck at a chosen moment.
 
-use crate::scripts::{ADD_OF_ONE, ADD_OF_TWO, SEVEN_ZEROS, joined, script};
-use chi_engine::{Options, StoreKind, Workers, engine_race};
+use crate::scripts::{ADD_OF_ONE, ADD_OF_TWO, script};
+use chi_engine::{EngineFault, Options, StoreKind, Workers, engine_race};
 use chi_history::{Gate, NoGate};
 use chi_requester::Policy;
 use std::process::Abort;
@@ -82,13 +82,13 @@ impl<C: Clock> Gate for WaitingGate<'_, C> {
     }
 }
 
-// One add of 1 and two of 2, where the first waits at its gate until both of the others are over.
-fn assert_late<T: AllocGlobal + Abort + Clock + Threads + Wait + Sync>(
+// Races a text where the first gate waits for two pauses of the other, and tells how often a gate met its want.
+fn raced_late<T: AllocGlobal + Clock + Threads + Wait + Sync>(
     rt: &T,
     store: StoreKind,
-    want: &[&str],
-) -> Result<(), Fail> {
-    let text = script(rt, &[ADD_OF_ONE, ADD_OF_TWO, SECOND_ADD_OF_TWO])?;
+    mut text: &[u8],
+    to: &mut Vec<u8>,
+) -> Result<u64, EngineFault> {
     let options = Options {
         store,
         attempts: 1,
@@ -96,44 +96,55 @@ fn assert_late<T: AllocGlobal + Abort + Clock + Threads + Wait + Sync>(
         workers: Workers::Two,
     };
     let pauses = Pauses::none();
+    let (one, two) = (pauses.gate_one(rt, 2), pauses.gate_two(rt, 1));
+    engine_race(rt, &mut text, to, &options, one, two, NoGate, NoGate)?;
+    Ok(pauses.met.load(Ordering::SeqCst))
+}
+
+// One add of 1 and two of 2, where the first waits at its gate until both of the others are over.
+fn assert_late<T: AllocGlobal + Abort + Clock + Threads + Wait + Sync>(
+    rt: &T,
+    store: StoreKind,
+    want: &str,
+) -> Result<(), Fail> {
+    let text = script(rt, &[ADD_OF_ONE, ADD_OF_TWO, SECOND_ADD_OF_TWO])?;
     let mut to: Vec<u8> = Vec::new(rt.alloc());
-    engine_race(
-        rt,
-        &mut text.as_bytes(),
-        &mut to,
-        &options,
-        pauses.gate_one(rt, 2),
-        pauses.gate_two(rt, 1),
-        NoGate,
-        NoGate,
-    )?;
-    assert_eq!(rt; pauses.met.load(Ordering::SeqCst), 2, "gate never met");
-    assert_eq!(rt; to.as_slice(), joined(rt, want)?.as_bytes());
+    let met = raced_late(rt, store, text.as_bytes(), &mut to)?;
+    assert_eq!(rt; met, 2, "gate never met");
+    assert_eq!(rt; to.as_slice(), want.as_bytes());
     Ok(())
 }
 
+// What the lock-free store writes, where the first add is lost and answered by a retry.
+const RETRIED: &str = "1 1 28 AtomicStore.ADD 3 0000000000001000 retry
+2 2 28 AtomicStore.ADD 3 0000000000001000 comp
+2 3 28 AtomicStore.ADD 3 0000000000001000 comp
+m 0000000000001000 0200000000000000
+m 0000000000001008 0000000000000000
+m 0000000000001010 0000000000000000
+m 0000000000001018 0000000000000000
+m 0000000000001020 0000000000000000
+m 0000000000001028 0000000000000000
+m 0000000000001030 0000000000000000
+m 0000000000001038 0000000000000000
+";
+
+// What the locked store writes.
+const COMPLETED: &str = "1 1 28 AtomicStore.ADD 3 0000000000001000 comp
+2 2 28 AtomicStore.ADD 3 0000000000001000 comp
+2 3 28 AtomicStore.ADD 3 0000000000001000 comp
+m 0000000000001000 0300000000000000
+m 0000000000001008 0000000000000000
+m 0000000000001010 0000000000000000
+m 0000000000001018 0000000000000000
+m 0000000000001020 0000000000000000
+m 0000000000001028 0000000000000000
+m 0000000000001030 0000000000000000
+m 0000000000001038 0000000000000000
+";
+
 #[test]
 fn one_retry_by_two_gates(rt: HostRuntime) -> Result<(), Fail> {
-    assert_late(
-        &rt,
-        StoreKind::Book,
-        &[
-            "1 1 28 AtomicStore.ADD 3 0000000000001000 retry\n",
-            "2 2 28 AtomicStore.ADD 3 0000000000001000 comp\n",
-            "2 3 28 AtomicStore.ADD 3 0000000000001000 comp\n",
-            "m 0000000000001000 0200000000000000\n",
-            SEVEN_ZEROS,
-        ],
-    )?;
-    assert_late(
-        &rt,
-        StoreKind::Lock,
-        &[
-            "1 1 28 AtomicStore.ADD 3 0000000000001000 comp\n",
-            "2 2 28 AtomicStore.ADD 3 0000000000001000 comp\n",
-            "2 3 28 AtomicStore.ADD 3 0000000000001000 comp\n",
-            "m 0000000000001000 0300000000000000\n",
-            SEVEN_ZEROS,
-        ],
-    )
+    assert_late(&rt, StoreKind::Book, RETRIED)?;
+    assert_late(&rt, StoreKind::Lock, COMPLETED)
 }

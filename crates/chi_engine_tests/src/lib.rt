@@ -2,7 +2,13 @@
 #![tactic(auto)]
 
 #[cfg(test)]
+mod answers;
+#[cfg(test)]
+mod attempt_tests;
+#[cfg(test)]
 mod device_tests;
+#[cfg(test)]
+mod devices;
 #[cfg(test)]
 mod fault_tests;
 #[cfg(test)]

@@ -3,9 +3,11 @@
 ghost use Rattle.std.specs.Prelude.{◌≡◌, ◌≤◌};
 ghost use Rattle.chi_history.specs.NumberSets.{below};
 
-use crate::scripts::{ADD_OF_FOUR, ADD_OF_ONE, ADD_OF_THREE, ADD_OF_TWO, BOOK, LOCK, script};
+use crate::scripts::{
+    ADD_OF_FOUR, ADD_OF_ONE, ADD_OF_THREE, ADD_OF_TWO, STORES, STORES_OF_FOUR, script,
+};
 use chi_bookstore::BookStore;
-use chi_engine::{Options, Workers, engine_race};
+use chi_engine::{Options, engine_race};
 use chi_fields::{Region, Request};
 use chi_history::{Gate, Home};
 use chi_lockstore::LockStore;
@@ -100,21 +102,17 @@ fn assert_engine_meets<T: AllocGlobal + Abort + Clock + Threads + Wait + Sync>(
 
 #[test]
 fn gates_meet(rt: HostRuntime) -> Result<(), Fail> {
-    for store in [LOCK, BOOK] {
-        assert_engine_meets(&rt, &store, &[ADD_OF_ONE, ADD_OF_TWO], 2)?;
+    for options in &STORES {
+        assert_engine_meets(&rt, options, &[ADD_OF_ONE, ADD_OF_TWO], 2)?;
     }
     Ok(())
 }
 
 #[test]
 fn gates_meet_of_four(rt: HostRuntime) -> Result<(), Fail> {
-    for store in [LOCK, BOOK] {
-        let options = Options {
-            workers: Workers::Four,
-            ..store
-        };
-        let requests = [ADD_OF_ONE, ADD_OF_TWO, ADD_OF_THREE, ADD_OF_FOUR];
-        assert_engine_meets(&rt, &options, &requests, 4)?;
+    let requests = [ADD_OF_ONE, ADD_OF_TWO, ADD_OF_THREE, ADD_OF_FOUR];
+    for options in &STORES_OF_FOUR {
+        assert_engine_meets(&rt, options, &requests, 4)?;
     }
     Ok(())
 }
@@ -180,20 +178,57 @@ fn assert_four_meet<H: Home + Sync, T: AllocGlobal + Abort + Clock + Threads + W
     Ok(())
 }
 
+// Over a home of so many requesters: four where there is one for each of them beside 0, else two.
+fn assert_meet<H: Home + Sync, T: AllocGlobal + Abort + Clock + Threads + Wait + Sync>(
+    rt: &T,
+    home: &H,
+    seat: &mut H::Seat,
+    requesters: u8,
+) -> Result<(), Fail>
+    requires own { H.belongs home.now seat.old }
+    requires all { H.held seat.old ≡ below (H.opening home.now).requesters }
+    requires count { (H.opening home.now).requesters ≡ requesters }
+    requires three { 3 ≤ requesters }
+{
+    if requesters < 5 {
+        assert_two_meet(rt, home, seat)
+    } else {
+        assert_four_meet(rt, home, seat)
+    }
+}
+
+// Over the locked store.
+fn assert_meet_over_lock<T: AllocGlobal + Abort + Clock + Threads + Wait + Sync>(
+    rt: &T,
+    requesters: u8,
+) -> Result<(), Fail>
+    requires { 3 ≤ requesters }
+{
+    let region = Region::new(0x1000, 8)?;
+    let (home, mut seat) = LockStore::open(rt.alloc(), region, requesters, &[0; 8])?;
+    assert_meet(rt, &home, &mut seat, requesters)
+}
+
+// Over the lock-free store.
+fn assert_meet_over_book<T: AllocGlobal + Abort + Clock + Threads + Wait + Sync>(
+    rt: &T,
+    requesters: u8,
+) -> Result<(), Fail>
+    requires { 3 ≤ requesters }
+{
+    let region = Region::new(0x1000, 8)?;
+    let (home, mut seat) = BookStore::open(rt.alloc(), region, requesters, 4, &[0; 8])?;
+    assert_meet(rt, &home, &mut seat, requesters)
+}
+
 #[test]
 fn gates_meet_by_race_two(rt: HostRuntime) -> Result<(), Fail> {
-    let region = Region::new(0x1000, 8)?;
-    let (home, mut seat) = LockStore::open(rt.alloc(), region, 3, &[0; 8])?;
-    assert_two_meet(&rt, &home, &mut seat)?;
-    let (home, mut seat) = BookStore::open(rt.alloc(), region, 3, 4, &[0; 8])?;
-    assert_two_meet(&rt, &home, &mut seat)
+    assert_meet_over_lock(&rt, 3)?;
+    assert_meet_over_book(&rt, 3)
 }
 
 #[test]
 fn gates_meet_by_race_four(rt: HostRuntime) -> Result<(), Fail> {
-    let region = Region::new(0x1000, 8)?;
-    let (home, mut seat) = LockStore::open(rt.alloc(), region, 5, &[0; 8])?;
-    assert_four_meet(&rt, &home, &mut seat)?;
-    let (home, mut seat) = BookStore::open(rt.alloc(), region, 5, 4, &[0; 8])?;
-    assert_four_meet(&rt, &home, &mut seat)
+    assert_meet_over_lock(&rt, 5)?;
+    assert_meet_over_book(&rt, 5)
 }

@@ -1,12 +1,8 @@
 //! Races of worked examples.
 
-use crate::scripts::{BOOK, LOCK, SIX_ZEROS, joined, raced, script};
-use chi_engine::{EngineFault, Options, Workers};
-use chi_script::{Member, ScriptFault};
-use std::process::Abort;
-use std::sync::Wait;
+use crate::answers::{Engine, assert_executed};
+use crate::scripts::{SIX_ZEROS, STORES, STORES_OF_FOUR};
 use std::test::Fail;
-use std::thread::Threads;
 
 // A swap of 1, an add of 2 elsewhere, and a read of 0 of what 1 wrote.
 const THREE_REQUESTERS: [&str; 3] = [
@@ -51,61 +47,16 @@ const FIVE_TOLD: [&str; 13] = [
     "m 0000000000001038 0000000000000000\n",
 ];
 
-// Two and four workers over each store.
-const LOCK_OF_FOUR: Options = Options {
-    workers: Workers::Four,
-    ..LOCK
-};
-
-const BOOK_OF_FOUR: Options = Options {
-    workers: Workers::Four,
-    ..BOOK
-};
-
-// Races a script of these requests, and asserts what was written.
-fn assert_race<T: AllocGlobal + Abort + Threads + Wait + Sync>(
-    rt: &T,
-    options: &Options,
-    requests: &[&str],
-    want: &[&str],
-) -> Result<(), Fail> {
-    let text = script(rt, requests)?;
-    let (outcome, to) = raced(rt, options, text.as_str());
-    outcome?;
-    assert_eq!(rt; to.as_slice(), joined(rt, want)?.as_bytes());
-    Ok(())
-}
-
 #[test]
 fn race_of_three_requesters(rt: HostRuntime) -> Result<(), Fail> {
-    assert_race(&rt, &LOCK, &THREE_REQUESTERS, &THREE_TOLD)?;
-    assert_race(&rt, &BOOK, &THREE_REQUESTERS, &THREE_TOLD)?;
+    let (requests, want) = (&THREE_REQUESTERS, &THREE_TOLD);
+    assert_executed(&rt, Engine::Race, &STORES, requests, want)?;
     // Under four workers 3 and 4 have no requests, and no lines.
-    assert_race(&rt, &LOCK_OF_FOUR, &THREE_REQUESTERS, &THREE_TOLD)?;
-    assert_race(&rt, &BOOK_OF_FOUR, &THREE_REQUESTERS, &THREE_TOLD)
+    assert_executed(&rt, Engine::Race, &STORES_OF_FOUR, requests, want)
 }
 
 #[test]
 fn four_workers(rt: HostRuntime) -> Result<(), Fail> {
-    assert_race(&rt, &LOCK_OF_FOUR, &FIVE_REQUESTERS, &FIVE_TOLD)?;
-    assert_race(&rt, &BOOK_OF_FOUR, &FIVE_REQUESTERS, &FIVE_TOLD)
-}
-
-// The first requester number past those of a race is refused.
-#[test]
-fn requester_past_the_workers(rt: HostRuntime) -> Result<(), Fail> {
-    let five =
-        "{\"src\":5,\"txn\":1,\"op\":4,\"size\":3,\"addr\":4096,\"endian\":0,\"be\":0,\"lanes\":\"00000000000000000000000000000000\"}";
-    for (options, request) in [(BOOK, FIVE_REQUESTERS[2]), (BOOK_OF_FOUR, five)] {
-        let text = script(&rt, &[request])?;
-        let (outcome, to) = raced(&rt, &options, text.as_str());
-        match outcome {
-            Err(EngineFault::Script(fault)) => {
-                assert_eq!(rt; fault, ScriptFault::BadMember(Member::Src));
-            }
-            _ => panic!(rt; "a requester past the workers is accepted"),
-        }
-        assert_eq!(rt; to.len(), 0);
-    }
-    Ok(())
+    let (requests, want) = (&FIVE_REQUESTERS, &FIVE_TOLD);
+    assert_executed(&rt, Engine::Race, &STORES_OF_FOUR, requests, want)
 }

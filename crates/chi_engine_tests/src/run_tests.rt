@@ -1,133 +1,90 @@
 //! Runs of worked examples.
 
-use crate::scripts::{
-    BOOK, FETCH_ADD, FETCH_ADD_LINE, LOCK, SEVEN_ZEROS, SIX_ZEROS, assert_run,
-    assert_run_over_both, script,
-};
-use chi_engine::{EngineFault, Options, engine_run};
-use chi_history::OpenFault;
+use crate::answers::{Engine, assert_executed};
+use crate::scripts::{FETCH_ADD, FETCH_ADD_TRANSCRIPT, SEVEN_ZEROS, SIX_ZEROS, STORES, script};
 use std::test::Fail;
 
 #[test]
 fn first_fetch_add(rt: HostRuntime) -> Result<(), Fail> {
-    let text = script(&rt, &[FETCH_ADD])?;
-    let want = [
-        FETCH_ADD_LINE,
-        "m 0000000000001000 0100000000000000\n",
-        SEVEN_ZEROS,
-    ];
-    assert_run_over_both(&rt, text.as_str(), &want)
+    let want = [FETCH_ADD_TRANSCRIPT];
+    assert_executed(&rt, Engine::Run, &STORES, &[FETCH_ADD], &want)
 }
 
 #[test]
 fn empty_script(rt: HostRuntime) -> Result<(), Fail> {
-    let text = script(&rt, &[])?;
-    assert_eq!(rt; text.len(), 40);
     let want = ["m 0000000000001000 0000000000000000\n", SEVEN_ZEROS];
-    assert_eq!(rt; want[0].len() + want[1].len(), 288);
-    assert_run_over_both(&rt, text.as_str(), &want)
+    let lengths = (script(&rt, &[])?.len(), want[0].len() + want[1].len());
+    assert_eq!(rt; lengths, (40, 288));
+    assert_executed(&rt, Engine::Run, &STORES, &[], &want)
 }
 
 #[test]
 fn same_transaction_twice(rt: HostRuntime) -> Result<(), Fail> {
-    let text = script(&rt, &[FETCH_ADD, FETCH_ADD])?;
+    let requests = [FETCH_ADD, FETCH_ADD];
     let want = [
-        FETCH_ADD_LINE,
+        "0 1 30 AtomicLoad.ADD 3 0000000000001000 data 00000000000000000000000000000000\n",
         "0 1 30 AtomicLoad.ADD 3 0000000000001000 data 01000000000000000000000000000000\n",
         "m 0000000000001000 0200000000000000\n",
         SEVEN_ZEROS,
     ];
-    assert_run_over_both(&rt, text.as_str(), &want)
+    assert_executed(&rt, Engine::Run, &STORES, &requests, &want)
 }
 
 #[test]
 fn write_of_no_bytes_then_two(rt: HostRuntime) -> Result<(), Fail> {
-    let text = script(
-        &rt,
-        &[
-            "{\"src\":0,\"txn\":1,\"op\":28,\"size\":3,\"addr\":4096,\"endian\":0,\"be\":0,\"lanes\":\"a0a1a2a3a4a5a6a70000000000000000\"}",
-            "{\"src\":0,\"txn\":2,\"op\":28,\"size\":3,\"addr\":4096,\"endian\":0,\"be\":66,\"lanes\":\"a0a1a2a3a4a5a6a70000000000000000\"}",
-        ],
-    )?;
+    let requests = [
+        "{\"src\":0,\"txn\":1,\"op\":28,\"size\":3,\"addr\":4096,\"endian\":0,\"be\":0,\"lanes\":\"a0a1a2a3a4a5a6a70000000000000000\"}",
+        "{\"src\":0,\"txn\":2,\"op\":28,\"size\":3,\"addr\":4096,\"endian\":0,\"be\":66,\"lanes\":\"a0a1a2a3a4a5a6a70000000000000000\"}",
+    ];
     let want = [
         "0 1 1c WriteNoSnpPtl 3 0000000000001000 comp\n",
         "0 2 1c WriteNoSnpPtl 3 0000000000001000 comp\n",
         "m 0000000000001000 00a100000000a600\n",
         SEVEN_ZEROS,
     ];
-    assert_run_over_both(&rt, text.as_str(), &want)
+    assert_executed(&rt, Engine::Run, &STORES, &requests, &want)
 }
 
 #[test]
 fn byte_enables_refused(rt: HostRuntime) -> Result<(), Fail> {
-    let text = script(
-        &rt,
-        &[
-            "{\"src\":0,\"txn\":1,\"op\":28,\"size\":1,\"addr\":4096,\"endian\":0,\"be\":4,\"lanes\":\"11223344556677889900aabbccddeeff\"}",
-            "{\"src\":0,\"txn\":2,\"op\":40,\"size\":1,\"addr\":4096,\"endian\":0,\"be\":1,\"lanes\":\"11223344556677889900aabbccddeeff\"}",
-        ],
-    )?;
+    let requests = [
+        "{\"src\":0,\"txn\":1,\"op\":28,\"size\":1,\"addr\":4096,\"endian\":0,\"be\":4,\"lanes\":\"11223344556677889900aabbccddeeff\"}",
+        "{\"src\":0,\"txn\":2,\"op\":40,\"size\":1,\"addr\":4096,\"endian\":0,\"be\":1,\"lanes\":\"11223344556677889900aabbccddeeff\"}",
+    ];
     let want = [
         "0 1 1c WriteNoSnpPtl 1 0000000000001000 refused BadByteEnable\n",
         "0 2 28 AtomicStore.ADD 1 0000000000001000 refused BadByteEnable\n",
         "m 0000000000001000 0000000000000000\n",
         SEVEN_ZEROS,
     ];
-    assert_run_over_both(&rt, text.as_str(), &want)
+    assert_executed(&rt, Engine::Run, &STORES, &requests, &want)
 }
 
 #[test]
 fn misaligned_then_outside(rt: HostRuntime) -> Result<(), Fail> {
-    let text = script(
-        &rt,
-        &[
-            "{\"src\":0,\"txn\":5,\"op\":56,\"size\":3,\"addr\":4092,\"endian\":0,\"be\":255,\"lanes\":\"11223344556677889900aabbccddeeff\"}",
-            "{\"src\":0,\"txn\":6,\"op\":56,\"size\":3,\"addr\":4088,\"endian\":0,\"be\":65280,\"lanes\":\"11223344556677889900aabbccddeeff\"}",
-        ],
-    )?;
+    let requests = [
+        "{\"src\":0,\"txn\":5,\"op\":56,\"size\":3,\"addr\":4092,\"endian\":0,\"be\":255,\"lanes\":\"11223344556677889900aabbccddeeff\"}",
+        "{\"src\":0,\"txn\":6,\"op\":56,\"size\":3,\"addr\":4088,\"endian\":0,\"be\":65280,\"lanes\":\"11223344556677889900aabbccddeeff\"}",
+    ];
     let want = [
         "0 5 38 AtomicSwap 3 0000000000000ffc refused Misaligned\n",
         "0 6 38 AtomicSwap 3 0000000000000ff8 refused OutOfRegion\n",
         "m 0000000000001000 0000000000000000\n",
         SEVEN_ZEROS,
     ];
-    assert_run_over_both(&rt, text.as_str(), &want)
+    assert_executed(&rt, Engine::Run, &STORES, &requests, &want)
 }
 
 #[test]
 fn compare_eight_bytes_upper_half(rt: HostRuntime) -> Result<(), Fail> {
-    let text = script(
-        &rt,
-        &[
-            "{\"src\":7,\"txn\":9,\"op\":57,\"size\":4,\"addr\":4104,\"endian\":0,\"be\":65535,\"lanes\":\"11223344556677880000000000000000\"}",
-        ],
-    )?;
+    let requests = [
+        "{\"src\":7,\"txn\":9,\"op\":57,\"size\":4,\"addr\":4104,\"endian\":0,\"be\":65535,\"lanes\":\"11223344556677880000000000000000\"}",
+    ];
     let want = [
         "7 9 39 AtomicCompare 4 0000000000001008 data 00000000000000000000000000000000\n",
         "m 0000000000001000 0000000000000000\n",
         "m 0000000000001008 1122334455667788\n",
         SIX_ZEROS,
     ];
-    assert_run_over_both(&rt, text.as_str(), &want)
-}
-
-#[test]
-fn attempts_out_of_range(rt: HostRuntime) -> Result<(), Fail> {
-    let text = script(&rt, &[FETCH_ADD])?;
-    for attempts in [0, 17] {
-        let options = Options { attempts, ..BOOK };
-        let mut to: Vec<u8> = Vec::new(rt.alloc());
-        match engine_run(&rt, &mut text.as_bytes(), &mut to, &options) {
-            Err(EngineFault::Open(fault)) => assert_eq!(rt; fault, OpenFault::AttemptCount),
-            _ => panic!(rt; "opened with {attempts} attempts"),
-        }
-        assert_eq!(rt; to.len(), 0);
-        let want = [
-            FETCH_ADD_LINE,
-            "m 0000000000001000 0100000000000000\n",
-            SEVEN_ZEROS,
-        ];
-        assert_run(&rt, &Options { attempts, ..LOCK }, text.as_str(), &want)?;
-    }
-    Ok(())
+    assert_executed(&rt, Engine::Run, &STORES, &requests, &want)
 }

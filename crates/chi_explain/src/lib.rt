@@ -28,18 +28,3 @@ pub use observed::Observed;
 pub use progress::{NoProgress, Progress};
 pub use replay::words_after;
 pub use verdict::Verdict;
-
-#[cfg(test)]
-mod byte_tests;
-#[cfg(test)]
-mod cut_tests;
-#[cfg(test)]
-mod ending_tests;
-#[cfg(test)]
-mod progress_tests;
-#[cfg(test)]
-mod random_tests;
-#[cfg(test)]
-mod tests;
-#[cfg(test)]
-mod traces;

@@ -8,7 +8,7 @@ use crate::race_scripts::{race_of_four, race_of_two};
 use chi_bookstore::BookStore;
 use chi_explain::{Observed, Verdict, explain};
 use chi_fields::Region;
-use chi_history::Home;
+use chi_history::{Home, Line};
 use chi_lanes::Reply;
 use chi_lockstore::LockStore;
 use chi_requester::{Policy, Race, RaceFour, race_four, race_two};
@@ -63,6 +63,40 @@ fn assert_explained<T: AllocGlobal + Abort>(
     Ok(())
 }
 
+// The operations of a race: of its workers by their pauses, and of 0 after them.
+fn operations<T: AllocGlobal>(
+    rt: &T,
+    workers: &[(&[Line], &Pauses)],
+    zero: &[Line],
+    end: u64,
+) -> Result<Vec<Observed>, Fail> {
+    let region = Region::new(0x1000, 2)?;
+    let mut ops = Vec::new(rt.alloc());
+    for (lines, pauses) in workers {
+        observe(&region, lines, pauses, end, &mut ops)?;
+    }
+    observe_after(&region, zero, end, &mut ops)?;
+    Ok(ops)
+}
+
+// So many operations are there, and explained with the words that a seat of all numbers finds.
+fn assert_race<H: Home, T: AllocGlobal + Abort + Wait>(
+    rt: &T,
+    home: &H,
+    seat: &mut H::Seat,
+    ops: &[Observed],
+    count: usize,
+) -> Result<(), Fail>
+    requires own { H.belongs home.now seat.old }
+    requires all { H.held seat.old ≡ below (H.opening home.now).requesters }
+    requires granules { (H.opening home.now).region.granules ≡ 2 }
+{
+    let mut words = [0; 2];
+    home.snapshot(rt, seat, &mut words);
+    assert_eq!(rt; ops.len(), count);
+    assert_explained(rt, &words, ops)
+}
+
 // Four operations by each of 1 and 2, and a read by 0.
 fn assert_two<H: Home + Sync, T: AllocGlobal + Abort + Threads + Wait + Sync>(
     rt: &T,
@@ -75,31 +109,25 @@ fn assert_two<H: Home + Sync, T: AllocGlobal + Abort + Threads + Wait + Sync>(
     requires granules { (H.opening home.now).region.granules ≡ 2 }
 {
     let script = race_of_two(rt)?;
+    let requests = script.requests();
     let clock = AtomicU64::new(1);
     let (one, two) = (Pauses::new(), Pauses::new());
-    let mut race = Race::new(rt.alloc());
     let (gate1, gate2) = (one.gate(&clock), two.gate(&clock));
-    let policy = Policy::Resend;
+    let mut race = Race::new(rt.alloc());
     race_two(
         home,
         rt,
         seat,
-        script.requests(),
-        policy,
+        requests,
+        Policy::Resend,
         gate1,
         gate2,
         &mut race,
     )?;
-    let mut words = [0; 2];
-    home.snapshot(rt, seat, &mut words);
-    let region = Region::new(0x1000, 2)?;
+    let workers = [(race.one.as_slice(), &one), (race.two.as_slice(), &two)];
     let end = clock.load(Ordering::SeqCst);
-    let mut ops = Vec::new(rt.alloc());
-    observe(&region, &race.one, &one, end, &mut ops)?;
-    observe(&region, &race.two, &two, end, &mut ops)?;
-    observe_after(&region, &race.zero, end, &mut ops)?;
-    assert_eq!(rt; ops.len(), 9);
-    assert_explained(rt, &words, &ops)
+    let ops = operations(rt, &workers, &race.zero, end)?;
+    assert_race(rt, home, seat, &ops, 9)
 }
 
 // Four operations by each of 1 to 4, and a read by 0.
@@ -114,36 +142,25 @@ fn assert_four<H: Home + Sync, T: AllocGlobal + Abort + Threads + Wait + Sync>(
     requires granules { (H.opening home.now).region.granules ≡ 2 }
 {
     let script = race_of_four(rt)?;
+    let requests = script.requests();
     let clock = AtomicU64::new(1);
     let (one, two, three, four) = (Pauses::new(), Pauses::new(), Pauses::new(), Pauses::new());
-    let mut race = RaceFour::new(rt.alloc());
     let (gate1, gate2) = (one.gate(&clock), two.gate(&clock));
     let (gate3, gate4) = (three.gate(&clock), four.gate(&clock));
+    let mut race = RaceFour::new(rt.alloc());
     let policy = Policy::Resend;
     race_four(
-        home,
-        rt,
-        seat,
-        script.requests(),
-        policy,
-        gate1,
-        gate2,
-        gate3,
-        gate4,
-        &mut race,
+        home, rt, seat, requests, policy, gate1, gate2, gate3, gate4, &mut race,
     )?;
-    let mut words = [0; 2];
-    home.snapshot(rt, seat, &mut words);
-    let region = Region::new(0x1000, 2)?;
+    let workers = [
+        (race.one.as_slice(), &one),
+        (race.two.as_slice(), &two),
+        (race.three.as_slice(), &three),
+        (race.four.as_slice(), &four),
+    ];
     let end = clock.load(Ordering::SeqCst);
-    let mut ops = Vec::new(rt.alloc());
-    observe(&region, &race.one, &one, end, &mut ops)?;
-    observe(&region, &race.two, &two, end, &mut ops)?;
-    observe(&region, &race.three, &three, end, &mut ops)?;
-    observe(&region, &race.four, &four, end, &mut ops)?;
-    observe_after(&region, &race.zero, end, &mut ops)?;
-    assert_eq!(rt; ops.len(), 17);
-    assert_explained(rt, &words, &ops)
+    let ops = operations(rt, &workers, &race.zero, end)?;
+    assert_race(rt, home, seat, &ops, 17)
 }
 
 #[test]

@@ -17,10 +17,3 @@ pub use opcode::op_name;
 pub use refusal::{Refusal, refusal_name};
 pub use region::{Region, RegionFault, region_fault_name};
 pub use request::Request;
-
-#[cfg(test)]
-mod name_tests;
-#[cfg(test)]
-mod region_tests;
-#[cfg(test)]
-mod tests;

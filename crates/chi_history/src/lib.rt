@@ -13,8 +13,6 @@ mod opening;
 mod purpose;
 mod served;
 mod split_off;
-#[cfg(test)]
-mod tests;
 mod values;
 mod view;
 

@@ -15,8 +15,3 @@ pub use kernels::{extract, insert, lane_mask};
 pub use operation::apply;
 pub use packet::{compare_half, swap_half};
 pub use reply::Reply;
-
-#[cfg(test)]
-mod kernel_tests;
-#[cfg(test)]
-mod tests;

@@ -21,16 +21,3 @@ pub use member::Member;
 pub use script::{Script, json, read_script};
 pub use transcript::{write_lines, write_transcript};
 pub use walk::{number, request};
-
-#[cfg(test)]
-mod image_tests;
-#[cfg(test)]
-mod input_tests;
-#[cfg(test)]
-mod sample_scripts;
-#[cfg(test)]
-mod script_tests;
-#[cfg(test)]
-mod script_text_tests;
-#[cfg(test)]
-mod transcript_tests;

@@ -78,14 +78,21 @@ fn nine_operations_on_one_byte(rt: HostRuntime) -> Result<(), Fail> {
     ];
     'rows: for (opcode, after) in rows {
         let written = reply_to(&home, &mut seat, &request(0, 0x1c, 0, 1, 0xf0));
-        assert_eq!(rt; written, Some(Reply::Comp), "{opcode:x}");
         let before = reply_to(&home, &mut seat, &request(0, opcode, 0, 1, 0x3c));
-        assert_eq!(rt; before, Some(one_byte(0xf0)), "{opcode:x}");
-        assert!(rt; home.holds_all(&seat));
-        assert_eq!(rt; home.region().granules(), 8);
+        let (holds_all, granules) = (home.holds_all(&seat), home.region().granules());
         let mut words = [0xff; 8];
         home.snapshot(&rt, &mut seat, &mut words);
-        assert_eq!(rt; words, [after, 0, 0, 0, 0, 0, 0, 0], "{opcode:x}");
+        assert_eq!(rt;
+            (written, before, holds_all, granules, words),
+            (
+                Some(Reply::Comp),
+                Some(one_byte(0xf0)),
+                true,
+                8,
+                [after, 0, 0, 0, 0, 0, 0, 0]
+            ),
+            "{opcode:x}"
+        );
     }
     Ok(())
 }
@@ -99,15 +106,18 @@ fn open_refusals(rt: HostRuntime) -> Result<(), Fail> {
         (8, 0, OpenFault::AttemptCount),
         (8, 17, OpenFault::AttemptCount),
     ] {
-        match BookStore::open(rt.alloc(), region, requesters, attempts, &[0; 8]) {
-            Ok((_home, _seat)) => assert!(rt; false, "opened"),
-            Err(found) => assert!(rt; found == fault, "{requesters} and {attempts}: {found:?}"),
-        }
+        let opened = BookStore::open(rt.alloc(), region, requesters, attempts, &[0; 8]);
+        assert_eq!(rt; opened.err(), Some(fault), "{requesters} and {attempts}");
     }
     let (home, seat) = BookStore::open(rt.alloc(), region, 8, 16, &[0; 8])?;
-    assert!(rt; home.holds_all(&seat));
-    assert!(rt; home.holds(&seat, 7));
-    assert!(rt; !home.holds(&seat, 8));
+    assert_eq!(rt;
+        (
+            home.holds_all(&seat),
+            home.holds(&seat, 7),
+            home.holds(&seat, 8)
+        ),
+        (true, true, false)
+    );
     Ok(())
 }
 
@@ -119,16 +129,23 @@ fn region_of_512_granules(rt: HostRuntime) -> Result<(), Fail> {
     add.lanes[8] = 1;
     add.addr = 0x1ff8;
     let before = reply_to(&home, &mut seat, &add);
-    assert_eq!(rt; before, Some(Reply::CompData([0; 16])));
     add.addr = 0x2000;
-    assert_eq!(rt; decode(&add, &region).err(), Some(Refusal::OutOfRegion));
-    assert!(rt; home.holds_all(&seat));
-    assert_eq!(rt; home.region().granules(), 512);
+    let refused = decode(&add, &region).err();
+    let (holds_all, granules) = (home.holds_all(&seat), home.region().granules());
     let mut words = [0xff; 512];
     home.snapshot(&rt, &mut seat, &mut words);
     let mut want = [0; 512];
     want[511] = 1;
-    assert_eq!(rt; words, want);
+    assert_eq!(rt;
+        (before, refused, holds_all, granules, words),
+        (
+            Some(Reply::CompData([0; 16])),
+            Some(Refusal::OutOfRegion),
+            true,
+            512,
+            want
+        )
+    );
     Ok(())
 }
 

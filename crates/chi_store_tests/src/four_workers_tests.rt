@@ -40,23 +40,29 @@ fn assert_four_add<H: Home + Sync, T: AllocGlobal + Abort + Threads + Wait + Syn
         NoGate,
         &mut race,
     )?;
-    assert!(rt; home.holds_all(seat));
+    let holds_all = home.holds_all(seat);
     let mut words = [0; 8];
     home.snapshot(rt, seat, &mut words);
-    assert_eq!(rt; words, [4000, 0, 0, 0, 0, 0, 0, 0]);
-    assert_eq!(rt; completed(race.one.as_slice()), 1000);
-    assert_eq!(rt; completed(race.two.as_slice()), 1000);
-    assert_eq!(rt; completed(race.three.as_slice()), 1000);
-    assert_eq!(rt; completed(race.four.as_slice()), 1000);
-    assert_eq!(rt; race.zero.len(), 0);
+    let done = [
+        completed(race.one.as_slice()),
+        completed(race.two.as_slice()),
+        completed(race.three.as_slice()),
+        completed(race.four.as_slice()),
+    ];
+    assert_eq!(rt;
+        (holds_all, words, done, race.zero.len()),
+        (true, [4000, 0, 0, 0, 0, 0, 0, 0], [1000; 4], 0)
+    );
     Ok(())
 }
 
 #[test]
 fn four_workers(rt: HostRuntime) -> Result<(), Fail> {
     let region = Region::new(0x1000, 8)?;
-    let (home, mut seat) = LockStore::open(rt.alloc(), region, 5, &[0; 8])?;
-    assert_four_add(&rt, &home, &mut seat)?;
+    {
+        let (home, mut seat) = LockStore::open(rt.alloc(), region, 5, &[0; 8])?;
+        assert_four_add(&rt, &home, &mut seat)?;
+    }
     let (home, mut seat) = BookStore::open(rt.alloc(), region, 5, 4, &[0; 8])?;
     assert_four_add(&rt, &home, &mut seat)
 }

@@ -45,41 +45,59 @@ fn request(src: u8, opcode: u8, addr: u64, first: u8) -> Request
     }
 }
 
-// Adds 5 and then 2 by requester 0, and then swaps by 1 and reads by 2, each with a seat of its own.
-fn assert_callers<H: Home, T: Abort + Wait>(
-    rt: &T,
-    home: &H,
-    seat: &mut H::Seat,
-) -> Result<(), Fail>
+// Adds 5 and then 2 by requester 0, and then swaps by 1 and reads by 2, each with a seat of its own: the replies in
+// this order, and the words after them.
+fn replies<H: Home, T: Wait>(rt: &T, home: &H, seat: &mut H::Seat) -> Option<([Reply; 4], [u64; 8])>
     requires own { H.belongs home.now seat.old }
     requires all { H.held seat.old ≡ below (H.opening home.now).requesters }
     requires three { 3 ≤ (H.opening home.now).requesters }
     requires line { (H.opening home.now).region.granules ≡ 8 }
 {
     let region = home.region();
-    let five = decode(&request(0, FETCH_ADD, 0x1000, 5), &region)?;
-    let reply = serve_alone(home, rt, seat, 0, &five);
-    assert_eq!(rt; reply, Reply::CompData(lanes_of(0x1000, 0)));
-    let two = decode(&request(0, FETCH_ADD, 0x1000, 2), &region)?;
-    let reply = serve_until_done(home, rt, seat, 0, &two);
-    assert_eq!(rt; reply, Reply::CompData(lanes_of(0x1000, 5)));
-    let swap = decode(&request(1, SWAP, 0x1008, 0x11), &region)?;
-    let read = decode(&request(2, READ, 0x1000, 0), &region)?;
+    let (Ok(five), Ok(two), Ok(swap), Ok(read)) = (
+        decode(&request(0, FETCH_ADD, 0x1000, 5), &region),
+        decode(&request(0, FETCH_ADD, 0x1000, 2), &region),
+        decode(&request(1, SWAP, 0x1008, 0x11), &region),
+        decode(&request(2, READ, 0x1000, 0), &region),
+    ) else {
+        return None;
+    };
+    let first = serve_alone(home, rt, seat, 0, &five);
+    let second = serve_until_done(home, rt, seat, 0, &two);
     let mut words = [0; 8];
     let (swapped, seen) = serve_apart(home, rt, seat, 1, &swap, 2, &read, &mut words);
-    assert_eq!(rt; swapped, Reply::CompData(lanes_of(0x1008, 0)));
-    assert_eq!(rt; seen, Reply::CompData(lanes_of(0x1000, 7)));
-    assert_eq!(rt; words, [7, 0x11, 0, 0, 0, 0, 0, 0]);
-    Ok(())
+    Some(([first, second, swapped, seen], words))
+}
+
+// Each caller's reply is right, and so are the words after them.
+fn assert_callers<H: Home, T: Abort + Wait>(rt: &T, home: &H, seat: &mut H::Seat)
+    requires own { H.belongs home.now seat.old }
+    requires all { H.held seat.old ≡ below (H.opening home.now).requesters }
+    requires three { 3 ≤ (H.opening home.now).requesters }
+    requires line { (H.opening home.now).region.granules ≡ 8 }
+{
+    let want = [
+        Reply::CompData(lanes_of(0x1000, 0)),
+        Reply::CompData(lanes_of(0x1000, 5)),
+        Reply::CompData(lanes_of(0x1008, 0)),
+        Reply::CompData(lanes_of(0x1000, 7)),
+    ];
+    assert_eq!(rt;
+        replies(rt, home, seat),
+        Some((want, [7, 0x11, 0, 0, 0, 0, 0, 0]))
+    );
 }
 
 #[test]
 fn callers_of_both_stores(rt: HostRuntime) -> Result<(), Fail> {
     let region = Region::new(0x1000, 8)?;
-    let (home, mut seat) = LockStore::open(rt.alloc(), region, 3, &[0; 8])?;
-    assert_callers(&rt, &home, &mut seat)?;
+    {
+        let (home, mut seat) = LockStore::open(rt.alloc(), region, 3, &[0; 8])?;
+        assert_callers(&rt, &home, &mut seat);
+    }
     let (home, mut seat) = BookStore::open(rt.alloc(), region, 3, 4, &[0; 8])?;
-    assert_callers(&rt, &home, &mut seat)
+    assert_callers(&rt, &home, &mut seat);
+    Ok(())
 }
 
 // Requesters 1 and 2 each swap a value of their own into a granule of their own, at the same time, and read it
@@ -119,23 +137,35 @@ fn assert_own_lines<H: Home + Sync, T: AllocGlobal + Abort + Threads + Wait + Sy
             Reply::CompData(lanes_of(requests[at].addr, first)),
         )
     };
-    assert_eq!(rt; race.one.as_slice(), [done(2, 0), done(4, 0x11)].as_slice());
-    assert_eq!(rt; race.two.as_slice(), [done(3, 0), done(5, 0x22)].as_slice());
-    assert_eq!(rt;
-        race.zero.as_slice(),
-        [done(0, 0x11), done(1, 0x22)].as_slice()
-    );
+    let one = [done(2, 0), done(4, 0x11)];
+    let two = [done(3, 0), done(5, 0x22)];
+    let zero = [done(0, 0x11), done(1, 0x22)];
     let mut words = [0; 8];
     home.snapshot(rt, seat, &mut words);
-    assert_eq!(rt; words, [0x11, 0x22, 0, 0, 0, 0, 0, 0]);
+    assert_eq!(rt;
+        (
+            race.one.as_slice(),
+            race.two.as_slice(),
+            race.zero.as_slice(),
+            words
+        ),
+        (
+            one.as_slice(),
+            two.as_slice(),
+            zero.as_slice(),
+            [0x11, 0x22, 0, 0, 0, 0, 0, 0]
+        )
+    );
     Ok(())
 }
 
 #[test]
 fn two_threads_of_one_store(rt: HostRuntime) -> Result<(), Fail> {
     let region = Region::new(0x1000, 8)?;
-    let (home, mut seat) = LockStore::open(rt.alloc(), region, 3, &[0; 8])?;
-    assert_own_lines(&rt, &home, &mut seat)?;
+    {
+        let (home, mut seat) = LockStore::open(rt.alloc(), region, 3, &[0; 8])?;
+        assert_own_lines(&rt, &home, &mut seat)?;
+    }
     let (home, mut seat) = BookStore::open(rt.alloc(), region, 3, 4, &[0; 8])?;
     assert_own_lines(&rt, &home, &mut seat)
 }

@@ -1,10 +1,11 @@
 //! A requester in whose tries another requester's calls come between.
 
-ghost use Rattle.std.specs.Prelude.{◌≡◌, IfOk};
+ghost use Rattle.std.specs.Prelude.{◌≡◌, IfOk, IsTrue};
+ghost use Rattle.chi_fields.specs.Extent.{lies_in};
 
 use chi_bookstore::{BookSeat, BookStore};
 use chi_fields::{Access, Region, Request, decode};
-use chi_history::{Gate, Home, Line, Served};
+use chi_history::{Credit, Gate, Home, Line, Served};
 use chi_lanes::Reply;
 use chi_requester::{Policy, work};
 use chi_script::write_lines;
@@ -37,25 +38,25 @@ impl<'a> Model for Interferer<'a> {
 }
 
 impl<'a> Interferer<'a> {
-    fn new(home: &'a BookStore, seat: BookSeat, left: u8, first: Access) -> Interferer<'a>
+    fn new(
+        home: &'a BookStore,
+        seat: BookSeat,
+        left: u8,
+        first: Access,
+        second: Option<Access>,
+    ) -> Interferer<'a>
         requires own { ⟦<BookStore as Home>⟧.belongs home.now seat }
     {
         Interferer {
             home,
             seat,
             first,
-            second: None,
+            second,
             left,
             tries: [0; 16],
             pauses: 0,
             done: 0,
         }
-    }
-
-    // The numbers of the tries that it was paused before.
-    fn paused(&self) -> &[u8] {
-        let count = self.pauses.min(16);
-        &self.tries[..count]
     }
 
     // One call of requester 1.
@@ -139,22 +140,40 @@ fn one_byte(byte: u8) -> Reply {
     Reply::CompData(lanes)
 }
 
-// The numbers of so many tries, in order from 1.
+// The numbers of sixteen tries.
 const IN_ORDER: [u8; 16] = [1, 2, 3, 4, 5, 6, 7, 8, 9, 10, 11, 12, 13, 14, 15, 16];
 
-// A home with so many tries, its seat, and a seat of requester 1.
+// The numbers of these tries as a gate keeps them, 0 where there is none.
+fn kept(numbers: &[u8]) -> [u8; 16] {
+    let mut tries = [0; 16];
+    for (at, number) in numbers.iter().enumerate() {
+        if let Some(kept) = tries.get_mut(at) {
+            *kept = *number;
+        }
+    }
+    tries
+}
+
+// The access of a request that is accepted at the region of each test.
+fn accepted(request: &Request) -> Result<Access, Fail> {
+    Ok(decode(request, &Region::new(0x1000, 8)?)?)
+}
+
+// A home with so many tries, its seat, a seat of requester 1, and the fetch-add of requester 0.
 fn opened<T: AllocGlobal + Abort + Wait>(
     rt: &T,
     attempts: u8,
-) -> Result<(BookStore, BookSeat, BookSeat), Fail>
+) -> Result<(BookStore, BookSeat, BookSeat, Access), Fail>
     ensures own { IfOk result (λ r. ⟦<BookStore as Home>⟧.belongs r.0 r.1) }
     ensures other_own { IfOk result (λ r. ⟦<BookStore as Home>⟧.belongs r.0 r.2) }
+    ensures fits { IfOk result (λ r. IsTrue (lies_in r.3.addr r.3.len r.0.values.region)) }
 {
     let region = Region::new(0x1000, 8)?;
+    let fetch = decode(&fetch_add(), &region)?;
     let (home, mut seat) = BookStore::open(rt.alloc(), region, 2, attempts, &[0; 8])?;
     assert!(rt; home.holds(&seat, 1));
     let other = home.split(rt, &mut seat, 1);
-    Ok((home, seat, other))
+    Ok((home, seat, other, fetch))
 }
 
 // The reply to a read of the first granule by requester 0.
@@ -175,6 +194,26 @@ fn first_granule<T: Abort>(rt: &T, home: &BookStore, seat: &mut BookSeat) -> Rep
     }
 }
 
+// Spends the credit of a fetch-add: the requester that it is of, the first granule before, the data, and the granule
+// then.
+fn credited<T: Abort + Wait>(
+    rt: &T,
+    home: &BookStore,
+    seat: &mut BookSeat,
+    credit: Credit,
+    fetch: &Access,
+) -> (u8, [Reply; 3])
+    requires own { ⟦<BookStore as Home>⟧.belongs home.now seat.old }
+    requires fits { IsTrue (lies_in fetch.now.addr fetch.now.len home.now.values.region) }
+{
+    let src = credit.src();
+    let before = first_granule(rt, home, seat);
+    assert!(rt; home.holds(seat, src));
+    let reply = home.serve_credited(rt, seat, credit, fetch);
+    let after = first_granule(rt, home, seat);
+    (src, [before, reply, after])
+}
+
 // With so many tries, all of which are lost: the granule after them, the data on the credit, and the granule then.
 fn assert_interference<T: AllocGlobal + Abort + Wait>(
     rt: &T,
@@ -183,26 +222,26 @@ fn assert_interference<T: AllocGlobal + Abort + Wait>(
     after: u8,
     at_last: u8,
 ) -> Result<(), Fail> {
-    let (home, mut seat, other) = opened(rt, attempts)?;
-    let add = decode(&add_of_one(), &home.region())?;
-    let fetch = decode(&fetch_add(), &home.region())?;
-    let mut gate = Interferer::new(&home, other, u8::MAX, add);
+    let add = accepted(&add_of_one())?;
+    let (home, mut seat, other, fetch) = opened(rt, attempts)?;
+    let mut gate = Interferer::new(&home, other, u8::MAX, add, None);
     assert!(rt; home.holds(&seat, 0));
-    let credit = match home.attempt_gated(&mut seat, 0, &fetch, &mut gate) {
+    let (credit, lost) = match home.attempt_gated(&mut seat, 0, &fetch, &mut gate) {
         Served::Done { reply: _, lost: _ } => panic!(rt; "an exchange won"),
-        Served::Retry { credit, lost } => {
-            assert_eq!(rt; lost, attempts);
-            credit
-        }
+        Served::Retry { credit, lost } => (credit, lost),
     };
-    assert_eq!(rt; credit.src(), 0);
-    assert_eq!(rt; gate.paused(), tries);
-    assert_eq!(rt; gate.done, attempts);
-    assert_eq!(rt; first_granule(rt, &home, &mut seat), one_byte(after));
-    assert!(rt; home.holds(&seat, 0));
-    let reply = home.serve_credited(rt, &mut seat, credit, &fetch);
-    assert_eq!(rt; reply, one_byte(after));
-    assert_eq!(rt; first_granule(rt, &home, &mut seat), one_byte(at_last));
+    let (src, replies) = credited(rt, &home, &mut seat, credit, &fetch);
+    assert_eq!(rt;
+        (lost, src, gate.pauses, gate.tries, gate.done, replies),
+        (
+            attempts,
+            0,
+            tries.len(),
+            kept(tries),
+            attempts,
+            [one_byte(after), one_byte(after), one_byte(at_last)]
+        )
+    );
     Ok(())
 }
 
@@ -213,35 +252,72 @@ fn interference_at_each_pause(rt: HostRuntime) -> Result<(), Fail> {
     assert_interference(&rt, 16, &IN_ORDER, 0x10, 0x15)
 }
 
+// What came of requester 0's fetch-add between requester 1's calls: the reply where an exchange won, how many
+// tries were lost, the pauses and the numbers of their tries, how many calls were done, and the granule after it.
+#[derive(Clone, Copy, Debug, PartialEq)]
+struct Attempt {
+    reply: Option<Reply>,
+    lost: u8,
+    pauses: usize,
+    tries: [u8; 16],
+    done: u8,
+    after: Reply,
+}
+
+// One fetch-add with so many tries, where requester 1 calls at so many pauses.
+fn attempted<T: AllocGlobal + Abort + Wait>(
+    rt: &T,
+    attempts: u8,
+    changes: u8,
+    first: Access,
+    second: Option<Access>,
+) -> Result<Attempt, Fail> {
+    let (home, mut seat, other, fetch) = opened(rt, attempts)?;
+    let mut gate = Interferer::new(&home, other, changes, first, second);
+    assert!(rt; home.holds(&seat, 0));
+    let (reply, lost) = match home.attempt_gated(&mut seat, 0, &fetch, &mut gate) {
+        Served::Done { reply, lost } => (Some(reply), lost),
+        Served::Retry { credit, lost } => {
+            home.return_credit(credit);
+            (None, lost)
+        }
+    };
+    let after = first_granule(rt, &home, &mut seat);
+    Ok(Attempt {
+        reply,
+        lost,
+        pauses: gate.pauses,
+        tries: gate.tries,
+        done: gate.done,
+        after,
+    })
+}
+
 #[test]
 fn lost_tries_counted(rt: HostRuntime) -> Result<(), Fail> {
+    let add = accepted(&add_of_one())?;
     for changes in 0..17 {
-        let (home, mut seat, other) = opened(&rt, 16)?;
-        let add = decode(&add_of_one(), &home.region())?;
-        let fetch = decode(&fetch_add(), &home.region())?;
-        let mut gate = Interferer::new(&home, other, changes, add);
-        assert!(rt; home.holds(&seat, 0));
-        let (tries, after) = match home.attempt_gated(&mut seat, 0, &fetch, &mut gate) {
-            Served::Done { reply, lost } => {
-                assert!(rt; changes < 16, "an exchange won after {changes} changes");
-                assert_eq!(rt; lost, changes);
-                assert_eq!(rt; reply, one_byte(changes));
-                (usize::from(changes) + 1, changes + 5)
+        let want = if changes < 16 {
+            let tries = &IN_ORDER[..usize::from(changes) + 1];
+            Attempt {
+                reply: Some(one_byte(changes)),
+                lost: changes,
+                pauses: tries.len(),
+                tries: kept(tries),
+                done: changes,
+                after: one_byte(changes + 5),
             }
-            Served::Retry { credit, lost } => {
-                home.return_credit(credit);
-                assert_eq!(rt; changes, 16, "no exchange won");
-                assert_eq!(rt; lost, 16);
-                (16, 16)
+        } else {
+            Attempt {
+                reply: None,
+                lost: 16,
+                pauses: 16,
+                tries: IN_ORDER,
+                done: changes,
+                after: one_byte(16),
             }
         };
-        assert_eq!(rt; Some(gate.paused()), IN_ORDER.get(..tries), "{changes}");
-        assert_eq!(rt; gate.done, changes);
-        assert_eq!(rt;
-            first_granule(&rt, &home, &mut seat),
-            one_byte(after),
-            "{changes}"
-        );
+        assert_eq!(rt; attempted(&rt, 16, changes, add, None)?, want, "{changes}");
     }
     Ok(())
 }
@@ -253,26 +329,20 @@ fn assert_no_interference<T: AllocGlobal + Abort + Wait>(
     second: Option<Request>,
     calls: u8,
 ) -> Result<(), Fail> {
-    let (home, mut seat, other) = opened(rt, 1)?;
-    let fetch = decode(&fetch_add(), &home.region())?;
-    let mut gate = Interferer::new(&home, other, u8::MAX, decode(first, &home.region())?);
-    if let Some(second) = second {
-        gate.second = Some(decode(&second, &home.region())?);
-    }
-    assert!(rt; home.holds(&seat, 0));
-    match home.attempt_gated(&mut seat, 0, &fetch, &mut gate) {
-        Served::Done { reply, lost } => {
-            assert_eq!(rt; lost, 0);
-            assert_eq!(rt; reply, one_byte(0));
-        }
-        Served::Retry { credit, lost: _ } => {
-            home.return_credit(credit);
-            panic!(rt; "no exchange won");
-        }
-    }
-    assert_eq!(rt; gate.paused(), [1].as_slice());
-    assert_eq!(rt; gate.done, calls);
-    assert_eq!(rt; first_granule(rt, &home, &mut seat), one_byte(5));
+    let first = accepted(first)?;
+    let second = match second {
+        Some(second) => Some(accepted(&second)?),
+        None => None,
+    };
+    let want = Attempt {
+        reply: Some(one_byte(0)),
+        lost: 0,
+        pauses: 1,
+        tries: kept(&[1]),
+        done: calls,
+        after: one_byte(5),
+    };
+    assert_eq!(rt; attempted(rt, 1, u8::MAX, first, second)?, want);
     Ok(())
 }
 
@@ -296,47 +366,56 @@ fn other_calls_are_no_interference(rt: HostRuntime) -> Result<(), Fail> {
     assert_no_interference(&rt, &add_of_one(), Some(take_one), 2)
 }
 
-// The lines of so many fetch-adds of 5, executed with so many tries, where requester 1 adds 1 at each pause; the
-// first granule after them; and how many pauses there were.
+// Executes these requests with so many tries, where requester 1 adds 1 at each pause, and pushes their lines: the
+// first granule after them, how many pauses there were, and the numbers of their tries.
 fn executed<T: AllocGlobal + Abort + Wait>(
     rt: &T,
     attempts: u8,
     policy: Policy,
     requests: &[Request],
-) -> Result<(Vec<Line>, Reply, Vec<u8>), Fail> {
-    let (home, mut seat, other) = opened(rt, attempts)?;
-    let add = decode(&add_of_one(), &home.region())?;
-    let mut gate = Interferer::new(&home, other, u8::MAX, add);
-    let mut lines = Vec::new(rt.alloc());
+    lines: &mut Vec<Line>,
+) -> Result<(Reply, usize, [u8; 16]), Fail> {
+    let add = accepted(&add_of_one())?;
+    let (home, mut seat, other, _fetch) = opened(rt, attempts)?;
+    let mut gate = Interferer::new(&home, other, u8::MAX, add, None);
     assert!(rt; home.holds(&seat, 0));
-    work(
-        &home, rt, &mut seat, 0, requests, policy, &mut gate, &mut lines,
-    )?;
-    let mut tries = Vec::new(rt.alloc());
-    tries.extend_from_slice(gate.paused())?;
+    work(&home, rt, &mut seat, 0, requests, policy, &mut gate, lines)?;
     let after = first_granule(rt, &home, &mut seat);
-    Ok((lines, after, tries))
+    Ok((after, gate.pauses, gate.tries))
+}
+
+// Executes these requests: their lines, the first granule after them, and the tries that were paused before.
+fn assert_executed<T: AllocGlobal + Abort + Wait>(
+    rt: &T,
+    attempts: u8,
+    policy: Policy,
+    requests: &[Request],
+    want: &[Line],
+    after: u8,
+    tries: &[u8],
+) -> Result<(), Fail> {
+    let mut lines = Vec::new(rt.alloc());
+    let found = executed(rt, attempts, policy, requests, &mut lines)?;
+    assert_eq!(rt;
+        (lines.as_slice(), found),
+        (want, (one_byte(after), tries.len(), kept(tries)))
+    );
+    Ok(())
 }
 
 #[test]
 fn interfering_gate(rt: HostRuntime) -> Result<(), Fail> {
     let fetch = fetch_add();
-    let (lines, after, tries) = executed(&rt, 2, Policy::Resend, &[fetch])?;
     let want = [Line::Retried(fetch), Line::Completed(fetch, one_byte(2))];
-    assert_eq!(rt; lines.as_slice(), want.as_slice());
-    assert_eq!(rt; after, one_byte(7));
-    assert_eq!(rt; tries.as_slice(), [1, 2].as_slice());
-    let (lines, after, tries) = executed(&rt, 2, Policy::Return, &[fetch])?;
+    assert_executed(&rt, 2, Policy::Resend, &[fetch], &want, 7, &[1, 2])?;
     let want = [Line::Retried(fetch)];
-    assert_eq!(rt; lines.as_slice(), want.as_slice());
-    assert_eq!(rt; after, one_byte(2));
-    assert_eq!(rt; tries.as_slice(), [1, 2].as_slice());
-    Ok(())
+    assert_executed(&rt, 2, Policy::Return, &[fetch], &want, 2, &[1, 2])
 }
 
 #[test]
 fn interfering_gate_as_text(rt: HostRuntime) -> Result<(), Fail> {
-    let (lines, _after, _tries) = executed(&rt, 2, Policy::Resend, &[fetch_add()])?;
+    let mut lines = Vec::new(rt.alloc());
+    let _found = executed(&rt, 2, Policy::Resend, &[fetch_add()], &mut lines)?;
     let mut to: Vec<u8> = Vec::new(rt.alloc());
     write_lines(&mut to, lines.as_slice())?;
     let want =
@@ -348,11 +427,9 @@ fn interfering_gate_as_text(rt: HostRuntime) -> Result<(), Fail> {
 #[test]
 fn work_under_interference(rt: HostRuntime) -> Result<(), Fail> {
     let fetch = fetch_add();
-    let (lines, after, tries) = executed(&rt, 1, Policy::Return, &[fetch; 3])?;
-    assert_eq!(rt; lines.as_slice(), [Line::Retried(fetch); 3].as_slice());
-    assert_eq!(rt; after, one_byte(0x03));
-    assert_eq!(rt; tries.as_slice(), [1, 1, 1].as_slice());
-    let (lines, after, tries) = executed(&rt, 1, Policy::Resend, &[fetch; 3])?;
+    let requests = [fetch; 3];
+    let want = [Line::Retried(fetch); 3];
+    assert_executed(&rt, 1, Policy::Return, &requests, &want, 0x03, &[1, 1, 1])?;
     let want = [
         Line::Retried(fetch),
         Line::Completed(fetch, one_byte(0x01)),
@@ -361,8 +438,5 @@ fn work_under_interference(rt: HostRuntime) -> Result<(), Fail> {
         Line::Retried(fetch),
         Line::Completed(fetch, one_byte(0x0d)),
     ];
-    assert_eq!(rt; lines.as_slice(), want.as_slice());
-    assert_eq!(rt; after, one_byte(0x12));
-    assert_eq!(rt; tries.as_slice(), [1, 1, 1].as_slice());
-    Ok(())
+    assert_executed(&rt, 1, Policy::Resend, &requests, &want, 0x12, &[1, 1, 1])
 }

@@ -1,4 +1,4 @@
-//! Tests of both stores by their calls: work and races over them, and interference in the tries.
+//! Tests of seats and of both stores by their calls: numbers, work and races, and interference in the tries.
 #![tactic(auto)]
 
 #[cfg(test)]
@@ -13,6 +13,8 @@ mod home_tests;
 mod interference_tests;
 #[cfg(test)]
 mod lockstore_tests;
+#[cfg(test)]
+mod numbers_tests;
 #[cfg(test)]
 mod opening_tests;
 #[cfg(test)]

@@ -105,8 +105,8 @@ fn compare_that_differs(rt: HostRuntime) -> Result<(), Fail> {
         0,
         &request(COMPARE, 3, 0x00ff, lanes),
     );
-    assert_eq!(rt; reply, Reply::CompData([0; 16]));
-    assert_eq!(rt; words_of(&rt, &store, &mut seat), [0; 8]);
+    let words = words_of(&rt, &store, &mut seat);
+    assert_eq!(rt; (reply, words), (Reply::CompData([0; 16]), [0; 8]));
     Ok(())
 }
 
@@ -116,48 +116,64 @@ fn word_after<H: Home, R: Abort + Wait>(rt: &R, home: &H, seat: &mut H::Seat, op
     ensures { H.belongs home.now seat.new }
 {
     let write = request(WRITE, 0, 0x0001, one_byte(0xf0));
-    assert_eq!(rt; reply_of(rt, home, seat, 7, &write), Reply::Comp);
+    let written = reply_of(rt, home, seat, 7, &write);
     let operation = request(opcode, 0, 0x0001, one_byte(0x3c));
-    assert_eq!(rt;
-        reply_of(rt, home, seat, 7, &operation),
-        Reply::CompData(one_byte(0xf0))
-    );
+    let before = reply_of(rt, home, seat, 7, &operation);
     let words = words_of(rt, home, seat);
-    assert_eq!(rt; words, [words[0], 0, 0, 0, 0, 0, 0, 0]);
+    assert_eq!(rt;
+        (written, before, words),
+        (
+            Reply::Comp,
+            Reply::CompData(one_byte(0xf0)),
+            [words[0], 0, 0, 0, 0, 0, 0, 0]
+        )
+    );
     words[0]
 }
 
 #[test]
 fn nine_operations_on_one_byte(rt: HostRuntime) -> Result<(), Fail> {
     let (store, mut seat) = LockStore::open(rt.alloc(), Region::new(0x1000, 8)?, 8, &[0; 8])?;
-    assert_eq!(rt; word_after(&rt, &store, &mut seat, LOAD_ADD), 0x2c);
-    assert_eq!(rt; word_after(&rt, &store, &mut seat, LOAD_CLR), 0xc0);
-    assert_eq!(rt; word_after(&rt, &store, &mut seat, LOAD_EOR), 0xcc);
-    assert_eq!(rt; word_after(&rt, &store, &mut seat, LOAD_SET), 0xfc);
-    assert_eq!(rt; word_after(&rt, &store, &mut seat, LOAD_SMAX), 0x3c);
-    assert_eq!(rt; word_after(&rt, &store, &mut seat, LOAD_SMIN), 0xf0);
-    assert_eq!(rt; word_after(&rt, &store, &mut seat, LOAD_UMAX), 0xf0);
-    assert_eq!(rt; word_after(&rt, &store, &mut seat, LOAD_UMIN), 0x3c);
-    assert_eq!(rt; word_after(&rt, &store, &mut seat, SWAP), 0x3c);
+    let words = [
+        word_after(&rt, &store, &mut seat, LOAD_ADD),
+        word_after(&rt, &store, &mut seat, LOAD_CLR),
+        word_after(&rt, &store, &mut seat, LOAD_EOR),
+        word_after(&rt, &store, &mut seat, LOAD_SET),
+        word_after(&rt, &store, &mut seat, LOAD_SMAX),
+        word_after(&rt, &store, &mut seat, LOAD_SMIN),
+        word_after(&rt, &store, &mut seat, LOAD_UMAX),
+        word_after(&rt, &store, &mut seat, LOAD_UMIN),
+        word_after(&rt, &store, &mut seat, SWAP),
+    ];
+    assert_eq!(rt;
+        words,
+        [0x2c, 0xc0, 0xcc, 0xfc, 0x3c, 0xf0, 0xf0, 0x3c, 0x3c]
+    );
     Ok(())
 }
 
 #[test]
 fn open_refusals(rt: HostRuntime) -> Result<(), Fail> {
     let region = Region::new(0x1000, 8)?;
-    let none = LockStore::open(rt.alloc(), region, 0, &[0; 8]);
-    assert_eq!(rt; none.err(), Some(OpenFault::RequesterCount));
-    let nine = LockStore::open(rt.alloc(), region, 9, &[0; 8]);
-    assert_eq!(rt; nine.err(), Some(OpenFault::RequesterCount));
     let longer = Region::new(0x1000, 9)?;
-    let over_one_line = LockStore::open(rt.alloc(), longer, 8, &[0; 9]);
-    assert_eq!(rt; over_one_line.err(), Some(OpenFault::NotOneLine));
-    let both = LockStore::open(rt.alloc(), longer, 9, &[0; 9]);
-    assert_eq!(rt; both.err(), Some(OpenFault::RequesterCount));
+    let none = LockStore::open(rt.alloc(), region, 0, &[0; 8]).err();
+    let nine = LockStore::open(rt.alloc(), region, 9, &[0; 8]).err();
+    let over_one_line = LockStore::open(rt.alloc(), longer, 8, &[0; 9]).err();
+    let both = LockStore::open(rt.alloc(), longer, 9, &[0; 9]).err();
+    assert_eq!(rt;
+        [none, nine, over_one_line, both],
+        [
+            Some(OpenFault::RequesterCount),
+            Some(OpenFault::RequesterCount),
+            Some(OpenFault::NotOneLine),
+            Some(OpenFault::RequesterCount)
+        ]
+    );
     let (store, seat) = LockStore::open(rt.alloc(), region, 8, &[0; 8])?;
-    assert!(rt; store.holds_all(&seat));
-    assert_eq!(rt; store.requesters(), 8);
-    assert_eq!(rt; store.region(), region);
+    assert_eq!(rt;
+        (store.holds_all(&seat), store.requesters(), store.region()),
+        (true, 8, region)
+    );
     Ok(())
 }
 
@@ -166,21 +182,22 @@ fn split_and_rejoin(rt: HostRuntime) -> Result<(), Fail> {
     let (store, mut seat) = LockStore::open(rt.alloc(), Region::new(0x1000, 8)?, 2, &[0; 8])?;
     assert!(rt; store.holds(&seat, 1));
     let mut other = store.split(&rt, &mut seat, 1);
-    assert!(rt; !store.holds(&seat, 1));
-    assert!(rt; !store.holds_all(&seat));
-    let first = request(LOAD_ADD, 0, 0x0001, one_byte(1));
-    assert_eq!(rt;
-        reply_of(&rt, &store, &mut seat, 0, &first),
-        Reply::CompData([0; 16])
-    );
-    let second = request(LOAD_ADD, 0, 0x0001, one_byte(2));
-    assert_eq!(rt;
-        reply_of(&rt, &store, &mut other, 1, &second),
-        Reply::CompData(one_byte(1))
-    );
+    let rest = (store.holds(&seat, 1), store.holds_all(&seat));
+    let add = request(LOAD_ADD, 0, 0x0001, one_byte(1));
+    let first = reply_of(&rt, &store, &mut seat, 0, &add);
+    let add = request(LOAD_ADD, 0, 0x0001, one_byte(2));
+    let second = reply_of(&rt, &store, &mut other, 1, &add);
     store.rejoin(&rt, &mut seat, other);
-    assert!(rt; store.holds_all(&seat));
-    assert_eq!(rt; words_of(&rt, &store, &mut seat), [3, 0, 0, 0, 0, 0, 0, 0]);
+    let words = words_of(&rt, &store, &mut seat);
+    assert_eq!(rt;
+        (rest, first, second, words),
+        (
+            (false, false),
+            Reply::CompData([0; 16]),
+            Reply::CompData(one_byte(1)),
+            [3, 0, 0, 0, 0, 0, 0, 0]
+        )
+    );
     Ok(())
 }
 
@@ -200,37 +217,37 @@ impl Gate for Pauses {
 
 #[test]
 fn gate_is_paused_once(rt: HostRuntime) -> Result<(), Fail> {
-    let (store, mut seat) = LockStore::open(rt.alloc(), Region::new(0x1000, 8)?, 1, &[0; 8])?;
-    let access = decode(&request(SWAP, 0, 0x0001, one_byte(5)), &store.region())
-        .ok()
-        .expect(&rt, "the request is accepted");
+    let region = Region::new(0x1000, 8)?;
+    let access = decode(&request(SWAP, 0, 0x0001, one_byte(5)), &region)?;
+    let (store, mut seat) = LockStore::open(rt.alloc(), region, 1, &[0; 8])?;
     assert!(rt; store.holds(&seat, 0));
     let mut gate = Pauses { count: 0, last: 0 };
-    match store.serve(&rt, &mut seat, 0, &access, &mut gate) {
-        Served::Done { reply, lost } => {
-            assert_eq!(rt; reply, Reply::CompData([0; 16]));
-            assert_eq!(rt; lost, 0);
-        }
+    let (reply, lost) = match store.serve(&rt, &mut seat, 0, &access, &mut gate) {
+        Served::Done { reply, lost } => (reply, lost),
         Served::Retry { credit, .. } => {
             store.return_credit(credit);
-            panic!(rt; "a locked store never retries");
+            panic!(rt; "a locked store never retries")
         }
-    }
-    assert_eq!(rt; gate.count, 1);
-    assert_eq!(rt; gate.last, 1);
+    };
+    assert_eq!(rt;
+        (reply, lost, gate.count, gate.last),
+        (Reply::CompData([0; 16]), 0, 1, 1)
+    );
     Ok(())
 }
 
 #[test]
 fn credit_is_served_or_returned(rt: HostRuntime) -> Result<(), Fail> {
-    let (store, mut seat) = LockStore::open(rt.alloc(), Region::new(0x1000, 8)?, 1, &[0; 8])?;
-    let access = decode(&request(LOAD_ADD, 0, 0x0001, one_byte(5)), &store.region())
-        .ok()
-        .expect(&rt, "the request is accepted");
+    let region = Region::new(0x1000, 8)?;
+    let access = decode(&request(LOAD_ADD, 0, 0x0001, one_byte(5)), &region)?;
+    let (store, mut seat) = LockStore::open(rt.alloc(), region, 1, &[0; 8])?;
     assert!(rt; store.holds(&seat, 0));
     let reply = store.serve_credited(&rt, &mut seat, Credit::issue(0), &access);
-    assert_eq!(rt; reply, Reply::CompData([0; 16]));
     store.return_credit(Credit::issue(0));
-    assert_eq!(rt; words_of(&rt, &store, &mut seat), [5, 0, 0, 0, 0, 0, 0, 0]);
+    let words = words_of(&rt, &store, &mut seat);
+    assert_eq!(rt;
+        (reply, words),
+        (Reply::CompData([0; 16]), [5, 0, 0, 0, 0, 0, 0, 0])
+    );
     Ok(())
 }

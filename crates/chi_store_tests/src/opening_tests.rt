@@ -34,6 +34,32 @@ fn fetch_add() -> Request
     }
 }
 
+// The words at first, the only line of an addition, and the words after it.
+fn worked<H: Home, T: AllocGlobal + Wait>(
+    rt: &T,
+    home: &H,
+    seat: &mut H::Seat,
+) -> Result<([u64; 8], Option<Line>, [u64; 8]), Fail>
+    requires own { H.belongs home.now seat.old }
+    requires all { H.held seat.old ≡ below (H.opening home.now).requesters }
+    requires one { 1 ≤ (H.opening home.now).requesters }
+    requires line { (H.opening home.now).region.granules ≡ 8 }
+{
+    let mut first = [0; 8];
+    home.snapshot(rt, seat, &mut first);
+    let requests = [fetch_add()];
+    let mut lines = Vec::new(rt.alloc());
+    run_serial(home, rt, seat, &requests, Policy::Resend, &mut lines)?;
+    let only = if lines.len() == 1 {
+        Some(lines[0])
+    } else {
+        None
+    };
+    let mut last = [0; 8];
+    home.snapshot(rt, seat, &mut last);
+    Ok((first, only, last))
+}
+
 // The home begins as the image, and an addition works on it.
 fn assert_begins<H: Home, T: AllocGlobal + Abort + Wait>(
     rt: &T,
@@ -45,27 +71,24 @@ fn assert_begins<H: Home, T: AllocGlobal + Abort + Wait>(
     requires one { 1 ≤ (H.opening home.now).requesters }
     requires line { (H.opening home.now).region.granules ≡ 8 }
 {
-    let mut words = [0; 8];
-    home.snapshot(rt, seat, &mut words);
-    assert_eq!(rt; words, IMAGE);
-    let requests = [fetch_add()];
-    let mut lines = Vec::new(rt.alloc());
-    run_serial(home, rt, seat, &requests, Policy::Resend, &mut lines)?;
-    let mut before = [0; 16];
-    before[..8].copy_from_slice(&[0xff; 8]);
-    let want = [Line::Completed(requests[0], Reply::CompData(before))];
-    assert_eq!(rt; lines.as_slice(), want.as_slice());
-    home.snapshot(rt, seat, &mut words);
-    assert_eq!(rt; words[0], 0);
-    assert_eq!(rt; words[1..], IMAGE[1..]);
+    let f = 0xff;
+    let before = Reply::CompData([f, f, f, f, f, f, f, f, 0, 0, 0, 0, 0, 0, 0, 0]);
+    let mut after = IMAGE;
+    after[0] = 0;
+    assert_eq!(rt;
+        worked(rt, home, seat)?,
+        (IMAGE, Some(Line::Completed(fetch_add(), before)), after)
+    );
     Ok(())
 }
 
 #[test]
 fn opening_image_by_call(rt: HostRuntime) -> Result<(), Fail> {
     let region = Region::new(0x1000, 8)?;
-    let (home, mut seat) = LockStore::open(rt.alloc(), region, 1, &IMAGE)?;
-    assert_begins(&rt, &home, &mut seat)?;
+    {
+        let (home, mut seat) = LockStore::open(rt.alloc(), region, 1, &IMAGE)?;
+        assert_begins(&rt, &home, &mut seat)?;
+    }
     let (home, mut seat) = BookStore::open(rt.alloc(), region, 1, 4, &IMAGE)?;
     assert_begins(&rt, &home, &mut seat)
 }

@@ -50,18 +50,24 @@ fn assert_adds<H: Home + Sync, T: AllocGlobal + Abort + Threads + Wait + Sync>(
     )?;
     let mut words = [0; 8];
     home.snapshot(rt, seat, &mut words);
-    assert_eq!(rt; words, [2000, 0, 0, 0, 0, 0, 0, 0]);
-    assert_eq!(rt; completed(race.one.as_slice()), 1000);
-    assert_eq!(rt; completed(race.two.as_slice()), 1000);
-    assert_eq!(rt; race.zero.len(), 0);
+    let done = [
+        completed(race.one.as_slice()),
+        completed(race.two.as_slice()),
+    ];
+    assert_eq!(rt;
+        (words, done, race.zero.len()),
+        ([2000, 0, 0, 0, 0, 0, 0, 0], [1000; 2], 0)
+    );
     Ok(())
 }
 
 #[test]
 fn two_workers_add_a_thousand_each(rt: HostRuntime) -> Result<(), Fail> {
     let region = Region::new(0x1000, 8)?;
-    let (home, mut seat) = LockStore::open(rt.alloc(), region, 8, &[0; 8])?;
-    assert_adds(&rt, &home, &mut seat)?;
+    {
+        let (home, mut seat) = LockStore::open(rt.alloc(), region, 8, &[0; 8])?;
+        assert_adds(&rt, &home, &mut seat)?;
+    }
     let (home, mut seat) = BookStore::open(rt.alloc(), region, 8, 4, &[0; 8])?;
     assert_adds(&rt, &home, &mut seat)
 }
@@ -104,10 +110,12 @@ fn work_skips_other_requesters(rt: HostRuntime) -> Result<(), Fail> {
         Line::Completed(requests[0], Reply::Comp),
         Line::Completed(requests[2], Reply::Comp),
     ];
-    assert_eq!(rt; lines.as_slice(), want.as_slice());
     let mut words = [0; 8];
     home.snapshot(&rt, &mut seat, &mut words);
-    assert_eq!(rt; words[0].to_le_bytes(), [0x00, 0xa1, 0, 0, 0, 0, 0xa6, 0]);
+    assert_eq!(rt;
+        (lines.as_slice(), words[0].to_le_bytes()),
+        (want.as_slice(), [0x00, 0xa1, 0, 0, 0, 0, 0xa6, 0])
+    );
     Ok(())
 }
 
@@ -129,19 +137,26 @@ fn assert_two_bytes_written<H: Home, T: AllocGlobal + Abort + Wait>(
         Line::Completed(requests[0], Reply::Comp),
         Line::Completed(requests[1], Reply::Comp),
     ];
-    assert_eq!(rt; lines.as_slice(), want.as_slice());
     let mut words = [0; 8];
     home.snapshot(rt, seat, &mut words);
-    assert_eq!(rt; words[0].to_le_bytes(), [0x00, 0xa1, 0, 0, 0, 0, 0xa6, 0]);
-    assert_eq!(rt; words[1..], [0; 7][..]);
+    assert_eq!(rt;
+        (lines.as_slice(), words[0].to_le_bytes(), &words[1..]),
+        (
+            want.as_slice(),
+            [0x00, 0xa1, 0, 0, 0, 0, 0xa6, 0],
+            [0; 7].as_slice()
+        )
+    );
     Ok(())
 }
 
 #[test]
 fn write_of_no_bytes_then_two_by_run_serial(rt: HostRuntime) -> Result<(), Fail> {
     let region = Region::new(0x1000, 8)?;
-    let (home, mut seat) = LockStore::open(rt.alloc(), region, 8, &[0; 8])?;
-    assert_two_bytes_written(&rt, &home, &mut seat)?;
+    {
+        let (home, mut seat) = LockStore::open(rt.alloc(), region, 8, &[0; 8])?;
+        assert_two_bytes_written(&rt, &home, &mut seat)?;
+    }
     let (home, mut seat) = BookStore::open(rt.alloc(), region, 8, 4, &[0; 8])?;
     assert_two_bytes_written(&rt, &home, &mut seat)
 }

@@ -10,6 +10,8 @@ use chi_bookstore::{BookSeat, BookStore};
 use chi_fields::{Access, Region, Request, decode};
 use chi_history::{Home, Served};
 use chi_lanes::Reply;
+use std::process::Abort;
+use std::sync::Wait;
 use std::test::Fail;
 use std::thread::join;
 
@@ -29,6 +31,27 @@ fn work(home: &BookStore, mut seat: BookSeat, src: u8, access: &Access) -> (Book
         }
     }
     (seat, done)
+}
+
+// Takes both seats back: the words then.
+fn rejoined<T: Abort + Wait>(
+    rt: &T,
+    home: &BookStore,
+    seat: &mut BookSeat,
+    one: BookSeat,
+    two: BookSeat,
+) -> [u64; 8]
+    requires own { IsSeatOf home.now seat.old }
+    requires one_own { IsSeatOf home.now one }
+    requires two_own { IsSeatOf home.now two }
+    requires line { home.now.values.region.granules ≡ 8 }
+{
+    home.rejoin(rt, seat, one);
+    home.rejoin(rt, seat, two);
+    assert!(rt; home.holds_all(seat));
+    let mut words = [0; 8];
+    home.snapshot(rt, seat, &mut words);
+    words
 }
 
 #[test]
@@ -53,14 +76,11 @@ fn two_threads_attempt(rt: HostRuntime) -> Result<(), Fail> {
             ensures own { IsSeatOf home result.0 }
         { work(&home, two, 2, &add) },
     );
-    home.rejoin(&rt, &mut seat, one);
-    home.rejoin(&rt, &mut seat, two);
-    assert!(rt; home.holds_all(&seat));
-    let mut words = [0; 8];
-    home.snapshot(&rt, &mut seat, &mut words);
-    assert_eq!(rt; words[0], ones.saturating_add(twos));
-    assert!(rt; ones > 0, "no exchange of 1 won");
-    assert!(rt; twos > 0, "no exchange of 2 won");
+    let words = rejoined(&rt, &home, &mut seat, one, two);
+    assert_eq!(rt;
+        (words[0], ones > 0, twos > 0),
+        (ones.saturating_add(twos), true, true)
+    );
     Ok(())
 }
 
@@ -118,13 +138,10 @@ fn two_threads_at_their_own_granules(rt: HostRuntime) -> Result<(), Fail> {
             ensures own { IsSeatOf home result.0 }
         { swap_in_turn(&home, two, 2, 0x1008, 0xff00) },
     );
-    home.rejoin(&rt, &mut seat, one);
-    home.rejoin(&rt, &mut seat, two);
-    assert_eq!(rt; ones, 250);
-    assert_eq!(rt; twos, 250);
-    assert!(rt; home.holds_all(&seat));
-    let mut words = [0; 8];
-    home.snapshot(&rt, &mut seat, &mut words);
-    assert_eq!(rt; words, [0x01fa, 0x02fa, 0, 0, 0, 0, 0, 0]);
+    let words = rejoined(&rt, &home, &mut seat, one, two);
+    assert_eq!(rt;
+        (ones, twos, words),
+        (250, 250, [0x01fa, 0x02fa, 0, 0, 0, 0, 0, 0])
+    );
     Ok(())
 }

@@ -27,15 +27,16 @@ fn add_and_swap<H: Home, R: Abort + Wait>(
     let add = request(STORE_ADD, 3, 0x00ff, one_byte(1));
     let mut before = 0;
     'rounds: for round in 1..=100 {
-        assert_eq!(rt; reply_of(rt, home, &mut seat, src, &add), Reply::Comp);
+        let added = reply_of(rt, home, &mut seat, src, &add);
         let value = 2 * round + src % 2;
         let swap = Request {
             addr,
             ..request(SWAP, 0, 0x0001, one_byte(value))
         };
+        let swapped = reply_of(rt, home, &mut seat, src, &swap);
         assert_eq!(rt;
-            reply_of(rt, home, &mut seat, src, &swap),
-            Reply::CompData(one_byte(before))
+            (added, swapped),
+            (Reply::Comp, Reply::CompData(one_byte(before)))
         );
         before = value;
     }

@@ -1,7 +1,7 @@
 //! Tests of what progress is told.
 
 use crate::traces::{ADD, BUDGET, LOWER, READ, UPPER, WRITE, whole};
-use crate::{
+use chi_explain::{
     Observed, Progress, Verdict, explain_with_progress, first_unexplained_with_progress,
     words_at_end_with_progress,
 };

@@ -1,7 +1,7 @@
 //! Tests of random traces of a few operations: each is decided, and where one is not explained the time is found.
 
 use crate::traces::{ADD, BUDGET, LOWER, READ, STORE_ADD, SWAP, UPPER, WRITE, whole};
-use crate::{Observed, Verdict, explain, first_unexplained};
+use chi_explain::{Observed, Verdict, explain, first_unexplained};
 use chi_fields::Region;
 use std::alloc::Global;
 use std::test::Fail;

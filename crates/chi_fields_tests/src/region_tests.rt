@@ -1,6 +1,6 @@
 //! Tests of making a region.
 
-use crate::{Region, RegionFault};
+use chi_fields::{Region, RegionFault};
 use std::test::Fail;
 
 #[test]

@@ -1,8 +1,8 @@
 //! Tests of a script's image.
 
 use crate::sample_scripts::FETCH_ADD;
-use crate::{Member, Script, ScriptFault, read_script};
-use chi_fields::RegionFault;
+use chi_fields::{RegionFault, Request};
+use chi_script::{Member, Script, ScriptFault, read_script};
 use std::alloc::Global;
 use std::test::Fail;
 
@@ -14,7 +14,7 @@ const ONE_REQUEST: &str =
 // The script of so many granules with an image, and then these further members.
 fn script_of(
     alloc: Global,
-    granules: u16,
+    granules: usize,
     image: &str,
     further: &str,
 ) -> Result<Result<Script, ScriptFault>, Fail> {
@@ -35,21 +35,36 @@ fn image_of_digits(alloc: Global, count: usize) -> Result<String, Fail> {
     Ok(text)
 }
 
+// Whether a script of so many granules, with an image and then these members, has these words and requests.
+fn has_image(
+    alloc: Global,
+    image: &str,
+    further: &str,
+    words: &[u64],
+    requests: &[Request],
+) -> Result<bool, Fail> {
+    let script = script_of(alloc, words.len(), image, further)??;
+    Ok(script.image() == words && script.requests() == requests)
+}
+
 #[test]
 fn opening_image(rt: HostRuntime) -> Result<(), Fail> {
-    let ones = script_of(rt.alloc(), 1, "\"FFFFFFFFFFFFFFFF\"", ONE_REQUEST)??;
-    assert_eq!(rt; ones.image(), [u64::MAX].as_slice());
-    assert_eq!(rt; ones.requests(), [FETCH_ADD].as_slice());
-    let rising = script_of(rt.alloc(), 1, "\"0011223344556677\"", NO_REQUESTS)??;
-    assert_eq!(rt; rising.image(), [0x7766_5544_3322_1100].as_slice());
-    assert_eq!(rt; rising.requests().len(), 0);
+    let alloc = rt.alloc();
+    let ones = "\"FFFFFFFFFFFFFFFF\"";
+    assert!(rt; has_image(alloc, ones, ONE_REQUEST, &[u64::MAX], &[FETCH_ADD])?);
+    let rising = "\"0011223344556677\"";
+    assert!(rt; has_image(alloc, rising, NO_REQUESTS, &[0x7766_5544_3322_1100], &[])?);
     let either_case = "\"0100000000000000aBcDEf0000000080\"";
-    let two = script_of(rt.alloc(), 2, either_case, NO_REQUESTS)??;
-    assert_eq!(rt; two.image(), [1, 0x8000_0000_00ef_cdab].as_slice());
-    assert_eq!(rt; two.region().granules(), 2);
+    let words = [1, 0x8000_0000_00ef_cdab];
+    assert!(rt; has_image(alloc, either_case, NO_REQUESTS, &words, &[])?);
+    Ok(())
+}
+
+#[test]
+fn no_opening_image(rt: HostRuntime) -> Result<(), Fail> {
     let text = "{\"base\":4096,\"granules\":2,\"requests\":[]}";
-    let none = read_script(rt.alloc(), text.as_bytes(), 7)?;
-    assert_eq!(rt; none.image(), [0, 0].as_slice());
+    let script = read_script(rt.alloc(), text.as_bytes(), 7)?;
+    assert_eq!(rt; script.image(), [0, 0].as_slice());
     Ok(())
 }
 
@@ -109,31 +124,41 @@ fn image_in_its_place(rt: HostRuntime) -> Result<(), Fail> {
     Ok(())
 }
 
+// The fault of a script of so many granules and an image of so many digits.
+fn fault_of_digits(
+    alloc: Global,
+    granules: usize,
+    digits: usize,
+) -> Result<Option<ScriptFault>, Fail> {
+    let image = image_of_digits(alloc, digits)?;
+    Ok(script_of(alloc, granules, image.as_str(), NO_REQUESTS)?.err())
+}
+
 // The image is read whatever the number of granules is, and the region is refused after it.
 #[test]
 fn image_of_refused_region(rt: HostRuntime) -> Result<(), Fail> {
+    let alloc = rt.alloc();
     let refused = Some(ScriptFault::RegionRefused(RegionFault::GranuleCount));
-    let empty = script_of(rt.alloc(), 0, "\"\"", NO_REQUESTS)?;
-    assert_eq!(rt; empty.err(), refused);
+    let wrong = Some(ScriptFault::BadMember(Member::Image));
+    assert_eq!(rt; fault_of_digits(alloc, 0, 0)?, refused);
     for granules in [513, 65535] {
-        let digits = 16 * usize::from(granules);
-        let image = image_of_digits(rt.alloc(), digits)?;
-        let script = script_of(rt.alloc(), granules, image.as_str(), NO_REQUESTS)?;
-        assert_eq!(rt; script.err(), refused, "{granules}");
-        for wrong in [digits - 1, digits + 1] {
-            let image = image_of_digits(rt.alloc(), wrong)?;
-            let script = script_of(rt.alloc(), granules, image.as_str(), NO_REQUESTS)?;
-            assert_eq!(rt;
-                script.err(),
-                Some(ScriptFault::BadMember(Member::Image)),
-                "{granules} granules and {wrong} digits"
-            );
-        }
+        let faults = (
+            fault_of_digits(alloc, granules, 16 * granules - 1)?,
+            fault_of_digits(alloc, granules, 16 * granules)?,
+            fault_of_digits(alloc, granules, 16 * granules + 1)?,
+        );
+        assert_eq!(rt; faults, (wrong, refused, wrong), "{granules}");
     }
-    let most = image_of_digits(rt.alloc(), 16 * 512)?;
-    let script = script_of(rt.alloc(), 512, most.as_str(), NO_REQUESTS)??;
-    assert_eq!(rt; script.image().len(), 512);
-    assert_eq!(rt; script.image().first(), Some(&0x4523_0189_6745_2301));
-    assert_eq!(rt; script.image().last(), Some(&0x0189_6745_2301_8967));
+    Ok(())
+}
+
+#[test]
+fn image_of_512_granules(rt: HostRuntime) -> Result<(), Fail> {
+    let image = image_of_digits(rt.alloc(), 16 * 512)?;
+    let script = script_of(rt.alloc(), 512, image.as_str(), NO_REQUESTS)??;
+    let words = script.image();
+    let ends = (words.len(), words.first().copied(), words.last().copied());
+    let (first, last) = (0x4523_0189_6745_2301, 0x0189_6745_2301_8967);
+    assert_eq!(rt; ends, (512, Some(first), Some(last)));
     Ok(())
 }

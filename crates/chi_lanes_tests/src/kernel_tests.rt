@@ -1,6 +1,6 @@
 //! Tests of the calls on runs of lanes, by values worked out from what each says that it gives.
 
-use crate::{compare_half, extract, insert, lane_mask, swap_half, swap_order};
+use chi_lanes::{compare_half, extract, insert, lane_mask, swap_half, swap_order};
 
 // Lane i holds i.
 const EACH_LANE: [u8; 16] = [0, 1, 2, 3, 4, 5, 6, 7, 8, 9, 10, 11, 12, 13, 14, 15];

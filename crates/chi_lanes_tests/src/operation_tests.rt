@@ -1,7 +1,7 @@
 //! Tests of accesses on the words of granules, by the bytes before and after them and the answers.
 
-use crate::{Reply, apply};
 use chi_fields::{Region, Request, decode};
+use chi_lanes::{Reply, apply};
 use std::test::Fail;
 
 // A request of requester 0 with little-endian data. The digits of `lanes` are the packet, lane 0 first.

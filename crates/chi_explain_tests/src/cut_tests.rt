@@ -1,7 +1,7 @@
 //! Tests of traces up to a time, and of where a trace stops being explainable.
 
 use crate::traces::{ADD, BUDGET, LOWER, READ, UPPER, WRITE, whole};
-use crate::{Observed, Verdict, explain_until, first_unexplained};
+use chi_explain::{Observed, Verdict, explain_until, first_unexplained};
 use chi_fields::Region;
 use std::alloc::Global;
 use std::test::Fail;
@@ -49,12 +49,16 @@ fn first_lost_update(rt: HostRuntime) -> Result<(), Fail> {
     let ops = [elsewhere, late, lost, open, two, one];
     match first_unexplained(alloc, &region, &[0, 0], &ops, BUDGET)? {
         Some(blame) => {
-            assert_eq!(rt; blame.granule, 1);
-            assert_eq!(rt; blame.time, 50);
-            assert_eq!(rt; blame.op, 2);
-            assert_eq!(rt; blame.order.as_slice(), [5, 4].as_slice());
-            assert_eq!(rt; blame.overlapping.as_slice(), [2, 3].as_slice());
-            assert_eq!(rt; blame.words.as_slice(), [2, 3].as_slice());
+            assert_eq!(rt; (blame.granule, blame.time, blame.op), (1, 50, 2));
+            let lists = (
+                blame.order.as_slice(),
+                blame.overlapping.as_slice(),
+                blame.words.as_slice(),
+            );
+            assert_eq!(rt;
+                lists,
+                ([5, 4].as_slice(), [2, 3].as_slice(), [2, 3].as_slice())
+            );
         }
         None => assert!(rt; false),
     }

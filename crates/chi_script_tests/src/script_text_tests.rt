@@ -1,8 +1,9 @@
 //! Tests of texts that are no JSON, and of the faults' own texts.
 
 use crate::sample_scripts::FETCH_ADD_SCRIPT;
-use crate::{Member, ScriptFault, read_script};
 use chi_fields::RegionFault;
+use chi_script::{Member, ScriptFault, read_script};
+use std::alloc::Global;
 use std::test::Fail;
 
 #[test]
@@ -12,26 +13,45 @@ fn texts_that_are_no_json(rt: HostRuntime) -> Result<(), Fail> {
         let cut = read_script(rt.alloc(), &whole[..end], 7);
         assert_eq!(rt; cut.err(), Some(ScriptFault::NotJson), "at {end}");
     }
-    let mut bytes = whole.to_vec(rt.alloc())?;
-    let at = whole.len().saturating_sub(5);
+    Ok(())
+}
+
+#[test]
+fn bytes_that_are_no_text(rt: HostRuntime) -> Result<(), Fail> {
+    let mut bytes = FETCH_ADD_SCRIPT.as_bytes().to_vec(rt.alloc())?;
+    let at = bytes.len().saturating_sub(5);
     if at < bytes.len() {
         bytes[at] = 0xff;
     }
-    assert_eq!(rt;
-        read_script(rt.alloc(), bytes.as_slice(), 7).err(),
-        Some(ScriptFault::NotJson)
+    let fault = read_script(rt.alloc(), bytes.as_slice(), 7).err();
+    assert_eq!(rt; fault, Some(ScriptFault::NotJson));
+    Ok(())
+}
+
+// The fault of so many arrays, each in the one before.
+fn fault_of_nested(alloc: Global, depth: usize) -> Result<Option<ScriptFault>, Fail> {
+    let mut nested = vec![in alloc; b'['; depth]?;
+    nested.extend_from_slice(vec![in alloc; b']'; depth]?.as_slice())?;
+    Ok(read_script(alloc, nested.as_slice(), 7).err())
+}
+
+#[test]
+fn texts_nested_too_deep(rt: HostRuntime) -> Result<(), Fail> {
+    let faults = (
+        fault_of_nested(rt.alloc(), 127)?,
+        fault_of_nested(rt.alloc(), 128)?,
     );
-    for (depth, want) in [(127, ScriptFault::NotObject), (128, ScriptFault::NotJson)] {
-        let mut nested = vec![in rt.alloc(); b'['; depth]?;
-        nested.extend_from_slice(vec![in rt.alloc(); b']'; depth]?.as_slice())?;
-        assert_eq!(rt;
-            read_script(rt.alloc(), nested.as_slice(), 7).err(),
-            Some(want)
-        );
-    }
-    let mut spaced = "{\"base\":4096,\"granules\":8,\"requests\":[]}"
-        .as_bytes()
-        .to_vec(rt.alloc())?;
+    assert_eq!(rt;
+        faults,
+        (Some(ScriptFault::NotObject), Some(ScriptFault::NotJson))
+    );
+    Ok(())
+}
+
+#[test]
+fn script_before_many_spaces(rt: HostRuntime) -> Result<(), Fail> {
+    let text = "{\"base\":4096,\"granules\":8,\"requests\":[]}";
+    let mut spaced = text.as_bytes().to_vec(rt.alloc())?;
     spaced.extend_from_slice(vec![in rt.alloc(); b' '; 4_194_264]?.as_slice())?;
     assert_eq!(rt; read_script(rt.alloc(), spaced.as_slice(), 7).err(), None);
     Ok(())

@@ -4,7 +4,7 @@
 use crate::traces::{
     ADD, BUDGET, LOWER, READ, STORE_ADD, UPPER, WRITE, fault, has_order, sent, whole,
 };
-use crate::{Observed, Verdict, explain};
+use chi_explain::{Observed, Verdict, explain};
 use chi_fields::Region;
 use std::test::Fail;
 

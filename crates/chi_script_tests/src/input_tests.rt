@@ -1,6 +1,6 @@
 //! Tests of reading an input up to a limit.
 
-use crate::{InputFault, read_input};
+use chi_script::{InputFault, read_input};
 use std::io::{self, Read};
 use std::test::Fail;
 

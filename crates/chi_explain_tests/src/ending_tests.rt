@@ -1,7 +1,7 @@
 //! Tests of the words that operations leave, and of those that a granule can hold at the end.
 
 use crate::traces::{ADD, BUDGET, LOWER, READ, SWAP, UPPER, WRITE, whole};
-use crate::{Observed, words_after, words_at_end};
+use chi_explain::{Observed, words_after, words_at_end};
 use chi_fields::Region;
 use std::alloc::Global;
 use std::test::Fail;

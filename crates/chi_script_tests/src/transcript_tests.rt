@@ -1,9 +1,9 @@
 //! Tests of the transcript's text, and of writers that fail.
 
-use crate::{WriteFault, write_lines, write_transcript};
 use chi_fields::{Refusal, Region, Request};
 use chi_history::Line;
 use chi_lanes::Reply;
+use chi_script::{WriteFault, write_lines, write_transcript};
 use std::alloc::Global;
 use std::io;
 use std::io::Write;
@@ -116,31 +116,41 @@ fn refused_and_completed_without_data(rt: HostRuntime) -> Result<(), Fail> {
     Ok(())
 }
 
+// Whether a writer that takes so many bytes is left with as much of the transcript, and the fault is this one.
+fn is_cut(
+    alloc: Global,
+    room: usize,
+    each: usize,
+    sticks: bool,
+    fault: WriteFault,
+) -> Result<bool, Fail> {
+    let mut to = make_device(alloc, room, each, sticks);
+    let written = write_fetch_add(&mut to)?;
+    let left = FETCH_ADD_TEXT.as_bytes().get(..room);
+    Ok(written == Err(fault) && Some(to.taken.as_slice()) == left)
+}
+
 #[test]
 fn failing_devices(rt: HostRuntime) -> Result<(), Fail> {
-    let mut fails = make_device(rt.alloc(), 10, 10, false);
-    assert_eq!(rt; write_fetch_add(&mut fails)?, Err(WriteFault::Failed));
-    assert_eq!(rt; fails.taken.as_slice(), b"0 1 30 Ato".as_slice());
-    let mut sticks = make_device(rt.alloc(), 10, 10, true);
-    assert_eq!(rt; write_fetch_add(&mut sticks)?, Err(WriteFault::Stuck));
-    assert_eq!(rt; sticks.taken.as_slice(), b"0 1 30 Ato".as_slice());
+    assert!(rt; is_cut(rt.alloc(), 10, 10, false, WriteFault::Failed)?);
+    assert!(rt; is_cut(rt.alloc(), 10, 10, true, WriteFault::Stuck)?);
     Ok(())
 }
 
 #[test]
 fn hostile_devices(rt: HostRuntime) -> Result<(), Fail> {
-    let whole = FETCH_ADD_TEXT.as_bytes();
-    for room in 0..whole.len() {
-        let mut fails = make_device(rt.alloc(), room, 7, false);
-        assert_eq!(rt; write_fetch_add(&mut fails)?, Err(WriteFault::Failed));
-        assert_eq!(rt; fails.taken.as_slice(), &whole[..room]);
-        let mut sticks = make_device(rt.alloc(), room, 7, true);
-        assert_eq!(rt; write_fetch_add(&mut sticks)?, Err(WriteFault::Stuck));
-        assert_eq!(rt; sticks.taken.as_slice(), &whole[..room]);
+    for room in 0..FETCH_ADD_TEXT.len() {
+        assert!(rt; is_cut(rt.alloc(), room, 7, false, WriteFault::Failed)?);
+        assert!(rt; is_cut(rt.alloc(), room, 7, true, WriteFault::Stuck)?);
     }
+    Ok(())
+}
+
+#[test]
+fn writes_of_one_byte(rt: HostRuntime) -> Result<(), Fail> {
     let mut slow = make_device(rt.alloc(), 4096, 1, false);
     assert_eq!(rt; write_fetch_add(&mut slow)?, Ok(()));
-    assert_eq!(rt; slow.taken.as_slice(), whole);
+    assert_eq!(rt; slow.taken.as_slice(), FETCH_ADD_TEXT.as_bytes());
     Ok(())
 }
 

@@ -1,6 +1,6 @@
 //! Tests of decoding: which requests are accepted, as which access, and which refusal the others meet.
 
-use crate::{Access, Kind, Op, Refusal, Region, Request, decode};
+use chi_fields::{Access, Kind, Op, Refusal, Region, Request, decode};
 use std::test::Fail;
 
 const NO_DATA: [u8; 16] = [0; 16];
@@ -182,9 +182,11 @@ fn kinds_of_opcodes(rt: HostRuntime) -> Result<(), Fail> {
     ];
     for (number, op) in ops {
         let store = decoded(8, request(0x28 | number, 3, 0x1000, 0x00ff))??;
-        assert_eq!(rt; store.kind(), Kind::Store(op));
         let load = decoded(8, request(0x30 | number, 3, 0x1000, 0x00ff))??;
-        assert_eq!(rt; load.kind(), Kind::Load(op));
+        assert_eq!(rt;
+            (store.kind(), load.kind()),
+            (Kind::Store(op), Kind::Load(op))
+        );
     }
     for (opcode, kind) in others {
         let access = decoded(8, request(opcode, 3, 0x1000, 0x00ff))??;
@@ -201,15 +203,19 @@ fn fields_of_access(rt: HostRuntime) -> Result<(), Fail> {
         ..request(0x30, 1, 0x1006, 0x00c0)
     };
     let access = decoded(8, big_endian_add)??;
-    assert_eq!(rt; access.kind(), Kind::Load(Op::Add));
-    assert_eq!(rt; access.addr(), 0x1006);
-    assert_eq!(rt; access.len(), 2);
-    assert_eq!(rt; access.endian(), true);
-    assert_eq!(rt; access.enables(), 0x00c0);
-    assert_eq!(rt; access.lanes(), EACH_LANE);
+    assert_eq!(rt;
+        (access.kind(), access.lanes()),
+        (Kind::Load(Op::Add), EACH_LANE)
+    );
+    let fields = (
+        access.addr(),
+        access.len(),
+        access.endian(),
+        access.enables(),
+    );
+    assert_eq!(rt; fields, (0x1006, 2, true, 0x00c0));
     let compare = decoded(8, request(0x39, 4, 0x1008, 0xffff))??;
-    assert_eq!(rt; compare.len(), 8);
-    assert_eq!(rt; compare.endian(), false);
+    assert_eq!(rt; (compare.len(), compare.endian()), (8, false));
     Ok(())
 }
 
@@ -221,9 +227,8 @@ fn read_keeps_ignored_fields(rt: HostRuntime) -> Result<(), Fail> {
         ..request(0x04, 0, 0x1003, 0x8421)
     };
     let access = decoded(8, read)??;
-    assert_eq!(rt; access.endian(), true);
-    assert_eq!(rt; access.enables(), 0x8421);
-    assert_eq!(rt; access.lanes(), EACH_LANE);
+    let fields = (access.endian(), access.enables(), access.lanes());
+    assert_eq!(rt; fields, (true, 0x8421, EACH_LANE));
     Ok(())
 }
 
@@ -242,8 +247,9 @@ fn granules_of_accesses(rt: HostRuntime) -> Result<(), Fail> {
         assert_eq!(rt; access.granule(&region), want, "at {addr}");
     }
     let third = decoded(8, request(0x38, 2, 0x1014, 0x00f0))??;
-    assert_eq!(rt; third.fits(&Region::new(0x1000, 3)?), true);
-    assert_eq!(rt; third.fits(&Region::new(0x1000, 2)?), false);
-    assert_eq!(rt; third.fits(&Region::new(0x1040, 8)?), false);
+    let (long, short) = (Region::new(0x1000, 3)?, Region::new(0x1000, 2)?);
+    let later = Region::new(0x1040, 8)?;
+    let fits = (third.fits(&long), third.fits(&short), third.fits(&later));
+    assert_eq!(rt; fits, (true, false, false));
     Ok(())
 }

@@ -1,7 +1,7 @@
 //! Scripts for the tests, with a member changed or left out, and with many requests.
 
-use crate::{Member, ScriptFault, read_script};
 use chi_fields::Request;
+use chi_script::{Member, ScriptFault, read_script};
 use std::alloc::Global;
 use std::test::Fail;
 
@@ -38,6 +38,27 @@ pub(crate) const REQUEST_MEMBERS: [(Member, &str); 8] = [
 // The fault of a text, for requesters up to `top`.
 pub(crate) fn fault_of(alloc: Global, text: &str, top: u8) -> Option<ScriptFault> {
     read_script(alloc, text.as_bytes(), top).err()
+}
+
+// The fault of the fetch and add's script with one member changed or left out.
+pub(crate) fn fault_with(
+    alloc: Global,
+    changed: Member,
+    value: &str,
+) -> Result<Option<ScriptFault>, Fail> {
+    let text = script_with(alloc, changed, value)?;
+    Ok(fault_of(alloc, text.as_str(), 7))
+}
+
+// The fault of a script of so many requests without change, and then a last one of this size.
+pub(crate) fn fault_of_many(
+    alloc: Global,
+    granules: &str,
+    count: usize,
+    size: &str,
+) -> Result<Option<ScriptFault>, Fail> {
+    let text = long_script(alloc, granules, count, size)?;
+    Ok(fault_of(alloc, text.as_str(), 7))
 }
 
 // Adds each member by its name, but the changed one with another value, or not at all where that is empty.
@@ -79,12 +100,7 @@ pub(crate) fn script_with(alloc: Global, changed: Member, value: &str) -> Result
 }
 
 // A script of so many requests without change, and then a last one of this size.
-pub(crate) fn long_script(
-    alloc: Global,
-    granules: &str,
-    count: usize,
-    size: &str,
-) -> Result<String, Fail> {
+fn long_script(alloc: Global, granules: &str, count: usize, size: &str) -> Result<String, Fail> {
     let mut text = String::new(alloc);
     text.push_str("{\"base\":4096,\"granules\":")?;
     text.push_str(granules)?;

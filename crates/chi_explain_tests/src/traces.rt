@@ -1,6 +1,6 @@
 //! Traces for the tests, and what is found of them.
 
-use crate::{Observed, Verdict, explain};
+use chi_explain::{Observed, Verdict, explain};
 use chi_fields::{Region, Request, decode};
 use chi_history::Entry;
 use chi_lanes::Reply;

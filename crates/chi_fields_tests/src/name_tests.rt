@@ -1,6 +1,6 @@
 //! Tests of the names and texts of opcodes, refusals and region faults.
 
-use crate::{Refusal, RegionFault, op_name, refusal_name, region_fault_name};
+use chi_fields::{Refusal, RegionFault, op_name, refusal_name, region_fault_name};
 use std::test::Fail;
 
 const OPCODES: [(u8, &str); 20] = [

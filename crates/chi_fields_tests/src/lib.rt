@@ -1,0 +1,9 @@
+//! Tests of decoding, regions and names.
+#![tactic(auto)]
+
+#[cfg(test)]
+mod decoding_tests;
+#[cfg(test)]
+mod name_tests;
+#[cfg(test)]
+mod region_tests;

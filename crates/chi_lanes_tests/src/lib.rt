@@ -1,0 +1,7 @@
+//! Tests of the operations on packed words, and of the runs of bytes in them.
+#![tactic(auto)]
+
+#[cfg(test)]
+mod kernel_tests;
+#[cfg(test)]
+mod operation_tests;
