@@ -4,12 +4,13 @@ PROGRAM := crates/chi_home/out/chi_home
 CHECKER := crates/chi_check/out/chi_check
 SCRIPT ?= examples/fetch_add.json
 
-.PHONY: help try build checker run test lib dv install bench bench-c bench-explain corpus
+.PHONY: help try build checker run test edits lib dv install bench bench-c bench-explain corpus
 
 help:
 	@echo "make try [SCRIPT=FILE]     build chihome with no proof, and show a script and the transcript of chihome run"
 	@echo "make run [SCRIPT=FILE]     the same, once chihome is proved"
 	@echo "make test                  the gate: every proof from nothing, the edits that must fail, tests, runs and what the documents show"
+	@echo "make edits [CRATES=..]     the edits outside the gate, of some crates or of all: the prover must refuse each"
 	@echo "make checker               chicheck, proved: the program that explains traces"
 	@echo "make lib                   out/libchi_c.a and out/libchi.so, for C, C++, SystemVerilog and Python"
 	@echo "make dv                    the benches in SystemVerilog, in Verilator: the calls, and a monitor whose traces chicheck judges"
@@ -38,14 +39,11 @@ run: build
 	@cat $(SCRIPT); echo; echo
 	@$(PROGRAM) run < $(SCRIPT)
 
-# The gate builds the program that .ci/program and .ci/faults try, and .ci/c the libraries that it tries; the gate's own
-# last line stays the last.
-test: SHELL := /bin/bash
-test: .SHELLFLAGS := -o pipefail -ec
 test:
-	.ci/documents
-	.ci/credit_spent_once
-	@result=$$(mktemp); trap 'rm -f '$$result EXIT; rt ci 2>&1 | tee $$result; .ci/program; .ci/checker; .ci/faults; .ci/c; tail -n 1 $$result
+	.ci/gate
+
+edits:
+	.ci/edits $(CRATES)
 
 lib:
 	c/build.sh
