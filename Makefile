@@ -14,32 +14,35 @@ help:
 	@echo "make checker               chicheck, proved: the program that explains traces"
 	@echo "make lib                   out/libchi_c.a and out/libchi.so, for C, C++, SystemVerilog and Python"
 	@echo "make dv                    the benches in SystemVerilog, in Verilator: the calls, and a monitor whose traces chicheck judges"
-	@echo "make install PREFIX=DIR    put the programs chihome and chicheck into DIR/bin, and the libraries, header, package and module below DIR"
+	@echo "make install PREFIX=DIR    put the programs chihome and chicheck into DIR/bin, and the libraries, header, package and module below DIR;"
+	@echo "                           with DESTDIR=ROOT too, all of it below ROOT"
 	@echo "make bench                 the speed of chihome and of the lock-free store, beside plain Rust"
 	@echo "make bench-c               the speed of the calls for C, beside plain C and by DPI"
 	@echo "make bench-explain         the checker of traces beside every order of 100,000 small ones, and its speed beside plain Rust"
 	@echo "make corpus [SEED=N]       chihome on 10,000 scripts by chance, half of them broken, beside plain Rust"
 
+# Where a command fails, what it said is shown; it leaves no file behind.
+quiet = log=$$(mktemp) && trap "rm -f $$log" EXIT && trap "exit 130" INT TERM && { $(1); } > $$log 2>&1 || { cat $$log; exit 1; }
+
 # What rt says of itself is shown only where it fails.
 try:
 	@echo "make try: nothing is proved here; make run proves chihome first" >&2
-	@cat $(SCRIPT); echo; echo
-	@log=$$(mktemp); trap "rm -f $$log" EXIT; \
-	cd crates/chi_home && rt try -- run < $(abspath $(SCRIPT)) 2> $$log || { cat $$log >&2; exit 1; }
+	@cat "$(SCRIPT)"; echo; echo
+	@script=$$(realpath "$(SCRIPT)"); log=$$(mktemp); trap "rm -f $$log" EXIT; trap "exit 130" INT TERM; \
+	cd crates/chi_home && rt try -- run < "$$script" 2> $$log || { cat $$log >&2; exit 1; }
 
 build:
-	@cd crates/chi_home && rt run -- run < stdin > out.log 2>&1 || { cat out.log; rm -f out.log; exit 1; }
-	@rm -f crates/chi_home/out.log
+	@$(call quiet,cd crates/chi_home && rt run -- run < stdin)
 
 checker:
-	@cd crates/chi_check && rt run -- explain < stdin > out.log 2>&1 || { cat out.log; rm -f out.log; exit 1; }
-	@rm -f crates/chi_check/out.log
+	@$(call quiet,cd crates/chi_check && rt run -- explain < stdin)
 
 run: build
-	@cat $(SCRIPT); echo; echo
-	@$(PROGRAM) run < $(SCRIPT)
+	@cat "$(SCRIPT)"; echo; echo
+	@$(PROGRAM) run < "$(SCRIPT)"
 
 test:
+	@.ci/need python3:python3 cc:gcc c++:g++
 	.ci/gate
 
 edits:
@@ -52,15 +55,13 @@ dv: lib checker
 	dv/run.sh
 
 install: build checker lib
-	install -D -m 755 $(PROGRAM) $(PREFIX)/bin/chihome
-	install -D -m 755 $(CHECKER) $(PREFIX)/bin/chicheck
-	install -D -m 644 out/libchi_c.a $(PREFIX)/lib/libchi_c.a
-	install -D -m 755 out/libchi.so $(PREFIX)/lib/libchi.so
-	install -D -m 644 include/chi.h $(PREFIX)/include/chi.h
-	install -D -m 644 dv/chi_pkg.sv $(PREFIX)/share/chi/chi_pkg.sv
-	install -D -m 644 dv/chi_monitor.sv $(PREFIX)/share/chi/chi_monitor.sv
-	install -D -m 644 dv/chi_dv.c $(PREFIX)/share/chi/chi_dv.c
-	install -D -m 644 python/chi.py $(PREFIX)/share/chi/chi.py
+	install -D -m 755 $(PROGRAM) "$(DESTDIR)$(PREFIX)/bin/chihome"
+	install -D -m 755 $(CHECKER) "$(DESTDIR)$(PREFIX)/bin/chicheck"
+	install -D -m 644 out/libchi_c.a "$(DESTDIR)$(PREFIX)/lib/libchi_c.a"
+	install -D -m 755 out/libchi.so "$(DESTDIR)$(PREFIX)/lib/libchi.so"
+	install -D -m 644 include/chi.h "$(DESTDIR)$(PREFIX)/include/chi.h"
+	install -d "$(DESTDIR)$(PREFIX)/share/chi"
+	install -m 644 dv/chi_pkg.sv dv/chi_monitor.sv dv/chi_dv.c python/chi.py "$(DESTDIR)$(PREFIX)/share/chi"
 
 bench: build
 	bench/run.sh $(PROGRAM) run --store book

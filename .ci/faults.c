@@ -18,7 +18,9 @@
 #include <unistd.h>
 
 void *__libc_malloc(size_t size);
+void *__libc_calloc(size_t count, size_t size);
 void *__libc_realloc(void *block, size_t size);
+void *__libc_memalign(size_t alignment, size_t size);
 
 static long refused_block, refused_on, threads_refused, failed_read, failed_write, by_bytes;
 static const char *met_file;
@@ -57,6 +59,19 @@ static int is_refused(void) {
 void *malloc(size_t size) { return is_refused() ? NULL : __libc_malloc(size); }
 
 void *realloc(void *block, size_t size) { return is_refused() ? NULL : __libc_realloc(block, size); }
+
+void *calloc(size_t count, size_t size) { return is_refused() ? NULL : __libc_calloc(count, size); }
+
+void *aligned_alloc(size_t alignment, size_t size) { return is_refused() ? NULL : __libc_memalign(alignment, size); }
+
+void *memalign(size_t alignment, size_t size) { return is_refused() ? NULL : __libc_memalign(alignment, size); }
+
+int posix_memalign(void **block, size_t alignment, size_t size) {
+  void *found = is_refused() ? NULL : __libc_memalign(alignment, size);
+  if (!found) return ENOMEM;
+  *block = found;
+  return 0;
+}
 
 typedef int start(pthread_t *, const pthread_attr_t *, void *(*)(void *), void *);
 

@@ -64,7 +64,7 @@ def best(name, requests, final):
     times = []
     for _ in range(5):
         began = time.perf_counter()
-        ran = subprocess.run([CHECKER, "explain"], input=text, capture_output=True)
+        ran = subprocess.run([CHECKER, "explain"], input=text, capture_output=True, timeout=600)
         times.append(time.perf_counter() - began)
     first = ran.stdout.decode().split("\n")[0]
     print(f"{name}: {len(requests)} operations, {len(text)} bytes, {min(times) * 1000:.1f} ms, status {ran.returncode}, {first}")

@@ -5,4 +5,4 @@ set -eu
 cd "$(dirname "$0")"
 ./build.sh
 ./program.sh time_attempts attempts chi_fields chi_lanes chi_history chi_bookstore
-out/release/exchange "${ROUNDS:-20}" out/release/bare out/release/row out/time_attempts
+timeout -k 5 1800 out/release/exchange "${ROUNDS:-20}" out/release/bare out/release/row out/time_attempts

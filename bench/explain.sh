@@ -7,6 +7,6 @@ seed=${1:-1}
 cd "$(dirname "$0")"
 ./build.sh
 ./program.sh time_explain explain chi_fields chi_lanes chi_history chi_explain
-out/release/judge out/time_explain 100000 "$seed"
+timeout -k 5 3600 out/release/judge out/time_explain 100000 "$seed"
 echo
-out/release/times out/time_explain out/release/checker "${ROUNDS:-10}" "$seed"
+timeout -k 5 3600 out/release/times out/time_explain out/release/checker "${ROUNDS:-10}" "$seed"

@@ -30,7 +30,7 @@ build() {
   for file in "$folder"/*.rt.in; do
     cp "$file" "$copy/crates/$name/src/$(basename "$file" .in)"
   done
-  (cd "$copy/crates/$name" && head -c 8 /dev/zero | rt run) > "$program.log" 2>&1 || {
+  (cd "$copy/crates/$name" && head -c 8 /dev/zero | timeout -k 5 3600 rt run) > "$program.log" 2>&1 || {
     tail -n 20 "$program.log" >&2
     exit 1
   }

@@ -12,7 +12,7 @@ cd "$bench"
 ./build.sh
 out=out/release
 script=out/script.json
-"$out/script" "${GRANULES:-8}" "$workers" ${PLACES:+"$PLACES"} > "$script"
+timeout -k 5 60 "$out/script" "${GRANULES:-8}" "$workers" ${PLACES:+"$PLACES"} > "$script"
 plain=(run)
 case " $* " in
   *" race "*)
@@ -30,8 +30,8 @@ told() {
 compare() {
   local file=$1 status=0 plain_status=0
   shift
-  "$program" "$@" < "$file" > out/transcript 2> out/errors || status=$?
-  "$out/plain" "${plain[@]}" < "$file" > out/plain.transcript 2> out/plain.errors || plain_status=$?
+  timeout -k 5 60 "$program" "$@" < "$file" > out/transcript 2> out/errors || status=$?
+  timeout -k 5 60 "$out/plain" "${plain[@]}" < "$file" > out/plain.transcript 2> out/plain.errors || plain_status=$?
   if [ $status != $plain_status ]; then
     echo "$file: status $status, and $plain_status of the plain program" >&2
     exit 1
@@ -48,4 +48,4 @@ for file in ../examples/*.json "$script"; do
 done
 echo "transcripts are equal; $(wc -c < "$script") bytes of script, $(wc -c < out/transcript) of transcript"
 echo
-"$out/measure" "$script" "$runs" "chihome${*:+ $*}" "$program" "$@" -- "plain ${plain[*]}" "$out/plain" "${plain[@]}"
+timeout -k 5 1800 "$out/measure" "$script" "$runs" "chihome${*:+ $*}" "$program" "$@" -- "plain ${plain[*]}" "$out/plain" "${plain[@]}"

@@ -3,6 +3,7 @@
 # the DPI package too.
 set -eu
 cd "$(dirname "$0")/.."
+.ci/need "${CC:-cc}:gcc" || exit 1
 mkdir -p out
 (cd crates/chi_c && rt lib) > out/lib.log 2>&1 || {
   tail -n 20 out/lib.log >&2
