@@ -72,6 +72,23 @@ fn run_on(rt: &impl AllocGlobal, words: &[&str], text: &str) -> Result<Output, A
     })
 }
 
+// The program ends with this status, and writes this on standard output and on standard error.
+fn assert_output<T: AllocGlobal + Abort>(
+    rt: &T,
+    words: &[&str],
+    text: &str,
+    (status, out, errors): (u8, &str, &str),
+) -> Result<(), Fail> {
+    let output = run_on(rt, words, text)?;
+    let found = (
+        output.status,
+        output.out.as_slice(),
+        output.errors.as_slice(),
+    );
+    assert_eq!(rt; found, (status, out.as_bytes(), errors.as_bytes()));
+    Ok(())
+}
+
 #[test]
 fn traces_and_their_answers(rt: HostRuntime) -> Result<(), Fail> {
     for (words, trace, status, answer) in [
@@ -92,10 +109,7 @@ fn traces_and_their_answers(rt: HostRuntime) -> Result<(), Fail> {
             "undecided after 0 states, at most 0 of a granule\n",
         ),
     ] {
-        let output = run_on(&rt, words, trace)?;
-        assert_eq!(rt; output.out.as_slice(), answer.as_bytes());
-        assert_eq!(rt; output.status, status);
-        assert_eq!(rt; output.errors.len(), 0);
+        assert_output(&rt, words, trace, (status, answer, ""))?;
     }
     Ok(())
 }
@@ -109,10 +123,7 @@ fn traces_that_are_refused(rt: HostRuntime) -> Result<(), Fail> {
             "chicheck: request 0 member src is missing\n",
         ),
     ] {
-        let output = run_on(&rt, &["explain"], trace)?;
-        assert_eq!(rt; output.errors.as_slice(), text.as_bytes());
-        assert_eq!(rt; output.status, 3);
-        assert_eq!(rt; output.out.len(), 0);
+        assert_output(&rt, &["explain"], trace, (3, "", text))?;
     }
     Ok(())
 }
@@ -120,9 +131,8 @@ fn traces_that_are_refused(rt: HostRuntime) -> Result<(), Fail> {
 // These arguments are refused, and nothing is written on standard output.
 fn assert_refused<T: AllocGlobal + Abort>(rt: &T, words: &[&str]) -> Result<(), Fail> {
     let output = run_on(rt, words, SWAPS)?;
-    assert_eq!(rt; output.status, 2);
-    assert_eq!(rt; output.out.len(), 0);
-    assert!(rt; !output.errors.is_empty());
+    let found = (output.status, output.out.len(), output.errors.is_empty());
+    assert_eq!(rt; found, (2, 0, false));
     Ok(())
 }
 
@@ -139,12 +149,9 @@ fn arguments_that_are_refused(rt: HostRuntime) -> Result<(), Fail> {
 #[test]
 fn help_and_version(rt: HostRuntime) -> Result<(), Fail> {
     let help = run_on(&rt, &["explain", "--help"], "")?;
-    assert_eq!(rt; help.status, 0);
-    assert!(rt; !help.out.is_empty());
-    let version = run_on(&rt, &["--version"], "")?;
-    assert_eq!(rt; version.status, 0);
-    assert_eq!(rt; version.out.as_slice(), b"chicheck 0.1.0\n".as_slice());
-    Ok(())
+    let found = (help.status, help.out.is_empty(), help.errors.len());
+    assert_eq!(rt; found, (0, false, 0));
+    assert_output(&rt, &["--version"], "", (0, "chicheck 0.1.0\n", ""))
 }
 
 // A reader that fails at once, and a writer that fails at once.
@@ -167,21 +174,28 @@ impl Write for Broken {
     }
 }
 
+const OPTIONS: CheckOptions = CheckOptions {
+    witness: false,
+    budget: 1000,
+};
+
 #[test]
-fn devices_that_fail(rt: HostRuntime) -> Result<(), Fail> {
-    let options = CheckOptions {
-        witness: false,
-        budget: 1000,
-    };
+fn reader_that_fails(rt: HostRuntime) -> Result<(), Fail> {
     let mut out: Vec<u8> = Vec::new(rt.alloc());
-    let read = check(rt.alloc(), &mut Broken, &mut out, &options, &mut NoProgress);
-    assert!(rt; matches!(read, Err(CheckFault::Read)));
-    assert_eq!(rt; out.len(), 0);
+    let read = check(rt.alloc(), &mut Broken, &mut out, &OPTIONS, &mut NoProgress);
+    let is_told = matches!(read, Err(CheckFault::Read));
+    assert_eq!(rt; (is_told, out.len()), (true, 0));
+    Ok(())
+}
+
+#[test]
+fn writer_that_fails(rt: HostRuntime) -> Result<(), Fail> {
+    let mut from = SWAPS.as_bytes();
     let written = check(
         rt.alloc(),
-        &mut SWAPS.as_bytes(),
+        &mut from,
         &mut Broken,
-        &options,
+        &OPTIONS,
         &mut NoProgress,
     );
     assert!(rt; matches!(written, Err(CheckFault::Write(WriteFault::Failed))));

@@ -4,6 +4,7 @@ use crate::progress_line::{ProgressLine, ShownProgress};
 use chi_explain::Progress;
 use chi_fields::Region;
 use std::io::{self, IsTerminal, Write};
+use std::process::Abort;
 use std::sync::atomic::{AtomicU64, Ordering};
 use std::test::Fail;
 use std::time::{Clock, Duration};
@@ -69,23 +70,31 @@ fn written(
     Ok(text)
 }
 
+// This is written.
+fn assert_written<T: AllocGlobal + Abort>(
+    rt: &T,
+    is_terminal: bool,
+    states: u64,
+    until: Option<u64>,
+    want: &str,
+) -> Result<(), Fail> {
+    let text = written(rt, is_terminal, states, until)?;
+    assert_eq!(rt; text.as_slice(), want.as_bytes());
+    Ok(())
+}
+
 // The clock is read each 4,096 states, and after the third time more than a second is gone.
 #[test]
 fn line_after_a_second(rt: HostRuntime) -> Result<(), Fail> {
-    assert_eq!(rt; written(&rt, true, 3 * 4096 - 1, None)?.len(), 0);
-    assert_eq!(rt;
-        written(&rt, true, 3 * 4096, None)?.as_slice(),
-        b"\rchicheck: 3 of 8 granules\x1b[K\r\x1b[K".as_slice()
-    );
-    assert_eq!(rt;
-        written(&rt, true, 4 * 4096, Some(49))?.as_slice(),
-        b"\rchicheck: 3 of 8 granules up to 49\x1b[K\rchicheck: 3 of 8 granules up to 49\x1b[K\r\x1b[K".as_slice()
-    );
-    Ok(())
+    let once = "\rchicheck: 3 of 8 granules\u{1b}[K\r\u{1b}[K";
+    let twice =
+        "\rchicheck: 3 of 8 granules up to 49\u{1b}[K\rchicheck: 3 of 8 granules up to 49\u{1b}[K\r\u{1b}[K";
+    assert_written(&rt, true, 3 * 4096 - 1, None, "")?;
+    assert_written(&rt, true, 3 * 4096, None, once)?;
+    assert_written(&rt, true, 4 * 4096, Some(49), twice)
 }
 
 #[test]
 fn no_line_where_no_terminal_is(rt: HostRuntime) -> Result<(), Fail> {
-    assert_eq!(rt; written(&rt, false, 9 * 4096, None)?.len(), 0);
-    Ok(())
+    assert_written(&rt, false, 9 * 4096, None, "")
 }

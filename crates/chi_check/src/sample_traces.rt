@@ -4,6 +4,7 @@ use crate::trace::{Trace, read_trace};
 use crate::trace_fault::TraceFault;
 use chi_script::Member;
 use std::alloc::Global;
+use std::process::Abort;
 use std::test::Fail;
 
 // The members of the object but the requests, and what they are in the sample.
@@ -82,4 +83,15 @@ pub(crate) fn read_with(
 // The fault of a text.
 pub(crate) fn fault_of(alloc: Global, text: &str) -> Option<TraceFault> {
     read_trace(alloc, text.as_bytes()).err()
+}
+
+// The changed sample has this fault, or none.
+pub(crate) fn assert_fault<T: AllocGlobal + Abort>(
+    rt: &T,
+    changed: &[(Member, &str)],
+    want: Option<TraceFault>,
+) -> Result<(), Fail> {
+    let fault = read_with(rt.alloc(), changed)?.err();
+    assert_eq!(rt; fault, want, "{changed:?}");
+    Ok(())
 }

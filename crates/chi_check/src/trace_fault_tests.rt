@@ -1,9 +1,10 @@
 //! Tests of the faults of a trace, and of their order.
 
-use crate::sample_traces::{OBJECT_MEMBERS, REQUEST_MEMBERS, fault_of, read_with};
+use crate::sample_traces::{OBJECT_MEMBERS, REQUEST_MEMBERS, assert_fault, fault_of};
 use crate::trace_fault::{RequestFault, TraceFault};
 use chi_fields::{Refusal, RegionFault};
 use chi_script::Member;
+use std::process::Abort;
 use std::test::Fail;
 
 // The fault in the second request.
@@ -18,44 +19,56 @@ fn missing_members(rt: HostRuntime) -> Result<(), Fail> {
             Member::Image | Member::Final => None,
             _ => Some(TraceFault::Missing(member)),
         };
-        let read = read_with(rt.alloc(), &[(member, "")])?;
-        assert_eq!(rt; read.err(), want, "{member:?}");
+        assert_fault(&rt, &[(member, "")], want)?;
     }
     for (member, _) in REQUEST_MEMBERS {
-        let read = read_with(rt.alloc(), &[(member, "")])?;
-        let want = Some(second(RequestFault::Missing(member)));
-        assert_eq!(rt; read.err(), want, "{member:?}");
+        let want = second(RequestFault::Missing(member));
+        assert_fault(&rt, &[(member, "")], Some(want))?;
     }
-    let text = "{\"base\":4096,\"granules\":1}";
-    assert_eq!(rt;
-        fault_of(rt.alloc(), text),
-        Some(TraceFault::Missing(Member::Requests))
-    );
+    Ok(())
+}
+
+// With values of other kinds, and with this text, the member has this fault.
+fn assert_wrong_kinds<T: AllocGlobal + Abort>(
+    rt: &T,
+    member: Member,
+    text: &str,
+    want: TraceFault,
+) -> Result<(), Fail> {
+    for value in &[
+        "null", "true", "false", "[]", "{}", "-1", "0.5", "1e1", text,
+    ] {
+        assert_fault(rt, &[(member, *value)], Some(want))?;
+    }
     Ok(())
 }
 
 #[test]
 fn members_of_the_wrong_kind(rt: HostRuntime) -> Result<(), Fail> {
-    for (member, _) in OBJECT_MEMBERS {
-        for value in ["null", "true", "[]", "{}", "-1", "0.5", "1e1", "\"4096\""] {
-            let read = read_with(rt.alloc(), &[(member, value)])?;
-            let want = Some(TraceFault::BadMember(member));
-            assert_eq!(rt; read.err(), want, "{member:?} {value}");
-        }
+    for (member, _) in &OBJECT_MEMBERS {
+        assert_wrong_kinds(&rt, *member, "\"4096\"", TraceFault::BadMember(*member))?;
     }
-    for (member, _) in REQUEST_MEMBERS {
-        for value in ["null", "false", "[]", "{}", "-1", "0.5", "1e1", "\"3\""] {
-            let read = read_with(rt.alloc(), &[(member, value)])?;
-            let want = Some(second(RequestFault::BadMember(member)));
-            assert_eq!(rt; read.err(), want, "{member:?} {value}");
-        }
-    }
-    for value in ["null", "0", "\"\"", "{}"] {
-        let text = format!(in rt.alloc(); "{{\"base\":4096,\"granules\":1,\"requests\":{value}}}")?;
-        let want = Some(TraceFault::BadMember(Member::Requests));
-        assert_eq!(rt; fault_of(rt.alloc(), text.as_str()), want, "{value}");
+    for (member, _) in &REQUEST_MEMBERS {
+        let want = second(RequestFault::BadMember(*member));
+        assert_wrong_kinds(&rt, *member, "\"3\"", want)?;
     }
     Ok(())
+}
+
+#[test]
+fn requests_that_are_no_list(rt: HostRuntime) {
+    let missing = "{\"base\":4096,\"granules\":1}";
+    let want = TraceFault::Missing(Member::Requests);
+    assert_eq!(rt; fault_of(rt.alloc(), missing), Some(want));
+    for text in [
+        "{\"base\":4096,\"granules\":1,\"requests\":null}",
+        "{\"base\":4096,\"granules\":1,\"requests\":0}",
+        "{\"base\":4096,\"granules\":1,\"requests\":\"\"}",
+        "{\"base\":4096,\"granules\":1,\"requests\":{}}",
+    ] {
+        let want = TraceFault::BadMember(Member::Requests);
+        assert_eq!(rt; fault_of(rt.alloc(), text), Some(want), "{text}");
+    }
 }
 
 #[test]
@@ -76,9 +89,8 @@ fn members_past_their_bounds(rt: HostRuntime) -> Result<(), Fail> {
         (Member::Final, "\"0700000000000000ff0000000000000g\""),
     ];
     for (member, value) in past {
-        let read = read_with(rt.alloc(), &[(member, value)])?;
-        let want = Some(TraceFault::BadMember(member));
-        assert_eq!(rt; read.err(), want, "{value}");
+        let want = TraceFault::BadMember(member);
+        assert_fault(&rt, &[(member, value)], Some(want))?;
     }
     let past = [
         (Member::Src, "256"),
@@ -101,9 +113,8 @@ fn members_past_their_bounds(rt: HostRuntime) -> Result<(), Fail> {
         (Member::Reply, "\"0000000000000000ff0000000000000g\""),
     ];
     for (member, value) in past {
-        let read = read_with(rt.alloc(), &[(member, value)])?;
-        let want = Some(second(RequestFault::BadMember(member)));
-        assert_eq!(rt; read.err(), want, "{value}");
+        let want = second(RequestFault::BadMember(member));
+        assert_fault(&rt, &[(member, value)], Some(want))?;
     }
     Ok(())
 }
@@ -123,8 +134,7 @@ fn members_at_their_bounds(rt: HostRuntime) -> Result<(), Fail> {
         ],
     ];
     for changed in within {
-        let read = read_with(rt.alloc(), changed)?;
-        assert_eq!(rt; read.err(), None, "{changed:?}");
+        assert_fault(&rt, changed, None)?;
     }
     Ok(())
 }
@@ -138,9 +148,8 @@ fn ends_before_starts(rt: HostRuntime) -> Result<(), Fail> {
         &[(Member::Start, "18446744073709551615")],
     ];
     for changed in turned {
-        let read = read_with(rt.alloc(), changed)?;
-        let want = Some(second(RequestFault::EndsBeforeStart));
-        assert_eq!(rt; read.err(), want, "{changed:?}");
+        let want = second(RequestFault::EndsBeforeStart);
+        assert_fault(&rt, changed, Some(want))?;
     }
     Ok(())
 }
@@ -165,9 +174,8 @@ fn refused_requests(rt: HostRuntime) -> Result<(), Fail> {
                 (Member::Be, be),
                 (Member::End, end),
             ];
-            let read = read_with(rt.alloc(), &changed)?;
-            let want = Some(second(RequestFault::Refused(refusal)));
-            assert_eq!(rt; read.err(), want, "{refusal:?}");
+            let want = second(RequestFault::Refused(refusal));
+            assert_fault(&rt, &changed, Some(want))?;
         }
     }
     Ok(())

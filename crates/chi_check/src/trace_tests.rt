@@ -29,27 +29,37 @@ fn assert_observed<T: Abort>(
     times: (u64, u64),
     reply: Reply,
 ) {
-    assert_eq!(rt; op.start, times.0);
-    assert_eq!(rt; op.end, times.1);
-    assert_eq!(rt; op.entry.src, request.src);
-    assert_eq!(rt; op.entry.access.kind(), kind);
-    assert_eq!(rt; op.entry.access.addr(), request.addr);
-    assert_eq!(rt; op.entry.access.len(), len);
-    assert_eq!(rt; op.entry.access.endian(), request.endian);
-    assert_eq!(rt; op.entry.access.enables(), request.be);
-    assert_eq!(rt; op.entry.access.lanes(), request.lanes);
-    assert_eq!(rt; op.entry.reply, reply);
+    let access = &op.entry.access;
+    let found = (
+        access.kind(),
+        access.addr(),
+        access.len(),
+        access.endian(),
+        access.enables(),
+    );
+    let wanted = (kind, request.addr, len, request.endian, request.be);
+    assert_eq!(rt; found, wanted);
+    let found = (
+        (op.start, op.end),
+        op.entry.src,
+        access.lanes(),
+        op.entry.reply,
+    );
+    assert_eq!(rt; found, (times, request.src, request.lanes, reply));
+}
+
+// The numbers of a trace: its base, its granules, and how many requests and operations it has.
+fn numbers_of(trace: &Trace) -> (u64, u16, usize, usize) {
+    let region = trace.region();
+    let (requests, operations) = (trace.requests().len(), trace.operations().len());
+    (region.base(), region.granules(), requests, operations)
 }
 
 #[test]
 fn trace_of_each_kind(rt: HostRuntime) -> Result<(), Fail> {
     let trace = read_trace(rt.alloc(), KINDS.as_bytes())?;
-    assert_eq!(rt; trace.region().base(), 4096);
-    assert_eq!(rt; trace.region().granules(), 2);
-    assert_eq!(rt; trace.image(), [0, 0].as_slice());
-    assert_eq!(rt; trace.finals(), None);
-    assert_eq!(rt; trace.requests().len(), 6);
-    assert_eq!(rt; trace.operations().len(), 6);
+    assert_eq!(rt; numbers_of(&trace), (4096, 2, 6, 6));
+    assert_eq!(rt; (trace.image(), trace.finals()), ([0, 0].as_slice(), None));
     let mut read = [0; 16];
     read[4..8].copy_from_slice(&[0xaa, 0xbb, 0xcc, 0xdd]);
     let mut swapped = [0; 16];
@@ -79,17 +89,16 @@ fn trace_of_each_kind(rt: HostRuntime) -> Result<(), Fail> {
 fn trace_as_a_script(rt: HostRuntime) -> Result<(), Fail> {
     let trace = read_trace(rt.alloc(), KINDS.as_bytes())?;
     let script = read_script(rt.alloc(), KINDS.as_bytes(), 255)?;
-    assert_eq!(rt; script.region(), trace.region());
-    assert_eq!(rt; script.image(), trace.image());
-    assert_eq!(rt; script.requests(), trace.requests());
+    let found = (script.region(), script.image(), script.requests());
+    assert_eq!(rt; found, (trace.region(), trace.image(), trace.requests()));
     Ok(())
 }
 
 #[test]
 fn sample_trace(rt: HostRuntime) -> Result<(), Fail> {
     let trace = read_with(rt.alloc(), &[])??;
-    assert_eq!(rt; trace.image(), [7, 0xff].as_slice());
-    assert_eq!(rt; trace.finals(), Some([7, 0x0101].as_slice()));
+    let words = (trace.image(), trace.finals());
+    assert_eq!(rt; words, ([7, 0xff].as_slice(), Some([7, 0x0101].as_slice())));
     let request = Request {
         src: 200,
         txn: 1,
@@ -108,31 +117,39 @@ fn sample_trace(rt: HostRuntime) -> Result<(), Fail> {
     Ok(())
 }
 
+// The changed sample has these words at the opening and at the end.
+fn assert_words<T: AllocGlobal + Abort>(
+    rt: &T,
+    changed: &[(Member, &str)],
+    image: &[u64],
+    finals: Option<&[u64]>,
+) -> Result<(), Fail> {
+    let trace = read_with(rt.alloc(), changed)??;
+    assert_eq!(rt; (trace.image(), trace.finals()), (image, finals));
+    Ok(())
+}
+
 // Byte k of a word is the byte at the granule's address plus k, at the opening and at the end.
 #[test]
 fn words_of_a_trace(rt: HostRuntime) -> Result<(), Fail> {
     let rising = "\"0011223344556677AaBbCcDdEeFf0102\"";
     let words = [0x7766_5544_3322_1100, 0x0201_ffee_ddcc_bbaa];
-    let imaged = read_with(rt.alloc(), &[(Member::Image, rising)])??;
-    assert_eq!(rt; imaged.image(), words.as_slice());
-    assert_eq!(rt; imaged.finals(), Some([7, 0x0101].as_slice()));
-    let ended = read_with(rt.alloc(), &[(Member::Final, rising)])??;
-    assert_eq!(rt; ended.image(), [7, 0xff].as_slice());
-    assert_eq!(rt; ended.finals(), Some(words.as_slice()));
-    let bare = read_with(rt.alloc(), &[(Member::Image, ""), (Member::Final, "")])??;
-    assert_eq!(rt; bare.image(), [0, 0].as_slice());
-    assert_eq!(rt; bare.finals(), None);
-    Ok(())
+    assert_words(&rt, &[(Member::Image, rising)], &words, Some(&[7, 0x0101]))?;
+    assert_words(&rt, &[(Member::Final, rising)], &[7, 0xff], Some(&words))?;
+    assert_words(
+        &rt,
+        &[(Member::Image, ""), (Member::Final, "")],
+        &[0, 0],
+        None,
+    )
 }
 
 #[test]
 fn trace_of_no_requests(rt: HostRuntime) -> Result<(), Fail> {
     let text = "{\"base\":0,\"granules\":512,\"requests\":[]}";
     let trace: Trace = read_trace(rt.alloc(), text.as_bytes())?;
-    assert_eq!(rt; trace.region().base(), 0);
-    assert_eq!(rt; trace.image().len(), 512);
-    assert_eq!(rt; trace.requests().len(), 0);
-    assert_eq!(rt; trace.operations().len(), 0);
+    let found = (numbers_of(&trace), trace.image().len());
+    assert_eq!(rt; found, ((0, 512, 0, 0), 512));
     Ok(())
 }
 
@@ -144,12 +161,14 @@ fn doubled_members(rt: HostRuntime) -> Result<(), Fail> {
     let trace = read_trace(rt.alloc(), text.as_bytes())?;
     assert_eq!(rt; trace.region().base(), 4096);
     assert_eq!(rt; trace.finals(), Some([1].as_slice()));
-    let times = read_with(rt.alloc(), &[(Member::Start, "8,\"start\":4,\"end\":2")])??;
-    assert_eq!(rt; times.operations().len(), 2);
-    for op in times.operations().iter().skip(1) {
-        assert_eq!(rt; op.start, 4);
-        assert_eq!(rt; op.end, 9);
-    }
+    Ok(())
+}
+
+#[test]
+fn doubled_members_of_a_request(rt: HostRuntime) -> Result<(), Fail> {
+    let trace = read_with(rt.alloc(), &[(Member::Start, "8,\"start\":4,\"end\":2")])??;
+    let times = trace.operations().last().map(|op| (op.start, op.end));
+    assert_eq!(rt; (trace.operations().len(), times), (2, Some((4, 9))));
     Ok(())
 }
 

@@ -6,6 +6,7 @@ use crate::trace_fault::{RequestFault, TraceFault};
 use chi_fields::{Refusal, RegionFault};
 use chi_script::Member;
 use std::alloc::Global;
+use std::process::Abort;
 use std::test::Fail;
 
 #[test]
@@ -16,19 +17,33 @@ fn texts_that_are_no_json(rt: HostRuntime) -> Result<(), Fail> {
         let cut = read_trace(rt.alloc(), &whole[..end]);
         assert_eq!(rt; cut.err(), Some(TraceFault::NotJson), "at {end}");
     }
+    Ok(())
+}
+
+// The fault of the sample with another byte after `{"base"`.
+fn fault_of_byte(alloc: Global, byte: u8) -> Result<Option<TraceFault>, Fail> {
+    let mut bytes = trace_with(alloc, &[])?.into_bytes();
+    if 7 < bytes.len() {
+        bytes[7] = byte;
+    }
+    Ok(read_trace(alloc, bytes.as_slice()).err())
+}
+
+// The fault of so many arrays, each in the one before.
+fn fault_of_nested(alloc: Global, depth: usize) -> Result<Option<TraceFault>, Fail> {
+    let mut nested = vec![in alloc; b'['; depth]?;
+    nested.extend_from_slice(vec![in alloc; b']'; depth]?.as_slice())?;
+    Ok(read_trace(alloc, nested.as_slice()).err())
+}
+
+#[test]
+fn bytes_that_are_no_json(rt: HostRuntime) -> Result<(), Fail> {
     for byte in [0xff, b'"', b'{', 0] {
-        let mut bytes = whole.to_vec(rt.alloc())?;
-        if 7 < bytes.len() {
-            bytes[7] = byte;
-        }
-        let read = read_trace(rt.alloc(), bytes.as_slice());
-        assert_eq!(rt; read.err(), Some(TraceFault::NotJson), "{byte}");
+        let fault = fault_of_byte(rt.alloc(), byte)?;
+        assert_eq!(rt; fault, Some(TraceFault::NotJson), "{byte}");
     }
     for (depth, want) in [(127, TraceFault::NotObject), (128, TraceFault::NotJson)] {
-        let mut nested = vec![in rt.alloc(); b'['; depth]?;
-        nested.extend_from_slice(vec![in rt.alloc(); b']'; depth]?.as_slice())?;
-        let read = read_trace(rt.alloc(), nested.as_slice());
-        assert_eq!(rt; read.err(), Some(want));
+        assert_eq!(rt; fault_of_nested(rt.alloc(), depth)?, Some(want));
     }
     Ok(())
 }
@@ -69,16 +84,24 @@ fn traces_past_the_most_requests(rt: HostRuntime) -> Result<(), Fail> {
 fn trace_of_many_requests(rt: HostRuntime) -> Result<(), Fail> {
     let text = long_trace(rt.alloc(), REQUEST, 600, REQUEST)?;
     let trace = read_trace(rt.alloc(), text.as_bytes())?;
-    assert_eq!(rt; trace.requests().len(), 601);
-    assert_eq!(rt; trace.operations().len(), 601);
+    let counts = (trace.requests().len(), trace.operations().len());
+    assert_eq!(rt; counts, (601, 601));
+    Ok(())
+}
+
+#[test]
+fn fault_after_many_requests(rt: HostRuntime) -> Result<(), Fail> {
     let text = long_trace(rt.alloc(), REQUEST, 600, "{}")?;
-    assert_eq!(rt;
-        fault_of(rt.alloc(), text.as_str()),
-        Some(TraceFault::InRequest {
-            place: 600,
-            fault: RequestFault::Missing(Member::Src),
-        })
-    );
+    let (place, fault) = (600, RequestFault::Missing(Member::Src));
+    let want = Some(TraceFault::InRequest { place, fault });
+    assert_eq!(rt; fault_of(rt.alloc(), text.as_str()), want);
+    Ok(())
+}
+
+// The fault is reported by this text.
+fn assert_text<T: AllocGlobal + Abort>(rt: &T, fault: &TraceFault, want: &str) -> Result<(), Fail> {
+    let text = format!(in rt.alloc(); "{fault}")?;
+    assert_eq!(rt; text.as_str(), want);
     Ok(())
 }
 
@@ -103,9 +126,13 @@ fn trace_fault_texts(rt: HostRuntime) -> Result<(), Fail> {
         (TraceFault::Memory, "no memory"),
     ];
     for (fault, want) in texts {
-        let text = format!(in rt.alloc(); "{fault}")?;
-        assert_eq!(rt; text.as_str(), want);
+        assert_text(&rt, &fault, want)?;
     }
+    Ok(())
+}
+
+#[test]
+fn request_fault_texts(rt: HostRuntime) -> Result<(), Fail> {
     let texts = [
         (RequestFault::NotObject, "request 12 is not an object"),
         (
@@ -126,8 +153,7 @@ fn trace_fault_texts(rt: HostRuntime) -> Result<(), Fail> {
         ),
     ];
     for (fault, want) in texts {
-        let text = format!(in rt.alloc(); "{}", TraceFault::InRequest { place: 12, fault })?;
-        assert_eq!(rt; text.as_str(), want);
+        assert_text(&rt, &TraceFault::InRequest { place: 12, fault }, want)?;
     }
     Ok(())
 }

@@ -86,29 +86,31 @@ fn run_on<T: AllocGlobal + Threads + Wait + Sync>(
     })
 }
 
-// The arguments are refused with status 2, and only standard error is written.
+// The program ends with this status, and writes this on standard output and on standard error.
+fn assert_output<T: AllocGlobal + Abort + Threads + Wait + Sync>(
+    rt: &T,
+    arguments: &[&str],
+    text: &str,
+    (status, out, errors): (u8, &str, &str),
+) -> Result<(), Fail> {
+    let output = run_on(rt, arguments, text)?;
+    let found = (
+        output.status,
+        output.out.as_slice(),
+        output.errors.as_slice(),
+    );
+    assert_eq!(rt; found, (status, out.as_bytes(), errors.as_bytes()));
+    Ok(())
+}
+
+// The arguments are refused, with nothing on standard output.
 fn assert_arguments_refused<T: AllocGlobal + Abort + Threads + Wait + Sync>(
     rt: &T,
     arguments: &[&str],
 ) -> Result<(), Fail> {
     let output = run_on(rt, arguments, "")?;
-    assert_eq!(rt; output.status, 2);
-    assert_eq!(rt; output.out.len(), 0);
-    assert!(rt; !output.errors.is_empty());
-    Ok(())
-}
-
-// The program writes this transcript on these arguments.
-fn assert_transcript<T: AllocGlobal + Abort + Threads + Wait + Sync>(
-    rt: &T,
-    arguments: &[&str],
-    text: &str,
-    want: &str,
-) -> Result<(), Fail> {
-    let output = run_on(rt, arguments, text)?;
-    assert_eq!(rt; output.status, 0);
-    assert_eq!(rt; output.out.as_slice(), want.as_bytes());
-    assert_eq!(rt; output.errors.len(), 0);
+    let found = (output.status, output.out.len(), output.errors.is_empty());
+    assert_eq!(rt; found, (2, 0, false));
     Ok(())
 }
 
@@ -131,7 +133,7 @@ fn first_fetch_add_by_arguments(rt: HostRuntime) -> Result<(), Fail> {
         ["race", "--store", "lock"].as_slice(),
     ];
     for arguments in all {
-        assert_transcript(&rt, arguments, FETCH_ADD, FETCH_ADD_TRANSCRIPT)?;
+        assert_output(&rt, arguments, FETCH_ADD, (0, FETCH_ADD_TRANSCRIPT, ""))?;
     }
     Ok(())
 }
@@ -139,26 +141,13 @@ fn first_fetch_add_by_arguments(rt: HostRuntime) -> Result<(), Fail> {
 #[test]
 fn race_of_three_requesters_by_arguments(rt: HostRuntime) -> Result<(), Fail> {
     for arguments in [["race"].as_slice(), ["race", "--store", "lock"].as_slice()] {
-        assert_transcript(&rt, arguments, THREE_REQUESTERS, THREE_TRANSCRIPT)?;
+        assert_output(&rt, arguments, THREE_REQUESTERS, (0, THREE_TRANSCRIPT, ""))?;
     }
-    Ok(())
-}
-
-// The script is refused with status 3 and this text, and nothing else is written.
-fn assert_script_refused<T: AllocGlobal + Abort + Threads + Wait + Sync>(
-    rt: &T,
-    arguments: &[&str],
-    text: &str,
-    want: &str,
-) -> Result<(), Fail> {
-    let output = run_on(rt, arguments, text)?;
-    assert_eq!(rt; output.status, 3);
-    assert_eq!(rt; output.out.len(), 0);
-    assert_eq!(rt; output.errors.as_slice(), want.as_bytes());
     Ok(())
 }
 
 #[test]
 fn fault_is_reported(rt: HostRuntime) -> Result<(), Fail> {
-    assert_script_refused(&rt, &["run"], "[]", "chihome: script is not an object\n")
+    let fault = "chihome: script is not an object\n";
+    assert_output(&rt, &["run"], "[]", (3, "", fault))
 }

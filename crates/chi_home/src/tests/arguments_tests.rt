@@ -1,6 +1,6 @@
 //! The arguments of the command line: those that are refused, help, and the options that the others name.
 
-use super::{arguments_of, assert_arguments_refused, run_on};
+use super::{arguments_of, assert_arguments_refused, assert_output, run_on};
 use crate::command::{Task, options_of};
 use chi_engine::{Options, StoreKind, Workers};
 use chi_requester::Policy;
@@ -27,20 +27,15 @@ fn help_is_written(rt: HostRuntime) -> Result<(), Fail> {
         ["race", "--help"].as_slice(),
     ] {
         let output = run_on(&rt, arguments, "")?;
-        assert_eq!(rt; output.status, 0);
-        assert!(rt; !output.out.is_empty());
-        assert_eq!(rt; output.errors.len(), 0);
+        let found = (output.status, output.out.is_empty(), output.errors.len());
+        assert_eq!(rt; found, (0, false, 0));
     }
     Ok(())
 }
 
 #[test]
 fn version_is_written(rt: HostRuntime) -> Result<(), Fail> {
-    let output = run_on(&rt, &["--version"], "")?;
-    assert_eq!(rt; output.status, 0);
-    assert_eq!(rt; output.out.as_slice(), b"chihome 0.1.0\n".as_slice());
-    assert_eq!(rt; output.errors.len(), 0);
-    Ok(())
+    assert_output(&rt, &["--version"], "", (0, "chihome 0.1.0\n", ""))
 }
 
 // The task and the options that these arguments name.
@@ -64,23 +59,19 @@ fn options_of_arguments(rt: HostRuntime) -> Result<(), Fail> {
         "--policy",
         "return",
     ];
-    let (task, options) = task_of(&rt, &arguments)?;
-    assert_eq!(rt; task, Task::Race);
     let lock = Options {
         store: StoreKind::Lock,
         attempts: 16,
         policy: Policy::Return,
         workers: Workers::Two,
     };
-    assert_eq!(rt; options, lock);
-    let (task, options) = task_of(&rt, &["run"])?;
-    assert_eq!(rt; task, Task::Run);
+    assert_eq!(rt; task_of(&rt, &arguments)?, (Task::Race, lock));
     let book = Options {
         store: StoreKind::Book,
         attempts: 4,
         policy: Policy::Resend,
         workers: Workers::Two,
     };
-    assert_eq!(rt; options, book);
+    assert_eq!(rt; task_of(&rt, &["run"])?, (Task::Run, book));
     Ok(())
 }

@@ -1,19 +1,8 @@
 //! Regions of more than one line.
 
-use super::{assert_script_refused, run_on};
-use chi_engine::{EngineFault, Options, StoreKind, Workers, engine_race, engine_run};
-use chi_history::{NoGate, OpenFault};
-use chi_requester::Policy;
+use super::assert_output;
 use std::alloc::AllocError;
-use std::process::Abort;
 use std::test::Fail;
-
-const LOCK: Options = Options {
-    store: StoreKind::Lock,
-    attempts: 4,
-    policy: Policy::Resend,
-    workers: Workers::Two,
-};
 
 // Adds of 1 to the last granule of 512, and to the one after it.
 const LAST_AND_NEXT: &str =
@@ -43,35 +32,18 @@ fn region_of_512_granules(rt: HostRuntime) -> Result<(), Fail> {
     let want = last_and_next_told(&rt)?;
     assert_eq!(rt; want.len(), LAST_AND_NEXT_LINES.len() + 18_432);
     for arguments in [["run"].as_slice(), ["race"].as_slice()] {
-        let output = run_on(&rt, arguments, LAST_AND_NEXT)?;
-        assert_eq!(rt; output.status, 0);
-        assert_eq!(rt; output.out.as_slice(), want.as_bytes());
-        assert_eq!(rt; output.errors.len(), 0);
+        assert_output(&rt, arguments, LAST_AND_NEXT, (0, want.as_str(), ""))?;
     }
     Ok(())
 }
 
-// The store was refused for its region, and nothing was written.
-fn assert_not_one_line(rt: &impl Abort, outcome: Result<(), EngineFault>, written: &[u8]) {
-    match outcome {
-        Err(EngineFault::Open(fault)) => assert_eq!(rt; fault, OpenFault::NotOneLine),
-        _ => panic!(rt; "opened"),
-    }
-    assert_eq!(rt; written.len(), 0);
-}
-
+// The store is refused for its region, and nothing is written.
 #[test]
 fn region_of_512_granules_over_the_lock(rt: HostRuntime) -> Result<(), Fail> {
     for text in [NINE_GRANULES, LAST_AND_NEXT] {
-        let mut to: Vec<u8> = Vec::new(rt.alloc());
-        let outcome = engine_run(&rt, &mut text.as_bytes(), &mut to, &LOCK);
-        assert_not_one_line(&rt, outcome, to.as_slice());
-        let (mut from, gate) = (text.as_bytes(), NoGate);
-        let outcome = engine_race(&rt, &mut from, &mut to, &LOCK, gate, gate, gate, gate);
-        assert_not_one_line(&rt, outcome, to.as_slice());
         for task in ["run", "race"] {
-            let arguments = [task, "--store", "lock"];
-            assert_script_refused(&rt, &arguments, text, "chihome: region is over one line\n")?;
+            let fault = "chihome: region is over one line\n";
+            assert_output(&rt, &[task, "--store", "lock"], text, (3, "", fault))?;
         }
     }
     Ok(())

@@ -1,7 +1,7 @@
 //! Two and four workers by the arguments of the command line.
 
 use super::arguments_tests::task_of;
-use super::{assert_arguments_refused, assert_script_refused, assert_transcript};
+use super::{assert_arguments_refused, assert_output};
 use crate::command::Task;
 use chi_engine::{Options, StoreKind, Workers};
 use chi_requester::Policy;
@@ -39,7 +39,7 @@ fn race_of_five_requesters_by_arguments(rt: HostRuntime) -> Result<(), Fail> {
         ["race", "--workers", "4"].as_slice(),
         ["race", "--workers", "4", "--store", "lock"].as_slice(),
     ] {
-        assert_transcript(&rt, arguments, FIVE_REQUESTERS, FIVE_TRANSCRIPT)?;
+        assert_output(&rt, arguments, FIVE_REQUESTERS, (0, FIVE_TRANSCRIPT, ""))?;
     }
     Ok(())
 }
@@ -51,13 +51,13 @@ fn requester_over_the_workers(rt: HostRuntime) -> Result<(), Fail> {
         ["race", "--workers", "2"].as_slice(),
         ["race", "--workers", "2", "--store", "lock"].as_slice(),
     ] {
-        assert_script_refused(&rt, arguments, BY_THREE, SRC_REFUSED)?;
+        assert_output(&rt, arguments, BY_THREE, (3, "", SRC_REFUSED))?;
     }
     for arguments in [
         ["race", "--workers", "4"].as_slice(),
         ["race", "--workers", "4", "--store", "lock"].as_slice(),
     ] {
-        assert_script_refused(&rt, arguments, BY_FIVE, SRC_REFUSED)?;
+        assert_output(&rt, arguments, BY_FIVE, (3, "", SRC_REFUSED))?;
     }
     Ok(())
 }
