@@ -1,16 +1,14 @@
 //! Each growth refused in turn in a race.
 
-ghost use Rattle.std.specs.Prelude.{◌≡◌, ◌≤◌};
+ghost use Rattle.std.specs.Prelude.{◌≡◌};
 ghost use Rattle.chi_history.specs.NumberSets.{below};
 
 use crate::additions::additions;
-use crate::growth_tests::{add, in_turn};
+use crate::growth_tests::{Call, call_in_turn};
+use crate::growth_work_tests::add;
 use crate::refusing_allocator::Refusing;
-use chi_bookstore::BookStore;
-use chi_fields::Region;
 use chi_history::{Home, Line, NoGate};
 use chi_lanes::Reply;
-use chi_lockstore::LockStore;
 use chi_requester::{Policy, Race, race_two};
 use std::process::Abort;
 use std::sync::Wait;
@@ -22,35 +20,69 @@ pub(crate) const STORE_ADD: u8 = 0x28;
 // How many requests each requester has.
 pub(crate) const EACH: u8 = 10;
 
-// Asserts that the lines report the first of a requester's additions, in order of their identifiers, each completed once, at
-// most after a RetryAck. Answers how many they are.
-pub(crate) fn assert_told<T: Abort>(rt: &T, src: u8, lines: &[Line]) -> u8 {
+// How many of a requester's additions the lines report: the first of them, in order of their identifiers, each
+// completed once, at most after a RetryAck.
+fn reported(src: u8, lines: &[Line]) -> Option<u8> {
     let mut done = 0u8;
     let mut is_retried = false;
     for line in lines {
-        assert!(rt; done < EACH);
-        let next = add(STORE_ADD, src, done + 1);
-        match line {
-            Line::Completed(request, reply) => {
-                assert_eq!(rt; *request, next);
-                assert_eq!(rt; *reply, Reply::Comp);
-                done += 1;
-                is_retried = false;
-            }
-            Line::Retried(request) => {
-                assert!(rt; !is_retried);
-                assert_eq!(rt; *request, next);
-                is_retried = true;
-            }
-            Line::Refused(_, _) => panic!(rt; "a request was refused"),
+        let next = add(STORE_ADD, src, done.saturating_add(1));
+        if *line == Line::Completed(next, Reply::Comp) {
+            done = done.saturating_add(1);
+            is_retried = false;
+        } else if *line == Line::Retried(next) && !is_retried {
+            is_retried = true;
+        } else {
+            return None;
         }
     }
-    assert!(rt; !is_retried);
-    done
+    if is_retried || done > EACH {
+        return None;
+    }
+    Some(done)
+}
+
+// Asserts that the lines report the first of a requester's additions, and answers how many they are.
+pub(crate) fn assert_told<T: Abort>(rt: &T, src: u8, lines: &[Line]) -> u8 {
+    reported(src, lines).expect(rt, "the lines report the first additions")
+}
+
+// Asserts that the words are the sum of the additions that the lines report, that 0 has no line, that the seat holds
+// all, and that a growth was refused unless all were done.
+pub(crate) fn assert_sum<H: Home, T: Abort + Wait>(
+    rt: &T,
+    home: &H,
+    seat: &mut H::Seat,
+    done: &[u8],
+    zero: &[Line],
+    is_ok: bool,
+    has_refused: bool,
+)
+    requires own { H.belongs home.now seat.old }
+    requires all { H.held seat.old ≡ below (H.opening home.now).requesters }
+    requires line { (H.opening home.now).region.granules ≡ 8 }
+{
+    let sum = done
+        .iter()
+        .fold(0u64, |sum, done| sum.saturating_add(u64::from(*done)));
+    let holds_all = home.holds_all(seat);
+    let mut words = [0; 8];
+    home.snapshot(rt, seat, &mut words);
+    assert_eq!(rt;
+        (words, zero.len(), holds_all),
+        ([sum, 0, 0, 0, 0, 0, 0, 0], 0, true)
+    );
+    assert!(rt;
+        if is_ok {
+            done.iter().all(|done| *done == EACH)
+        } else {
+            has_refused
+        }
+    );
 }
 
 // Races the additions, and answers whether a growth was refused.
-fn race_ten<H: Home + Sync, T: AllocGlobal + Abort + Threads + Wait + Sync>(
+pub(crate) fn race_ten<H: Home + Sync, T: AllocGlobal + Abort + Threads + Wait + Sync>(
     rt: &T,
     home: &H,
     seat: &mut H::Seat,
@@ -58,7 +90,7 @@ fn race_ten<H: Home + Sync, T: AllocGlobal + Abort + Threads + Wait + Sync>(
 ) -> Result<bool, Fail>
     requires own { H.belongs home.now seat.old }
     requires all { H.held seat.old ≡ below (H.opening home.now).requesters }
-    requires three { 3 ≤ (H.opening home.now).requesters }
+    requires eight { (H.opening home.now).requesters ≡ 8 }
     requires line { (H.opening home.now).region.granules ≡ 8 }
 {
     let script = additions(rt, STORE_ADD, &[1, 2], u16::from(EACH), 2)?;
@@ -74,43 +106,17 @@ fn race_ten<H: Home + Sync, T: AllocGlobal + Abort + Threads + Wait + Sync>(
         NoGate,
         &mut race,
     );
-    assert!(rt; outcome.is_ok() || alloc.has_refused());
-    let one = assert_told(rt, 1, race.one.as_slice());
-    let two = assert_told(rt, 2, race.two.as_slice());
-    assert_eq!(rt; race.zero.len(), 0);
-    if outcome.is_ok() {
-        assert_eq!(rt; [one, two], [EACH, EACH]);
-    }
-    assert!(rt; home.holds_all(seat));
-    let mut words = [0; 8];
-    home.snapshot(rt, seat, &mut words);
-    assert_eq!(rt;
-        words,
-        [u64::from(one) + u64::from(two), 0, 0, 0, 0, 0, 0, 0]
-    );
-    Ok(alloc.has_refused())
-}
-
-// Races them over the locked store.
-fn race_lock<T: AllocGlobal + Abort + Threads + Wait + Sync>(
-    rt: &T,
-    number: u64,
-) -> Result<bool, Fail> {
-    let (home, mut seat) = LockStore::open(rt.alloc(), Region::new(0x1000, 8)?, 8, &[0; 8])?;
-    race_ten(rt, &home, &mut seat, number)
-}
-
-// Races them over the lock-free store.
-fn race_book<T: AllocGlobal + Abort + Threads + Wait + Sync>(
-    rt: &T,
-    number: u64,
-) -> Result<bool, Fail> {
-    let (home, mut seat) = BookStore::open(rt.alloc(), Region::new(0x1000, 8)?, 8, 4, &[0; 8])?;
-    race_ten(rt, &home, &mut seat, number)
+    let done = [
+        assert_told(rt, 1, race.one.as_slice()),
+        assert_told(rt, 2, race.two.as_slice()),
+    ];
+    let zero = race.zero.as_slice();
+    let has_refused = alloc.has_refused();
+    assert_sum(rt, home, seat, &done, zero, outcome.is_ok(), has_refused);
+    Ok(has_refused)
 }
 
 #[test]
 fn growth_refused_in_race(rt: HostRuntime) -> Result<(), Fail> {
-    in_turn(&rt, |number| race_lock(&rt, number))?;
-    in_turn(&rt, |number| race_book(&rt, number))
+    call_in_turn(&rt, Call::RaceOfTwo)
 }

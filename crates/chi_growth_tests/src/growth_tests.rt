@@ -1,52 +1,37 @@
-//! Each growth refused in turn: in the opening of a store, in work and in serial work.
+//! Each growth refused in turn: in the opening of a store, and in each call on one.
 
-ghost use Rattle.std.specs.Prelude.{◌≡◌, ◌≤◌};
+ghost use Rattle.std.specs.Prelude.{◌≡◌};
 ghost use Rattle.chi_history.specs.NumberSets.{below};
 
+use crate::growth_four_tests::race_forty;
+use crate::growth_list_tests::add_forty;
+use crate::growth_race_tests::race_ten;
+use crate::growth_work_tests::{add_three, add_three_serially};
 use crate::refusing_allocator::Refusing;
 use chi_bookstore::BookStore;
-use chi_fields::{Region, Request};
-use chi_history::{Home, Line, NoGate, OpenFault};
-use chi_lanes::Reply;
+use chi_fields::Region;
+use chi_history::{Home, OpenFault};
 use chi_lockstore::LockStore;
-use chi_requester::{Policy, WorkFault, run_serial, work};
 use std::process::Abort;
 use std::sync::Wait;
 use std::test::Fail;
-
-pub(crate) const FETCH_ADD: u8 = 0x30;
+use std::thread::Threads;
 
 // More runs than any call here has growths.
 const MANY: u64 = 100;
 
-// A data packet with this byte in its first lane.
-fn lanes(first: u8) -> [u8; 16] {
-    let mut lanes = [0; 16];
-    lanes[0] = first;
-    lanes
-}
-
-// An addition of 1 to the first eight bytes.
-pub(crate) fn add(opcode: u8, src: u8, txn: u8) -> Request
-    ensures { result.src ≡ src }
-{
-    Request {
-        src,
-        txn,
-        opcode,
-        size: 3,
-        addr: 0x1000,
-        endian: false,
-        be: 0x00ff,
-        lanes: lanes(1),
-    }
+// The calls on a store in which a growth is refused. `Forty` leaves so many lines.
+#[derive(Clone, Copy)]
+pub(crate) enum Call {
+    Work,
+    Serial,
+    Forty(usize),
+    RaceOfTwo,
+    RaceOfFour,
 }
 
 // Runs with the growth of each number refused, until a run meets no refusal. A run answers whether it met one.
-pub(crate) fn in_turn<T: Abort, F: Fn(u64) -> Result<bool, Fail>>(
-    rt: &T,
-    run: F,
-) -> Result<(), Fail>
+fn in_turn<T: Abort, F: Fn(u64) -> Result<bool, Fail>>(rt: &T, run: F) -> Result<(), Fail>
     requires run { F.IsAlwaysCallable run }
 {
     for number in 1..MANY {
@@ -64,11 +49,15 @@ fn assert_opened<H: Home, T: Abort + Wait>(rt: &T, home: &H, seat: &mut H::Seat)
     requires all { H.held seat.old ≡ below (H.opening home.now).requesters }
     requires line { (H.opening home.now).region.granules ≡ 8 }
 {
-    assert!(rt; home.holds_all(seat));
-    assert_eq!(rt; home.requesters(), 8);
+    let (holds_all, requesters) = (home.holds_all(seat), home.requesters());
     let mut words = [1; 8];
     home.snapshot(rt, seat, &mut words);
-    assert_eq!(rt; words, [0; 8]);
+    assert_eq!(rt; (holds_all, requesters, words), (true, 8, [0; 8]));
+}
+
+// Asserts that an opening met no other fault than a growth that was refused.
+fn assert_refused<T: Abort>(rt: &T, fault: OpenFault, has_refused: bool) {
+    assert_eq!(rt; (fault, has_refused), (OpenFault::Memory, true));
 }
 
 // Opens the locked store.
@@ -77,10 +66,7 @@ fn open_lock<T: AllocGlobal + Abort + Wait>(rt: &T, number: u64) -> Result<bool,
     let alloc = Refusing::new(rt.alloc(), number);
     match LockStore::open(&alloc, region, 8, &[0; 8]) {
         Ok((home, mut seat)) => assert_opened(rt, &home, &mut seat),
-        Err(fault) => {
-            assert_eq!(rt; fault, OpenFault::Memory);
-            assert!(rt; alloc.has_refused());
-        }
+        Err(fault) => assert_refused(rt, fault, alloc.has_refused()),
     }
     Ok(alloc.has_refused())
 }
@@ -91,10 +77,7 @@ fn open_book<T: AllocGlobal + Abort + Wait>(rt: &T, number: u64) -> Result<bool,
     let alloc = Refusing::new(rt.alloc(), number);
     match BookStore::open(&alloc, region, 8, 4, &[0; 8]) {
         Ok((home, mut seat)) => assert_opened(rt, &home, &mut seat),
-        Err(fault) => {
-            assert_eq!(rt; fault, OpenFault::Memory);
-            assert!(rt; alloc.has_refused());
-        }
+        Err(fault) => assert_refused(rt, fault, alloc.has_refused()),
     }
     Ok(alloc.has_refused())
 }
@@ -105,118 +88,55 @@ fn growth_refused_in_opening(rt: HostRuntime) -> Result<(), Fail> {
     in_turn(&rt, |number| open_book(&rt, number))
 }
 
-// Asserts that the lines are the first of those of three fetch-adds, that as many were done, and that the seat holds all.
-fn assert_first<H: Home, T: Abort + Wait>(
+// Makes the call with the growth of this number refused, and answers whether there was one.
+fn call_on<H: Home + Sync, T: AllocGlobal + Abort + Threads + Wait + Sync>(
     rt: &T,
     home: &H,
     seat: &mut H::Seat,
-    outcome: Result<(), WorkFault>,
-    lines: &[Line],
-)
+    call: Call,
+    number: u64,
+) -> Result<bool, Fail>
     requires own { H.belongs home.now seat.old }
     requires all { H.held seat.old ≡ below (H.opening home.now).requesters }
+    requires eight { (H.opening home.now).requesters ≡ 8 }
     requires line { (H.opening home.now).region.granules ≡ 8 }
 {
-    let done = |data: u8| Line::Completed(add(FETCH_ADD, 0, 1), Reply::CompData(lanes(data)));
-    let full = [done(0), done(1), done(2)];
-    assert!(rt; lines.len() <= 3);
-    assert_eq!(rt; lines, &full[..lines.len()]);
-    if outcome.is_ok() {
-        assert_eq!(rt; lines.len(), 3);
+    match call {
+        Call::Work => Ok(add_three(rt, home, seat, number)),
+        Call::Serial => Ok(add_three_serially(rt, home, seat, number)),
+        Call::Forty(count) => add_forty(rt, home, seat, number, count),
+        Call::RaceOfTwo => race_ten(rt, home, seat, number),
+        Call::RaceOfFour => race_forty(rt, home, seat, number),
     }
-    assert!(rt; home.holds_all(seat));
-    let mut words = [0; 8];
-    home.snapshot(rt, seat, &mut words);
-    assert_eq!(rt; words, [lines.len() as u64, 0, 0, 0, 0, 0, 0, 0]);
 }
 
-// Executes three fetch-adds by requester 0.
-fn work_three<H: Home, T: AllocGlobal + Abort + Wait>(
+// Makes the call on a locked store.
+pub(crate) fn call_on_lock<T: AllocGlobal + Abort + Threads + Wait + Sync>(
     rt: &T,
-    home: &H,
-    seat: &mut H::Seat,
+    call: Call,
     number: u64,
-) -> bool
-    requires own { H.belongs home.now seat.old }
-    requires all { H.held seat.old ≡ below (H.opening home.now).requesters }
-    requires one { 1 ≤ (H.opening home.now).requesters }
-    requires line { (H.opening home.now).region.granules ≡ 8 }
-{
-    let requests = [add(FETCH_ADD, 0, 1); 3];
-    let alloc = Refusing::new(rt.alloc(), number);
-    let mut lines = Vec::new(&alloc);
-    let outcome = work(
-        home,
-        rt,
-        seat,
-        0,
-        &requests,
-        Policy::Resend,
-        &mut NoGate,
-        &mut lines,
-    );
-    assert!(rt; outcome.is_ok() || alloc.has_refused());
-    assert_first(rt, home, seat, outcome, lines.as_slice());
-    alloc.has_refused()
+) -> Result<bool, Fail> {
+    let region = Region::new(0x1000, 8)?;
+    let (home, mut seat) = LockStore::open(rt.alloc(), region, 8, &[0; 8])?;
+    call_on(rt, &home, &mut seat, call, number)
 }
 
-// Executes them over the locked store.
-fn work_lock<T: AllocGlobal + Abort + Wait>(rt: &T, number: u64) -> Result<bool, Fail> {
-    let (home, mut seat) = LockStore::open(rt.alloc(), Region::new(0x1000, 8)?, 8, &[0; 8])?;
-    Ok(work_three(rt, &home, &mut seat, number))
-}
-
-// Executes them over the lock-free store.
-fn work_book<T: AllocGlobal + Abort + Wait>(rt: &T, number: u64) -> Result<bool, Fail> {
-    let (home, mut seat) = BookStore::open(rt.alloc(), Region::new(0x1000, 8)?, 8, 4, &[0; 8])?;
-    Ok(work_three(rt, &home, &mut seat, number))
-}
-
-#[test]
-fn growth_refused_in_work(rt: HostRuntime) -> Result<(), Fail> {
-    in_turn(&rt, |number| work_lock(&rt, number))?;
-    in_turn(&rt, |number| work_book(&rt, number))
-}
-
-// Executes three fetch-adds one after another.
-fn serve_three<H: Home, T: AllocGlobal + Abort + Wait>(
+// Makes the call on a lock-free store.
+pub(crate) fn call_on_book<T: AllocGlobal + Abort + Threads + Wait + Sync>(
     rt: &T,
-    home: &H,
-    seat: &mut H::Seat,
+    call: Call,
     number: u64,
-) -> bool
-    requires own { H.belongs home.now seat.old }
-    requires all { H.held seat.old ≡ below (H.opening home.now).requesters }
-    requires one { 1 ≤ (H.opening home.now).requesters }
-    requires line { (H.opening home.now).region.granules ≡ 8 }
-{
-    let requests = [
-        add(FETCH_ADD, 0, 1),
-        add(FETCH_ADD, 0, 1),
-        add(FETCH_ADD, 0, 1),
-    ];
-    let alloc = Refusing::new(rt.alloc(), number);
-    let mut lines = Vec::new(&alloc);
-    let outcome = run_serial(home, rt, seat, &requests, Policy::Resend, &mut lines);
-    assert!(rt; outcome.is_ok() || alloc.has_refused());
-    assert_first(rt, home, seat, outcome, lines.as_slice());
-    alloc.has_refused()
+) -> Result<bool, Fail> {
+    let region = Region::new(0x1000, 8)?;
+    let (home, mut seat) = BookStore::open(rt.alloc(), region, 8, 4, &[0; 8])?;
+    call_on(rt, &home, &mut seat, call, number)
 }
 
-// Executes them over the locked store.
-fn serial_lock<T: AllocGlobal + Abort + Wait>(rt: &T, number: u64) -> Result<bool, Fail> {
-    let (home, mut seat) = LockStore::open(rt.alloc(), Region::new(0x1000, 8)?, 8, &[0; 8])?;
-    Ok(serve_three(rt, &home, &mut seat, number))
-}
-
-// Executes them over the lock-free store.
-fn serial_book<T: AllocGlobal + Abort + Wait>(rt: &T, number: u64) -> Result<bool, Fail> {
-    let (home, mut seat) = BookStore::open(rt.alloc(), Region::new(0x1000, 8)?, 8, 4, &[0; 8])?;
-    Ok(serve_three(rt, &home, &mut seat, number))
-}
-
-#[test]
-fn growth_refused_in_serial(rt: HostRuntime) -> Result<(), Fail> {
-    in_turn(&rt, |number| serial_lock(&rt, number))?;
-    in_turn(&rt, |number| serial_book(&rt, number))
+// Makes the call on a store of each kind with each growth refused in turn.
+pub(crate) fn call_in_turn<T: AllocGlobal + Abort + Threads + Wait + Sync>(
+    rt: &T,
+    call: Call,
+) -> Result<(), Fail> {
+    in_turn(rt, |number| call_on_lock(rt, call, number))?;
+    in_turn(rt, |number| call_on_book(rt, call, number))
 }

@@ -12,4 +12,6 @@ mod growth_race_tests;
 #[cfg(test)]
 mod growth_tests;
 #[cfg(test)]
+mod growth_work_tests;
+#[cfg(test)]
 mod refusing_allocator;

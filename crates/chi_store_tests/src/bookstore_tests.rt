@@ -97,18 +97,36 @@ fn nine_operations_on_one_byte(rt: HostRuntime) -> Result<(), Fail> {
     Ok(())
 }
 
+// The fault of an opening.
+fn fault_of<T: AllocGlobal>(
+    rt: &T,
+    region: Region,
+    requesters: u8,
+    attempts: u8,
+) -> Option<OpenFault>
+    requires { region.granules ≡ 8 }
+{
+    BookStore::open(rt.alloc(), region, requesters, attempts, &[0; 8]).err()
+}
+
 #[test]
 fn open_refusals(rt: HostRuntime) -> Result<(), Fail> {
     let region = Region::new(0x1000, 8)?;
-    for (requesters, attempts, fault) in [
-        (9, 0, OpenFault::RequesterCount),
-        (0, 4, OpenFault::RequesterCount),
-        (8, 0, OpenFault::AttemptCount),
-        (8, 17, OpenFault::AttemptCount),
-    ] {
-        let opened = BookStore::open(rt.alloc(), region, requesters, attempts, &[0; 8]);
-        assert_eq!(rt; opened.err(), Some(fault), "{requesters} and {attempts}");
-    }
+    let faults = [
+        fault_of(&rt, region, 9, 0),
+        fault_of(&rt, region, 0, 4),
+        fault_of(&rt, region, 8, 0),
+        fault_of(&rt, region, 8, 17),
+    ];
+    assert_eq!(rt;
+        faults,
+        [
+            Some(OpenFault::RequesterCount),
+            Some(OpenFault::RequesterCount),
+            Some(OpenFault::AttemptCount),
+            Some(OpenFault::AttemptCount)
+        ]
+    );
     let (home, seat) = BookStore::open(rt.alloc(), region, 8, 16, &[0; 8])?;
     assert_eq!(rt;
         (

@@ -6,11 +6,17 @@ mod additions;
 #[cfg(test)]
 mod bookstore_tests;
 #[cfg(test)]
+mod both_stores;
+#[cfg(test)]
 mod four_workers_tests;
 #[cfg(test)]
 mod home_tests;
 #[cfg(test)]
 mod interference_tests;
+#[cfg(test)]
+mod interference_work_tests;
+#[cfg(test)]
+mod interferer;
 #[cfg(test)]
 mod lockstore_tests;
 #[cfg(test)]

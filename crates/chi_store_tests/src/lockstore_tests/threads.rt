@@ -68,16 +68,25 @@ fn serve_in_two_threads<H: Home + Sync, R: Abort + Wait + Threads + Sync>(
     )
 }
 
+// The words after a seat of its own for requester 1 has served beside the rest.
+fn words_after<H: Home + Sync, R: Abort + Wait + Threads + Sync>(
+    rt: &R,
+    home: &H,
+    mut zero: H::Seat,
+) -> [u64; 8]
+    requires { H.belongs home.now zero }
+{
+    assert!(rt; home.holds(&zero, 1));
+    let one = home.split(rt, &mut zero, 1);
+    let (mut zero, one) = serve_in_two_threads(rt, home, zero, one);
+    home.rejoin(rt, &mut zero, one);
+    words_of(rt, home, &mut zero)
+}
+
 #[test]
 fn two_threads_serve(rt: HostRuntime) -> Result<(), Fail> {
-    let (store, mut zero) = LockStore::open(rt.alloc(), Region::new(0x1000, 8)?, 2, &[0; 8])?;
-    assert!(rt; store.holds(&zero, 1));
-    let one = store.split(&rt, &mut zero, 1);
-    let (mut zero, one) = serve_in_two_threads(&rt, &store, zero, one);
-    store.rejoin(&rt, &mut zero, one);
-    assert_eq!(rt;
-        words_of(&rt, &store, &mut zero),
-        [200, 0, 200, 0, 201, 0, 0, 0]
-    );
+    let (store, seat) = LockStore::open(rt.alloc(), Region::new(0x1000, 8)?, 2, &[0; 8])?;
+    let words = words_after(&rt, &store, seat);
+    assert_eq!(rt; words, [200, 0, 200, 0, 201, 0, 0, 0]);
     Ok(())
 }

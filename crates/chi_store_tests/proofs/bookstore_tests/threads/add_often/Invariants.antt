@@ -2,7 +2,7 @@
 use Rattle.std.proofs.Common.{◌≡◌}
 use Rattle.chi_history.specs.Views.{has}
 use Rattle.chi_bookstore.specs.BookSeats.{IsSeatOf}
-use Rattle.chi_store_tests.proofs.bookstore_tests.threads.work.Given as goal
+use Rattle.chi_store_tests.proofs.bookstore_tests.threads.add_often.Given as goal
 
 abbrev pub invariant-loop : goal.invariant-loop
 invariant-loop l = record {

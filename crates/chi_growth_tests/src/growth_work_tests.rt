@@ -1,0 +1,150 @@
+//! Each growth refused in turn in work and in serial work.
+
+ghost use Rattle.std.specs.Prelude.{◌≡◌};
+ghost use Rattle.chi_history.specs.NumberSets.{below};
+
+use crate::growth_tests::{Call, call_in_turn};
+use crate::refusing_allocator::Refusing;
+use chi_fields::Request;
+use chi_history::{Home, Line, NoGate};
+use chi_lanes::Reply;
+use chi_requester::{Policy, run_serial, work};
+use std::process::Abort;
+use std::sync::Wait;
+use std::test::Fail;
+
+pub(crate) const FETCH_ADD: u8 = 0x30;
+
+// A data packet with this byte in its first lane.
+pub(crate) fn lanes(first: u8) -> [u8; 16] {
+    let mut lanes = [0; 16];
+    lanes[0] = first;
+    lanes
+}
+
+// An addition of 1 to the first eight bytes.
+pub(crate) fn add(opcode: u8, src: u8, txn: u8) -> Request
+    ensures { result.src ≡ src }
+{
+    Request {
+        src,
+        txn,
+        opcode,
+        size: 3,
+        addr: 0x1000,
+        endian: false,
+        be: 0x00ff,
+        lanes: lanes(1),
+    }
+}
+
+// Asserts that the lines are the first of those of three fetch-adds, that as many were done, that the seat holds all,
+// and that a growth was refused unless all were done.
+fn assert_first<H: Home, T: Abort + Wait>(
+    rt: &T,
+    home: &H,
+    seat: &mut H::Seat,
+    lines: &[Line],
+    is_ok: bool,
+    has_refused: bool,
+)
+    requires own { H.belongs home.now seat.old }
+    requires all { H.held seat.old ≡ below (H.opening home.now).requesters }
+    requires line { (H.opening home.now).region.granules ≡ 8 }
+{
+    let done = |data: u8| Line::Completed(add(FETCH_ADD, 0, 1), Reply::CompData(lanes(data)));
+    let full = [done(0), done(1), done(2)];
+    let holds_all = home.holds_all(seat);
+    let mut words = [0; 8];
+    home.snapshot(rt, seat, &mut words);
+    let count = lines.len();
+    assert_eq!(rt;
+        (lines, holds_all, words),
+        (
+            &full[..count.min(3)],
+            true,
+            [count as u64, 0, 0, 0, 0, 0, 0, 0]
+        )
+    );
+    assert!(rt; if is_ok { count == 3 } else { has_refused });
+}
+
+// Executes three fetch-adds by requester 0, and answers whether a growth was refused.
+pub(crate) fn add_three<H: Home, T: AllocGlobal + Abort + Wait>(
+    rt: &T,
+    home: &H,
+    seat: &mut H::Seat,
+    number: u64,
+) -> bool
+    requires own { H.belongs home.now seat.old }
+    requires all { H.held seat.old ≡ below (H.opening home.now).requesters }
+    requires eight { (H.opening home.now).requesters ≡ 8 }
+    requires line { (H.opening home.now).region.granules ≡ 8 }
+{
+    let requests = [add(FETCH_ADD, 0, 1); 3];
+    let alloc = Refusing::new(rt.alloc(), number);
+    let mut lines = Vec::new(&alloc);
+    let policy = Policy::Resend;
+    let outcome = work(
+        home,
+        rt,
+        seat,
+        0,
+        &requests,
+        policy,
+        &mut NoGate,
+        &mut lines,
+    );
+    let has_refused = alloc.has_refused();
+    assert_first(
+        rt,
+        home,
+        seat,
+        lines.as_slice(),
+        outcome.is_ok(),
+        has_refused,
+    );
+    has_refused
+}
+
+// Executes three fetch-adds one after another, and answers whether a growth was refused.
+pub(crate) fn add_three_serially<H: Home, T: AllocGlobal + Abort + Wait>(
+    rt: &T,
+    home: &H,
+    seat: &mut H::Seat,
+    number: u64,
+) -> bool
+    requires own { H.belongs home.now seat.old }
+    requires all { H.held seat.old ≡ below (H.opening home.now).requesters }
+    requires eight { (H.opening home.now).requesters ≡ 8 }
+    requires line { (H.opening home.now).region.granules ≡ 8 }
+{
+    let requests = [
+        add(FETCH_ADD, 0, 1),
+        add(FETCH_ADD, 0, 1),
+        add(FETCH_ADD, 0, 1),
+    ];
+    let alloc = Refusing::new(rt.alloc(), number);
+    let mut lines = Vec::new(&alloc);
+    let outcome = run_serial(home, rt, seat, &requests, Policy::Resend, &mut lines);
+    let has_refused = alloc.has_refused();
+    assert_first(
+        rt,
+        home,
+        seat,
+        lines.as_slice(),
+        outcome.is_ok(),
+        has_refused,
+    );
+    has_refused
+}
+
+#[test]
+fn growth_refused_in_work(rt: HostRuntime) -> Result<(), Fail> {
+    call_in_turn(&rt, Call::Work)
+}
+
+#[test]
+fn growth_refused_in_serial(rt: HostRuntime) -> Result<(), Fail> {
+    call_in_turn(&rt, Call::Serial)
+}

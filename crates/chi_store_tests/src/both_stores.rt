@@ -1,0 +1,68 @@
+//! Both stores, on each of which one of the generic calls of the tests is made.
+
+ghost use Rattle.std.specs.Prelude.{◌≡◌};
+ghost use Rattle.chi_history.specs.NumberSets.{below};
+
+use crate::four_workers_tests::assert_four_add;
+use crate::home_tests::{assert_callers, assert_own_lines};
+use crate::opening_tests::assert_begins;
+use crate::work_tests::{assert_adds, assert_other_skipped, assert_two_bytes_written};
+use chi_bookstore::BookStore;
+use chi_fields::Region;
+use chi_history::Home;
+use chi_lockstore::LockStore;
+use std::process::Abort;
+use std::sync::Wait;
+use std::test::Fail;
+use std::thread::Threads;
+
+// The calls, by the functions that make them.
+#[derive(Clone, Copy)]
+pub(crate) enum Call {
+    Callers,
+    OwnLines,
+    Begins,
+    OtherSkipped,
+    TwoBytes,
+    TwoWorkers,
+    FourWorkers,
+}
+
+// Makes the call on a home that was just opened.
+fn call_on<H: Home + Sync, T: AllocGlobal + Abort + Threads + Wait + Sync>(
+    rt: &T,
+    home: &H,
+    seat: &mut H::Seat,
+    call: Call,
+) -> Result<(), Fail>
+    requires own { H.belongs home.now seat.old }
+    requires all { H.held seat.old ≡ below (H.opening home.now).requesters }
+    requires eight { (H.opening home.now).requesters ≡ 8 }
+    requires line { (H.opening home.now).region.granules ≡ 8 }
+{
+    match call {
+        Call::Callers => assert_callers(rt, home, seat),
+        Call::OwnLines => assert_own_lines(rt, home, seat),
+        Call::Begins => assert_begins(rt, home, seat),
+        Call::OtherSkipped => assert_other_skipped(rt, home, seat),
+        Call::TwoBytes => assert_two_bytes_written(rt, home, seat),
+        Call::TwoWorkers => assert_adds(rt, home, seat)?,
+        Call::FourWorkers => assert_four_add(rt, home, seat)?,
+    }
+    Ok(())
+}
+
+// Makes the call on each store, of eight requesters and opened on this image.
+pub(crate) fn call_on_both<T: AllocGlobal + Abort + Threads + Wait + Sync>(
+    rt: &T,
+    image: &[u64; 8],
+    call: Call,
+) -> Result<(), Fail> {
+    let region = Region::new(0x1000, 8)?;
+    {
+        let (home, mut seat) = LockStore::open(rt.alloc(), region, 8, image)?;
+        call_on(rt, &home, &mut seat, call)?;
+    }
+    let (home, mut seat) = BookStore::open(rt.alloc(), region, 8, 4, image)?;
+    call_on(rt, &home, &mut seat, call)
+}
