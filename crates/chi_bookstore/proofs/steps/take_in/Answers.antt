@@ -14,3 +14,6 @@ pub load-requires : goal.load-requires
 load-requires g c =
     let t = c.args.table.now.shared in
     (search rules, c.requires.some, book_settles t.key t.table_id.slots c.join_seat.new.seat.id c.join_seat.new.seat.me (λ i. (c.join_seat.ensures.2 i).0.live))
+
+pub returns-clause-settled : goal.returns-clause-settled
+returns-clause-settled g c = search rules steps 3000000

@@ -31,3 +31,6 @@ loop-granule-preserved g c =
       shown = one_more c.loop-granule.words at (bit_xor found (slice_index c.image-image.result.now at)) (λ k. word (end o v.seen) o.region k)
           (search rules) c.loop-granule.invariant.shown (ap (λ (xs : List ℕ). bit_xor found (slice_index xs at)) c.image-image.ensures ∙ is);
     }
+
+pub returns-clause-shown : goal.returns-clause-shown
+returns-clause-shown g c = search rules steps 1500000

@@ -1,5 +1,5 @@
 -- The seat without the number, and the seat of the number alone.
-use Rattle.std.proofs.Common.{◌≡◌, ◌∙◌, ℕ, List}
+use Rattle.std.proofs.Common.{rules, ◌≡◌, ◌∙◌, ℕ, List}
 use Rattle.chi_history.specs.declared.opening.Opening.{Opening}
 use Rattle.chi_history.specs.declared.view.View.{View}
 use Rattle.chi_history.proofs.SeatLemmas.{seat_alone, seat_rest}
@@ -23,3 +23,6 @@ returns-clause-own g c =
         opening = seat_alone o numbers c.only-alone.result v src c.give-table_seat.result.me.0 own.opening c.requires.holds c.only-alone.ensures (λ i. (c.give-table_seat.ensures.alone i).0);
       },
     )
+
+pub returns-clause-rest : goal.returns-clause-rest
+returns-clause-rest g c = search rules steps 500000

@@ -1,5 +1,5 @@
 -- The seat without the number, and the seat of it, are of the opening.
-use Rattle.std.proofs.Common.{ℕ, List, ◌∙◌}
+use Rattle.std.proofs.Common.{rules, ℕ, List, ◌∙◌}
 use Rattle.crossbeam_utils.specs.Seq.{cell_view}
 use Rattle.chi_history.specs.declared.opening.Opening.{Opening}
 use Rattle.chi_history.specs.declared.view.View.{View}
@@ -20,3 +20,6 @@ returns-clause-own g c =
         seat_alone o numbers c.only-alone.result v c.args.src (cell_view c.give-pass.result) c.requires.own.1 c.requires.holds c.only-alone.ensures c.give-pass.ensures.alone,
       ),
     )
+
+pub returns-clause-rest : goal.returns-clause-rest
+returns-clause-rest g c = search rules steps 3000000
