@@ -4,7 +4,7 @@
 //   FAULT_THREADS=1  no thread can be started
 //   FAULT_READ=N     the N-th read of standard input fails
 //   FAULT_WRITE=N    the N-th write of standard output fails
-//   FAULT_BYTES=1    each of these takes or gives one byte
+//   FAULT_BYTES=1    each read gives one byte, and each write takes one; =2: each write alone
 //   FAULT_MET=FILE   made where a call was made to fail
 #define _GNU_SOURCE
 #include <dlfcn.h>
@@ -93,12 +93,12 @@ static int fails(atomic_long *calls, long failed) {
   return 1;
 }
 
-static size_t at_once(size_t count) { return by_bytes && count > 1 ? 1 : count; }
+static size_t at_once(size_t count, int by_one) { return by_one && count > 1 ? 1 : count; }
 
 ssize_t read(int file, void *bytes, size_t count) {
   if (file == STDIN_FILENO) {
     if (fails(&reads, failed_read)) return -1;
-    count = at_once(count);
+    count = at_once(count, by_bytes == 1);
   }
   return syscall(SYS_read, file, bytes, count);
 }
@@ -106,7 +106,7 @@ ssize_t read(int file, void *bytes, size_t count) {
 ssize_t write(int file, const void *bytes, size_t count) {
   if (file == STDOUT_FILENO) {
     if (fails(&writes, failed_write)) return -1;
-    count = at_once(count);
+    count = at_once(count, by_bytes != 0);
   }
   return syscall(SYS_write, file, bytes, count);
 }
