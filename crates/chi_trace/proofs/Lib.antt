@@ -1,0 +1,15 @@
+pub mod Agree
+pub mod Assembly
+pub mod Before
+pub mod CutLaw
+pub mod Cuts
+pub mod Gathering
+pub mod Granules
+pub mod Known
+pub mod Legal
+pub mod Orders
+pub mod Places
+pub mod Projection
+pub mod Steps
+pub mod Weaving
+pub mod Whole

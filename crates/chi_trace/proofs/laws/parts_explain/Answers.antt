@@ -1,0 +1,6 @@
+-- The law is a lemma.
+use Rattle.chi_trace.proofs.Projection.{part_explains}
+use Rattle.chi_trace.proofs.laws.parts_explain.Goals as goal
+
+pub returns : goal.returns
+returns c opening final trace order is_m is explains g = part_explains opening final trace order is_m is explains g

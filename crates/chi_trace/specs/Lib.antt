@@ -1,0 +1,4 @@
+pub mod Explains
+pub mod Cuts
+pub mod Granules
+pub mod TraceLaws

@@ -1,0 +1,28 @@
+//! Laws of traces. Each function does nothing: its contract is the law, for proofs that call it.
+
+ghost use Rattle.chi_trace.specs.TraceLaws.{CutsAreExplained, ExplanationsAreLegal, GranulesExplain, OrdersOfGranulesExplain, PartsExplain};
+
+/// A trace that is explained is so up to each time.
+pub fn cuts_are_explained()
+    ensures { CutsAreExplained }
+{}
+
+/// What explains a trace is a legal history of a home.
+pub fn explanations_are_legal()
+    ensures { ExplanationsAreLegal }
+{}
+
+/// A trace can be explained exactly where each granule's operations can.
+pub fn granules_explain()
+    ensures { GranulesExplain }
+{}
+
+/// Orders of the granules' operations make one of the whole trace.
+pub fn orders_of_granules_explain()
+    ensures { OrdersOfGranulesExplain }
+{}
+
+/// What an order of the whole trace has of a granule explains it.
+pub fn parts_explain()
+    ensures { PartsExplain }
+{}
