@@ -2,6 +2,7 @@ pub mod Answer
 pub mod AnswerText
 pub mod Check
 pub mod CheckStatus
+pub mod Chosen
 pub mod CommandLine
 pub mod Decoded
 pub mod Part

@@ -4,6 +4,7 @@ use Rattle.clap.specs.declared.error.kind.ErrorKind.{ErrorKind}
 use Rattle.clap.specs.Walk.{Text}
 use Rattle.chi_check.specs.Check.{KeepsUnanswered, Outcome}
 use Rattle.chi_check.specs.CheckStatus.{IsAnswerStatus, IsStatusOfArguments, KeepsButForHelp, status_of}
+use Rattle.chi_check.specs.Chosen.{Chooses}
 use Rattle.chi_check.specs.CommandLine.{IsArgumentsFault, IsTaken}
 use Rattle.chi_check.specs.declared.fault.CheckFault.{CheckFault}
 use Rattle.chi_check.specs.declared.options.CheckOptions.{CheckOptions}
@@ -20,9 +21,9 @@ Ends options input old new status =
     (result : Result ℕ CheckFault) × KeepsUnanswered old new result × IfOk result IsAnswerStatus
     × IfSome input (λ bytes. Outcome options bytes old new result) × (status ≡ end_status result)
 
--- the arguments name the task: `clap` finds no fault in them, and it came to its end with some options
+-- the arguments name the task with these options: `clap` finds no fault in them, and it came to its end with them
 abbrev pub DoesTask : List Text → Option (List ℕ) → Option (List ℕ) → Option (List ℕ) → ℕ → Type 0
-DoesTask arguments input old new status = IsTaken arguments × ((options : CheckOptions) × Ends options input old new status)
+DoesTask arguments input old new status = IsTaken arguments × ((options : CheckOptions) × Chooses arguments options × Ends options input old new status)
 
 -- The arguments name no task, for this kind of fault in them. The status is that of the kind, and where the answer goes
 -- only help is written.

@@ -1,10 +1,12 @@
 //! The command line.
 
 ghost use Rattle.std.specs.Prelude.{◌≡◌, ◌-◌, ◌^◌, false, codes, map, string_bytes, IfErr, IfOk};
+ghost use Rattle.clap.specs.Matches.{found_of};
 ghost use Rattle.clap.specs.Simple.{app_of};
 ghost use Rattle.clap.specs.Values.{kind_of};
-ghost use Rattle.clap.specs.Walk.{rule_of};
+ghost use Rattle.clap.specs.Walk.{rows_of, rule_of};
 ghost use Rattle.clap.specs.declared.builder.value_parser.ValueParser.TheVariants as value_parser;
+ghost use Rattle.chi_check.specs.Chosen.{Chooses, IsBudget, has_word};
 ghost use Rattle.chi_check.specs.CommandLine.{IsArgumentsFault, IsTaken, option_rule, program_app, switch_rule, task_app};
 
 use crate::options::CheckOptions;
@@ -88,23 +90,44 @@ fn whole_command<'a>(alloc: Global) -> Result<Command<'a>, Error>
     )
 }
 
+// The value of an option is this word.
+fn has_word(chosen: &ArgMatches<'_>, option: &str, word: &str) -> bool
+    ensures { result ≡ has_word (rows_of (found_of chosen.now)) option.now word.now }
+{
+    match chosen.get_str(option) {
+        Some(text) => text == word,
+        None => false,
+    }
+}
+
+// How many states of each granule are looked at.
+fn chosen_budget(chosen: &ArgMatches<'_>) -> u64
+    ensures { IsBudget (rows_of (found_of chosen.now)) result }
+{
+    chosen.get_one::<u64>("budget").unwrap_or(BUDGET)
+}
+
 // The options that the task was given, or that stand in for them.
-fn chosen_options(chosen: &ArgMatches<'_>) -> CheckOptions {
+fn chosen_options(chosen: &ArgMatches<'_>) -> CheckOptions
+    ensures witness { result.witness ≡ has_word (rows_of (found_of chosen.now)) (codes "witness") (codes "true") }
+    ensures budget { IsBudget (rows_of (found_of chosen.now)) result.budget }
+{
     CheckOptions {
-        witness: chosen.get_flag("witness"),
-        budget: chosen.get_one::<u64>("budget").unwrap_or(BUDGET),
+        witness: has_word(chosen, "witness", "true"),
+        budget: chosen_budget(chosen),
     }
 }
 
 /// Reads the arguments after the program's name: `explain`, and its options.
 ///
-/// Which arguments are refused, and as what, `clap`'s definitions say of the program's command line. Which options the
-/// others name no contract says; tests show it.
+/// Which arguments are refused, and as what, and which options the others name, `clap`'s definitions say of the
+/// program's command line. That `clap` refuses a budget that is no number no contract says; a test shows it.
 ///
 /// ```
 /// let options = options_of(alloc, &arguments)?; // explain --witness --budget 1000
 /// ```
 pub fn options_of(alloc: Global, arguments: &[String]) -> Result<CheckOptions, Error>
+    ensures chosen { IfOk result (λ options. Chooses (map string_bytes arguments.now) options) }
     ensures taken { IfOk result (λ _. IsTaken (map string_bytes arguments.now)) }
     ensures refused { IfErr result (λ error. IsArgumentsFault (map string_bytes arguments.now) (kind_of error)) }
 {

@@ -1,13 +1,16 @@
 -- what the program's command line is to `clap`
-use Rattle.std.proofs.Common.{ap, ap₂, inl, inr, ◌⊎◌, codes, ◌≡◌, ◌∙◌, Bool, true, false, not, ◌&&◌, List, Bor, refl, pos}
+use Rattle.std.proofs.Common.{ap, ap₂, inl, inr, ◌⊎◌, codes, ◌≡◌, ◌∙◌, Bool, true, false, not, ◌&&◌, List, [], ◌∷◌, Option, Some, Bor, refl, sym, pos}
+use Rattle.std.specs.Option.{option_map, unwrap_or}
 use Rattle.clap.specs.Faults.{fault_of, is_simple_and_free}
 use Rattle.clap.specs.Kinds.{IsAmong}
-use Rattle.clap.specs.Simple.{App, new_app, with_rule, with_subcommand}
-use Rattle.clap.specs.Walk.{Rule, Text}
+use Rattle.clap.specs.Simple.{App, built, entered, names_of, new_app, subcommand_of, with_rule, with_subcommand}
+use Rattle.clap.specs.Walk.{Row, Rule, Text, Walk, nothing_held, walk_from}
 use Rattle.clap.specs.declared.error.kind.ErrorKind.{ErrorKind}
 use Rattle.clap.specs.declared.error.kind.ErrorKind.TheVariants as error_kind
 use Rattle.clap.specs.declared.builder.value_parser.ValueParser.TheVariants as value_parser
 use Rattle.clap.proofs.OnLiterals.{clap_on_literals}
+use Rattle.clap.proofs.WalkLemmas.{walk_stopped}
+use Rattle.chi_home.specs.Chosen.{BeginsWith, IsNamedFirst, task_named}
 use Rattle.chi_home.specs.CommandLine.{IsProgram, IsRaceApp, IsTaskApp, IsArgumentsFault, bare_app, option_rule}
 
 -- the third of a row of tests fails
@@ -35,10 +38,31 @@ workers_of words = option_rule (codes "workers") (value_parser.Names words) (cod
 both : App → App → App
 both run race = with_subcommand (with_subcommand bare_app run.top) race.top
 
-simple_whatever : (v w x y z : Bor (List (Bor Text)))
-    → is_simple_and_free (both (task_of (codes "run") (stores_of v) (policies_of w)) (with_rule (task_of (codes "race") (stores_of x) (policies_of y)) (workers_of z))) ≡ true
-unfolding clap_on_literals both task_of
+-- the program, whose options take these words
+program_of : Bor (List (Bor Text)) → Bor (List (Bor Text)) → Bor (List (Bor Text)) → Bor (List (Bor Text)) → Bor (List (Bor Text)) → App
+program_of v w x y z =
+    both (task_of (codes "run") (stores_of v) (policies_of w)) (with_rule (task_of (codes "race") (stores_of x) (policies_of y)) (workers_of z))
+
+simple_whatever : (v w x y z : Bor (List (Bor Text))) → is_simple_and_free (program_of v w x y z) ≡ true
+unfolding clap_on_literals program_of both task_of
 simple_whatever v w x y z = refl
+
+-- the name of the subcommand that the arguments name
+name_found : App → List Text → Option Text
+name_found app arguments = option_map (λ p. p.0) (subcommand_of app arguments)
+
+-- where the walk has met a subcommand it leaves the other arguments to it
+raced_whatever : (v w x y z : Bor (List (Bor Text))) (rest : List Text) → name_found (program_of v w x y z) (codes "race" ∷ rest) ≡ Some (codes "race")
+unfolding clap_on_literals name_found program_of both task_of
+raced_whatever v w x y z rest =
+    let app = built (program_of v w x y z) in
+    ap (λ (end : Walk). option_map (λ p. p.0) (entered app end.stopped)) (sym (walk_stopped app.top.rules (names_of app) (walk_from nothing_held) (codes "race") [] rest))
+
+run_whatever : (v w x y z : Bor (List (Bor Text))) (rest : List Text) → name_found (program_of v w x y z) (codes "run" ∷ rest) ≡ Some (codes "run")
+unfolding clap_on_literals name_found program_of both task_of
+run_whatever v w x y z rest =
+    let app = built (program_of v w x y z) in
+    ap (λ (end : Walk). option_map (λ p. p.0) (entered app end.stopped)) (sym (walk_stopped app.top.rules (names_of app) (walk_from nothing_held) (codes "run") [] rest))
 
 task_is : (name : Text) (app : App) → (t : IsTaskApp name app) → app ≡ task_of name (stores_of t.2.0) (policies_of t.3.0)
 unfolding task_of
@@ -48,12 +72,27 @@ race_is : (app : App) → (t : IsRaceApp app) → app ≡ with_rule (task_of (co
 unfolding task_of
 race_is app t = t.4 ∙ ap₂ with_rule (task_is (codes "race") t.0 t.2) t.3.2
 
+program_is : (app : App) → (p : IsProgram app) → app ≡ program_of p.2.2.0 p.2.3.0 p.3.2.2.0 p.3.2.3.0 p.3.3.0
+unfolding program_of both
+program_is app p = p.4 ∙ ap₂ both (task_is (codes "run") p.0 p.2) (race_is p.1 p.3)
+
 -- `clap` says what it answers to any arguments
 pub program_is_simple : (app : App) → IsProgram app → is_simple_and_free app ≡ true
-unfolding both
-program_is_simple app p =
-    ap is_simple_and_free (p.4 ∙ ap₂ both (task_is (codes "run") p.0 p.2) (race_is p.1 p.3))
-    ∙ simple_whatever p.2.2.0 p.2.3.0 p.3.2.2.0 p.3.2.3.0 p.3.3.0
+program_is_simple app p = ap is_simple_and_free (program_is app p) ∙ simple_whatever p.2.2.0 p.2.3.0 p.3.2.2.0 p.3.2.3.0 p.3.3.0
+
+-- a subcommand that is the first argument is the one that is found
+module _ (app : App) (arguments : List Text) (name : Text) (found : List Row) (p : IsProgram app) (is : subcommand_of app arguments ≡ Some (name, found)) where
+  begins_with : (word : Text) → (begins : BeginsWith arguments word)
+      → name_found (program_of p.2.2.0 p.2.3.0 p.3.2.2.0 p.3.2.3.0 p.3.3.0) (word ∷ begins.0) ≡ Some word → name ≡ word
+  unfolding name_found
+  begins_with word begins first =
+      ap (λ n. unwrap_or n name) (ap (option_map (λ p. p.0)) (sym is) ∙ (ap₂ name_found (program_is app p) begins.1 ∙ first))
+
+  pub named_first : IsNamedFirst arguments (task_named name)
+  named_first = (
+    λ race. ap task_named (begins_with (codes "race") race (raced_whatever p.2.2.0 p.2.3.0 p.3.2.2.0 p.3.2.3.0 p.3.3.0 race.0)),
+    λ run. ap task_named (begins_with (codes "run") run (run_whatever p.2.2.0 p.2.3.0 p.3.2.2.0 p.3.2.3.0 p.3.3.0 run.0)),
+  )
 
 -- what `clap` refuses
 pub arguments_fault : (app : App) (arguments : List Text) (kind : ErrorKind) → IsProgram app

@@ -1,1 +1,3 @@
+pub mod ChosenLemmas
 pub mod CommandLemmas
+pub mod TaskLemmas

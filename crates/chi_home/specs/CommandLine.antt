@@ -1,5 +1,5 @@
 -- the command line of the program, as `clap` reads it
-use Rattle.std.specs.Prelude.{◌≡◌, pos, true, List, [], ◌∷◌, ◌⊎◌, ◌++◌, Some, codes}
+use Rattle.std.specs.Prelude.{◌≡◌, pos, true, List, [], ◌∷◌, ◌⊎◌, Some, codes}
 use Rattle.std.specs.Borrow.{Bor}
 use Rattle.clap.specs.Walk.{Rule, Text, texts}
 use Rattle.clap.specs.Simple.{App, new_app, new_rule, on_top, with_rule, with_subcommand}

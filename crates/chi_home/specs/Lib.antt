@@ -1,3 +1,4 @@
 pub mod ProgramStatus
 pub mod CommandLine
+pub mod Chosen
 pub mod Task

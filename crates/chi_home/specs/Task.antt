@@ -9,6 +9,7 @@ use Rattle.chi_home.specs.declared.command.Task.TheVariants.{Run, Race}
 use Rattle.chi_engine.specs.declared.fault.EngineFault.{EngineFault}
 use Rattle.chi_engine.specs.declared.fault.EngineFault.TheVariants.{Open}
 use Rattle.chi_engine.specs.declared.options.Options.{Options}
+use Rattle.chi_home.specs.Chosen.{Chooses}
 use Rattle.chi_home.specs.CommandLine.{IsTaken, IsArgumentsFault}
 use Rattle.chi_engine.specs.Engine.{KeepsUnexecuted, ReportsOpening}
 use Rattle.chi_engine.specs.RaceTranscript.{RaceOutcome}
@@ -38,11 +39,12 @@ IsUnrefused (Err (Open open_fault.RequesterCount)) = ⊥
 IsUnrefused (Err (Open open_fault.AttemptCount)) = ⊥
 IsUnrefused result = Unit {0}
 
--- The arguments name a task, with 1 to 16 tries: `clap` finds no fault in them. The task came to an outcome of this
--- status, which is never that the store was refused for its requesters or for its tries.
+-- The arguments name this task with these options, of 1 to 16 tries: `clap` finds no fault in them. The task came to an
+-- outcome of this status, which is never that the store was refused for its requesters or for its tries.
 abbrev pub DoesTask : List Text → Option (List ℕ) → Option (List ℕ) → Option (List ℕ) → ℕ → Type 0
 DoesTask arguments input old new status =
-    IsTaken arguments × (task : Task) × (options : Options) × (result : Result (Unit {0}) EngineFault)
+    IsTaken arguments × (task : Task) × (options : Options) × Chooses arguments task options
+    × (result : Result (Unit {0}) EngineFault)
     × IsAttemptCount options.attempts × IsUnrefused result × KeepsUnexecuted old new result
     × IfSome input (λ bytes. TaskOutcome task options bytes old new result) × (status ≡ end_status result)
 

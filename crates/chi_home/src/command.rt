@@ -1,11 +1,13 @@
 //! The command line.
 
 ghost use Rattle.std.specs.Prelude.{◌≡◌, false, map, string_bytes, IfErr, IfOk};
+ghost use Rattle.clap.specs.Matches.{found_of};
 ghost use Rattle.clap.specs.Simple.{app_of};
 ghost use Rattle.clap.specs.Values.{kind_of};
-ghost use Rattle.clap.specs.Walk.{rule_of};
+ghost use Rattle.clap.specs.Walk.{rows_of, rule_of};
 ghost use Rattle.clap.specs.declared.builder.value_parser.ValueParser.TheVariants as value_parser;
 ghost use Rattle.chi_bookstore.specs.BookFaults.{IsAttemptCount};
+ghost use Rattle.chi_home.specs.Chosen.{Chooses, IsNamedFirst, attempts_of, has_word, options_of_task, policy_of, store_of, task_named, workers_of};
 ghost use Rattle.chi_home.specs.CommandLine.{IsProgram, IsRaceApp, IsTaken, IsTaskApp, IsArgumentsFault, option_rule};
 
 use chi_bookstore::MOST_ATTEMPTS;
@@ -144,61 +146,99 @@ fn whole_command<'a>(alloc: Global) -> Result<Command<'a>, Error>
     )
 }
 
-// The options that a subcommand was given, or that stand in for them. `clap` lets no other values through than
-// these.
-fn chosen_options(chosen: &ArgMatches<'_>) -> Options
-    ensures { IsAttemptCount result.attempts }
+// The value of an option is this word.
+fn has_word(chosen: &ArgMatches<'_>, option: &str, word: &str) -> bool
+    ensures { result ≡ has_word (rows_of (found_of chosen.now)) option.now word.now }
 {
-    let store = match chosen.get_str("store") {
-        Some("lock") => StoreKind::Lock,
-        _ => StoreKind::Book,
-    };
-    let policy = match chosen.get_str("policy") {
-        Some("return") => Policy::Return,
-        _ => Policy::Resend,
-    };
-    let attempts = match chosen.get_one::<u8>("attempts") {
-        Some(attempts) if 1 <= attempts && attempts <= MOST_ATTEMPTS => attempts,
-        _ => 4,
-    };
-    Options {
-        store,
-        attempts,
-        policy,
-        workers: Workers::Two,
+    match chosen.get_str(option) {
+        Some(text) => text == word,
+        None => false,
+    }
+}
+
+// The store that a subcommand was given.
+fn chosen_store(chosen: &ArgMatches<'_>) -> StoreKind
+    ensures { result ≡ store_of (rows_of (found_of chosen.now)) }
+{
+    if has_word(chosen, "store", "lock") {
+        StoreKind::Lock
+    } else {
+        StoreKind::Book
+    }
+}
+
+// What requesters do after RetryAck.
+fn chosen_policy(chosen: &ArgMatches<'_>) -> Policy
+    ensures { result ≡ policy_of (rows_of (found_of chosen.now)) }
+{
+    if has_word(chosen, "policy", "return") {
+        Policy::Return
+    } else {
+        Policy::Resend
+    }
+}
+
+// How many tries a request gets. `clap` lets no number through that is not 1 to 16.
+fn chosen_attempts(chosen: &ArgMatches<'_>) -> u8
+    ensures { result ≡ attempts_of (rows_of (found_of chosen.now)) }
+{
+    let attempts = chosen.get_one::<u8>("attempts").unwrap_or(0);
+    if 1 <= attempts && attempts <= MOST_ATTEMPTS {
+        attempts
+    } else {
+        4
     }
 }
 
 // How many workers a race was given.
-fn chosen_workers(chosen: &ArgMatches<'_>) -> Workers {
-    match chosen.get_str("workers") {
-        Some("4") => Workers::Four,
-        _ => Workers::Two,
+fn chosen_workers(chosen: &ArgMatches<'_>) -> Workers
+    ensures { result ≡ workers_of (rows_of (found_of chosen.now)) }
+{
+    if has_word(chosen, "workers", "4") {
+        Workers::Four
+    } else {
+        Workers::Two
     }
 }
 
-// The task of this name, and its options.
-fn chosen_task(name: &str, chosen: &ArgMatches<'_>) -> (Task, Options)
-    ensures { IsAttemptCount result.1.attempts }
+// The options of a task that a subcommand was given, or that stand in for them.
+fn chosen_options(task: Task, chosen: &ArgMatches<'_>) -> Options
+    ensures { result ≡ options_of_task task (rows_of (found_of chosen.now)) }
 {
-    let options = chosen_options(chosen);
+    let workers = match task {
+        Task::Run => Workers::Two,
+        Task::Race => chosen_workers(chosen),
+    };
+    Options {
+        store: chosen_store(chosen),
+        attempts: chosen_attempts(chosen),
+        policy: chosen_policy(chosen),
+        workers,
+    }
+}
+
+// The task of this name.
+fn chosen_task(name: &str) -> Task
+    ensures { result ≡ task_named name.now }
+{
     if name == "race" {
-        let workers = chosen_workers(chosen);
-        (Task::Race, Options { workers, ..options })
+        Task::Race
     } else {
-        (Task::Run, options)
+        Task::Run
     }
 }
 
 /// Reads the arguments after the program's name: `run` or `race`, and its options.
 ///
-/// Which arguments are refused, and as what, `clap`'s definitions say of the program's command line. Which task and
-/// options the others name no contract says; tests show it.
+/// Which arguments are refused, and as what, and which task and options the others name, `clap`'s definitions say of
+/// the program's command line. That `clap` refuses a value that an option does not have no contract says; tests show it.
 ///
 /// ```
 /// let (task, options) = options_of(alloc, &arguments)?; // race --store lock --policy return
 /// ```
 pub fn options_of(alloc: Global, arguments: &[String]) -> Result<(Task, Options), Error>
+    ensures chosen { IfOk result (λ r. Chooses (map string_bytes arguments.now) r.0 r.1) }
+    ensures first { IfOk result (λ r. IsNamedFirst (map string_bytes arguments.now) r.0) }
     ensures attempts { IfOk result (λ r. IsAttemptCount r.1.attempts) }
     ensures taken { IfOk result (λ _. IsTaken (map string_bytes arguments.now)) }
     ensures refused { IfErr result (λ error. IsArgumentsFault (map string_bytes arguments.now) (kind_of error)) }
@@ -207,5 +247,6 @@ pub fn options_of(alloc: Global, arguments: &[String]) -> Result<(Task, Options)
     let Some((name, chosen)) = matches.subcommand() else {
         unreachable!()
     };
-    Ok(chosen_task(name, chosen))
+    let task = chosen_task(name);
+    Ok((task, chosen_options(task, chosen)))
 }
