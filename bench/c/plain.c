@@ -79,12 +79,11 @@ static uint64_t combined(unsigned op, int big, unsigned len, uint64_t old, uint6
   }
 }
 
+/* All ones in each byte whose enable is 1: each bit to a byte of its own, and a byte that is not 0 to all ones. */
 static uint64_t byte_mask(unsigned enables) {
-  uint64_t mask = 0;
-  for (unsigned k = 0; k < 8; k++)
-    if (enables >> k & 1)
-      mask |= (uint64_t)0xff << (8 * k);
-  return mask;
+  const uint64_t ones = 0x0101010101010101;
+  uint64_t bits = enables * ones & 0x8040201008040201;
+  return ((bits + 0x7f * ones) >> 7 & ones) * 0xff;
 }
 
 /* The word after an accepted request, and its answer. */
@@ -94,10 +93,9 @@ static inline __attribute__((always_inline)) uint64_t applied(uint8_t opcode, ui
   unsigned lane = addr % 16, shift = 8 * (lane & 7);
   uint64_t mask = ones(len) << shift, old = (word & mask) >> shift, sent = number(lanes, lane, len), value = old;
   int has = opcode != CHI_WRITE_NO_SNP_PTL && !(opcode >= CHI_ATOMIC_STORE && opcode < CHI_ATOMIC_LOAD);
-  uint64_t reply[2] = {0, 0};
-  if (has)
-    reply[lane / 8] = old << shift;
-  memcpy(reply_lanes, reply, 16);
+  uint64_t reply = has ? old << shift : 0, low = lane & 8 ? 0 : reply, high = reply ^ low;
+  memcpy(reply_lanes, &low, 8);
+  memcpy(reply_lanes + 8, &high, 8);
   *has_lanes = (uint8_t)has;
   if (opcode == CHI_WRITE_NO_SNP_PTL) {
     mask = byte_mask(be >> (lane & 8) & 0xff);
