@@ -1,5 +1,6 @@
 //! Laws of traces. Each function does nothing: its contract is the law, for proofs that call it.
 
+ghost use Rattle.chi_trace.specs.Segments.{QuietTimesDivide};
 ghost use Rattle.chi_trace.specs.TraceLaws.{CutsAreExplained, ExplanationsAreLegal, GranulesExplain, OrdersOfGranulesExplain, PartsExplain};
 
 /// A trace that is explained is so up to each time.
@@ -25,4 +26,10 @@ pub fn orders_of_granules_explain()
 /// What an order of the whole trace has of a granule explains it.
 pub fn parts_explain()
     ensures { PartsExplain }
+{}
+
+/// Across a time at which no operation of a granule was open, the earlier ones and the later ones can be judged by
+/// themselves.
+pub fn quiet_times_divide()
+    ensures { QuietTimesDivide }
 {}
