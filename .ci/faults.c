@@ -1,10 +1,11 @@
-// Preloaded into chihome: makes calls of the C library fail, as the environment says.
+// Preloaded into chihome and chicheck: makes calls of the C library fail, or a clock go on, as the environment says.
 //   FAULT_MEMORY=N   the N-th block of memory that is asked for is refused
 //   FAULT_ON=1       so is each block after it
 //   FAULT_THREADS=1  no thread can be started
 //   FAULT_READ=N     the N-th read of standard input fails
 //   FAULT_WRITE=N    the N-th write of standard output fails
 //   FAULT_BYTES=1    each read gives one byte, and each write takes one; =2: each write alone
+//   FAULT_CLOCK=N    the monotonic clock begins at 0, and goes on by N milliseconds each time that it is read
 //   FAULT_MET=FILE   made where a call was made to fail
 #define _GNU_SOURCE
 #include <dlfcn.h>
@@ -15,6 +16,7 @@
 #include <stddef.h>
 #include <stdlib.h>
 #include <sys/syscall.h>
+#include <time.h>
 #include <unistd.h>
 
 void *__libc_malloc(size_t size);
@@ -22,9 +24,9 @@ void *__libc_calloc(size_t count, size_t size);
 void *__libc_realloc(void *block, size_t size);
 void *__libc_memalign(size_t alignment, size_t size);
 
-static long refused_block, refused_on, threads_refused, failed_read, failed_write, by_bytes;
+static long refused_block, refused_on, threads_refused, failed_read, failed_write, by_bytes, clock_step;
 static const char *met_file;
-static atomic_long blocks, reads, writes;
+static atomic_long blocks, reads, writes, readings;
 
 static long number(const char *name) {
   const char *text = getenv(name);
@@ -37,6 +39,7 @@ __attribute__((constructor)) static void begin(void) {
   failed_read = number("FAULT_READ");
   failed_write = number("FAULT_WRITE");
   by_bytes = number("FAULT_BYTES");
+  clock_step = number("FAULT_CLOCK");
   met_file = getenv("FAULT_MET");
   refused_block = number("FAULT_MEMORY");
 }
@@ -109,4 +112,12 @@ ssize_t write(int file, const void *bytes, size_t count) {
     count = at_once(count, by_bytes != 0);
   }
   return syscall(SYS_write, file, bytes, count);
+}
+
+int clock_gettime(clockid_t clock, struct timespec *time) {
+  if (clock_step == 0 || clock != CLOCK_MONOTONIC) return (int)syscall(SYS_clock_gettime, clock, time);
+  long now = atomic_fetch_add(&readings, 1) * clock_step;
+  time->tv_sec = now / 1000;
+  time->tv_nsec = now % 1000 * 1000000;
+  return 0;
 }

@@ -88,7 +88,7 @@ fn report_arguments<W: Write, E: Write>(error: &Error, to: &mut W, errors: &mut 
 /// answer is the status to end with.
 ///
 /// ```
-/// let status = run_arguments(alloc, &arguments, &mut input, &mut output, &mut errors, &mut NoProgress);
+/// let status = run_arguments(alloc, &arguments, &mut input, &mut output, &mut errors, &mut progress);
 /// ```
 pub fn run_arguments<R: Read, W: Write, E: Write, P: ShownProgress>(
     alloc: Global,

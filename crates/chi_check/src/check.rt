@@ -71,7 +71,7 @@ fn answered<P: ShownProgress>(
 /// answer has been written. `progress` is told how far the search is, and cleared before the answer is written.
 ///
 /// ```
-/// let status = check(alloc, &mut trace.as_bytes(), &mut answer, &options, &mut NoProgress)?; // explained
+/// let status = check(alloc, &mut trace.as_bytes(), &mut answer, &options, &mut progress)?; // explained
 /// ```
 pub fn check<R: Read, W: Write, P: ShownProgress>(
     alloc: Global,

@@ -121,7 +121,7 @@ fn chosen_options(chosen: &ArgMatches<'_>) -> CheckOptions
 /// Reads the arguments after the program's name: `explain`, and its options.
 ///
 /// Which arguments are refused, and as what, and which options the others name, `clap`'s definitions say of the
-/// program's command line. That `clap` refuses a budget that is no number no contract says; a test shows it.
+/// program's command line. That `clap` refuses a budget that is no number no contract says; `.ci/checker` shows it.
 ///
 /// ```
 /// let options = options_of(alloc, &arguments)?; // explain --witness --budget 1000

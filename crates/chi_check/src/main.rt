@@ -11,22 +11,10 @@ mod completed;
 mod fault;
 mod options;
 mod part;
-#[cfg(test)]
-mod program_tests;
 mod progress_line;
-#[cfg(test)]
-mod progress_line_tests;
-#[cfg(test)]
-mod sample_traces;
 mod states;
 mod trace;
 mod trace_fault;
-#[cfg(test)]
-mod trace_fault_tests;
-#[cfg(test)]
-mod trace_tests;
-#[cfg(test)]
-mod trace_text_tests;
 
 ghost use Rattle.std.specs.Prelude.{◌≡◌, ◌⊎◌};
 

@@ -3,7 +3,7 @@
 ghost use Rattle.std.specs.Prelude.{◌≡◌, None};
 ghost use Rattle.std.specs.Io.KnownBytes.{Keeps};
 
-use chi_explain::{NoProgress, Progress};
+use chi_explain::Progress;
 use chi_fields::Region;
 use std::io::{IsTerminal, Write};
 use std::time::{Clock, Duration, Instant};
@@ -20,10 +20,6 @@ const STATES: u64 = 4096;
 pub trait ShownProgress: Progress {
     /// Takes back what is shown.
     fn clear(&mut self);
-}
-
-impl ShownProgress for NoProgress {
-    fn clear(&mut self) {}
 }
 
 /// A line on a terminal that says how many granules a search is done with. It is first written where a second has gone

@@ -20,7 +20,7 @@ pub const MOST_OPERATIONS: usize = 65_536;
 /// ```
 /// let fault = RequestFault::Missing(Member::Start); // member start is missing
 /// ```
-#[derive(Clone, Copy, Debug, PartialEq, Eq, Error)]
+#[derive(Clone, Copy, Debug, Error)]
 pub enum RequestFault {
     #[error("is not an object")]
     NotObject,
@@ -46,7 +46,7 @@ pub enum RequestFault {
 /// ```
 /// let fault = TraceFault::Missing(Member::Requests); // trace member requests is missing
 /// ```
-#[derive(Clone, Copy, Debug, PartialEq, Eq, Error)]
+#[derive(Clone, Copy, Debug, Error)]
 pub enum TraceFault {
     #[error("trace is not JSON")]
     NotJson,

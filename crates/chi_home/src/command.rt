@@ -19,7 +19,7 @@ use clap::{Arg, ArgMatches, Command, Error, value_parser};
 use std::alloc::Global;
 
 /// What is done with a script: its requests are executed one after another, or raced.
-#[derive(Clone, Copy, Debug, PartialEq, Eq)]
+#[derive(Clone, Copy)]
 pub enum Task {
     Run,
     Race,
@@ -231,7 +231,8 @@ fn chosen_task(name: &str) -> Task
 /// Reads the arguments after the program's name: `run` or `race`, and its options.
 ///
 /// Which arguments are refused, and as what, and which task and options the others name, `clap`'s definitions say of
-/// the program's command line. That `clap` refuses a value that an option does not have no contract says; tests show it.
+/// the program's command line. That `clap` refuses a value that an option does not have no contract says;
+/// `.ci/program` shows it.
 ///
 /// ```
 /// let (task, options) = options_of(alloc, &arguments)?; // race --store lock --policy return

@@ -3,8 +3,6 @@
 
 mod arguments;
 mod command;
-#[cfg(test)]
-mod tests;
 
 ghost use Rattle.std.specs.Prelude.{◌≡◌, ◌⊎◌};
 

@@ -1,0 +1,60 @@
+"""Samples of traces as text, which traces and refusals turn, and the lines of their witnesses."""
+
+import json
+
+MOST = 2**64 - 1
+NAMES = {4: "ReadNoSnp", 28: "WriteNoSnpPtl", 40: "AtomicStore.ADD", 48: "AtomicLoad.ADD", 56: "AtomicSwap", 57: "AtomicCompare"}
+
+# The sample's members as text: two AtomicLoad ADD of 1 to the eight bytes at 0x1008, which overlap.
+OBJECT = {
+    "base": "4096",
+    "granules": "2",
+    "image": '"0700000000000000ff00000000000000"',
+    "final": '"07000000000000000101000000000000"',
+}
+FIRST = {
+    "src": "200",
+    "txn": "1",
+    "op": "48",
+    "size": "3",
+    "addr": "4104",
+    "endian": "0",
+    "be": "65280",
+    "lanes": '"00000000000000000100000000000000"',
+    "start": "3",
+    "end": "9",
+    "reply": '"0000000000000000ff00000000000000"',
+}
+SECOND = {**FIRST, "reply": '"00000000000000000001000000000000"'}
+UNEXPLAINED = "not explained: granule 0000000000001008\n"
+
+
+def members(usual, changed):
+    """The members of an object as text, some of them with another value, or left out where that is empty."""
+    values = {name: changed.get(name, value) for name, value in usual.items()}
+    return "".join(f'"{name}":{value},' for name, value in values.items() if value)
+
+
+def sample(changed={}):
+    """The sample, with some members changed or left out, a request's in the second."""
+    first = members(FIRST, {}).rstrip(",")
+    return f'{{{members(OBJECT, changed)}"requests":[{{{first}}},{{{members(SECOND, changed)}"more":[]}}],"more":{{}}}}'
+
+
+def witness_of_sample(src=200, txn=1):
+    """The sample's witness, its second request being of this requester and number."""
+    add = "30 AtomicLoad.ADD 3 0000000000001008 data 0000000000000000"
+    lines = f"200 1 {add}ff00000000000000\n{src} {txn} {add}0001000000000000\n"
+    return f"{lines}m 0000000000001000 0700000000000000\nm 0000000000001008 0101000000000000\n"
+
+
+def line(it):
+    """The transcript's line of a completed request."""
+    reply = it["reply"] if it["reply"] == "comp" else f"data {it['reply'].lower()}"
+    return f"{it['src']} {it['txn']} {it['op']:02x} {NAMES[it['op']]} {it['size']} {it['addr']:016x} {reply}\n"
+
+
+def adds(count):
+    """So many adds of 1 to the eight bytes at 0x1008, one after the other."""
+    usual = {name: json.loads(value) for name, value in FIRST.items()}
+    return [{**usual, "start": it, "end": it, "reply": f"{0:016x}{it.to_bytes(8, 'little').hex()}"} for it in range(count)]
