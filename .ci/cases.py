@@ -1,4 +1,4 @@
-"""What checker, traces and refusals share: runs of a program with a time limit, and the count of their cases."""
+"""What checker, traces, refusals and faults share: runs of a program with a time limit, and the count of their cases."""
 
 import json
 import os
