@@ -1,5 +1,6 @@
 //! The engine executed on texts, and what it answers to them.
 
+use crate::comparison::assert_same;
 use crate::scripts::{joined, script};
 use chi_engine::{EngineFault, Options, engine_race, engine_run, status_of};
 use chi_history::NoGate;
@@ -54,7 +55,7 @@ pub(crate) fn fault_of<T: AllocGlobal + Abort + Threads + Wait + Sync>(
 ) -> EngineFault {
     let mut to: Vec<u8> = Vec::new(rt.alloc());
     let outcome = execute(rt, engine, options, &mut text, &mut to);
-    assert_eq!(rt; to.len(), 0, "something was written");
+    assert_same(rt, ("written", to.len()), ("written", 0));
     outcome.err().expect(rt, "a fault")
 }
 
@@ -84,7 +85,7 @@ pub(crate) fn assert_told<T: AllocGlobal + Abort>(
     status: u8,
 ) -> Result<(), Fail> {
     let told = format!(in rt.alloc(); "{fault}")?;
-    assert_eq!(rt; (told.as_str(), status_of(fault)), (text, status));
+    assert_same(&rt, (told.as_str(), status_of(fault)), (text, status));
     Ok(())
 }
 
@@ -98,7 +99,7 @@ pub(crate) fn assert_written<T: AllocGlobal + Abort + Threads + Wait + Sync>(
 ) -> Result<(), Fail> {
     let mut to: Vec<u8> = Vec::new(rt.alloc());
     execute(rt, engine, options, &mut script.as_bytes(), &mut to)?;
-    assert_eq!(rt; to.as_slice(), want.as_bytes());
+    assert_same(&rt, to.as_slice(), want.as_bytes());
     Ok(())
 }
 

@@ -1,6 +1,7 @@
 //! Numbers of attempts that the lock-free store refuses.
 
 use crate::answers::{Engine, assert_written, fault_of};
+use crate::comparison::assert_same;
 use crate::scripts::{BOOK, FETCH_ADD_SCRIPT, FETCH_ADD_TRANSCRIPT, LOCK};
 use chi_engine::{EngineFault, Options};
 use chi_history::OpenFault;
@@ -25,7 +26,7 @@ fn assert_out_of_range<T: AllocGlobal + Abort + Threads + Wait + Sync>(
 ) -> Result<(), Fail> {
     let book = Options { attempts, ..BOOK };
     let fault = fault_of(rt, engine, &book, FETCH_ADD_SCRIPT.as_bytes());
-    assert_eq!(rt; open_fault(fault), Some(OpenFault::AttemptCount));
+    assert_same(&rt, open_fault(fault), Some(OpenFault::AttemptCount));
     let lock = Options { attempts, ..LOCK };
     assert_written(rt, engine, &lock, FETCH_ADD_SCRIPT, FETCH_ADD_TRANSCRIPT)
 }

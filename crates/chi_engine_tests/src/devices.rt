@@ -1,6 +1,7 @@
 //! Readers and writers that give or take few bytes a call, and end early.
 
 use crate::answers::{Engine, execute};
+use crate::comparison::assert_same;
 use crate::scripts::FETCH_ADD_SCRIPT;
 use chi_engine::{EngineFault, Options};
 use chi_script::WriteFault;
@@ -90,7 +91,7 @@ pub(crate) fn assert_cut<T: AllocGlobal + Abort + Threads + Wait + Sync>(
     };
     let mut from = FETCH_ADD_SCRIPT.as_bytes();
     let fault = write_fault(execute(rt, engine, options, &mut from, &mut to));
-    assert_eq!(rt; (fault, to.taken.as_slice()), (Some(want), bytes));
+    assert_same(&rt, (fault, to.taken.as_slice()), (Some(want), bytes));
 }
 
 // The first fetch-add, from a reader that fails after so many bytes: this is told, and nothing is written.
@@ -109,7 +110,7 @@ fn assert_unread<T: AllocGlobal + Abort + Threads + Wait + Sync>(
     };
     let outcome = execute(rt, engine, options, &mut from, &mut to);
     let is_told = matches!(&outcome, Err(EngineFault::Read));
-    assert_eq!(rt; (is_told, to.len()), (true, 0), "after {left} bytes");
+    assert_same(&rt, (left, (is_told, to.len())), (left, (true, 0)));
 }
 
 // The first fetch-add, from each reader that fails. With the whole text given, it is the call that would find the

@@ -1,6 +1,7 @@
 //! The faults of scripts, and the texts and statuses of all.
 
 use crate::answers::{ENGINES, Engine, assert_told, fault_of, length_written, script_fault};
+use crate::comparison::assert_same;
 use crate::scripts::{BOOK, script};
 use chi_engine::EngineFault;
 use chi_fields::RegionFault;
@@ -25,7 +26,7 @@ fn assert_refused<T: AllocGlobal + Abort + Threads + Wait + Sync>(
     text: &str,
 ) -> Result<(), Fail> {
     let fault = fault_of(rt, engine, &BOOK, script.as_bytes());
-    assert_eq!(rt; script_fault(&fault), Some(want));
+    assert_same(&rt, script_fault(&fault), Some(want));
     assert_told(rt, &fault, text, 3)
 }
 
@@ -84,7 +85,7 @@ fn script_faults(rt: HostRuntime) -> Result<(), Fail> {
 fn script_faults_of_the_last_line(rt: HostRuntime) -> Result<(), Fail> {
     let last = "{\"base\":4503599627370432,\"granules\":8,\"requests\":[]}";
     let length = length_written(&rt, Engine::Run, &BOOK, last.as_bytes())?;
-    assert_eq!(rt; length, 288);
+    assert_same(&rt, length, 288);
     Ok(())
 }
 

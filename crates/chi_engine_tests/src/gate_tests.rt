@@ -1,5 +1,6 @@
 //! Gates that wait for each other: a RetryAck at a chosen moment.
 
+use crate::comparison::assert_same;
 use crate::scripts::{ADD_OF_ONE, ADD_OF_TWO, script};
 use chi_engine::{EngineFault, Options, StoreKind, Workers, engine_race};
 use chi_history::{Gate, NoGate};
@@ -110,8 +111,8 @@ fn assert_late<T: AllocGlobal + Abort + Clock + Threads + Wait + Sync>(
     let text = script(rt, &[ADD_OF_ONE, ADD_OF_TWO, SECOND_ADD_OF_TWO])?;
     let mut to: Vec<u8> = Vec::new(rt.alloc());
     let met = raced_late(rt, store, text.as_bytes(), &mut to)?;
-    assert_eq!(rt; met, 2, "gate never met");
-    assert_eq!(rt; to.as_slice(), want.as_bytes());
+    assert_same(&rt, ("gates that met", met), ("gates that met", 2));
+    assert_same(&rt, to.as_slice(), want.as_bytes());
     Ok(())
 }
 

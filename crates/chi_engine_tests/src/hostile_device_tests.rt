@@ -1,6 +1,7 @@
 //! Readers and writers that fail at each of their calls, and those of one byte a call.
 
 use crate::answers::{Engine, execute};
+use crate::comparison::assert_same;
 use crate::devices::{End, ShortReader, ShortWriter, assert_cut, assert_never_read};
 use crate::scripts::{FETCH_ADD_SCRIPT, FETCH_ADD_TRANSCRIPT, STORES};
 use chi_engine::Options;
@@ -28,7 +29,7 @@ fn assert_by_bytes<T: AllocGlobal + Abort + Threads + Wait + Sync>(
         at_once: 1,
     };
     execute(rt, engine, options, &mut from, &mut to)?;
-    assert_eq!(rt; to.taken.as_slice(), FETCH_ADD_TRANSCRIPT.as_bytes());
+    assert_same(&rt, to.taken.as_slice(), FETCH_ADD_TRANSCRIPT.as_bytes());
     Ok(())
 }
 
@@ -55,7 +56,7 @@ fn assert_devices<T: AllocGlobal + Abort + Threads + Wait + Sync>(
     rt: &T,
     engine: Engine,
 ) -> Result<(), Fail> {
-    assert_eq!(rt; FETCH_ADD_TRANSCRIPT.len(), 367);
+    assert_same(&rt, FETCH_ADD_TRANSCRIPT.len(), 367);
     for options in &STORES {
         assert_each_cut(rt, engine, options);
         assert_never_read(rt, engine, options, 1);

@@ -3,6 +3,7 @@
 use crate::answers::{
     ENGINES, Engine, assert_told, assert_written, fault_of, length_written, refusal_of,
 };
+use crate::comparison::assert_same;
 use crate::scripts::{
     BOOK, FETCH_ADD, FETCH_ADD_SCRIPT, FETCH_ADD_TRANSCRIPT, LOCK, joined, script_of,
 };
@@ -32,7 +33,7 @@ fn assert_refused<T: AllocGlobal + Abort + Threads + Wait + Sync>(
     let run = refusal_of(rt, run, &BOOK, text);
     let race = refusal_of(rt, race, &BOOK, text);
     let want = Some(want);
-    assert_eq!(rt; (read, run, race), (want, want, want), "{what}");
+    assert_same(&rt, (what, (read, run, race)), (what, (want, want, want)));
 }
 
 // The first fetch-add's script with one part exchanged for another.
@@ -132,7 +133,7 @@ fn hostile_scripts_too_long(rt: HostRuntime) -> Result<(), Fail> {
     text.resize(40 + 4_194_265, b' ')?;
     let (most, _) = text.as_slice().split_at(40 + 4_194_264);
     for engine in &ENGINES {
-        assert_eq!(rt; length_written(&rt, *engine, &BOOK, most)?, 288);
+        assert_same(&rt, length_written(&rt, *engine, &BOOK, most)?, 288);
         let fault = fault_of(&rt, *engine, &BOOK, text.as_slice());
         assert_told(&rt, &fault, "script is over 4194304 bytes", 3)?;
     }

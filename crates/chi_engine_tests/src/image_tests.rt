@@ -1,6 +1,7 @@
 //! Scripts whose memory opens with an image.
 
 use crate::answers::{Engine, assert_written_by_each, refusal_of};
+use crate::comparison::assert_same;
 use crate::scripts::{BOOK, FETCH_ADD, STORES, STORES_OF_FOUR};
 use chi_script::{Member, ScriptFault};
 use std::alloc::AllocError;
@@ -83,9 +84,10 @@ fn opening_image_of_eight_granules(rt: HostRuntime) -> Result<(), Fail> {
 
 // A race of the text is refused for its image.
 fn assert_refused<T: AllocGlobal + Abort + Threads + Wait + Sync>(rt: &T, text: &str) {
-    assert_eq!(rt;
+    assert_same(
+        &rt,
         refusal_of(rt, Engine::Race, &BOOK, text.as_bytes()),
-        Some(ScriptFault::BadMember(Member::Image))
+        Some(ScriptFault::BadMember(Member::Image)),
     );
 }
 

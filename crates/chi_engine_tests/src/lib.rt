@@ -6,6 +6,8 @@ mod answers;
 #[cfg(test)]
 mod attempt_tests;
 #[cfg(test)]
+mod comparison;
+#[cfg(test)]
 mod device_tests;
 #[cfg(test)]
 mod devices;

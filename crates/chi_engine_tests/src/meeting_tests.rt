@@ -3,6 +3,7 @@
 ghost use Rattle.std.specs.Prelude.{◌≡◌, ◌≤◌};
 ghost use Rattle.chi_history.specs.NumberSets.{below};
 
+use crate::comparison::assert_same;
 use crate::scripts::{
     ADD_OF_FOUR, ADD_OF_ONE, ADD_OF_THREE, ADD_OF_TWO, STORES, STORES_OF_FOUR, script,
 };
@@ -45,7 +46,11 @@ impl Meeting {
     }
 
     fn assert_met<T: Abort>(&self, rt: &T, gates: u64) {
-        assert_eq!(rt; self.met.load(Ordering::SeqCst), gates, "gate never met");
+        assert_same(
+            rt,
+            ("gates that met", self.met.load(Ordering::SeqCst)),
+            ("gates that met", gates),
+        );
     }
 }
 

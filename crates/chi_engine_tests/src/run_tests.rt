@@ -1,6 +1,7 @@
 //! Runs of worked examples.
 
 use crate::answers::{Engine, assert_executed};
+use crate::comparison::assert_same;
 use crate::scripts::{FETCH_ADD, FETCH_ADD_TRANSCRIPT, SEVEN_ZEROS, SIX_ZEROS, STORES, script};
 use std::test::Fail;
 
@@ -14,7 +15,7 @@ fn first_fetch_add(rt: HostRuntime) -> Result<(), Fail> {
 fn empty_script(rt: HostRuntime) -> Result<(), Fail> {
     let want = ["m 0000000000001000 0000000000000000\n", SEVEN_ZEROS];
     let lengths = (script(&rt, &[])?.len(), want[0].len() + want[1].len());
-    assert_eq!(rt; lengths, (40, 288));
+    assert_same(&rt, lengths, (40, 288));
     assert_executed(&rt, Engine::Run, &STORES, &[], &want)
 }
 

@@ -1,6 +1,7 @@
 //! Tests of traces with operations on some bytes of a granule, of many writes, and of two granules; and of what is
 //! left undecided.
 
+use crate::comparison::assert_same;
 use crate::traces::{
     ADD, BUDGET, LOWER, READ, STORE_ADD, UPPER, WRITE, fault, has_order, sent, whole,
 };
@@ -18,7 +19,7 @@ fn big_endian_add(rt: HostRuntime) -> Result<(), Fail> {
     let little = sent((0, 10), 1, ADD, 1, 0x1006, false, one, Some(before))?;
     let after = 0x0001_0000_0000_0000;
     assert!(rt; has_order(alloc, &[big], [before, 0], Some([after, 0]), &[0])?);
-    assert_eq!(rt; fault(alloc, &[big], [before, 0], Some([0, 0]))?, 0);
+    assert_same(&rt, fault(alloc, &[big], [before, 0], Some([0, 0]))?, 0);
     assert!(rt; has_order(alloc, &[little], [before, 0], Some([0, 0]), &[0])?);
     Ok(())
 }
@@ -41,9 +42,10 @@ fn bytes_of_one_granule(rt: HostRuntime) -> Result<(), Fail> {
             &[1, 3, 0, 2]
         )?
     );
-    assert_eq!(rt;
+    assert_same(
+        &rt,
         fault(alloc, &[high, low, sees_high, sees_low], [0, 0], both)?,
-        0
+        0,
     );
     Ok(())
 }
@@ -68,14 +70,15 @@ fn writes_told_by_reads(rt: HostRuntime) -> Result<(), Fail> {
             &[1, 3, 2, 4, 0, 5]
         )?
     );
-    assert_eq!(rt;
+    assert_same(
+        &rt,
         fault(
             alloc,
             &[one, two, three, sees_two, sees_three, again],
             [0, 0],
-            None
+            None,
         )?,
-        0
+        0,
     );
     Ok(())
 }
@@ -97,9 +100,10 @@ fn two_granules(rt: HostRuntime) -> Result<(), Fail> {
             &[3, 2, 1, 0]
         )?
     );
-    assert_eq!(rt;
+    assert_same(
+        &rt,
         fault(alloc, &[read, low_again, high, low], [0, 1], Some([2, 4]))?,
-        1
+        1,
     );
     Ok(())
 }

@@ -1,5 +1,6 @@
 //! Tests of traces up to a time, and of where a trace stops being explainable.
 
+use crate::comparison::assert_same;
 use crate::traces::{ADD, BUDGET, LOWER, READ, UPPER, WRITE, whole};
 use chi_explain::{Observed, Verdict, explain_until, first_unexplained};
 use chi_fields::Region;
@@ -50,14 +51,14 @@ fn first_lost_update(rt: HostRuntime) -> Result<(), Fail> {
     let ops = [elsewhere, late, lost, open, two, one];
     match first_unexplained(alloc, &region, &[0, 0], &ops, BUDGET)? {
         Some(blame) => {
-            assert_eq!(rt; (blame.granule, blame.time, blame.op), (1, 50, 2));
+            assert_same(&rt, (blame.granule, blame.time, blame.op), (1, 50, 2));
             let words = (
                 blame.words.len(),
                 blame.words.contains(&2),
                 blame.words.contains(&3),
             );
-            assert_eq!(rt; words, (2, true, true));
-            assert_eq!(rt; blame.overlapping.as_slice(), [2, 3].as_slice());
+            assert_same(&rt, words, (2, true, true));
+            assert_same(&rt, blame.overlapping.as_slice(), [2, 3].as_slice());
             assert!(rt; blame.order.starts_with(&[5, 4]));
         }
         None => assert!(rt; false),

@@ -1,5 +1,6 @@
 //! Tests of the words that operations leave, and of those that a granule can hold at the end.
 
+use crate::comparison::assert_same;
 use crate::traces::{ADD, BUDGET, LOWER, READ, SWAP, UPPER, WRITE, whole};
 use chi_explain::{Observed, words_after, words_at_end};
 use chi_fields::Region;
@@ -48,10 +49,10 @@ fn either_write_last(rt: HostRuntime) -> Result<(), Fail> {
     let write = whole((0, 10), 1, WRITE, UPPER, 4, None)?;
     let other = whole((0, 10), 2, WRITE, UPPER, 6, None)?;
     let words = words_at_end(alloc, &region, &[7, 0], &[write, other], 1, BUDGET)?;
-    assert_eq!(rt; words.len(), 2);
+    assert_same(&rt, words.len(), 2);
     assert!(rt; words.contains(&4) && words.contains(&6));
     let still = words_at_end(alloc, &region, &[7, 0], &[write, other], 0, BUDGET)?;
-    assert_eq!(rt; still.as_slice(), [7].as_slice());
+    assert_same(&rt, still.as_slice(), [7].as_slice());
     Ok(())
 }
 
@@ -60,13 +61,15 @@ fn no_words_of_unexplained_operations(rt: HostRuntime) -> Result<(), Fail> {
     let alloc = rt.alloc();
     let region = Region::new(LOWER, 2)?;
     let swap = whole((0, 10), 1, SWAP, LOWER, 4, Some(1))?;
-    assert_eq!(rt;
+    assert_same(
+        &rt,
         words_at_end(alloc, &region, &[7, 0], &[swap], 0, BUDGET)?.len(),
-        0
+        0,
     );
-    assert_eq!(rt;
+    assert_same(
+        &rt,
         words_at_end(alloc, &region, &[7, 0], &[swap], 1, BUDGET)?.len(),
-        0
+        0,
     );
     Ok(())
 }

@@ -6,6 +6,8 @@ mod byte_tests;
 #[cfg(test)]
 mod clock_gate;
 #[cfg(test)]
+mod comparison;
+#[cfg(test)]
 mod cut_tests;
 #[cfg(test)]
 mod ending_tests;

@@ -1,5 +1,6 @@
 //! Tests of what progress is told.
 
+use crate::comparison::assert_same;
 use crate::traces::{ADD, BUDGET, LOWER, READ, UPPER, WRITE, whole};
 use chi_explain::{
     Observed, Progress, Verdict, explain_with_progress, first_unexplained_with_progress,
@@ -59,11 +60,11 @@ fn states_of_each_granule(rt: HostRuntime) -> Result<(), Fail> {
     let ops = three_operations()?;
     let mut looks = Looks::new();
     match explain_with_progress(alloc, &region, &[0, 0], None, &ops, BUDGET, &mut looks)? {
-        Verdict::Explained(order) => assert_eq!(rt; order.len(), 3),
+        Verdict::Explained(order) => assert_same(&rt, order.len(), 3),
         _ => assert!(rt; false),
     }
     assert!(rt; looks.in_order);
-    assert_eq!(rt; looks.states, [2, 3]);
+    assert_same(&rt, looks.states, [2, 3]);
     assert!(rt; looks.until.is_none());
     Ok(())
 }
@@ -75,7 +76,7 @@ fn no_state_within_no_budget(rt: HostRuntime) -> Result<(), Fail> {
     let ops = three_operations()?;
     let mut looks = Looks::new();
     match explain_with_progress(alloc, &region, &[0, 0], None, &ops, 0, &mut looks)? {
-        Verdict::Undecided => assert_eq!(rt; looks.states, [0, 0]),
+        Verdict::Undecided => assert_same(&rt, looks.states, [0, 0]),
         _ => assert!(rt; false),
     }
     Ok(())
@@ -91,7 +92,7 @@ fn times_of_a_blame(rt: HostRuntime) -> Result<(), Fail> {
     let ops = [write, add, read, stale];
     let mut looks = Looks::new();
     match first_unexplained_with_progress(alloc, &region, &[0, 0], &ops, BUDGET, &mut looks)? {
-        Some(blame) => assert_eq!(rt; blame.time, 50),
+        Some(blame) => assert_same(&rt, blame.time, 50),
         None => assert!(rt; false),
     }
     assert!(rt; looks.until == Some(49));
@@ -106,7 +107,7 @@ fn words_at_end_look_at_states(rt: HostRuntime) -> Result<(), Fail> {
     let ops = three_operations()?;
     let mut looks = Looks::new();
     let words = words_at_end_with_progress(alloc, &region, &[0, 0], &ops, 1, BUDGET, &mut looks)?;
-    assert_eq!(rt; words.as_slice(), [1].as_slice());
+    assert_same(&rt, words.as_slice(), [1].as_slice());
     assert!(rt; looks.until.is_none());
     assert!(rt; looks.states[1] > 3);
     Ok(())

@@ -4,6 +4,7 @@ ghost use Rattle.std.specs.Prelude.{◌≡◌, ◌≤◌};
 ghost use Rattle.chi_history.specs.NumberSets.{below};
 
 use crate::clock_gate::{Pauses, observe, observe_after};
+use crate::comparison::assert_same;
 use crate::race_scripts::{race_of_four, race_of_two};
 use chi_bookstore::BookStore;
 use chi_explain::{Observed, Verdict, explain};
@@ -93,7 +94,7 @@ fn assert_race<H: Home, T: AllocGlobal + Abort + Wait>(
 {
     let mut words = [0; 2];
     home.snapshot(rt, seat, &mut words);
-    assert_eq!(rt; ops.len(), count);
+    assert_same(&rt, ops.len(), count);
     assert_explained(rt, &words, ops)
 }
 

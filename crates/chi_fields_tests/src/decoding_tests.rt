@@ -1,5 +1,6 @@
 //! Tests of decoding: which requests are accepted, as which access, and which refusal the others meet.
 
+use crate::comparison::assert_same;
 use chi_fields::{Access, Kind, Op, Refusal, Region, Request, decode};
 use std::test::Fail;
 
@@ -35,10 +36,15 @@ fn refusal_of(opcode: u8, size: u8, addr: u64, be: u16) -> Result<Option<Refusal
 #[test]
 fn misaligned_then_outside(rt: HostRuntime) -> Result<(), Fail> {
     for be in [0x0000, 0xff00, 0xffff] {
-        assert_eq!(rt; refusal_of(0x38, 3, 0x0ffc, be)?, Some(Refusal::Misaligned));
-        assert_eq!(rt;
+        assert_same(
+            &rt,
+            refusal_of(0x38, 3, 0x0ffc, be)?,
+            Some(Refusal::Misaligned),
+        );
+        assert_same(
+            &rt,
             refusal_of(0x38, 3, 0x0ff8, be)?,
-            Some(Refusal::OutOfRegion)
+            Some(Refusal::OutOfRegion),
         );
     }
     Ok(())
@@ -47,10 +53,10 @@ fn misaligned_then_outside(rt: HostRuntime) -> Result<(), Fail> {
 #[test]
 fn unknown_opcodes(rt: HostRuntime) -> Result<(), Fail> {
     for opcode in [0x1d, 0x3a, 0xff] {
-        assert_eq!(rt;
-            refusal_of(opcode, 7, 0x0001, 0)?,
-            Some(Refusal::UnknownOpcode),
-            "{opcode}"
+        assert_same(
+            &rt,
+            (opcode, refusal_of(opcode, 7, 0x0001, 0)?),
+            (opcode, Some(Refusal::UnknownOpcode)),
         );
     }
     Ok(())
@@ -58,13 +64,15 @@ fn unknown_opcodes(rt: HostRuntime) -> Result<(), Fail> {
 
 #[test]
 fn byte_enables_refused(rt: HostRuntime) -> Result<(), Fail> {
-    assert_eq!(rt;
+    assert_same(
+        &rt,
         refusal_of(0x1c, 1, 0x1000, 0x0004)?,
-        Some(Refusal::BadByteEnable)
+        Some(Refusal::BadByteEnable),
     );
-    assert_eq!(rt;
+    assert_same(
+        &rt,
         refusal_of(0x28, 1, 0x1000, 0x0001)?,
-        Some(Refusal::BadByteEnable)
+        Some(Refusal::BadByteEnable),
     );
     Ok(())
 }
@@ -72,17 +80,17 @@ fn byte_enables_refused(rt: HostRuntime) -> Result<(), Fail> {
 #[test]
 fn compare_sizes_refused(rt: HostRuntime) -> Result<(), Fail> {
     for size in [0, 5, 6] {
-        assert_eq!(rt;
-            refusal_of(0x39, size, 0x1000, 0)?,
-            Some(Refusal::SizeOutOfProfile),
-            "{size}"
+        assert_same(
+            &rt,
+            (size, refusal_of(0x39, size, 0x1000, 0)?),
+            (size, Some(Refusal::SizeOutOfProfile)),
         );
     }
     for size in [7, 8] {
-        assert_eq!(rt;
-            refusal_of(0x39, size, 0x1000, 0)?,
-            Some(Refusal::ReservedSize),
-            "{size}"
+        assert_same(
+            &rt,
+            (size, refusal_of(0x39, size, 0x1000, 0)?),
+            (size, Some(Refusal::ReservedSize)),
         );
     }
     Ok(())
@@ -91,9 +99,9 @@ fn compare_sizes_refused(rt: HostRuntime) -> Result<(), Fail> {
 #[test]
 fn compare_window_past_region(rt: HostRuntime) -> Result<(), Fail> {
     let inside = decoded(1, request(0x39, 4, 0x1000, 0xffff))?;
-    assert_eq!(rt; inside.err(), None);
+    assert_same(&rt, inside.err(), None);
     let outside = decoded(1, request(0x39, 4, 0x1008, 0xffff))?;
-    assert_eq!(rt; outside.err(), Some(Refusal::OutOfRegion));
+    assert_same(&rt, outside.err(), Some(Refusal::OutOfRegion));
     Ok(())
 }
 
@@ -114,10 +122,10 @@ fn refusals_in_order(rt: HostRuntime) -> Result<(), Fail> {
         (0x38, 1, 0x103e, 0xc000, None),
     ];
     for (opcode, size, addr, be, want) in requests {
-        assert_eq!(rt;
-            refusal_of(opcode, size, addr, be)?,
-            want,
-            "{opcode} {size} {addr}"
+        assert_same(
+            &rt,
+            ((opcode, size, addr), refusal_of(opcode, size, addr, be)?),
+            ((opcode, size, addr), want),
         );
     }
     Ok(())
@@ -133,13 +141,13 @@ fn windows(rt: HostRuntime) -> Result<(), Fail> {
         (0x38, 2, 0x1008, 0x0f00),
     ];
     for (opcode, size, addr, be) in windows {
-        assert_eq!(rt; refusal_of(opcode, size, addr, be)?, None, "{be}");
+        assert_same(&rt, (be, refusal_of(opcode, size, addr, be)?), (be, None));
         let mut other = 1;
         for _ in 0..16 {
-            assert_eq!(rt;
-                refusal_of(opcode, size, addr, be ^ other)?,
-                Some(Refusal::BadByteEnable),
-                "{be} and {other}"
+            assert_same(
+                &rt,
+                ((be, other), refusal_of(opcode, size, addr, be ^ other)?),
+                ((be, other), Some(Refusal::BadByteEnable)),
             );
             other = other.wrapping_mul(2);
         }
@@ -150,13 +158,13 @@ fn windows(rt: HostRuntime) -> Result<(), Fail> {
 #[test]
 fn write_enables_part_of_window(rt: HostRuntime) -> Result<(), Fail> {
     for be in [0x0000, 0x0040, 0x0080, 0x00c0] {
-        assert_eq!(rt; refusal_of(0x1c, 1, 0x1006, be)?, None, "{be}");
+        assert_same(&rt, (be, refusal_of(0x1c, 1, 0x1006, be)?), (be, None));
     }
     for be in [0x0001, 0x0020, 0x0060, 0x0100, 0x0180, 0x8000] {
-        assert_eq!(rt;
-            refusal_of(0x1c, 1, 0x1006, be)?,
-            Some(Refusal::BadByteEnable),
-            "{be}"
+        assert_same(
+            &rt,
+            (be, refusal_of(0x1c, 1, 0x1006, be)?),
+            (be, Some(Refusal::BadByteEnable)),
         );
     }
     Ok(())
@@ -183,14 +191,15 @@ fn kinds_of_opcodes(rt: HostRuntime) -> Result<(), Fail> {
     for (number, op) in ops {
         let store = decoded(8, request(0x28 | number, 3, 0x1000, 0x00ff))??;
         let load = decoded(8, request(0x30 | number, 3, 0x1000, 0x00ff))??;
-        assert_eq!(rt;
+        assert_same(
+            &rt,
             (store.kind(), load.kind()),
-            (Kind::Store(op), Kind::Load(op))
+            (Kind::Store(op), Kind::Load(op)),
         );
     }
     for (opcode, kind) in others {
         let access = decoded(8, request(opcode, 3, 0x1000, 0x00ff))??;
-        assert_eq!(rt; access.kind(), kind);
+        assert_same(&rt, access.kind(), kind);
     }
     Ok(())
 }
@@ -203,9 +212,10 @@ fn fields_of_access(rt: HostRuntime) -> Result<(), Fail> {
         ..request(0x30, 1, 0x1006, 0x00c0)
     };
     let access = decoded(8, big_endian_add)??;
-    assert_eq!(rt;
+    assert_same(
+        &rt,
         (access.kind(), access.lanes()),
-        (Kind::Load(Op::Add), EACH_LANE)
+        (Kind::Load(Op::Add), EACH_LANE),
     );
     let fields = (
         access.addr(),
@@ -213,9 +223,9 @@ fn fields_of_access(rt: HostRuntime) -> Result<(), Fail> {
         access.endian(),
         access.enables(),
     );
-    assert_eq!(rt; fields, (0x1006, 2, true, 0x00c0));
+    assert_same(&rt, fields, (0x1006, 2, true, 0x00c0));
     let compare = decoded(8, request(0x39, 4, 0x1008, 0xffff))??;
-    assert_eq!(rt; (compare.len(), compare.endian()), (8, false));
+    assert_same(&rt, (compare.len(), compare.endian()), (8, false));
     Ok(())
 }
 
@@ -228,7 +238,7 @@ fn read_keeps_ignored_fields(rt: HostRuntime) -> Result<(), Fail> {
     };
     let access = decoded(8, read)??;
     let fields = (access.endian(), access.enables(), access.lanes());
-    assert_eq!(rt; fields, (true, 0x8421, EACH_LANE));
+    assert_same(&rt, fields, (true, 0x8421, EACH_LANE));
     Ok(())
 }
 
@@ -244,12 +254,12 @@ fn granules_of_accesses(rt: HostRuntime) -> Result<(), Fail> {
     for (addr, be, want) in accesses {
         let access = decoded(8, request(0x38, 2, addr, be))??;
         assert!(rt; access.fits(&region));
-        assert_eq!(rt; access.granule(&region), want, "at {addr}");
+        assert_same(&rt, (addr, access.granule(&region)), (addr, want));
     }
     let third = decoded(8, request(0x38, 2, 0x1014, 0x00f0))??;
     let (long, short) = (Region::new(0x1000, 3)?, Region::new(0x1000, 2)?);
     let later = Region::new(0x1040, 8)?;
     let fits = (third.fits(&long), third.fits(&short), third.fits(&later));
-    assert_eq!(rt; fits, (true, false, false));
+    assert_same(&rt, fits, (true, false, false));
     Ok(())
 }

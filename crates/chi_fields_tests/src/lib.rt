@@ -2,6 +2,8 @@
 #![tactic(auto)]
 
 #[cfg(test)]
+mod comparison;
+#[cfg(test)]
 mod decoding_tests;
 #[cfg(test)]
 mod name_tests;

@@ -1,5 +1,6 @@
 //! Tests of the names and texts of opcodes, refusals and region faults.
 
+use crate::comparison::assert_same;
 use chi_fields::{Refusal, RegionFault, op_name, refusal_name, region_fault_name};
 use std::test::Fail;
 
@@ -35,7 +36,7 @@ fn op_names(rt: HostRuntime) {
                 want = name;
             }
         }
-        assert_eq!(rt; op_name(opcode), want, "{opcode}");
+        assert_same(&rt, (opcode, op_name(opcode)), (opcode, want));
     }
 }
 
@@ -74,9 +75,9 @@ fn refusal_names_and_texts(rt: HostRuntime) -> Result<(), Fail> {
         ),
     ];
     for (refusal, name, text) in refusals {
-        assert_eq!(rt; refusal_name(refusal), name);
+        assert_same(&rt, refusal_name(refusal), name);
         let shown = format!(in rt.alloc(); "{refusal}")?;
-        assert_eq!(rt; shown.as_str(), text);
+        assert_same(&rt, shown.as_str(), text);
     }
     Ok(())
 }
@@ -101,9 +102,9 @@ fn region_fault_names_and_texts(rt: HostRuntime) -> Result<(), Fail> {
         ),
     ];
     for (fault, name, text) in faults {
-        assert_eq!(rt; region_fault_name(fault), name);
+        assert_same(&rt, region_fault_name(fault), name);
         let shown = format!(in rt.alloc(); "{fault}")?;
-        assert_eq!(rt; shown.as_str(), text);
+        assert_same(&rt, shown.as_str(), text);
     }
     Ok(())
 }

@@ -1,5 +1,6 @@
 //! Tests of making a region.
 
+use crate::comparison::assert_same;
 use chi_fields::{Region, RegionFault};
 use std::test::Fail;
 
@@ -25,10 +26,10 @@ fn regions_and_their_faults(rt: HostRuntime) {
         (0, 8, None),
     ];
     for (base, granules, want) in regions {
-        assert_eq!(rt;
-            Region::new(base, granules).err(),
-            want,
-            "{base} {granules}"
+        assert_same(
+            &rt,
+            ((base, granules), Region::new(base, granules).err()),
+            ((base, granules), want),
         );
     }
 }
@@ -36,7 +37,7 @@ fn regions_and_their_faults(rt: HostRuntime) {
 #[test]
 fn region_as_made(rt: HostRuntime) -> Result<(), Fail> {
     let region = Region::new(4503599627370432, 7)?;
-    assert_eq!(rt; region.base(), 4503599627370432);
-    assert_eq!(rt; region.granules(), 7);
+    assert_same(&rt, region.base(), 4503599627370432);
+    assert_same(&rt, region.granules(), 7);
     Ok(())
 }

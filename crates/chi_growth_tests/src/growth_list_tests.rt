@@ -4,6 +4,7 @@ ghost use Rattle.std.specs.Prelude.{◌≡◌};
 ghost use Rattle.chi_history.specs.NumberSets.{below};
 
 use crate::additions::additions;
+use crate::comparison::assert_same;
 use crate::growth_tests::{Call, call_on_book, call_on_lock};
 use crate::growth_work_tests::{FETCH_ADD, lanes};
 use crate::refusing_allocator::Refusing;
@@ -46,12 +47,13 @@ fn assert_left<H: Home, T: Abort + Wait>(
 {
     let mut words = [0; 8];
     home.snapshot(rt, seat, &mut words);
-    assert_eq!(rt;
+    assert_same(
+        &rt,
         (found, words),
         (
             (count == 40, count < 40, count, true),
-            [count as u64, 0, 0, 0, 0, 0, 0, 0]
-        )
+            [count as u64, 0, 0, 0, 0, 0, 0, 0],
+        ),
     );
 }
 

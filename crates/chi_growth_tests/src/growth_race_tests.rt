@@ -4,6 +4,7 @@ ghost use Rattle.std.specs.Prelude.{◌≡◌};
 ghost use Rattle.chi_history.specs.NumberSets.{below};
 
 use crate::additions::additions;
+use crate::comparison::assert_same;
 use crate::growth_tests::{Call, call_in_turn};
 use crate::growth_work_tests::add;
 use crate::refusing_allocator::Refusing;
@@ -68,9 +69,10 @@ pub(crate) fn assert_sum<H: Home, T: Abort + Wait>(
     let holds_all = home.holds_all(seat);
     let mut words = [0; 8];
     home.snapshot(rt, seat, &mut words);
-    assert_eq!(rt;
+    assert_same(
+        &rt,
         (words, zero.len(), holds_all),
-        ([sum, 0, 0, 0, 0, 0, 0, 0], 0, true)
+        ([sum, 0, 0, 0, 0, 0, 0, 0], 0, true),
     );
     assert!(rt;
         if is_ok {

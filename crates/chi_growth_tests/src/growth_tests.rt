@@ -3,6 +3,7 @@
 ghost use Rattle.std.specs.Prelude.{◌≡◌};
 ghost use Rattle.chi_history.specs.NumberSets.{below};
 
+use crate::comparison::assert_same;
 use crate::growth_four_tests::race_forty;
 use crate::growth_list_tests::add_forty;
 use crate::growth_race_tests::race_ten;
@@ -52,12 +53,12 @@ fn assert_opened<H: Home, T: Abort + Wait>(rt: &T, home: &H, seat: &mut H::Seat)
     let (holds_all, requesters) = (home.holds_all(seat), home.requesters());
     let mut words = [1; 8];
     home.snapshot(rt, seat, &mut words);
-    assert_eq!(rt; (holds_all, requesters, words), (true, 8, [0; 8]));
+    assert_same(&rt, (holds_all, requesters, words), (true, 8, [0; 8]));
 }
 
 // Asserts that an opening met no other fault than a growth that was refused.
 fn assert_refused<T: Abort>(rt: &T, fault: OpenFault, has_refused: bool) {
-    assert_eq!(rt; (fault, has_refused), (OpenFault::Memory, true));
+    assert_same(&rt, (fault, has_refused), (OpenFault::Memory, true));
 }
 
 // Opens the locked store.

@@ -3,6 +3,7 @@
 ghost use Rattle.std.specs.Prelude.{◌≡◌};
 ghost use Rattle.chi_history.specs.NumberSets.{below};
 
+use crate::comparison::assert_same;
 use crate::growth_tests::{Call, call_in_turn};
 use crate::refusing_allocator::Refusing;
 use chi_fields::Request;
@@ -58,13 +59,14 @@ fn assert_first<H: Home, T: Abort + Wait>(
     let mut words = [0; 8];
     home.snapshot(rt, seat, &mut words);
     let count = lines.len();
-    assert_eq!(rt;
+    assert_same(
+        &rt,
         (lines, holds_all, words),
         (
             &full[..count.min(3)],
             true,
-            [count as u64, 0, 0, 0, 0, 0, 0, 0]
-        )
+            [count as u64, 0, 0, 0, 0, 0, 0, 0],
+        ),
     );
     assert!(rt; if is_ok { count == 3 } else { has_refused });
 }

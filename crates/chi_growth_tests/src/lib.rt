@@ -4,6 +4,8 @@
 #[cfg(test)]
 mod additions;
 #[cfg(test)]
+mod comparison;
+#[cfg(test)]
 mod growth_four_tests;
 #[cfg(test)]
 mod growth_list_tests;

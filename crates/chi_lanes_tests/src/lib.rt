@@ -2,6 +2,8 @@
 #![tactic(auto)]
 
 #[cfg(test)]
+mod comparison;
+#[cfg(test)]
 mod kernel_tests;
 #[cfg(test)]
 mod operation_tests;

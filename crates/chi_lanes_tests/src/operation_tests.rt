@@ -1,5 +1,6 @@
 //! Tests of accesses on the words of granules, by the bytes before and after them and the answers.
 
+use crate::comparison::assert_same;
 use chi_fields::{Region, Request, decode};
 use chi_lanes::{Reply, apply};
 use std::test::Fail;
@@ -52,10 +53,11 @@ fn executed_in(granules: &mut [u64; 8], request: Request) -> Result<Reply, Fail>
 #[test]
 fn first_fetch_add(rt: HostRuntime) -> Result<(), Fail> {
     let add = request(0x30, 3, 0x1000, 0x00ff, 0x01000000000000000000000000000000);
-    assert_eq!(rt; executed(0, add)?, (0x0100000000000000, data(0)));
-    assert_eq!(rt;
+    assert_same(&rt, executed(0, add)?, (0x0100000000000000, data(0)));
+    assert_same(
+        &rt,
         executed(0x0100000000000000, add)?,
-        (0x0200000000000000, data(0x01000000000000000000000000000000))
+        (0x0200000000000000, data(0x01000000000000000000000000000000)),
     );
     Ok(())
 }
@@ -67,10 +69,10 @@ fn big_endian_carry(rt: HostRuntime) -> Result<(), Fail> {
     let answer = data(0x000000000000ffff0000000000000000);
     for (add, after) in [(big_endian(add), 0), (add, 0x000000000000ff00)] {
         let mut granules = [0; 8];
-        assert_eq!(rt; executed_in(&mut granules, write)?, Reply::Comp);
-        assert_eq!(rt; granules, [0x000000000000ffff, 0, 0, 0, 0, 0, 0, 0]);
-        assert_eq!(rt; executed_in(&mut granules, add)?, answer);
-        assert_eq!(rt; granules, [after, 0, 0, 0, 0, 0, 0, 0]);
+        assert_same(&rt, executed_in(&mut granules, write)?, Reply::Comp);
+        assert_same(&rt, granules, [0x000000000000ffff, 0, 0, 0, 0, 0, 0, 0]);
+        assert_same(&rt, executed_in(&mut granules, add)?, answer);
+        assert_same(&rt, granules, [after, 0, 0, 0, 0, 0, 0, 0]);
     }
     Ok(())
 }
@@ -84,10 +86,10 @@ fn byte_smax_umax_add(rt: HostRuntime) -> Result<(), Fail> {
     ];
     for (opcode, lanes, after) in cases {
         let store = request(opcode, 0, 0x1000, 0x0001, lanes);
-        assert_eq!(rt;
-            executed(0x8000000000000000, store)?,
-            (after, Reply::Comp),
-            "{opcode}"
+        assert_same(
+            &rt,
+            (opcode, executed(0x8000000000000000, store)?),
+            (opcode, (after, Reply::Comp)),
         );
     }
     Ok(())
@@ -97,13 +99,15 @@ fn byte_smax_umax_add(rt: HostRuntime) -> Result<(), Fail> {
 fn smin_in_both_byte_orders(rt: HostRuntime) -> Result<(), Fail> {
     let least = request(0x35, 2, 0x1000, 0x000f, 0x00000080000000000000000000000000);
     let answer = data(0x80000000000000000000000000000000);
-    assert_eq!(rt;
+    assert_same(
+        &rt,
         executed(0x8000000000000000, big_endian(least))?,
-        (0x8000000000000000, answer)
+        (0x8000000000000000, answer),
     );
-    assert_eq!(rt;
+    assert_same(
+        &rt,
         executed(0x8000000000000000, least)?,
-        (0x0000008000000000, answer)
+        (0x0000008000000000, answer),
     );
     Ok(())
 }
@@ -111,7 +115,7 @@ fn smin_in_both_byte_orders(rt: HostRuntime) -> Result<(), Fail> {
 #[test]
 fn compare_one_byte_upper_half(rt: HostRuntime) -> Result<(), Fail> {
     let compare = request(0x39, 1, 0x1003, 0x000c, 0x00005a00000000000000000000000000);
-    assert_eq!(rt; executed(0, compare)?, (0x0000005a00000000, data(0)));
+    assert_same(&rt, executed(0, compare)?, (0x0000005a00000000, data(0)));
     Ok(())
 }
 
@@ -119,22 +123,22 @@ fn compare_one_byte_upper_half(rt: HostRuntime) -> Result<(), Fail> {
 fn compare_eight_bytes_upper_half(rt: HostRuntime) -> Result<(), Fail> {
     let compare = request(0x39, 4, 0x1008, 0xffff, 0x11223344556677880000000000000000);
     let mut granules = [0; 8];
-    assert_eq!(rt; executed_in(&mut granules, compare)?, data(0));
-    assert_eq!(rt; granules, [0, 0x1122334455667788, 0, 0, 0, 0, 0, 0]);
+    assert_same(&rt, executed_in(&mut granules, compare)?, data(0));
+    assert_same(&rt, granules, [0, 0x1122334455667788, 0, 0, 0, 0, 0, 0]);
     Ok(())
 }
 
 #[test]
 fn compare_four_bytes_upper_half(rt: HostRuntime) -> Result<(), Fail> {
     let compare = request(0x39, 3, 0x1004, 0x00ff, 0xaabbccdd000000000000000000000000);
-    assert_eq!(rt; executed(0, compare)?, (0x00000000aabbccdd, data(0)));
+    assert_same(&rt, executed(0, compare)?, (0x00000000aabbccdd, data(0)));
     Ok(())
 }
 
 #[test]
 fn compare_that_differs(rt: HostRuntime) -> Result<(), Fail> {
     let compare = request(0x39, 3, 0x1000, 0x00ff, 0x01000000ffffffff0000000000000000);
-    assert_eq!(rt; executed(0, compare)?, (0, data(0)));
+    assert_same(&rt, executed(0, compare)?, (0, data(0)));
     Ok(())
 }
 
@@ -144,8 +148,8 @@ fn write_of_no_bytes_then_two(rt: HostRuntime) -> Result<(), Fail> {
     let mut granules = [0; 8];
     for (be, after) in [(0x0000, 0), (0x0042, 0x00a100000000a600)] {
         let write = request(0x1c, 3, 0x1000, be, lanes);
-        assert_eq!(rt; executed_in(&mut granules, write)?, Reply::Comp);
-        assert_eq!(rt; granules, [after, 0, 0, 0, 0, 0, 0, 0]);
+        assert_same(&rt, executed_in(&mut granules, write)?, Reply::Comp);
+        assert_same(&rt, granules, [after, 0, 0, 0, 0, 0, 0, 0]);
     }
     Ok(())
 }
@@ -168,15 +172,31 @@ fn nine_operations_on_one_byte(rt: HostRuntime) -> Result<(), Fail> {
     let write = request(0x1c, 0, 0x1000, 0x0001, before);
     let mut granules = [0; 8];
     for (opcode, after) in operations {
-        assert_eq!(rt; executed_in(&mut granules, write)?, Reply::Comp);
+        assert_same(&rt, executed_in(&mut granules, write)?, Reply::Comp);
         let load = request(opcode, 0, 0x1000, 0x0001, sent);
-        assert_eq!(rt; executed_in(&mut granules, load)?, data(before), "{opcode}");
-        assert_eq!(rt; granules, [after, 0, 0, 0, 0, 0, 0, 0], "{opcode}");
+        assert_same(
+            &rt,
+            (opcode, executed_in(&mut granules, load)?),
+            (opcode, data(before)),
+        );
+        assert_same(
+            &rt,
+            (opcode, granules),
+            (opcode, [after, 0, 0, 0, 0, 0, 0, 0]),
+        );
         if opcode < 0x38 {
-            assert_eq!(rt; executed_in(&mut granules, write)?, Reply::Comp);
+            assert_same(&rt, executed_in(&mut granules, write)?, Reply::Comp);
             let store = request(opcode - 8, 0, 0x1000, 0x0001, sent);
-            assert_eq!(rt; executed_in(&mut granules, store)?, Reply::Comp, "{opcode}");
-            assert_eq!(rt; granules, [after, 0, 0, 0, 0, 0, 0, 0], "{opcode}");
+            assert_same(
+                &rt,
+                (opcode, executed_in(&mut granules, store)?),
+                (opcode, Reply::Comp),
+            );
+            assert_same(
+                &rt,
+                (opcode, granules),
+                (opcode, [after, 0, 0, 0, 0, 0, 0, 0]),
+            );
         }
     }
     Ok(())
@@ -187,10 +207,10 @@ fn write_then_read_upper_half(rt: HostRuntime) -> Result<(), Fail> {
     let write = request(0x1c, 3, 0x1008, 0xff00, 0x00000000000000000102030405060708);
     let read = request(0x04, 2, 0x100c, 0, 0);
     let mut granules = [0; 8];
-    assert_eq!(rt; executed_in(&mut granules, write)?, Reply::Comp);
+    assert_same(&rt, executed_in(&mut granules, write)?, Reply::Comp);
     let answer = data(0x00000000000000000000000005060708);
-    assert_eq!(rt; executed_in(&mut granules, read)?, answer);
-    assert_eq!(rt; granules, [0, 0x0102030405060708, 0, 0, 0, 0, 0, 0]);
+    assert_same(&rt, executed_in(&mut granules, read)?, answer);
+    assert_same(&rt, granules, [0, 0x0102030405060708, 0, 0, 0, 0, 0, 0]);
     Ok(())
 }
 
@@ -198,9 +218,10 @@ fn write_then_read_upper_half(rt: HostRuntime) -> Result<(), Fail> {
 #[test]
 fn swap_in_upper_half(rt: HostRuntime) -> Result<(), Fail> {
     let swap = request(0x38, 1, 0x100a, 0x0c00, 0x00000000000000000000aabb00000000);
-    assert_eq!(rt;
+    assert_same(
+        &rt,
         executed(0x1122334455667788, swap)?,
-        (0x1122aabb55667788, data(0x00000000000000000000334400000000))
+        (0x1122aabb55667788, data(0x00000000000000000000334400000000)),
     );
     Ok(())
 }

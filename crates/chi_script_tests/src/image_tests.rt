@@ -1,5 +1,6 @@
 //! Tests of a script's image.
 
+use crate::comparison::assert_same;
 use crate::sample_scripts::FETCH_ADD;
 use chi_fields::{RegionFault, Request};
 use chi_script::{Member, Script, ScriptFault, read_script};
@@ -64,7 +65,7 @@ fn opening_image(rt: HostRuntime) -> Result<(), Fail> {
 fn no_opening_image(rt: HostRuntime) -> Result<(), Fail> {
     let text = "{\"base\":4096,\"granules\":2,\"requests\":[]}";
     let script = read_script(rt.alloc(), text.as_bytes(), 7)?;
-    assert_eq!(rt; script.image(), [0, 0].as_slice());
+    assert_same(&rt, script.image(), [0, 0].as_slice());
     Ok(())
 }
 
@@ -84,10 +85,13 @@ fn image_not_as_stated(rt: HostRuntime) -> Result<(), Fail> {
     for image in images {
         for further in [NO_REQUESTS, "", ",\"requests\":7"] {
             let script = script_of(rt.alloc(), 1, image, further)?;
-            assert_eq!(rt;
-                script.err(),
-                Some(ScriptFault::BadMember(Member::Image)),
-                "{image}{further}"
+            assert_same(
+                &rt,
+                ((image, further), script.err()),
+                (
+                    (image, further),
+                    Some(ScriptFault::BadMember(Member::Image)),
+                ),
             );
         }
     }
@@ -115,10 +119,10 @@ fn image_in_its_place(rt: HostRuntime) -> Result<(), Fail> {
         ),
     ];
     for (text, want) in texts {
-        assert_eq!(rt;
-            read_script(rt.alloc(), text.as_bytes(), 7).err(),
-            Some(want),
-            "{text}"
+        assert_same(
+            &rt,
+            (text, read_script(rt.alloc(), text.as_bytes(), 7).err()),
+            (text, Some(want)),
         );
     }
     Ok(())
@@ -140,14 +144,14 @@ fn image_of_refused_region(rt: HostRuntime) -> Result<(), Fail> {
     let alloc = rt.alloc();
     let refused = Some(ScriptFault::RegionRefused(RegionFault::GranuleCount));
     let wrong = Some(ScriptFault::BadMember(Member::Image));
-    assert_eq!(rt; fault_of_digits(alloc, 0, 0)?, refused);
+    assert_same(&rt, fault_of_digits(alloc, 0, 0)?, refused);
     for granules in [513, 65535] {
         let faults = (
             fault_of_digits(alloc, granules, 16 * granules - 1)?,
             fault_of_digits(alloc, granules, 16 * granules)?,
             fault_of_digits(alloc, granules, 16 * granules + 1)?,
         );
-        assert_eq!(rt; faults, (wrong, refused, wrong), "{granules}");
+        assert_same(&rt, (granules, faults), (granules, (wrong, refused, wrong)));
     }
     Ok(())
 }
@@ -159,6 +163,6 @@ fn image_of_512_granules(rt: HostRuntime) -> Result<(), Fail> {
     let words = script.image();
     let ends = (words.len(), words.first().copied(), words.last().copied());
     let (first, last) = (0x4523_0189_6745_2301, 0x0189_6745_2301_8967);
-    assert_eq!(rt; ends, (512, Some(first), Some(last)));
+    assert_same(&rt, ends, (512, Some(first), Some(last)));
     Ok(())
 }

@@ -1,5 +1,6 @@
 //! Tests of reading an input up to a limit.
 
+use crate::comparison::assert_same;
 use chi_script::{InputFault, read_input};
 use std::io::{self, Read};
 use std::test::Fail;
@@ -43,10 +44,10 @@ fn inputs_up_to_a_limit(rt: HostRuntime) -> Result<(), Fail> {
             };
             match read_input(rt.alloc(), &mut from, most) {
                 Ok(input) => {
-                    assert_eq!(rt; want, None, "{text} {most}");
-                    assert_eq!(rt; input.as_slice(), text.as_bytes());
+                    assert_same(&rt, ((text, most), want), ((text, most), None));
+                    assert_same(&rt, input.as_slice(), text.as_bytes());
                 }
-                Err(fault) => assert_eq!(rt; Some(fault), want, "{text} {most}"),
+                Err(fault) => assert_same(&rt, ((text, most), Some(fault)), ((text, most), want)),
             }
         }
     }
@@ -60,10 +61,14 @@ fn inputs_of_several_reads(rt: HostRuntime) -> Result<(), Fail> {
         let text = vec![in rt.alloc(); b'x'; length]?;
         let mut from = text.as_slice();
         let input = read_input(rt.alloc(), &mut from, length)?;
-        assert_eq!(rt; input.as_slice(), text.as_slice());
+        assert_same(&rt, input.as_slice(), text.as_slice());
         let mut from = text.as_slice();
         let short = read_input(rt.alloc(), &mut from, length - 1);
-        assert_eq!(rt; short.err(), Some(InputFault::TooLong), "{length}");
+        assert_same(
+            &rt,
+            (length, short.err()),
+            (length, Some(InputFault::TooLong)),
+        );
     }
     Ok(())
 }
@@ -77,7 +82,7 @@ fn inputs_that_fail(rt: HostRuntime) -> Result<(), Fail> {
             calls,
         };
         let input = read_input(rt.alloc(), &mut from, 9);
-        assert_eq!(rt; input.err(), Some(InputFault::Read), "{calls}");
+        assert_same(&rt, (calls, input.err()), (calls, Some(InputFault::Read)));
     }
     Ok(())
 }
@@ -90,7 +95,7 @@ fn input_fault_texts(rt: HostRuntime) -> Result<(), Fail> {
         (InputFault::Memory, "no memory"),
     ] {
         let text = format!(in rt.alloc(); "{fault}")?;
-        assert_eq!(rt; text.as_str(), want);
+        assert_same(&rt, text.as_str(), want);
     }
     Ok(())
 }

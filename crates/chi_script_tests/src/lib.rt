@@ -2,6 +2,8 @@
 #![tactic(auto)]
 
 #[cfg(test)]
+mod comparison;
+#[cfg(test)]
 mod image_tests;
 #[cfg(test)]
 mod input_tests;

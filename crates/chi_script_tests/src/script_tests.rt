@@ -1,5 +1,6 @@
 //! Tests of reading scripts.
 
+use crate::comparison::assert_same;
 use crate::sample_scripts::{
     FETCH_ADD, FETCH_ADD_SCRIPT, REQUEST_MEMBERS, SCRIPT_MEMBERS, fault_of, fault_of_many,
     fault_with, script_with,
@@ -19,8 +20,8 @@ fn fault_of_region(alloc: Global, base: &str, granules: &str) -> Result<Option<S
 fn first_fetch_add_script(rt: HostRuntime) -> Result<(), Fail> {
     let script = read_script(rt.alloc(), FETCH_ADD_SCRIPT.as_bytes(), 7)?;
     let region = script.region();
-    assert_eq!(rt; (region.base(), region.granules()), (4096, 8));
-    assert_eq!(rt; script.requests(), [FETCH_ADD].as_slice());
+    assert_same(&rt, (region.base(), region.granules()), (4096, 8));
+    assert_same(&rt, script.requests(), [FETCH_ADD].as_slice());
     Ok(())
 }
 
@@ -29,10 +30,10 @@ fn empty_script(rt: HostRuntime) -> Result<(), Fail> {
     let text = "{\"base\":4096,\"granules\":8,\"requests\":[]}";
     let script = read_script(rt.alloc(), text.as_bytes(), 7)?;
     let counts = (script.region().granules(), script.requests().len());
-    assert_eq!(rt; counts, (8, 0));
+    assert_same(&rt, counts, (8, 0));
     for end in 0..text.len() {
         let cut = read_script(rt.alloc(), &text.as_bytes()[..end], 7);
-        assert_eq!(rt; cut.err(), Some(ScriptFault::NotJson), "at {end}");
+        assert_same(&rt, (end, cut.err()), (end, Some(ScriptFault::NotJson)));
     }
     Ok(())
 }
@@ -62,11 +63,11 @@ fn script_faults(rt: HostRuntime) -> Result<(), Fail> {
     ];
     for (base, granules, want) in regions {
         let fault = fault_of_region(alloc, base, granules)?;
-        assert_eq!(rt; fault, want, "{base} {granules}");
+        assert_same(&rt, ((base, granules), fault), ((base, granules), want));
     }
     let faults = (fault_of(alloc, "[]", 7), fault_of(alloc, "{}", 7));
     let missing = ScriptFault::Missing(Member::Base);
-    assert_eq!(rt; faults, (Some(ScriptFault::NotObject), Some(missing)));
+    assert_same(&rt, faults, (Some(ScriptFault::NotObject), Some(missing)));
     Ok(())
 }
 
@@ -75,24 +76,31 @@ fn script_faults(rt: HostRuntime) -> Result<(), Fail> {
 fn script_faults_of_a_third_requester(rt: HostRuntime) -> Result<(), Fail> {
     let third = script_with(rt.alloc(), Member::Src, "3")?;
     let faults = [2, 7].map(|top| fault_of(rt.alloc(), third.as_str(), top));
-    assert_eq!(rt; faults, [Some(ScriptFault::BadMember(Member::Src)), None]);
+    assert_same(
+        &rt,
+        faults,
+        [Some(ScriptFault::BadMember(Member::Src)), None],
+    );
     Ok(())
 }
 
 // However many there are, the walk comes to the last request before they are counted.
 #[test]
 fn too_many_requests(rt: HostRuntime) -> Result<(), Fail> {
-    assert_eq!(rt; fault_of_many(rt.alloc(), "8", 4095, "3")?, None);
+    assert_same(&rt, fault_of_many(rt.alloc(), "8", 4095, "3")?, None);
     for (granules, before_last) in [("8", 4096), ("8", 4097), ("8", 4999), ("65535", 4096)] {
         let faults = (
             fault_of_many(rt.alloc(), granules, before_last, "3")?,
             fault_of_many(rt.alloc(), granules, before_last, "8")?,
         );
         let bad_size = ScriptFault::BadMember(Member::Size);
-        assert_eq!(rt;
-            faults,
-            (Some(ScriptFault::TooManyRequests), Some(bad_size)),
-            "{granules} {before_last}"
+        assert_same(
+            &rt,
+            ((granules, before_last), faults),
+            (
+                (granules, before_last),
+                (Some(ScriptFault::TooManyRequests), Some(bad_size)),
+            ),
         );
     }
     Ok(())
@@ -102,14 +110,14 @@ fn too_many_requests(rt: HostRuntime) -> Result<(), Fail> {
 fn missing_members(rt: HostRuntime) -> Result<(), Fail> {
     for (member, _) in SCRIPT_MEMBERS {
         let fault = fault_with(rt.alloc(), member, "")?;
-        assert_eq!(rt; fault, Some(ScriptFault::Missing(member)));
+        assert_same(&rt, fault, Some(ScriptFault::Missing(member)));
     }
     for (member, _) in REQUEST_MEMBERS {
         let fault = fault_with(rt.alloc(), member, "")?;
-        assert_eq!(rt; fault, Some(ScriptFault::Missing(member)));
+        assert_same(&rt, fault, Some(ScriptFault::Missing(member)));
     }
     let fault = fault_with(rt.alloc(), Member::Requests, "")?;
-    assert_eq!(rt; fault, Some(ScriptFault::Missing(Member::Requests)));
+    assert_same(&rt, fault, Some(ScriptFault::Missing(Member::Requests)));
     Ok(())
 }
 
@@ -139,7 +147,11 @@ fn hostile_scripts(rt: HostRuntime) -> Result<(), Fail> {
     ];
     for (member, value) in wrong {
         let fault = fault_with(rt.alloc(), member, value)?;
-        assert_eq!(rt; fault, Some(ScriptFault::BadMember(member)), "{value}");
+        assert_same(
+            &rt,
+            (value, fault),
+            (value, Some(ScriptFault::BadMember(member))),
+        );
     }
     Ok(())
 }
@@ -150,9 +162,10 @@ fn lanes_in_either_case(rt: HostRuntime) -> Result<(), Fail> {
     let text = script_with(rt.alloc(), Member::Lanes, digits)?;
     let script = read_script(rt.alloc(), text.as_bytes(), 7)?;
     let lanes = [0xab, 0xcd, 0xef, 0, 0, 0, 0, 0, 0, 0, 0, 0, 0, 0, 0, 0];
-    assert_eq!(rt;
+    assert_same(
+        &rt,
         script.requests(),
-        [Request { lanes, ..FETCH_ADD }].as_slice()
+        [Request { lanes, ..FETCH_ADD }].as_slice(),
     );
     Ok(())
 }

@@ -1,5 +1,6 @@
 //! Tests of texts that are no JSON, and of the faults' own texts.
 
+use crate::comparison::assert_same;
 use crate::sample_scripts::FETCH_ADD_SCRIPT;
 use chi_fields::RegionFault;
 use chi_script::{Member, ScriptFault, read_script};
@@ -11,7 +12,7 @@ fn texts_that_are_no_json(rt: HostRuntime) -> Result<(), Fail> {
     let whole = FETCH_ADD_SCRIPT.as_bytes();
     for end in 0..whole.len() {
         let cut = read_script(rt.alloc(), &whole[..end], 7);
-        assert_eq!(rt; cut.err(), Some(ScriptFault::NotJson), "at {end}");
+        assert_same(&rt, (end, cut.err()), (end, Some(ScriptFault::NotJson)));
     }
     Ok(())
 }
@@ -24,7 +25,7 @@ fn bytes_that_are_no_text(rt: HostRuntime) -> Result<(), Fail> {
         bytes[at] = 0xff;
     }
     let fault = read_script(rt.alloc(), bytes.as_slice(), 7).err();
-    assert_eq!(rt; fault, Some(ScriptFault::NotJson));
+    assert_same(&rt, fault, Some(ScriptFault::NotJson));
     Ok(())
 }
 
@@ -41,9 +42,10 @@ fn texts_nested_too_deep(rt: HostRuntime) -> Result<(), Fail> {
         fault_of_nested(rt.alloc(), 127)?,
         fault_of_nested(rt.alloc(), 128)?,
     );
-    assert_eq!(rt;
+    assert_same(
+        &rt,
         faults,
-        (Some(ScriptFault::NotObject), Some(ScriptFault::NotJson))
+        (Some(ScriptFault::NotObject), Some(ScriptFault::NotJson)),
     );
     Ok(())
 }
@@ -53,7 +55,11 @@ fn script_before_many_spaces(rt: HostRuntime) -> Result<(), Fail> {
     let text = "{\"base\":4096,\"granules\":8,\"requests\":[]}";
     let mut spaced = text.as_bytes().to_vec(rt.alloc())?;
     spaced.extend_from_slice(vec![in rt.alloc(); b' '; 4_194_264]?.as_slice())?;
-    assert_eq!(rt; read_script(rt.alloc(), spaced.as_slice(), 7).err(), None);
+    assert_same(
+        &rt,
+        read_script(rt.alloc(), spaced.as_slice(), 7).err(),
+        None,
+    );
     Ok(())
 }
 
@@ -82,7 +88,7 @@ fn script_fault_texts(rt: HostRuntime) -> Result<(), Fail> {
     ];
     for (fault, want) in texts {
         let text = format!(in rt.alloc(); "{fault}")?;
-        assert_eq!(rt; text.as_str(), want);
+        assert_same(&rt, text.as_str(), want);
     }
     Ok(())
 }

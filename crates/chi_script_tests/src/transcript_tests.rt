@@ -1,5 +1,6 @@
 //! Tests of the transcript's text, and of writers that fail.
 
+use crate::comparison::assert_same;
 use chi_fields::{Refusal, Region, Request};
 use chi_history::Line;
 use chi_lanes::Reply;
@@ -85,7 +86,7 @@ fn retried_and_completed(rt: HostRuntime) -> Result<(), Fail> {
     write_lines(&mut to, &lines)?;
     let want =
         "0 1 30 AtomicLoad.ADD 3 0000000000001000 retry\n0 1 30 AtomicLoad.ADD 3 0000000000001000 data 02000000000000000000000000000000\n";
-    assert_eq!(rt; to.as_slice(), want.as_bytes());
+    assert_same(&rt, to.as_slice(), want.as_bytes());
     Ok(())
 }
 
@@ -112,7 +113,7 @@ fn refused_and_completed_without_data(rt: HostRuntime) -> Result<(), Fail> {
     write_lines(&mut to, &lines)?;
     let want =
         "7 5 38 AtomicSwap 3 0000000000000ffc refused Misaligned\n107 255 2d AtomicStore.SMIN 3 0000000000001000 comp\n";
-    assert_eq!(rt; to.as_slice(), want.as_bytes());
+    assert_same(&rt, to.as_slice(), want.as_bytes());
     Ok(())
 }
 
@@ -149,8 +150,8 @@ fn hostile_devices(rt: HostRuntime) -> Result<(), Fail> {
 #[test]
 fn writes_of_one_byte(rt: HostRuntime) -> Result<(), Fail> {
     let mut slow = make_device(rt.alloc(), 4096, 1, false);
-    assert_eq!(rt; write_fetch_add(&mut slow)?, Ok(()));
-    assert_eq!(rt; slow.taken.as_slice(), FETCH_ADD_TEXT.as_bytes());
+    assert_same(&rt, write_fetch_add(&mut slow)?, Ok(()));
+    assert_same(&rt, slow.taken.as_slice(), FETCH_ADD_TEXT.as_bytes());
     Ok(())
 }
 
@@ -159,8 +160,8 @@ fn few_writes(rt: HostRuntime) -> Result<(), Fail> {
     let lines = [Line::Completed(FETCH_ADD, Reply::CompData(ZEROS)); 512];
     let mut to = make_device(rt.alloc(), usize::MAX, usize::MAX, false);
     write_lines(&mut to, &lines)?;
-    assert_eq!(rt; to.taken.len(), 512 * 79);
-    assert_eq!(rt; to.calls, 3);
+    assert_same(&rt, to.taken.len(), 512 * 79);
+    assert_same(&rt, to.calls, 3);
     Ok(())
 }
 
@@ -168,7 +169,7 @@ fn few_writes(rt: HostRuntime) -> Result<(), Fail> {
 fn write_fault_text(rt: HostRuntime) -> Result<(), Fail> {
     for fault in [WriteFault::Failed, WriteFault::Stuck] {
         let text = format!(in rt.alloc(); "{fault}")?;
-        assert_eq!(rt; text.as_str(), "output could not be written");
+        assert_same(&rt, text.as_str(), "output could not be written");
     }
     Ok(())
 }

@@ -4,6 +4,7 @@ ghost use Rattle.std.specs.Prelude.{◌≡◌, true};
 ghost use Rattle.chi_history.specs.Views.{has};
 ghost use Rattle.chi_bookstore.specs.BookSeats.{IsSeatOf};
 
+use crate::comparison::assert_same;
 use chi_bookstore::{BookSeat, BookStore};
 use chi_fields::{Refusal, Region, Request, decode};
 use chi_history::{Home, OpenFault, Served};
@@ -82,16 +83,19 @@ fn nine_operations_on_one_byte(rt: HostRuntime) -> Result<(), Fail> {
         let (holds_all, granules) = (home.holds_all(&seat), home.region().granules());
         let mut words = [0xff; 8];
         home.snapshot(&rt, &mut seat, &mut words);
-        assert_eq!(rt;
-            (written, before, holds_all, granules, words),
+        assert_same(
+            &rt,
+            (opcode, (written, before, holds_all, granules, words)),
             (
-                Some(Reply::Comp),
-                Some(one_byte(0xf0)),
-                true,
-                8,
-                [after, 0, 0, 0, 0, 0, 0, 0]
+                opcode,
+                (
+                    Some(Reply::Comp),
+                    Some(one_byte(0xf0)),
+                    true,
+                    8,
+                    [after, 0, 0, 0, 0, 0, 0, 0],
+                ),
             ),
-            "{opcode:x}"
         );
     }
     Ok(())
@@ -118,23 +122,25 @@ fn open_refusals(rt: HostRuntime) -> Result<(), Fail> {
         fault_of(&rt, region, 8, 0),
         fault_of(&rt, region, 8, 17),
     ];
-    assert_eq!(rt;
+    assert_same(
+        &rt,
         faults,
         [
             Some(OpenFault::RequesterCount),
             Some(OpenFault::RequesterCount),
             Some(OpenFault::AttemptCount),
-            Some(OpenFault::AttemptCount)
-        ]
+            Some(OpenFault::AttemptCount),
+        ],
     );
     let (home, seat) = BookStore::open(rt.alloc(), region, 8, 16, &[0; 8])?;
-    assert_eq!(rt;
+    assert_same(
+        &rt,
         (
             home.holds_all(&seat),
             home.holds(&seat, 7),
-            home.holds(&seat, 8)
+            home.holds(&seat, 8),
         ),
-        (true, true, false)
+        (true, true, false),
     );
     Ok(())
 }
@@ -154,15 +160,16 @@ fn region_of_512_granules(rt: HostRuntime) -> Result<(), Fail> {
     home.snapshot(&rt, &mut seat, &mut words);
     let mut want = [0; 512];
     want[511] = 1;
-    assert_eq!(rt;
+    assert_same(
+        &rt,
         (before, refused, holds_all, granules, words),
         (
             Some(Reply::CompData([0; 16])),
             Some(Refusal::OutOfRegion),
             true,
             512,
-            want
-        )
+            want,
+        ),
     );
     Ok(())
 }
@@ -174,6 +181,6 @@ fn lent_allocator(rt: HostRuntime) -> Result<(), Fail> {
     let (home, mut seat) = BookStore::open(&alloc, region, 1, 1, &[0; 8])?;
     let _ = reply_to(&home, &mut seat, &request(0, 0x28, 0, 1, 0x3c));
     let read = reply_to(&home, &mut seat, &request(0, 0x04, 0, 0, 0));
-    assert_eq!(rt; read, Some(one_byte(0x3c)));
+    assert_same(&rt, read, Some(one_byte(0x3c)));
     Ok(())
 }

@@ -4,6 +4,7 @@ ghost use Rattle.std.specs.Prelude.{◌≡◌};
 ghost use Rattle.chi_history.specs.NumberSets.{below};
 
 use crate::both_stores::{Call, call_on_both};
+use crate::comparison::assert_same;
 use crate::lockstore_tests::accepted;
 use crate::work_tests::pair_of;
 use chi_fields::Request;
@@ -63,7 +64,8 @@ pub(crate) fn assert_callers<H: Home, T: Abort + Wait>(rt: &T, home: &H, seat: &
     let second = serve_until_done(home, rt, seat, 0, &two);
     let mut words = [0; 8];
     let (swapped, seen) = serve_apart(home, rt, seat, 1, &swap, 2, &read, &mut words);
-    assert_eq!(rt;
+    assert_same(
+        &rt,
         ([first, second, swapped, seen], words),
         (
             [
@@ -72,8 +74,8 @@ pub(crate) fn assert_callers<H: Home, T: Abort + Wait>(rt: &T, home: &H, seat: &
                 Reply::CompData(lanes_of(0x1008, 0)),
                 Reply::CompData(lanes_of(0x1000, 7)),
             ],
-            [7, 0x11, 0, 0, 0, 0, 0, 0]
-        )
+            [7, 0x11, 0, 0, 0, 0, 0, 0],
+        ),
     );
 }
 
@@ -130,9 +132,10 @@ pub(crate) fn assert_own_lines<H: Home + Sync, T: AllocGlobal + Abort + Threads 
     ];
     let mut words = [0; 8];
     home.snapshot(rt, seat, &mut words);
-    assert_eq!(rt;
+    assert_same(
+        &rt,
         (outcome.is_ok(), found, words),
-        (true, want, [0x11, 0x22, 0, 0, 0, 0, 0, 0])
+        (true, want, [0x11, 0x22, 0, 0, 0, 0, 0, 0]),
     );
 }
 

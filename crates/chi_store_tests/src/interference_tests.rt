@@ -3,6 +3,7 @@
 ghost use Rattle.std.specs.Prelude.{◌≡◌, IsTrue};
 ghost use Rattle.chi_fields.specs.Extent.{lies_in};
 
+use crate::comparison::assert_same;
 use crate::interferer::{
     Interferer, accepted, add_of_one, first_granule, kept, one_byte, opened, request,
 };
@@ -112,7 +113,7 @@ fn assert_interference<T: AllocGlobal + Abort + Wait>(
         after: one_byte(at_last),
     };
     let found = attempted(rt, attempts, Policy::Resend, u8::MAX, add, None)?;
-    assert_eq!(rt; found, want);
+    assert_same(&rt, found, want);
     Ok(())
 }
 
@@ -150,7 +151,7 @@ fn lost_tries_counted(rt: HostRuntime) -> Result<(), Fail> {
             }
         };
         let found = attempted(&rt, 16, Policy::Return, changes, add, None)?;
-        assert_eq!(rt; found, want, "{changes}");
+        assert_same(&rt, (changes, found), (changes, want));
     }
     Ok(())
 }
@@ -172,7 +173,7 @@ fn assert_no_interference<T: AllocGlobal + Abort + Wait>(
         after: one_byte(5),
     };
     let found = attempted(rt, 1, Policy::Return, u8::MAX, first, second)?;
-    assert_eq!(rt; found, want);
+    assert_same(&rt, found, want);
     Ok(())
 }
 

@@ -1,5 +1,6 @@
 //! Requester 0's work where requester 1 adds between its tries.
 
+use crate::comparison::assert_same;
 use crate::interferer::{
     Interferer, accepted, add_of_one, fetch_add, first_granule, kept, one_byte, opened,
 };
@@ -42,9 +43,10 @@ fn assert_executed<T: AllocGlobal + Abort + Wait>(
 ) -> Result<(), Fail> {
     let mut lines = Vec::new(rt.alloc());
     let found = executed(rt, attempts, policy, requests, &mut lines)?;
-    assert_eq!(rt;
+    assert_same(
+        &rt,
         (lines.as_slice(), found),
-        (want, (one_byte(after), tries.len(), kept(tries)))
+        (want, (one_byte(after), tries.len(), kept(tries))),
     );
     Ok(())
 }
@@ -66,7 +68,7 @@ fn interfering_gate_as_text(rt: HostRuntime) -> Result<(), Fail> {
     write_lines(&mut to, lines.as_slice())?;
     let want =
         "0 1 30 AtomicLoad.ADD 3 0000000000001000 retry\n0 1 30 AtomicLoad.ADD 3 0000000000001000 data 02000000000000000000000000000000\n";
-    assert_eq!(rt; to.as_slice(), want.as_bytes());
+    assert_same(&rt, to.as_slice(), want.as_bytes());
     Ok(())
 }
 

@@ -8,6 +8,8 @@ mod bookstore_tests;
 #[cfg(test)]
 mod both_stores;
 #[cfg(test)]
+mod comparison;
+#[cfg(test)]
 mod four_workers_tests;
 #[cfg(test)]
 mod home_tests;

@@ -3,6 +3,7 @@
 ghost use Rattle.std.specs.Prelude.{◌≡◌, length, IsTrue};
 ghost use Rattle.chi_fields.specs.Extent.{lies_in};
 
+use crate::comparison::assert_same;
 use chi_fields::{Access, Region, Request, decode};
 use chi_history::{Gate, Home, NoGate, OpenFault, Served};
 use chi_lanes::Reply;
@@ -65,7 +66,7 @@ fn gated_reply_of<H: Home, G: Gate, R: Abort + Wait>(
     assert!(rt; home.holds(seat, src));
     match home.serve(rt, seat, src, &access, gate) {
         Served::Done { reply, lost } => {
-            assert_eq!(rt; lost, 0);
+            assert_same(&rt, lost, 0);
             reply
         }
         Served::Retry { credit, .. } => {
@@ -123,19 +124,21 @@ fn open_refusals(rt: HostRuntime) -> Result<(), Fail> {
         fault_of(&rt, longer, 8, &[0; 9]),
         fault_of(&rt, longer, 9, &[0; 9]),
     ];
-    assert_eq!(rt;
+    assert_same(
+        &rt,
         faults,
         [
             Some(OpenFault::RequesterCount),
             Some(OpenFault::RequesterCount),
             Some(OpenFault::NotOneLine),
-            Some(OpenFault::RequesterCount)
-        ]
+            Some(OpenFault::RequesterCount),
+        ],
     );
     let (store, seat) = LockStore::open(rt.alloc(), region, 8, &[0; 8])?;
-    assert_eq!(rt;
+    assert_same(
+        &rt,
         (store.holds_all(&seat), store.requesters(), store.region()),
-        (true, 8, region)
+        (true, 8, region),
     );
     Ok(())
 }

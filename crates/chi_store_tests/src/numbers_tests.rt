@@ -1,5 +1,6 @@
 //! What no clause says: that each call on numbers does on real values what its sets say.
 
+use crate::comparison::assert_same;
 use chi_history::Numbers;
 use std::test::Fail;
 
@@ -25,15 +26,16 @@ fn numbers_counted_and_merged(rt: HostRuntime) -> Result<(), Fail> {
     let merged = bits(&others);
     some.merge(others);
     let four = (bits(&some), some.count());
-    assert_eq!(rt;
+    assert_same(
+        &rt,
         (three, two, merged, four, Numbers::all(8).count()),
         (
             (0b0000_0111, 3, true),
             (0b0000_0101, 2),
             0b1000_0010,
             (0b1000_0111, 4),
-            8
-        )
+            8,
+        ),
     );
     Ok(())
 }

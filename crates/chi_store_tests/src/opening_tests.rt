@@ -4,6 +4,7 @@ ghost use Rattle.std.specs.Prelude.{◌≡◌};
 ghost use Rattle.chi_history.specs.NumberSets.{below};
 
 use crate::both_stores::{Call, call_on_both};
+use crate::comparison::assert_same;
 use chi_fields::Request;
 use chi_history::{Home, Line};
 use chi_lanes::Reply;
@@ -64,14 +65,15 @@ pub(crate) fn assert_begins<H: Home, T: AllocGlobal + Abort + Wait>(
     let before = Reply::CompData([f, f, f, f, f, f, f, f, 0, 0, 0, 0, 0, 0, 0, 0]);
     let mut after = IMAGE;
     after[0] = 0;
-    assert_eq!(rt;
+    assert_same(
+        &rt,
         (outcome.is_ok(), first, line, last),
         (
             true,
             IMAGE,
             Some(Line::Completed(fetch_add(), before)),
-            after
-        )
+            after,
+        ),
     );
 }
 

@@ -5,6 +5,7 @@ ghost use Rattle.chi_history.specs.NumberSets.{below};
 
 use crate::additions::additions;
 use crate::both_stores::{Call, call_on_both};
+use crate::comparison::assert_same;
 use chi_fields::Request;
 use chi_history::{Home, Line, NoGate};
 use chi_lanes::Reply;
@@ -49,9 +50,10 @@ pub(crate) fn assert_thousands<H: Home, T: Abort + Wait>(
     let holds_all = home.holds_all(seat);
     let mut words = [0; 8];
     home.snapshot(rt, seat, &mut words);
-    assert_eq!(rt;
+    assert_same(
+        &rt,
         (found, holds_all, words),
-        ((true, 0), true, [sum, 0, 0, 0, 0, 0, 0, 0])
+        ((true, 0), true, [sum, 0, 0, 0, 0, 0, 0, 0]),
     );
     assert!(rt; done.iter().all(|done| *done == 1000));
 }
@@ -129,9 +131,10 @@ fn assert_two_bytes<H: Home, T: Abort + Wait>(
     let mut words = [0; 8];
     home.snapshot(rt, seat, &mut words);
     let first = u64::from_le_bytes([0x00, 0xa1, 0, 0, 0, 0, 0xa6, 0]);
-    assert_eq!(rt;
+    assert_same(
+        &rt,
         (is_ok, pair_of(lines), words),
-        (true, Some(want), [first, 0, 0, 0, 0, 0, 0, 0])
+        (true, Some(want), [first, 0, 0, 0, 0, 0, 0, 0]),
     );
 }
 
