@@ -3,6 +3,7 @@ pub mod Agree
 pub mod Assembly
 pub mod Before
 pub mod BeforeQuiet
+pub mod Chosen
 pub mod CutLaw
 pub mod Cuts
 pub mod Gathering

@@ -1,5 +1,5 @@
 -- laws of traces and of what explains them
-use Rattle.std.specs.Prelude.{◌≡◌, ℕ, ◌<◌, List, [], ◌∷◌, Option, IfSome, IsTrue, ◌↔◌}
+use Rattle.std.specs.Prelude.{◌≡◌, ℕ, ◌<◌, true, List, [], ◌∷◌, All, Option, IfSome, IsTrue, ◌↔◌}
 use Rattle.std.specs.List.{filter}
 use Rattle.chi_fields.specs.Extent.{lies_in}
 use Rattle.chi_lanes.specs.Memory.{Memory, IsMemory}
@@ -8,7 +8,7 @@ use Rattle.chi_history.specs.declared.opening.Opening.{Opening}
 use Rattle.chi_history.specs.History.{IsLegal, end, opening_memory}
 use Rattle.chi_trace.specs.declared.observed.Observed.{Observed}
 use Rattle.chi_trace.specs.Cuts.{cut}
-use Rattle.chi_trace.specs.Explains.{Explains, IsTrace, at, is_place, memory_after, unobserved, word_of}
+use Rattle.chi_trace.specs.Explains.{Explains, IsInTime, IsTrace, at, is_place, memory_after, unobserved, word_of}
 use Rattle.chi_trace.specs.Granules.{ExplainsGranule, is_of, last_word}
 
 -- A trace that is explained is so up to each time.
@@ -55,3 +55,12 @@ PartsExplain = (opening : Memory) (final : ℕ → Option ℕ) (trace : List Obs
     → Explains opening final trace order → (g : ℕ)
     → ExplainsGranule trace g (word_of opening g) (final g) (filter (is_of trace g) order)
     × (word_of (memory_after trace opening order) g ≡ last_word trace (word_of opening g) (filter (is_of trace g) order))
+
+-- An order in time of places of the trace explains it where what it has of each granule explains the granule, and it leaves
+-- each granule's word.
+abbrev pub PartsJoin : Type 0
+PartsJoin = (opening : Memory) (final : ℕ → Option ℕ) (trace : List Observed) (order : List ℕ) → IsMemory opening → IsTrace trace
+    → All (λ i. is_place trace i ≡ true) order → IsInTime trace order
+    → ((g : ℕ) → ExplainsGranule trace g (word_of opening g) (final g) (filter (is_of trace g) order))
+    → Explains opening final trace order
+    × ((g : ℕ) → word_of (memory_after trace opening order) g ≡ last_word trace (word_of opening g) (filter (is_of trace g) order))

@@ -1,7 +1,8 @@
 //! Laws of traces. Each function does nothing: its contract is the law, for proofs that call it.
 
+ghost use Rattle.chi_trace.specs.Chosen.{PlacesExplain};
 ghost use Rattle.chi_trace.specs.Segments.{QuietTimesDivide};
-ghost use Rattle.chi_trace.specs.TraceLaws.{CutsAreExplained, ExplanationsAreLegal, GranulesExplain, OrdersOfGranulesExplain, PartsExplain};
+ghost use Rattle.chi_trace.specs.TraceLaws.{CutsAreExplained, ExplanationsAreLegal, GranulesExplain, OrdersOfGranulesExplain, PartsExplain, PartsJoin};
 
 /// A trace that is explained is so up to each time.
 pub fn cuts_are_explained()
@@ -26,6 +27,16 @@ pub fn orders_of_granules_explain()
 /// What an order of the whole trace has of a granule explains it.
 pub fn parts_explain()
     ensures { PartsExplain }
+{}
+
+/// An order of the whole trace explains it, where what it has of each granule explains the granule.
+pub fn parts_join()
+    ensures { PartsJoin }
+{}
+
+/// A granule's operations may be told by themselves, in any order.
+pub fn places_explain()
+    ensures { PlacesExplain }
 {}
 
 /// Across a time at which no operation of a granule was open, the earlier ones and the later ones can be judged by
