@@ -1,0 +1,9 @@
+pub mod Applied
+pub mod Bits
+pub mod Idle
+pub mod Moves
+pub mod Orders
+pub mod Paths
+pub mod Sets
+pub mod Settling
+pub mod Start

@@ -1,0 +1,147 @@
+-- the moves from a position, and the orders that go on from it
+use Rattle.std.proofs.Common.{◌≡◌, ℕ, suc, zero, ◌^◌, ◌<◌, ◌≤◌, ◌==◌, ◌⊎◌, nat_le, nat_lt, Bool, true, false, not, List, [], ◌∷◌, All, get_or, length, Option, None, IfSome, refl, sym, ap, subst, ◌∙◌, arith, inl, inr, ltb-true, le-ltb, eqb-true, ◌&&◌}
+use Rattle.std.proofs.lemmas.Bool.{and_left, and_parts, cases_lt, leb-true}
+use Rattle.std.proofs.lemmas.Bool.Decides.{nat_tests}
+use Rattle.chi_history.specs.History.{one_if}
+use Rattle.chi_trace.specs.declared.observed.Observed.{Observed}
+use Rattle.chi_trace.specs.Explains.{IsInTime, at, is_answered, nothing, times_in}
+use Rattle.chi_trace.specs.Granules.{Finishes, Fits, Play, last_word, next}
+use Rattle.chi_trace.proofs.Places.{passes}
+use Rattle.chi_search.specs.Moves.{AreSorted, CanCome, Drops, Ends, IsIdle, Takes}
+use Rattle.chi_search.specs.Positions.{IsReady, Position, is_left}
+use Rattle.chi_search.proofs.Orders.{cons, first_early, first_fits, first_left, idle_first, no_reply, parts, peel, settled_without, without, without_one}
+
+-- an operation that is left is one of the operations, and none before the first
+pub left_is : (n : ℕ) (p : Position) (i : ℕ) → is_left n p i ≡ true → (i < n) × (p.first ≤ i)
+left_is n p i left =
+    let both = and_parts (nat_lt i n) (nat_le p.first i && not _) left in
+    (ltb-true i n both.0, leb-true p.first i (and_parts (nat_le p.first i) (not _) both.1).0)
+
+-- the first operation ends first
+pub first_ends : (ops : List Observed) (p : Position) (i : ℕ) → AreSorted ops → is_left (length ops) p i ≡ true → (at ops p.first).end ≤ (at ops i).end
+first_ends ops p i sorted left = let is = left_is (length ops) p i left in sorted.0 p.first i is.1 is.0
+
+-- an order after an operation was taken
+pub from_taken : (ops : List Observed) (final : Option ℕ) (p q : Position) (i : ℕ) (x : List ℕ) → AreSorted ops → CanCome ops p i → Takes ops p i q → q.word < 2 ^ 64
+    → Finishes ops (is_left (length ops) q) q.word final x → Finishes ops (is_left (length ops) p) p.word final (i ∷ x)
+from_taken ops final p q i x sorted comes takes below c =
+    cons ops (is_left (length ops) p) (is_left (length ops) q) p.word final i x (parts (is_left (length ops) p) (is_left (length ops) q) i comes.0 takes.left) takes.fits
+    (subst (λ w. w < 2 ^ 64) takes.word below) early (subst (λ w. Finishes ops (is_left (length ops) q) w final x) takes.word c)
+  where
+    early : All (λ k. (at ops i).start ≤ (at ops k).end) x
+    early k d under =
+        let j : ℕ = get_or x k d in
+        let left_q : is_left (length ops) q j ≡ true = passes (is_left (length ops) q) x c.once k d under in
+        let left_p : is_left (length ops) p j ≡ true = (and_parts (is_left (length ops) p j) (not (j == i)) (sym (takes.left j) ∙ left_q)).0 in
+        let ends : (at ops p.first).end ≤ (at ops j).end = first_ends ops p j sorted left_p in
+        let starts : (at ops i).start ≤ (at ops p.first).end = comes.1 in
+        omega (arith, starts, ends)
+
+-- an order after the first operation was left out
+pub from_dropped : (ops : List Observed) (final : Option ℕ) (p q : Position) (x : List ℕ) → IsReady (length ops) p → p.first < length ops → Drops ops p q
+    → Finishes ops (is_left (length ops) q) q.word final x → Finishes ops (is_left (length ops) p) p.word final x
+from_dropped ops final p q x ready below drops c =
+    without_one ops (is_left (length ops) p) (is_left (length ops) q) p.word final p.first x (parts (is_left (length ops) p) (is_left (length ops) q) p.first (ready.1 below) drops.left)
+    drops.unanswered (subst (λ w. Finishes ops (is_left (length ops) q) w final x) drops.word c)
+
+-- An order that goes on begins with a move.
+abbrev pub ByTaking : List Observed → Option ℕ → Position → ℕ → Type 0
+ByTaking ops final p i =
+    CanCome ops p i × Fits (at ops i) p.word × (next (at ops i) p.word < 2 ^ 64) × ((q : Position) → Takes ops p i q → Ends ops final q)
+
+abbrev pub ByDropping : List Observed → Option ℕ → Position → Type 0
+ByDropping ops final p = ((at ops p.first).reply ≡ None) × ((q : Position) → Drops ops p q → Ends ops final q)
+
+dropping : (ops : List Observed) (final : Option ℕ) (p : Position) (x : List ℕ) → IsReady (length ops) p → p.first < length ops → times_in x p.first ≡ 0
+    → Finishes ops (is_left (length ops) p) p.word final x → ByDropping ops final p
+dropping ops final p x ready below absent c = (
+  no_reply (at ops p.first) (silent (is_answered (at ops p.first)) refl),
+  λ q drops. (
+    x,
+    subst (λ w. Finishes ops (is_left (length ops) q) w final x) (sym drops.word)
+        (settled_without ops (is_left (length ops) p) (is_left (length ops) q) p.word final p.first x
+        (parts (is_left (length ops) p) (is_left (length ops) q) p.first (ready.1 below) drops.left) absent c),
+  ),
+)
+  where
+    silent : (b : Bool) → is_answered (at ops p.first) ≡ b → is_answered (at ops p.first) ≡ false
+    silent false is = is
+    silent true is =
+        let due : one_if (is_left (length ops) p p.first && is_answered (at ops p.first)) ≤ times_in x p.first = c.done p.first in
+        let one : (is_left (length ops) p p.first && is_answered (at ops p.first)) ≡ true = ap (λ b. b && is_answered (at ops p.first)) (ready.1 below) ∙ is in
+        absurd (omega (arith, due, ap one_if one, absent))
+
+pub goes_on : (ops : List Observed) (final : Option ℕ) (p : Position) (x : List ℕ) → AreSorted ops → IsReady (length ops) p → p.first < length ops
+    → Finishes ops (is_left (length ops) p) p.word final x → ((i : ℕ) × ByTaking ops final p i) ⊎ ByDropping ops final p
+unfolding times_in
+goes_on ops final p [] sorted ready below c = inr (dropping ops final p [] ready below refl c)
+goes_on ops final p (i ∷ y) sorted ready below c = by_times (times_in (i ∷ y) p.first) refl
+  where
+    left : is_left (length ops) p i ≡ true
+    left = first_left ops (is_left (length ops) p) p.word final i y c
+
+    early : (b : Bool) → (i == p.first) ≡ b → 0 < times_in (i ∷ y) p.first → (at ops i).start ≤ (at ops p.first).end
+    early true same some =
+        let lasts : (at ops i).start ≤ (at ops i).end = sorted.1 i nothing (left_is (length ops) p i left).0 in
+        subst (λ k. (at ops i).start ≤ (at ops k).end) (eqb-true i p.first same) lasts
+    early false other some =
+        let later : 0 < times_in y p.first = omega (arith, some, ap one_if other) in
+        first_early ops (is_left (length ops) p) p.word final i p.first y c later
+
+    by_times : (n : ℕ) → times_in (i ∷ y) p.first ≡ n → ((i : ℕ) × ByTaking ops final p i) ⊎ ByDropping ops final p
+    by_times zero none = inr (dropping ops final p (i ∷ y) ready below none c)
+    by_times (suc n) some =
+        let fits = first_fits ops (is_left (length ops) p) p.word final i y c in
+        inl (
+          i,
+          (
+            (left, early (i == p.first) refl (omega (arith, some))),
+            fits.0,
+            fits.1,
+            λ q takes. (
+              y,
+              subst (λ w. Finishes ops (is_left (length ops) q) w final y) (sym takes.word)
+                  (peel ops (is_left (length ops) p) (is_left (length ops) q) p.word final i y (parts (is_left (length ops) p) (is_left (length ops) q) i left takes.left) c),
+            ),
+          ),
+        )
+
+-- an operation that changes nothing may come first wherever it can
+pub from_idle : (ops : List Observed) (final : Option ℕ) (p q : Position) (i : ℕ) → p.word < 2 ^ 64 → CanCome ops p i → IsIdle (at ops i) → Takes ops p i q
+    → Ends ops final p → Ends ops final q
+from_idle ops final p q i below comes idle takes (x, c) = (
+  without i x,
+  subst (λ w. Finishes ops (is_left (length ops) q) w final (without i x)) (sym (takes.word ∙ idle p.word below takes.fits))
+      (idle_first ops (is_left (length ops) p) (is_left (length ops) q) p.word final i x (parts (is_left (length ops) p) (is_left (length ops) q) i comes.0 takes.left) idle below c),
+)
+
+-- where none is left the order is done
+none_left : (n : ℕ) (p : Position) (i : ℕ) → n ≤ p.first → is_left n p i ≡ false
+none_left n p i past = elim (cases_lt i n) [
+  | inl below ↦
+      let before : nat_le p.first i ≡ false = grind (arith, nat_tests) in
+      rw before (neither (nat_lt i n))
+  | inr above ↦ and_left (nat_lt i n) _ (le-ltb i n above)
+]
+  where
+    neither : (b : Bool) → (b && false) ≡ false
+    neither true = refl
+    neither false = refl
+
+pub ended : (ops : List Observed) (final : Option ℕ) (p : Position) → length ops ≤ p.first → IfSome final (λ v. p.word ≡ v)
+    → Finishes ops (is_left (length ops) p) p.word final []
+unfolding IsInTime Play times_in last_word
+ended ops final p past is = record {
+  done = λ i. rw (none_left (length ops) p i past) (omega arith);
+  once = λ i. omega arith;
+  times = tt;
+  plays = tt;
+  ending = is;
+}
+
+pub at_end : (ops : List Observed) (final : Option ℕ) (p : Position) (x : List ℕ) → length ops ≤ p.first → Finishes ops (is_left (length ops) p) p.word final x
+    → IfSome final (λ v. p.word ≡ v)
+unfolding last_word
+at_end ops final p [] past c = c.ending
+at_end ops final p (i ∷ y) past c =
+    let is = left_is (length ops) p i (first_left ops (is_left (length ops) p) p.word final i y c) in absurd (omega (arith, is.0, is.1))

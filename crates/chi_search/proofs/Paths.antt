@@ -1,0 +1,100 @@
+-- walks of a search, and what is known of a position from which operations were tried
+use Rattle.std.proofs.Common.{◌≡◌, ℕ, ◌+◌, ◌^◌, ◌<◌, ◌≤◌, List, [], ◌∷◌, ◌++◌, length, slice_index, Option, None, Some, refl, sym, subst, arith, inl, inr, below_more}
+use Rattle.std.proofs.lemmas.Bool.{cases_lt}
+use Rattle.chi_trace.specs.declared.observed.Observed.{Observed}
+use Rattle.chi_trace.specs.Explains.{at}
+use Rattle.chi_trace.specs.Granules.{Finishes, Fits}
+use Rattle.chi_search.specs.declared.path.Step.{Step}
+use Rattle.chi_search.specs.declared.states.States.{States}
+use Rattle.chi_search.specs.Moves.{AreSorted, CanCome, IsIdle, Takes}
+use Rattle.chi_search.specs.Paths.{AllDead, AreEarliest, IsDead, Moves, Walks, after_op, taken}
+use Rattle.chi_search.specs.Positions.{IsReady, Position, is_left, position_of}
+use Rattle.chi_search.specs.StateSets.{Has}
+use Rattle.chi_search.proofs.Moves.{ByDropping, ByTaking, from_dropped, from_idle, from_taken, goes_on, left_is}
+
+-- one step more, and one less
+pub walks_on : (ops : List Observed) (p q : Position) (path : List Step) (step : Step) → Walks ops p path (position_of step.from)
+    → Moves ops (position_of step.from) step.op q → Walks ops p (path ++ step ∷ []) q
+unfolding Walks
+walks_on ops p q [] step h moves = (h, (q, moves, refl))
+walks_on ops p q (s ∷ path) step h moves = (h.0, (h.1.0, h.1.1, walks_on ops h.1.0 q path step h.1.2 moves))
+
+pub walks_back : (ops : List Observed) (p q : Position) (path : List Step) (step : Step) → Walks ops p (path ++ step ∷ []) q
+    → Walks ops p path (position_of step.from) × Moves ops (position_of step.from) step.op q
+unfolding Walks
+walks_back ops p q [] step h = (h.0, subst (Moves ops (position_of step.from) step.op) h.1.2 h.1.1)
+walks_back ops p q (s ∷ path) step h =
+    let rest = walks_back ops h.1.0 q path step h.1.2 in ((h.0, (h.1.0, h.1.1, rest.0)), rest.1)
+
+-- a move is made from a position that is ready
+pub moves_ready : (ops : List Observed) (p q : Position) (op : Option ℕ) → Moves ops p op q → IsReady (length ops) p
+unfolding Moves
+moves_ready ops p q None moves = moves.0
+moves_ready ops p q (Some i) moves = moves.0
+
+-- an order that goes on from where a walk leads goes on from its start, after the operations that were taken
+move_end : (ops : List Observed) (final : Option ℕ) (p q : Position) (op : Option ℕ) (x : List ℕ) → AreSorted ops → Moves ops p op q
+    → Finishes ops (is_left (length ops) q) q.word final x → Finishes ops (is_left (length ops) p) p.word final (after_op op x)
+unfolding Moves
+move_end ops final p q None x sorted moves c = from_dropped ops final p q x moves.0 moves.1 moves.2 c
+move_end ops final p q (Some i) x sorted moves c = from_taken ops final p q i x sorted moves.1 moves.2 moves.3 c
+
+after_append : (op : Option ℕ) (x y : List ℕ) → after_op op (x ++ y) ≡ after_op op x ++ y
+after_append None x y = refl
+after_append (Some i) x y = refl
+
+pub walks_end : (ops : List Observed) (final : Option ℕ) (p q : Position) (path : List Step) (x : List ℕ) → AreSorted ops → Walks ops p path q
+    → Finishes ops (is_left (length ops) q) q.word final x → Finishes ops (is_left (length ops) p) p.word final (taken path ++ x)
+unfolding Walks taken
+walks_end ops final p q [] x sorted h c = subst (λ (r : Position). Finishes ops (is_left (length ops) r) r.word final x) (sym h) c
+walks_end ops final p q (step ∷ path) x sorted h c =
+    subst (λ (r : Position). Finishes ops (is_left (length ops) r) r.word final (after_op step.op (taken path) ++ x)) (sym h.0)
+    (subst (Finishes ops (is_left (length ops) (position_of step.from)) (position_of step.from).word final) (after_append step.op (taken path) x)
+    (move_end ops final (position_of step.from) h.1.0 step.op (taken path ++ x) sorted h.1.1 (walks_end ops final h.1.0 q path x sorted h.1.2 c)))
+
+-- Where the states of a set are dead, no order goes on by an operation before a place.
+abbrev pub Tried : List Observed → Option ℕ → States → Position → ℕ → Type 0
+Tried ops last dead p k = AllDead ops last dead → (i : ℕ) → i < k → ByTaking ops last p i → ⊥
+
+pub none_tried : (ops : List Observed) (last : Option ℕ) (dead : States) (p : Position) → Tried ops last dead p p.first
+none_tried ops last dead p all i before taking = let is = left_is (length ops) p i taken.0 in absurd (omega (arith, is.1))
+  where
+    taken : CanCome ops p i
+    taken = taking.0
+
+-- an operation that fits nothing
+pub refused_more : (ops : List Observed) (last : Option ℕ) (dead : States) (p : Position) (k : ℕ) → Tried ops last dead p k
+    → (CanCome ops p k → Fits (at ops k) p.word → ⊥) → Tried ops last dead p (k + 1)
+refused_more ops last dead p k tried refused all = below_more (λ i. ByTaking ops last p i → ⊥) k (tried all) (λ taking. refused taking.0 taking.1)
+
+-- and one that leads to a state of the set
+pub dead_more : (ops : List Observed) (last : Option ℕ) (dead : States) (p q : Position) (k : ℕ) → Tried ops last dead p k
+    → Takes ops p k q → Has dead q → Tried ops last dead p (k + 1)
+dead_more ops last dead p q k tried takes has all =
+    below_more (λ i. ByTaking ops last p i → ⊥) k (tried all) (λ taking. all q has (taking.3 q takes))
+
+-- all that can come next were tried, and the first cannot be left out
+pub tried_all : (ops : List Observed) (last : Option ℕ) (dead : States) (p : Position) (k : ℕ) → AreSorted ops → IsReady (length ops) p → p.first < length ops
+    → Tried ops last dead p k → ((i : ℕ) → k ≤ i → i < length ops → (at ops p.first).end < (at ops i).start)
+    → (AllDead ops last dead → ByDropping ops last p → ⊥) → AllDead ops last dead → IsDead ops last p
+tried_all ops last dead p k sorted ready below tried late dropped all (x, c) = elim (goes_on ops last p x sorted ready below c) [
+  | inl (i, taking) ↦ elim (cases_lt i k) [
+    | inl before ↦ tried all i before taking
+    | inr after ↦
+        let is = left_is (length ops) p i taking.0.0 in
+        let starts : (at ops i).start ≤ (at ops p.first).end = taking.0.1 in
+        let ends : (at ops p.first).end < (at ops i).start = late i after is.0 in
+        absurd (omega (arith, starts, ends))
+  ]
+  | inr dropping ↦ dropped all dropping
+]
+
+-- the times say that none after a place starts in time
+pub all_late : (ops : List Observed) (times : List ℕ) (k end : ℕ) → AreEarliest ops times → end < slice_index times k
+    → (i : ℕ) → k ≤ i → i < length ops → end < (at ops i).start
+all_late ops times k end earliest late i from below = let least : slice_index times k ≤ (at ops i).start = earliest.1 k i from below in omega (arith, late, least)
+
+-- where an operation that changes nothing leads to a state of the set
+pub idle_dead : (ops : List Observed) (last : Option ℕ) (dead : States) (p q : Position) (i : ℕ) → p.word < 2 ^ 64 → CanCome ops p i → IsIdle (at ops i) → Takes ops p i q
+    → Has dead q → AllDead ops last dead → IsDead ops last p
+idle_dead ops last dead p q i below comes idle takes has all ends = all q has (from_idle ops last p q i below comes idle takes ends)

@@ -1,0 +1,49 @@
+-- where a search begins, and the set of its dead states
+use Rattle.std.proofs.Common.{◌≡◌, ℕ, zero, suc, ◌-◌, ◌/◌, ◌%◌, ◌==◌, ◌⊎◌, ◌↔◌, nat_le, nat_lt, Bool, true, false, ◌&&◌, List, [], ◌∷◌, length, slice_index, Option, refl, sym, ap, subst, ◌∙◌, arith, inl, inr, lt-ltb}
+use Rattle.std.proofs.lemmas.Bool.Decides.{nat_tests}
+use Rattle.std.proofs.lemmas.Nat.Bits.{bit_at-zero}
+use Rattle.std.specs.Int.{bit_at}
+use Rattle.chi_trace.specs.declared.observed.Observed.{Observed}
+use Rattle.chi_trace.specs.Explains.{is_place}
+use Rattle.chi_trace.specs.Granules.{Finishes}
+use Rattle.chi_search.specs.declared.states.States.{States}
+use Rattle.chi_search.specs.Paths.{AllDead, IsDead}
+use Rattle.chi_search.specs.Positions.{IsReady, Position, has_bit, is_left, start}
+use Rattle.chi_search.specs.StateSets.{Has, positions}
+use Rattle.chi_search.proofs.Orders.{stays}
+
+none_settled : (k : ℕ) → has_bit (0 ∷ []) k ≡ false
+none_settled k = ap (λ w. bit_at w (k % 64) == 1) (word (k / 64)) ∙ ap (λ b. b == 1) (bit_at-zero (k % 64))
+  where
+    word : (i : ℕ) → slice_index (0 ∷ []) i ≡ 0
+    word zero = refl
+    word (suc i) = refl
+
+pub left_at_start : (n w i : ℕ) → is_left n (start w) i ≡ nat_lt i n
+left_at_start n w i = let from : nat_le 0 i ≡ true = grind (arith, nat_tests) in rw (none_settled (i - 0)) (rw from (by_test (nat_lt i n)))
+  where
+    by_test : (b : Bool) → (b && true) ≡ b
+    by_test true = refl
+    by_test false = refl
+
+pub ready_at_start : (n w : ℕ) → IsReady n (start w)
+ready_at_start n w = (omega arith, λ some. left_at_start n w 0 ∙ lt-ltb 0 n some)
+
+pub from_start : (ops : List Observed) (w : ℕ) (final : Option ℕ) (x : List ℕ) → Finishes ops (is_left (length ops) (start w)) w final x
+    → Finishes ops (is_place ops) w final x
+from_start ops w final x c = stays ops (is_left (length ops) (start w)) (is_place ops) w final x (left_at_start (length ops) w) c
+
+pub at_start : (ops : List Observed) (w : ℕ) (final : Option ℕ) (x : List ℕ) → Finishes ops (is_place ops) w final x
+    → Finishes ops (is_left (length ops) (start w)) w final x
+at_start ops w final x c = stays ops (is_place ops) (is_left (length ops) (start w)) w final x (λ i. sym (left_at_start (length ops) w i)) c
+
+-- the empty set, and one state more
+pub none_dead : (ops : List Observed) (last : Option ℕ) (states : States) → positions states ≡ [] → AllDead ops last states
+none_dead ops last states none p (x, below, same) = absurd (omega (arith, below, ap length none))
+
+pub more_dead : (ops : List Observed) (last : Option ℕ) (old new : States) (s : Position) → ((p : Position) → Has new p ↔ (Has old p ⊎ (p ≡ s)))
+    → AllDead ops last old → IsDead ops last s → AllDead ops last new
+more_dead ops last old new s more all dead p has = elim ((more p).0 has) [
+  | inl before ↦ all p before
+  | inr same ↦ subst (IsDead ops last) (sym same) dead
+]

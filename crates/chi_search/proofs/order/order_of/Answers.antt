@@ -1,0 +1,68 @@
+-- an order of the path's operations, the path one step longer or shorter, and a start that is dead
+use Rattle.std.proofs.Common.{◌≡◌, ◌-◌, ◌≤◌, List, [], ◌++◌, IfSome, length, take, append-nil, sym, ap, subst, ◌∙◌}
+use Rattle.chi_trace.specs.Explains.{is_place}
+use Rattle.chi_trace.specs.Granules.{Finishes}
+use Rattle.chi_search.specs.declared.choice.Choice.{Choice}
+use Rattle.chi_search.specs.declared.path.Step.{Step}
+use Rattle.chi_search.specs.Found.{IfDead, IfEnded, IfStep}
+use Rattle.chi_search.specs.Paths.{AllDead, IsDead, Moves, Walks, taken}
+use Rattle.chi_search.specs.Positions.{IsReady, Position, position_of, start}
+use Rattle.chi_search.proofs.Moves.{ended}
+use Rattle.chi_search.proofs.Paths.{moves_ready, walks_back, walks_end, walks_on}
+use Rattle.chi_search.proofs.Start.{at_start, from_start, more_dead, none_dead, ready_at_start}
+use Rattle.chi_search.proofs.order.order_of.Goals as goal
+
+pub loop-budget-init : goal.loop-budget-init
+unfolding Walks
+loop-budget-init g c = record {
+  walks = subst (λ (path : List Step). Walks c.args.ops.now (start c.args.word) path (position_of c.first_state-state.result)) (sym c.new-path.ensures.items)
+      (sym c.first_state-state.ensures);
+  ready = subst (λ (p : Position). IsReady (length c.args.ops.now) p) (sym c.first_state-state.ensures) (ready_at_start (length c.args.ops.now) c.args.word);
+  dead = none_dead c.args.ops.now c.args.last c.no_states-dead.result c.no_states-dead.ensures;
+}
+
+pub returns-in-Ended-clause-order : goal.returns-in-Ended-clause-order
+returns-in-Ended-clause-order g c =
+    let is = subst (λ (choice : Choice). IfEnded choice ((length c.args.ops.now ≤ c.loop-budget.state.first) × IfSome c.args.last (λ seen. c.loop-budget.state.word ≡ seen)))
+    c.in-Ended.is c.in_ok-choose.ensures.ended in
+    let whole = walks_end c.args.ops.now c.args.last (start c.args.word) (position_of c.loop-budget.state) c.loop-budget.path.items [] c.requires.sorted
+    c.loop-budget.invariant.walks (ended c.args.ops.now c.args.last (position_of c.loop-budget.state) is.0 is.1) in
+    subst (Finishes c.args.ops.now (is_place c.args.ops.now) c.args.word c.args.last)
+    (append-nil (taken c.loop-budget.path.items) ∙ sym (rw c.deref-in-Ended.ensures.value at c.in_ok-order-in-Ended.ensures))
+    (from_start c.args.ops.now c.args.word c.args.last (taken c.loop-budget.path.items ++ []) whole)
+
+pub loop-budget-preserved-in-Step : goal.loop-budget-preserved-in-Step
+loop-budget-preserved-in-Step g c =
+    let moves = subst (λ (choice : Choice). IfStep choice (λ op. Moves c.args.ops.now (position_of c.loop-budget.state) op (position_of c.choose.new.next)))
+    c.in-Step.is c.in_ok-choose.ensures.moves in
+    record {
+      walks = subst (λ (path : List Step). Walks c.args.ops.now (start c.args.word) path (position_of c.choose.new.next)) (sym c.in_ok-push-in-Step.ensures.items)
+          (walks_on c.args.ops.now (start c.args.word) (position_of c.choose.new.next) c.loop-budget.path.items (record { from = c.loop-budget.state; op = c.in-Step.op })
+          c.loop-budget.invariant.walks moves);
+      ready = subst (λ (choice : Choice). IfStep choice (λ op. IsReady (length c.args.ops.now) (position_of c.choose.new.next))) c.in-Step.is c.in_ok-choose.ensures.ready;
+      dead = c.loop-budget.invariant.dead;
+    }
+
+pub loop-budget-preserved : goal.loop-budget-preserved
+loop-budget-preserved g c =
+    let back = walks_back c.args.ops.now (start c.args.word) (position_of c.loop-budget.state) c.pop.new.self.items c.in-Some.step
+    (subst (λ (path : List Step). Walks c.args.ops.now (start c.args.word) path (position_of c.loop-budget.state)) c.in-Some.ensures.items c.loop-budget.invariant.walks) in
+    let dead = subst (λ (choice : Choice). IfDead choice (AllDead c.args.ops.now c.args.last c.loop-budget.dead → IsDead c.args.ops.now c.args.last (position_of c.loop-budget.state)))
+    c.in-Dead.is c.in_ok-choose.ensures.dead in
+    record {
+      walks = back.0;
+      ready = moves_ready c.args.ops.now (position_of c.in-Some.step.from) (position_of c.loop-budget.state) c.in-Some.step.op back.1;
+      dead = more_dead c.args.ops.now c.args.last c.loop-budget.dead c.add.new.states (position_of c.loop-budget.state) c.in_ok-add-in-Dead.ensures c.loop-budget.invariant.dead
+          (dead c.loop-budget.invariant.dead);
+    }
+
+pub returns-in-None-clause-nothing : goal.returns-in-None-clause-nothing
+unfolding Walks
+returns-in-None-clause-nothing g c order finishes =
+    let empty : c.loop-budget.path.items ≡ [] =
+    c.in-None.ensures.items ∙ append-nil c.pop.new.self.items ∙ c.in-None.ensures.rest ∙ ap (λ n. take (n - 1) c.loop-budget.path.items) c.in-None.ensures.cases.0 in
+    let here : start c.args.word ≡ position_of c.loop-budget.state =
+    subst (λ (path : List Step). Walks c.args.ops.now (start c.args.word) path (position_of c.loop-budget.state)) empty c.loop-budget.invariant.walks in
+    let dead = subst (λ (choice : Choice). IfDead choice (AllDead c.args.ops.now c.args.last c.loop-budget.dead → IsDead c.args.ops.now c.args.last (position_of c.loop-budget.state)))
+    c.in-Dead.is c.in_ok-choose.ensures.dead in
+    subst (IsDead c.args.ops.now c.args.last) (sym here) (dead c.loop-budget.invariant.dead) (order, at_start c.args.ops.now c.args.word c.args.last order finishes)

@@ -1,0 +1,15 @@
+-- the path leads from the start to the state, which is ready, and the states of the set are dead
+use Rattle.std.proofs.Common.{length}
+use Rattle.chi_search.specs.Paths.{AllDead, Walks}
+use Rattle.chi_search.specs.Positions.{IsReady, position_of, start}
+use Rattle.chi_search.proofs.order.order_of.Given as goal
+
+abbrev pub invariant-loop-budget : goal.invariant-loop-budget
+invariant-loop-budget g l = record {
+  walks : Walks l.ops (start l.fn.word) l.path.items (position_of l.state);
+  ready : IsReady (length l.ops) (position_of l.state);
+  dead : AllDead l.ops l.fn.last l.dead;
+}
+
+abbrev pub decreases-loop-budget : goal.decreases-loop-budget
+decreases-loop-budget g l = l.budget

@@ -1,0 +1,5 @@
+pub mod Found
+pub mod Moves
+pub mod Paths
+pub mod Positions
+pub mod StateSets

@@ -1,0 +1,43 @@
+-- the path of a search from its start, and what is known of the states that it left
+use Rattle.std.specs.Prelude.{◌≡◌, ℕ, ◌+◌, ◌^◌, ◌<◌, ◌≤◌, List, [], ◌∷◌, length, slice_index, Option, Some, None}
+use Rattle.chi_trace.specs.declared.observed.Observed.{Observed}
+use Rattle.chi_trace.specs.Explains.{at}
+use Rattle.chi_search.specs.declared.path.Step.{Step}
+use Rattle.chi_search.specs.declared.states.States.{States}
+use Rattle.chi_search.specs.Moves.{CanCome, Drops, Ends, Takes}
+use Rattle.chi_search.specs.Positions.{IsReady, Position, position_of}
+use Rattle.chi_search.specs.StateSets.{Has}
+
+-- the operands lie within 2^52 bytes
+abbrev pub AreWithin : List Observed → Type 0
+AreWithin ops = (i : ℕ) → i < length ops → (at ops i).access.addr + (at ops i).access.len ≤ 2 ^ 52
+
+-- each time is no later than the start of the operation at its place, and of each after it
+abbrev pub AreEarliest : List Observed → List ℕ → Type 0
+AreEarliest ops times = (length times ≡ length ops) × ((i j : ℕ) → i ≤ j → j < length ops → slice_index times i ≤ (at ops j).start)
+
+-- no order goes on from here
+abbrev pub IsDead : List Observed → Option ℕ → Position → Type 0
+IsDead ops last p = Ends ops last p → ⊥
+
+abbrev pub AllDead : List Observed → Option ℕ → States → Type 0
+AllDead ops last states = (p : Position) → Has states p → IsDead ops last p
+
+-- one move: an operation is taken, or the first one is left out
+unfoldable pub Moves : List Observed → Position → Option ℕ → Position → Type 0
+Moves ops p (Some i) q = IsReady (length ops) p × CanCome ops p i × Takes ops p i q × (q.word < 2 ^ 64)
+Moves ops p None q = IsReady (length ops) p × (p.first < length ops) × Drops ops p q
+
+-- the steps lead from one place to another
+unfoldable pub Walks : List Observed → Position → List Step → Position → Type 0
+Walks ops p [] q = p ≡ q
+Walks ops p (step ∷ path) q = (p ≡ position_of step.from) × ((middle : Position) × Moves ops (position_of step.from) step.op middle × Walks ops middle path q)
+
+-- the operations that were taken, in order
+abbrev pub after_op : Option ℕ → List ℕ → List ℕ
+after_op None order = order
+after_op (Some i) order = i ∷ order
+
+unfoldable pub taken : List Step → List ℕ
+taken [] = []
+taken (step ∷ path) = after_op step.op (taken path)

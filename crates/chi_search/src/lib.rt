@@ -1,0 +1,20 @@
+//! The search of one granule: an order that explains its operations, and the words that they can leave.
+#![tactic(auto)]
+
+mod chains;
+mod choice;
+mod earliest;
+mod narrow;
+mod order;
+mod path;
+mod progress;
+mod searchable;
+mod settled;
+mod state;
+mod states;
+mod step;
+mod wide;
+
+pub use order::{Found, order_of};
+pub use progress::{NoProgress, Progress};
+pub use searchable::are_searchable;

@@ -1,0 +1,84 @@
+//! An order of the operations of one granule.
+
+ghost use Rattle.std.specs.Prelude.{◌≡◌, ℕ, ◌⊎◌, List, IfOk};
+ghost use Rattle.chi_trace.specs.Explains.{is_place};
+ghost use Rattle.chi_trace.specs.Granules.{Finishes};
+ghost use Rattle.chi_search.specs.Found.{IfNothing, IfOrder, IfUndecided};
+ghost use Rattle.chi_search.specs.Moves.{AreSorted};
+ghost use Rattle.chi_search.specs.Paths.{AreWithin};
+
+use crate::choice::{Choice, choose};
+use crate::earliest::earliest_starts;
+use crate::path::{Step, taken};
+use crate::progress::Progress;
+use crate::state::first_state;
+use crate::states::{add, no_states};
+use chi_trace::Observed;
+use std::alloc::{AllocError, Global};
+
+/// What is found: an order of the places of the operations, counted from 0; that there is none; or neither, since the budget
+/// was spent.
+#[derive(Debug, Drop)]
+pub enum Found {
+    Order(Vec<usize>),
+    Nothing,
+    Undecided,
+}
+
+/// Searches for an order of the operations of one granule, from its word at the opening on, which leaves `last` where that was
+/// observed. The operations stand in the order of their ends (`are_searchable`). `budget` is how many states may be looked
+/// at, and is left with how many more might have been.
+///
+/// Source: profile.
+///
+/// ```
+/// let mut budget = 1_000_000;
+/// match order_of(alloc, &ops, 0, None, &mut budget, &mut NoProgress)? {
+///     Found::Order(order) => explain(&order),
+///     Found::Nothing => blame(),
+///     Found::Undecided => take_more_time(),
+/// }
+/// ```
+pub fn order_of<P: Progress>(
+    alloc: Global,
+    ops: &[Observed],
+    word: u64,
+    last: Option<u64>,
+    budget: &mut u64,
+    progress: &mut P,
+) -> Result<Found, AllocError>
+    requires sorted { AreSorted ops.now }
+    requires within { AreWithin ops.now }
+    ensures order { IfOk result (λ found. IfOrder found (λ order. Finishes ops.now (is_place ops.now) word last order)) }
+    ensures nothing { IfOk result (λ found. IfNothing found ((order : List ℕ) → Finishes ops.now (is_place ops.now) word last order → ⊥)) }
+    ensures undecided { IfOk result (λ found. IfUndecided found (budget.new ≡ 0)) }
+{
+    let earliest = earliest_starts(alloc, ops)?;
+    let mut dead = no_states(alloc);
+    let mut path: Vec<Step> = Vec::new(alloc);
+    let mut state = first_state(alloc, word);
+    let mut next = first_state(alloc, word);
+    while *budget > 0 {
+        *budget -= 1;
+        progress.look();
+        match choose(ops, &earliest, last, &dead, &state, &mut next)? {
+            Choice::Ended => {
+                let order = taken(alloc, &path)?;
+                return Ok(Found::Order(order));
+            }
+            Choice::Step { op } => {
+                path.push(Step { from: state, op })?;
+                state = next;
+                next = first_state(alloc, word);
+            }
+            Choice::Dead => {
+                add(alloc, &mut dead, &state)?;
+                match path.pop() {
+                    Some(step) => state = step.from,
+                    None => return Ok(Found::Nothing),
+                }
+            }
+        }
+    }
+    Ok(Found::Undecided)
+}

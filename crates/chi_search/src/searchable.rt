@@ -1,0 +1,30 @@
+//! Whether operations can be searched.
+
+ghost use Rattle.std.specs.Prelude.{◌↔◌, IsTrue};
+ghost use Rattle.chi_search.specs.Moves.{AreSorted};
+ghost use Rattle.chi_search.specs.Paths.{AreWithin};
+
+use chi_trace::Observed;
+
+/// Whether the operations stand in the order of their ends, none ends before it starts, and all are within 2^52 bytes.
+///
+/// Source: profile.
+///
+/// ```
+/// if !are_searchable(&ops) {
+///     sort(&mut ops)?;
+/// }
+/// ```
+pub fn are_searchable(ops: &[Observed]) -> bool
+    ensures { IsTrue result ↔ (AreSorted ops.now × AreWithin ops.now) }
+{
+    let mut before = 0;
+    for op in ops {
+        let length = op.access.len() as u64;
+        if op.end < before || op.end < op.start || op.access.addr() > (1 << 52) - length {
+            return false;
+        }
+        before = op.end;
+    }
+    true
+}

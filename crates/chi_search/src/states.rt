@@ -1,0 +1,60 @@
+//! A set of states of a search. Most take 24 bytes, and those whose settled operations reach further more.
+
+ghost use Rattle.std.specs.Prelude.{◌≡◌, ◌⊎◌, ◌↔◌, [], IsTrue, OnOk};
+ghost use Rattle.chi_search.specs.Positions.{Position, position_of};
+ghost use Rattle.chi_search.specs.StateSets.{Has, position_of_narrow, positions};
+
+use crate::narrow::{Narrow, NarrowState, add_narrow, has_narrow, no_narrow};
+use crate::state::State;
+use crate::wide::{Wide, add_wide, has_wide, no_wide};
+use std::alloc::{AllocError, Global};
+
+/// A set of states.
+#[derive(Drop)]
+pub(crate) struct States {
+    pub narrow: Narrow,
+    pub wide: Wide,
+}
+
+/// The empty set.
+pub(crate) fn no_states(alloc: Global) -> States
+    ensures { positions result ≡ [] }
+{
+    States {
+        narrow: no_narrow(alloc),
+        wide: no_wide(alloc),
+    }
+}
+
+// The state in 24 bytes, where it has so few.
+fn narrow_of(state: &State) -> NarrowState
+    ensures { state.now.settled.beyond.items ≡ [] → position_of_narrow result ≡ position_of state.now }
+{
+    NarrowState {
+        first: state.first,
+        settled: state.settled.near,
+        word: state.word,
+    }
+}
+
+/// Whether the state is in the set.
+pub(crate) fn has(states: &States, state: &State) -> bool
+    ensures { IsTrue result → Has states.now (position_of state.now) }
+{
+    if state.settled.beyond.is_empty() {
+        has_narrow(&states.narrow, narrow_of(state))
+    } else {
+        has_wide(&states.wide, state)
+    }
+}
+
+/// Adds a state to the set.
+pub(crate) fn add(alloc: Global, states: &mut States, state: &State) -> Result<(), AllocError>
+    ensures { OnOk result ((p : Position) → Has states.new p ↔ (Has states.old p ⊎ (p ≡ position_of state.now))) }
+{
+    if state.settled.beyond.is_empty() {
+        add_narrow(alloc, &mut states.narrow, narrow_of(state))
+    } else {
+        add_wide(alloc, &mut states.wide, state)
+    }
+}

@@ -1,0 +1,58 @@
+//! An operation at the word that it finds.
+
+ghost use Rattle.std.specs.Prelude.{◌≡◌, ◌+◌, ◌^◌, ◌<◌, ◌≤◌, ◌↔◌, IsTrue, None, IfSome};
+ghost use Rattle.chi_trace.specs.Granules.{Fits, next};
+ghost use Rattle.chi_search.specs.Moves.{IsIdle};
+
+use chi_lanes::{Reply, apply};
+use chi_trace::Observed;
+
+// Whether two replies are the same.
+fn is_same(reply: Reply, other: Reply) -> bool
+    ensures { IsTrue result ↔ (reply ≡ other) }
+{
+    match (reply, other) {
+        (Reply::Comp, Reply::Comp) => true,
+        (Reply::CompData(lanes), Reply::CompData(others)) => lanes == others,
+        _ => false,
+    }
+}
+
+/// The word that the operation leaves of a word, where its reply, if it was seen, is the one that the word gives.
+pub(crate) fn step(op: &Observed, word: u64) -> Option<u64>
+    requires { op.now.access.addr + op.now.access.len ≤ 2 ^ 52 }
+    ensures fits { IfSome result (λ after. Fits op.now word) }
+    ensures after { IfSome result (λ after. after ≡ next op.now word) }
+    ensures unfit { result ≡ None → Fits op.now word → ⊥ }
+{
+    // What is true of each access is known here once it is read.
+    let _addr = op.access.addr();
+    let (after, reply) = apply(word, &op.access);
+    match op.reply {
+        Some(seen) => {
+            if is_same(seen, reply) {
+                Some(after)
+            } else {
+                None
+            }
+        }
+        None => Some(after),
+    }
+}
+
+/// Whether the operation is seen to leave each word that it fits as it is: its reply has the old data, and one word that
+/// it fits stays.
+pub(crate) fn is_idle(op: &Observed, word: u64, after: u64) -> bool
+    requires fits { Fits op.now word }
+    requires after { after ≡ next op.now word }
+    ensures { IsTrue result → IsIdle op.now }
+{
+    let _addr = op.access.addr();
+    match op.reply {
+        Some(reply) => match reply {
+            Reply::CompData(_) => word == after,
+            Reply::Comp => false,
+        },
+        None => false,
+    }
+}

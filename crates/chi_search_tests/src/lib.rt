@@ -1,0 +1,13 @@
+//! Tests of the search of one granule.
+#![tactic(auto)]
+
+#[cfg(test)]
+mod comparison;
+#[cfg(test)]
+mod many_tests;
+#[cfg(test)]
+mod open_tests;
+#[cfg(test)]
+mod operations;
+#[cfg(test)]
+mod order_tests;
