@@ -1,6 +1,9 @@
 pub mod Applied
 pub mod Bits
+pub mod Elements
+pub mod FirstAndLast
 pub mod Idle
+pub mod Layers
 pub mod Moves
 pub mod Orders
 pub mod Paths

@@ -7,8 +7,9 @@ use Rattle.chi_trace.specs.declared.observed.Observed.{Observed}
 use Rattle.chi_trace.specs.Explains.{IsInTime, at, is_answered, nothing, times_in}
 use Rattle.chi_trace.specs.Granules.{Finishes, Fits, Play, last_word, next}
 use Rattle.chi_trace.proofs.Places.{passes}
-use Rattle.chi_search.specs.Moves.{AreSorted, CanCome, Drops, Ends, IsIdle, Takes}
+use Rattle.chi_search.specs.Moves.{CanCome, Drops, Ends, IsIdle, Takes}
 use Rattle.chi_search.specs.Positions.{IsReady, Position, is_left}
+use Rattle.chi_search.specs.Searchable.{AreSorted}
 use Rattle.chi_search.proofs.Orders.{cons, first_early, first_fits, first_left, idle_first, no_reply, parts, peel, settled_without, without, without_one}
 
 -- an operation that is left is one of the operations, and none before the first

@@ -6,9 +6,10 @@ use Rattle.chi_trace.specs.Explains.{at}
 use Rattle.chi_trace.specs.Granules.{Finishes, Fits}
 use Rattle.chi_search.specs.declared.path.Step.{Step}
 use Rattle.chi_search.specs.declared.states.States.{States}
-use Rattle.chi_search.specs.Moves.{AreSorted, CanCome, IsIdle, Takes}
+use Rattle.chi_search.specs.Moves.{CanCome, IsIdle, Takes}
 use Rattle.chi_search.specs.Paths.{AllDead, AreEarliest, IsDead, Moves, Walks, after_op, taken}
 use Rattle.chi_search.specs.Positions.{IsReady, Position, is_left, position_of}
+use Rattle.chi_search.specs.Searchable.{AreSorted}
 use Rattle.chi_search.specs.StateSets.{Has}
 use Rattle.chi_search.proofs.Moves.{ByDropping, ByTaking, from_dropped, from_idle, from_taken, goes_on, left_is}
 

@@ -3,16 +3,7 @@ use Rattle.std.specs.Prelude.{◌≡◌, ℕ, ◌^◌, ◌<◌, ◌≤◌, true,
 use Rattle.chi_trace.specs.declared.observed.Observed.{Observed}
 use Rattle.chi_trace.specs.Explains.{at}
 use Rattle.chi_trace.specs.Granules.{Finishes, Fits, next}
-use Rattle.chi_trace.specs.Segments.{AreLasting}
 use Rattle.chi_search.specs.Positions.{Position, Settles, is_left}
-
--- the operations stand in the order of their ends
-abbrev pub AreByEnd : List Observed → Type 0
-AreByEnd ops = (i j : ℕ) → i ≤ j → j < length ops → (at ops i).end ≤ (at ops j).end
-
--- and none ends before it starts
-abbrev pub AreSorted : List Observed → Type 0
-AreSorted ops = AreByEnd ops × AreLasting ops
 
 -- some order finishes what is left
 abbrev pub Ends : List Observed → Option ℕ → Position → Type 0

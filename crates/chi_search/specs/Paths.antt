@@ -1,5 +1,5 @@
 -- the path of a search from its start, and what is known of the states that it left
-use Rattle.std.specs.Prelude.{◌≡◌, ℕ, ◌+◌, ◌^◌, ◌<◌, ◌≤◌, List, [], ◌∷◌, length, slice_index, Option, Some, None}
+use Rattle.std.specs.Prelude.{◌≡◌, ℕ, ◌^◌, ◌<◌, ◌≤◌, List, [], ◌∷◌, length, slice_index, Option, Some, None}
 use Rattle.chi_trace.specs.declared.observed.Observed.{Observed}
 use Rattle.chi_trace.specs.Explains.{at}
 use Rattle.chi_search.specs.declared.path.Step.{Step}
@@ -7,10 +7,6 @@ use Rattle.chi_search.specs.declared.states.States.{States}
 use Rattle.chi_search.specs.Moves.{CanCome, Drops, Ends, Takes}
 use Rattle.chi_search.specs.Positions.{IsReady, Position, position_of}
 use Rattle.chi_search.specs.StateSets.{Has}
-
--- the operands lie within 2^52 bytes
-abbrev pub AreWithin : List Observed → Type 0
-AreWithin ops = (i : ℕ) → i < length ops → (at ops i).access.addr + (at ops i).access.len ≤ 2 ^ 52
 
 -- each time is no later than the start of the operation at its place, and of each after it
 abbrev pub AreEarliest : List Observed → List ℕ → Type 0

@@ -3,10 +3,11 @@
 ghost use Rattle.std.specs.Prelude.{◌≡◌, ℕ, ◌^◌, ◌<◌, ◌≤◌, IsTrue, Option, None, IfSome, IfOk, length, true, false};
 ghost use Rattle.chi_trace.specs.Explains.{at};
 ghost use Rattle.chi_trace.specs.Granules.{Fits};
-ghost use Rattle.chi_search.specs.Found.{IfDead, IfEnded, IfStep, IfTaken};
-ghost use Rattle.chi_search.specs.Moves.{AreSorted, CanCome, Drops, IsIdle, Takes};
-ghost use Rattle.chi_search.specs.Paths.{AllDead, AreEarliest, AreWithin, IsDead, Moves};
+ghost use Rattle.chi_search.specs.Choices.{IfDead, IfEnded, IfStep, IfTaken};
+ghost use Rattle.chi_search.specs.Moves.{CanCome, Drops, IsIdle, Takes};
+ghost use Rattle.chi_search.specs.Paths.{AllDead, AreEarliest, IsDead, Moves};
 ghost use Rattle.chi_search.specs.Positions.{IsReady, position_of};
+ghost use Rattle.chi_search.specs.Searchable.{AreSorted, AreWithin};
 
 use crate::state::{State, is_left, settle};
 use crate::states::{States, has};
@@ -31,8 +32,8 @@ pub(crate) enum Choice {
     Dead,
 }
 
-// Makes `next` the state after an operation, where it can be taken.
-fn take(
+/// Makes `next` the state after an operation, where it can be taken.
+pub(crate) fn take(
     ops: &[Observed],
     state: &State,
     place: usize,
@@ -65,8 +66,12 @@ fn take(
     }
 }
 
-// Makes `next` the state without the first operation, where its reply was not seen.
-fn leave_out(ops: &[Observed], state: &State, next: &mut State) -> Result<bool, AllocError>
+/// Makes `next` the state without the first operation, where its reply was not seen.
+pub(crate) fn leave_out(
+    ops: &[Observed],
+    state: &State,
+    next: &mut State,
+) -> Result<bool, AllocError>
     requires first { state.now.first < length ops.now }
     requires ready { IsReady (length ops.now) (position_of state.now) }
     ensures drops { IfOk result (λ is. IsTrue is → Drops ops.now (position_of state.now) (position_of next.new)) }

@@ -4,6 +4,7 @@
 mod chains;
 mod choice;
 mod earliest;
+mod layer;
 mod narrow;
 mod order;
 mod path;
@@ -14,7 +15,9 @@ mod state;
 mod states;
 mod step;
 mod wide;
+mod words;
 
 pub use order::{Found, order_of};
 pub use progress::{NoProgress, Progress};
 pub use searchable::are_searchable;
+pub use words::{Words, words_of};

@@ -4,8 +4,7 @@ ghost use Rattle.std.specs.Prelude.{◌≡◌, ℕ, ◌⊎◌, List, IfOk};
 ghost use Rattle.chi_trace.specs.Explains.{is_place};
 ghost use Rattle.chi_trace.specs.Granules.{Finishes};
 ghost use Rattle.chi_search.specs.Found.{IfNothing, IfOrder, IfUndecided};
-ghost use Rattle.chi_search.specs.Moves.{AreSorted};
-ghost use Rattle.chi_search.specs.Paths.{AreWithin};
+ghost use Rattle.chi_search.specs.Searchable.{AreSorted, AreWithin};
 
 use crate::choice::{Choice, choose};
 use crate::earliest::earliest_starts;

@@ -1,8 +1,7 @@
 //! Whether operations can be searched.
 
 ghost use Rattle.std.specs.Prelude.{◌↔◌, IsTrue};
-ghost use Rattle.chi_search.specs.Moves.{AreSorted};
-ghost use Rattle.chi_search.specs.Paths.{AreWithin};
+ghost use Rattle.chi_search.specs.Searchable.{AreSorted, AreWithin};
 
 use chi_trace::Observed;
 

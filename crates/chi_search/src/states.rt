@@ -1,6 +1,6 @@
 //! A set of states of a search. Most take 24 bytes, and those whose settled operations reach further more.
 
-ghost use Rattle.std.specs.Prelude.{◌≡◌, ◌⊎◌, ◌↔◌, [], IsTrue, OnOk};
+ghost use Rattle.std.specs.Prelude.{◌≡◌, ℕ, ◌<◌, ◌⊎◌, ◌↔◌, [], IsTrue, OnOk, Some, length, slice_get};
 ghost use Rattle.chi_search.specs.Positions.{Position, position_of};
 ghost use Rattle.chi_search.specs.StateSets.{Has, position_of_narrow, positions};
 
@@ -57,4 +57,38 @@ pub(crate) fn add(alloc: Global, states: &mut States, state: &State) -> Result<(
     } else {
         add_wide(alloc, &mut states.wide, state)
     }
+}
+
+/// How many states are in the set.
+pub(crate) fn count(states: &States) -> usize
+    ensures { result ≡ length (positions states.now) }
+{
+    states
+        .narrow
+        .states
+        .len()
+        .saturating_add(states.wide.states.len())
+}
+
+/// Makes the state the one at a place of the set.
+pub(crate) fn read(states: &States, place: usize, to: &mut State) -> Result<(), AllocError>
+    requires { place < length (positions states.now) }
+    ensures { OnOk result (slice_get (positions states.now) place ≡ Some (position_of to.new)) }
+{
+    to.settled.beyond.clear();
+    if place < states.narrow.states.len() {
+        let state = states.narrow.states[place];
+        to.first = state.first;
+        to.settled.near = state.settled;
+        to.word = state.word;
+        return Ok(());
+    }
+    let state = &states.wide.states[place - states.narrow.states.len()];
+    to.first = state.first;
+    to.settled.near = state.settled.near;
+    to.word = state.word;
+    for word in &state.settled.beyond {
+        to.settled.beyond.push(*word)?;
+    }
+    Ok(())
 }

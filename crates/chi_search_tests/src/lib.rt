@@ -11,3 +11,5 @@ mod open_tests;
 mod operations;
 #[cfg(test)]
 mod order_tests;
+#[cfg(test)]
+mod words_tests;

@@ -2,7 +2,7 @@
 
 use chi_fields::{Region, Request, decode};
 use chi_lanes::Reply;
-use chi_search::{Found, NoProgress, are_searchable, order_of};
+use chi_search::{Found, NoProgress, Words, are_searchable, order_of, words_of};
 use chi_trace::Observed;
 use std::alloc::Global;
 use std::test::Fail;
@@ -96,4 +96,35 @@ pub(crate) fn has_order(
 ) -> Result<bool, Fail> {
     let mut budget = 1000;
     Ok(order(alloc, ops, last, &mut budget)?.as_slice() == wanted)
+}
+
+/// The words that the operations can leave from these words on, in rising order. In their place stands the number 998 alone
+/// where the budget was spent, and 997 where the operations cannot be searched.
+pub(crate) fn words(
+    alloc: Global,
+    ops: &[Observed],
+    opening: &[u64],
+    budget: &mut u64,
+) -> Result<Vec<u64>, Fail> {
+    if !are_searchable(ops) {
+        return Ok(vec![in alloc; 997; 1]?);
+    }
+    match words_of(alloc, ops, opening, budget, &mut NoProgress)? {
+        Words::Each(mut each) => {
+            each.sort()?;
+            Ok(each)
+        }
+        Words::Unknown => Ok(vec![in alloc; 998; 1]?),
+    }
+}
+
+/// Whether these, in rising order, are the words that are found within 1,000 states.
+pub(crate) fn has_words(
+    alloc: Global,
+    ops: &[Observed],
+    opening: &[u64],
+    wanted: &[u64],
+) -> Result<bool, Fail> {
+    let mut budget = 1000;
+    Ok(words(alloc, ops, opening, &mut budget)?.as_slice() == wanted)
 }

@@ -4,7 +4,7 @@ use Rattle.std.proofs.lemmas.List.{get_or_read}
 use Rattle.chi_trace.specs.declared.observed.Observed.{Observed}
 use Rattle.chi_trace.specs.Explains.{at, nothing}
 use Rattle.chi_search.specs.declared.choice.Taken.{Taken}
-use Rattle.chi_search.specs.Found.{IfTaken}
+use Rattle.chi_search.specs.Choices.{IfTaken}
 use Rattle.chi_search.specs.Moves.{CanCome, Takes}
 use Rattle.chi_search.specs.Paths.{Moves}
 use Rattle.chi_search.specs.Positions.{position_of}

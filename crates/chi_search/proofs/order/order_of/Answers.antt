@@ -4,7 +4,7 @@ use Rattle.chi_trace.specs.Explains.{is_place}
 use Rattle.chi_trace.specs.Granules.{Finishes}
 use Rattle.chi_search.specs.declared.choice.Choice.{Choice}
 use Rattle.chi_search.specs.declared.path.Step.{Step}
-use Rattle.chi_search.specs.Found.{IfDead, IfEnded, IfStep}
+use Rattle.chi_search.specs.Choices.{IfDead, IfEnded, IfStep}
 use Rattle.chi_search.specs.Paths.{AllDead, IsDead, Moves, Walks, taken}
 use Rattle.chi_search.specs.Positions.{IsReady, Position, position_of, start}
 use Rattle.chi_search.proofs.Moves.{ended}

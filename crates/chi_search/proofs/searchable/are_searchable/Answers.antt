@@ -4,7 +4,7 @@ use Rattle.std.proofs.lemmas.Bool.{false≢true}
 use Rattle.std.proofs.lemmas.List.{get_or_default}
 use Rattle.chi_trace.specs.declared.observed.Observed.{Observed}
 use Rattle.chi_trace.specs.Explains.{at, nothing}
-use Rattle.chi_search.specs.Moves.{AreByEnd}
+use Rattle.chi_search.specs.Searchable.{AreByEnd}
 use Rattle.chi_search.proofs.searchable.are_searchable.Goals as goal
 use Rattle.chi_search.proofs.searchable.are_searchable.Goals.{then-op-before-via-then-op-before, then-op-before-via-else-op-before+then-op, then-op-before-via-else-op-before+else-op+then-addr-length}
 

@@ -1,0 +1,194 @@
+-- the sets of states of a search by layers, and the words that can follow
+use Rattle.std.proofs.Common.{◌≡◌, ℕ, ◌+◌, ◌^◌, ◌<◌, ◌≤◌, ◌⊎◌, ◌↔◌, List, [], ◌∷◌, get_or, length, slice_index, None, Some, sym, ap, subst, ◌∙◌, arith, inl, inr, below_more}
+use Rattle.std.proofs.lemmas.Bool.{cases_lt}
+use Rattle.std.specs.Prelude.{slice_get}
+use Rattle.std.proofs.lemmas.List.{get_or_read}
+use Rattle.std.proofs.lemmas.List.Elements.{Contains-get_or}
+use Rattle.std.proofs.lemmas.Option.{get_or_from_slice_get, slice_get_within}
+use Rattle.chi_trace.specs.declared.observed.Observed.{Observed}
+use Rattle.chi_trace.specs.Explains.{at, nothing}
+use Rattle.chi_trace.specs.Granules.{Fits}
+use Rattle.chi_search.specs.declared.choice.Taken.{Taken}
+use Rattle.chi_search.specs.declared.choice.Taken.TheVariants.{Idle, Yes}
+use Rattle.chi_search.specs.declared.states.States.{States}
+use Rattle.chi_search.specs.Choices.{IfTaken}
+use Rattle.chi_search.specs.Layers.{AreReady, SomeEnds}
+use Rattle.chi_search.specs.Moves.{CanCome, Drops, Ends, IsIdle, Takes}
+use Rattle.chi_search.specs.Paths.{AreEarliest}
+use Rattle.chi_search.specs.Positions.{IsReady, Position}
+use Rattle.chi_search.specs.Searchable.{AreSorted}
+use Rattle.chi_search.specs.StateSets.{Has, positions}
+use Rattle.chi_search.proofs.Moves.{ByDropping, ByTaking, from_dropped, from_idle, from_taken, goes_on, left_is}
+use Rattle.chi_search.proofs.Paths.{all_late}
+use Rattle.chi_search.proofs.Elements.{some_added}
+
+-- what is known of an operation that was taken
+pub when_yes : (t : Taken) (A : Type 0) → t ≡ Yes → IfTaken t A → A
+when_yes t A is = subst (λ (u : Taken). IfTaken u A → A) (sym is) (λ known. known)
+
+pub when_idle : (t : Taken) (A : Type 0) → t ≡ Idle → IfTaken t A → A
+when_idle t A is = subst (λ (u : Taken). IfTaken u A → A) (sym is) (λ known. known)
+
+-- the set has one state more
+abbrev pub IsAdded : States → States → Position → Type 0
+IsAdded new old s = (p : Position) → Has new p ↔ (Has old p ⊎ (p ≡ s))
+
+pub ends_more : (ops : List Observed) (new old : States) (s : Position) → IsAdded new old s → (v : ℕ)
+    → SomeEnds ops new v ↔ (SomeEnds ops old v ⊎ Ends ops (Some v) s)
+ends_more ops new old s added v = some_added (Ends ops (Some v)) (Has new) (Has old) s added
+
+pub ready_more : (ops : List Observed) (new old : States) (s : Position) → IsAdded new old s → IsReady (length ops) s → AreReady ops old → AreReady ops new
+ready_more ops new old s added ready all p has = elim ((added p).0 has) [
+  | inl before ↦ all p before
+  | inr same ↦ subst (IsReady (length ops)) (sym same) ready
+]
+
+-- The set has only states more that p can come to, and one for each order that begins by an operation before the place.
+pub record Grown (ops : List Observed) (old now : States) (p : Position) (k : ℕ) : Type 0 where
+  pub forth : (v : ℕ) → SomeEnds ops now v → SomeEnds ops old v ⊎ Ends ops (Some v) p
+  pub back : (v : ℕ) → SomeEnds ops old v → SomeEnds ops now v
+  pub tried : (v i : ℕ) → i < k → ByTaking ops (Some v) p i → SomeEnds ops now v
+  pub ready : AreReady ops old → AreReady ops now
+
+-- none is before the first
+pub not_grown : (ops : List Observed) (old : States) (p : Position) → Grown ops old old p p.first
+not_grown ops old p = record {
+  forth = λ v some. inl some;
+  back = λ v some. some;
+  tried = λ v i before taking. none v i before taking;
+  ready = λ all. all;
+}
+  where
+    none : (v i : ℕ) → i < p.first → ByTaking ops (Some v) p i → SomeEnds ops old v
+    none v i before taking = let is = left_is (length ops) p i taken.0 in absurd (omega (arith, before, is.1))
+      where
+        taken : CanCome ops p i
+        taken = taking.0
+
+-- one state more that p can come to
+pub grown_by : (ops : List Observed) (old now new : States) (p q : Position) (k : ℕ) → Grown ops old now p k → IsAdded new now q → IsReady (length ops) q
+    → ((v : ℕ) → Ends ops (Some v) q → Ends ops (Some v) p) → Grown ops old new p k
+grown_by ops old now new p q k grown added ready leads = record {
+  forth = forth;
+  back = λ v some. still v (grown.back v some);
+  tried = λ v i before taking. still v (grown.tried v i before taking);
+  ready = λ all. ready_more ops new now q added ready (grown.ready all);
+}
+  where
+    still : (v : ℕ) → SomeEnds ops now v → SomeEnds ops new v
+    still v some = (ends_more ops new now q added v).1 (inl some)
+
+    forth : (v : ℕ) → SomeEnds ops new v → SomeEnds ops old v ⊎ Ends ops (Some v) p
+    forth v some = elim ((ends_more ops new now q added v).0 some) [
+      | inl before ↦ grown.forth v before
+      | inr here ↦ inr (leads v here)
+    ]
+
+-- no order begins by the operation at the place, since it fits nothing
+pub grown_refused : (ops : List Observed) (old now : States) (p : Position) (k : ℕ) → Grown ops old now p k
+    → (CanCome ops p k → Fits (at ops k) p.word → ⊥) → Grown ops old now p (k + 1)
+grown_refused ops old now p k grown refused = record {
+  forth = grown.forth;
+  back = grown.back;
+  tried = λ v. below_more (λ i. ByTaking ops (Some v) p i → SomeEnds ops now v) k (grown.tried v) (λ taking. absurd (refused taking.0 taking.1));
+  ready = grown.ready;
+}
+
+-- orders that begin by it go on from the state after it
+takes_on : (ops : List Observed) (p q : Position) (k v : ℕ) → AreSorted ops → CanCome ops p k → Takes ops p k q → q.word < 2 ^ 64
+    → Ends ops (Some v) q → Ends ops (Some v) p
+takes_on ops p q k v sorted comes takes below (x, c) = (k ∷ x, from_taken ops (Some v) p q k x sorted comes takes below c)
+
+pub grown_taken : (ops : List Observed) (old now new : States) (p q : Position) (k : ℕ) → Grown ops old now p k → IsAdded new now q → IsReady (length ops) q
+    → AreSorted ops → CanCome ops p k → Takes ops p k q → q.word < 2 ^ 64 → Grown ops old new p (k + 1)
+grown_taken ops old now new p q k grown added ready sorted comes takes below = record {
+  forth = more.forth;
+  back = more.back;
+  tried = λ v. below_more (λ i. ByTaking ops (Some v) p i → SomeEnds ops new v) k (more.tried v)
+      (λ taking. (ends_more ops new now q added v).1 (inr (taking.3 q takes)));
+  ready = more.ready;
+}
+  where
+    more : Grown ops old new p k
+    more = grown_by ops old now new p q k grown added ready (λ v. takes_on ops p q k v sorted comes takes below)
+
+-- the words that can follow from p are among those that can follow from the set
+abbrev pub IsWhole : List Observed → States → States → Position → Type 0
+IsWhole ops new old p = (v : ℕ) → SomeEnds ops new v ↔ (SomeEnds ops old v ⊎ Ends ops (Some v) p)
+
+whole : (ops : List Observed) (old now : States) (p : Position) (k : ℕ) → Grown ops old now p k → ((v : ℕ) → Ends ops (Some v) p → SomeEnds ops now v)
+    → IsWhole ops now old p
+whole ops old now p k grown all v = (grown.forth v, back)
+  where
+    back : (SomeEnds ops old v ⊎ Ends ops (Some v) p) → SomeEnds ops now v
+    back (inl before) = grown.back v before
+    back (inr ends) = all v ends
+
+-- where an operation that changes nothing can come next, each order goes on from the state after it
+pub whole_idle : (ops : List Observed) (old now new : States) (p q : Position) (k : ℕ) → Grown ops old now p k → IsAdded new now q → IsReady (length ops) q
+    → AreSorted ops → CanCome ops p k → Takes ops p k q → p.word < 2 ^ 64 → q.word < 2 ^ 64 → IsIdle (at ops k) → IsWhole ops new old p
+whole_idle ops old now new p q k grown added ready sorted comes takes finds leaves idle =
+    whole ops old new p (k + 1) (grown_taken ops old now new p q k grown added ready sorted comes takes leaves)
+    (λ v ends. (ends_more ops new now q added v).1 (inr (from_idle ops (Some v) p q k finds comes idle takes ends)))
+
+-- No operation from the place on can come next: so each order begins by one before it, or without the first.
+abbrev pub IsLate : List Observed → Position → ℕ → Type 0
+IsLate ops p k = (i : ℕ) → k ≤ i → i < length ops → (at ops p.first).end < (at ops i).start
+
+pub is_late : (ops : List Observed) (times : List ℕ) (p : Position) (k : ℕ) (op : Observed) → p.first < length ops → AreEarliest ops times → op ≡ get_or ops p.first op
+    → (get_or ops p.first op).end < slice_index times k → IsLate ops p k
+is_late ops times p k op below earliest is late =
+    subst (λ (o : Observed). (i : ℕ) → k ≤ i → i < length ops → o.end < (at ops i).start) (sym is ∙ get_or_read ops p.first op below is nothing)
+    (all_late ops times k (get_or ops p.first op).end earliest late)
+
+begins : (ops : List Observed) (old now : States) (p : Position) (k v : ℕ) → Grown ops old now p k → AreSorted ops → IsReady (length ops) p → p.first < length ops
+    → IsLate ops p k → (ByDropping ops (Some v) p → SomeEnds ops now v) → Ends ops (Some v) p → SomeEnds ops now v
+begins ops old now p k v grown sorted ready below late dropping (x, c) = elim (goes_on ops (Some v) p x sorted ready below c) [
+  | inl (i, taking) ↦ elim (cases_lt i k) [
+    | inl before ↦ grown.tried v i before taking
+    | inr from ↦ absurd (too_late i from taking.0)
+  ]
+  | inr by ↦ dropping by
+]
+  where
+    too_late : (i : ℕ) → k ≤ i → CanCome ops p i → ⊥
+    too_late i from comes =
+        let is = left_is (length ops) p i comes.0 in
+        let later : (at ops p.first).end < (at ops i).start = late i from is.0 in
+        omega (arith, later, comes.1)
+
+-- without the first, where its reply was not seen
+pub whole_dropped : (ops : List Observed) (old now new : States) (p q : Position) (k : ℕ) → Grown ops old now p k → IsAdded new now q → IsReady (length ops) q
+    → AreSorted ops → IsReady (length ops) p → p.first < length ops → IsLate ops p k → Drops ops p q → IsWhole ops new old p
+whole_dropped ops old now new p q k grown added after sorted ready below late drops =
+    whole ops old new p k more (λ v. begins ops old new p k v more sorted ready below late (λ dropping. (ends_more ops new now q added v).1 (inr (dropping.1 q drops))))
+  where
+    leads : (v : ℕ) → Ends ops (Some v) q → Ends ops (Some v) p
+    leads v (x, c) = (x, from_dropped ops (Some v) p q x ready below drops c)
+
+    more : Grown ops old new p k
+    more = grown_by ops old now new p q k grown added after leads
+
+-- and where it was seen
+pub whole_answered : (ops : List Observed) (old now : States) (p : Position) (k : ℕ) → Grown ops old now p k
+    → AreSorted ops → IsReady (length ops) p → p.first < length ops → IsLate ops p k → ((at ops p.first).reply ≡ None → ⊥) → IsWhole ops now old p
+whole_answered ops old now p k grown sorted ready below late answered =
+    whole ops old now p k grown (λ v. begins ops old now p k v grown sorted ready below late (λ dropping. absurd (answered dropping.0)))
+
+-- the empty set
+pub none_ready : (ops : List Observed) (states : States) → positions states ≡ [] → AreReady ops states
+none_ready ops states none p (x, below, same) = absurd (omega (arith, below, ap length none))
+
+pub none_ends : (ops : List Observed) (states : States) (v : ℕ) → positions states ≡ [] → SomeEnds ops states v → ⊥
+none_ends ops states v none (p, (x, below, same), ends) = omega (arith, below, ap length none)
+
+pub none_has : (states : States) (p : Position) → positions states ≡ [] → Has states p → ⊥
+none_has states p none (x, below, same) = omega (arith, below, ap length none)
+
+-- a state that was read is in the set
+pub has_at : (states : States) (k : ℕ) (p : Position) → slice_get (positions states) k ≡ Some p → Has states p
+has_at states k p is =
+    subst (Has states) (get_or_from_slice_get (positions states) k p p is) (Contains-get_or (positions states) k p (slice_get_within (positions states) k p is))
+
+pub ready_at : (ops : List Observed) (states : States) (k : ℕ) (p : Position) → slice_get (positions states) k ≡ Some p → AreReady ops states → IsReady (length ops) p
+ready_at ops states k p is all = all p (has_at states k p is)

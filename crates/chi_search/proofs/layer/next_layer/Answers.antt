@@ -1,0 +1,42 @@
+-- the states that follow one state more
+use Rattle.std.proofs.Common.{◌+◌, ◌≤◌, ◌↔◌, Some, length, take, sym, subst, arith}
+use Rattle.chi_search.specs.declared.states.States.{States}
+use Rattle.chi_search.specs.Layers.{AreReady, SomeEnds}
+use Rattle.chi_search.specs.Moves.{Ends}
+use Rattle.chi_search.specs.Positions.{IsReady, position_of}
+use Rattle.chi_search.specs.StateSets.{positions}
+use Rattle.chi_search.proofs.Layers.{ends_more, ready_at, ready_more}
+use Rattle.chi_search.proofs.Elements.{SomeOf, some_end, some_step}
+use Rattle.chi_search.proofs.layer.next_layer.Goals as goal
+use Rattle.chi_search.proofs.layer.next_layer.Goals.{else-state-ops+in_ok-add_moves, then-state-ops+in_ok-add_new}
+
+pub loop-place-preserved : goal.loop-place-preserved
+loop-place-preserved g c =
+    let ops = c.args.ops.now in
+    let xs = positions c.args.layer.now in
+    let k = c.loop-place.place in
+    let old = c.loop-place.states in
+    let p = position_of c.read.new.to in
+    let ready : IsReady (length ops) p = ready_at ops c.args.layer.now k p c.in_ok-read.ensures c.requires.ready in
+    elim c.if-state-ops.branch [
+      | then-state-ops+in_ok-add_new w ↦ record {
+        ends = λ v. subst (λ (now : States). SomeEnds ops now v ↔ SomeOf (Ends ops (Some v)) (take (k + 1) xs)) (sym w.states-is)
+            (some_step (Ends ops (Some v)) (SomeEnds ops old v) (SomeEnds ops w.add_new.new.states v) xs k p c.in_ok-read.ensures (c.loop-place.invariant.ends v)
+            (ends_more ops w.add_new.new.states old p w.in_ok-add_new.ensures v));
+        ready = subst (AreReady ops) (sym w.states-is) (ready_more ops w.add_new.new.states old p w.in_ok-add_new.ensures ready c.loop-place.invariant.ready);
+        spends = omega arith;
+      }
+      | else-state-ops+in_ok-add_moves w ↦ record {
+        ends = λ v. subst (λ (now : States). SomeEnds ops now v ↔ SomeOf (Ends ops (Some v)) (take (k + 1) xs)) (sym w.states-is)
+            (some_step (Ends ops (Some v)) (SomeEnds ops old v) (SomeEnds ops w.add_moves.new.states v) xs k p c.in_ok-read.ensures (c.loop-place.invariant.ends v)
+            (w.in_ok-add_moves.ensures.ends v));
+        ready = subst (AreReady ops) (sym w.states-is) (w.in_ok-add_moves.ensures.ready c.loop-place.invariant.ready);
+        spends = omega arith;
+      }
+    ]
+
+pub returns-clause-ends : goal.returns-clause-ends
+returns-clause-ends g c v =
+    let n = c.loop-place.place in
+    let whole : length (positions c.args.layer.now) ≤ n = omega arith in
+    some_end (Ends c.args.ops.now (Some v)) (SomeEnds c.args.ops.now c.loop-place.states v) (positions c.args.layer.now) n whole (c.loop-place.invariant.ends v)

@@ -1,0 +1,144 @@
+//! Sets of states, each one move after those of the one before.
+
+ghost use Rattle.std.specs.Prelude.{◌≡◌, ◌≢◌, ℕ, ◌+◌, ◌<◌, ◌≤◌, ◌⊎◌, ◌↔◌, IfOk, IfSome, IsTrue, None, OnOk, false, length};
+ghost use Rattle.std.specs.List.{AllPairs, Contains};
+ghost use Rattle.chi_search.specs.Layers.{AreReady, SomeEnds};
+ghost use Rattle.chi_search.specs.Moves.{Ends};
+ghost use Rattle.chi_search.specs.Paths.{AreEarliest};
+ghost use Rattle.chi_search.specs.Positions.{IsReady, Position, position_of, start};
+ghost use Rattle.chi_search.specs.Searchable.{AreSorted, AreWithin};
+ghost use Rattle.chi_search.specs.StateSets.{Has, positions};
+
+use crate::choice::{Taken, leave_out, take};
+use crate::progress::Progress;
+use crate::state::{State, first_state};
+use crate::states::{States, add, count, has, no_states, read};
+use chi_trace::Observed;
+use std::alloc::{AllocError, Global};
+
+/// Adds a state to the set, where it is not there.
+pub(crate) fn add_new(alloc: Global, states: &mut States, state: &State) -> Result<(), AllocError>
+    ensures { OnOk result ((p : Position) → Has states.new p ↔ (Has states.old p ⊎ (p ≡ position_of state.now))) }
+{
+    if has(states, state) {
+        return Ok(());
+    }
+    add(alloc, states, state)
+}
+
+/// Adds each state that follows a state by one move. Where an operation that changes nothing can come next, the state after it
+/// stands for all.
+fn add_moves(
+    alloc: Global,
+    ops: &[Observed],
+    earliest: &[u64],
+    state: &State,
+    next: &mut State,
+    states: &mut States,
+) -> Result<(), AllocError>
+    requires sorted { AreSorted ops.now }
+    requires within { AreWithin ops.now }
+    requires earliest { AreEarliest ops.now earliest.now }
+    requires first { state.now.first < length ops.now }
+    requires ready { IsReady (length ops.now) (position_of state.now) }
+    ensures ends { OnOk result ((v : ℕ) → SomeEnds ops.now states.new v ↔ (SomeEnds ops.now states.old v ⊎ Ends ops.now (Some v) (position_of state.now))) }
+    ensures ready { OnOk result (AreReady ops.now states.old → AreReady ops.now states.new) }
+{
+    let end = ops[state.first].end;
+    let mut place = state.first;
+    while place < ops.len() && earliest[place] <= end {
+        match take(ops, state, place, next)? {
+            Taken::No => {}
+            Taken::Yes => add_new(alloc, states, next)?,
+            Taken::Idle => return add_new(alloc, states, next),
+        }
+        place += 1;
+    }
+    if leave_out(ops, state, next)? {
+        add_new(alloc, states, next)?;
+    }
+    Ok(())
+}
+
+/// The states that follow the states of a set by one move, and those of it in which none is left; or nothing, where the
+/// budget was spent.
+pub(crate) fn next_layer<P: Progress>(
+    alloc: Global,
+    ops: &[Observed],
+    earliest: &[u64],
+    layer: &States,
+    budget: &mut u64,
+    progress: &mut P,
+) -> Result<Option<States>, AllocError>
+    requires sorted { AreSorted ops.now }
+    requires within { AreWithin ops.now }
+    requires earliest { AreEarliest ops.now earliest.now }
+    requires ready { AreReady ops.now layer.now }
+    ensures ends { IfOk result (λ next. IfSome next (λ states. (v : ℕ) → SomeEnds ops.now states v ↔ SomeEnds ops.now layer.now v)) }
+    ensures ready { IfOk result (λ next. IfSome next (λ states. AreReady ops.now states)) }
+    ensures spends { IfOk result (λ next. IfSome next (λ states. budget.new + length (positions layer.now) ≡ budget.old)) }
+    ensures spent { IfOk result (λ next. next ≡ None → budget.new ≡ 0) }
+{
+    let mut states = no_states(alloc);
+    let mut state = first_state(alloc, 0);
+    let mut next = first_state(alloc, 0);
+    for place in 0..count(layer) {
+        if *budget == 0 {
+            return Ok(None);
+        }
+        *budget -= 1;
+        progress.look();
+        read(layer, place, &mut state)?;
+        if state.first >= ops.len() {
+            add_new(alloc, &mut states, &state)?;
+        } else {
+            add_moves(alloc, ops, earliest, &state, &mut next, &mut states)?;
+        }
+    }
+    Ok(Some(states))
+}
+
+/// The states in which none is settled, one for each word.
+pub(crate) fn first_layer(alloc: Global, words: &[u64]) -> Result<States, AllocError>
+    ensures { IfOk result (λ layer. (p : Position) → Has layer p ↔ ((w : ℕ) × Contains words.now w × (p ≡ start w))) }
+{
+    let mut layer = no_states(alloc);
+    for word in words {
+        add_new(alloc, &mut layer, &first_state(alloc, *word))?;
+    }
+    Ok(layer)
+}
+
+/// Whether in each state of the set none is left.
+pub(crate) fn are_ended(ops: &[Observed], layer: &States) -> bool
+    ensures ended { IsTrue result → (p : Position) → Has layer.now p → length ops.now ≤ p.first }
+    ensures some { result ≡ false → 0 < length (positions layer.now) }
+{
+    for state in &layer.narrow.states {
+        if state.first < ops.len() {
+            return false;
+        }
+    }
+    for state in &layer.wide.states {
+        if state.first < ops.len() {
+            return false;
+        }
+    }
+    true
+}
+
+/// The words of the states of a set, each once.
+pub(crate) fn words_in(alloc: Global, layer: &States) -> Result<Vec<u64>, AllocError>
+    ensures words { IfOk result (λ words. (w : ℕ) → Contains words.items w ↔ ((p : Position) × Has layer.now p × (p.word ≡ w))) }
+    ensures once { IfOk result (λ words. AllPairs (λ v w. v ≢ w) words.items) }
+{
+    let mut words: Vec<u64> = Vec::new(alloc);
+    let mut state = first_state(alloc, 0);
+    for place in 0..count(layer) {
+        read(layer, place, &mut state)?;
+        if !words.contains(&state.word) {
+            words.push(state.word)?;
+        }
+    }
+    Ok(words)
+}
