@@ -1,0 +1,39 @@
+-- what is said where a granule's operations are not explained up to a time, and the whole trace is up to the time before
+use Rattle.std.proofs.Common.{◌≡◌, ℕ, List, [], None, filter, refl, subst}
+use Rattle.chi_search.specs.declared.words.Words.{Words}
+use Rattle.chi_search.specs.declared.words.Words.TheVariants.{Each, Unknown}
+use Rattle.chi_search.specs.Found.{IfWords}
+use Rattle.chi_trace.specs.declared.observed.Observed.{Observed}
+use Rattle.chi_trace.specs.Cuts.{cut}
+use Rattle.chi_trace.specs.Explains.{Explains, IsTrace, unobserved}
+use Rattle.chi_trace.specs.Granules.{ExplainsGranule, is_of}
+use Rattle.chi_trace.specs.TraceLaws.{PartsExplain}
+use Rattle.chi_verdict.specs.declared.words.GranuleWord.{GranuleWord}
+use Rattle.chi_verdict.specs.Words.{AreWords, memory_of, told, word_told}
+use Rattle.chi_verdict.proofs.Cuts.{IsTrace-cut}
+use Rattle.chi_verdict.proofs.Memory.{IsMemory-memory_of, word_of-memory_of}
+
+-- where no order explains a granule's operations, none explains the whole
+pub whole_unexplained : PartsExplain → (opening : List GranuleWord) (ops : List Observed) (g : ℕ) → AreWords opening → IsTrace ops
+    → ((order : List ℕ) → ExplainsGranule ops g (word_told opening g) None order → ⊥)
+    → (order : List ℕ) → Explains (memory_of opening) unobserved ops order → ⊥
+whole_unexplained parts opening ops g words is none order explains =
+    none (filter (is_of ops g) order)
+    (subst (λ (w : ℕ). ExplainsGranule ops g w None (filter (is_of ops g) order)) (word_of-memory_of opening g words)
+    (parts (memory_of opening) unobserved ops order (IsMemory-memory_of opening) is explains g).0)
+
+-- the same at a time
+pub unexplained_at : PartsExplain → (opening : List GranuleWord) (ops : List Observed) (g time : ℕ) → AreWords opening → IsTrace ops
+    → ((order : List ℕ) → ExplainsGranule (cut time ops) g (word_told opening g) None order → ⊥)
+    → (order : List ℕ) → Explains (memory_of opening) unobserved (cut time ops) order → ⊥
+unexplained_at parts opening ops g time words is none = whole_unexplained parts opening (cut time ops) g words (IsTrace-cut time ops is) none
+
+-- no word is told where none are
+pub none_is_told : (g : ℕ) → told [] g ≡ None
+unfolding told
+none_is_told g = refl
+
+-- what follows from what is said of the words that were found
+pub words_imply : (found : Words) (P Q : List ℕ → Type 0) → ((each : List ℕ) → P each → Q each) → IfWords found P → IfWords found Q
+words_imply (Each words) P Q implies said = implies words.items said
+words_imply Unknown P Q implies said = tt

@@ -1,0 +1,72 @@
+-- the memory after the operations of an order so far
+use Rattle.std.proofs.Common.{◌≡◌, ℕ, zero, suc, ◌+◌, ◌<◌, ◌==◌, Bool, true, false, cond, List, [], ◌∷◌, length, take, get_or, refl, sym, ap, ◌∙◌, arith, add-one, Option, Some}
+use Rattle.std.specs.Option.{unwrap_or}
+use Rattle.std.specs.Ordering.{is_eq, nat_cmp}
+use Rattle.std.proofs.lemmas.Bool.{eqb-true}
+use Rattle.std.proofs.lemmas.List.Elements.{All-head, All-tail, All-take}
+use Rattle.chi_lanes.specs.After.{after}
+use Rattle.chi_lanes.specs.Memory.{Memory, IsMemory}
+use Rattle.chi_lanes.proofs.AfterLemmas.{IsMemory-after}
+use Rattle.chi_trace.specs.declared.observed.Observed.{Observed}
+use Rattle.chi_trace.specs.Explains.{IsObserved, IsTrace, at, is_place, memory_after, word_of}
+use Rattle.chi_trace.specs.Granules.{granule_of, next}
+use Rattle.chi_trace.proofs.Orders.{ArePlaces, observed_at}
+use Rattle.chi_trace.proofs.Steps.{word_of-next, word_of-other}
+use Rattle.chi_verdict.proofs.Entries.{same_key}
+
+IsMemory-memory_after : (ops : List Observed) (m : Memory) (order : List ℕ) → IsTrace ops → IsMemory m → ArePlaces ops order → IsMemory (memory_after ops m order)
+unfolding memory_after
+IsMemory-memory_after ops m [] traced is places = is
+IsMemory-memory_after ops m (i ∷ order) traced is places =
+    let here : is_place ops i ≡ true = All-head (λ i. is_place ops i ≡ true) i order places in
+    IsMemory-memory_after ops (after (at ops i).access m) order traced
+    (IsMemory-after (at ops i).access m is (observed_at ops i traced here).lawful) (All-tail (λ i. is_place ops i ≡ true) i order places)
+
+memory_after_more : (ops : List Observed) (m : Memory) (order : List ℕ) (i : ℕ) → i < length order
+    → memory_after ops m (take (suc i) order) ≡ after (at ops (get_or order i 0)).access (memory_after ops m (take i order))
+unfolding memory_after
+memory_after_more ops m [] i under = absurd (omega arith)
+memory_after_more ops m (j ∷ order) zero under = refl
+memory_after_more ops m (j ∷ order) (suc i) under = let rest : i < length order = omega arith in memory_after_more ops (after (at ops j).access m) order i rest
+
+-- the word of a granule after one more operation
+word_after_more : (ops : List Observed) (m : Memory) (order : List ℕ) (i g : ℕ) → IsTrace ops → IsMemory m → ArePlaces ops order → i < length order
+    → word_of (memory_after ops m (take (i + 1) order)) g
+    ≡ cond (granule_of (at ops (get_or order i 0)) == g) (next (at ops (get_or order i 0)) (word_of (memory_after ops m (take i order)) g)) (word_of (memory_after ops m (take i order)) g)
+word_after_more ops m order i g traced is places under =
+    rw (add-one i) (ap (λ (n : Memory). word_of n g) (memory_after_more ops m order i under)) ∙ by_test (granule_of op == g) refl
+  where
+    op : Observed
+    op = at ops (get_or order i 0)
+
+    before : Memory
+    before = memory_after ops m (take i order)
+
+    is_memory : IsMemory before
+    is_memory = IsMemory-memory_after ops m (take i order) traced is (All-take (λ i. is_place ops i ≡ true) i order places)
+
+    observed : IsObserved op
+    observed = observed_at ops (get_or order i 0) traced (places i 0 under)
+
+    by_test : (b : Bool) → (granule_of op == g) ≡ b → word_of (after op.access before) g ≡ cond b (next op (word_of before g)) (word_of before g)
+    by_test true own = sym (word_of-next op before g is_memory observed.lawful (eqb-true (granule_of op) g own))
+    by_test false other = word_of-other op before g observed.lawful other
+
+-- a map that has the words before an operation has those after it, once it has the word that the operation leaves
+pub replay_step : (ops : List Observed) (m : Memory) (order : List ℕ) (i g k word : ℕ) (old new : Option ℕ) → IsTrace ops → IsMemory m → ArePlaces ops order → i < length order
+    → granule_of (at ops (get_or order i 0)) ≡ k → word ≡ next (at ops (get_or order i 0)) (word_of (memory_after ops m (take i order)) k)
+    → unwrap_or old 0 ≡ word_of (memory_after ops m (take i order)) g → new ≡ cond (is_eq (nat_cmp k g)) (Some word) old
+    → unwrap_or new 0 ≡ word_of (memory_after ops m (take (i + 1) order)) g
+replay_step ops m order i g k word old new traced is places under here word_is old_is new_is =
+    ap (λ o. unwrap_or o 0) (new_is ∙ ap (λ b. cond b (Some word) old) (same_key k g))
+    ∙ (by_test (k == g) refl ∙ sym (word_after_more ops m order i g traced is places under ∙ ap (λ j. cond (j == g) (next op (word_of before g)) (word_of before g)) here))
+  where
+    op : Observed
+    op = at ops (get_or order i 0)
+
+    before : Memory
+    before = memory_after ops m (take i order)
+
+    by_test : (b : Bool) → (k == g) ≡ b → unwrap_or (cond b (Some word) old) 0 ≡ cond b (next op (word_of before g)) (word_of before g)
+    by_test true same = word_is ∙ ap (λ j. next op (word_of before j)) (eqb-true k g same)
+    by_test false other = old_is

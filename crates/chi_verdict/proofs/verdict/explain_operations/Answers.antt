@@ -1,0 +1,147 @@
+-- the walk begins, goes on past a granule, and has passed all
+use Rattle.std.proofs.Common.{◌≡◌, ℕ, List, All, Option, None, true, take, drop, filter, get_or, refl, sym, ap, subst, ◌∙◌, arith, is_some, true≢false}
+use Rattle.std.proofs.lemmas.List.Elements.{All-map}
+use Rattle.chi_search.specs.declared.order.Found.{Found}
+use Rattle.chi_search.specs.Found.{IfNothing, IfOrder}
+use Rattle.chi_trace.specs.Explains.{is_place, word_of}
+use Rattle.chi_trace.specs.Granules.{ExplainsGranule, is_of}
+use Rattle.chi_verdict.specs.declared.weaving.Point.{Point}
+use Rattle.chi_verdict.specs.declared.words.GranuleWord.{GranuleWord}
+use Rattle.chi_verdict.specs.Groups.{IsGrouped}
+use Rattle.chi_verdict.specs.Points.{order_of}
+use Rattle.chi_verdict.specs.Words.{memory_of, told, word_told}
+use Rattle.chi_verdict.proofs.Memory.{IsMemory-memory_of, word_of-memory_of}
+use Rattle.chi_verdict.proofs.Parts.{group_of}
+use Rattle.chi_verdict.proofs.Walked.{Passes, Walked, further, no_lower, past_below}
+use Rattle.chi_verdict.proofs.WalkedOn.{begins, found, goes_on, inside_of, undecided_on}
+use Rattle.chi_verdict.proofs.verdict.explain_operations.Goals as goal
+use Rattle.chi_verdict.proofs.verdict.explain_operations.Given.{Over}
+use Rattle.chi_verdict.proofs.verdict.explain_operations.Goals.{in-Order+in_ok-add_points-in-Order, in-Undecided+then-is_none, in-Undecided+else-is_none}
+
+pub loop-granule-init : goal.loop-granule-init
+loop-granule-init g c =
+    let places = c.as_slice-places.result.now in
+    let grouped = subst (IsGrouped c.args.ops.now (is_place c.args.ops.now)) (sym c.as_slice-places.ensures.value) c.in_ok-grouped.ensures in
+    record {
+      from_in = omega arith;
+      told_in = omega arith;
+      walked = subst (Walked c.args.opening.now c.as_slice-words.result.now c.args.ops.now places 0 0 None) (sym c.in_ok-points.ensures.items)
+          (begins c.args.opening.now c.as_slice-words.result.now c.args.ops.now places grouped);
+    }
+
+pub past_granule-to-requires-clause-least : goal.past_granule-to-requires-clause-least
+past_granule-to-requires-clause-least g c =
+    no_lower (λ p. p.granule) (drop c.loop-granule.from c.as_slice-places.result.now) c.in-Some.granule (λ h below. (c.in-Some.ensures.least h below).0)
+
+pub search_granule-requires-clause-grouped : goal.search_granule-requires-clause-grouped
+search_granule-requires-clause-grouped g c =
+    let places = c.as_slice-places.result.now in
+    let grouped = subst (IsGrouped c.args.ops.now (is_place c.args.ops.now)) (sym c.as_slice-places.ensures.value) c.in_ok-grouped.ensures in
+    group_of c.args.ops.now places c.loop-granule.from c.past_granule-to.result c.in-Some.granule grouped c.past_granule-to.ensures.from c.past_granule-to.ensures.within
+    (λ k d under. past_below places c.loop-granule.from c.as_slice-words.result.now c.loop-granule.told c.in-Some.granule (get_or (take c.loop-granule.from places) k d).granule
+    c.in-Some.ensures.there (c.loop-granule.invariant.walked.behind k d under))
+    c.past_granule-to.ensures.own c.past_granule-to.ensures.later
+
+pub add_points-requires-clause-places : goal.add_points-requires-clause-places
+add_points-requires-clause-places g c =
+    let explains = subst (λ (f : Found). IfOrder f (λ order. ExplainsGranule c.args.ops.now c.in-Some.granule c.word.result c.get-last.result order)) c.in-Order.is c.in_ok-order.ensures.order in
+    subst (All (λ i. is_place c.args.ops.now i ≡ true)) (sym c.deref.ensures.value)
+    (inside_of c.args.ops.now c.in-Some.granule c.word.result c.get-last.result c.in-Order.order.items explains)
+
+pub returns-in-Nothing-clause-unexplained : goal.returns-in-Nothing-clause-unexplained
+returns-in-Nothing-clause-unexplained g c order explains =
+    let ops = c.args.ops.now in
+    let n = c.in-Some.granule in
+    let memory = memory_of c.args.opening.now in
+    let none = subst (λ (f : Found). IfNothing f ((x : List ℕ) → ExplainsGranule ops n c.word.result c.get-last.result x → ⊥)) c.in-Nothing.is c.in_ok-order.ensures.nothing in
+    let part = (c.parts_explain.ensures memory (told c.args.finals.now) ops order (IsMemory-memory_of c.args.opening.now) c.requires.traced explains n).0 in
+    let word = word_of-memory_of c.args.opening.now n c.requires.words ∙ sym c.word.ensures in
+    none (filter (is_of ops n) order)
+    (subst (λ (w : ℕ). ExplainsGranule ops n w c.get-last.result (filter (is_of ops n) order)) word
+    (subst (λ (f : Option ℕ). ExplainsGranule ops n (word_of memory n) f (filter (is_of ops n) order)) (sym c.get-last.ensures) part))
+
+pub past_word-told-requires-clause-told : goal.past_word-told-requires-clause-told
+past_word-told-requires-clause-told g c = c.loop-granule.invariant.told_in
+
+pub past_word-told-requires-clause-least : goal.past_word-told-requires-clause-least
+past_word-told-requires-clause-least g c =
+    no_lower (λ (w : GranuleWord). w.granule) (drop c.loop-granule.told c.as_slice-words.result.now) c.in-Some.granule (λ h below. (c.in-Some.ensures.least h below).1)
+
+-- the walk passes the granule
+passes : (g : Over) (c : goal.After-past_word-told g)
+    → Passes c.as_slice-places.result.now c.loop-granule.from c.past_granule-to.result c.as_slice-words.result.now c.loop-granule.told c.past_word-told.result c.in-Some.granule
+passes g c = record {
+  least = c.in-Some.ensures.least;
+  there = c.in-Some.ensures.there;
+  from_to = c.past_granule-to.ensures.from;
+  own = c.past_granule-to.ensures.own;
+  later = c.past_granule-to.ensures.later;
+  word_next = c.past_word-told.ensures.from;
+  own_words = c.past_word-told.ensures.own;
+  later_words = c.past_word-told.ensures.later;
+}
+
+pub loop-granule-smaller : goal.loop-granule-smaller
+loop-granule-smaller g c =
+    further c.as_slice-places.result.now c.loop-granule.from c.past_granule-to.result c.as_slice-words.result.now c.loop-granule.told c.past_word-told.result c.in-Some.granule
+    (passes g c) c.past_granule-to.ensures.within c.past_word-told.ensures.within
+
+pub loop-granule-preserved : goal.loop-granule-preserved
+loop-granule-preserved g c =
+    let ops = c.args.ops.now in
+    let places = c.as_slice-places.result.now in
+    let words = c.as_slice-words.result.now in
+    let opening = c.args.opening.now in
+    let n = c.in-Some.granule in
+    let from = c.loop-granule.from in
+    let to = c.past_granule-to.result in
+    let word = c.loop-granule.told in
+    let next = c.past_word-told.result in
+    let grouped = subst (IsGrouped ops (is_place ops)) (sym c.as_slice-places.ensures.value) c.in_ok-grouped.ensures in
+    let walked = c.loop-granule.invariant.walked in
+    let points = c.loop-granule.points.items in
+    let undecided = c.loop-granule.undecided in
+    let after = c.match-branch-4.undecided in
+    record {
+      from_in = c.past_granule-to.ensures.within;
+      told_in = c.past_word-told.ensures.within;
+      walked = elim c.match-branch-4.branch [
+        | in-Order+in_ok-add_points-in-Order w ↦
+            let added = w.in_ok-add_points-in-Order.ensures in
+            let explains = subst (λ (f : Found). IfOrder f (λ order. ExplainsGranule ops n c.word.result c.get-last.result order)) w.in-Order.is c.in_ok-order.ensures.order in
+            let own = subst (λ (v : ℕ). ExplainsGranule ops n v (told words n) w.in-Order.order.items) c.word.ensures
+            (subst (λ (f : Option ℕ). ExplainsGranule ops n c.word.result f w.in-Order.order.items) (c.get-last.ensures ∙ ap (λ ws. told ws n) (sym c.as_slice-words.ensures.words)) explains) in
+            subst (λ (o : Option ℕ). Walked opening words ops places to next o c.match-branch-4.points.items) (sym w.undecided-is)
+            (subst (Walked opening words ops places to next undecided) (sym (ap (λ v. v.items) w.points-is ∙ added.1))
+            (goes_on opening words ops places from to word next undecided undecided points added.0 n grouped walked (passes g c)
+            (found opening words ops places from to word next undecided points added.0 n w.in-Order.order.items walked (passes g c) own
+            (added.2 ∙ w.deref.ensures.value) added.3 added.4)))
+        | in-Undecided+then-is_none w ↦
+            subst (λ (p : List Point). Walked opening words ops places to next after p) (sym (ap (λ v. v.items) w.points-is))
+            (undecided_on opening words ops places from to word next undecided after points n grouped walked (passes g c) (λ none. true≢false (ap is_some (sym w.undecided-is ∙ none))))
+        | in-Undecided+else-is_none w ↦
+            subst (λ (p : List Point). Walked opening words ops places to next after p) (sym (ap (λ v. v.items) w.points-is))
+            (undecided_on opening words ops places from to word next undecided after points n grouped walked (passes g c) (λ none. true≢false (sym w.if-is_none.ensures ∙ ap is_some (sym w.undecided-is ∙ none))))
+      ];
+    }
+
+pub weave-requires-clause-points : goal.weave-requires-clause-points
+weave-requires-clause-points g c = c.loop-granule.invariant.walked.pointed
+
+pub weave-requires-clause-ordered : goal.weave-requires-clause-ordered
+weave-requires-clause-ordered g c = c.loop-granule.invariant.walked.ordered
+
+pub returns-clause-explained : goal.returns-clause-explained
+returns-clause-explained g c =
+    let ops = c.args.ops.now in
+    let opening = c.args.opening.now in
+    let order = c.in_ok-order-2.order.items in
+    let walked = c.loop-granule.invariant.walked in
+    let points = c.loop-granule.points.items in
+    let places = c.in_ok-order-2.ensures.places (All-map (λ i. is_place ops i ≡ true) (λ (p : Point). p.place) points walked.inside) in
+    let finals = c.as_slice-words.ensures.words in
+    (c.parts_join.ensures (memory_of opening) (told c.args.finals.now) ops order (IsMemory-memory_of opening) c.requires.traced places c.in_ok-order-2.ensures.times
+    (λ n. subst (λ (w : ℕ). ExplainsGranule ops n w (told c.args.finals.now n) (filter (is_of ops n) order)) (sym (word_of-memory_of opening n c.requires.words))
+    (subst (ExplainsGranule ops n (word_told opening n) (told c.args.finals.now n)) (sym (c.in_ok-order-2.ensures.parts n))
+    (subst (λ ws. ExplainsGranule ops n (word_told opening n) (told ws n) (filter (is_of ops n) (order_of points))) finals
+    (walked.explained c.in_default-undecided.is n (c.in_default.ensures.none refl n)))))).0

@@ -1,0 +1,22 @@
+-- what a verdict says
+use Rattle.std.specs.Prelude.{ℕ, List}
+use Rattle.chi_verdict.specs.declared.verdict.Verdict.{Verdict}
+use Rattle.chi_verdict.specs.declared.verdict.Verdict.TheVariants.{Explained, Unexplained, Undecided}
+
+-- P of the order, where it explains the trace
+abbrev pub IfExplained : Verdict → (List ℕ → Type 0) → Type 0
+IfExplained (Explained order) P = P order.items
+IfExplained (Unexplained granule) P = Unit {0}
+IfExplained (Undecided granule states) P = Unit {0}
+
+-- P of the granule, where its operations cannot be explained
+abbrev pub IfUnexplained : Verdict → (ℕ → Type 0) → Type 0
+IfUnexplained (Explained order) P = Unit {0}
+IfUnexplained (Unexplained granule) P = P granule
+IfUnexplained (Undecided granule states) P = Unit {0}
+
+-- P of how many states of a granule were looked at, where that did not decide it
+abbrev pub IfUndecided : Verdict → (ℕ → Type 0) → Type 0
+IfUndecided (Explained order) P = Unit {0}
+IfUndecided (Unexplained granule) P = Unit {0}
+IfUndecided (Undecided granule states) P = P states
