@@ -80,6 +80,7 @@ bench-c: lib
 
 bench-explain: checker
 	bench/explain.sh $(SEED)
+	bench/verdict.sh $(SEED)
 	bench/chicheck.py $(SEED)
 
 corpus: build
