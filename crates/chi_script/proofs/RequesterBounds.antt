@@ -43,7 +43,7 @@ numbered top None e = tt
 numbered top (Some n) e = tested top n (nat_le n top) e refl
 
 -- a number of the walk is at most its greatest one
-number_within : (m : Member) (top : ℕ) (d : Data) → IfOk (number_of m top d) (λ n. n ≤ top)
+pub number_within : (m : Member) (top : ℕ) (d : Data) → IfOk (number_of m top d) (λ n. n ≤ top)
 unfolding number_of
 number_within m top d =
     then_ok (ok_or (get (member_name m) d) (Missing m)) (λ v. ok_or (whole_number top v) (BadMember m)) (λ n. n ≤ top)

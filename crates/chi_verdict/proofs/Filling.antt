@@ -83,7 +83,7 @@ times_in_sum : (x : List ℕ) (i : ℕ) → times_in x i ≡ sum_by (λ j. one_i
 unfolding times_in
 times_in_sum x i = is_sum_by (λ y. times_in y i) (λ j. one_if (j == i)) refl (λ j y. refl) x
 
-times_permuted : (x y : List ℕ) (i : ℕ) → IsPermutation x y → times_in y i ≡ times_in x i
+pub times_permuted : (x y : List ℕ) (i : ℕ) → IsPermutation x y → times_in y i ≡ times_in x i
 times_permuted x y i same = times_in_sum y i ∙ sum_by-IsPermutation (λ j. one_if (j == i)) x y same ∙ sym (times_in_sum x i)
 
 pub filled_permuted : (ops : List Observed) (left : ℕ → Bool) (n : ℕ) (run after : List Placed) → IsPermutation run after

@@ -4,7 +4,7 @@ mod Answered
 mod Blamed
 mod Cuts
 mod Entries
-mod Filling
+pub mod Filling
 mod Gained
 mod HeldAlone
 mod InOrder
@@ -17,7 +17,7 @@ mod Parts
 mod Replayed
 mod Ties
 mod Told
-mod Traced
+pub mod Traced
 mod Walked
 mod WalkedOn
 mod Whole

@@ -1,0 +1,11 @@
+mod ByStart
+mod Decided
+mod Decoded
+mod Elements
+mod Faultless
+mod InOrder
+mod ObjectText
+mod OneMore
+mod Packets
+mod RegionText
+mod ToldSoFar

@@ -1,0 +1,79 @@
+-- what a text says of a memory, member by member
+use Rattle.std.proofs.Common.{◌≡◌, ℕ, ◌+◌, ◌-◌, ◌*◌, ◌/◌, ◌%◌, ◌^◌, ◌==◌, nat_lt, ◌||◌, not, Bool, true, false, if◌then◌else◌, List, Option, Some, Result, Ok, Err, MatchResult, IfOk, IfSome, refl, subst, eqb-true}
+use Rattle.std.specs.Prelude.{is_some}
+use Rattle.std.specs.Result.{is_ok}
+use Rattle.std.proofs.lemmas.Bool.{ltb-false, not-false, or_parts}
+use Rattle.serde_json.specs.Data.{Data}
+use Rattle.serde_json.specs.Find.{get}
+use Rattle.chi_fields.specs.Extent.{Extent, IsRegion, region_of}
+use Rattle.chi_fields.specs.declared.region.RegionFault.TheVariants.{BaseNotLineAligned, EndPastAddresses, GranuleCount}
+use Rattle.chi_script.specs.declared.member.Member.TheVariants as member
+use Rattle.chi_script.specs.Member.{member_name}
+use Rattle.chi_script.specs.Script.{number_of, opening_words, stated_words}
+use Rattle.chi_script.proofs.RequesterBounds.{at_ok, then_ok}
+use Rattle.chi_verdict.specs.declared.words.GranuleWord.{GranuleWord}
+use Rattle.chi_verdict.specs.Words.{told}
+use Rattle.chi_reading.specs.declared.fault.TraceFault.TheVariants.{RegionRefused}
+use Rattle.chi_reading.specs.Faults.{as_fault, or_else}
+use Rattle.chi_reading.specs.Told.{region_words, stated_list}
+use Rattle.chi_reading.specs.TraceText.{MemoryText, final_words, memory_text, region_memory, wide_memory}
+use Rattle.chi_reading.proofs.Faultless.{renamed, unless}
+
+-- the list has the words of a region's granules, the first of which has this number
+abbrev pub AreWordsOf : ℕ → List ℕ → List GranuleWord → Type 0
+AreWordsOf first words list = (g : ℕ) → told list g ≡ told (region_words first words) g
+
+-- what is true of a value is true of it where it is handed on
+pub handed_on : {T D E : Type 0} (P : T → Type 0) (Q : D → Type 0) (r : Result T D) (s : Result T E) (y : T) → MatchResult r (λ x. s ≡ Ok x) Q
+    → is_ok s ≡ is_ok r → s ≡ Ok y → IfOk r P → P y
+handed_on P Q (Ok x) s y same both is holds = let e : x ≡ y = cc in subst P e holds
+handed_on P Q (Err d) s y same both is holds = cc
+
+pub region_text : (d : Data) (base granules : ℕ) (region : Extent) (image : List ℕ) (finals : Option (List ℕ)) → number_of member.Base (2 ^ 64 - 1) d ≡ Ok base
+    → number_of member.Granules 65535 d ≡ Ok granules → region_of base granules ≡ Ok region → opening_words granules d ≡ Ok image
+    → stated_words member.Final granules d ≡ Ok finals
+    → region_memory d ≡ Ok (record { region = Some region; opening = region_words (base / 8) image; finals = final_words (base / 8) finals })
+unfolding region_memory
+region_text d base granules region image finals is_base is_granules is_region is_image is_finals = rw (is_base, is_granules, is_region, is_image, is_finals) refl
+
+-- a region that is not refused is one
+pub region_lawful : (base granules : ℕ) → IfOk (region_of base granules) IsRegion
+region_lawful base granules =
+    unless (not (base % 64 == 0)) BaseNotLineAligned _ IsRegion (λ aligned.
+    unless (nat_lt granules 1 || nat_lt 512 granules) GranuleCount _ IsRegion (λ counted.
+    unless (nat_lt (2 ^ 52) (base + 8 * granules)) EndPastAddresses (Ok (record { base = base; granules = granules })) IsRegion (λ ended.
+    let counts = or_parts (nat_lt granules 1) (nat_lt 512 granules) counted in
+    record {
+      line = eqb-true (base % 64) 0 (not-false _ aligned);
+      least = ltb-false granules 1 counts.0;
+      most = ltb-false 512 granules counts.1;
+      end = ltb-false (2 ^ 52) (base + 8 * granules) ended;
+    })))
+
+-- the region that a text tells is one
+abbrev pub IsOnRegion : MemoryText → Type 0
+IsOnRegion t = IfSome t.region IsRegion
+
+of_region : (d : Data) → IfOk (region_memory d) IsOnRegion
+unfolding region_memory
+of_region d =
+    then_ok (or_else as_fault (number_of member.Base (2 ^ 64 - 1) d)) _ IsOnRegion (λ base e.
+    then_ok (or_else as_fault (number_of member.Granules 65535 d)) _ IsOnRegion (λ granules e1.
+    then_ok (or_else RegionRefused (region_of base granules)) _ IsOnRegion (λ region e2.
+    then_ok (or_else as_fault (opening_words granules d)) _ IsOnRegion (λ image e3.
+    then_ok (or_else as_fault (stated_words member.Final granules d)) _ IsOnRegion (λ finals e4.
+    at_ok (or_else RegionRefused (region_of base granules)) region IsRegion e2
+    (renamed RegionRefused (region_of base granules) IsRegion (region_lawful base granules)))))))
+
+of_all : (d : Data) → IfOk (wide_memory d) IsOnRegion
+unfolding wide_memory
+of_all d =
+    then_ok (or_else as_fault (stated_list member.Image d)) _ IsOnRegion (λ opening e.
+    then_ok (or_else as_fault (stated_list member.Final d)) _ IsOnRegion (λ finals e1. tt))
+
+pub memory_on_region : (d : Data) → IfOk (memory_text d) IsOnRegion
+memory_on_region d = by_test (is_some (get (member_name member.Granules) d))
+  where
+    by_test : (b : Bool) → IfOk (if b then region_memory d else wide_memory d) IsOnRegion
+    by_test true = of_region d
+    by_test false = of_all d

@@ -1,0 +1,12 @@
+-- the text's lists, and that the words are theirs
+use Rattle.std.proofs.Common.{None, refl}
+use Rattle.chi_reading.specs.TraceText.{MemoryText, wide_memory}
+use Rattle.chi_reading.proofs.recorded.wide_memory.Goals as goal
+
+pub returns-clause-ok : goal.returns-clause-ok
+unfolding wide_memory
+returns-clause-ok c =
+    let opening = c.in_ok-opening.ensures.ok in
+    let finals = c.in_ok-finals.ensures.ok in
+    let text : MemoryText = record { region = None; opening = opening.0; finals = finals.0 } in
+    (text, rw (opening.1, finals.1) refl, record { region = refl; opening = opening.2; finals = finals.2 })

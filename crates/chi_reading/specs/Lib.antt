@@ -1,0 +1,4 @@
+pub mod Faults
+pub mod Requests
+pub mod Told
+pub mod TraceText

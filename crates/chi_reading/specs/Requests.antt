@@ -1,0 +1,115 @@
+-- the requests of a trace's text, and the operation that was observed of each
+use Rattle.std.specs.Prelude.{ℕ, ◌+◌, ◌-◌, ◌*◌, ◌/◌, ◌^◌, ◌==◌, nat_lt, if◌then◌else◌, List, [], ◌∷◌, codes, Option, None, Some, is_some, is_none, option_and_then, Result, Ok, Err}
+use Rattle.std.specs.Option.{ok_or, option_map}
+use Rattle.std.specs.Result.{result_ok}
+use Rattle.std.specs.Str.{bytes_eq}
+use Rattle.serde_json.specs.Data.{Data, Items, no_items, item}
+use Rattle.serde_json.specs.Events.{items_len}
+use Rattle.serde_json.specs.Find.{as_null, as_object, as_str, get}
+use Rattle.chi_fields.specs.Access.{Access}
+use Rattle.chi_fields.specs.Extent.{Extent, region_of}
+use Rattle.chi_fields.specs.Refusal.{decision}
+use Rattle.chi_fields.specs.declared.refusal.Refusal.{Refusal}
+use Rattle.chi_fields.specs.declared.refusal.Refusal.TheVariants.{OutOfRegion}
+use Rattle.chi_fields.specs.declared.request.Request.{Request}
+use Rattle.chi_lanes.specs.declared.reply.Reply.{Reply}
+use Rattle.chi_lanes.specs.declared.reply.Reply.TheVariants.{Comp, CompData}
+use Rattle.chi_trace.specs.declared.observed.Observed.{Observed}
+use Rattle.chi_script.specs.declared.fault.ScriptFault.{ScriptFault}
+use Rattle.chi_script.specs.declared.fault.ScriptFault.TheVariants as script_fault
+use Rattle.chi_script.specs.declared.member.Member.TheVariants as member
+use Rattle.chi_script.specs.Member.{member_name}
+use Rattle.chi_script.specs.Script.{◌>>=◌, hex_bytes, member_by, number_of}
+use Rattle.chi_reading.specs.declared.asked.Asked.{Asked}
+use Rattle.chi_reading.specs.declared.stated.Stated.{Stated}
+use Rattle.chi_reading.specs.declared.fault.RequestFault.TheVariants as request_fault
+use Rattle.chi_reading.specs.declared.fault.TraceFault.{TraceFault}
+use Rattle.chi_reading.specs.declared.fault.TraceFault.TheVariants.{TooManyRequests, InRequest}
+use Rattle.chi_reading.specs.Faults.{fault_in, or_else}
+
+-- the request that an object states
+unfoldable pub asked_of : Data → Result Asked ScriptFault
+asked_of d = do
+  src ← number_of member.Src 65535 d
+  txn ← number_of member.Txn 65535 d
+  opcode ← number_of member.Opcode 255 d
+  size ← number_of member.Size 7 d
+  addr ← number_of member.Addr (2 ^ 64 - 1) d
+  endian ← number_of member.Endian 1 d
+  be ← number_of member.Be 65535 d
+  lanes ← member_by member.Lanes (hex_bytes 16) d
+  Ok (record { src = src; txn = txn; opcode = opcode; size = size; addr = addr; endian = endian == 1; be = be; lanes = lanes })
+
+-- the request as a home decides it, which does not look at requester and transaction
+abbrev pub request_of : Asked → Request
+request_of a = record { src = 0; txn = 0; opcode = a.opcode; size = a.size; addr = a.addr; endian = a.endian; be = a.be; lanes = a.lanes }
+
+-- when it ended: a request without an end was open when the trace ended
+unfoldable pub end_of : Data → Result ℕ ScriptFault
+end_of d = if is_none (get (member_name member.End) d) then Ok (2 ^ 64 - 1) else number_of member.End (2 ^ 64 - 1) d
+
+-- what was answered: `comp`, or the data packet as 32 hex digits, lane 0 first
+abbrev pub answer_of : Data → Option Reply
+answer_of d = option_and_then (λ text. if bytes_eq text (codes "comp") then Some Comp else option_map CompData (hex_bytes 16 d)) (as_str d)
+
+-- the same, or null where it was not seen
+abbrev pub seen_of : Data → Option (Option Reply)
+seen_of d = if is_some (as_null d) then Some None else option_map Some (answer_of d)
+
+-- the members `reply` and `end`: where there is no end there need be no reply
+abbrev pub reply_by : Option Data → Option Data → Result (Option Reply) ScriptFault
+reply_by None None = Ok None
+reply_by None (Some end) = Err (script_fault.Missing member.Reply)
+reply_by (Some reply) end = ok_or (seen_of reply) (script_fault.BadMember member.Reply)
+
+-- what a request states
+unfoldable pub stated_of : Data → Result Stated ScriptFault
+stated_of d = do
+  asked ← asked_of d
+  start ← number_of member.Start (2 ^ 64 - 1) d
+  end ← end_of d
+  reply ← reply_by (get (member_name member.Reply) d) (get (member_name member.End) d)
+  Ok (record { asked = asked; start = start; end = end; reply = reply })
+
+-- the same of the element at a place
+unfoldable pub stated_at : ℕ → Data → Result Stated TraceFault
+stated_at place d = if is_some (as_object d) then or_else (fault_in place) (stated_of d) else Err (InRequest place request_fault.NotObject)
+
+-- what a home decides of a request on a line, where there is one
+abbrev decision_on : Option Extent → Asked → Result Access Refusal
+decision_on None a = Err OutOfRegion
+decision_on (Some line) a = decision (request_of a) line
+
+-- the line of 64 bytes around an address, where it lies below 2^52
+abbrev pub line_of : ℕ → Option Extent
+line_of addr = result_ok (region_of (addr / 64 * 64) 8)
+
+-- what a home of this region, or of all addresses, decides of a request
+abbrev pub access_of : Option Extent → Asked → Result Access Refusal
+access_of (Some region) a = decision (request_of a) region
+access_of None a = decision_on (line_of a.addr) a
+
+-- the operation that was observed of the request at a place
+unfoldable pub observed_of : ℕ → Option Extent → Stated → Result Observed TraceFault
+observed_of place region s = do
+  access ← or_else (λ refusal. InRequest place (request_fault.Refused refusal)) (access_of region s.asked)
+  if nat_lt s.end s.start then Err (InRequest place request_fault.EndsBeforeStart)
+      else Ok (record { start = s.start; end = s.end; src = s.asked.src; access = access; reply = s.reply })
+
+-- requests, and the operation of each
+pub record Completed : Type 0 where
+  pub requests : List Asked
+  pub operations : List Observed
+
+-- those of an array's elements, the first of which has this place
+unfoldable pub completed_of : ℕ → Option Extent → Items → Result Completed TraceFault
+completed_of place region no_items = Ok (record { requests = []; operations = [] })
+completed_of place region (item d ds) = do
+  stated ← stated_at place d
+  operation ← observed_of place region stated
+  rest ← completed_of (place + 1) region ds
+  Ok (record { requests = stated.asked ∷ rest.requests; operations = operation ∷ rest.operations })
+
+-- those of an array of at most 1,048,576
+unfoldable pub all_completed : Option Extent → Items → Result Completed TraceFault
+all_completed region elements = if nat_lt 1048576 (items_len elements) then Err TooManyRequests else completed_of 0 region elements

@@ -1,0 +1,111 @@
+-- the trace that a text is, or its first fault
+use Rattle.std.specs.Prelude.{◌≡◌, ℕ, false, ◌-◌, ◌/◌, ◌^◌, if◌then◌else◌, List, [], map, slice_index_or, Option, None, Some, is_some, Result, Ok, Err}
+use Rattle.std.specs.Option.{ok_or}
+use Rattle.serde_json.specs.Data.{Data}
+use Rattle.serde_json.specs.Find.{as_array, as_object, get}
+use Rattle.chi_fields.specs.Extent.{Extent, region_of}
+use Rattle.chi_history.specs.History.{one_if}
+use Rattle.chi_script.specs.declared.member.Member.TheVariants as member
+use Rattle.chi_script.specs.Member.{member_name}
+use Rattle.chi_script.specs.Script.{◌>>=◌, json_value, member_by, number_of, opening_words, stated_words}
+use Rattle.chi_trace.specs.declared.observed.Observed.{Observed}
+use Rattle.chi_trace.specs.Chosen.{chosen}
+use Rattle.chi_trace.specs.Explains.{is_place, times_in}
+use Rattle.chi_verdict.specs.declared.words.GranuleWord.{GranuleWord}
+use Rattle.chi_verdict.specs.Traces.{TraceValue}
+use Rattle.chi_verdict.specs.Words.{told}
+use Rattle.chi_reading.specs.declared.asked.Asked.{Asked}
+use Rattle.chi_reading.specs.declared.recorded.Memory.{Memory}
+use Rattle.chi_reading.specs.declared.fault.TraceFault.{TraceFault}
+use Rattle.chi_reading.specs.declared.fault.TraceFault.TheVariants.{NotJson, NotObject, RegionRefused}
+use Rattle.chi_reading.specs.Faults.{as_fault, or_else}
+use Rattle.chi_reading.specs.Requests.{Completed, all_completed}
+use Rattle.chi_reading.specs.Told.{region_words, stated_list}
+
+-- What a text says of the memory: a region, or all addresses; the words of its granules at the opening, where they are told,
+-- and at the end.
+pub record MemoryText : Type 0 where
+  pub region : Option Extent
+  pub opening : List GranuleWord
+  pub finals : List GranuleWord
+
+-- the words at the end that a region's text may tell
+abbrev pub final_words : ℕ → Option (List ℕ) → List GranuleWord
+final_words first None = []
+final_words first (Some words) = region_words first words
+
+-- of a region: its base, how many granules it has, and their words
+unfoldable pub region_memory : Data → Result MemoryText TraceFault
+region_memory d = do
+  base ← or_else as_fault (number_of member.Base (2 ^ 64 - 1) d)
+  granules ← or_else as_fault (number_of member.Granules 65535 d)
+  region ← or_else RegionRefused (region_of base granules)
+  image ← or_else as_fault (opening_words granules d)
+  finals ← or_else as_fault (stated_words member.Final granules d)
+  Ok (record { region = Some region; opening = region_words (base / 8) image; finals = final_words (base / 8) finals })
+
+-- of all addresses: the words of some granules
+unfoldable pub wide_memory : Data → Result MemoryText TraceFault
+wide_memory d = do
+  opening ← or_else as_fault (stated_list member.Image d)
+  finals ← or_else as_fault (stated_list member.Final d)
+  Ok (record { region = None; opening = opening; finals = finals })
+
+-- the memory is a region where its number of granules is told
+abbrev pub memory_text : Data → Result MemoryText TraceFault
+memory_text d = if is_some (get (member_name member.Granules) d) then region_memory d else wide_memory d
+
+-- what a text says: the memory, the requests, and the operation that was observed of each
+pub record TextValue : Type 0 where
+  pub memory : MemoryText
+  pub completed : Completed
+
+unfoldable pub object_text : Data → Result TextValue TraceFault
+object_text d = do
+  memory ← memory_text d
+  elements ← or_else as_fault (member_by member.Requests as_array d)
+  completed ← all_completed memory.region elements
+  Ok (record { memory = memory; completed = completed })
+
+-- the trace that a text is, or the first fault
+unfoldable pub trace_text : List ℕ → Result TextValue TraceFault
+trace_text text = do
+  d ← ok_or (json_value text) NotJson
+  if is_some (as_object d) then object_text d else Err NotObject
+
+-- what stands at a place past the last request
+abbrev pub no_request : Asked
+no_request = record { src = 0; txn = 0; opcode = 0; size = 0; addr = 0; endian = false; be = 0; lanes = [] }
+
+-- A trace that was read: its requests and operations in the order of the operations' starts, each with its place in the text,
+-- counted from 0.
+pub record RecordedValue : Type 0 where
+  pub region : Option Extent
+  pub trace : TraceValue
+  pub finals : List GranuleWord
+  pub requests : List Asked
+  pub places : List ℕ
+
+-- the memory that was read is what the text says
+pub record IsMemoryOf (t : MemoryText) (m : Memory) : Type 0 where
+  pub region : m.region ≡ t.region
+  pub opening : (g : ℕ) → told m.opening g ≡ told t.opening g
+  pub finals : (g : ℕ) → told m.finals g ≡ told t.finals g
+
+-- the trace that was read has this memory, and each of these requests and operations once
+pub record IsRecorded (m : Memory) (requests : List Asked) (operations : List Observed) (r : RecordedValue) : Type 0 where
+  pub region : r.region ≡ m.region
+  pub opening : r.trace.opening ≡ m.opening
+  pub finals : r.finals ≡ m.finals
+  pub each : (i : ℕ) → times_in r.places i ≡ one_if (is_place operations i)
+  pub requests_are : r.requests ≡ map (λ i. slice_index_or requests i no_request) r.places
+  pub operations_are : r.trace.operations ≡ chosen operations r.places
+
+-- it is what the text says: each request of it once, and the same words of granules
+pub record IsOf (t : TextValue) (r : RecordedValue) : Type 0 where
+  pub region : r.region ≡ t.memory.region
+  pub opening : (g : ℕ) → told r.trace.opening g ≡ told t.memory.opening g
+  pub finals : (g : ℕ) → told r.finals g ≡ told t.memory.finals g
+  pub each : (i : ℕ) → times_in r.places i ≡ one_if (is_place t.completed.operations i)
+  pub requests : r.requests ≡ map (λ i. slice_index_or t.completed.requests i no_request) r.places
+  pub operations : r.trace.operations ≡ chosen t.completed.operations r.places

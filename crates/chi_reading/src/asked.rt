@@ -1,0 +1,91 @@
+//! The requests of a trace, as its text has them.
+
+ghost use Rattle.std.specs.Prelude.{◌≡◌};
+ghost use Rattle.serde_json.specs.View.{view};
+ghost use Rattle.chi_script.specs.Script.{hex_bytes, member_by};
+ghost use Rattle.chi_reading.specs.Requests.{asked_of, request_of};
+
+use chi_fields::Request;
+use chi_script::{Member, ScriptFault, number};
+use hex::FromHex;
+use serde_json::Value;
+
+/// A request of a trace: a request and its data packet as a home takes them, but of any of 65,536 requesters and
+/// transactions. Nothing is matched by these two; answers tell them again.
+///
+/// Source: Arm IHI 0050 Issue B, request fields and data packet.
+#[derive(Clone, Copy, Debug)]
+pub struct Asked {
+    pub src: u16,
+    pub txn: u16,
+    pub opcode: u8,
+    pub size: u8,
+    pub addr: u64,
+    pub endian: bool,
+    pub be: u16,
+    pub lanes: [u8; 16],
+}
+
+impl Asked {
+    /// The request as a home decides it, for which requester and transaction do not count: they are 0.
+    pub(crate) fn request(&self) -> Request
+        ensures { result ≡ request_of self.now }
+    {
+        Request {
+            src: 0,
+            txn: 0,
+            opcode: self.opcode,
+            size: self.size,
+            addr: self.addr,
+            endian: self.endian,
+            be: self.be,
+            lanes: self.lanes,
+        }
+    }
+}
+
+/// A data packet: a text of 32 hex digits, lane 0 first.
+pub(crate) fn packet(value: &Value) -> Option<[u8; 16]>
+    ensures { result ≡ hex_bytes 16 (view value.now) }
+{
+    let text = value.as_str()?;
+    <[u8; 16] as FromHex>::from_hex(text).ok()
+}
+
+/// The data packet that a request states.
+fn lanes(object: &Value) -> Result<[u8; 16], ScriptFault>
+    ensures { result ≡ member_by Member.Lanes (hex_bytes 16) (view object.now) }
+{
+    let Some(value) = object.get(Member::Lanes.name()) else {
+        return Err(ScriptFault::Missing(Member::Lanes));
+    };
+    match packet(value) {
+        Some(lanes) => Ok(lanes),
+        None => Err(ScriptFault::BadMember(Member::Lanes)),
+    }
+}
+
+/// The request that an object states, or the first fault of its members.
+#[tactic(auto, unfolding(crate::specs::Requests::asked_of))]
+pub(crate) fn request_asked(object: &Value) -> Result<Asked, ScriptFault>
+    ensures { result ≡ asked_of (view object.now) }
+{
+    let src = number(object, Member::Src, 65535)?;
+    let txn = number(object, Member::Txn, 65535)?;
+    let opcode = number(object, Member::Opcode, 255)?;
+    let size = number(object, Member::Size, 7)?;
+    let addr = number(object, Member::Addr, u64::MAX)?;
+    let endian = number(object, Member::Endian, 1)?;
+    let be = number(object, Member::Be, 65535)?;
+    let lanes = lanes(object)?;
+    Ok(Asked {
+        src: src as u16,
+        txn: txn as u16,
+        opcode: opcode as u8,
+        size: size as u8,
+        addr,
+        endian: endian == 1,
+        be: be as u16,
+        lanes,
+    })
+}

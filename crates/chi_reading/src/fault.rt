@@ -1,0 +1,95 @@
+//! Why a trace is refused.
+
+ghost use Rattle.std.specs.Prelude.{◌≡◌};
+ghost use Rattle.chi_reading.specs.Faults.{as_fault, fault_in};
+
+use chi_fields::{Refusal, RegionFault, refusal_name, region_fault_name};
+use chi_script::{Member, ScriptFault};
+use thiserror::Error;
+
+/// The greatest number of operations in a trace.
+pub const MOST_OPERATIONS: usize = 1_048_576;
+
+/// Why a request of a trace is refused.
+///
+/// - `NotObject`: it is not an object.
+/// - `Missing`, `BadMember`: a member is not there, or not as stated.
+/// - `Refused`: `decode` refuses the request, so that no home can have completed it.
+/// - `EndsBeforeStart`: its end is below its start.
+///
+/// ```
+/// let fault = RequestFault::Missing(Member::Start); // member start is missing
+/// ```
+#[derive(Clone, Copy, Debug, Error)]
+pub enum RequestFault {
+    #[error("is not an object")]
+    NotObject,
+    #[error("member {} is missing", .0.name())]
+    Missing(Member),
+    #[error("member {} is not as stated", .0.name())]
+    BadMember(Member),
+    #[error("is refused: {}", refusal_name(*.0))]
+    Refused(Refusal),
+    #[error("ends before it starts")]
+    EndsBeforeStart,
+}
+
+/// Why a trace is refused: the first fault that its walk meets, or `Memory` where a growth is refused before.
+///
+/// - `NotJson`: the text is not one JSON text in UTF-8, or nests more than 127 deep.
+/// - `NotObject`: the value is not an object.
+/// - `Missing`, `BadMember`: a member of the object is not there, or not as stated.
+/// - `RegionRefused`: `Region::new` refuses the base and the number of granules.
+/// - `TooManyRequests`: there are more than 1,048,576 requests.
+/// - `InRequest`: a request is refused, at its place in the array from 0 on.
+///
+/// ```
+/// let fault = TraceFault::Missing(Member::Requests); // trace member requests is missing
+/// ```
+#[derive(Clone, Copy, Debug, Error)]
+pub enum TraceFault {
+    #[error("trace is not JSON")]
+    NotJson,
+    #[error("trace is not an object")]
+    NotObject,
+    #[error("trace member {} is missing", .0.name())]
+    Missing(Member),
+    #[error("trace member {} is not as stated", .0.name())]
+    BadMember(Member),
+    #[error("trace region is refused: {}", region_fault_name(*.0))]
+    RegionRefused(RegionFault),
+    #[error("trace has over {MOST_OPERATIONS} requests")]
+    TooManyRequests,
+    #[error("request {place} {fault}")]
+    InRequest { place: usize, fault: RequestFault },
+    #[error("no memory")]
+    Memory,
+}
+
+impl From<ScriptFault> for TraceFault {
+    ghost from_gives = { λ fault result. result ≡ as_fault fault };
+
+    fn from(fault: ScriptFault) -> TraceFault {
+        match fault {
+            ScriptFault::NotJson => TraceFault::NotJson,
+            ScriptFault::NotObject => TraceFault::NotObject,
+            ScriptFault::Missing(member) => TraceFault::Missing(member),
+            ScriptFault::BadMember(member) => TraceFault::BadMember(member),
+            ScriptFault::TooManyRequests => TraceFault::TooManyRequests,
+            ScriptFault::RegionRefused(fault) => TraceFault::RegionRefused(fault),
+            ScriptFault::Memory => TraceFault::Memory,
+        }
+    }
+}
+
+// The fault of a trace whose request at a place has a fault: one of its members is the request's.
+pub(crate) fn fault_in(place: usize, fault: ScriptFault) -> TraceFault
+    ensures { result ≡ fault_in place fault }
+{
+    let fault = match fault {
+        ScriptFault::Missing(member) => RequestFault::Missing(member),
+        ScriptFault::BadMember(member) => RequestFault::BadMember(member),
+        other => return TraceFault::from(other),
+    };
+    TraceFault::InRequest { place, fault }
+}

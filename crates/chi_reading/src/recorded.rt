@@ -1,0 +1,239 @@
+//! Traces that were read, and how one is.
+
+ghost use Rattle.std.specs.Prelude.{◌≡◌, ◌≢◌, ℕ, ◌<◌, length, IfErr, IfOk, Ok, Err};
+ghost use Rattle.serde_json.specs.View.{view};
+ghost use Rattle.chi_reading.specs.TraceText.{IsMemoryOf, IsOf, IsRecorded, MemoryText, TextValue, memory_text, object_text, region_memory, trace_text, wide_memory};
+ghost use Rattle.chi_trace.specs.Explains.{IsObserved, at};
+
+use crate::asked::Asked;
+use crate::fault::TraceFault;
+use crate::requests::all_completed;
+use crate::sorting::{by_start, operations_at, requests_at};
+use crate::told::{region_words, stated_list};
+use chi_fields::Region;
+use chi_script::{Member, json, number, opening_words, stated_words};
+use chi_trace::Observed;
+use chi_verdict::{GranuleWords, Trace};
+use serde_json::Value;
+use std::alloc::{AllocError, Global};
+use std::marker::Model;
+
+/// A trace that was read: its memory is a region or all addresses; each operation of it has a request, and a place in the text.
+#[derive(Debug, Drop)]
+pub struct Recorded {
+    region: Option<Region>,
+    trace: Trace,
+    finals: GranuleWords,
+    requests: Vec<Asked>,
+    places: Vec<usize>,
+}
+
+impl Model for Recorded {
+    ghost use Rattle.std.specs.Prelude.{◌≡◌, length};
+    ghost use Rattle.chi_reading.specs.TraceText.{RecordedValue};
+
+    ghost Value = { RecordedValue };
+
+    ghost view = { λ r. record { region = r.region; trace = r.trace; finals = r.finals; requests = r.requests.items; places = r.places.items } };
+
+    // Each operation has a request and a place.
+    ghost invariant = { λ r. (length r.requests.items ≡ length r.trace.operations) × (length r.places.items ≡ length r.trace.operations) };
+}
+
+impl Recorded {
+    /// The region; `None` where the memory is all addresses below 2^52.
+    ///
+    /// ```
+    /// let granules = recorded.region()?.granules();
+    /// ```
+    pub fn region(&self) -> Option<Region>
+        ensures { result ≡ self.now.region }
+    {
+        self.region
+    }
+
+    /// The operations that were observed, in the order of their starts, and the words at the opening.
+    ///
+    /// ```
+    /// let verdict = explain(alloc, recorded.trace(), recorded.finals(), 1_000_000, &mut NoProgress)?;
+    /// ```
+    pub fn trace(&self) -> &Trace
+        ensures { result.now ≡ self.now.trace }
+    {
+        &self.trace
+    }
+
+    /// The words at the end, of the granules of which they are told.
+    ///
+    /// ```
+    /// let last = recorded.finals().get(0x1000 / 8);
+    /// ```
+    pub fn finals(&self) -> &GranuleWords
+        ensures { result.now ≡ self.now.finals }
+    {
+        &self.finals
+    }
+
+    /// The request of each operation of the trace, in its order.
+    ///
+    /// ```
+    /// let request = &recorded.requests()[place];
+    /// ```
+    pub fn requests(&self) -> &[Asked]
+        ensures requests { result.now ≡ self.now.requests }
+        ensures matched { length self.now.requests ≡ length self.now.trace.operations }
+    {
+        self.requests.as_slice()
+    }
+
+    /// Where each operation's request stands in the text, counted from 0.
+    ///
+    /// ```
+    /// let request = recorded.places()[place];
+    /// ```
+    pub fn places(&self) -> &[usize]
+        ensures places { result.now ≡ self.now.places }
+        ensures matched { length self.now.places ≡ length self.now.trace.operations }
+    {
+        self.places.as_slice()
+    }
+}
+
+/// What a text says of the memory.
+#[derive(Drop)]
+struct Memory {
+    region: Option<Region>,
+    opening: GranuleWords,
+    finals: GranuleWords,
+}
+
+/// The memory of a region.
+#[tactic(auto, unfolding(crate::specs::TraceText::region_memory))]
+fn region_memory(alloc: Global, object: &Value) -> Result<Memory, TraceFault>
+    ensures ok { IfOk result (λ m. (t : MemoryText) × (region_memory (view object.now) ≡ Ok t) × IsMemoryOf t m) }
+    ensures fault { IfErr result (λ f. f ≢ TraceFault.Memory → region_memory (view object.now) ≡ Err f) }
+{
+    let base = number(object, Member::Base, u64::MAX)?;
+    let granules = number(object, Member::Granules, 65535)? as u16;
+    let region = match Region::new(base, granules) {
+        Ok(region) => region,
+        Err(fault) => return Err(TraceFault::RegionRefused(fault)),
+    };
+    let image = opening_words(alloc, object, granules)?;
+    let finals = stated_words(alloc, object, Member::Final, granules)?;
+    let opening = region_words(alloc, base / 8, &image).map_err(|_| TraceFault::Memory)?;
+    let finals = match finals {
+        Some(words) => region_words(alloc, base / 8, &words).map_err(|_| TraceFault::Memory)?,
+        None => GranuleWords::none(alloc),
+    };
+    Ok(Memory {
+        region: Some(region),
+        opening,
+        finals,
+    })
+}
+
+/// The memory of all addresses.
+#[tactic(auto, unfolding(crate::specs::TraceText::wide_memory))]
+fn wide_memory(alloc: Global, object: &Value) -> Result<Memory, TraceFault>
+    ensures ok { IfOk result (λ m. (t : MemoryText) × (wide_memory (view object.now) ≡ Ok t) × IsMemoryOf t m) }
+    ensures fault { IfErr result (λ f. f ≢ TraceFault.Memory → wide_memory (view object.now) ≡ Err f) }
+{
+    let opening = stated_list(alloc, object, Member::Image)?;
+    let finals = stated_list(alloc, object, Member::Final)?;
+    Ok(Memory {
+        region: None,
+        opening,
+        finals,
+    })
+}
+
+/// The memory of a trace: a region where its number of granules is told, and else all addresses.
+fn memory_told(alloc: Global, object: &Value) -> Result<Memory, TraceFault>
+    ensures ok { IfOk result (λ m. (t : MemoryText) × (memory_text (view object.now) ≡ Ok t) × IsMemoryOf t m) }
+    ensures fault { IfErr result (λ f. f ≢ TraceFault.Memory → memory_text (view object.now) ≡ Err f) }
+{
+    if object.get(Member::Granules.name()).is_some() {
+        region_memory(alloc, object)
+    } else {
+        wide_memory(alloc, object)
+    }
+}
+
+/// The trace of a memory, and of requests with the operation of each.
+fn in_order(
+    alloc: Global,
+    memory: Memory,
+    requests: &[Asked],
+    operations: &[Observed],
+) -> Result<Recorded, AllocError>
+    requires matched { length requests.now ≡ length operations.now }
+    requires observed { (i : ℕ) → i < length operations.now → IsObserved (at operations.now i) }
+    ensures { IfOk result (λ r. IsRecorded memory requests.now operations.now r) }
+{
+    let places = by_start(alloc, operations)?;
+    let ordered = operations_at(alloc, operations, &places)?;
+    let requests = requests_at(alloc, requests, &places)?;
+    match Trace::new(memory.opening, ordered) {
+        Some(trace) => Ok(Recorded {
+            region: memory.region,
+            trace,
+            finals: memory.finals,
+            requests,
+            places,
+        }),
+        None => unreachable!(),
+    }
+}
+
+/// The trace that an object is.
+#[tactic(auto, unfolding(crate::specs::TraceText::object_text))]
+fn object_trace(alloc: Global, object: &Value) -> Result<Recorded, TraceFault>
+    ensures ok { IfOk result (λ r. (t : TextValue) × (object_text (view object.now) ≡ Ok t) × IsOf t r) }
+    ensures fault { IfErr result (λ f. f ≢ TraceFault.Memory → object_text (view object.now) ≡ Err f) }
+{
+    let memory = memory_told(alloc, object)?;
+    let Some(value) = object.get(Member::Requests.name()) else {
+        return Err(TraceFault::Missing(Member::Requests));
+    };
+    let Some(list) = value.as_array() else {
+        return Err(TraceFault::BadMember(Member::Requests));
+    };
+    let (requests, operations) = all_completed(alloc, list.as_slice(), &memory.region)?;
+    match in_order(alloc, memory, &requests, &operations) {
+        Ok(recorded) => Ok(recorded),
+        Err(_) => Err(TraceFault::Memory),
+    }
+}
+
+/// The trace that a text is, or its first fault.
+///
+/// The text is a JSON object in UTF-8. With `base` and `granules`, and perhaps `image` and `final`, its memory is a region, as
+/// `chi_script::read_script` describes it. Where `granules` is left out the memory is all addresses below 2^52, and `image` and
+/// `final` are lists of objects with `addr`, a multiple of 8, and `bytes`, the eight bytes of that granule as 16 hex digits in
+/// address order; no granule is told twice.
+///
+/// `requests` has at most 1,048,576 requests as a script has them, of requesters and transactions up to 65,535. Each has
+/// `start` and `end`, whole numbers below 2^64, of which the end is not the less; `end` is left out where the operation was
+/// open when the trace ended. `reply` is the text `comp`, one of 32 hex digits, lane 0 first, or `null` where it was not seen;
+/// it may be left out where `end` is. A request that a home refuses is a fault.
+///
+/// The faults' order is that of the members `base`, `granules`, with the region's own fault, `image`, `final` and
+/// `requests`, and then of the requests, of each its members, its refusal and its times. `Memory` is answered where a
+/// growth is refused before a fault is met.
+///
+/// ```
+/// let recorded = read_trace(alloc, b"{\"requests\":[]}")?;
+/// ```
+#[tactic(auto, unfolding(crate::specs::TraceText::trace_text))]
+pub fn read_trace(alloc: Global, text: &[u8]) -> Result<Recorded, TraceFault>
+    ensures ok { IfOk result (λ r. (t : TextValue) × (trace_text text.now ≡ Ok t) × IsOf t r) }
+    ensures fault { IfErr result (λ f. f ≢ TraceFault.Memory → trace_text text.now ≡ Err f) }
+{
+    let value = json(alloc, text)?;
+    if value.is_object() {
+        object_trace(alloc, &value)
+    } else {
+        Err(TraceFault::NotObject)
+    }
+}

@@ -1,0 +1,99 @@
+//! What a request of a trace states beside its fields: its times, and what was answered.
+
+ghost use Rattle.std.specs.Prelude.{◌≡◌};
+ghost use Rattle.serde_json.specs.Find.{get};
+ghost use Rattle.serde_json.specs.View.{view};
+ghost use Rattle.chi_script.specs.Member.{member_name};
+ghost use Rattle.chi_reading.specs.Requests.{answer_of, end_of, reply_by, stated_at, stated_of};
+
+use crate::asked::{Asked, packet, request_asked};
+use crate::fault::{RequestFault, TraceFault, fault_in};
+use chi_lanes::Reply;
+use chi_script::{Member, ScriptFault, number};
+use serde_json::Value;
+
+/// A request, its times, and what was answered, where that was seen. The end of one that was open when the trace ended is
+/// 2^64 - 1.
+#[derive(Clone, Copy)]
+pub(crate) struct Stated {
+    pub asked: Asked,
+    pub start: u64,
+    pub end: u64,
+    pub reply: Option<Reply>,
+}
+
+/// When the request ended.
+#[tactic(auto, unfolding(crate::specs::Requests::end_of))]
+fn end(object: &Value) -> Result<u64, ScriptFault>
+    ensures { result ≡ end_of (view object.now) }
+{
+    if object.get(Member::End.name()).is_none() {
+        return Ok(u64::MAX);
+    }
+    let end = number(object, Member::End, u64::MAX)?;
+    Ok(end)
+}
+
+/// What was answered: `comp`, or the data packet as 32 hex digits, lane 0 first.
+fn answer(value: &Value) -> Option<Reply>
+    ensures { result ≡ answer_of (view value.now) }
+{
+    if value.as_str()? == "comp" {
+        return Some(Reply::Comp);
+    }
+    let lanes = packet(value)?;
+    Some(Reply::CompData(lanes))
+}
+
+/// What was answered, where it was seen: the member `reply`, which may be `null`, and may be left out where the end is.
+fn reply(object: &Value) -> Result<Option<Reply>, ScriptFault>
+    ensures { result ≡ reply_by (get (member_name Member.Reply) (view object.now)) (get (member_name Member.End) (view object.now)) }
+{
+    let Some(value) = object.get(Member::Reply.name()) else {
+        return match object.get(Member::End.name()) {
+            Some(_) => Err(ScriptFault::Missing(Member::Reply)),
+            None => Ok(None),
+        };
+    };
+    if value.is_null() {
+        return Ok(None);
+    }
+    match answer(value) {
+        Some(reply) => Ok(Some(reply)),
+        None => Err(ScriptFault::BadMember(Member::Reply)),
+    }
+}
+
+/// What an object states, or the first fault of its members.
+#[tactic(auto, unfolding(crate::specs::Requests::stated_of))]
+fn request_stated(object: &Value) -> Result<Stated, ScriptFault>
+    ensures { result ≡ stated_of (view object.now) }
+{
+    let asked = request_asked(object)?;
+    let start = number(object, Member::Start, u64::MAX)?;
+    let end = end(object)?;
+    let reply = reply(object)?;
+    Ok(Stated {
+        asked,
+        start,
+        end,
+        reply,
+    })
+}
+
+/// What the element at a place states.
+#[tactic(auto, unfolding(crate::specs::Requests::stated_at))]
+pub(crate) fn stated_at(place: usize, value: &Value) -> Result<Stated, TraceFault>
+    ensures { result ≡ stated_at place (view value.now) }
+{
+    if !value.is_object() {
+        return Err(TraceFault::InRequest {
+            place,
+            fault: RequestFault::NotObject,
+        });
+    }
+    match request_stated(value) {
+        Ok(stated) => Ok(stated),
+        Err(fault) => Err(fault_in(place, fault)),
+    }
+}

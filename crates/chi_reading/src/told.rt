@@ -1,0 +1,88 @@
+//! The words of granules that a trace tells: those of a region, or a list of granules anywhere.
+
+ghost use Rattle.std.specs.Prelude.{◌≡◌, ◌≢◌, ◌≤◌, ◌^◌, ℕ, List, [], None, Some, Ok, Err, IfOk, IfErr};
+ghost use Rattle.serde_json.specs.View.{items_view, view};
+ghost use Rattle.chi_reading.specs.Told.{region_words, stated_list, told_from, told_of};
+ghost use Rattle.chi_verdict.specs.declared.words.GranuleWord.{GranuleWord};
+ghost use Rattle.chi_verdict.specs.Words.{told};
+
+use chi_script::{Member, ScriptFault};
+use chi_verdict::{GranuleWord, GranuleWords};
+use hex::FromHex;
+use serde_json::Value;
+use std::alloc::{AllocError, Global};
+use std::collections::BTreeMap;
+
+/// The words of a region's granules, from the granule with this number on.
+pub(crate) fn region_words(
+    alloc: Global,
+    first: u64,
+    words: &[u64],
+) -> Result<GranuleWords, AllocError>
+    requires { first ≤ 2 ^ 61 }
+    ensures { IfOk result (λ list. (g : ℕ) → told list g ≡ told (region_words first words.now) g) }
+{
+    let mut map = BTreeMap::new(alloc);
+    let mut granule = first;
+    for word in words {
+        map.insert(granule, *word)?;
+        granule += 1;
+    }
+    GranuleWords::of_map(alloc, &map)
+}
+
+/// The word of a granule that an object tells: its address, and its eight bytes in address order.
+fn word_told(value: &Value) -> Option<GranuleWord>
+    ensures { result ≡ told_of (view value.now) }
+{
+    let addr = value.get("addr")?.as_u64()?;
+    if addr % 8 != 0 || addr >= 1 << 52 {
+        return None;
+    }
+    let bytes = value.get("bytes")?.as_str()?;
+    match <[u8; 8] as FromHex>::from_hex(bytes) {
+        Ok(bytes) => Some(GranuleWord {
+            granule: addr / 8,
+            word: u64::from_le_bytes(bytes),
+        }),
+        Err(_) => None,
+    }
+}
+
+/// The words of a list of granules, each told once.
+fn told_list(alloc: Global, list: &[Value], member: Member) -> Result<GranuleWords, ScriptFault>
+    ensures ok { IfOk result (λ words. (each : List GranuleWord) × (told_from [] (items_view list.now) ≡ Some each) × ((g : ℕ) → told words g ≡ told each g)) }
+    ensures fault { IfErr result (λ f. f ≢ ScriptFault.Memory → (f ≡ ScriptFault.BadMember member) × (told_from [] (items_view list.now) ≡ None)) }
+{
+    let mut map = BTreeMap::new(alloc);
+    for value in list {
+        let Some(told) = word_told(value) else {
+            return Err(ScriptFault::BadMember(member));
+        };
+        match map.insert(told.granule, told.word) {
+            Ok(None) => {}
+            Ok(Some(_)) => return Err(ScriptFault::BadMember(member)),
+            Err(_) => return Err(ScriptFault::Memory),
+        }
+    }
+    GranuleWords::of_map(alloc, &map).map_err(|_| ScriptFault::Memory)
+}
+
+/// The words of granules that a member of an object tells: none where the object has no such member.
+#[tactic(auto, unfolding(crate::specs::Told::stated_list))]
+pub(crate) fn stated_list(
+    alloc: Global,
+    object: &Value,
+    member: Member,
+) -> Result<GranuleWords, ScriptFault>
+    ensures ok { IfOk result (λ words. (each : List GranuleWord) × (stated_list member (view object.now) ≡ Ok each) × ((g : ℕ) → told words g ≡ told each g)) }
+    ensures fault { IfErr result (λ f. f ≢ ScriptFault.Memory → stated_list member (view object.now) ≡ Err f) }
+{
+    let Some(value) = object.get(member.name()) else {
+        return Ok(GranuleWords::none(alloc));
+    };
+    match value.as_array() {
+        Some(list) => told_list(alloc, list.as_slice(), member),
+        None => Err(ScriptFault::BadMember(member)),
+    }
+}
