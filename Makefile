@@ -79,7 +79,6 @@ bench-c: lib
 	bench/c/run.sh
 
 bench-explain: checker
-	bench/explain.sh $(SEED)
 	bench/verdict.sh $(SEED)
 	bench/chicheck.py $(SEED)
 

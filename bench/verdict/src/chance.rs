@@ -1,11 +1,11 @@
 //! Traces by chance.
 
+use crate::region::breaking::Way;
+use crate::region::kinds::Kinds;
+use crate::region::large::large;
+use crate::region::small::small;
+use crate::region::trace::{Granule, Trace as Executed};
 use crate::trace::{Observed, Trace};
-use explain::breaking::Way;
-use explain::kinds::Kinds;
-use explain::large::large;
-use explain::small::small;
-use explain::trace::Granule;
 use plain::access::Access;
 use plain::request::Request;
 use script::random::Random;
@@ -32,7 +32,7 @@ fn words(granules: &[Granule]) -> BTreeMap<u64, u64> {
 }
 
 /// The operations of a trace of a region, of which one in `unseen` has no reply, and one in three of these was still open.
-fn observed(random: &mut Random, trace: &explain::trace::Trace, unseen: u64) -> Vec<Observed> {
+fn observed(random: &mut Random, trace: &Executed, unseen: u64) -> Vec<Observed> {
     let base = trace.region.base;
     let mut ops: Vec<Observed> = Vec::with_capacity(trace.ops.len());
     for op in &trace.ops {

@@ -4,6 +4,7 @@
 pub mod chance;
 pub mod form;
 pub mod meaning;
+pub mod region;
 pub mod search;
 pub mod told;
 pub mod trace;

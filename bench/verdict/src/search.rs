@@ -1,8 +1,8 @@
 //! The search in plain Rust, by the same design: the operations of a granule in the order of their ends, depth first over which
 //! of them were settled and the word that they left, with a memo of the states from which no order goes on.
 
+use crate::region::execution::execute_bytes;
 use crate::trace::{Observed, Trace};
-use explain::execution::execute_bytes;
 use std::collections::{BTreeMap, HashSet};
 use std::hash::{BuildHasherDefault, Hasher};
 

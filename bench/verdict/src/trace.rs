@@ -1,6 +1,6 @@
 //! What was observed of operations at any address, with replies that were seen or not.
 
-use explain::execution::execute_bytes;
+use crate::region::execution::execute_bytes;
 use plain::access::Access;
 use plain::request::Request;
 use std::collections::BTreeMap;

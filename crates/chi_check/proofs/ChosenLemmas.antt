@@ -15,7 +15,7 @@ use Rattle.clap.specs.declared.parser.matches.SubCommand.{SubCommand}
 use Rattle.clap.specs.declared.parser.matches.ArgMatches.{ArgMatches}
 use Rattle.clap.specs.declared.parser.matches.ArgMatches.TheViews.{out-ArgMatches, out-SubCommand}
 use Rattle.clap.proofs.WalkLemmas.{both, first_value-rows, one_text-rows}
-use Rattle.chi_check.specs.Chosen.{Finds, IsNumberOrMillion, has_word}
+use Rattle.chi_check.specs.Chosen.{Finds, IsNumberOrMillion, IsNumberOrNone, has_word}
 use Rattle.chi_check.specs.CommandLine.{program_app}
 
 -- the value of an option is looked at, or there is none
@@ -42,6 +42,21 @@ number_found found option number none value =
 
     go : (o : Option Text) → one_text found option ≡ o → IsNumberOrMillion o (unwrap_or number 1000000)
     go None is = ap (λ n. unwrap_or n 1000000) (none is)
+    go (Some text) is = read text number (value text is)
+
+-- the same, or none
+pub number_or_none : (found : Found) (option : Text) (number : Option ℕ) → (one_text found option ≡ None → number ≡ None)
+    → ((text : Text) → one_text found option ≡ Some text → ReadsOne ReadsNumber text number)
+    → IsNumberOrNone (one_of option (rows_of found)) number
+number_or_none found option number none value =
+    subst (λ text. IsNumberOrNone text number) (one_text-rows found option) (go (one_text found option) refl)
+  where
+    read : (text : Text) (n : Option ℕ) → ReadsOne ReadsNumber text n → IsNumberOrNone (Some text) n
+    read text (Some n) h = (Ok n, h.0, refl)
+    read text None h = (Err tt, h.1.0, refl)
+
+    go : (o : Option Text) → one_text found option ≡ o → IsNumberOrNone o number
+    go None is = none is
     go (Some text) is = read text number (value text is)
 
 -- a subcommand of this name, with these options

@@ -1,28 +1,41 @@
 -- what a check does: the answer of the trace that its input is
-use Rattle.std.specs.Prelude.{◌≡◌, ◌≢◌, ℕ, ◌<◌, ◌≤◌, List, length, Option, IfSome, Result, Ok, Err}
+use Rattle.std.specs.Prelude.{◌≡◌, ◌≢◌, ℕ, ◌<◌, ◌≤◌, List, length, Option, None, Some, IfSome, Result, Ok, Err}
 use Rattle.std.specs.Io.KnownBytes.{Appends, Keeps}
 use Rattle.chi_script.specs.WriterBytes.{AppendsFront}
-use Rattle.chi_check.specs.Answer.{IsAnswer}
-use Rattle.chi_check.specs.AnswerText.{answer_text}
+use Rattle.chi_search.specs.Looks.{LookedMore}
+use Rattle.chi_reading.specs.declared.fault.TraceFault.TheVariants as trace_fault
+use Rattle.chi_reading.specs.TraceText.{IsOf, RecordedValue, TextValue, cut_at, trace_text}
+use Rattle.chi_answer.specs.declared.answer.Answer.{Answer}
+use Rattle.chi_answer.specs.Answers.{IfUndecided, IsAnswer}
+use Rattle.chi_answer.specs.Texts.{IsText}
 use Rattle.chi_check.specs.CheckStatus.{answer_status}
-use Rattle.chi_check.specs.Trace.{TraceValue, trace}
-use Rattle.chi_check.specs.declared.answer.Answer.{Answer}
 use Rattle.chi_check.specs.declared.fault.CheckFault.{CheckFault}
 use Rattle.chi_check.specs.declared.fault.CheckFault.TheVariants.{Read, TooLong, Memory, Trace, Write}
 use Rattle.chi_check.specs.declared.options.CheckOptions.{CheckOptions}
-use Rattle.chi_check.specs.declared.trace_fault.TraceFault.TheVariants as trace_fault
 
 -- the greatest number of bytes of a trace
 abbrev pub most_bytes : ℕ
-most_bytes = 67108864
+most_bytes = 536870912
+
+-- what is judged of a trace: all of it, or what had happened by a time
+abbrev pub judged : Option ℕ → RecordedValue → RecordedValue
+judged None r = r
+judged (Some time) r = cut_at time r
+
+-- the answer is a right one of the trace, undecided only where it names the budget, and this is its text
+pub record IsRight (options : CheckOptions) (r : RecordedValue) (answer : Answer) (text : List ℕ) : Type 0 where
+  pub right : IsAnswer (judged options.until r) answer
+  pub undecided : IfUndecided answer (λ states. states ≡ options.budget)
+  pub text_is : IsText options.witness (judged options.until r) answer text
 
 -- the input is a trace, this is a right answer of it, and this its text
 pub record Answers (options : CheckOptions) (input : List ℕ) (answer : Answer) (text : List ℕ) : Type 0 where
   pub within : length input ≤ most_bytes
-  pub value : TraceValue
-  pub read : trace input ≡ Ok value
-  pub right : IsAnswer value answer
-  pub text_is : text ≡ answer_text options.witness options.budget value answer
+  pub value : TextValue
+  pub read : trace_text input ≡ Ok value
+  pub recorded : RecordedValue
+  pub is : IsOf value recorded
+  pub right : IsRight options recorded answer text
 
 -- After Ok the text of a right answer of the input's trace was written, and this is its status. What each fault means,
 -- and what was written then: nothing but where the writer failed.
@@ -31,7 +44,7 @@ Outcome options input old new (Ok status) = (answer : Answer) × (text : List �
 Outcome options input old new (Err Read) = Unit {0}
 Outcome options input old new (Err TooLong) = most_bytes < length input
 Outcome options input old new (Err Memory) = Unit {0}
-Outcome options input old new (Err (Trace fault)) = fault ≢ trace_fault.Memory → trace input ≡ Err fault
+Outcome options input old new (Err (Trace fault)) = fault ≢ trace_fault.Memory → trace_text input ≡ Err fault
 Outcome options input old new (Err (Write fault)) = (answer : Answer) × (text : List ℕ) × Answers options input answer text × AppendsFront old new text
 
 -- nothing is written where no answer was found
@@ -48,6 +61,11 @@ IsReadFault input Memory = Unit {0}
 IsReadFault input fault = ⊥
 
 -- the status and the text are those of a right answer of the trace
-abbrev pub IsAnswered : CheckOptions → TraceValue → ℕ → List ℕ → Type 0
-IsAnswered options t status text =
-    (answer : Answer) × IsAnswer t answer × (status ≡ answer_status answer) × (text ≡ answer_text options.witness options.budget t answer)
+abbrev pub IsAnswered : CheckOptions → RecordedValue → ℕ → List ℕ → Type 0
+IsAnswered options r status text = (answer : Answer) × IsRight options r answer text × (status ≡ answer_status answer)
+
+-- so many states were looked at on the way to the status: no fewer than the budget where it is that of an undecided trace
+pub record LookedForStatus {P : Type 0} (looked : P → ℕ → Type 0) (old new : P) (budget status : ℕ) : Type 0 where
+  pub count : ℕ
+  pub more : LookedMore looked old new count
+  pub undecided : status ≡ 6 → budget ≤ count

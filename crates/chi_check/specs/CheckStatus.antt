@@ -3,12 +3,12 @@ use Rattle.std.specs.Prelude.{◌≡◌, ℕ, ◌⊎◌, ◌≤◌, List, Option
 use Rattle.std.specs.Io.KnownBytes.{Keeps}
 use Rattle.clap.specs.declared.error.kind.ErrorKind.{ErrorKind}
 use Rattle.clap.specs.declared.error.kind.ErrorKind.TheVariants as error_kind
-use Rattle.chi_check.specs.declared.answer.Answer.{Answer}
-use Rattle.chi_check.specs.declared.answer.Answer.TheVariants.{Explained, Blamed, Unexplained, Undecided}
+use Rattle.chi_answer.specs.declared.answer.Answer.{Answer}
+use Rattle.chi_answer.specs.declared.answer.Answer.TheVariants.{Explained, Blamed, Unexplained, Undecided}
+use Rattle.chi_reading.specs.declared.fault.TraceFault.{TraceFault}
+use Rattle.chi_reading.specs.declared.fault.TraceFault.TheVariants as trace_fault
 use Rattle.chi_check.specs.declared.fault.CheckFault.{CheckFault}
 use Rattle.chi_check.specs.declared.fault.CheckFault.TheVariants.{Read, TooLong, Memory, Trace, Write}
-use Rattle.chi_check.specs.declared.trace_fault.TraceFault.{TraceFault}
-use Rattle.chi_check.specs.declared.trace_fault.TraceFault.TheVariants as trace_fault
 
 -- a trace that is refused, or for which there is no memory
 abbrev pub trace_status : TraceFault → ℕ
@@ -25,10 +25,10 @@ status_of (Write fault) = 5
 
 -- 0 where the trace is explained, 1 where it is not, 6 where that is undecided
 abbrev pub answer_status : Answer → ℕ
-answer_status (Explained order words) = 0
+answer_status (Explained order) = 0
 answer_status (Blamed blame) = 1
 answer_status (Unexplained granule words) = 1
-answer_status (Undecided states) = 6
+answer_status (Undecided granule states) = 6
 
 -- the status of an answer
 abbrev pub IsAnswerStatus : ℕ → Type 0

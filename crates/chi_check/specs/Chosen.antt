@@ -1,7 +1,7 @@
 -- which options the arguments name
 use Rattle.std.specs.Prelude.{◌≡◌, ℕ, Bool, false, List, Option, Some, None, Result, codes}
 use Rattle.std.specs.Option.{option_map_or}
-use Rattle.std.specs.Result.{result_unwrap_or}
+use Rattle.std.specs.Result.{result_ok, result_unwrap_or}
 use Rattle.std.specs.Str.{bytes_eq}
 use Rattle.std.specs.Str.Parse.{ParsesUnsigned}
 use Rattle.clap.specs.Walk.{Row, Text, first_of, one_of}
@@ -22,6 +22,15 @@ IsNumberOrMillion (Some text) budget = (read : Result ℕ (Unit {0})) × ParsesU
 abbrev pub IsBudget : List Row → ℕ → Type 0
 IsBudget found budget = IsNumberOrMillion (one_of (codes "budget") found) budget
 
+-- the number that a text is, where there is one below 2^64
+abbrev pub IsNumberOrNone : Option Text → Option ℕ → Type 0
+IsNumberOrNone None time = time ≡ None
+IsNumberOrNone (Some text) time = (read : Result ℕ (Unit {0})) × ParsesUnsigned 64 10 text read × (time ≡ result_ok read)
+
+-- the number after `--until`, where it is there
+abbrev pub IsUntil : List Row → Option ℕ → Type 0
+IsUntil found time = IsNumberOrNone (one_of (codes "until") found) time
+
 -- in these arguments `clap` finds a subcommand, and this of its options, by use or by default
 abbrev pub Finds : List Text → List Row → Type 0
 Finds arguments found = (name : Text) × (subcommand_of program_app arguments ≡ Some (name, found))
@@ -30,3 +39,4 @@ Finds arguments found = (name : Text) × (subcommand_of program_app arguments �
 abbrev pub Chooses : List Text → CheckOptions → Type 0
 Chooses arguments options =
     (found : List Row) × Finds arguments found × (options.witness ≡ has_word found (codes "witness") (codes "true")) × IsBudget found options.budget
+    × IsUntil found options.until

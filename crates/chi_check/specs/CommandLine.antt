@@ -10,19 +10,22 @@ use Rattle.clap.specs.declared.builder.value_parser.ValueParser.TheVariants as v
 use Rattle.clap.specs.declared.error.kind.ErrorKind.{ErrorKind}
 use Rattle.clap.specs.declared.error.kind.ErrorKind.TheVariants as error_kind
 
--- an option that takes a value, and its default
-abbrev pub option_rule : Text → ValueParser → Text → Rule
-option_rule name values default =
-    record (new_rule name) { long = Some name; value_names = 1; parser = Some values; defaults = default ∷ [] }
+-- an option that takes a value, and its defaults
+abbrev pub option_rule : Text → ValueParser → List Text → Rule
+option_rule name values defaults = record (new_rule name) { long = Some name; value_names = 1; parser = Some values; defaults = defaults }
 
 -- an option that is there or not
 abbrev pub switch_rule : Text → Rule
 switch_rule name = record (new_rule name) { long = Some name; action = Some SetTrue }
 
--- the task `explain`: its witness may be asked for, and its budget is a whole number below 2^64
+-- a whole number below 2^64
+abbrev pub is_word : ValueParser
+is_word = value_parser.Unsigned 0 (2 ^ 64 - 1)
+
+-- the task `explain`: its witness may be asked for, and its time and its budget are whole numbers below 2^64
 abbrev pub task_app : App
-task_app = with_rule (with_rule (new_app (codes "explain")) (switch_rule (codes "witness")))
-    (option_rule (codes "budget") (value_parser.Unsigned 0 (2 ^ 64 - 1)) (codes "1000000"))
+task_app = with_rule (with_rule (with_rule (new_app (codes "explain")) (switch_rule (codes "witness"))) (option_rule (codes "until") is_word []))
+    (option_rule (codes "budget") is_word (codes "1000000" ∷ []))
 
 -- the program: it wants its task, has a version, and its name is not among its arguments
 abbrev pub bare_app : App

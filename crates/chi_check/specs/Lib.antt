@@ -1,10 +1,5 @@
-pub mod Answer
-pub mod AnswerText
 pub mod Check
 pub mod CheckStatus
 pub mod Chosen
 pub mod CommandLine
-pub mod Decoded
-pub mod Part
 pub mod ProgramOutcome
-pub mod Trace

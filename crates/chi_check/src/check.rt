@@ -1,35 +1,36 @@
 //! From a trace's bytes to an answer's bytes.
 
 ghost use Rattle.std.specs.Prelude.{◌≡◌, ◌≤◌, length, IfErr, IfOk, IfSome};
-ghost use Rattle.chi_check.specs.Check.{IsAnswered, IsReadFault, KeepsUnanswered, Outcome, most_bytes};
+ghost use Rattle.chi_check.specs.Check.{IsAnswered, IsReadFault, KeepsUnanswered, LookedForStatus, Outcome, judged, most_bytes};
 ghost use Rattle.chi_check.specs.CheckStatus.{IsAnswerStatus, answer_status};
-ghost use Rattle.chi_check.specs.Decoded.{AreDecoded};
 
-use crate::answer::{Answer, answer_of};
-use crate::answer_text::answer_text;
 use crate::fault::CheckFault;
 use crate::options::CheckOptions;
 use crate::progress_line::ShownProgress;
-use crate::trace::{Trace, read_trace};
+use chi_answer::{Answer, answer_of, answer_text};
+use chi_reading::{Recorded, read_trace};
 use chi_script::{InputFault, read_input, write_bytes};
 use std::alloc::{AllocError, Global};
 use std::io::{Read, Write};
 
 /// The greatest number of bytes of a trace.
-pub const MOST_BYTES: usize = 67_108_864;
+pub const MOST_BYTES: usize = 536_870_912;
 
 // The status of an answer.
 fn answer_status(answer: &Answer) -> u8
     ensures { result ≡ answer_status answer.now }
 {
     match answer {
-        Answer::Explained { order: _, words: _ } => 0,
+        Answer::Explained { order: _ } => 0,
         Answer::Blamed(_) => 1,
         Answer::Unexplained {
             granule: _,
             words: _,
         } => 1,
-        Answer::Undecided { states: _ } => 6,
+        Answer::Undecided {
+            granule: _,
+            states: _,
+        } => 6,
     }
 }
 
@@ -47,20 +48,31 @@ fn read_bytes<R: Read>(alloc: Global, from: &mut R) -> Result<Vec<u8>, CheckFaul
     }
 }
 
+// What is judged of a trace: all of it, or what had happened by a time.
+fn judged(alloc: Global, recorded: Recorded, until: Option<u64>) -> Result<Recorded, AllocError>
+    ensures { IfOk result (λ part. part ≡ judged until recorded) }
+{
+    match until {
+        Some(time) => recorded.cut(alloc, time),
+        None => Ok(recorded),
+    }
+}
+
 // The status and the text of the answer of a trace.
 fn answered<P: ShownProgress>(
     alloc: Global,
-    trace: &Trace,
+    recorded: Recorded,
     options: &CheckOptions,
     progress: &mut P,
 ) -> Result<(u8, Vec<u8>), AllocError>
-    requires { AreDecoded trace.now.region trace.now.requests trace.now.operations }
-    ensures { IfOk result (λ r. IsAnswered options.now trace.now r.0 r.1.items) }
+    ensures answered { IfOk result (λ r. IsAnswered options.now recorded r.0 r.1.items) }
+    ensures spent { IfOk result (λ r. LookedForStatus P.looked progress.old progress.new options.now.budget r.0) }
 {
-    let found = answer_of(alloc, trace, options.budget, progress);
+    let part = judged(alloc, recorded, options.until)?;
+    let found = answer_of(alloc, &part, options.budget, progress);
     progress.clear();
     let answer = found?;
-    let text = answer_text(alloc, trace, &answer, options.witness, options.budget)?;
+    let text = answer_text(alloc, &part, &answer, options.witness)?;
     Ok((answer_status(&answer), text))
 }
 
@@ -83,13 +95,14 @@ pub fn check<R: Read, W: Write, P: ShownProgress>(
     ensures outcome { IfSome (R.remaining from.old) (λ input. Outcome options.now input (W.contents to.old) (W.contents to.new) result) }
     ensures unanswered { KeepsUnanswered (W.contents to.old) (W.contents to.new) result }
     ensures status { IfOk result (λ status. IsAnswerStatus status) }
+    ensures spent { IfOk result (λ status. LookedForStatus P.looked progress.old progress.new options.now.budget status) }
 {
     let input = read_bytes(alloc, from)?;
-    let trace = match read_trace(alloc, &input) {
-        Ok(trace) => trace,
+    let recorded = match read_trace(alloc, &input) {
+        Ok(recorded) => recorded,
         Err(fault) => return Err(CheckFault::Trace(fault)),
     };
-    let Ok((status, text)) = answered(alloc, &trace, options, progress) else {
+    let Ok((status, text)) = answered(alloc, recorded, options, progress) else {
         return Err(CheckFault::Memory);
     };
     match write_bytes(to, &text) {

@@ -1,12 +1,12 @@
 //! The command line.
 
-ghost use Rattle.std.specs.Prelude.{◌≡◌, ◌-◌, ◌^◌, false, codes, map, string_bytes, IfErr, IfOk};
+ghost use Rattle.std.specs.Prelude.{◌≡◌, ◌-◌, ◌^◌, [], ◌∷◌, false, codes, map, string_bytes, IfErr, IfOk};
 ghost use Rattle.clap.specs.Matches.{found_of};
 ghost use Rattle.clap.specs.Simple.{app_of};
 ghost use Rattle.clap.specs.Values.{kind_of};
 ghost use Rattle.clap.specs.Walk.{rows_of, rule_of};
 ghost use Rattle.clap.specs.declared.builder.value_parser.ValueParser.TheVariants as value_parser;
-ghost use Rattle.chi_check.specs.Chosen.{Chooses, IsBudget, has_word};
+ghost use Rattle.chi_check.specs.Chosen.{Chooses, IsBudget, IsUntil, has_word};
 ghost use Rattle.chi_check.specs.CommandLine.{IsArgumentsFault, IsTaken, option_rule, program_app, switch_rule, task_app};
 
 use crate::options::CheckOptions;
@@ -21,8 +21,10 @@ const ABOUT: &str = "Says whether what was observed at a CHI home node can be ex
 
 const MORE: &str =
     "A trace on standard input is a script of chihome whose requests have the members start, end
-and reply too. It may have the member final, the words at the end. The answer on standard
-output is `explained`, `not explained` with where, or `undecided`.
+and reply too. It may have the member final, the words at the end. Where granules is left out
+the memory is all addresses; where end is left out a request was still open, and where reply
+is null its answer was not seen. The answer on standard output is `explained`, `not explained`
+with where, or `undecided`.
 
   $ echo '{\"base\":4096,\"granules\":1,\"requests\":[{\"src\":0,\"txn\":1,\"op\":4,\"size\":3,
     \"addr\":4096,\"endian\":0,\"be\":0,\"lanes\":\"00000000000000000000000000000000\",
@@ -39,7 +41,7 @@ const BUDGET: u64 = 1_000_000;
 
 // The option that takes the number of states.
 fn budget_option<'a>(alloc: Global) -> Arg<'a>
-    ensures rule { rule_of result ≡ option_rule (codes "budget") (value_parser.Unsigned 0 (2 ^ 64 - 1)) (codes "1000000") }
+    ensures rule { rule_of result ≡ option_rule (codes "budget") (value_parser.Unsigned 0 (2 ^ 64 - 1)) (codes "1000000" ∷ []) }
     ensures local { result.global ≡ false }
 {
     Arg::new(alloc, "budget")
@@ -48,6 +50,18 @@ fn budget_option<'a>(alloc: Global) -> Arg<'a>
         .value_parser(value_parser!(u64))
         .default_value("1000000")
         .help("States of each granule that are looked at for an answer")
+}
+
+// The option that takes a time.
+fn until_option<'a>(alloc: Global) -> Arg<'a>
+    ensures rule { rule_of result ≡ option_rule (codes "until") (value_parser.Unsigned 0 (2 ^ 64 - 1)) [] }
+    ensures local { result.global ≡ false }
+{
+    Arg::new(alloc, "until")
+        .long("until")
+        .value_name("T")
+        .value_parser(value_parser!(u64))
+        .help("Judges what had happened by time T, and no words at the end")
 }
 
 // The option that asks for the order found.
@@ -70,6 +84,7 @@ fn explain_command<'a>(alloc: Global) -> Result<Command<'a>, Error>
         Command::new(alloc, "explain")
             .about(EXPLAIN_ABOUT)
             .arg(witness_option(alloc))?
+            .arg(until_option(alloc))?
             .arg(budget_option(alloc))?,
     )
 }
@@ -107,24 +122,33 @@ fn chosen_budget(chosen: &ArgMatches<'_>) -> u64
     chosen.get_one::<u64>("budget").unwrap_or(BUDGET)
 }
 
+// The time up to which is judged, where one was given.
+fn chosen_time(chosen: &ArgMatches<'_>) -> Option<u64>
+    ensures { IsUntil (rows_of (found_of chosen.now)) result }
+{
+    chosen.get_one::<u64>("until")
+}
+
 // The options that the task was given, or that stand in for them.
 fn chosen_options(chosen: &ArgMatches<'_>) -> CheckOptions
     ensures witness { result.witness ≡ has_word (rows_of (found_of chosen.now)) (codes "witness") (codes "true") }
     ensures budget { IsBudget (rows_of (found_of chosen.now)) result.budget }
+    ensures until { IsUntil (rows_of (found_of chosen.now)) result.until }
 {
     CheckOptions {
         witness: has_word(chosen, "witness", "true"),
         budget: chosen_budget(chosen),
+        until: chosen_time(chosen),
     }
 }
 
 /// Reads the arguments after the program's name: `explain`, and its options.
 ///
 /// Which arguments are refused, and as what, and which options the others name, `clap`'s definitions say of the
-/// program's command line. That `clap` refuses a budget that is no number no contract says; `.ci/checker` shows it.
+/// program's command line. That `clap` refuses a budget or a time that is no number no contract says; `.ci/checker` shows it.
 ///
 /// ```
-/// let options = options_of(alloc, &arguments)?; // explain --witness --budget 1000
+/// let options = options_of(alloc, &arguments)?; // explain --witness --budget 1000 --until 4711
 /// ```
 pub fn options_of(alloc: Global, arguments: &[String]) -> Result<CheckOptions, Error>
     ensures chosen { IfOk result (λ options. Chooses (map string_bytes arguments.now) options) }

@@ -3,14 +3,14 @@
 ghost use Rattle.std.specs.Prelude.{◌≡◌};
 ghost use Rattle.chi_check.specs.CheckStatus.{status_of};
 
-use crate::trace_fault::TraceFault;
+use chi_reading::TraceFault;
 use chi_script::WriteFault;
 use thiserror::Error;
 
 /// Why no whole answer was written.
 ///
 /// - `Read`: the reader answered a fault, which may also be that it was interrupted.
-/// - `TooLong`: the input has more than 67,108,864 bytes.
+/// - `TooLong`: the input has more than 536,870,912 bytes.
 /// - `Memory`: no memory for the input, for the search or for the answer.
 /// - `Trace`: the trace was refused. Up to here nothing is written.
 /// - `Write`: the answer was not written whole.
@@ -18,7 +18,7 @@ use thiserror::Error;
 pub enum CheckFault {
     #[error("input could not be read")]
     Read,
-    #[error("trace is over 67108864 bytes")]
+    #[error("trace is over 536870912 bytes")]
     TooLong,
     #[error("no memory")]
     Memory,

@@ -1,20 +1,12 @@
 //! chicheck: whether what was observed at a home node can be explained, from a trace on standard input.
 #![tactic(auto)]
 
-mod answer;
-mod answer_lines;
-mod answer_text;
 mod arguments;
 mod check;
 mod command;
-mod completed;
 mod fault;
 mod options;
-mod part;
 mod progress_line;
-mod states;
-mod trace;
-mod trace_fault;
 
 ghost use Rattle.std.specs.Prelude.{◌≡◌, ◌⊎◌};
 

@@ -1,10 +1,9 @@
 //! The line that says how far a search is.
 
-ghost use Rattle.std.specs.Prelude.{◌≡◌, None};
+ghost use Rattle.std.specs.Prelude.{◌≡◌, ℕ, ◌+◌, ◌-◌, ◌^◌, None, min};
 ghost use Rattle.std.specs.Io.KnownBytes.{Keeps};
 
-use chi_explain::Progress;
-use chi_fields::Region;
+use chi_search::Progress;
 use std::io::{IsTerminal, Write};
 use std::time::{Clock, Duration, Instant};
 
@@ -18,11 +17,14 @@ const STATES: u64 = 4096;
 
 /// Shows how far a search is, until something else is written.
 pub trait ShownProgress: Progress {
+    ghost use Rattle.std.specs.Prelude.{ℕ};
+
     /// Takes back what is shown.
-    fn clear(&mut self);
+    fn clear(&mut self)
+        ensures { (n : ℕ) → Self.looked self.old n → Self.looked self.new n };
 }
 
-/// A line on a terminal that says how many granules a search is done with. It is first written where a second has gone
+/// A line on a terminal that says how many states a search has looked at. It is first written where a second has gone
 /// by since the program began, and then written over ten times a second. Where `to` is no terminal nothing is written.
 ///
 /// Its own faults are ignored.
@@ -73,34 +75,27 @@ impl<'a, C: Clock, W: Write> ProgressLine<'a, C, W> {
     }
 
     // Writes the line over the one that stands there.
-    fn show(&mut self, region: &Region, until: Option<u64>, granule: usize) {
-        let granules = region.granules();
-        let _written = match until {
-            Some(time) => write!(
-                self.to,
-                "\rchicheck: {granule} of {granules} granules up to {time}\u{1b}[K"
-            ),
-            None => write!(
-                self.to,
-                "\rchicheck: {granule} of {granules} granules\u{1b}[K"
-            ),
-        };
+    fn show(&mut self)
+        ensures { self.new.states ≡ self.old.states }
+    {
+        let states = self.states;
+        let _written = write!(self.to, "\rchicheck: {states} states\u{1b}[K");
     }
 }
 
 impl<'a, C: Clock, W: Write> Progress for ProgressLine<'a, C, W> {
-    fn look(&mut self, region: &Region, until: Option<u64>, granule: usize)
+    ghost looked = { λ p n. p.states ≡ min n (2 ^ 64 - 1) };
+
+    fn look(&mut self)
+        ensures counted { (n : ℕ) → self.old.states ≡ min n (2 ^ 64 - 1) → self.new.states ≡ min (n + 1) (2 ^ 64 - 1) }
         ensures quiet { self.old.began ≡ None → Keeps (W.contents self.old.to) (W.contents self.new.to) }
     {
-        if self.began.is_none() {
-            return;
-        }
-        self.states = self.states.wrapping_add(1);
-        if self.states % STATES != 0 {
+        self.states = self.states.saturating_add(1);
+        if self.began.is_none() || self.states % STATES != 0 {
             return;
         }
         if let Some(now) = self.due() {
-            self.show(region, until, granule);
+            self.show();
             self.shown = Some(now);
         }
     }
@@ -108,6 +103,7 @@ impl<'a, C: Clock, W: Write> Progress for ProgressLine<'a, C, W> {
 
 impl<'a, C: Clock, W: Write> ShownProgress for ProgressLine<'a, C, W> {
     fn clear(&mut self)
+        ensures counted { (n : ℕ) → self.old.states ≡ min n (2 ^ 64 - 1) → self.new.states ≡ min n (2 ^ 64 - 1) }
         ensures quiet { self.old.shown ≡ None → Keeps (W.contents self.old.to) (W.contents self.new.to) }
         ensures cleared { self.new.shown ≡ None }
     {

@@ -8,4 +8,5 @@ mod ObjectText
 mod OneMore
 mod Packets
 mod RegionText
+mod Shorter
 mod ToldSoFar

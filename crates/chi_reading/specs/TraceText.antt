@@ -1,5 +1,5 @@
 -- the trace that a text is, or its first fault
-use Rattle.std.specs.Prelude.{◌≡◌, ℕ, false, ◌-◌, ◌/◌, ◌^◌, if◌then◌else◌, List, [], map, slice_index_or, Option, None, Some, is_some, Result, Ok, Err}
+use Rattle.std.specs.Prelude.{◌≡◌, ℕ, false, ◌-◌, ◌/◌, ◌^◌, if◌then◌else◌, List, [], length, map, slice_index_or, take, Option, None, Some, is_some, Result, Ok, Err}
 use Rattle.std.specs.Option.{ok_or}
 use Rattle.serde_json.specs.Data.{Data}
 use Rattle.serde_json.specs.Find.{as_array, as_object, get}
@@ -10,9 +10,10 @@ use Rattle.chi_script.specs.Member.{member_name}
 use Rattle.chi_script.specs.Script.{◌>>=◌, json_value, member_by, number_of, opening_words, stated_words}
 use Rattle.chi_trace.specs.declared.observed.Observed.{Observed}
 use Rattle.chi_trace.specs.Chosen.{chosen}
+use Rattle.chi_trace.specs.Cuts.{cut}
 use Rattle.chi_trace.specs.Explains.{is_place, times_in}
 use Rattle.chi_verdict.specs.declared.words.GranuleWord.{GranuleWord}
-use Rattle.chi_verdict.specs.Traces.{TraceValue}
+use Rattle.chi_verdict.specs.Traces.{TraceValue, known_at}
 use Rattle.chi_verdict.specs.Words.{told}
 use Rattle.chi_reading.specs.declared.asked.Asked.{Asked}
 use Rattle.chi_reading.specs.declared.recorded.Memory.{Memory}
@@ -85,6 +86,16 @@ pub record RecordedValue : Type 0 where
   pub finals : List GranuleWord
   pub requests : List Asked
   pub places : List ℕ
+
+-- What had happened by a time. The operations stand in the order of their starts, so those that had started are the first. No
+-- words are told at the end.
+abbrev pub cut_at : ℕ → RecordedValue → RecordedValue
+cut_at time r = record r {
+  trace = known_at time r.trace;
+  finals = [];
+  requests = take (length (cut time r.trace.operations)) r.requests;
+  places = take (length (cut time r.trace.operations)) r.places;
+}
 
 -- the memory that was read is what the text says
 pub record IsMemoryOf (t : MemoryText) (m : Memory) : Type 0 where

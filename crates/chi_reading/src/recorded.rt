@@ -2,7 +2,7 @@
 
 ghost use Rattle.std.specs.Prelude.{◌≡◌, ◌≢◌, ℕ, ◌<◌, length, IfErr, IfOk, Ok, Err};
 ghost use Rattle.serde_json.specs.View.{view};
-ghost use Rattle.chi_reading.specs.TraceText.{IsMemoryOf, IsOf, IsRecorded, MemoryText, TextValue, memory_text, object_text, region_memory, trace_text, wide_memory};
+ghost use Rattle.chi_reading.specs.TraceText.{IsMemoryOf, IsOf, IsRecorded, MemoryText, TextValue, cut_at, memory_text, object_text, region_memory, trace_text, wide_memory};
 ghost use Rattle.chi_trace.specs.Explains.{IsObserved, at};
 
 use crate::asked::Asked;
@@ -96,6 +96,28 @@ impl Recorded {
         ensures matched { length self.now.places ≡ length self.now.trace.operations }
     {
         self.places.as_slice()
+    }
+
+    /// What had happened by a time: the operations that had started, with the replies of those that had ended, their requests
+    /// and their places. The words at the end are not those of that time, so none is told.
+    ///
+    /// ```
+    /// let before = recorded.cut(alloc, 4711)?;
+    /// ```
+    pub fn cut(&self, alloc: Global, time: u64) -> Result<Recorded, AllocError>
+        ensures { IfOk result (λ before. before ≡ cut_at time self.now) }
+    {
+        let trace = self.trace.cut(alloc, time)?;
+        let count = trace.operations().len();
+        let requests = Vec::from_slice(alloc, &self.requests[..count])?;
+        let places = Vec::from_slice(alloc, &self.places[..count])?;
+        Ok(Recorded {
+            region: self.region,
+            trace,
+            finals: GranuleWords::none(alloc),
+            requests,
+            places,
+        })
     }
 }
 

@@ -4,6 +4,7 @@ pub mod Elements
 pub mod FirstAndLast
 pub mod Idle
 pub mod Layers
+pub mod Looking
 pub mod Moves
 pub mod Orders
 pub mod Paths

@@ -1,6 +1,7 @@
 pub mod Choices
 pub mod Found
 pub mod Layers
+pub mod Looks
 pub mod Moves
 pub mod Paths
 pub mod Positions

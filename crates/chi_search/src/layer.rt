@@ -1,8 +1,9 @@
 //! Sets of states, each one move after those of the one before.
 
-ghost use Rattle.std.specs.Prelude.{◌≡◌, ◌≢◌, ℕ, ◌+◌, ◌<◌, ◌≤◌, ◌⊎◌, ◌↔◌, IfOk, IfSome, IsTrue, None, OnOk, false, length};
+ghost use Rattle.std.specs.Prelude.{◌≡◌, ◌≢◌, ℕ, ◌+◌, ◌-◌, ◌<◌, ◌≤◌, ◌⊎◌, ◌↔◌, IfOk, IfSome, IsTrue, None, OnOk, false, length};
 ghost use Rattle.std.specs.List.{AllPairs, Contains};
 ghost use Rattle.chi_search.specs.Layers.{AreReady, SomeEnds};
+ghost use Rattle.chi_search.specs.Looks.{LookedMore};
 ghost use Rattle.chi_search.specs.Moves.{Ends};
 ghost use Rattle.chi_search.specs.Paths.{AreEarliest};
 ghost use Rattle.chi_search.specs.Positions.{IsReady, Position, position_of, start};
@@ -76,8 +77,9 @@ pub(crate) fn next_layer<P: Progress>(
     requires ready { AreReady ops.now layer.now }
     ensures ends { IfOk result (λ next. IfSome next (λ states. (v : ℕ) → SomeEnds ops.now states v ↔ SomeEnds ops.now layer.now v)) }
     ensures ready { IfOk result (λ next. IfSome next (λ states. AreReady ops.now states)) }
-    ensures spends { IfOk result (λ next. IfSome next (λ states. budget.new + length (positions layer.now) ≡ budget.old)) }
+    ensures one_each { IfOk result (λ next. IfSome next (λ states. budget.new + length (positions layer.now) ≡ budget.old)) }
     ensures spent { IfOk result (λ next. next ≡ None → budget.new ≡ 0) }
+    ensures spends { IfOk result (λ next. (budget.new ≤ budget.old) × LookedMore P.looked progress.old progress.new (budget.old - budget.new)) }
 {
     let mut states = no_states(alloc);
     let mut state = first_state(alloc, 0);

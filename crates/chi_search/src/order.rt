@@ -1,9 +1,10 @@
 //! An order of the operations of one granule.
 
-ghost use Rattle.std.specs.Prelude.{◌≡◌, ℕ, ◌⊎◌, List, IfOk};
+ghost use Rattle.std.specs.Prelude.{◌≡◌, ℕ, ◌-◌, ◌≤◌, ◌⊎◌, List, IfOk};
 ghost use Rattle.chi_trace.specs.Explains.{is_place};
 ghost use Rattle.chi_trace.specs.Granules.{Finishes};
 ghost use Rattle.chi_search.specs.Found.{IfNothing, IfOrder, IfUndecided};
+ghost use Rattle.chi_search.specs.Looks.{LookedMore};
 ghost use Rattle.chi_search.specs.Searchable.{AreSorted, AreWithin};
 
 use crate::choice::{Choice, choose};
@@ -26,7 +27,7 @@ pub enum Found {
 
 /// Searches for an order of the operations of one granule, from its word at the opening on, which leaves `last` where that was
 /// observed. The operations stand in the order of their ends (`are_searchable`). `budget` is how many states may be looked
-/// at, and is left with how many more might have been.
+/// at beside the first, and is left with how many more might have been.
 ///
 /// Source: profile.
 ///
@@ -51,6 +52,7 @@ pub fn order_of<P: Progress>(
     ensures order { IfOk result (λ found. IfOrder found (λ order. Finishes ops.now (is_place ops.now) word last order)) }
     ensures nothing { IfOk result (λ found. IfNothing found ((order : List ℕ) → Finishes ops.now (is_place ops.now) word last order → ⊥)) }
     ensures undecided { IfOk result (λ found. IfUndecided found (budget.new ≡ 0)) }
+    ensures spends { IfOk result (λ found. (budget.new ≤ budget.old) × LookedMore P.looked progress.old progress.new (budget.old - budget.new)) }
 {
     let earliest = earliest_starts(alloc, ops)?;
     let mut dead = no_states(alloc);
@@ -58,14 +60,14 @@ pub fn order_of<P: Progress>(
     let mut state = first_state(alloc, word);
     let mut next = first_state(alloc, word);
     while *budget > 0 {
-        *budget -= 1;
-        progress.look();
         match choose(ops, &earliest, last, &dead, &state, &mut next)? {
             Choice::Ended => {
                 let order = taken(alloc, &path)?;
                 return Ok(Found::Order(order));
             }
             Choice::Step { op } => {
+                *budget -= 1;
+                progress.look();
                 path.push(Step { from: state, op })?;
                 state = next;
                 next = first_state(alloc, word);

@@ -1,9 +1,10 @@
 //! The words that the operations of one granule can leave.
 
-ghost use Rattle.std.specs.Prelude.{◌≡◌, ◌≢◌, ℕ, ◌↔◌, IfOk};
+ghost use Rattle.std.specs.Prelude.{◌≡◌, ◌≢◌, ℕ, ◌-◌, ◌≤◌, ◌↔◌, IfOk};
 ghost use Rattle.std.specs.List.{AllPairs, Contains};
 ghost use Rattle.chi_search.specs.Found.{IfUnknown, IfWords};
 ghost use Rattle.chi_search.specs.Layers.{SomeLeads};
+ghost use Rattle.chi_search.specs.Looks.{LookedMore};
 ghost use Rattle.chi_search.specs.Searchable.{AreSorted, AreWithin};
 
 use crate::earliest::earliest_starts;
@@ -44,6 +45,7 @@ pub fn words_of<P: Progress>(
     ensures words { IfOk result (λ found. IfWords found (λ each. (v : ℕ) → Contains each v ↔ SomeLeads ops.now words.now v)) }
     ensures once { IfOk result (λ found. IfWords found (λ each. AllPairs (λ v w. v ≢ w) each)) }
     ensures unknown { IfOk result (λ found. IfUnknown found (budget.new ≡ 0)) }
+    ensures spends { IfOk result (λ found. (budget.new ≤ budget.old) × LookedMore P.looked progress.old progress.new (budget.old - budget.new)) }
 {
     let earliest = earliest_starts(alloc, ops)?;
     let mut layer = first_layer(alloc, words)?;

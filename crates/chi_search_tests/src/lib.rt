@@ -12,4 +12,6 @@ mod operations;
 #[cfg(test)]
 mod order_tests;
 #[cfg(test)]
+mod progress_tests;
+#[cfg(test)]
 mod words_tests;

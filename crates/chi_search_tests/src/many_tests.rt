@@ -33,6 +33,6 @@ fn undecided_where_the_budget_was_spent(rt: HostRuntime) -> Result<(), Fail> {
     let whole = order(rt.alloc(), &ops, None, &mut enough)?;
     let part = order(rt.alloc(), &ops, None, &mut short)?;
     let found = (whole.len(), enough, part.first().copied(), short);
-    assert_same(&rt, found, (4, 1, Some(998), 0));
+    assert_same(&rt, found, (4, 2, Some(998), 0));
     Ok(())
 }

@@ -15,6 +15,7 @@ mod OneGranule
 mod Open
 mod Parts
 mod Replayed
+pub mod Spent
 mod Ties
 mod Told
 pub mod Traced

@@ -1,14 +1,13 @@
 -- where a trace stops being explained
-use Rattle.std.specs.Prelude.{◌≡◌, ℕ, ◌+◌, ◌&&◌, nat_le, Bool, true, List, None, ◌↔◌}
+use Rattle.std.specs.Prelude.{◌≡◌, ℕ, ◌+◌, ◌≤◌, ◌&&◌, nat_le, Bool, true, List, None, ◌↔◌, ◌⊎◌}
 use Rattle.std.specs.List.{Contains}
 use Rattle.chi_history.specs.History.{one_if}
-use Rattle.chi_search.specs.Found.{IfWords}
+use Rattle.chi_search.specs.Found.{IfUnknown, IfWords}
+use Rattle.chi_search.specs.Looks.{LookedMore}
 use Rattle.chi_trace.specs.declared.observed.Observed.{Observed}
 use Rattle.chi_trace.specs.Explains.{at, is_answered, times_in}
 use Rattle.chi_trace.specs.Granules.{ExplainsGranule, is_of}
 use Rattle.chi_verdict.specs.declared.first.Blame.{Blame}
-use Rattle.chi_verdict.specs.declared.first.Back.{Back}
-use Rattle.chi_verdict.specs.declared.first.Back.TheVariants.{Answer, Earlier}
 use Rattle.chi_verdict.specs.declared.first.First.{First}
 use Rattle.chi_verdict.specs.declared.first.First.TheVariants.{Never, At, Undecided}
 use Rattle.chi_verdict.specs.Traces.{CanHold, IsLegal, TraceValue, known_at}
@@ -50,17 +49,10 @@ IfNotFound Never P = Unit {0}
 IfNotFound (At blame) P = Unit {0}
 IfNotFound (Undecided granule states) P = P states
 
--- what is found is so, of a trace that is not explained
-pub record IsFirst (t : TraceValue) (budget : ℕ) (first : First) : Type 0 where
-  pub never : IfNever first ⊥
-  pub blame : IfAt first (IsBlame t)
-  pub undecided : IfNotFound first (λ states. states ≡ budget)
-
--- P of the answer, or of the granule, that a search back in time comes to
-abbrev pub IfAnswer : Back → (First → Type 0) → Type 0
-IfAnswer (Answer first) P = P first
-IfAnswer (Earlier granule) P = Unit {0}
-
-abbrev pub IfEarlier : Back → (ℕ → Type 0) → Type 0
-IfEarlier (Answer first) P = Unit {0}
-IfEarlier (Earlier granule) P = P granule
+-- So many states were looked at: no fewer than are told where nothing was decided, and no fewer than the budget where the words
+-- are not known and the time is not 0.
+pub record LookedForFirst {P : Type 0} (looked : P → ℕ → Type 0) (old new : P) (budget : ℕ) (first : First) : Type 0 where
+  pub count : ℕ
+  pub more : LookedMore looked old new count
+  pub undecided : IfNotFound first (λ states. states ≤ count)
+  pub words : IfAt first (λ blame. IfUnknown blame.words ((blame.time ≡ 0) ⊎ (budget ≤ count)))

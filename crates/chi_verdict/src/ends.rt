@@ -1,6 +1,7 @@
 //! The first end up to which a granule's operations cannot be explained.
 
 ghost use Rattle.std.specs.Prelude.{ℕ, ◌-◌, ◌<◌, List, None, length, slice_index_or, IsTrue, IfOk};
+ghost use Rattle.chi_search.specs.Looks.{LookedMore};
 ghost use Rattle.chi_trace.specs.Cuts.{cut};
 ghost use Rattle.chi_trace.specs.Explains.{IsTrace};
 ghost use Rattle.chi_trace.specs.Granules.{ExplainsGranule};
@@ -44,7 +45,8 @@ pub(crate) fn is_unexplained<P: Progress>(
     progress: &mut P,
 ) -> Result<bool, AllocError>
     requires traced { IsTrace ops.now }
-    ensures { IfOk result (λ is. IsTrue is → (order : List ℕ) → ExplainsGranule (cut time ops.now) granule word None order → ⊥) }
+    ensures unexplained { IfOk result (λ is. IsTrue is → (order : List ℕ) → ExplainsGranule (cut time ops.now) granule word None order → ⊥) }
+    ensures looked { IfOk result (λ _. (k : ℕ) × LookedMore P.looked progress.old progress.new k) }
 {
     let known = cut(alloc, ops, time)?;
     let run = of_granule(alloc, &known, granule)?;
@@ -73,6 +75,7 @@ pub(crate) fn first_end<P: Progress>(
     requires last { (d : Placed) (order : List ℕ) → ExplainsGranule (cut (slice_index_or ends.now (length ends.now - 1) d).end ops.now) granule word None order → ⊥ }
     ensures within { IfOk result (λ place. place < length ends.now) }
     ensures unexplained { IfOk result (λ place. (d : Placed) (order : List ℕ) → ExplainsGranule (cut (slice_index_or ends.now place d).end ops.now) granule word None order → ⊥) }
+    ensures looked { IfOk result (λ _. (k : ℕ) × LookedMore P.looked progress.old progress.new k) }
 {
     let mut low = 0;
     let mut high = ends.len() - 1;

@@ -2,10 +2,12 @@
 
 ghost use Rattle.std.specs.Prelude.{◌≡◌, ℕ, ◌-◌, ◌<◌, ◌≤◌, List, All, None, true, IfOk};
 ghost use Rattle.chi_history.specs.History.{one_if};
+ghost use Rattle.chi_search.specs.Looks.{LookedMore};
 ghost use Rattle.chi_trace.specs.Cuts.{cut};
 ghost use Rattle.chi_trace.specs.Explains.{IsTrace, at, is_answered, times_in};
 ghost use Rattle.chi_trace.specs.Granules.{ExplainsGranule, is_of};
-ghost use Rattle.chi_verdict.specs.Blames.{IfAnswer, IfAt, IfEarlier, IfNever, IfNotFound, IsBlame, IsFirst, is_open_at};
+ghost use Rattle.chi_verdict.specs.Backwards.{IfAnswer, IfEarlier, IsFirst};
+ghost use Rattle.chi_verdict.specs.Blames.{IfAt, IfNever, IfNotFound, IsBlame, LookedForFirst, is_open_at};
 ghost use Rattle.chi_verdict.specs.Traces.{IsLegal, known_at};
 ghost use Rattle.chi_verdict.specs.Words.{AreWords, word_told};
 
@@ -102,6 +104,8 @@ fn look_back<P: Progress>(
     ensures answer { IfOk result (λ back. IfAnswer back (IsFirst (record { opening = opening.now; operations = ops.now }) budget)) }
     ensures later { IfOk result (λ back. IfEarlier back (λ other. 0 < blamed.end)) }
     ensures earlier { IfOk result (λ back. IfEarlier back (λ other. (order : List ℕ) → ExplainsGranule (cut (blamed.end - 1) ops.now) other (word_told opening.now other) None order → ⊥)) }
+    ensures spent { IfOk result (λ back. IfAnswer back (LookedForFirst P.looked progress.old progress.new budget)) }
+    ensures looked { IfOk result (λ back. IfEarlier back (λ other. (k : ℕ) × LookedMore P.looked progress.old progress.new k)) }
 {
     parts_explain();
     let overlapping = open_at(alloc, ops, granule, blamed.end)?;
@@ -150,7 +154,8 @@ fn first_before<P: Progress>(
     requires words { AreWords opening.now }
     requires traced { IsTrace ops.now }
     requires unexplained { (order : List ℕ) → ExplainsGranule (cut time ops.now) granule (word_told opening.now granule) None order → ⊥ }
-    ensures { IfOk result (IsFirst (record { opening = opening.now; operations = ops.now }) budget) }
+    ensures first { IfOk result (IsFirst (record { opening = opening.now; operations = ops.now }) budget) }
+    ensures spent { IfOk result (LookedForFirst P.looked progress.old progress.new budget) }
 {
     let mut granule = granule;
     let mut time = time;
@@ -190,6 +195,7 @@ pub fn first_unexplained<P: Progress>(
     ensures never { IfOk result (λ first. IfNever first ((time : ℕ) → (order : List ℕ) × IsLegal (known_at time trace.now) order)) }
     ensures blame { IfOk result (λ first. IfAt first (IsBlame trace.now)) }
     ensures undecided { IfOk result (λ first. IfNotFound first (λ states. states ≡ budget)) }
+    ensures spent { IfOk result (LookedForFirst P.looked progress.old progress.new budget) }
 {
     cuts_are_explained();
     let none = GranuleWords::none(alloc);

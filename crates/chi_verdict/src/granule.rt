@@ -1,8 +1,9 @@
 //! The search of one granule's operations in a trace.
 
-ghost use Rattle.std.specs.Prelude.{◌≡◌, ℕ, ◌↔◌, List, Some, IfOk};
+ghost use Rattle.std.specs.Prelude.{◌≡◌, ℕ, ◌-◌, ◌≤◌, ◌↔◌, List, Some, IfOk};
 ghost use Rattle.std.specs.List.{Contains};
 ghost use Rattle.chi_search.specs.Found.{IfNothing, IfOrder, IfUndecided, IfUnknown, IfWords};
+ghost use Rattle.chi_search.specs.Looks.{LookedMore};
 ghost use Rattle.chi_trace.specs.Chosen.{chosen};
 ghost use Rattle.chi_trace.specs.Explains.{IsTrace};
 ghost use Rattle.chi_trace.specs.Granules.{ExplainsGranule, is_of};
@@ -43,6 +44,7 @@ pub(crate) fn search_granule<P: Progress>(
     ensures order { IfOk result (λ found. IfOrder found (λ order. ExplainsGranule ops.now granule word last order)) }
     ensures nothing { IfOk result (λ found. IfNothing found ((order : List ℕ) → ExplainsGranule ops.now granule word last order → ⊥)) }
     ensures undecided { IfOk result (λ found. IfUndecided found (budget.new ≡ 0)) }
+    ensures spends { IfOk result (λ found. (budget.new ≤ budget.old) × LookedMore P.looked progress.old progress.new (budget.old - budget.new)) }
 {
     let own = chosen(alloc, ops, run)?;
     places_explain();
@@ -71,6 +73,7 @@ pub(crate) fn words_left<P: Progress>(
     requires traced { IsTrace ops.now }
     ensures words { IfOk result (λ found. IfWords found (λ each. (v : ℕ) → Contains each v ↔ ((order : List ℕ) × ExplainsGranule ops.now granule word (Some v) order))) }
     ensures unknown { IfOk result (λ found. IfUnknown found (budget.new ≡ 0)) }
+    ensures spends { IfOk result (λ found. (budget.new ≤ budget.old) × LookedMore P.looked progress.old progress.new (budget.old - budget.new)) }
 {
     let run = of_granule(alloc, ops, granule)?;
     let own = chosen(alloc, ops, &run)?;

@@ -1,8 +1,9 @@
 //! The words that a granule can hold.
 
-ghost use Rattle.std.specs.Prelude.{◌≡◌, ℕ, ◌↔◌, List, IfOk};
+ghost use Rattle.std.specs.Prelude.{◌≡◌, ℕ, ◌-◌, ◌≤◌, ◌↔◌, List, IfOk};
 ghost use Rattle.std.specs.List.{Contains};
 ghost use Rattle.chi_search.specs.Found.{IfUnknown, IfWords};
+ghost use Rattle.chi_search.specs.Looks.{LookedMore};
 ghost use Rattle.chi_trace.specs.Explains.{IsTrace};
 ghost use Rattle.chi_verdict.specs.Traces.{CanHold, IsLegal};
 ghost use Rattle.chi_verdict.specs.Words.{AreWords};
@@ -29,6 +30,7 @@ pub(crate) fn words_after_all<P: Progress>(
     ensures words { IfOk result (λ found. IfWords found (λ each. (order : List ℕ) → IsLegal (record { opening = opening.now; operations = ops.now }) order
         → (v : ℕ) → Contains each v ↔ CanHold (record { opening = opening.now; operations = ops.now }) granule v)) }
     ensures unknown { IfOk result (λ found. IfUnknown found (budget.new ≡ 0)) }
+    ensures spends { IfOk result (λ found. (budget.new ≤ budget.old) × LookedMore P.looked progress.old progress.new (budget.old - budget.new)) }
 {
     orders_of_granules_explain();
     parts_explain();
@@ -54,6 +56,7 @@ pub fn words_held<P: Progress>(
 ) -> Result<Words, AllocError>
     ensures words { IfOk result (λ found. IfWords found (λ each. (order : List ℕ) → IsLegal trace.now order → (v : ℕ) → Contains each v ↔ CanHold trace.now granule v)) }
     ensures unknown { IfOk result (λ found. IfUnknown found (budget.new ≡ 0)) }
+    ensures spends { IfOk result (λ found. (budget.new ≤ budget.old) × LookedMore P.looked progress.old progress.new (budget.old - budget.new)) }
 {
     words_after_all(
         alloc,

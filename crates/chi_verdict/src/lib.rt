@@ -1,8 +1,8 @@
 //! Whether a whole trace is explained: by which order, or in which granule and from which time on it is not.
 #![tactic(auto)]
 
-mod after;
 mod ends;
+mod execution;
 mod first;
 mod granule;
 mod grouping;
@@ -13,7 +13,7 @@ mod walk;
 mod weaving;
 mod words;
 
-pub use after::words_after;
+pub use execution::{Executed, execute};
 pub use first::{Blame, First, first_unexplained};
 pub use held::words_held;
 pub use trace::{Trace, are_traced};

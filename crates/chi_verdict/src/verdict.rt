@@ -4,7 +4,7 @@ ghost use Rattle.std.specs.Prelude.{◌≡◌, ℕ, List, IfOk};
 ghost use Rattle.chi_trace.specs.Explains.{Explains, IsTrace};
 ghost use Rattle.chi_trace.specs.Granules.{ExplainsGranule};
 ghost use Rattle.chi_verdict.specs.Traces.{IsExplained, IsExplainedIn};
-ghost use Rattle.chi_verdict.specs.Verdicts.{IfExplained, IfUndecided, IfUnexplained};
+ghost use Rattle.chi_verdict.specs.Verdicts.{IfExplained, IfUndecided, IfUnexplained, LookedForVerdict};
 ghost use Rattle.chi_verdict.specs.Words.{AreWords, memory_of, told, word_told};
 
 use crate::granule::search_granule;
@@ -45,6 +45,7 @@ pub(crate) fn explain_operations<P: Progress>(
     ensures unexplained { IfOk result (λ verdict. IfUnexplained verdict (λ granule. (order : List ℕ) → Explains (memory_of opening.now) (told finals.now) ops.now order → ⊥)) }
     ensures granule { IfOk result (λ verdict. IfUnexplained verdict (λ granule. (order : List ℕ) → ExplainsGranule ops.now granule (word_told opening.now granule) (told finals.now granule) order → ⊥)) }
     ensures undecided { IfOk result (λ verdict. IfUndecided verdict (λ states. states ≡ budget)) }
+    ensures spent { IfOk result (λ verdict. LookedForVerdict P.looked progress.old progress.new verdict) }
 {
     let grouped = by_granule(alloc, ops)?;
     let places = grouped.as_slice();
@@ -54,8 +55,8 @@ pub(crate) fn explain_operations<P: Progress>(
     let mut points: Vec<Point> = Vec::with_capacity(alloc, ops.len())?;
     let mut undecided = None;
     let mut from = 0;
-    let mut told = 0;
-    while let Some(granule) = next_granule(places, from, words, told) {
+    let mut last_place = 0;
+    while let Some(granule) = next_granule(places, from, words, last_place) {
         let to = past_granule(places, from, granule);
         let mut left = budget;
         let last = finals.get(granule);
@@ -78,7 +79,7 @@ pub(crate) fn explain_operations<P: Progress>(
             }
         }
         from = to;
-        told = past_word(words, told, granule);
+        last_place = past_word(words, last_place, granule);
     }
     if let Some(granule) = undecided {
         return Ok(Verdict::Undecided {
@@ -111,6 +112,7 @@ pub fn explain<P: Progress>(
     ensures unexplained { IfOk result (λ verdict. IfUnexplained verdict (λ granule. (order : List ℕ) → IsExplained trace.now finals.now order → ⊥)) }
     ensures granule { IfOk result (λ verdict. IfUnexplained verdict (λ granule. (order : List ℕ) → IsExplainedIn trace.now finals.now granule order → ⊥)) }
     ensures undecided { IfOk result (λ verdict. IfUndecided verdict (λ states. states ≡ budget)) }
+    ensures spent { IfOk result (λ verdict. LookedForVerdict P.looked progress.old progress.new verdict) }
 {
     explain_operations(
         alloc,

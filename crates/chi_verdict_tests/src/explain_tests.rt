@@ -2,7 +2,7 @@
 
 use crate::comparison::assert_same;
 use crate::traces::{
-    HIGH, LOW, LOWER, Told, UPPER, WRITE, add, read, silent, trace, verdict, write,
+    HIGH, LOW, LOWER, Told, UPPER, WRITE, add, read, silent, trace, verdict, verdict_from, write,
 };
 use chi_search::NoProgress;
 use chi_verdict::{GranuleWords, Verdict, explain};
@@ -50,11 +50,13 @@ fn word_of_a_granule_without_operations(rt: HostRuntime) -> Result<(), Fail> {
         verdict(rt.alloc(), &ops, &[(HIGH, 0)])?,
         verdict(rt.alloc(), &ops, &[(HIGH, 7)])?,
         verdict(rt.alloc(), &[], &[(LOW, 7)])?,
+        verdict_from(rt.alloc(), &[(LOW, 4)], &[], &[(LOW, 4)])?,
     );
     let wanted = (
         Told::Explained(1),
         Told::Unexplained(UPPER),
         Told::Unexplained(LOWER),
+        Told::Explained(0),
     );
     assert_same(&rt, found, wanted);
     Ok(())

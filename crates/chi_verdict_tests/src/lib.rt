@@ -2,11 +2,21 @@
 #![tactic(auto)]
 
 #[cfg(test)]
+mod byte_tests;
+#[cfg(test)]
 mod comparison;
+#[cfg(test)]
+mod execution_tests;
 #[cfg(test)]
 mod explain_tests;
 #[cfg(test)]
 mod first_tests;
+#[cfg(test)]
+mod order_tests;
+#[cfg(test)]
+mod progress_tests;
+#[cfg(test)]
+mod random_tests;
 #[cfg(test)]
 mod trace_tests;
 #[cfg(test)]

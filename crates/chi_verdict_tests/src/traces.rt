@@ -12,45 +12,68 @@ pub(crate) const READ: u8 = 0x04;
 
 pub(crate) const WRITE: u8 = 0x1c;
 
+pub(crate) const STORE_ADD: u8 = 0x28;
+
 pub(crate) const ADD: u8 = 0x30;
 
-/// A granule, and the last one below 2^52.
+pub(crate) const SWAP: u8 = 0x38;
+
+pub(crate) const COMPARE: u8 = 0x39;
+
+/// A granule, the one after it, and the last one below 2^52.
 pub(crate) const LOW: u64 = 0x1000;
+
+pub(crate) const NEXT: u64 = LOW + 8;
 
 pub(crate) const HIGH: u64 = (1 << 52) - 8;
 
-/// Their numbers.
+/// The numbers of the first and of the last of them.
 pub(crate) const LOWER: u64 = LOW / 8;
 
 pub(crate) const UPPER: u64 = HIGH / 8;
 
 pub(crate) const BUDGET: u64 = 1000;
 
-// The word in the lanes of the granule, its least significant byte first.
-fn packet(addr: u64, word: u64) -> [u8; 16] {
+// A packet with this word in the lanes of the address's granule, its least significant byte first.
+fn packet(addr: u64, word: u64) -> u128 {
     if addr % 16 < 8 {
-        u128::from(word).to_le_bytes()
+        u128::from(word)
     } else {
-        (u128::from(word) << 64).to_le_bytes()
+        u128::from(word) << 64
     }
 }
 
-/// An operation on all eight bytes of the granule at an address, with little-endian data, whose reply was not seen.
-pub(crate) fn silent(
+/// The reply that has this word of the granule at an address.
+pub(crate) fn data(addr: u64, word: u64) -> Reply {
+    Reply::CompData(packet(addr, word).to_le_bytes())
+}
+
+/// An operation whose packet is this number, lane 0 its least significant byte, and whose reply was not seen.
+pub(crate) fn sent(
     times: (u64, u64),
     opcode: u8,
+    size: u8,
     addr: u64,
-    word: u64,
+    endian: bool,
+    lanes: u128,
 ) -> Result<Observed, Fail> {
+    let bytes: u32 = match size {
+        0 => 1,
+        1 => 2,
+        2 => 4,
+        3 => 8,
+        _ => 16,
+    };
+    let first = (addr % 16) as u32 / bytes * bytes;
     let request = Request {
         src: 1,
         txn: 0,
         opcode,
-        size: 3,
+        size,
         addr,
-        endian: false,
-        be: if addr % 16 < 8 { 0x00ff } else { 0xff00 },
-        lanes: packet(addr, word),
+        endian,
+        be: ((((1u64 << bytes) - 1) << first) & 0xffff) as u16,
+        lanes: lanes.to_le_bytes(),
     };
     Ok(Observed {
         start: times.0,
@@ -61,30 +84,48 @@ pub(crate) fn silent(
     })
 }
 
+/// The operation with a reply that has this word, and with one that has no data.
+pub(crate) fn answered(op: Observed, answer: u64) -> Observed {
+    Observed {
+        reply: Some(data(op.access.addr(), answer)),
+        ..op
+    }
+}
+
+pub(crate) fn done(op: Observed) -> Observed {
+    Observed {
+        reply: Some(Reply::Comp),
+        ..op
+    }
+}
+
+/// An operation on all eight bytes of the granule at an address, with little-endian data, whose reply was not seen.
+pub(crate) fn silent(
+    times: (u64, u64),
+    opcode: u8,
+    addr: u64,
+    word: u64,
+) -> Result<Observed, Fail> {
+    sent(times, opcode, 3, addr, false, packet(addr, word))
+}
+
 /// A read that answered a word, and an addition of 1 that answered one.
 pub(crate) fn read(times: (u64, u64), addr: u64, answer: u64) -> Result<Observed, Fail> {
-    let op = silent(times, READ, addr, 0)?;
-    Ok(Observed {
-        reply: Some(Reply::CompData(packet(addr, answer))),
-        ..op
-    })
+    Ok(answered(silent(times, READ, addr, 0)?, answer))
 }
 
 pub(crate) fn add(times: (u64, u64), addr: u64, answer: u64) -> Result<Observed, Fail> {
-    let op = silent(times, ADD, addr, 1)?;
-    Ok(Observed {
-        reply: Some(Reply::CompData(packet(addr, answer))),
-        ..op
-    })
+    Ok(answered(silent(times, ADD, addr, 1)?, answer))
 }
 
 /// A write of a word that was completed.
 pub(crate) fn write(times: (u64, u64), addr: u64, word: u64) -> Result<Observed, Fail> {
-    let op = silent(times, WRITE, addr, word)?;
-    Ok(Observed {
-        reply: Some(Reply::Comp),
-        ..op
-    })
+    Ok(done(silent(times, WRITE, addr, word)?))
+}
+
+/// A swap that left a word and answered one.
+pub(crate) fn swap(times: (u64, u64), addr: u64, word: u64, answer: u64) -> Result<Observed, Fail> {
+    Ok(answered(silent(times, SWAP, addr, word)?, answer))
 }
 
 /// The words of granules at these addresses.
@@ -99,15 +140,19 @@ pub(crate) fn words(alloc: Global, told: &[(u64, u64)]) -> Result<GranuleWords, 
     Ok(GranuleWords::new(list).ok_or("the granules are not in order")?)
 }
 
+/// The trace of these operations, from these words at the opening on.
+pub(crate) fn trace_from(
+    alloc: Global,
+    opening: &[(u64, u64)],
+    ops: &[Observed],
+) -> Result<Trace, Fail> {
+    let list = Vec::from_slice(alloc, ops)?;
+    Ok(Trace::new(words(alloc, opening)?, list).ok_or("the operations are not those of a trace")?)
+}
+
 /// The trace of these operations, where each granule holds 0 at the opening.
 pub(crate) fn trace(alloc: Global, ops: &[Observed]) -> Result<Trace, Fail> {
-    let mut list = Vec::new(alloc);
-    for op in ops {
-        list.push(*op)?;
-    }
-    Ok(Trace::new(GranuleWords::none(alloc), list).ok_or(
-        "the operations are not those of a trace",
-    )?)
+    trace_from(alloc, &[], ops)
 }
 
 /// What is found of a trace: how many operations an order has, or the number of the granule that is not explained.
@@ -118,18 +163,41 @@ pub(crate) enum Told {
     Undecided(u64),
 }
 
-/// What is found of these operations with these words at the end.
+/// What is found of these operations, from these words at the opening to those at the end.
+pub(crate) fn verdict_from(
+    alloc: Global,
+    opening: &[(u64, u64)],
+    ops: &[Observed],
+    finals: &[(u64, u64)],
+) -> Result<Told, Fail> {
+    let trace = trace_from(alloc, opening, ops)?;
+    let finals = words(alloc, finals)?;
+    match explain(alloc, &trace, &finals, BUDGET, &mut NoProgress)? {
+        Verdict::Explained(order) => Ok(Told::Explained(order.len())),
+        Verdict::Unexplained { granule } => Ok(Told::Unexplained(granule)),
+        Verdict::Undecided { granule, states: _ } => Ok(Told::Undecided(granule)),
+    }
+}
+
+/// The same, where each granule holds 0 at the opening.
 pub(crate) fn verdict(
     alloc: Global,
     ops: &[Observed],
     finals: &[(u64, u64)],
 ) -> Result<Told, Fail> {
+    verdict_from(alloc, &[], ops, finals)
+}
+
+/// The order that explains a trace with these words at the end.
+pub(crate) fn order_of(
+    alloc: Global,
+    trace: &Trace,
+    finals: &[(u64, u64)],
+) -> Result<Vec<usize>, Fail> {
     let finals = words(alloc, finals)?;
-    let found = explain(alloc, &trace(alloc, ops)?, &finals, BUDGET, &mut NoProgress)?;
-    match found {
-        Verdict::Explained(order) => Ok(Told::Explained(order.len())),
-        Verdict::Unexplained { granule } => Ok(Told::Unexplained(granule)),
-        Verdict::Undecided { granule, states: _ } => Ok(Told::Undecided(granule)),
+    match explain(alloc, trace, &finals, BUDGET, &mut NoProgress)? {
+        Verdict::Explained(order) => Ok(order),
+        _ => Err(Fail::new("no order was found")),
     }
 }
 
@@ -137,7 +205,11 @@ pub(crate) fn verdict(
 pub(crate) fn blame(alloc: Global, ops: &[Observed]) -> Result<Option<(u64, u64, usize)>, Fail> {
     let found = first_unexplained(alloc, &trace(alloc, ops)?, BUDGET, &mut NoProgress)?;
     match found {
+        First::Never => Ok(None),
         First::At(blame) => Ok(Some((blame.granule, blame.time, blame.op))),
-        _ => Ok(None),
+        First::Undecided {
+            granule: _,
+            states: _,
+        } => Err(Fail::new("the budget was spent")),
     }
 }

@@ -1,9 +1,12 @@
-//! Tests of the words of granules: those that are told, those that are left, and those that can be held.
+//! Tests of the words of granules: those that are told, and those that can be held.
 
 use crate::comparison::assert_same;
-use crate::traces::{ADD, BUDGET, HIGH, LOW, add, read, silent, trace, words, write};
+use crate::traces::{ADD, BUDGET, HIGH, LOW, NEXT, read, silent, trace_from, words, write};
 use chi_search::{NoProgress, Words};
-use chi_verdict::{GranuleWord, GranuleWords, words_after, words_held};
+use chi_trace::Observed;
+use chi_verdict::{GranuleWord, GranuleWords, words_held};
+use std::alloc::Global;
+use std::collections::BTreeMap;
 use std::test::Fail;
 
 #[test]
@@ -34,42 +37,63 @@ fn granule_told_twice(rt: HostRuntime) -> Result<(), Fail> {
     Ok(())
 }
 
+// The granules are put into the map out of order, one of them twice. A word that is 0 is told as any other.
 #[test]
-fn words_after_an_order(rt: HostRuntime) -> Result<(), Fail> {
-    let ops = [
-        write((0, 10), HIGH, 5)?,
-        add((0, 10), LOW, 0)?,
-        add((11, 20), HIGH, 5)?,
-    ];
-    let trace = trace(rt.alloc(), &ops)?;
-    if trace.operations().len() != 3 {
-        return Err(Fail::new("an operation was left out"));
+fn words_of_a_map(rt: HostRuntime) -> Result<(), Fail> {
+    let alloc = rt.alloc();
+    let mut map = BTreeMap::new(alloc);
+    for (granule, word) in [(9, 1), (u64::MAX, u64::MAX), (0, 0), (9, 2)] {
+        map.insert(granule, word)?;
     }
-    let after = words_after(rt.alloc(), &trace, &[0, 1, 2])?;
-    let found = (
-        after.get(LOW / 8),
-        after.get(HIGH / 8),
-        after.as_slice().len(),
-    );
-    assert_same(&rt, found, (Some(1), Some(6), 2));
+    let told = GranuleWords::of_map(alloc, &map)?;
+    let mut list = Vec::new(alloc);
+    for each in told.as_slice() {
+        list.push((each.granule, each.word))?;
+    }
+    let wanted = [(0, 0), (9, 2), (u64::MAX, u64::MAX)];
+    assert_same(&rt, list.as_slice(), wanted.as_slice());
+    assert_same(&rt, (told.get(9), told.get(8)), (Some(2), None));
+    let none: BTreeMap<u64, u64> = BTreeMap::new(alloc);
+    let none = GranuleWords::of_map(alloc, &none)?;
+    assert_same(&rt, none.as_slice().len(), 0);
     Ok(())
+}
+
+// The words that a granule can hold after the operations, from these words on, in rising order.
+fn held(
+    alloc: Global,
+    opening: &[(u64, u64)],
+    ops: &[Observed],
+    addr: u64,
+) -> Result<Vec<u64>, Fail> {
+    let trace = trace_from(alloc, opening, ops)?;
+    let mut budget = BUDGET;
+    match words_held(alloc, &trace, addr / 8, &mut budget, &mut NoProgress)? {
+        Words::Each(mut each) => {
+            each.sort()?;
+            Ok(each)
+        }
+        Words::Unknown => Err(Fail::new("the budget was spent")),
+    }
 }
 
 #[test]
 fn words_that_a_granule_can_hold(rt: HostRuntime) -> Result<(), Fail> {
     let ops = [silent((0, 10), ADD, LOW, 1)?, read((0, 20), HIGH, 0)?];
-    let mut budget = BUDGET;
-    let held = words_held(
-        rt.alloc(),
-        &trace(rt.alloc(), &ops)?,
-        LOW / 8,
-        &mut budget,
-        &mut NoProgress,
-    )?;
-    let Words::Each(held) = held else {
-        return Err(Fail::new("something else was found"));
-    };
-    let found = (held.len(), held.contains(&0), held.contains(&1));
-    assert_same(&rt, found, (2, true, true));
+    let found = held(rt.alloc(), &[], &ops, LOW)?;
+    assert_same(&rt, found.as_slice(), [0, 1].as_slice());
+    Ok(())
+}
+
+// Two writes overlap, and either may be the last one.
+#[test]
+fn either_write_last(rt: HostRuntime) -> Result<(), Fail> {
+    let alloc = rt.alloc();
+    let opening = [(LOW, 7), (NEXT, 0)];
+    let ops = [write((0, 10), NEXT, 4)?, write((0, 10), NEXT, 6)?];
+    let found = held(alloc, &opening, &ops, NEXT)?;
+    assert_same(&rt, found.as_slice(), [4, 6].as_slice());
+    let still = held(alloc, &opening, &ops, LOW)?;
+    assert_same(&rt, still.as_slice(), [7].as_slice());
     Ok(())
 }

@@ -3,7 +3,6 @@
 //!
 //!     judge_verdict PROGRAM [COUNT [SEED]]
 
-use explain::breaking::Way;
 use script::random::Random;
 use std::fs::File;
 use std::io::{self, BufWriter};
@@ -11,6 +10,7 @@ use std::path::Path;
 use std::process::ExitCode;
 use verdict::chance::small_trace;
 use verdict::form::write_traces;
+use verdict::region::breaking::Way;
 use verdict::told::{Told, run};
 use verdict::trace::Trace;
 

@@ -4,8 +4,6 @@
 //!
 //! Both have to find the same. The ratios are the first one's to the second's, of the sums of the best times.
 
-use explain::breaking::Way;
-use explain::kinds::Kinds;
 use script::random::Random;
 use std::fs::File;
 use std::io::{self, BufWriter};
@@ -13,6 +11,8 @@ use std::path::Path;
 use std::process::ExitCode;
 use verdict::chance::large_trace;
 use verdict::form::write_traces;
+use verdict::region::breaking::Way;
+use verdict::region::kinds::Kinds;
 use verdict::told::run;
 use verdict::trace::Trace;
 

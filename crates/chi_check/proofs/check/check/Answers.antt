@@ -1,17 +1,13 @@
 -- the trace was read, and its answer is written
 use Rattle.chi_check.proofs.CheckLemmas.{cut, written}
-use Rattle.chi_check.proofs.DecodedLemmas.{trace_decoded}
 use Rattle.chi_check.proofs.check.check.Goals as goal
-
-pub answered-requires : goal.answered-requires
-answered-requires g c = trace_decoded c.deref.result.now c.in-Ok.trace c.in-Ok.ensures.ok
 
 pub returns-in-Ok-write_bytes-clause-outcome : goal.returns-in-Ok-write_bytes-clause-outcome
 returns-in-Ok-write_bytes-clause-outcome g c =
-    written c.args.options.now _ _ _ c.in_ok-input.input.items c.in-Ok.trace c.in-Ok-answered.status c.in-Ok-answered.text.items c.in_ok-input.ensures.bytes
-    c.in_ok-input.ensures.within (rw c.deref.ensures.value at c.in-Ok.ensures.ok) c.in-Ok-answered.ensures (rw c.deref-2.ensures.value at c.in-Ok-write_bytes.ensures)
+    written c.args.options.now _ _ _ c.in_ok-input.input.items c.in-Ok.recorded c.in-Ok-answered.status c.in-Ok-answered.text.items c.in_ok-input.ensures.bytes
+    c.in_ok-input.ensures.within (rw c.deref.ensures.value at c.in-Ok.ensures.ok) c.in-Ok-answered.ensures.answered (rw c.deref-2.ensures.value at c.in-Ok-write_bytes.ensures)
 
 pub returns-clause-outcome : goal.returns-clause-outcome
 returns-clause-outcome g c =
-    cut c.args.options.now _ _ _ c.in_ok-input.input.items c.in-Ok.trace c.in-Ok-answered.status c.in-Ok-answered.text.items c.in-Err-write_bytes.fault c.in_ok-input.ensures.bytes
-    c.in_ok-input.ensures.within (rw c.deref.ensures.value at c.in-Ok.ensures.ok) c.in-Ok-answered.ensures (rw c.deref-2.ensures.value at c.in-Err-write_bytes.ensures)
+    cut c.args.options.now _ _ _ c.in_ok-input.input.items c.in-Ok.recorded c.in-Ok-answered.status c.in-Ok-answered.text.items c.in-Err-write_bytes.fault c.in_ok-input.ensures.bytes
+    c.in_ok-input.ensures.within (rw c.deref.ensures.value at c.in-Ok.ensures.ok) c.in-Ok-answered.ensures.answered (rw c.deref-2.ensures.value at c.in-Err-write_bytes.ensures)

@@ -29,4 +29,4 @@ returns-clause-chosen c =
     let found = rows_of (found_of c.in-Some.chosen.now) in
     let finds = subcommand_found app (map string_bytes c.args.arguments.now) c.in_ok-matches.matches c.in-Some.field-0-0.now found is
     (program_is_simple app is) c.in_ok-matches.ensures.matches c.in-Some.ensures.name c.in-Some.ensures.rows in
-    (found, finds, c.chosen_options.ensures.witness, c.chosen_options.ensures.budget)
+    (found, finds, c.chosen_options.ensures.witness, c.chosen_options.ensures.budget, c.chosen_options.ensures.until)

@@ -1,5 +1,5 @@
 -- the states that follow one state more
-use Rattle.std.proofs.Common.{◌+◌, ◌≤◌, ◌↔◌, Some, length, take, sym, subst, arith}
+use Rattle.std.proofs.Common.{◌+◌, ◌≤◌, ◌↔◌, Some, length, take, refl, sym, subst, arith}
 use Rattle.chi_search.specs.declared.states.States.{States}
 use Rattle.chi_search.specs.Layers.{AreReady, SomeEnds}
 use Rattle.chi_search.specs.Moves.{Ends}
@@ -7,6 +7,7 @@ use Rattle.chi_search.specs.Positions.{IsReady, position_of}
 use Rattle.chi_search.specs.StateSets.{positions}
 use Rattle.chi_search.proofs.Layers.{ends_more, ready_at, ready_more}
 use Rattle.chi_search.proofs.Elements.{SomeOf, some_end, some_step}
+use Rattle.chi_search.proofs.Looking.{more_after}
 use Rattle.chi_search.proofs.layer.next_layer.Goals as goal
 use Rattle.chi_search.proofs.layer.next_layer.Goals.{else-state-ops+in_ok-add_moves, then-state-ops+in_ok-add_new}
 
@@ -17,6 +18,7 @@ loop-place-preserved g c =
     let k = c.loop-place.place in
     let old = c.loop-place.states in
     let p = position_of c.read.new.to in
+    let looked = more_after g.P.Progress.looked c.args.progress.now c.loop-place.progress c.look.new.self k 1 (k + 1) refl c.loop-place.invariant.looked c.look.ensures in
     let ready : IsReady (length ops) p = ready_at ops c.args.layer.now k p c.in_ok-read.ensures c.requires.ready in
     elim c.if-state-ops.branch [
       | then-state-ops+in_ok-add_new w ↦ record {
@@ -24,14 +26,16 @@ loop-place-preserved g c =
             (some_step (Ends ops (Some v)) (SomeEnds ops old v) (SomeEnds ops w.add_new.new.states v) xs k p c.in_ok-read.ensures (c.loop-place.invariant.ends v)
             (ends_more ops w.add_new.new.states old p w.in_ok-add_new.ensures v));
         ready = subst (AreReady ops) (sym w.states-is) (ready_more ops w.add_new.new.states old p w.in_ok-add_new.ensures ready c.loop-place.invariant.ready);
-        spends = omega arith;
+        one_each = omega arith;
+        looked = looked;
       }
       | else-state-ops+in_ok-add_moves w ↦ record {
         ends = λ v. subst (λ (now : States). SomeEnds ops now v ↔ SomeOf (Ends ops (Some v)) (take (k + 1) xs)) (sym w.states-is)
             (some_step (Ends ops (Some v)) (SomeEnds ops old v) (SomeEnds ops w.add_moves.new.states v) xs k p c.in_ok-read.ensures (c.loop-place.invariant.ends v)
             (w.in_ok-add_moves.ensures.ends v));
         ready = subst (AreReady ops) (sym w.states-is) (w.in_ok-add_moves.ensures.ready c.loop-place.invariant.ready);
-        spends = omega arith;
+        one_each = omega arith;
+        looked = looked;
       }
     ]
 

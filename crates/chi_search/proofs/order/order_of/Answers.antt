@@ -1,5 +1,5 @@
 -- an order of the path's operations, the path one step longer or shorter, and a start that is dead
-use Rattle.std.proofs.Common.{◌≡◌, ◌-◌, ◌≤◌, List, [], ◌++◌, IfSome, length, take, append-nil, sym, ap, subst, ◌∙◌}
+use Rattle.std.proofs.Common.{◌≡◌, ◌-◌, ◌≤◌, List, [], ◌++◌, IfSome, length, take, append-nil, sym, ap, subst, ◌∙◌, arith}
 use Rattle.chi_trace.specs.Explains.{is_place}
 use Rattle.chi_trace.specs.Granules.{Finishes}
 use Rattle.chi_search.specs.declared.choice.Choice.{Choice}
@@ -7,6 +7,7 @@ use Rattle.chi_search.specs.declared.path.Step.{Step}
 use Rattle.chi_search.specs.Choices.{IfDead, IfEnded, IfStep}
 use Rattle.chi_search.specs.Paths.{AllDead, IsDead, Moves, Walks, taken}
 use Rattle.chi_search.specs.Positions.{IsReady, Position, position_of, start}
+use Rattle.chi_search.proofs.Looking.{none_more, one_more}
 use Rattle.chi_search.proofs.Moves.{ended}
 use Rattle.chi_search.proofs.Paths.{moves_ready, walks_back, walks_end, walks_on}
 use Rattle.chi_search.proofs.Start.{at_start, from_start, more_dead, none_dead, ready_at_start}
@@ -19,6 +20,8 @@ loop-budget-init g c = record {
       (sym c.first_state-state.ensures);
   ready = subst (λ (p : Position). IsReady (length c.args.ops.now) p) (sym c.first_state-state.ensures) (ready_at_start (length c.args.ops.now) c.args.word);
   dead = none_dead c.args.ops.now c.args.last c.no_states-dead.result c.no_states-dead.ensures;
+  left = omega arith;
+  looked = none_more g.P.Progress.looked c.args.progress.now (c.args.budget.now - c.args.budget.now) (omega arith);
 }
 
 pub returns-in-Ended-clause-order : goal.returns-in-Ended-clause-order
@@ -41,6 +44,9 @@ loop-budget-preserved-in-Step g c =
           c.loop-budget.invariant.walks moves);
       ready = subst (λ (choice : Choice). IfStep choice (λ op. IsReady (length c.args.ops.now) (position_of c.choose.new.next))) c.in-Step.is c.in_ok-choose.ensures.ready;
       dead = c.loop-budget.invariant.dead;
+      left = omega arith;
+      looked = one_more g.P.Progress.looked c.args.progress.now c.loop-budget.progress c.look.new.self c.args.budget.now c.loop-budget.budget c.loop-budget.invariant.left
+          c.loop-budget-test.true c.loop-budget.invariant.looked c.look.ensures;
     }
 
 pub loop-budget-preserved : goal.loop-budget-preserved
@@ -54,6 +60,8 @@ loop-budget-preserved g c =
       ready = moves_ready c.args.ops.now (position_of c.in-Some.step.from) (position_of c.loop-budget.state) c.in-Some.step.op back.1;
       dead = more_dead c.args.ops.now c.args.last c.loop-budget.dead c.add.new.states (position_of c.loop-budget.state) c.in_ok-add-in-Dead.ensures c.loop-budget.invariant.dead
           (dead c.loop-budget.invariant.dead);
+      left = c.loop-budget.invariant.left;
+      looked = c.loop-budget.invariant.looked;
     }
 
 pub returns-in-None-clause-nothing : goal.returns-in-None-clause-nothing

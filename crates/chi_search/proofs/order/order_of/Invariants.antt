@@ -1,5 +1,6 @@
--- the path leads from the start to the state, which is ready, and the states of the set are dead
-use Rattle.std.proofs.Common.{length}
+-- the path leads from the start to the state, which is ready, the states of the set are dead, and what the budget lost was looked at
+use Rattle.std.proofs.Common.{◌+◌, ◌-◌, ◌*◌, ◌≤◌, length}
+use Rattle.chi_search.specs.Looks.{LookedMore}
 use Rattle.chi_search.specs.Paths.{AllDead, Walks}
 use Rattle.chi_search.specs.Positions.{IsReady, position_of, start}
 use Rattle.chi_search.proofs.order.order_of.Given as goal
@@ -9,7 +10,9 @@ invariant-loop-budget g l = record {
   walks : Walks l.ops (start l.fn.word) l.path.items (position_of l.state);
   ready : IsReady (length l.ops) (position_of l.state);
   dead : AllDead l.ops l.fn.last l.dead;
+  left : l.budget ≤ l.initial.budget;
+  looked : LookedMore g.P.Progress.looked l.initial.progress l.progress (l.initial.budget - l.budget);
 }
 
 abbrev pub decreases-loop-budget : goal.decreases-loop-budget
-decreases-loop-budget g l = l.budget
+decreases-loop-budget g l = 2 * l.budget + length l.path.items

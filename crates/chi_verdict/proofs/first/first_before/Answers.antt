@@ -1,24 +1,30 @@
 -- the granule's operations are not explained up to the last end, up to the one found, and up to an earlier time
-use Rattle.std.proofs.Common.{ℕ, ◌-◌, ◌<◌, ◌≤◌, List, None, get_or, length, sym, ap, subst, ◌∙◌, arith}
+use Rattle.std.proofs.Common.{ℕ, ◌-◌, ◌<◌, ◌≤◌, List, None, get_or, length, refl, sym, ap, subst, ◌∙◌, arith}
 use Rattle.chi_trace.specs.Cuts.{cut}
 use Rattle.chi_trace.specs.Granules.{ExplainsGranule}
 use Rattle.chi_verdict.specs.declared.first.Back.{Back}
 use Rattle.chi_verdict.specs.declared.grouping.Placed.{Placed}
-use Rattle.chi_verdict.specs.Blames.{IfEarlier}
+use Rattle.chi_search.proofs.Looking.{none_more}
+use Rattle.chi_verdict.specs.Backwards.{IfAnswer, IfEarlier}
+use Rattle.chi_verdict.specs.Blames.{LookedForFirst}
 use Rattle.chi_verdict.specs.Words.{word_told}
 use Rattle.chi_verdict.proofs.LastEnd.{last_unexplained}
+use Rattle.chi_verdict.proofs.Spent.{LookedSome, first_after, some_after}
 use Rattle.chi_verdict.proofs.first.first_before.Goals as goal
 use Rattle.chi_verdict.proofs.first.first_before.Given.{Over}
 
 pub loop-ends-init : goal.loop-ends-init
-loop-ends-init g c = c.requires.unexplained
+loop-ends-init g c = record {
+  unexplained = c.requires.unexplained;
+  looked = (0, none_more g.P.Progress.looked c.args.progress.now 0 refl);
+}
 
 -- some were answered, and up to the end of the last the granule is not explained
 last : (g : Over) (c : goal.After-first_end-arg-1 g) → (0 < length c.in_ok-ends.ends.items)
     × ((d : Placed) (order : List ℕ) → ExplainsGranule (cut (get_or c.in_ok-ends.ends.items (length c.in_ok-ends.ends.items - 1) d).end c.args.ops.now) c.loop-ends.granule c.word-word.result None order → ⊥)
 last g c =
     last_unexplained c.args.ops.now c.loop-ends.granule c.word-word.result c.loop-ends.time c.in_ok-ends.ends.items c.requires.traced c.in_ok-ends.ensures.answered
-    (subst (λ (w : ℕ). (order : List ℕ) → ExplainsGranule (cut c.loop-ends.time c.args.ops.now) c.loop-ends.granule w None order → ⊥) (sym c.word-word.ensures) c.loop-ends.invariant)
+    (subst (λ (w : ℕ). (order : List ℕ) → ExplainsGranule (cut c.loop-ends.time c.args.ops.now) c.loop-ends.granule w None order → ⊥) (sym c.word-word.ensures) c.loop-ends.invariant.unexplained)
 
 pub first_end-requires-clause-some : goal.first_end-requires-clause-some
 first_end-requires-clause-some g c = subst (λ (ends : List Placed). 0 < length ends) (sym c.deref.ensures.value) (last g c).0
@@ -46,5 +52,16 @@ loop-ends-smaller g c =
 
 pub loop-ends-preserved : goal.loop-ends-preserved
 loop-ends-preserved g c =
-    subst (λ (b : Back). IfEarlier b (λ other. (order : List ℕ) → ExplainsGranule (cut (c.index-blamed.result.now.end - 1) c.args.ops.now) other (word_told c.args.opening.now other) None order → ⊥))
-    c.in-Earlier.is c.in_ok-first.ensures.earlier
+    let then = subst (λ (b : Back). IfEarlier b (λ other. LookedSome g.P.Progress.looked c.first_end.new.progress c.look_back.new.progress)) c.in-Earlier.is c.in_ok-first.ensures.looked in
+    record {
+      unexplained = subst (λ (b : Back). IfEarlier b (λ other. (order : List ℕ) → ExplainsGranule (cut (c.index-blamed.result.now.end - 1) c.args.ops.now) other (word_told c.args.opening.now other) None order → ⊥))
+          c.in-Earlier.is c.in_ok-first.ensures.earlier;
+      looked = some_after g.P.Progress.looked c.args.progress.now c.first_end.new.progress c.look_back.new.progress
+          (some_after g.P.Progress.looked c.args.progress.now c.loop-ends.progress c.first_end.new.progress c.loop-ends.invariant.looked c.in_ok-place.ensures.looked) then;
+    }
+
+pub returns-in-Answer-clause-spent : goal.returns-in-Answer-clause-spent
+returns-in-Answer-clause-spent g c =
+    let here = subst (λ (b : Back). IfAnswer b (LookedForFirst g.P.Progress.looked c.first_end.new.progress c.look_back.new.progress c.args.budget)) c.in-Answer.is c.in_ok-first.ensures.spent in
+    first_after g.P.Progress.looked c.args.progress.now c.first_end.new.progress c.look_back.new.progress c.args.budget c.in-Answer.first
+    (some_after g.P.Progress.looked c.args.progress.now c.loop-ends.progress c.first_end.new.progress c.loop-ends.invariant.looked c.in_ok-place.ensures.looked) here

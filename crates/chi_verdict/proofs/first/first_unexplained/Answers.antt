@@ -1,11 +1,14 @@
 -- where the whole is explained each cut is; where it is not, it is not by the latest end
-use Rattle.std.proofs.Common.{ℕ, List, None, Option, sym, ap, subst, ◌∙◌}
+use Rattle.std.proofs.Common.{ℕ, ◌≤◌, List, None, Option, sym, ap, subst, ◌∙◌}
+use Rattle.std.proofs.lemmas.Result.{IfOk-weaker}
 use Rattle.chi_trace.specs.Explains.{Explains, IsTrace}
 use Rattle.chi_trace.specs.Granules.{ExplainsGranule}
 use Rattle.chi_verdict.specs.declared.verdict.Verdict.{Verdict}
-use Rattle.chi_verdict.specs.Verdicts.{IfExplained, IfUnexplained}
+use Rattle.chi_verdict.specs.Blames.{LookedForFirst}
+use Rattle.chi_verdict.specs.Verdicts.{IfExplained, IfUndecided, IfUnexplained}
 use Rattle.chi_verdict.specs.Words.{memory_of, told, word_told}
 use Rattle.chi_verdict.proofs.Blamed.{none_is_told}
+use Rattle.chi_verdict.proofs.Spent.{first_after}
 use Rattle.chi_verdict.proofs.Whole.{cut_all}
 use Rattle.chi_verdict.proofs.first.first_unexplained.Goals as goal
 
@@ -29,3 +32,28 @@ first_before-requires-clause-unexplained g c order explains =
     none order
     (subst (λ (f : Option ℕ). ExplainsGranule ops n word f order) (sym (ap (λ words. told words n) c.none-none.ensures ∙ none_is_told n))
     (subst (λ trace. ExplainsGranule trace n word None order) (cut_all c.latest_end-time.result ops (subst IsTrace (sym c.operations-ops.ensures.operations) c.operations-ops.ensures.traced) c.latest_end-time.ensures) explains))
+
+pub returns-in-Explained-clause-spent : goal.returns-in-Explained-clause-spent
+returns-in-Explained-clause-spent g c =
+    let spent = c.in_ok-explain_operations.ensures.spent in
+    record { count = spent.count; more = spent.more; undecided = tt; words = tt }
+
+pub returns-in-Unexplained-clause-spent : goal.returns-in-Unexplained-clause-spent
+returns-in-Unexplained-clause-spent g c =
+    let spent = c.in_ok-explain_operations.ensures.spent in
+    let looked = g.P.Progress.looked in
+    let old = c.args.progress.now in
+    let middle = c.explain_operations.new.progress in
+    let new = c.first_before.new.progress in
+    IfOk-weaker c.first_before.result (LookedForFirst looked middle new c.args.budget) (LookedForFirst looked old new c.args.budget)
+    (λ first. first_after looked old middle new c.args.budget first (spent.count, spent.more)) c.first_before.ensures.spent
+
+pub returns-clause-spent : goal.returns-clause-spent
+returns-clause-spent g c =
+    let spent = c.in_ok-explain_operations.ensures.spent in
+    record {
+      count = spent.count;
+      more = spent.more;
+      undecided = subst (λ (v : Verdict). IfUndecided v (λ states. states ≤ spent.count)) c.in-Undecided.is spent.undecided;
+      words = tt;
+    }

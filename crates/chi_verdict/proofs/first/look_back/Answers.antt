@@ -1,5 +1,5 @@
 -- what is said of the operation that ended, and where the trace is not explained up to the time before either
-use Rattle.std.proofs.Common.{◌≡◌, ℕ, ◌+◌, ◌-◌, ◌↔◌, List, None, Option, sym, ap, subst, ◌∙◌, arith}
+use Rattle.std.proofs.Common.{◌≡◌, ℕ, ◌+◌, ◌-◌, ◌≤◌, ◌↔◌, List, None, Option, inl, inr, refl, sym, ap, subst, ◌∙◌, arith}
 use Rattle.std.specs.List.{Contains}
 use Rattle.chi_search.specs.Found.{IfWords}
 use Rattle.chi_trace.specs.declared.observed.Observed.{Observed}
@@ -9,10 +9,12 @@ use Rattle.chi_trace.specs.Granules.{ExplainsGranule}
 use Rattle.chi_verdict.specs.declared.words.GranuleWord.{GranuleWord}
 use Rattle.chi_verdict.specs.declared.verdict.Verdict.{Verdict}
 use Rattle.chi_verdict.specs.Traces.{CanHold, IsLegal, known_at}
-use Rattle.chi_verdict.specs.Verdicts.{IfExplained, IfUnexplained}
+use Rattle.chi_verdict.specs.Verdicts.{IfExplained, IfUndecided, IfUnexplained}
 use Rattle.chi_verdict.specs.Words.{memory_of, told, word_told}
 use Rattle.chi_verdict.proofs.Blamed.{none_is_told, unexplained_at, words_imply}
 use Rattle.chi_verdict.proofs.Cuts.{IsTrace-cut}
+use Rattle.chi_search.proofs.Looking.{more_after, none_more}
+use Rattle.chi_verdict.proofs.Spent.{unknown_implies}
 use Rattle.chi_verdict.proofs.Whole.{unseen}
 use Rattle.chi_verdict.proofs.first.look_back.Goals as goal
 use Rattle.chi_verdict.proofs.first.look_back.Given.{Over}
@@ -91,3 +93,36 @@ returns-in-Unexplained-clause-earlier g c order explains =
     none order
     (subst (λ (f : Option ℕ). ExplainsGranule c.deref.result.now n word f order) (sym (ap (λ words. told words n) c.none-none.ensures ∙ none_is_told n))
     (subst (λ ops. ExplainsGranule ops n word None order) (sym (rw c.in_ok-known.ensures at c.deref.ensures.value)) explains))
+
+pub returns-then-blamed-eq0-clause-spent : goal.returns-then-blamed-eq0-clause-spent
+returns-then-blamed-eq0-clause-spent g c = record {
+  count = 0;
+  more = none_more g.P.Progress.looked c.args.progress.now 0 refl;
+  undecided = tt;
+  words = inl c.if-blamed-eq0.true;
+}
+
+pub returns-in_ok-words-in-Explained-clause-spent : goal.returns-in_ok-words-in-Explained-clause-spent
+returns-in_ok-words-in-Explained-clause-spent g c =
+    let spent = c.in_ok-order.ensures.spent in
+    let more = c.args.budget - c.words_after_all.new.budget in
+    record {
+      count = spent.count + more;
+      more = more_after g.P.Progress.looked c.args.progress.now c.explain_operations.new.progress c.words_after_all.new.progress spent.count more (spent.count + more) refl
+          spent.more c.in_ok-words-in-Explained.ensures.spends.1;
+      undecided = tt;
+      words = unknown_implies c.in_ok-words-in-Explained.words (λ none. inr (omega (arith, none))) c.in_ok-words-in-Explained.ensures.unknown;
+    }
+
+pub returns-in-Unexplained-clause-looked : goal.returns-in-Unexplained-clause-looked
+returns-in-Unexplained-clause-looked g c = let spent = c.in_ok-order.ensures.spent in (spent.count, spent.more)
+
+pub returns-in-Undecided-clause-spent : goal.returns-in-Undecided-clause-spent
+returns-in-Undecided-clause-spent g c =
+    let spent = c.in_ok-order.ensures.spent in
+    record {
+      count = spent.count;
+      more = spent.more;
+      undecided = subst (λ (v : Verdict). IfUndecided v (λ states. states ≤ spent.count)) c.in-Undecided.is spent.undecided;
+      words = tt;
+    }

@@ -1,0 +1,4 @@
+mod Growing
+mod Operations
+mod Places
+mod Spent

@@ -1,0 +1,71 @@
+-- the lines of an answer
+use Rattle.std.specs.Prelude.{ℕ, ◌-◌, ◌*◌, ◌^◌, ◌%◌, ◌==◌, nat_lt, if◌then◌else◌, List, [], ◌++◌, codes, decimal, flat_map, length, slice_index_or, take, Option, None, Some}
+use Rattle.chi_fields.specs.declared.request.Request.{Request}
+use Rattle.chi_lanes.specs.declared.reply.Reply.{Reply}
+use Rattle.chi_trace.specs.Explains.{at}
+use Rattle.chi_script.specs.Transcript.{address_text, reply_text, request_text, word_text}
+use Rattle.chi_reading.specs.declared.asked.Asked.{Asked}
+use Rattle.chi_reading.specs.TraceText.{RecordedValue, no_request}
+
+-- the request with the numbers of its requester and transaction
+abbrev pub request_in : Asked → Request
+request_in a = record { src = a.src; txn = a.txn; opcode = a.opcode; size = a.size; addr = a.addr; endian = a.endian; be = a.be; lanes = a.lanes }
+
+-- what was answered, where it was seen
+abbrev pub seen_text : Option Reply → List ℕ
+seen_text None = codes "no reply"
+seen_text (Some reply) = reply_text reply
+
+-- the line of an operation: its request, and what was answered
+unfoldable pub operation_text : Asked → Option Reply → List ℕ
+operation_text a reply = request_text (request_in a) ++ (seen_text reply ++ codes "\n")
+
+-- the request at a place of the trace, the places counted from 0
+abbrev pub asked_at : RecordedValue → ℕ → Asked
+asked_at r i = slice_index_or r.requests i no_request
+
+-- the line of the operation at a place, as it was observed
+abbrev pub observed_text : RecordedValue → ℕ → List ℕ
+observed_text r i = operation_text (asked_at r i) (at r.trace.operations i).reply
+
+-- the granule of which no order explains the operations, by its address
+unfoldable pub granule_line : ℕ → List ℕ
+granule_line granule = codes "not explained: granule " ++ address_text (granule * 8 % 2 ^ 64) ++ codes "\n"
+
+-- a word that the granule can hold
+unfoldable pub word_line : ℕ → List ℕ
+word_line word = codes "  the granule can hold " ++ word_text word ++ codes "\n"
+
+-- how many more there are
+unfoldable pub more_line : ℕ → List ℕ
+more_line more = codes "  and " ++ decimal more ++ codes " more\n"
+
+-- such words, of which no more than 16 are told
+unfoldable pub word_lines : List ℕ → List ℕ
+word_lines words =
+    if nat_lt 16 (length words) then flat_map word_line (take 16 words) ++ more_line (length words - 16) else flat_map word_line words
+
+-- until when an operation was open: to its end, or on where it was open when the trace ended
+abbrev pub until_text : ℕ → List ℕ
+until_text end = if end == 2 ^ 64 - 1 then codes " on: " else codes " to " ++ decimal end ++ codes ": "
+
+-- an operation that was open, with its times
+unfoldable pub open_line : RecordedValue → ℕ → List ℕ
+open_line r i = codes "  open from " ++ decimal (at r.trace.operations i).start ++ until_text (at r.trace.operations i).end ++ observed_text r i
+
+-- the operation that ended at the time up to which they cannot be explained
+unfoldable pub blamed_line : RecordedValue → ℕ → ℕ → List ℕ
+blamed_line r time i = codes "at " ++ decimal time ++ codes ": " ++ observed_text r i
+
+-- the time up to which they can, where there is one
+unfoldable pub explained_line : ℕ → ℕ → List ℕ
+explained_line time count =
+    if time == 0 then [] else codes "  explained up to " ++ decimal (time - 1) ++ codes " (operations: " ++ decimal count ++ codes ")\n"
+
+-- the word that was observed at the end
+unfoldable pub end_line : ℕ → List ℕ
+end_line word = codes "at the end: " ++ word_text word ++ codes "\n"
+
+-- no answer was found: of this granule so many states were looked at
+unfoldable pub undecided_line : ℕ → ℕ → List ℕ
+undecided_line granule states = codes "undecided: granule " ++ address_text (granule * 8 % 2 ^ 64) ++ codes " after " ++ decimal states ++ codes " states\n"

@@ -1,0 +1,41 @@
+-- the text of an answer
+use Rattle.std.specs.Prelude.{◌≡◌, ℕ, Bool, true, false, List, [], ◌∷◌, ◌++◌, flat_map, codes, vec_len, Option, None, Some}
+use Rattle.chi_search.specs.declared.words.Words.{Words}
+use Rattle.chi_search.specs.declared.words.Words.TheVariants.{Each, Unknown}
+use Rattle.chi_verdict.specs.declared.first.Blame.{Blame}
+use Rattle.chi_verdict.specs.Words.{told}
+use Rattle.chi_reading.specs.TraceText.{RecordedValue}
+use Rattle.chi_answer.specs.declared.answer.Answer.{Answer}
+use Rattle.chi_answer.specs.declared.answer.Answer.TheVariants.{Explained, Blamed, Unexplained, Undecided}
+use Rattle.chi_answer.specs.Lines.{blamed_line, end_line, explained_line, granule_line, open_line, undecided_line, word_lines}
+use Rattle.chi_answer.specs.Witnesses.{IsWitness}
+
+-- words that a granule can hold, where they were found
+abbrev pub found_words : Words → List ℕ
+found_words (Each words) = word_lines words.items
+found_words Unknown = []
+
+-- where the trace stops being explained
+abbrev pub blame_text : RecordedValue → Blame → List ℕ
+blame_text r blame =
+    granule_line blame.granule ++ (blamed_line r blame.time blame.op
+    ++ (found_words blame.words ++ (flat_map (open_line r) blame.overlapping.items ++ explained_line blame.time (vec_len blame.order))))
+
+-- the word that was observed at the end, and those that could have been there
+abbrev pub end_words : ℕ → List ℕ → List ℕ
+end_words last [] = []
+end_words last (word ∷ words) = end_line last ++ word_lines (word ∷ words)
+
+-- the same where a word was observed, and the others were found
+abbrev pub end_text : Option ℕ → Words → List ℕ
+end_text None words = []
+end_text (Some last) Unknown = []
+end_text (Some last) (Each words) = end_words last words.items
+
+-- the text of an answer, with the operations in the order found where a witness is asked for
+abbrev pub IsText : Bool → RecordedValue → Answer → List ℕ → Type 0
+IsText false r (Explained order) text = text ≡ codes "explained\n"
+IsText true r (Explained order) text = (witness : List ℕ) × IsWitness r order.items witness × (text ≡ codes "explained\n" ++ witness)
+IsText witness r (Blamed blame) text = text ≡ blame_text r blame
+IsText witness r (Unexplained granule words) text = text ≡ granule_line granule ++ end_text (told r.finals granule) words
+IsText witness r (Undecided granule states) text = text ≡ undecided_line granule states

@@ -1,0 +1,71 @@
+//! What is answered of a trace.
+
+ghost use Rattle.std.specs.Prelude.{◌≡◌, ℕ, IfOk};
+ghost use Rattle.chi_search.specs.Looks.{LookedMore};
+ghost use Rattle.chi_answer.specs.Answers.{IfUndecided, IsAnswer, IsUnexplained, IsUnexplainedIn, LookedForAnswer};
+
+use chi_reading::Recorded;
+use chi_search::{Progress, Words};
+use chi_verdict::{Blame, First, Verdict, explain, first_unexplained, words_held};
+use std::alloc::{AllocError, Global};
+
+/// What is answered of a trace.
+///
+/// - `Explained`: the operations in this order are what a home could have done, and leave the words at the end.
+/// - `Blamed`: they cannot be explained, and where they stop being explainable.
+/// - `Unexplained`: those of a granule cannot be explained. The words are those with which they could be, where only the word
+///   at the end is wrong and they were found.
+/// - `Undecided`: neither was found; of this granule so many states were looked at, which is the whole budget.
+#[derive(Debug, Drop)]
+pub enum Answer {
+    Explained { order: Vec<usize> },
+    Blamed(Blame),
+    Unexplained { granule: u64, words: Words },
+    Undecided { granule: u64, states: u64 },
+}
+
+/// The answer of a trace that no order explains, not even the operations of this granule.
+fn unexplained<P: Progress>(
+    alloc: Global,
+    recorded: &Recorded,
+    granule: u64,
+    budget: u64,
+    progress: &mut P,
+) -> Result<Answer, AllocError>
+    requires trace { IsUnexplained recorded.now }
+    requires granule { IsUnexplainedIn recorded.now granule }
+    ensures right { IfOk result (IsAnswer recorded.now) }
+    ensures decided { IfOk result (λ answer. IfUndecided answer (λ states. ⊥)) }
+    ensures looked { IfOk result (λ _. (k : ℕ) × LookedMore P.looked progress.old progress.new k) }
+{
+    let trace = recorded.trace();
+    if let First::At(blame) = first_unexplained(alloc, trace, budget, progress)? {
+        return Ok(Answer::Blamed(blame));
+    }
+    let mut left = budget;
+    let words = words_held(alloc, trace, granule, &mut left, progress)?;
+    Ok(Answer::Unexplained { granule, words })
+}
+
+/// Whether the trace can be explained, and what can be said of it, looking at no more than `budget` states of each granule at
+/// a time.
+///
+/// ```
+/// let answer = answer_of(alloc, &recorded, 1_000_000, &mut NoProgress)?;
+/// ```
+pub fn answer_of<P: Progress>(
+    alloc: Global,
+    recorded: &Recorded,
+    budget: u64,
+    progress: &mut P,
+) -> Result<Answer, AllocError>
+    ensures right { IfOk result (IsAnswer recorded.now) }
+    ensures undecided { IfOk result (λ answer. IfUndecided answer (λ states. states ≡ budget)) }
+    ensures spent { IfOk result (LookedForAnswer P.looked progress.old progress.new) }
+{
+    match explain(alloc, recorded.trace(), recorded.finals(), budget, progress)? {
+        Verdict::Explained(order) => Ok(Answer::Explained { order }),
+        Verdict::Unexplained { granule } => unexplained(alloc, recorded, granule, budget, progress),
+        Verdict::Undecided { granule, states } => Ok(Answer::Undecided { granule, states }),
+    }
+}

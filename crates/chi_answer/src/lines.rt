@@ -1,0 +1,139 @@
+//! The lines of an answer.
+
+ghost use Rattle.std.specs.Prelude.{◌≡◌, ◌++◌, OnOk, flat_map};
+ghost use Rattle.chi_script.specs.Transcript.{request_text};
+ghost use Rattle.chi_answer.specs.Lines.{granule_line, more_line, operation_text, request_in, seen_text, undecided_line, word_line, word_lines};
+
+use crate::part::{Part, add_parts};
+use chi_fields::op_name;
+use chi_lanes::Reply;
+use chi_reading::Asked;
+use std::alloc::AllocError;
+
+/// The fields of a request, each with the space after it.
+fn add_request(to: &mut Vec<u8>, asked: &Asked) -> Result<(), AllocError>
+    ensures { OnOk result (to.new.items ≡ to.old.items ++ request_text (request_in asked.now)) }
+{
+    add_parts(
+        to,
+        &[
+            Part::Number(asked.src as u64),
+            Part::Text(" "),
+            Part::Number(asked.txn as u64),
+            Part::Text(" "),
+            Part::Opcode(asked.opcode),
+            Part::Text(" "),
+            Part::Text(op_name(asked.opcode)),
+            Part::Text(" "),
+            Part::Number(asked.size as u64),
+            Part::Text(" "),
+            Part::Address(asked.addr),
+            Part::Text(" "),
+        ],
+    )
+}
+
+/// What was answered, where it was seen.
+fn add_reply(to: &mut Vec<u8>, reply: Option<Reply>) -> Result<(), AllocError>
+    ensures { OnOk result (to.new.items ≡ to.old.items ++ seen_text reply) }
+{
+    match reply {
+        Some(Reply::Comp) => add_parts(to, &[Part::Text("comp")]),
+        Some(Reply::CompData(lanes)) => {
+            add_parts(to, &[Part::Text("data "), Part::Packet(lanes)])
+        }
+        None => add_parts(to, &[Part::Text("no reply")]),
+    }
+}
+
+/// The line of an operation: its request, and what was answered, where that was seen.
+pub(crate) fn add_operation(
+    to: &mut Vec<u8>,
+    asked: &Asked,
+    reply: Option<Reply>,
+) -> Result<(), AllocError>
+    ensures { OnOk result (to.new.items ≡ to.old.items ++ operation_text asked.now reply) }
+{
+    add_request(to, asked)?;
+    add_reply(to, reply)?;
+    add_parts(to, &[Part::Text("\n")])
+}
+
+/// The line of the granule that cannot be explained.
+pub(crate) fn add_granule(to: &mut Vec<u8>, granule: u64) -> Result<(), AllocError>
+    ensures { OnOk result (to.new.items ≡ to.old.items ++ granule_line granule) }
+{
+    add_parts(
+        to,
+        &[
+            Part::Text("not explained: granule "),
+            Part::Address(granule.wrapping_mul(8)),
+            Part::Text("\n"),
+        ],
+    )
+}
+
+/// The line of a word that the granule can hold.
+fn add_word(to: &mut Vec<u8>, word: u64) -> Result<(), AllocError>
+    ensures { OnOk result (to.new.items ≡ to.old.items ++ word_line word) }
+{
+    add_parts(
+        to,
+        &[
+            Part::Text("  the granule can hold "),
+            Part::Word(word),
+            Part::Text("\n"),
+        ],
+    )
+}
+
+/// The lines of words that the granule can hold.
+fn add_each(to: &mut Vec<u8>, words: &[u64]) -> Result<(), AllocError>
+    ensures { OnOk result (to.new.items ≡ to.old.items ++ flat_map word_line words.now) }
+{
+    for word in words {
+        add_word(to, *word)?;
+    }
+    Ok(())
+}
+
+/// The line of how many more words there are.
+fn add_more(to: &mut Vec<u8>, more: usize) -> Result<(), AllocError>
+    ensures { OnOk result (to.new.items ≡ to.old.items ++ more_line more) }
+{
+    add_parts(
+        to,
+        &[
+            Part::Text("  and "),
+            Part::Number(more as u64),
+            Part::Text(" more\n"),
+        ],
+    )
+}
+
+/// The same, of 16 words at most, and how many more there are.
+pub(crate) fn add_words(to: &mut Vec<u8>, words: &[u64]) -> Result<(), AllocError>
+    ensures { OnOk result (to.new.items ≡ to.old.items ++ word_lines words.now) }
+{
+    if words.len() <= 16 {
+        return add_each(to, words);
+    }
+    add_each(to, &words[..16])?;
+    add_more(to, words.len() - 16)
+}
+
+/// The line of an answer that was not found.
+pub(crate) fn add_undecided(to: &mut Vec<u8>, granule: u64, states: u64) -> Result<(), AllocError>
+    ensures { OnOk result (to.new.items ≡ to.old.items ++ undecided_line granule states) }
+{
+    add_parts(
+        to,
+        &[
+            Part::Text("undecided: granule "),
+            Part::Address(granule.wrapping_mul(8)),
+            Part::Text(" after "),
+            Part::Number(states),
+            Part::Text(" states\n"),
+        ],
+    )
+}

@@ -1,0 +1,65 @@
+//! Tests of what is said of traces that are not explained, or not decided.
+
+use crate::answers::text;
+use crate::comparison::assert_same;
+use std::test::Fail;
+
+// Two adds of 1 that are both told 0, and a write that was still open.
+const LOST_UPDATE: &str = r#"{"requests": [
+    {"src": 65535, "txn": 256, "op": 48, "size": 3, "addr": 4096, "endian": 0, "be": 255,
+     "lanes": "01000000000000000000000000000000", "start": 10, "end": 20, "reply": "00000000000000000000000000000000"},
+    {"src": 2, "txn": 7, "op": 48, "size": 3, "addr": 4096, "endian": 0, "be": 255,
+     "lanes": "01000000000000000000000000000000", "start": 30, "end": 40, "reply": "00000000000000000000000000000000"},
+    {"src": 3, "txn": 8, "op": 28, "size": 3, "addr": 4096, "endian": 0, "be": 255,
+     "lanes": "05000000000000000000000000000000", "start": 35}]}"#;
+
+// A write of 6 after one of 4, and 4 at the end.
+const FINAL_WORD: &str = r#"{"final": [{"addr": 8, "bytes": "0400000000000000"}], "requests": [
+    {"src": 1, "txn": 1, "op": 28, "size": 3, "addr": 8, "endian": 0, "be": 65280,
+     "lanes": "00000000000000000400000000000000", "start": 1, "end": 2, "reply": "comp"},
+    {"src": 1, "txn": 2, "op": 28, "size": 3, "addr": 8, "endian": 0, "be": 65280,
+     "lanes": "00000000000000000600000000000000", "start": 3, "end": 4, "reply": "comp"}]}"#;
+
+#[test]
+fn lost_update_beside_an_open_write(rt: HostRuntime) -> Result<(), Fail> {
+    let found = text(rt.alloc(), LOST_UPDATE, 1000, false)?;
+    let wanted = "not explained: granule 0000000000001000
+at 40: 2 7 30 AtomicLoad.ADD 3 0000000000001000 data 00000000000000000000000000000000
+";
+    assert_same(&rt, found.starts_with(wanted), true);
+    let open =
+        "  open from 30 to 40: 2 7 30 AtomicLoad.ADD 3 0000000000001000 data 00000000000000000000000000000000
+  open from 35 on: 3 8 1c WriteNoSnpPtl 3 0000000000001000 no reply
+  explained up to 39 (operations: ";
+    assert_same(&rt, found.contains(open), true);
+    Ok(())
+}
+
+#[test]
+fn only_the_end_is_wrong(rt: HostRuntime) -> Result<(), Fail> {
+    let found = text(rt.alloc(), FINAL_WORD, 1000, false)?;
+    let wanted = "not explained: granule 0000000000000008
+at the end: 0400000000000000
+  the granule can hold 0600000000000000
+";
+    assert_same(&rt, found.as_str(), wanted);
+    Ok(())
+}
+
+#[test]
+fn undecided_within_one_state(rt: HostRuntime) -> Result<(), Fail> {
+    let found = text(rt.alloc(), FINAL_WORD, 1, false)?;
+    assert_same(
+        &rt,
+        found.as_str(),
+        "undecided: granule 0000000000000008 after 1 states\n",
+    );
+    Ok(())
+}
+
+#[test]
+fn explained_in_one_line(rt: HostRuntime) -> Result<(), Fail> {
+    let found = text(rt.alloc(), r#"{"requests": []}"#, 0, false)?;
+    assert_same(&rt, found.as_str(), "explained\n");
+    Ok(())
+}

@@ -1,8 +1,0 @@
--- the parts are the line
-use Rattle.std.proofs.Common.{append_assoc, append-nil}
-use Rattle.chi_check.specs.AnswerText.{explained_line}
-use Rattle.chi_check.proofs.answer_lines.add_explained.Goals as goal
-
-pub returns : goal.returns
-unfolding explained_line
-returns c = simp append_assoc (simp (append-nil) at c.add_parts.ensures)

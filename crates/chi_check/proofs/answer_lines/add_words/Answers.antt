@@ -1,8 +1,0 @@
--- one line more
-use Rattle.chi_check.specs.AnswerText.{word_line}
-use Rattle.chi_check.proofs.TextLemmas.{part_more}
-use Rattle.chi_check.proofs.answer_lines.add_words.Goals as goal
-
-pub loop-word-preserved : goal.loop-word-preserved
-loop-word-preserved c =
-    part_more word_line c.args.to.now.items c.args.words.now c.loop-word.word-index 0 c.loop-word.to.items _ c.loop-word-test.true c.loop-word.invariant c.in_ok-add_word.ensures

@@ -1,4 +1,0 @@
-pub mod Charts
-pub mod Explains
-pub mod Words
-pub mod Verdict

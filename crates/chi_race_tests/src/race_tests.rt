@@ -1,0 +1,200 @@
+//! What races of two and of four did over both stores is explained, and no longer once a reply is changed.
+
+ghost use Rattle.std.specs.Prelude.{◌≡◌, ◌≤◌};
+ghost use Rattle.chi_history.specs.NumberSets.{below};
+
+use crate::clock_gate::{Pauses, observe, observe_after};
+use crate::comparison::assert_same;
+use crate::race_scripts::{race_of_four, race_of_two};
+use chi_bookstore::BookStore;
+use chi_fields::Region;
+use chi_history::{Home, Line};
+use chi_lanes::Reply;
+use chi_lockstore::LockStore;
+use chi_requester::{Policy, Race, RaceFour, race_four, race_two};
+use chi_search::NoProgress;
+use chi_trace::Observed;
+use chi_verdict::{GranuleWord, GranuleWords, Trace, Verdict, explain};
+use std::alloc::Global;
+use std::process::Abort;
+use std::sync::Wait;
+use std::sync::atomic::{AtomicU64, Ordering};
+use std::test::Fail;
+use std::thread::Threads;
+
+// The words at the opening: the script's image.
+const IMAGE: [u64; 2] = [7, 0x0105];
+
+// The words of the two granules.
+fn granule_words(alloc: Global, words: &[u64; 2]) -> Result<GranuleWords, Fail> {
+    let mut list = Vec::new(alloc);
+    list.push(GranuleWord {
+        granule: 0x1000 / 8,
+        word: words[0],
+    })?;
+    list.push(GranuleWord {
+        granule: 0x1008 / 8,
+        word: words[1],
+    })?;
+    Ok(GranuleWords::new(list).ok_or("the granules are not in order")?)
+}
+
+// What is found of the operations, from the image to these words.
+fn verdict(alloc: Global, words: &[u64; 2], ops: &[Observed]) -> Result<Verdict, Fail> {
+    let opening = granule_words(alloc, &IMAGE)?;
+    let finals = granule_words(alloc, words)?;
+    let trace = Trace::new(opening, Vec::from_slice(alloc, ops)?).ok_or(
+        "the operations are not those of a trace",
+    )?;
+    Ok(explain(alloc, &trace, &finals, 1_000_000, &mut NoProgress)?)
+}
+
+// The data with the highest bit of the operand's first byte turned.
+fn changed(lanes: [u8; 16], addr: u64) -> Reply {
+    let mut lanes = lanes;
+    if addr % 16 < 8 {
+        lanes[0] ^= 0x80;
+    } else {
+        lanes[8] ^= 0x80;
+    }
+    Reply::CompData(lanes)
+}
+
+// The operations are explained, and with any one reply changed no order explains them.
+fn assert_explained<T: AllocGlobal + Abort>(
+    rt: &T,
+    words: &[u64; 2],
+    ops: &[Observed],
+) -> Result<(), Fail> {
+    let alloc = rt.alloc();
+    assert!(rt; matches!(verdict(alloc, words, ops)?, Verdict::Explained(_)));
+    for place in 0..ops.len() {
+        let op = ops[place];
+        if let Some(Reply::CompData(lanes)) = op.reply {
+            let mut broken = Vec::from_slice(alloc, ops)?;
+            broken[place].reply = Some(changed(lanes, op.access.addr()));
+            let found = verdict(alloc, words, &broken)?;
+            assert!(rt; matches!(found, Verdict::Unexplained { granule: _ }));
+        }
+    }
+    Ok(())
+}
+
+// The operations of a race, of its workers by their pauses and of 0 after them, in the order of their starts.
+fn operations<T: AllocGlobal>(
+    rt: &T,
+    workers: &[(&[Line], &Pauses)],
+    zero: &[Line],
+    end: u64,
+) -> Result<Vec<Observed>, Fail> {
+    let region = Region::new(0x1000, 2)?;
+    let mut ops = Vec::new(rt.alloc());
+    for (lines, pauses) in workers {
+        observe(&region, lines, pauses, end, &mut ops)?;
+    }
+    observe_after(&region, zero, end, &mut ops)?;
+    ops.sort_by_key(|op| op.start)?;
+    Ok(ops)
+}
+
+// So many operations are there, and explained with the words that a seat of all numbers finds.
+fn assert_race<H: Home, T: AllocGlobal + Abort + Wait>(
+    rt: &T,
+    home: &H,
+    seat: &mut H::Seat,
+    ops: &[Observed],
+    count: usize,
+) -> Result<(), Fail>
+    requires own { H.belongs home.now seat.old }
+    requires all { H.held seat.old ≡ below (H.opening home.now).requesters }
+    requires granules { (H.opening home.now).region.granules ≡ 2 }
+{
+    let mut words = [0; 2];
+    home.snapshot(rt, seat, &mut words);
+    assert_same(&rt, ops.len(), count);
+    assert_explained(rt, &words, ops)
+}
+
+// Four operations by each of 1 and 2, and a read by 0.
+fn assert_two<H: Home + Sync, T: AllocGlobal + Abort + Threads + Wait + Sync>(
+    rt: &T,
+    home: &H,
+    seat: &mut H::Seat,
+) -> Result<(), Fail>
+    requires own { H.belongs home.now seat.old }
+    requires all { H.held seat.old ≡ below (H.opening home.now).requesters }
+    requires three { 3 ≤ (H.opening home.now).requesters }
+    requires granules { (H.opening home.now).region.granules ≡ 2 }
+{
+    let script = race_of_two(rt)?;
+    let requests = script.requests();
+    let clock = AtomicU64::new(1);
+    let (one, two) = (Pauses::new(), Pauses::new());
+    let (gate1, gate2) = (one.gate(&clock), two.gate(&clock));
+    let mut race = Race::new(rt.alloc());
+    race_two(
+        home,
+        rt,
+        seat,
+        requests,
+        Policy::Resend,
+        gate1,
+        gate2,
+        &mut race,
+    )?;
+    let workers = [(race.one.as_slice(), &one), (race.two.as_slice(), &two)];
+    let end = clock.load(Ordering::SeqCst);
+    let ops = operations(rt, &workers, &race.zero, end)?;
+    assert_race(rt, home, seat, &ops, 9)
+}
+
+// Four operations by each of 1 to 4, and a read by 0.
+fn assert_four<H: Home + Sync, T: AllocGlobal + Abort + Threads + Wait + Sync>(
+    rt: &T,
+    home: &H,
+    seat: &mut H::Seat,
+) -> Result<(), Fail>
+    requires own { H.belongs home.now seat.old }
+    requires all { H.held seat.old ≡ below (H.opening home.now).requesters }
+    requires five { 5 ≤ (H.opening home.now).requesters }
+    requires granules { (H.opening home.now).region.granules ≡ 2 }
+{
+    let script = race_of_four(rt)?;
+    let requests = script.requests();
+    let clock = AtomicU64::new(1);
+    let (one, two, three, four) = (Pauses::new(), Pauses::new(), Pauses::new(), Pauses::new());
+    let (gate1, gate2) = (one.gate(&clock), two.gate(&clock));
+    let (gate3, gate4) = (three.gate(&clock), four.gate(&clock));
+    let mut race = RaceFour::new(rt.alloc());
+    let policy = Policy::Resend;
+    race_four(
+        home, rt, seat, requests, policy, gate1, gate2, gate3, gate4, &mut race,
+    )?;
+    let workers = [
+        (race.one.as_slice(), &one),
+        (race.two.as_slice(), &two),
+        (race.three.as_slice(), &three),
+        (race.four.as_slice(), &four),
+    ];
+    let end = clock.load(Ordering::SeqCst);
+    let ops = operations(rt, &workers, &race.zero, end)?;
+    assert_race(rt, home, seat, &ops, 17)
+}
+
+#[test]
+fn race_of_two_is_explained(rt: HostRuntime) -> Result<(), Fail> {
+    let region = Region::new(0x1000, 2)?;
+    let (home, mut seat) = LockStore::open(rt.alloc(), region, 3, &IMAGE)?;
+    assert_two(&rt, &home, &mut seat)?;
+    let (home, mut seat) = BookStore::open(rt.alloc(), region, 3, 4, &IMAGE)?;
+    assert_two(&rt, &home, &mut seat)
+}
+
+#[test]
+fn race_of_four_is_explained(rt: HostRuntime) -> Result<(), Fail> {
+    let region = Region::new(0x1000, 2)?;
+    let (home, mut seat) = LockStore::open(rt.alloc(), region, 5, &IMAGE)?;
+    assert_four(&rt, &home, &mut seat)?;
+    let (home, mut seat) = BookStore::open(rt.alloc(), region, 5, 4, &IMAGE)?;
+    assert_four(&rt, &home, &mut seat)
+}

@@ -1,0 +1,23 @@
+-- no state more, and states after states
+use Rattle.std.proofs.Common.{◌≡◌, ℕ, ◌+◌, ◌-◌, ◌<◌, ◌≤◌, subst, arith}
+use Rattle.chi_search.specs.Looks.{LookedMore}
+
+-- none more
+pub none_more : {P : Type 0} (looked : P → ℕ → Type 0) (p : P) (k : ℕ) → k ≡ 0 → LookedMore looked p p k
+none_more looked p k none n knows = subst (looked p) (omega (arith, none)) knows
+
+-- some more, and then others
+pub more_after : {P : Type 0} (looked : P → ℕ → Type 0) (old middle new : P) (a b c : ℕ) → a + b ≡ c
+    → LookedMore looked old middle a → LookedMore looked middle new b → LookedMore looked old new c
+more_after looked old middle new a b c sum first then n knows = subst (looked new) (omega (arith, sum)) (then (n + a) (first n knows))
+
+-- as many as a budget lost, and one for one more that it loses
+pub one_more : {P : Type 0} (looked : P → ℕ → Type 0) (old middle new : P) (budget left : ℕ) → left ≤ budget → 0 < left
+    → LookedMore looked old middle (budget - left) → LookedMore looked middle new 1 → LookedMore looked old new (budget - (left - 1))
+one_more looked old middle new budget left under some = more_after looked old middle new (budget - left) 1 (budget - (left - 1)) (omega (arith, under, some))
+
+-- the same for as many as it loses then
+pub spent_after : {P : Type 0} (looked : P → ℕ → Type 0) (old middle new : P) (budget left less : ℕ) → left ≤ budget → less ≤ left
+    → LookedMore looked old middle (budget - left) → LookedMore looked middle new (left - less) → LookedMore looked old new (budget - less)
+spent_after looked old middle new budget left less under fewer =
+    more_after looked old middle new (budget - left) (left - less) (budget - less) (omega (arith, under, fewer))

@@ -1,0 +1,6 @@
+-- how many states were looked at
+use Rattle.std.specs.Prelude.{ℕ, ◌+◌}
+
+-- so many states more were looked at: what was known of their number before is known of so many more after
+abbrev pub LookedMore : {P : Type 0} → (P → ℕ → Type 0) → P → P → ℕ → Type 0
+LookedMore looked old new k = (n : ℕ) → looked old n → looked new (n + k)
