@@ -206,12 +206,16 @@ fn order_of(
         ..State::default()
     };
     let mut path: Vec<(State, Option<usize>)> = Vec::new();
-    for _ in 0..budget {
+    let mut left = budget;
+    while left > 0 {
         match search.choose(&state) {
             Choice::Ended => {
                 return Some(Some(path.into_iter().filter_map(|step| step.1).collect()));
             }
-            Choice::Step(op, next) => path.push((std::mem::replace(&mut state, next), op)),
+            Choice::Step(op, next) => {
+                left -= 1;
+                path.push((std::mem::replace(&mut state, next), op));
+            }
             Choice::Dead => {
                 search.dead.add(&state);
                 match path.pop() {
