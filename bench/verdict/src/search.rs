@@ -127,9 +127,11 @@ impl Dead {
     }
 }
 
+/// A step has the operation that was taken, unless the first was left out, the place before which all operations were tried,
+/// and the state after it.
 enum Choice {
     Ended,
-    Step(Option<usize>, State),
+    Step(Option<usize>, usize, State),
     Dead,
 }
 
@@ -141,7 +143,31 @@ struct Search<'a> {
 }
 
 impl Search<'_> {
-    fn choose(&self, state: &State) -> Choice {
+    /// The places from one on whose operations can come next, whether or not they fit the word.
+    fn places(&self, state: &State, from: usize) -> impl Iterator<Item = usize> {
+        let end = self.ops[state.first].end;
+        (from..self.ops.len())
+            .take_while(move |place| self.earliest[*place] <= end)
+            .filter(move |place| self.ops[*place].start <= end && !state.is_settled(*place))
+    }
+
+    /// The word that an operation leaves, where it fits the word that it finds.
+    fn after(&self, state: &State, place: usize) -> Option<u64> {
+        let op = &self.ops[place];
+        let (after, data) = execute_bytes(state.word, &op.access);
+        op.reply.is_none_or(|seen| seen == data).then_some(after)
+    }
+
+    /// An operation that can come next and is seen to change nothing.
+    fn idle_next(&self, state: &State) -> Option<usize> {
+        self.places(state, state.first).find(|place| {
+            self.ops[*place].reply.flatten().is_some()
+                && self.after(state, *place) == Some(state.word)
+        })
+    }
+
+    /// What can be done at a state, of which the operations before a place were tried.
+    fn choose(&self, state: &State, tried: usize) -> Choice {
         if state.first >= self.ops.len() {
             let has_ended = self.last.is_none_or(|last| last == state.word);
             return if has_ended {
@@ -150,31 +176,28 @@ impl Search<'_> {
                 Choice::Dead
             };
         }
-        let end = self.ops[state.first].end;
-        let mut place = state.first;
-        while place < self.ops.len() && self.earliest[place] <= end {
-            let op = &self.ops[place];
-            if op.start <= end && !state.is_settled(place) {
-                let (after, data) = execute_bytes(state.word, &op.access);
-                if op.reply.is_none_or(|seen| seen == data) {
-                    let is_idle =
-                        op.reply.is_some_and(|seen| seen.is_some()) && after == state.word;
-                    let next = state.settled(place, after);
-                    let is_dead = self.dead.has(&next);
-                    if is_idle && is_dead {
-                        return Choice::Dead;
-                    }
-                    if !is_dead {
-                        return Choice::Step(Some(place), next);
-                    }
+        if tried <= state.first
+            && let Some(place) = self.idle_next(state)
+        {
+            let next = state.settled(place, state.word);
+            return if self.dead.has(&next) {
+                Choice::Dead
+            } else {
+                Choice::Step(Some(place), tried, next)
+            };
+        }
+        for place in self.places(state, tried) {
+            if let Some(after) = self.after(state, place) {
+                let next = state.settled(place, after);
+                if !self.dead.has(&next) {
+                    return Choice::Step(Some(place), place, next);
                 }
             }
-            place += 1;
         }
         if self.ops[state.first].reply.is_none() {
             let next = state.settled(state.first, state.word);
             if !self.dead.has(&next) {
-                return Choice::Step(None, next);
+                return Choice::Step(None, self.ops.len(), next);
             }
         }
         Choice::Dead
@@ -205,21 +228,23 @@ fn order_of(
         word,
         ..State::default()
     };
-    let mut path: Vec<(State, Option<usize>)> = Vec::new();
+    let mut path: Vec<(State, Option<usize>, usize)> = Vec::new();
+    let mut tried = 0;
     let mut left = budget;
     while left > 0 {
-        match search.choose(&state) {
+        match search.choose(&state, tried) {
             Choice::Ended => {
                 return Some(Some(path.into_iter().filter_map(|step| step.1).collect()));
             }
-            Choice::Step(op, next) => {
+            Choice::Step(op, place, next) => {
                 left -= 1;
-                path.push((std::mem::replace(&mut state, next), op));
+                tried = next.first;
+                path.push((std::mem::replace(&mut state, next), op, place));
             }
             Choice::Dead => {
                 search.dead.add(&state);
                 match path.pop() {
-                    Some((before, _)) => state = before,
+                    Some((before, _, place)) => (state, tried) = (before, place),
                     None => return Some(None),
                 }
             }

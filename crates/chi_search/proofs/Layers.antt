@@ -8,26 +8,16 @@ use Rattle.std.proofs.lemmas.Option.{get_or_from_slice_get, slice_get_within}
 use Rattle.chi_trace.specs.declared.observed.Observed.{Observed}
 use Rattle.chi_trace.specs.Explains.{at, nothing}
 use Rattle.chi_trace.specs.Granules.{Fits}
-use Rattle.chi_search.specs.declared.choice.Taken.{Taken}
-use Rattle.chi_search.specs.declared.choice.Taken.TheVariants.{Idle, Yes}
 use Rattle.chi_search.specs.declared.states.States.{States}
-use Rattle.chi_search.specs.Choices.{IfTaken}
 use Rattle.chi_search.specs.Layers.{AreReady, SomeEnds}
-use Rattle.chi_search.specs.Moves.{CanCome, Drops, Ends, IsIdle, Takes}
+use Rattle.chi_search.specs.Moves.{ByTaking, CanCome, Drops, Ends, IsIdle, Takes}
 use Rattle.chi_search.specs.Paths.{AreEarliest}
 use Rattle.chi_search.specs.Positions.{IsReady, Position}
 use Rattle.chi_search.specs.Searchable.{AreSorted}
 use Rattle.chi_search.specs.StateSets.{Has, positions}
-use Rattle.chi_search.proofs.Moves.{ByDropping, ByTaking, from_dropped, from_idle, from_taken, goes_on, left_is}
+use Rattle.chi_search.proofs.Moves.{ByDropping, from_dropped, from_idle, from_taken, goes_on, left_is}
 use Rattle.chi_search.proofs.Paths.{all_late}
 use Rattle.chi_search.proofs.Elements.{some_added}
-
--- what is known of an operation that was taken
-pub when_yes : (t : Taken) (A : Type 0) → t ≡ Yes → IfTaken t A → A
-when_yes t A is = subst (λ (u : Taken). IfTaken u A → A) (sym is) (λ known. known)
-
-pub when_idle : (t : Taken) (A : Type 0) → t ≡ Idle → IfTaken t A → A
-when_idle t A is = subst (λ (u : Taken). IfTaken u A → A) (sym is) (λ known. known)
 
 -- the set has one state more
 abbrev pub IsAdded : States → States → Position → Type 0
@@ -125,11 +115,11 @@ whole ops old now p k grown all v = (grown.forth v, back)
     back (inr ends) = all v ends
 
 -- where an operation that changes nothing can come next, each order goes on from the state after it
-pub whole_idle : (ops : List Observed) (old now new : States) (p q : Position) (k : ℕ) → Grown ops old now p k → IsAdded new now q → IsReady (length ops) q
-    → AreSorted ops → CanCome ops p k → Takes ops p k q → p.word < 2 ^ 64 → q.word < 2 ^ 64 → IsIdle (at ops k) → IsWhole ops new old p
-whole_idle ops old now new p q k grown added ready sorted comes takes finds leaves idle =
-    whole ops old new p (k + 1) (grown_taken ops old now new p q k grown added ready sorted comes takes leaves)
-    (λ v ends. (ends_more ops new now q added v).1 (inr (from_idle ops (Some v) p q k finds comes idle takes ends)))
+pub whole_idle : (ops : List Observed) (old new : States) (p q : Position) (k : ℕ) → IsAdded new old q → IsReady (length ops) q → AreSorted ops
+    → CanCome ops p k → Takes ops p k q → p.word < 2 ^ 64 → q.word < 2 ^ 64 → IsIdle (at ops k) → IsWhole ops new old p
+whole_idle ops old new p q k added ready sorted comes takes finds leaves idle =
+    whole ops old new p p.first (grown_by ops old old new p q p.first (not_grown ops old p) added ready (λ v. takes_on ops p q k v sorted comes takes leaves))
+    (λ v ends. (ends_more ops new old q added v).1 (inr (from_idle ops (Some v) p q k finds comes idle takes ends)))
 
 -- No operation from the place on can come next: so each order begins by one before it, or without the first.
 abbrev pub IsLate : List Observed → Position → ℕ → Type 0

@@ -5,9 +5,9 @@ use Rattle.std.proofs.lemmas.Bool.Decides.{nat_tests}
 use Rattle.chi_history.specs.History.{one_if}
 use Rattle.chi_trace.specs.declared.observed.Observed.{Observed}
 use Rattle.chi_trace.specs.Explains.{IsInTime, at, is_answered, nothing, times_in}
-use Rattle.chi_trace.specs.Granules.{Finishes, Fits, Play, last_word, next}
+use Rattle.chi_trace.specs.Granules.{Finishes, Play, last_word}
 use Rattle.chi_trace.proofs.Places.{passes}
-use Rattle.chi_search.specs.Moves.{CanCome, Drops, Ends, IsIdle, Takes}
+use Rattle.chi_search.specs.Moves.{ByTaking, CanCome, Drops, Ends, IsIdle, Takes}
 use Rattle.chi_search.specs.Positions.{IsReady, Position, is_left}
 use Rattle.chi_search.specs.Searchable.{AreSorted}
 use Rattle.chi_search.proofs.Orders.{cons, first_early, first_fits, first_left, idle_first, no_reply, parts, peel, settled_without, without, without_one}
@@ -45,11 +45,7 @@ from_dropped ops final p q x ready below drops c =
     without_one ops (is_left (length ops) p) (is_left (length ops) q) p.word final p.first x (parts (is_left (length ops) p) (is_left (length ops) q) p.first (ready.1 below) drops.left)
     drops.unanswered (subst (λ w. Finishes ops (is_left (length ops) q) w final x) drops.word c)
 
--- An order that goes on begins with a move.
-abbrev pub ByTaking : List Observed → Option ℕ → Position → ℕ → Type 0
-ByTaking ops final p i =
-    CanCome ops p i × Fits (at ops i) p.word × (next (at ops i) p.word < 2 ^ 64) × ((q : Position) → Takes ops p i q → Ends ops final q)
-
+-- An order that goes on begins by an operation, or without the first.
 abbrev pub ByDropping : List Observed → Option ℕ → Position → Type 0
 ByDropping ops final p = ((at ops p.first).reply ≡ None) × ((q : Position) → Drops ops p q → Ends ops final q)
 

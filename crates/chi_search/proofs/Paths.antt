@@ -1,17 +1,18 @@
 -- walks of a search, and what is known of a position from which operations were tried
 use Rattle.std.proofs.Common.{◌≡◌, ℕ, ◌+◌, ◌^◌, ◌<◌, ◌≤◌, List, [], ◌∷◌, ◌++◌, length, slice_index, Option, None, Some, refl, sym, subst, arith, inl, inr, below_more}
 use Rattle.std.proofs.lemmas.Bool.{cases_lt}
+use Rattle.std.proofs.lemmas.List.Elements.{All-pop, All-push}
 use Rattle.chi_trace.specs.declared.observed.Observed.{Observed}
 use Rattle.chi_trace.specs.Explains.{at}
 use Rattle.chi_trace.specs.Granules.{Finishes, Fits}
 use Rattle.chi_search.specs.declared.path.Step.{Step}
 use Rattle.chi_search.specs.declared.states.States.{States}
-use Rattle.chi_search.specs.Moves.{CanCome, IsIdle, Takes}
-use Rattle.chi_search.specs.Paths.{AllDead, AreEarliest, IsDead, Moves, Walks, after_op, taken}
+use Rattle.chi_search.specs.Moves.{ByTaking, CanCome, IsIdle, Takes}
+use Rattle.chi_search.specs.Paths.{AllDead, AreEarliest, AreTried, AreTriedBefore, IsDead, Moves, Walks, after_op, taken}
 use Rattle.chi_search.specs.Positions.{IsReady, Position, is_left, position_of}
 use Rattle.chi_search.specs.Searchable.{AreSorted}
 use Rattle.chi_search.specs.StateSets.{Has}
-use Rattle.chi_search.proofs.Moves.{ByDropping, ByTaking, from_dropped, from_idle, from_taken, goes_on, left_is}
+use Rattle.chi_search.proofs.Moves.{ByDropping, from_dropped, from_idle, from_taken, goes_on, left_is}
 
 -- one step more, and one less
 pub walks_on : (ops : List Observed) (p q : Position) (path : List Step) (step : Step) → Walks ops p path (position_of step.from)
@@ -55,13 +56,22 @@ walks_end ops final p q (step ∷ path) x sorted h c =
 
 -- Where the states of a set are dead, no order goes on by an operation before a place.
 abbrev pub Tried : List Observed → Option ℕ → States → Position → ℕ → Type 0
-Tried ops last dead p k = AllDead ops last dead → (i : ℕ) → i < k → ByTaking ops last p i → ⊥
+Tried ops last dead p k = AllDead ops last dead → AreTried ops last p k
 
-pub none_tried : (ops : List Observed) (last : Option ℕ) (dead : States) (p : Position) → Tried ops last dead p p.first
-none_tried ops last dead p all i before taking = let is = left_is (length ops) p i taken.0 in absurd (omega (arith, is.1))
+pub none_tried : (ops : List Observed) (last : Option ℕ) (p : Position) → AreTried ops last p p.first
+none_tried ops last p i before taking = let is = left_is (length ops) p i taken.0 in absurd (omega (arith, is.1))
   where
     taken : CanCome ops p i
     taken = taking.0
+
+-- one step more, and one less
+pub tried_on : (ops : List Observed) (last : Option ℕ) (path : List Step) (step : Step) → AreTriedBefore ops last path
+    → AreTried ops last (position_of step.from) step.tried → AreTriedBefore ops last (path ++ step ∷ [])
+tried_on ops last path step before tried = All-push (λ s. AreTried ops last (position_of s.from) s.tried) path step before tried
+
+pub tried_back : (ops : List Observed) (last : Option ℕ) (path : List Step) (step : Step) → AreTriedBefore ops last (path ++ step ∷ [])
+    → AreTriedBefore ops last path × AreTried ops last (position_of step.from) step.tried
+tried_back ops last path step before = All-pop (λ s. AreTried ops last (position_of s.from) s.tried) (path ++ step ∷ []) path (Some step) refl before
 
 -- an operation that fits nothing
 pub refused_more : (ops : List Observed) (last : Option ℕ) (dead : States) (p : Position) (k : ℕ) → Tried ops last dead p k

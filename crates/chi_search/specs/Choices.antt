@@ -2,25 +2,23 @@
 use Rattle.std.specs.Prelude.{ℕ, Option}
 use Rattle.chi_search.specs.declared.choice.Choice.{Choice}
 use Rattle.chi_search.specs.declared.choice.Choice.TheVariants.{Ended, Step, Dead}
-use Rattle.chi_search.specs.declared.choice.Taken.{Taken}
-use Rattle.chi_search.specs.declared.choice.Taken.TheVariants.{No, Yes, Idle}
 
 abbrev pub IfEnded : Choice → Type 0 → Type 0
 IfEnded Ended A = A
-IfEnded (Step op) A = Unit {0}
+IfEnded (Step op tried) A = Unit {0}
 IfEnded Dead A = Unit {0}
 
 abbrev pub IfStep : Choice → (Option ℕ → Type 0) → Type 0
 IfStep Ended P = Unit {0}
-IfStep (Step op) P = P op
+IfStep (Step op tried) P = P op
 IfStep Dead P = Unit {0}
+
+abbrev pub IfTried : Choice → (ℕ → Type 0) → Type 0
+IfTried Ended P = Unit {0}
+IfTried (Step op tried) P = P tried
+IfTried Dead P = Unit {0}
 
 abbrev pub IfDead : Choice → Type 0 → Type 0
 IfDead Ended A = Unit {0}
-IfDead (Step op) A = Unit {0}
+IfDead (Step op tried) A = Unit {0}
 IfDead Dead A = A
-
-abbrev pub IfTaken : Taken → Type 0 → Type 0
-IfTaken No A = Unit {0}
-IfTaken Yes A = A
-IfTaken Idle A = A

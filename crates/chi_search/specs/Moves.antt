@@ -26,6 +26,11 @@ pub record Drops (ops : List Observed) (p q : Position) : Type 0 where
   pub word : q.word ≡ p.word
   pub left : Settles (length ops) p p.first q
 
+-- some order goes on by the operation
+abbrev pub ByTaking : List Observed → Option ℕ → Position → ℕ → Type 0
+ByTaking ops final p i =
+    CanCome ops p i × Fits (at ops i) p.word × (next (at ops i) p.word < 2 ^ 64) × ((q : Position) → Takes ops p i q → Ends ops final q)
+
 -- the operation leaves each word that it fits as it is
 abbrev pub IsIdle : Observed → Type 0
 IsIdle op = (w : ℕ) → w < 2 ^ 64 → Fits op w → next op w ≡ w

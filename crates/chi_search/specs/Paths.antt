@@ -1,10 +1,10 @@
 -- the path of a search from its start, and what is known of the states that it left
-use Rattle.std.specs.Prelude.{◌≡◌, ℕ, ◌^◌, ◌<◌, ◌≤◌, List, [], ◌∷◌, length, slice_index, Option, Some, None}
+use Rattle.std.specs.Prelude.{◌≡◌, ℕ, ◌^◌, ◌<◌, ◌≤◌, List, [], ◌∷◌, All, length, slice_index, Option, Some, None}
 use Rattle.chi_trace.specs.declared.observed.Observed.{Observed}
 use Rattle.chi_trace.specs.Explains.{at}
 use Rattle.chi_search.specs.declared.path.Step.{Step}
 use Rattle.chi_search.specs.declared.states.States.{States}
-use Rattle.chi_search.specs.Moves.{CanCome, Drops, Ends, Takes}
+use Rattle.chi_search.specs.Moves.{ByTaking, CanCome, Drops, Ends, Takes}
 use Rattle.chi_search.specs.Positions.{IsReady, Position, position_of}
 use Rattle.chi_search.specs.StateSets.{Has}
 
@@ -18,6 +18,14 @@ IsDead ops last p = Ends ops last p → ⊥
 
 abbrev pub AllDead : List Observed → Option ℕ → States → Type 0
 AllDead ops last states = (p : Position) → Has states p → IsDead ops last p
+
+-- The operations before a place were tried: no order goes on by one of them.
+abbrev pub AreTried : List Observed → Option ℕ → Position → ℕ → Type 0
+AreTried ops last p place = (i : ℕ) → i < place → ByTaking ops last p i → ⊥
+
+-- and so were those before the place to which each step of a path had come
+abbrev pub AreTriedBefore : List Observed → Option ℕ → List Step → Type 0
+AreTriedBefore ops last path = All (λ step. AreTried ops last (position_of step.from) step.tried) path
 
 -- one move: an operation is taken, or the first one is left out
 unfoldable pub Moves : List Observed → Position → Option ℕ → Position → Type 0

@@ -3,32 +3,25 @@
 ghost use Rattle.std.specs.Prelude.{◌≡◌, ℕ, ◌^◌, ◌<◌, ◌≤◌, IsTrue, Option, None, IfSome, IfOk, length, true, false};
 ghost use Rattle.chi_trace.specs.Explains.{at};
 ghost use Rattle.chi_trace.specs.Granules.{Fits};
-ghost use Rattle.chi_search.specs.Choices.{IfDead, IfEnded, IfStep, IfTaken};
+ghost use Rattle.chi_search.specs.Choices.{IfDead, IfEnded, IfStep, IfTried};
 ghost use Rattle.chi_search.specs.Moves.{CanCome, Drops, IsIdle, Takes};
-ghost use Rattle.chi_search.specs.Paths.{AllDead, AreEarliest, IsDead, Moves};
+ghost use Rattle.chi_search.specs.Paths.{AllDead, AreEarliest, AreTried, IsDead, Moves};
 ghost use Rattle.chi_search.specs.Positions.{IsReady, position_of};
 ghost use Rattle.chi_search.specs.Searchable.{AreSorted, AreWithin};
 
 use crate::state::{State, is_left, settle};
 use crate::states::{States, has};
-use crate::step::{is_idle, step};
+use crate::step::{stays, step};
 use chi_trace::Observed;
 use std::alloc::AllocError;
 
-/// Whether an operation can be taken, and whether it then changes nothing wherever it stands.
-#[derive(Clone, Copy)]
-pub(crate) enum Taken {
-    No,
-    Yes,
-    Idle,
-}
-
 /// What can be done at a state: nothing, since none is left and the word is the observed one; a step, by an operation that
-/// is taken, or without one where the first is left out; or nothing, since no order goes on from here.
+/// is taken, or without one where the first is left out, with the place before which all operations were tried; or nothing,
+/// since no order goes on from here.
 #[derive(Clone, Copy)]
 pub(crate) enum Choice {
     Ended,
-    Step { op: Option<usize> },
+    Step { op: Option<usize>, tried: usize },
     Dead,
 }
 
@@ -38,32 +31,48 @@ pub(crate) fn take(
     state: &State,
     place: usize,
     next: &mut State,
-) -> Result<Taken, AllocError>
+) -> Result<bool, AllocError>
     requires within { AreWithin ops.now }
     requires place { place < length ops.now }
     requires first { state.now.first < length ops.now }
-    ensures comes { IfOk result (λ taken. IfTaken taken (CanCome ops.now (position_of state.now) place)) }
-    ensures takes { IfOk result (λ taken. IfTaken taken (Takes ops.now (position_of state.now) place (position_of next.new))) }
-    ensures ready { IfOk result (λ taken. IfTaken taken (IsReady (length ops.now) (position_of next.new))) }
-    ensures finds { IfOk result (λ taken. IfTaken taken (state.now.word < 2 ^ 64)) }
-    ensures leaves { IfOk result (λ taken. IfTaken taken (next.new.word < 2 ^ 64)) }
-    ensures refused { IfOk result (λ taken. taken ≡ Taken.No → CanCome ops.now (position_of state.now) place → Fits (at ops.now place) state.now.word → ⊥) }
-    ensures idle { IfOk result (λ taken. taken ≡ Taken.Idle → IsIdle (at ops.now place)) }
+    ensures comes { IfOk result (λ is. IsTrue is → CanCome ops.now (position_of state.now) place) }
+    ensures takes { IfOk result (λ is. IsTrue is → Takes ops.now (position_of state.now) place (position_of next.new)) }
+    ensures ready { IfOk result (λ is. IsTrue is → IsReady (length ops.now) (position_of next.new)) }
+    ensures finds { IfOk result (λ is. IsTrue is → state.now.word < 2 ^ 64) }
+    ensures leaves { IfOk result (λ is. IsTrue is → next.new.word < 2 ^ 64) }
+    ensures refused { IfOk result (λ is. is ≡ false → CanCome ops.now (position_of state.now) place → Fits (at ops.now place) state.now.word → ⊥) }
 {
     let op = &ops[place];
     if !is_left(state, ops.len(), place) || op.start > ops[state.first].end {
-        return Ok(Taken::No);
+        return Ok(false);
     }
-    let after = match step(op, state.word) {
-        Some(after) => after,
-        None => return Ok(Taken::No),
-    };
-    settle(state, ops.len(), place, after, next)?;
-    if is_idle(op, state.word, after) {
-        Ok(Taken::Idle)
-    } else {
-        Ok(Taken::Yes)
+    match step(op, state.word) {
+        Some(after) => {
+            settle(state, ops.len(), place, after, next)?;
+            Ok(true)
+        }
+        None => Ok(false),
     }
+}
+
+/// The place of an operation that can come next and is seen to change nothing, if there is one.
+pub(crate) fn idle_next(ops: &[Observed], earliest: &[u64], state: &State) -> Option<usize>
+    requires within { AreWithin ops.now }
+    requires earliest { AreEarliest ops.now earliest.now }
+    requires first { state.now.first < length ops.now }
+    ensures place { IfSome result (λ place. place < length ops.now) }
+    ensures idle { IfSome result (λ place. IsIdle (at ops.now place)) }
+{
+    let end = ops[state.first].end;
+    let mut place = state.first;
+    while place < ops.len() && earliest[place] <= end {
+        let op = &ops[place];
+        if op.start <= end && is_left(state, ops.len(), place) && stays(op, state.word) {
+            return Some(place);
+        }
+        place += 1;
+    }
+    None
 }
 
 /// Makes `next` the state without the first operation, where its reply was not seen.
@@ -87,23 +96,26 @@ pub(crate) fn leave_out(
     }
 }
 
-/// What can be done at a state, from which `next` is the next one. `earliest` has the earliest start from each place on,
-/// and `dead` is a set of states from which no order goes on.
+/// What can be done at a state, from which `next` is the next one, where the operations before the place `tried` were tried.
+/// `earliest` has the earliest start from each place on, and `dead` is a set of states from which no order goes on.
 pub(crate) fn choose(
     ops: &[Observed],
     earliest: &[u64],
     last: Option<u64>,
     dead: &States,
     state: &State,
+    tried: usize,
     next: &mut State,
 ) -> Result<Choice, AllocError>
     requires sorted { AreSorted ops.now }
     requires within { AreWithin ops.now }
     requires earliest { AreEarliest ops.now earliest.now }
     requires ready { IsReady (length ops.now) (position_of state.now) }
+    requires tried { AreTried ops.now last (position_of state.now) tried }
     ensures ended { IfOk result (λ choice. IfEnded choice ((length ops.now ≤ state.now.first) × IfSome last (λ seen. state.now.word ≡ seen))) }
     ensures moves { IfOk result (λ choice. IfStep choice (λ op. Moves ops.now (position_of state.now) op (position_of next.new))) }
     ensures ready { IfOk result (λ choice. IfStep choice (λ op. IsReady (length ops.now) (position_of next.new))) }
+    ensures tried { IfOk result (λ choice. IfTried choice (λ place. AllDead ops.now last dead.now → AreTried ops.now last (position_of state.now) place)) }
     ensures dead { IfOk result (λ choice. IfDead choice (AllDead ops.now last dead.now → IsDead ops.now last (position_of state.now))) }
 {
     if state.first >= ops.len() {
@@ -112,27 +124,35 @@ pub(crate) fn choose(
             _ => Ok(Choice::Ended),
         };
     }
-    let end = ops[state.first].end;
-    let mut place = state.first;
-    while place < ops.len() && earliest[place] <= end {
-        match take(ops, state, place, next)? {
-            Taken::No => {}
-            Taken::Yes => {
-                if !has(dead, next) {
-                    return Ok(Choice::Step { op: Some(place) });
-                }
-            }
-            Taken::Idle => {
+    if tried <= state.first {
+        if let Some(place) = idle_next(ops, earliest, state) {
+            if take(ops, state, place, next)? {
                 if has(dead, next) {
                     return Ok(Choice::Dead);
                 }
-                return Ok(Choice::Step { op: Some(place) });
+                return Ok(Choice::Step {
+                    op: Some(place),
+                    tried,
+                });
             }
+        }
+    }
+    let end = ops[state.first].end;
+    let mut place = tried;
+    while place < ops.len() && earliest[place] <= end {
+        if take(ops, state, place, next)? && !has(dead, next) {
+            return Ok(Choice::Step {
+                op: Some(place),
+                tried: place,
+            });
         }
         place += 1;
     }
     if leave_out(ops, state, next)? && !has(dead, next) {
-        return Ok(Choice::Step { op: None });
+        return Ok(Choice::Step {
+            op: None,
+            tried: place,
+        });
     }
     Ok(Choice::Dead)
 }

@@ -10,7 +10,7 @@ ghost use Rattle.chi_search.specs.Positions.{IsReady, Position, position_of, sta
 ghost use Rattle.chi_search.specs.Searchable.{AreSorted, AreWithin};
 ghost use Rattle.chi_search.specs.StateSets.{Has, positions};
 
-use crate::choice::{Taken, leave_out, take};
+use crate::choice::{idle_next, leave_out, take};
 use crate::progress::Progress;
 use crate::state::{State, first_state};
 use crate::states::{States, add, count, has, no_states, read};
@@ -45,13 +45,16 @@ fn add_moves(
     ensures ends { OnOk result ((v : ℕ) → SomeEnds ops.now states.new v ↔ (SomeEnds ops.now states.old v ⊎ Ends ops.now (Some v) (position_of state.now))) }
     ensures ready { OnOk result (AreReady ops.now states.old → AreReady ops.now states.new) }
 {
+    if let Some(place) = idle_next(ops, earliest, state) {
+        if take(ops, state, place, next)? {
+            return add_new(alloc, states, next);
+        }
+    }
     let end = ops[state.first].end;
     let mut place = state.first;
     while place < ops.len() && earliest[place] <= end {
-        match take(ops, state, place, next)? {
-            Taken::No => {}
-            Taken::Yes => add_new(alloc, states, next)?,
-            Taken::Idle => return add_new(alloc, states, next),
+        if take(ops, state, place, next)? {
+            add_new(alloc, states, next)?;
         }
         place += 1;
     }

@@ -59,23 +59,32 @@ pub fn order_of<P: Progress>(
     let mut path: Vec<Step> = Vec::new(alloc);
     let mut state = first_state(alloc, word);
     let mut next = first_state(alloc, word);
+    let mut tried = 0;
     while *budget > 0 {
-        match choose(ops, &earliest, last, &dead, &state, &mut next)? {
+        match choose(ops, &earliest, last, &dead, &state, tried, &mut next)? {
             Choice::Ended => {
                 let order = taken(alloc, &path)?;
                 return Ok(Found::Order(order));
             }
-            Choice::Step { op } => {
+            Choice::Step { op, tried: place } => {
                 *budget -= 1;
                 progress.look();
-                path.push(Step { from: state, op })?;
+                path.push(Step {
+                    from: state,
+                    op,
+                    tried: place,
+                })?;
                 state = next;
+                tried = state.first;
                 next = first_state(alloc, word);
             }
             Choice::Dead => {
                 add(alloc, &mut dead, &state)?;
                 match path.pop() {
-                    Some(step) => state = step.from,
+                    Some(step) => {
+                        state = step.from;
+                        tried = step.tried;
+                    }
                     None => return Ok(Found::Nothing),
                 }
             }

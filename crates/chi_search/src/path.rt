@@ -6,11 +6,13 @@ ghost use Rattle.chi_search.specs.Paths;
 use crate::state::State;
 use std::alloc::{AllocError, Global};
 
-/// A step: the state from which it was made, and the operation that was taken, or none where the first was left out.
+/// A step: the state from which it was made, the operation that was taken, or none where the first was left out, and the
+/// place before which all operations were tried.
 #[derive(Drop)]
 pub(crate) struct Step {
     pub from: State,
     pub op: Option<usize>,
+    pub tried: usize,
 }
 
 /// The operations that were taken, in order.

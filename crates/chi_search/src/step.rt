@@ -40,6 +40,21 @@ pub(crate) fn step(op: &Observed, word: u64) -> Option<u64>
     }
 }
 
+/// Whether the operation fits the word, and is seen to leave each word that it fits as it is.
+pub(crate) fn stays(op: &Observed, word: u64) -> bool
+    requires { op.now.access.addr + op.now.access.len ≤ 2 ^ 52 }
+    ensures { IsTrue result → IsIdle op.now }
+{
+    // Only an operation with a reply that has data can be seen to change nothing.
+    match op.reply {
+        Some(Reply::CompData(_)) => match step(op, word) {
+            Some(after) => is_idle(op, word, after),
+            None => false,
+        },
+        _ => false,
+    }
+}
+
 /// Whether the operation is seen to leave each word that it fits as it is: its reply has the old data, and one word that
 /// it fits stays.
 pub(crate) fn is_idle(op: &Observed, word: u64, after: u64) -> bool

@@ -1,15 +1,16 @@
 -- an order of the path's operations, the path one step longer or shorter, and a start that is dead
 use Rattle.std.proofs.Common.{◌≡◌, ◌-◌, ◌≤◌, List, [], ◌++◌, IfSome, length, take, append-nil, sym, ap, subst, ◌∙◌, arith}
+use Rattle.std.proofs.lemmas.List.Elements.{All-nil}
 use Rattle.chi_trace.specs.Explains.{is_place}
 use Rattle.chi_trace.specs.Granules.{Finishes}
 use Rattle.chi_search.specs.declared.choice.Choice.{Choice}
 use Rattle.chi_search.specs.declared.path.Step.{Step}
-use Rattle.chi_search.specs.Choices.{IfDead, IfEnded, IfStep}
-use Rattle.chi_search.specs.Paths.{AllDead, IsDead, Moves, Walks, taken}
+use Rattle.chi_search.specs.Choices.{IfDead, IfEnded, IfStep, IfTried}
+use Rattle.chi_search.specs.Paths.{AllDead, AreTried, AreTriedBefore, IsDead, Moves, Walks, taken}
 use Rattle.chi_search.specs.Positions.{IsReady, Position, position_of, start}
 use Rattle.chi_search.proofs.Looking.{none_more, one_more}
 use Rattle.chi_search.proofs.Moves.{ended}
-use Rattle.chi_search.proofs.Paths.{moves_ready, walks_back, walks_end, walks_on}
+use Rattle.chi_search.proofs.Paths.{moves_ready, none_tried, tried_back, tried_on, walks_back, walks_end, walks_on}
 use Rattle.chi_search.proofs.Start.{at_start, from_start, more_dead, none_dead, ready_at_start}
 use Rattle.chi_search.proofs.order.order_of.Goals as goal
 
@@ -20,6 +21,8 @@ loop-budget-init g c = record {
       (sym c.first_state-state.ensures);
   ready = subst (λ (p : Position). IsReady (length c.args.ops.now) p) (sym c.first_state-state.ensures) (ready_at_start (length c.args.ops.now) c.args.word);
   dead = none_dead c.args.ops.now c.args.last c.no_states-dead.result c.no_states-dead.ensures;
+  tried = λ i before. absurd (omega (arith, before));
+  before = subst (AreTriedBefore c.args.ops.now c.args.last) (sym c.new-path.ensures.items) (All-nil _);
   left = omega arith;
   looked = none_more g.P.Progress.looked c.args.progress.now (c.args.budget.now - c.args.budget.now) (omega arith);
 }
@@ -38,12 +41,18 @@ pub loop-budget-preserved-in-Step : goal.loop-budget-preserved-in-Step
 loop-budget-preserved-in-Step g c =
     let moves = subst (λ (choice : Choice). IfStep choice (λ op. Moves c.args.ops.now (position_of c.loop-budget.state) op (position_of c.choose.new.next)))
     c.in-Step.is c.in_ok-choose.ensures.moves in
+    let tried = subst (λ (choice : Choice). IfTried choice (λ place. AllDead c.args.ops.now c.args.last c.loop-budget.dead
+    → AreTried c.args.ops.now c.args.last (position_of c.loop-budget.state) place)) c.in-Step.is c.in_ok-choose.ensures.tried in
     record {
       walks = subst (λ (path : List Step). Walks c.args.ops.now (start c.args.word) path (position_of c.choose.new.next)) (sym c.in_ok-push-in-Step.ensures.items)
-          (walks_on c.args.ops.now (start c.args.word) (position_of c.choose.new.next) c.loop-budget.path.items (record { from = c.loop-budget.state; op = c.in-Step.op })
+          (walks_on c.args.ops.now (start c.args.word) (position_of c.choose.new.next) c.loop-budget.path.items (record { from = c.loop-budget.state; op = c.in-Step.op; tried = c.in-Step.place })
           c.loop-budget.invariant.walks moves);
       ready = subst (λ (choice : Choice). IfStep choice (λ op. IsReady (length c.args.ops.now) (position_of c.choose.new.next))) c.in-Step.is c.in_ok-choose.ensures.ready;
       dead = c.loop-budget.invariant.dead;
+      tried = none_tried c.args.ops.now c.args.last (position_of c.choose.new.next);
+      before = subst (AreTriedBefore c.args.ops.now c.args.last) (sym c.in_ok-push-in-Step.ensures.items)
+          (tried_on c.args.ops.now c.args.last c.loop-budget.path.items (record { from = c.loop-budget.state; op = c.in-Step.op; tried = c.in-Step.place })
+          c.loop-budget.invariant.before (tried c.loop-budget.invariant.dead));
       left = omega arith;
       looked = one_more g.P.Progress.looked c.args.progress.now c.loop-budget.progress c.look.new.self c.args.budget.now c.loop-budget.budget c.loop-budget.invariant.left
           c.loop-budget-test.true c.loop-budget.invariant.looked c.look.ensures;
@@ -55,11 +64,15 @@ loop-budget-preserved g c =
     (subst (λ (path : List Step). Walks c.args.ops.now (start c.args.word) path (position_of c.loop-budget.state)) c.in-Some.ensures.items c.loop-budget.invariant.walks) in
     let dead = subst (λ (choice : Choice). IfDead choice (AllDead c.args.ops.now c.args.last c.loop-budget.dead → IsDead c.args.ops.now c.args.last (position_of c.loop-budget.state)))
     c.in-Dead.is c.in_ok-choose.ensures.dead in
+    let before = tried_back c.args.ops.now c.args.last c.pop.new.self.items c.in-Some.step
+    (subst (AreTriedBefore c.args.ops.now c.args.last) c.in-Some.ensures.items c.loop-budget.invariant.before) in
     record {
       walks = back.0;
       ready = moves_ready c.args.ops.now (position_of c.in-Some.step.from) (position_of c.loop-budget.state) c.in-Some.step.op back.1;
       dead = more_dead c.args.ops.now c.args.last c.loop-budget.dead c.add.new.states (position_of c.loop-budget.state) c.in_ok-add-in-Dead.ensures c.loop-budget.invariant.dead
           (dead c.loop-budget.invariant.dead);
+      tried = before.1;
+      before = before.0;
       left = c.loop-budget.invariant.left;
       looked = c.loop-budget.invariant.looked;
     }

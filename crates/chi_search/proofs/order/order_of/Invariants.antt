@@ -1,7 +1,7 @@
--- the path leads from the start to the state, which is ready, the states of the set are dead, and what the budget lost was looked at
+-- the path leads from the start to the state, which is ready, the states of the set are dead, operations before `tried` were tried, and what the budget lost was looked at
 use Rattle.std.proofs.Common.{◌+◌, ◌-◌, ◌*◌, ◌≤◌, length}
 use Rattle.chi_search.specs.Looks.{LookedMore}
-use Rattle.chi_search.specs.Paths.{AllDead, Walks}
+use Rattle.chi_search.specs.Paths.{AllDead, AreTried, AreTriedBefore, Walks}
 use Rattle.chi_search.specs.Positions.{IsReady, position_of, start}
 use Rattle.chi_search.proofs.order.order_of.Given as goal
 
@@ -10,6 +10,8 @@ invariant-loop-budget g l = record {
   walks : Walks l.ops (start l.fn.word) l.path.items (position_of l.state);
   ready : IsReady (length l.ops) (position_of l.state);
   dead : AllDead l.ops l.fn.last l.dead;
+  tried : AreTried l.ops l.fn.last (position_of l.state) l.tried;
+  before : AreTriedBefore l.ops l.fn.last l.path.items;
   left : l.budget ≤ l.initial.budget;
   looked : LookedMore g.P.Progress.looked l.initial.progress l.progress (l.initial.budget - l.budget);
 }
