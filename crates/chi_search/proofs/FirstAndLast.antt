@@ -34,15 +34,15 @@ pub chained : (A B C : Type 0) → A ↔ B → B ↔ C → A ↔ C
 chained A B C first second = (λ a. second.0 (first.0 a), λ c. first.1 (second.1 c))
 
 -- where none is left the words are those of the states
-pub last_leads : (ops : List Observed) (words each : List ℕ) (layer : States) → ((p : Position) → Has layer p → length ops ≤ p.first)
-    → ((w : ℕ) → Contains each w ↔ ((p : Position) × Has layer p × (p.word ≡ w))) → ((v : ℕ) → SomeEnds ops layer v ↔ SomeLeads ops words v)
-    → (v : ℕ) → Contains each v ↔ SomeLeads ops words v
-last_leads ops words each layer past are leads v = (forth, back)
+pub last_leads : (ops : List Observed) (Leading : ℕ → Type 0) (each : List ℕ) (layer : States) → ((p : Position) → Has layer p → length ops ≤ p.first)
+    → ((w : ℕ) → Contains each w ↔ ((p : Position) × Has layer p × (p.word ≡ w))) → ((v : ℕ) → SomeEnds ops layer v ↔ Leading v)
+    → (v : ℕ) → Contains each v ↔ Leading v
+last_leads ops Leading each layer past are leads v = (forth, back)
   where
-    forth : Contains each v → SomeLeads ops words v
+    forth : Contains each v → Leading v
     forth has = let of = (are v).0 has in (leads v).0 (of.0, of.1, ([], ended ops (Some v) of.0 (past of.0 of.1) of.2))
 
-    back : SomeLeads ops words v → Contains each v
+    back : Leading v → Contains each v
     back leading = at_last ((leads v).1 leading)
       where
         at_last : SomeEnds ops layer v → Contains each v

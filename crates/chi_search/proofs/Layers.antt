@@ -1,5 +1,5 @@
 -- the sets of states of a search by layers, and the words that can follow
-use Rattle.std.proofs.Common.{◌≡◌, ℕ, ◌+◌, ◌^◌, ◌<◌, ◌≤◌, ◌⊎◌, ◌↔◌, List, [], ◌∷◌, get_or, length, slice_index, None, Some, sym, ap, subst, ◌∙◌, arith, inl, inr, below_more}
+use Rattle.std.proofs.Common.{◌≡◌, ℕ, ◌+◌, ◌-◌, ◌^◌, ◌<◌, ◌≤◌, ◌⊎◌, ◌↔◌, All, List, [], ◌∷◌, ◌++◌, length-append, get_or, length, slice_index, None, Some, sym, ap, subst, ◌∙◌, arith, inl, inr, below_more}
 use Rattle.std.proofs.lemmas.Bool.{cases_lt}
 use Rattle.std.specs.Prelude.{slice_get}
 use Rattle.std.proofs.lemmas.List.{get_or_read}
@@ -8,6 +8,7 @@ use Rattle.std.proofs.lemmas.Option.{get_or_from_slice_get, slice_get_within}
 use Rattle.chi_trace.specs.declared.observed.Observed.{Observed}
 use Rattle.chi_trace.specs.Explains.{at, nothing}
 use Rattle.chi_trace.specs.Granules.{Fits}
+use Rattle.chi_trace.proofs.Segments.{at_later}
 use Rattle.chi_search.specs.declared.states.States.{States}
 use Rattle.chi_search.specs.Layers.{AreReady, SomeEnds}
 use Rattle.chi_search.specs.Moves.{ByTaking, CanCome, Drops, Ends, IsIdle, Takes}
@@ -15,7 +16,9 @@ use Rattle.chi_search.specs.Paths.{AreEarliest}
 use Rattle.chi_search.specs.Positions.{IsReady, Position}
 use Rattle.chi_search.specs.Searchable.{AreSorted}
 use Rattle.chi_search.specs.StateSets.{Has, positions}
-use Rattle.chi_search.proofs.Moves.{ByDropping, from_dropped, from_idle, from_taken, goes_on, left_is}
+use Rattle.chi_search.proofs.Moves.{ByDropping, from_dropped, from_idle, from_taken, goes_on}
+use Rattle.chi_search.proofs.Settling.{left_is}
+use Rattle.chi_search.proofs.Following.{at_before}
 use Rattle.chi_search.proofs.Paths.{all_late}
 use Rattle.chi_search.proofs.Elements.{some_added}
 
@@ -38,7 +41,6 @@ pub record Grown (ops : List Observed) (old now : States) (p : Position) (k : �
   pub forth : (v : ℕ) → SomeEnds ops now v → SomeEnds ops old v ⊎ Ends ops (Some v) p
   pub back : (v : ℕ) → SomeEnds ops old v → SomeEnds ops now v
   pub tried : (v i : ℕ) → i < k → ByTaking ops (Some v) p i → SomeEnds ops now v
-  pub ready : AreReady ops old → AreReady ops now
 
 -- none is before the first
 pub not_grown : (ops : List Observed) (old : States) (p : Position) → Grown ops old old p p.first
@@ -46,7 +48,6 @@ not_grown ops old p = record {
   forth = λ v some. inl some;
   back = λ v some. some;
   tried = λ v i before taking. none v i before taking;
-  ready = λ all. all;
 }
   where
     none : (v i : ℕ) → i < p.first → ByTaking ops (Some v) p i → SomeEnds ops old v
@@ -56,13 +57,12 @@ not_grown ops old p = record {
         taken = taking.0
 
 -- one state more that p can come to
-pub grown_by : (ops : List Observed) (old now new : States) (p q : Position) (k : ℕ) → Grown ops old now p k → IsAdded new now q → IsReady (length ops) q
+pub grown_by : (ops : List Observed) (old now new : States) (p q : Position) (k : ℕ) → Grown ops old now p k → IsAdded new now q
     → ((v : ℕ) → Ends ops (Some v) q → Ends ops (Some v) p) → Grown ops old new p k
-grown_by ops old now new p q k grown added ready leads = record {
+grown_by ops old now new p q k grown added leads = record {
   forth = forth;
   back = λ v some. still v (grown.back v some);
   tried = λ v i before taking. still v (grown.tried v i before taking);
-  ready = λ all. ready_more ops new now q added ready (grown.ready all);
 }
   where
     still : (v : ℕ) → SomeEnds ops now v → SomeEnds ops new v
@@ -81,26 +81,24 @@ grown_refused ops old now p k grown refused = record {
   forth = grown.forth;
   back = grown.back;
   tried = λ v. below_more (λ i. ByTaking ops (Some v) p i → SomeEnds ops now v) k (grown.tried v) (λ taking. absurd (refused taking.0 taking.1));
-  ready = grown.ready;
 }
 
 -- orders that begin by it go on from the state after it
-takes_on : (ops : List Observed) (p q : Position) (k v : ℕ) → AreSorted ops → CanCome ops p k → Takes ops p k q → q.word < 2 ^ 64
+takes_to : (ops : List Observed) (p q : Position) (k v : ℕ) → AreSorted ops → CanCome ops p k → Takes ops p k q → q.word < 2 ^ 64
     → Ends ops (Some v) q → Ends ops (Some v) p
-takes_on ops p q k v sorted comes takes below (x, c) = (k ∷ x, from_taken ops (Some v) p q k x sorted comes takes below c)
+takes_to ops p q k v sorted comes takes below (x, c) = (k ∷ x, from_taken ops (Some v) p q k x sorted comes takes below c)
 
-pub grown_taken : (ops : List Observed) (old now new : States) (p q : Position) (k : ℕ) → Grown ops old now p k → IsAdded new now q → IsReady (length ops) q
+pub grown_taken : (ops : List Observed) (old now new : States) (p q : Position) (k : ℕ) → Grown ops old now p k → IsAdded new now q
     → AreSorted ops → CanCome ops p k → Takes ops p k q → q.word < 2 ^ 64 → Grown ops old new p (k + 1)
-grown_taken ops old now new p q k grown added ready sorted comes takes below = record {
+grown_taken ops old now new p q k grown added sorted comes takes below = record {
   forth = more.forth;
   back = more.back;
   tried = λ v. below_more (λ i. ByTaking ops (Some v) p i → SomeEnds ops new v) k (more.tried v)
       (λ taking. (ends_more ops new now q added v).1 (inr (taking.3 q takes)));
-  ready = more.ready;
 }
   where
     more : Grown ops old new p k
-    more = grown_by ops old now new p q k grown added ready (λ v. takes_on ops p q k v sorted comes takes below)
+    more = grown_by ops old now new p q k grown added (λ v. takes_to ops p q k v sorted comes takes below)
 
 -- the words that can follow from p are among those that can follow from the set
 abbrev pub IsWhole : List Observed → States → States → Position → Type 0
@@ -115,10 +113,10 @@ whole ops old now p k grown all v = (grown.forth v, back)
     back (inr ends) = all v ends
 
 -- where an operation that changes nothing can come next, each order goes on from the state after it
-pub whole_idle : (ops : List Observed) (old new : States) (p q : Position) (k : ℕ) → IsAdded new old q → IsReady (length ops) q → AreSorted ops
+pub whole_idle : (ops : List Observed) (old new : States) (p q : Position) (k : ℕ) → IsAdded new old q → AreSorted ops
     → CanCome ops p k → Takes ops p k q → p.word < 2 ^ 64 → q.word < 2 ^ 64 → IsIdle (at ops k) → IsWhole ops new old p
-whole_idle ops old new p q k added ready sorted comes takes finds leaves idle =
-    whole ops old new p p.first (grown_by ops old old new p q p.first (not_grown ops old p) added ready (λ v. takes_on ops p q k v sorted comes takes leaves))
+whole_idle ops old new p q k added sorted comes takes finds leaves idle =
+    whole ops old new p p.first (grown_by ops old old new p q p.first (not_grown ops old p) added (λ v. takes_to ops p q k v sorted comes takes leaves))
     (λ v ends. (ends_more ops new old q added v).1 (inr (from_idle ops (Some v) p q k finds comes idle takes ends)))
 
 -- No operation from the place on can come next: so each order begins by one before it, or without the first.
@@ -130,6 +128,22 @@ pub is_late : (ops : List Observed) (times : List ℕ) (p : Position) (k : ℕ) 
 is_late ops times p k op below earliest is late =
     subst (λ (o : Observed). (i : ℕ) → k ≤ i → i < length ops → o.end < (at ops i).start) (sym is ∙ get_or_read ops p.first op below is nothing)
     (all_late ops times k (get_or ops p.first op).end earliest late)
+
+pub late_on : (ops more : List Observed) (p : Position) (k : ℕ) → p.first < length ops → IsLate ops p k → All (λ op. (at ops p.first).end < op.start) more
+    → IsLate (ops ++ more) p k
+late_on ops more p k first late after i from within =
+    let end : (at (ops ++ more) p.first).end ≡ (at ops p.first).end = ap (λ (o : Observed). o.end) (at_before ops more p.first first) in
+    elim (cases_lt i (length ops)) [
+      | inl below ↦
+          let start : (at (ops ++ more) i).start ≡ (at ops i).start = ap (λ (o : Observed). o.start) (at_before ops more i below) in
+          let apart : (at ops p.first).end < (at ops i).start = late i from below in
+          omega (arith, start, end, apart)
+      | inr past ↦
+          let same : length ops + (i - length ops) ≡ i = omega arith in
+          let start : (at (ops ++ more) i).start ≡ (at more (i - length ops)).start = ap (λ (o : Observed). o.start) (rw same at (at_later ops more (i - length ops))) in
+          let apart : (at ops p.first).end < (at more (i - length ops)).start = after (i - length ops) nothing (omega (arith, past, within, length-append ops more)) in
+          omega (arith, start, end, apart)
+    ]
 
 begins : (ops : List Observed) (old now : States) (p : Position) (k v : ℕ) → Grown ops old now p k → AreSorted ops → IsReady (length ops) p → p.first < length ops
     → IsLate ops p k → (ByDropping ops (Some v) p → SomeEnds ops now v) → Ends ops (Some v) p → SomeEnds ops now v
@@ -148,16 +162,16 @@ begins ops old now p k v grown sorted ready below late dropping (x, c) = elim (g
         omega (arith, later, comes.1)
 
 -- without the first, where its reply was not seen
-pub whole_dropped : (ops : List Observed) (old now new : States) (p q : Position) (k : ℕ) → Grown ops old now p k → IsAdded new now q → IsReady (length ops) q
+pub whole_dropped : (ops : List Observed) (old now new : States) (p q : Position) (k : ℕ) → Grown ops old now p k → IsAdded new now q
     → AreSorted ops → IsReady (length ops) p → p.first < length ops → IsLate ops p k → Drops ops p q → IsWhole ops new old p
-whole_dropped ops old now new p q k grown added after sorted ready below late drops =
+whole_dropped ops old now new p q k grown added sorted ready below late drops =
     whole ops old new p k more (λ v. begins ops old new p k v more sorted ready below late (λ dropping. (ends_more ops new now q added v).1 (inr (dropping.1 q drops))))
   where
     leads : (v : ℕ) → Ends ops (Some v) q → Ends ops (Some v) p
     leads v (x, c) = (x, from_dropped ops (Some v) p q x ready below drops c)
 
     more : Grown ops old new p k
-    more = grown_by ops old now new p q k grown added after leads
+    more = grown_by ops old now new p q k grown added leads
 
 -- and where it was seen
 pub whole_answered : (ops : List Observed) (old now : States) (p : Position) (k : ℕ) → Grown ops old now p k

@@ -1,8 +1,10 @@
 pub mod Applied
 pub mod Bits
+pub mod Dropped
 pub mod Elements
 pub mod FirstAndLast
 pub mod Idle
+pub mod Following
 pub mod Layers
 pub mod Looking
 pub mod Moves
@@ -11,3 +13,4 @@ pub mod Paths
 pub mod Sets
 pub mod Settling
 pub mod Start
+pub mod Telling

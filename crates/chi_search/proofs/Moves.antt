@@ -1,6 +1,6 @@
 -- the moves from a position, and the orders that go on from it
-use Rattle.std.proofs.Common.{◌≡◌, ℕ, suc, zero, ◌^◌, ◌<◌, ◌≤◌, ◌==◌, ◌⊎◌, nat_le, nat_lt, Bool, true, false, not, List, [], ◌∷◌, All, get_or, length, Option, None, IfSome, refl, sym, ap, subst, ◌∙◌, arith, inl, inr, ltb-true, le-ltb, eqb-true, ◌&&◌}
-use Rattle.std.proofs.lemmas.Bool.{and_left, and_parts, cases_lt, leb-true}
+use Rattle.std.proofs.Common.{◌≡◌, ℕ, suc, zero, ◌^◌, ◌<◌, ◌≤◌, ◌==◌, ◌⊎◌, nat_le, nat_lt, Bool, true, false, not, List, [], ◌∷◌, All, get_or, length, Option, None, IfSome, refl, sym, ap, subst, ◌∙◌, arith, inl, inr, le-ltb, eqb-true, ◌&&◌}
+use Rattle.std.proofs.lemmas.Bool.{and_left, and_parts, cases_lt}
 use Rattle.std.proofs.lemmas.Bool.Decides.{nat_tests}
 use Rattle.chi_history.specs.History.{one_if}
 use Rattle.chi_trace.specs.declared.observed.Observed.{Observed}
@@ -10,13 +10,8 @@ use Rattle.chi_trace.proofs.Places.{passes}
 use Rattle.chi_search.specs.Moves.{ByTaking, CanCome, Drops, Ends, IsIdle, Takes}
 use Rattle.chi_search.specs.Positions.{IsReady, Position, is_left}
 use Rattle.chi_search.specs.Searchable.{AreSorted}
+use Rattle.chi_search.proofs.Settling.{left_is, left_settles}
 use Rattle.chi_search.proofs.Orders.{cons, first_early, first_fits, first_left, idle_first, no_reply, parts, peel, settled_without, without, without_one}
-
--- an operation that is left is one of the operations, and none before the first
-pub left_is : (n : ℕ) (p : Position) (i : ℕ) → is_left n p i ≡ true → (i < n) × (p.first ≤ i)
-left_is n p i left =
-    let both = and_parts (nat_lt i n) (nat_le p.first i && not _) left in
-    (ltb-true i n both.0, leb-true p.first i (and_parts (nat_le p.first i) (not _) both.1).0)
 
 -- the first operation ends first
 pub first_ends : (ops : List Observed) (p : Position) (i : ℕ) → AreSorted ops → is_left (length ops) p i ≡ true → (at ops p.first).end ≤ (at ops i).end
@@ -26,14 +21,14 @@ first_ends ops p i sorted left = let is = left_is (length ops) p i left in sorte
 pub from_taken : (ops : List Observed) (final : Option ℕ) (p q : Position) (i : ℕ) (x : List ℕ) → AreSorted ops → CanCome ops p i → Takes ops p i q → q.word < 2 ^ 64
     → Finishes ops (is_left (length ops) q) q.word final x → Finishes ops (is_left (length ops) p) p.word final (i ∷ x)
 from_taken ops final p q i x sorted comes takes below c =
-    cons ops (is_left (length ops) p) (is_left (length ops) q) p.word final i x (parts (is_left (length ops) p) (is_left (length ops) q) i comes.0 takes.left) takes.fits
+    cons ops (is_left (length ops) p) (is_left (length ops) q) p.word final i x (parts (is_left (length ops) p) (is_left (length ops) q) i comes.0 (left_settles (length ops) p i q takes.left)) takes.fits
     (subst (λ w. w < 2 ^ 64) takes.word below) early (subst (λ w. Finishes ops (is_left (length ops) q) w final x) takes.word c)
   where
     early : All (λ k. (at ops i).start ≤ (at ops k).end) x
     early k d under =
         let j : ℕ = get_or x k d in
         let left_q : is_left (length ops) q j ≡ true = passes (is_left (length ops) q) x c.once k d under in
-        let left_p : is_left (length ops) p j ≡ true = (and_parts (is_left (length ops) p j) (not (j == i)) (sym (takes.left j) ∙ left_q)).0 in
+        let left_p : is_left (length ops) p j ≡ true = (and_parts (is_left (length ops) p j) (not (j == i)) (sym (left_settles (length ops) p i q takes.left j) ∙ left_q)).0 in
         let ends : (at ops p.first).end ≤ (at ops j).end = first_ends ops p j sorted left_p in
         let starts : (at ops i).start ≤ (at ops p.first).end = comes.1 in
         omega (arith, starts, ends)
@@ -42,7 +37,7 @@ from_taken ops final p q i x sorted comes takes below c =
 pub from_dropped : (ops : List Observed) (final : Option ℕ) (p q : Position) (x : List ℕ) → IsReady (length ops) p → p.first < length ops → Drops ops p q
     → Finishes ops (is_left (length ops) q) q.word final x → Finishes ops (is_left (length ops) p) p.word final x
 from_dropped ops final p q x ready below drops c =
-    without_one ops (is_left (length ops) p) (is_left (length ops) q) p.word final p.first x (parts (is_left (length ops) p) (is_left (length ops) q) p.first (ready.1 below) drops.left)
+    without_one ops (is_left (length ops) p) (is_left (length ops) q) p.word final p.first x (parts (is_left (length ops) p) (is_left (length ops) q) p.first (ready.left below) (left_settles (length ops) p p.first q drops.left))
     drops.unanswered (subst (λ w. Finishes ops (is_left (length ops) q) w final x) drops.word c)
 
 -- An order that goes on begins by an operation, or without the first.
@@ -57,7 +52,7 @@ dropping ops final p x ready below absent c = (
     x,
     subst (λ w. Finishes ops (is_left (length ops) q) w final x) (sym drops.word)
         (settled_without ops (is_left (length ops) p) (is_left (length ops) q) p.word final p.first x
-        (parts (is_left (length ops) p) (is_left (length ops) q) p.first (ready.1 below) drops.left) absent c),
+        (parts (is_left (length ops) p) (is_left (length ops) q) p.first (ready.left below) (left_settles (length ops) p p.first q drops.left)) absent c),
   ),
 )
   where
@@ -65,7 +60,7 @@ dropping ops final p x ready below absent c = (
     silent false is = is
     silent true is =
         let due : one_if (is_left (length ops) p p.first && is_answered (at ops p.first)) ≤ times_in x p.first = c.done p.first in
-        let one : (is_left (length ops) p p.first && is_answered (at ops p.first)) ≡ true = ap (λ b. b && is_answered (at ops p.first)) (ready.1 below) ∙ is in
+        let one : (is_left (length ops) p p.first && is_answered (at ops p.first)) ≡ true = ap (λ b. b && is_answered (at ops p.first)) (ready.left below) ∙ is in
         absurd (omega (arith, due, ap one_if one, absent))
 
 pub goes_on : (ops : List Observed) (final : Option ℕ) (p : Position) (x : List ℕ) → AreSorted ops → IsReady (length ops) p → p.first < length ops
@@ -98,7 +93,7 @@ goes_on ops final p (i ∷ y) sorted ready below c = by_times (times_in (i ∷ y
             λ q takes. (
               y,
               subst (λ w. Finishes ops (is_left (length ops) q) w final y) (sym takes.word)
-                  (peel ops (is_left (length ops) p) (is_left (length ops) q) p.word final i y (parts (is_left (length ops) p) (is_left (length ops) q) i left takes.left) c),
+                  (peel ops (is_left (length ops) p) (is_left (length ops) q) p.word final i y (parts (is_left (length ops) p) (is_left (length ops) q) i left (left_settles (length ops) p i q takes.left)) c),
             ),
           ),
         )
@@ -109,7 +104,7 @@ pub from_idle : (ops : List Observed) (final : Option ℕ) (p q : Position) (i :
 from_idle ops final p q i below comes idle takes (x, c) = (
   without i x,
   subst (λ w. Finishes ops (is_left (length ops) q) w final (without i x)) (sym (takes.word ∙ idle p.word below takes.fits))
-      (idle_first ops (is_left (length ops) p) (is_left (length ops) q) p.word final i x (parts (is_left (length ops) p) (is_left (length ops) q) i comes.0 takes.left) idle below c),
+      (idle_first ops (is_left (length ops) p) (is_left (length ops) q) p.word final i x (parts (is_left (length ops) p) (is_left (length ops) q) i comes.0 (left_settles (length ops) p i q takes.left)) idle below c),
 )
 
 -- where none is left the order is done

@@ -12,7 +12,8 @@ use Rattle.chi_search.specs.Paths.{AllDead, AreEarliest, AreTried, AreTriedBefor
 use Rattle.chi_search.specs.Positions.{IsReady, Position, is_left, position_of}
 use Rattle.chi_search.specs.Searchable.{AreSorted}
 use Rattle.chi_search.specs.StateSets.{Has}
-use Rattle.chi_search.proofs.Moves.{ByDropping, from_dropped, from_idle, from_taken, goes_on, left_is}
+use Rattle.chi_search.proofs.Moves.{ByDropping, from_dropped, from_idle, from_taken, goes_on}
+use Rattle.chi_search.proofs.Settling.{left_is}
 
 -- one step more, and one less
 pub walks_on : (ops : List Observed) (p q : Position) (path : List Step) (step : Step) → Walks ops p path (position_of step.from)

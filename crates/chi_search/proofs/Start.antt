@@ -8,7 +8,7 @@ use Rattle.chi_trace.specs.Explains.{is_place}
 use Rattle.chi_trace.specs.Granules.{Finishes}
 use Rattle.chi_search.specs.declared.states.States.{States}
 use Rattle.chi_search.specs.Paths.{AllDead, IsDead}
-use Rattle.chi_search.specs.Positions.{IsReady, Position, has_bit, is_left, start}
+use Rattle.chi_search.specs.Positions.{IsReady, Position, has_bit, is_left, is_unsettled, start}
 use Rattle.chi_search.specs.StateSets.{Has, positions}
 use Rattle.chi_search.proofs.Orders.{stays}
 
@@ -19,15 +19,22 @@ none_settled k = ap (λ w. bit_at w (k % 64) == 1) (word (k / 64)) ∙ ap (λ b.
     word zero = refl
     word (suc i) = refl
 
+pub unsettled_at_start : (w i : ℕ) → is_unsettled (start w) i ≡ true
+unsettled_at_start w i = let from : nat_le 0 i ≡ true = grind (arith, nat_tests) in rw (none_settled (i - 0)) (rw from refl)
+
 pub left_at_start : (n w i : ℕ) → is_left n (start w) i ≡ nat_lt i n
-left_at_start n w i = let from : nat_le 0 i ≡ true = grind (arith, nat_tests) in rw (none_settled (i - 0)) (rw from (by_test (nat_lt i n)))
+left_at_start n w i = ap (λ b. nat_lt i n && b) (unsettled_at_start w i) ∙ by_test (nat_lt i n)
   where
     by_test : (b : Bool) → (b && true) ≡ b
     by_test true = refl
     by_test false = refl
 
 pub ready_at_start : (n w : ℕ) → IsReady n (start w)
-ready_at_start n w = (omega arith, λ some. left_at_start n w 0 ∙ lt-ltb 0 n some)
+ready_at_start n w = record {
+  within = omega arith;
+  left = λ some. left_at_start n w 0 ∙ lt-ltb 0 n some;
+  later = λ j past. unsettled_at_start w j;
+}
 
 pub from_start : (ops : List Observed) (w : ℕ) (final : Option ℕ) (x : List ℕ) → Finishes ops (is_left (length ops) (start w)) w final x
     → Finishes ops (is_place ops) w final x

@@ -1,5 +1,6 @@
 pub mod Choices
 pub mod Found
+pub mod Frontiers
 pub mod Layers
 pub mod Looks
 pub mod Moves

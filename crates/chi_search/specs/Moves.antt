@@ -18,13 +18,13 @@ CanCome ops p i = (is_left (length ops) p i ≡ true) × ((at ops i).start ≤ (
 pub record Takes (ops : List Observed) (p : Position) (i : ℕ) (q : Position) : Type 0 where
   pub fits : Fits (at ops i) p.word
   pub word : q.word ≡ next (at ops i) p.word
-  pub left : Settles (length ops) p i q
+  pub left : Settles p i q
 
 -- the first operation is left out
 pub record Drops (ops : List Observed) (p q : Position) : Type 0 where
   pub unanswered : (at ops p.first).reply ≡ None
   pub word : q.word ≡ p.word
-  pub left : Settles (length ops) p p.first q
+  pub left : Settles p p.first q
 
 -- some order goes on by the operation
 abbrev pub ByTaking : List Observed → Option ℕ → Position → ℕ → Type 0

@@ -15,17 +15,27 @@ pub record Position : Type 0 where
   pub settled : List ℕ
   pub word : ℕ
 
--- the operation is one of so many, and not settled
+-- the operation is not settled
+abbrev pub is_unsettled : Position → ℕ → Bool
+is_unsettled p i = nat_le p.first i && not (has_bit p.settled (i - p.first))
+
+-- it is one of so many, and not settled
 abbrev pub is_left : ℕ → Position → ℕ → Bool
-is_left count p i = nat_lt i count && (nat_le p.first i && not (has_bit p.settled (i - p.first)))
+is_left count p i = nat_lt i count && is_unsettled p i
 
--- the first operation is left, if any is
-abbrev pub IsReady : ℕ → Position → Type 0
-IsReady count p = (p.first ≤ count) × (p.first < count → is_left count p p.first ≡ true)
+-- of so many operations the first is left, if any is, and so is each that comes after them
+pub record IsReady (count : ℕ) (p : Position) : Type 0 where
+  pub within : p.first ≤ count
+  pub left : p.first < count → is_left count p p.first ≡ true
+  pub later : (j : ℕ) → count ≤ j → is_unsettled p j ≡ true
 
--- what is left after operation i was settled
-abbrev pub Settles : ℕ → Position → ℕ → Position → Type 0
-Settles count p i q = (j : ℕ) → is_left count q j ≡ (is_left count p j && not (j == i))
+-- the position told without the first operations, which it has passed
+abbrev pub back_by : ℕ → Position → Position
+back_by k p = record p { first = p.first - k }
+
+-- what is not settled once operation i is too
+abbrev pub Settles : Position → ℕ → Position → Type 0
+Settles p i q = (j : ℕ) → is_unsettled q j ≡ (is_unsettled p j && not (j == i))
 
 -- the words of a set of numbers
 abbrev pub words_of : Settled → List ℕ

@@ -35,6 +35,7 @@ pub(crate) fn take(
     requires within { AreWithin ops.now }
     requires place { place < length ops.now }
     requires first { state.now.first < length ops.now }
+    requires ready { IsReady (length ops.now) (position_of state.now) }
     ensures comes { IfOk result (λ is. IsTrue is → CanCome ops.now (position_of state.now) place) }
     ensures takes { IfOk result (λ is. IsTrue is → Takes ops.now (position_of state.now) place (position_of next.new)) }
     ensures ready { IfOk result (λ is. IsTrue is → IsReady (length ops.now) (position_of next.new)) }

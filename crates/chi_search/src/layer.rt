@@ -1,8 +1,10 @@
 //! Sets of states, each one move after those of the one before.
 
-ghost use Rattle.std.specs.Prelude.{◌≡◌, ◌≢◌, ℕ, ◌+◌, ◌-◌, ◌<◌, ◌≤◌, ◌⊎◌, ◌↔◌, IfOk, IfSome, IsTrue, None, OnOk, false, length};
+ghost use Rattle.std.specs.Prelude.{◌≡◌, ◌≢◌, ℕ, ◌+◌, ◌-◌, ◌<◌, ◌≤◌, ◌⊎◌, ◌↔◌, IfOk, IfSome, IsTrue, List, None, ◌++◌, OnOk, false, length};
 ghost use Rattle.std.specs.List.{AllPairs, Contains};
-ghost use Rattle.chi_search.specs.Layers.{AreReady, SomeEnds};
+ghost use Rattle.chi_trace.specs.declared.observed.Observed.{Observed};
+ghost use Rattle.chi_trace.specs.Explains.{at};
+ghost use Rattle.chi_search.specs.Layers.{AreReady, ComeAfter, MayFollow, SomeEnds, Waits};
 ghost use Rattle.chi_search.specs.Looks.{LookedMore};
 ghost use Rattle.chi_search.specs.Moves.{Ends};
 ghost use Rattle.chi_search.specs.Paths.{AreEarliest};
@@ -11,6 +13,7 @@ ghost use Rattle.chi_search.specs.Searchable.{AreSorted, AreWithin};
 ghost use Rattle.chi_search.specs.StateSets.{Has, positions};
 
 use crate::choice::{idle_next, leave_out, take};
+use crate::earliest::earliest_starts;
 use crate::progress::Progress;
 use crate::state::{State, first_state};
 use crate::states::{States, add, count, has, no_states, read};
@@ -42,7 +45,7 @@ fn add_moves(
     requires earliest { AreEarliest ops.now earliest.now }
     requires first { state.now.first < length ops.now }
     requires ready { IsReady (length ops.now) (position_of state.now) }
-    ensures ends { OnOk result ((v : ℕ) → SomeEnds ops.now states.new v ↔ (SomeEnds ops.now states.old v ⊎ Ends ops.now (Some v) (position_of state.now))) }
+    ensures ends { OnOk result ((more : List Observed) → ComeAfter ops.now (at ops.now state.now.first).end more → (v : ℕ) → SomeEnds (ops.now ++ more) states.new v ↔ (SomeEnds (ops.now ++ more) states.old v ⊎ Ends (ops.now ++ more) (Some v) (position_of state.now))) }
     ensures ready { OnOk result (AreReady ops.now states.old → AreReady ops.now states.new) }
 {
     if let Some(place) = idle_next(ops, earliest, state) {
@@ -64,21 +67,36 @@ fn add_moves(
     Ok(())
 }
 
-/// The states that follow the states of a set by one move, and those of it in which none is left; or nothing, where the
-/// budget was spent.
-pub(crate) fn next_layer<P: Progress>(
+/// Whether a search waits that came to this first operation: none is left, or one that comes later might come next.
+fn waits(ops: &[Observed], horizon: Option<u64>, first: usize) -> bool
+    ensures waits { IsTrue result → Waits ops.now horizon first }
+    ensures first { result ≡ false → first < length ops.now }
+    ensures known { result ≡ false → IfSome horizon (λ time. (at ops.now first).end < time) }
+{
+    if first >= ops.len() {
+        return true;
+    }
+    match horizon {
+        Some(time) => time <= ops[first].end,
+        None => false,
+    }
+}
+
+/// The states that follow the states of a set by one move, and those of it that wait; or nothing, where the budget was spent.
+fn next_layer<P: Progress>(
     alloc: Global,
     ops: &[Observed],
     earliest: &[u64],
+    horizon: Option<u64>,
     layer: &States,
     budget: &mut u64,
     progress: &mut P,
 ) -> Result<Option<States>, AllocError>
-    requires sorted { AreSorted ops.now }
     requires within { AreWithin ops.now }
+    requires sorted { AreSorted ops.now }
     requires earliest { AreEarliest ops.now earliest.now }
     requires ready { AreReady ops.now layer.now }
-    ensures ends { IfOk result (λ next. IfSome next (λ states. (v : ℕ) → SomeEnds ops.now states v ↔ SomeEnds ops.now layer.now v)) }
+    ensures ends { IfOk result (λ next. IfSome next (λ states. (more : List Observed) → MayFollow ops.now horizon more → (v : ℕ) → SomeEnds (ops.now ++ more) states v ↔ SomeEnds (ops.now ++ more) layer.now v)) }
     ensures ready { IfOk result (λ next. IfSome next (λ states. AreReady ops.now states)) }
     ensures one_each { IfOk result (λ next. IfSome next (λ states. budget.new + length (positions layer.now) ≡ budget.old)) }
     ensures spent { IfOk result (λ next. next ≡ None → budget.new ≡ 0) }
@@ -94,7 +112,7 @@ pub(crate) fn next_layer<P: Progress>(
         *budget -= 1;
         progress.look();
         read(layer, place, &mut state)?;
-        if state.first >= ops.len() {
+        if waits(ops, horizon, state.first) {
             add_new(alloc, &mut states, &state)?;
         } else {
             add_moves(alloc, ops, earliest, &state, &mut next, &mut states)?;
@@ -114,22 +132,52 @@ pub(crate) fn first_layer(alloc: Global, words: &[u64]) -> Result<States, AllocE
     Ok(layer)
 }
 
-/// Whether in each state of the set none is left.
-pub(crate) fn are_ended(ops: &[Observed], layer: &States) -> bool
-    ensures ended { IsTrue result → (p : Position) → Has layer.now p → length ops.now ≤ p.first }
+// Whether each state of the set waits.
+fn are_waiting(ops: &[Observed], horizon: Option<u64>, layer: &States) -> bool
+    ensures waiting { IsTrue result → (p : Position) → Has layer.now p → Waits ops.now horizon p.first }
     ensures some { result ≡ false → 0 < length (positions layer.now) }
 {
     for state in &layer.narrow.states {
-        if state.first < ops.len() {
+        if !waits(ops, horizon, state.first) {
             return false;
         }
     }
     for state in &layer.wide.states {
-        if state.first < ops.len() {
+        if !waits(ops, horizon, state.first) {
             return false;
         }
     }
     true
+}
+
+/// The states that follow the states of a set by moves, until each waits; or nothing, where the budget was spent. What they
+/// lead to is the same, whatever operations come later.
+pub(crate) fn advance<P: Progress>(
+    alloc: Global,
+    ops: &[Observed],
+    horizon: Option<u64>,
+    from: States,
+    budget: &mut u64,
+    progress: &mut P,
+) -> Result<Option<States>, AllocError>
+    requires sorted { AreSorted ops.now }
+    requires within { AreWithin ops.now }
+    requires ready { AreReady ops.now from }
+    ensures ends { IfOk result (λ last. IfSome last (λ states. (more : List Observed) → MayFollow ops.now horizon more → (v : ℕ) → SomeEnds (ops.now ++ more) states v ↔ SomeEnds (ops.now ++ more) from v)) }
+    ensures ready { IfOk result (λ last. IfSome last (λ states. AreReady ops.now states)) }
+    ensures waiting { IfOk result (λ last. IfSome last (λ states. (p : Position) → Has states p → Waits ops.now horizon p.first)) }
+    ensures spent { IfOk result (λ last. last ≡ None → budget.new ≡ 0) }
+    ensures spends { IfOk result (λ last. (budget.new ≤ budget.old) × LookedMore P.looked progress.old progress.new (budget.old - budget.new)) }
+{
+    let earliest = earliest_starts(alloc, ops)?;
+    let mut layer = from;
+    while !are_waiting(ops, horizon, &layer) {
+        match next_layer(alloc, ops, &earliest, horizon, &layer, budget, progress)? {
+            Some(next) => layer = next,
+            None => return Ok(None),
+        }
+    }
+    Ok(Some(layer))
 }
 
 /// The words of the states of a set, each once.

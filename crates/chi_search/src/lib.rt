@@ -4,9 +4,11 @@
 mod chains;
 mod choice;
 mod earliest;
+mod frontier;
 mod layer;
 mod narrow;
 mod order;
+mod passing;
 mod path;
 mod progress;
 mod searchable;
@@ -17,6 +19,7 @@ mod step;
 mod wide;
 mod words;
 
+pub use frontier::Frontier;
 pub use order::{Found, order_of};
 pub use progress::{NoProgress, Progress};
 pub use searchable::are_searchable;

@@ -60,8 +60,9 @@ pub(crate) fn settle(
     to: &mut State,
 ) -> Result<(), AllocError>
     requires left { IsTrue (Positions.is_left count (position_of state.now) place) }
+    requires ready { IsReady count (position_of state.now) }
     ensures word { OnOk result ((position_of to.new).word ≡ word) }
-    ensures left { OnOk result (Settles count (position_of state.now) place (position_of to.new)) }
+    ensures left { OnOk result (Settles (position_of state.now) place (position_of to.new)) }
     ensures ready { OnOk result (IsReady count (position_of to.new)) }
 {
     let by = settled_with(state, count, place);

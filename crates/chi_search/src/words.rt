@@ -7,8 +7,7 @@ ghost use Rattle.chi_search.specs.Layers.{SomeLeads};
 ghost use Rattle.chi_search.specs.Looks.{LookedMore};
 ghost use Rattle.chi_search.specs.Searchable.{AreSorted, AreWithin};
 
-use crate::earliest::earliest_starts;
-use crate::layer::{are_ended, first_layer, next_layer, words_in};
+use crate::layer::{advance, first_layer, words_in};
 use crate::progress::Progress;
 use chi_trace::Observed;
 use std::alloc::{AllocError, Global};
@@ -47,14 +46,12 @@ pub fn words_of<P: Progress>(
     ensures unknown { IfOk result (λ found. IfUnknown found (budget.new ≡ 0)) }
     ensures spends { IfOk result (λ found. (budget.new ≤ budget.old) × LookedMore P.looked progress.old progress.new (budget.old - budget.new)) }
 {
-    let earliest = earliest_starts(alloc, ops)?;
-    let mut layer = first_layer(alloc, words)?;
-    while !are_ended(ops, &layer) {
-        match next_layer(alloc, ops, &earliest, &layer, budget, progress)? {
-            Some(next) => layer = next,
-            None => return Ok(Words::Unknown),
+    let first = first_layer(alloc, words)?;
+    match advance(alloc, ops, None, first, budget, progress)? {
+        Some(last) => {
+            let each = words_in(alloc, &last)?;
+            Ok(Words::Each(each))
         }
+        None => Ok(Words::Unknown),
     }
-    let each = words_in(alloc, &layer)?;
-    Ok(Words::Each(each))
 }

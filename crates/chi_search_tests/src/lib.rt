@@ -4,6 +4,8 @@
 #[cfg(test)]
 mod comparison;
 #[cfg(test)]
+mod frontier_tests;
+#[cfg(test)]
 mod many_tests;
 #[cfg(test)]
 mod open_tests;

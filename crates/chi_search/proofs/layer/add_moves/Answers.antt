@@ -1,9 +1,14 @@
 -- the states after an operation that was taken, and without the first one
-use Rattle.std.proofs.Common.{◌+◌, sym, subst, arith}
+use Rattle.std.proofs.Common.{◌+◌, ◌<◌, ◌++◌, length, length-append, ap, sym, subst, ◌∙◌, arith}
 use Rattle.std.proofs.lemmas.Result.{on_ok_weaker}
+use Rattle.chi_trace.specs.declared.observed.Observed.{Observed}
 use Rattle.chi_search.specs.declared.states.States.{States}
+use Rattle.chi_trace.specs.Granules.{Fits}
+use Rattle.chi_search.specs.Layers.{AreReady}
+use Rattle.chi_search.specs.Moves.{IsIdle}
 use Rattle.chi_search.specs.Positions.{position_of}
-use Rattle.chi_search.proofs.Layers.{Grown, IsAdded, grown_refused, grown_taken, is_late, ready_more, whole_answered, whole_dropped, whole_idle}
+use Rattle.chi_search.proofs.Following.{at_before, comes_back, comes_on, drops_on, ready_on, takes_on}
+use Rattle.chi_search.proofs.Layers.{Grown, IsAdded, grown_refused, grown_taken, is_late, late_on, ready_more, whole_answered, whole_dropped, whole_idle}
 use Rattle.chi_search.proofs.layer.add_moves.Goals as goal
 use Rattle.chi_search.proofs.layer.add_moves.Goals.{else-branch-2, else-loop-place-test, then-branch-2+in_ok-add_new, then-loop-place-test+else-earliest-place}
 
@@ -12,11 +17,15 @@ returns-then-branch-clause-ends c =
     let ops = c.args.ops.now in
     let p = position_of c.args.state.now in
     let q = position_of c.take.new.next in
+    let place = c.in-Some.place in
+    let below : place < length ops = c.in-Some.ensures.place in
     on_ok_weaker c.add_new.result
-    (λ (added : IsAdded c.add_new.new.states c.args.states.now q).
-    whole_idle ops c.args.states.now c.add_new.new.states p q c.in-Some.place added
-    (c.in_ok-take.ensures.ready c.if-branch.true) c.requires.sorted (c.in_ok-take.ensures.comes c.if-branch.true) (c.in_ok-take.ensures.takes c.if-branch.true)
-    (c.in_ok-take.ensures.finds c.if-branch.true) (c.in_ok-take.ensures.leaves c.if-branch.true) c.in-Some.ensures.idle)
+    (λ (added : IsAdded c.add_new.new.states c.args.states.now q) more after.
+    whole_idle (ops ++ more) c.args.states.now c.add_new.new.states p q place added after.sorted
+    (comes_on ops more p place c.requires.first (c.in_ok-take.ensures.comes c.if-branch.true))
+    (takes_on ops more p q place below (c.in_ok-take.ensures.takes c.if-branch.true))
+    (c.in_ok-take.ensures.finds c.if-branch.true) (c.in_ok-take.ensures.leaves c.if-branch.true)
+    (subst IsIdle (sym (at_before ops more place below)) c.in-Some.ensures.idle))
     c.add_new.ensures
 
 pub returns-then-branch-clause-ready : goal.returns-then-branch-clause-ready
@@ -32,30 +41,48 @@ loop-place-preserved c =
     let p = position_of c.args.state.now in
     let q = position_of c.take-in-loop-place.new.next in
     let place = c.loop-place.place in
+    let below : place < length ops = omega arith in
+    let old = c.args.states.now in
+    let now = c.loop-place.states in
     elim c.if-branch-2.branch [
-      | then-branch-2+in_ok-add_new w ↦
-          subst (λ (now : States). Grown ops c.args.states.now now p (place + 1)) (sym w.states-is)
-          (grown_taken ops c.args.states.now c.loop-place.states w.add_new-then-branch-2.new.states p q place c.loop-place.invariant w.in_ok-add_new.ensures
-          (c.in_ok-take-2.ensures.ready w.if-branch-2.true) c.requires.sorted (c.in_ok-take-2.ensures.comes w.if-branch-2.true)
-          (c.in_ok-take-2.ensures.takes w.if-branch-2.true) (c.in_ok-take-2.ensures.leaves w.if-branch-2.true))
-      | else-branch-2 w ↦
-          subst (λ (now : States). Grown ops c.args.states.now now p (place + 1)) (sym w.states-is)
-          (grown_refused ops c.args.states.now c.loop-place.states p place c.loop-place.invariant (c.in_ok-take-2.ensures.refused w.if-branch-2.false))
+      | then-branch-2+in_ok-add_new w ↦ record {
+        grown = λ more after.
+            subst (λ (grown : States). Grown (ops ++ more) old grown p (place + 1)) (sym w.states-is)
+            (grown_taken (ops ++ more) old now w.add_new-then-branch-2.new.states p q place (c.loop-place.invariant.grown more after) w.in_ok-add_new.ensures
+            after.sorted
+            (comes_on ops more p place c.requires.first (c.in_ok-take-2.ensures.comes w.if-branch-2.true))
+            (takes_on ops more p q place below (c.in_ok-take-2.ensures.takes w.if-branch-2.true)) (c.in_ok-take-2.ensures.leaves w.if-branch-2.true));
+        ready = λ all.
+            subst (AreReady ops) (sym w.states-is)
+            (ready_more ops w.add_new-then-branch-2.new.states now q w.in_ok-add_new.ensures (c.in_ok-take-2.ensures.ready w.if-branch-2.true) (c.loop-place.invariant.ready all));
+      }
+      | else-branch-2 w ↦ record {
+        grown = λ more after.
+            subst (λ (grown : States). Grown (ops ++ more) old grown p (place + 1)) (sym w.states-is)
+            (grown_refused (ops ++ more) old now p place (c.loop-place.invariant.grown more after)
+            (λ comes fits.
+            c.in_ok-take-2.ensures.refused w.if-branch-2.false (comes_back ops more p place c.requires.first below comes)
+            (subst (λ (o : Observed). Fits o p.word) (at_before ops more place below) fits)));
+        ready = λ all. subst (AreReady ops) (sym w.states-is) (c.loop-place.invariant.ready all);
+      }
     ]
 
 pub returns-in_ok-add_new-2-clause-ends : goal.returns-in_ok-add_new-2-clause-ends
-returns-in_ok-add_new-2-clause-ends c =
+returns-in_ok-add_new-2-clause-ends c more after =
     let ops = c.args.ops.now in
     let p = position_of c.args.state.now in
     let q = position_of c.leave_out.new.next in
-    whole_dropped ops c.args.states.now c.loop-place.states c.add_new-then-branch-3.new.states p q c.loop-place.place c.loop-place.invariant c.in_ok-add_new-2.ensures
-    (c.in_ok-leave_out.ensures.ready c.if-branch-3.true) c.requires.sorted c.requires.ready c.requires.first
+    let further : p.first < length (ops ++ more) = omega (arith, c.requires.first, length-append ops more) in
+    whole_dropped (ops ++ more) c.args.states.now c.loop-place.states c.add_new-then-branch-3.new.states p q c.loop-place.place (c.loop-place.invariant.grown more after) c.in_ok-add_new-2.ensures
+    after.sorted (ready_on ops more p c.requires.ready) further
+    (late_on ops more p c.loop-place.place c.requires.first
     (elim c.loop-place-test.branch [
       | then-loop-place-test+else-earliest-place w ↦
           is_late ops c.args.earliest.now p c.loop-place.place c.index-ops-state.result c.requires.first c.requires.earliest c.index-ops-state.is w.if-earliest-place.false
       | else-loop-place-test w ↦ λ i from inside. absurd (omega (arith, from, inside, w.loop-place-test.false))
     ])
-    (c.in_ok-leave_out.ensures.drops c.if-branch-3.true)
+    after.late)
+    (drops_on ops more p q c.requires.first (c.in_ok-leave_out.ensures.drops c.if-branch-3.true))
 
 pub returns-in_ok-add_new-2-clause-ready : goal.returns-in_ok-add_new-2-clause-ready
 returns-in_ok-add_new-2-clause-ready c all =
@@ -63,13 +90,16 @@ returns-in_ok-add_new-2-clause-ready c all =
     (c.in_ok-leave_out.ensures.ready c.if-branch-3.true) (c.loop-place.invariant.ready all)
 
 pub returns-else-branch-3-clause-ends : goal.returns-else-branch-3-clause-ends
-returns-else-branch-3-clause-ends c =
+returns-else-branch-3-clause-ends c more after =
     let ops = c.args.ops.now in
     let p = position_of c.args.state.now in
-    whole_answered ops c.args.states.now c.loop-place.states p c.loop-place.place c.loop-place.invariant c.requires.sorted c.requires.ready c.requires.first
+    let further : p.first < length (ops ++ more) = omega (arith, c.requires.first, length-append ops more) in
+    whole_answered (ops ++ more) c.args.states.now c.loop-place.states p c.loop-place.place (c.loop-place.invariant.grown more after) after.sorted (ready_on ops more p c.requires.ready) further
+    (late_on ops more p c.loop-place.place c.requires.first
     (elim c.loop-place-test.branch [
       | then-loop-place-test+else-earliest-place w ↦
           is_late ops c.args.earliest.now p c.loop-place.place c.index-ops-state.result c.requires.first c.requires.earliest c.index-ops-state.is w.if-earliest-place.false
       | else-loop-place-test w ↦ λ i from inside. absurd (omega (arith, from, inside, w.loop-place-test.false))
     ])
-    (c.in_ok-leave_out.ensures.answered c.if-branch-3.false)
+    after.late)
+    (λ none. c.in_ok-leave_out.ensures.answered c.if-branch-3.false (ap (λ (o : Observed). o.reply) (sym (at_before ops more p.first c.requires.first)) ∙ none))

@@ -2,7 +2,7 @@
 use Rattle.std.proofs.Common.{◌≡◌, ℕ, ◌+◌, ◌≤◌, ◌==◌, ◌||◌, ap, refl, ◌∙◌}
 use Rattle.chi_search.specs.declared.state.State.{State}
 use Rattle.chi_search.specs.Positions.{has_bit, position_of, words_of}
-use Rattle.chi_search.proofs.Settling.{Moved, bits_kept, bits_put, left_from, ready, settles}
+use Rattle.chi_search.proofs.Settling.{Moved, bits_kept, bits_put, left_is, ready, settles}
 use Rattle.chi_search.proofs.state.settle.Goals as goal
 use Rattle.chi_search.proofs.state.settle.Goals.{then-place-state+in_ok-put, else-place-state}
 
@@ -13,7 +13,7 @@ moved c =
     let p = position_of c.args.state.now in
     let place = c.args.place in
     let by = c.settled_with-by.result in
-    let from : p.first ≤ place = left_from c.args.count p place c.requires.left in
+    let from : p.first ≤ place = (left_is c.args.count p place c.requires.left).1 in
     let put : (k : ℕ) → has_bit (words_of c.if-place-state.to.settled) k ≡ (has_bit p.settled (by + k) || (p.first + (by + k) == place)) =
     elim c.if-place-state.branch [
       | then-place-state+in_ok-put w ↦ λ k. ap (λ (s : State). has_bit (words_of s.settled) k) w.to-is
@@ -33,4 +33,6 @@ pub returns-clause-left : goal.returns-clause-left
 returns-clause-left c = settles c.args.count (position_of c.args.state.now) c.args.place c.settled_with-by.result _ (moved c)
 
 pub returns-clause-ready : goal.returns-clause-ready
-returns-clause-ready c = ready c.args.count (position_of c.args.state.now) c.args.place c.settled_with-by.result _ (moved c)
+returns-clause-ready c =
+    ready c.args.count (position_of c.args.state.now) c.args.place c.settled_with-by.result _ (moved c) c.requires.ready
+    (left_is c.args.count (position_of c.args.state.now) c.args.place c.requires.left).0

@@ -1,0 +1,130 @@
+-- a position told without the first operations, once all of those are settled
+use Rattle.std.proofs.Common.{◌≡◌, ◌↔◌, ℕ, zero, suc, ◌+◌, ◌-◌, ◌≤◌, nat_le, nat_lt, ◌&&◌, not, Bool, true, false, List, ◌++◌, All, drop, get_or, length, map, Option, Some, refl, sym, ap, subst, ◌∙◌, arith, get_or-drop, length-append, length-drop, true≢false}
+use Rattle.std.proofs.lemmas.Bool.Decides.{nat_tests}
+use Rattle.std.proofs.lemmas.List.{drop-append-le}
+use Rattle.std.proofs.lemmas.List.Elements.{All-map}
+use Rattle.std.proofs.lemmas.Option.{IfSome_then}
+use Rattle.chi_history.specs.History.{one_if}
+use Rattle.chi_trace.specs.declared.observed.Observed.{Observed}
+use Rattle.chi_trace.specs.Explains.{at, is_answered, nothing, times_in}
+use Rattle.chi_trace.specs.Granules.{Finishes}
+use Rattle.chi_trace.proofs.Moved.{Moves, in_time_moved, last_moved, play_moved, times_moved}
+use Rattle.chi_trace.proofs.Places.{of_member, passes}
+use Rattle.chi_search.specs.Moves.{Ends}
+use Rattle.chi_search.specs.Positions.{Position, back_by, has_bit, is_left, is_unsettled}
+use Rattle.chi_search.proofs.Settling.{left_is}
+
+-- `f` moves each operation of a trace that is left to where it stands in another, and `g` moves each that is left there back
+record IsMove (ts us : List Observed) (s t : ℕ → Bool) (f g : ℕ → ℕ) : Type 0 where
+  same : (i : ℕ) → s i ≡ true → at us (f i) ≡ at ts i
+  left : (i : ℕ) → s i ≡ true → t (f i) ≡ true
+  home : (i : ℕ) → s i ≡ true → g (f i) ≡ i
+  back : (j : ℕ) → t j ≡ true → s (g j) ≡ true
+  there : (j : ℕ) → t j ≡ true → f (g j) ≡ j
+
+-- what finishes those of the one finishes those of the other
+finishes_moved : (ts us : List Observed) (s t : ℕ → Bool) (f g : ℕ → ℕ) (w : ℕ) (final : Option ℕ) (x : List ℕ) → IsMove ts us s t f g
+    → Finishes ts s w final x → Finishes us t w final (map f x)
+finishes_moved ts us s t f g w final x m h = record {
+  done = λ j. done j (t j) refl;
+  once = λ j. once j (t j) refl;
+  times = in_time_moved ts us f x moves h.times;
+  plays = play_moved ts us f w x moves h.plays;
+  ending = IfSome_then final h.ending (λ v is. last_moved ts us f w x moves ∙ is);
+}
+  where
+    left : All (λ i. s i ≡ true) x
+    left = passes s x h.once
+
+    moves : Moves ts us f x
+    moves n d under = m.same (get_or x n d) (left n d under)
+
+    moved : (j : ℕ) → t j ≡ true → times_in (map f x) j ≡ times_in x (g j)
+    moved j is = times_moved f (g j) j x (m.there j is) (λ n d under to. sym (m.home (get_or x n d) (left n d under)) ∙ ap g to)
+
+    all_left : All (λ j. t j ≡ true) (map f x)
+    all_left = All-map (λ j. t j ≡ true) f x (λ n d under. m.left (get_or x n d) (left n d under))
+
+    nowhere : (j n : ℕ) → t j ≡ false → times_in (map f x) j ≡ n → n ≡ 0
+    nowhere j zero out is = refl
+    nowhere j (suc n) out is = absurd (true≢false (sym (of_member (λ j. t j ≡ true) (map f x) j all_left (omega (arith, is))) ∙ out))
+
+    done : (j : ℕ) (b : Bool) → t j ≡ b → one_if (b && is_answered (at us j)) ≤ times_in (map f x) j
+    done j false is = omega arith
+    done j true is =
+        let i : ℕ = g j in
+        let from : at ts i ≡ at us j = sym (m.same i (m.back j is)) ∙ ap (at us) (m.there j is) in
+        let due : one_if (s i && is_answered (at us j)) ≤ times_in x i = subst (λ (o : Observed). one_if (s i && is_answered o) ≤ times_in x i) from (h.done i) in
+        let all : one_if (is_answered (at us j)) ≤ times_in x i = subst (λ (b : Bool). one_if (b && is_answered (at us j)) ≤ times_in x i) (m.back j is) due in
+        omega (arith, all, moved j is)
+
+    once : (j : ℕ) (b : Bool) → t j ≡ b → times_in (map f x) j ≤ one_if b
+    once j false is = omega (arith, nowhere j (times_in (map f x) j) is refl)
+    once j true is = omega (arith, moved j is, h.once (g j), ap one_if (m.back j is))
+
+-- what is settled there is what was settled so many places on
+pub unsettled_there : (k : ℕ) (p : Position) (j : ℕ) → k ≤ p.first → is_unsettled (back_by k p) j ≡ is_unsettled p (k + j)
+unsettled_there k p j past =
+    ap (λ b. b && not (has_bit p.settled (j - (p.first - k)))) from ∙ ap (λ i. nat_le p.first (k + j) && not (has_bit p.settled i)) bit
+  where
+    from : nat_le (p.first - k) j ≡ nat_le p.first (k + j)
+    from = grind (arith, nat_tests)
+
+    bit : j - (p.first - k) ≡ k + j - p.first
+    bit = omega arith
+
+pub left_there : (n m k : ℕ) (p : Position) (j : ℕ) → k ≤ p.first → n ≡ k + m → is_left m (back_by k p) j ≡ is_left n p (k + j)
+left_there n m k p j past count = ap (λ b. b && is_unsettled (back_by k p) j) within ∙ ap (λ b. nat_lt (k + j) n && b) (unsettled_there k p j past)
+  where
+    within : nat_lt j m ≡ nat_lt (k + j) n
+    within = grind (arith, nat_tests)
+
+-- some order finishes what is left if and only if some order does so without the first operations
+pub drop_settled : (ops more : List Observed) (k v : ℕ) (p : Position) → k ≤ p.first → k ≤ length ops
+    → Ends (ops ++ more) (Some v) p ↔ Ends (drop k ops ++ more) (Some v) (back_by k p)
+drop_settled ops more k v p past within = (
+  λ (x, c). (map (λ i. i - k) x, finishes_moved ts us s t (λ i. i - k) (λ j. k + j) p.word (Some v) x forth c),
+  λ (x, c). (map (λ j. k + j) x, finishes_moved us ts t s (λ j. k + j) (λ i. i - k) p.word (Some v) x back c),
+)
+  where
+    ts : List Observed
+    ts = ops ++ more
+
+    us : List Observed
+    us = drop k ops ++ more
+
+    s : ℕ → Bool
+    s = is_left (length ts) p
+
+    t : ℕ → Bool
+    t = is_left (length us) (back_by k p)
+
+    count : length ts ≡ k + length us
+    count = omega (arith, length-append ops more, length-append (drop k ops) more, length-drop k ops)
+
+    later : (i : ℕ) → s i ≡ true → k + (i - k) ≡ i
+    later i is = omega (arith, (left_is (length ts) p i is).1)
+
+    left : (j : ℕ) → t j ≡ s (k + j)
+    left j = left_there (length ts) (length us) k p j past count
+
+    same : (j : ℕ) → at us j ≡ at ts (k + j)
+    same j = ap (λ (l : List Observed). at l j) (sym (drop-append-le k ops more within)) ∙ get_or-drop k ts j nothing
+
+    forth : IsMove ts us s t (λ i. i - k) (λ j. k + j)
+    forth = record {
+      same = λ i is. same (i - k) ∙ ap (at ts) (later i is);
+      left = λ i is. left (i - k) ∙ (ap s (later i is) ∙ is);
+      home = later;
+      back = λ j is. sym (left j) ∙ is;
+      there = λ j is. omega arith;
+    }
+
+    back : IsMove us ts t s (λ j. k + j) (λ i. i - k)
+    back = record {
+      same = λ j is. sym (same j);
+      left = forth.back;
+      home = forth.there;
+      back = forth.left;
+      there = later;
+    }

@@ -1,0 +1,176 @@
+//! The search of one granule while its operations are told.
+
+ghost use Rattle.std.specs.Prelude.{◌≡◌, ◌≢◌, ℕ, ◌+◌, ◌-◌, ◌^◌, ◌≤◌, ◌↔◌, [], ◌∷◌, ◌++◌, false, List, None, IfErr, IfOk, IfSome, IsTrue, length};
+ghost use Rattle.std.specs.List.{AllPairs, Contains};
+ghost use Rattle.chi_trace.specs.declared.observed.Observed.{Observed};
+ghost use Rattle.chi_search.specs.Found.{IfUnknown, IfWords};
+ghost use Rattle.chi_search.specs.Frontiers.{CanBeTold, Follows, MayBeTold};
+ghost use Rattle.chi_search.specs.Layers.{SomeLeads};
+ghost use Rattle.chi_search.specs.Looks.{LookedMore};
+ghost use Rattle.chi_search.specs.Searchable.{AreWithin};
+
+use crate::layer::{advance, first_layer, words_in};
+use crate::passing::{moved_back, passed};
+use crate::progress::Progress;
+use crate::states::States;
+use crate::words::Words;
+use chi_trace::Observed;
+use std::alloc::{AllocError, Global};
+use std::marker::Model;
+
+/// The search of one granule while its operations are told, in the order of their ends. It keeps no operation that is settled
+/// for good, so that it takes as much memory as there are operations that overlap, however many were told.
+///
+/// Source: profile.
+///
+/// ```
+/// let mut frontier = Frontier::new(alloc, &[0])?;
+/// for op in &ended {
+///     frontier.add(op)?;
+/// }
+/// if let Some(next) = frontier.advanced(alloc, earliest_open_start, &mut budget, &mut NoProgress)? {
+///     frontier = next;
+/// }
+/// ```
+#[derive(Drop)]
+pub struct Frontier {
+    states: States,
+    operations: Vec<Observed>,
+    horizon: u64,
+    latest: u64,
+}
+
+impl Model for Frontier {
+    ghost use Rattle.chi_search.specs.Frontiers.{FrontierValue, IsFrontier};
+    ghost use Rattle.chi_search.specs.StateSets.{positions};
+
+    ghost Value = { FrontierValue };
+
+    ghost view = { λ f. record { positions = positions f.states; operations = f.operations.items; horizon = f.horizon; latest = f.latest } };
+
+    ghost invariant = { λ f. IsFrontier (record { positions = positions f.states; operations = f.operations.items; horizon = f.horizon; latest = f.latest }) };
+}
+
+impl Frontier {
+    /// The search that begins with some words, before any operation is told.
+    ///
+    /// ```
+    /// let frontier = Frontier::new(alloc, &[0])?;
+    /// ```
+    pub fn new(alloc: Global, words: &[u64]) -> Result<Frontier, AllocError>
+        ensures { IfOk result (λ frontier. Follows words.now [] frontier) }
+    {
+        let states = first_layer(alloc, words)?;
+        Ok(Frontier {
+            states,
+            operations: Vec::new(alloc),
+            horizon: 0,
+            latest: 0,
+        })
+    }
+
+    /// Tells an operation, where it may be told next: it ends no earlier than those before it, starts no earlier than the
+    /// horizon, ends no earlier than it starts, and lies within 2^52 bytes.
+    ///
+    /// ```
+    /// let is_told = frontier.add(&op)?;
+    /// ```
+    pub fn add(&mut self, op: &Observed) -> Result<bool, AllocError>
+        ensures told { IfOk result (λ is. IsTrue is → (words : List ℕ) (told : List Observed) → Follows words told self.old → Follows words (told ++ op.now ∷ []) self.new) }
+        ensures taken { IfOk result (λ is. IsTrue is ↔ (CanBeTold self.old op.now × (op.now.access.addr + op.now.access.len ≤ 2 ^ 52))) }
+        ensures refused { IfOk result (λ is. is ≡ false → self.new ≡ self.old) }
+        ensures failed { IfErr result (λ fault. self.new ≡ self.old) }
+    {
+        let within = op.access.addr() <= (1 << 52) - op.access.len() as u64;
+        if op.start > op.end || op.start < self.horizon || op.end < self.latest || !within {
+            return Ok(false);
+        }
+        self.operations.push(*op)?;
+        self.latest = op.end;
+        Ok(true)
+    }
+
+    /// The same search once no operation can come that starts before the horizon: it has gone on as far as what is told
+    /// allows. Nothing, where the budget was spent.
+    ///
+    /// ```
+    /// let next = frontier.advanced(alloc, earliest_open_start, &mut budget, &mut NoProgress)?;
+    /// ```
+    pub fn advanced<P: Progress>(
+        &self,
+        alloc: Global,
+        horizon: u64,
+        budget: &mut u64,
+        progress: &mut P,
+    ) -> Result<Option<Frontier>, AllocError>
+        ensures follows { IfOk result (λ next. IfSome next (λ frontier. (words : List ℕ) (told : List Observed) → Follows words told self.now → Follows words told frontier)) }
+        ensures horizon { IfOk result (λ next. IfSome next (λ frontier. horizon ≤ frontier.horizon)) }
+        ensures spent { IfOk result (λ next. next ≡ None → budget.new ≡ 0) }
+        ensures spends { IfOk result (λ next. (budget.new ≤ budget.old) × LookedMore P.looked progress.old progress.new (budget.old - budget.new)) }
+    {
+        let horizon = horizon.max(self.horizon);
+        let from = moved_back(alloc, &self.states, 0)?;
+        match advance(
+            alloc,
+            &self.operations,
+            Some(horizon),
+            from,
+            budget,
+            progress,
+        )? {
+            Some(last) => {
+                let by = passed(&last, self.operations.len());
+                let states = moved_back(alloc, &last, by)?;
+                let operations = Vec::from_slice(alloc, &self.operations[by..])?;
+                Ok(Some(Frontier {
+                    states,
+                    operations,
+                    horizon,
+                    latest: self.latest,
+                }))
+            }
+            None => Ok(None),
+        }
+    }
+
+    /// Each word that the operations that were told can leave. There is none where no order explains them.
+    ///
+    /// ```
+    /// if let Words::Each(words) = frontier.words(alloc, &mut budget, &mut NoProgress)? {
+    ///     show(words.is_empty());
+    /// }
+    /// ```
+    pub fn words<P: Progress>(
+        &self,
+        alloc: Global,
+        budget: &mut u64,
+        progress: &mut P,
+    ) -> Result<Words, AllocError>
+        ensures words { IfOk result (λ found. IfWords found (λ each. (words : List ℕ) (told : List Observed) → Follows words told self.now → (v : ℕ) → Contains each v ↔ SomeLeads told words v)) }
+        ensures once { IfOk result (λ found. IfWords found (λ each. AllPairs (λ v w. v ≢ w) each)) }
+        ensures unknown { IfOk result (λ found. IfUnknown found (budget.new ≡ 0)) }
+        ensures spends { IfOk result (λ found. (budget.new ≤ budget.old) × LookedMore P.looked progress.old progress.new (budget.old - budget.new)) }
+    {
+        let from = moved_back(alloc, &self.states, 0)?;
+        match advance(alloc, &self.operations, None, from, budget, progress)? {
+            Some(last) => {
+                let each = words_in(alloc, &last)?;
+                Ok(Words::Each(each))
+            }
+            None => Ok(Words::Unknown),
+        }
+    }
+
+    /// How many operations it keeps: those that are not settled for good.
+    ///
+    /// ```
+    /// if frontier.kept() > 64 {
+    ///     frontier = go_on(&frontier)?;
+    /// }
+    /// ```
+    pub fn kept(&self) -> usize
+        ensures { result ≡ length self.now.operations }
+    {
+        self.operations.len()
+    }
+}
