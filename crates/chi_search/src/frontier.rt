@@ -18,8 +18,8 @@ use chi_trace::Observed;
 use std::alloc::{AllocError, Global};
 use std::marker::Model;
 
-/// The search of one granule while its operations are told, in the order of their ends. It keeps no operation that is settled
-/// for good, so that it takes as much memory as there are operations that overlap, however many were told.
+/// The search of one granule while its operations are told, in the order of their ends. `advanced` goes on without those that
+/// are settled for good, so that a granule that is never quiet can be followed for long.
 ///
 /// Source: profile.
 ///
