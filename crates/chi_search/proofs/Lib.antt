@@ -7,6 +7,7 @@ pub mod Idle
 pub mod Following
 pub mod Layers
 pub mod Looking
+pub mod MovedBack
 pub mod Moves
 pub mod Orders
 pub mod Paths

@@ -7,8 +7,8 @@ use Rattle.chi_search.specs.Moves.{Ends}
 use Rattle.chi_search.specs.Positions.{IsReady, Position}
 use Rattle.chi_search.specs.Searchable.{AreSorted, AreWithin}
 
--- The positions to which the search came, and the operations that are not settled in each of them. No operation that is told
--- next starts before the horizon, or ends before the latest end.
+-- The positions to which the search came, and the operations that one of them at least has not passed. No operation that is
+-- told next starts before the horizon, or ends before the latest end.
 pub record FrontierValue : Type 0 where
   pub positions : List Position
   pub operations : List Observed

@@ -1,13 +1,13 @@
 //! The search of one granule while its operations are told.
 
-ghost use Rattle.std.specs.Prelude.{◌≡◌, ◌≢◌, ℕ, ◌+◌, ◌-◌, ◌^◌, ◌≤◌, ◌↔◌, [], ◌∷◌, ◌++◌, false, List, None, IfErr, IfOk, IfSome, IsTrue, length};
+ghost use Rattle.std.specs.Prelude.{◌≡◌, ◌≢◌, ℕ, ◌+◌, ◌-◌, ◌^◌, ◌≤◌, ◌↔◌, ◌⊎◌, [], ◌∷◌, ◌++◌, false, List, None, Some, IfErr, IfOk, IfSome, IsTrue, length};
 ghost use Rattle.std.specs.List.{AllPairs, Contains};
 ghost use Rattle.chi_trace.specs.declared.observed.Observed.{Observed};
 ghost use Rattle.chi_search.specs.Found.{IfUnknown, IfWords};
-ghost use Rattle.chi_search.specs.Frontiers.{CanBeTold, Follows, MayBeTold};
-ghost use Rattle.chi_search.specs.Layers.{SomeLeads};
+ghost use Rattle.chi_search.specs.Frontiers.{CanBeTold, Follows};
+ghost use Rattle.chi_search.specs.Layers.{SomeLeads, Waits};
 ghost use Rattle.chi_search.specs.Looks.{LookedMore};
-ghost use Rattle.chi_search.specs.Searchable.{AreWithin};
+ghost use Rattle.chi_search.specs.Positions.{Position};
 
 use crate::layer::{advance, first_layer, words_in};
 use crate::passing::{moved_back, passed};
@@ -58,7 +58,8 @@ impl Frontier {
     /// let frontier = Frontier::new(alloc, &[0])?;
     /// ```
     pub fn new(alloc: Global, words: &[u64]) -> Result<Frontier, AllocError>
-        ensures { IfOk result (λ frontier. Follows words.now [] frontier) }
+        ensures follows { IfOk result (λ frontier. Follows words.now [] frontier) }
+        ensures untold { IfOk result (λ frontier. (frontier.operations ≡ []) × (frontier.horizon ≡ 0) × (frontier.latest ≡ 0)) }
     {
         let states = first_layer(alloc, words)?;
         Ok(Frontier {
@@ -77,6 +78,7 @@ impl Frontier {
     /// ```
     pub fn add(&mut self, op: &Observed) -> Result<bool, AllocError>
         ensures told { IfOk result (λ is. IsTrue is → (words : List ℕ) (told : List Observed) → Follows words told self.old → Follows words (told ++ op.now ∷ []) self.new) }
+        ensures last { IfOk result (λ is. IsTrue is → (self.new.horizon ≡ self.old.horizon) × (self.new.latest ≡ op.now.end)) }
         ensures taken { IfOk result (λ is. IsTrue is ↔ (CanBeTold self.old op.now × (op.now.access.addr + op.now.access.len ≤ 2 ^ 52))) }
         ensures refused { IfOk result (λ is. is ≡ false → self.new ≡ self.old) }
         ensures failed { IfErr result (λ fault. self.new ≡ self.old) }
@@ -104,7 +106,9 @@ impl Frontier {
         progress: &mut P,
     ) -> Result<Option<Frontier>, AllocError>
         ensures follows { IfOk result (λ next. IfSome next (λ frontier. (words : List ℕ) (told : List Observed) → Follows words told self.now → Follows words told frontier)) }
-        ensures horizon { IfOk result (λ next. IfSome next (λ frontier. horizon ≤ frontier.horizon)) }
+        ensures horizon { IfOk result (λ next. IfSome next (λ frontier. (horizon ≤ frontier.horizon) × (self.now.horizon ≤ frontier.horizon) × ((frontier.horizon ≡ horizon) ⊎ (frontier.horizon ≡ self.now.horizon)))) }
+        ensures latest { IfOk result (λ next. IfSome next (λ frontier. frontier.latest ≡ self.now.latest)) }
+        ensures waiting { IfOk result (λ next. IfSome next (λ frontier. (p : Position) → Contains frontier.positions p → Waits frontier.operations (Some frontier.horizon) p.first)) }
         ensures spent { IfOk result (λ next. next ≡ None → budget.new ≡ 0) }
         ensures spends { IfOk result (λ next. (budget.new ≤ budget.old) × LookedMore P.looked progress.old progress.new (budget.old - budget.new)) }
     {

@@ -4,9 +4,10 @@ use Rattle.std.proofs.lemmas.List.{take_all}
 use Rattle.chi_trace.specs.declared.observed.Observed.{Observed}
 use Rattle.chi_search.specs.declared.states.States.{States}
 use Rattle.chi_search.specs.Frontiers.{Follows, FrontierValue, IsFrontier}
-use Rattle.chi_search.specs.Layers.{AreReady, MayFollow, SomeEnds}
-use Rattle.chi_search.specs.StateSets.{positions}
-use Rattle.chi_search.proofs.Telling.{follows_back, frontier_back, ready_copied}
+use Rattle.chi_search.specs.Layers.{AreReady, MayFollow, SomeEnds, Waits}
+use Rattle.chi_search.specs.Positions.{Position}
+use Rattle.chi_search.specs.StateSets.{Has, positions}
+use Rattle.chi_search.proofs.MovedBack.{follows_back, frontier_back, ready_copied, waits_back}
 use Rattle.chi_search.proofs.frontier.Frontier.advanced.Goals as goal
 
 -- the operations from a place on
@@ -55,3 +56,19 @@ returns-in_ok-operations-in-Some-clause-follows g c words told follows =
     (subst (λ (ops : List Observed). (more : List Observed) → MayFollow ops (Some horizon) more → (v : ℕ) → SomeEnds (ops ++ more) last v ↔ SomeEnds (ops ++ more) from v)
     c.deref.ensures.value ends)
     (subst (Follows words told) (sym c.self.view_is) follows))
+
+pub returns-in_ok-operations-in-Some-clause-waiting : goal.returns-in_ok-operations-in-Some-clause-waiting
+returns-in_ok-operations-in-Some-clause-waiting g c =
+    let s = c.self.inside in
+    let known = c.deref-in-Some.result.now in
+    let by = c.passed-by.result in
+    let horizon = c.max-horizon.result in
+    let last = c.in-Some.last in
+    let back = c.in_ok-states-in-Some.states in
+    let items : c.in_ok-operations-in-Some.operations.items ≡ drop by s.operations.items =
+    c.in_ok-operations-in-Some.ensures.items ∙ rest by known ∙ ap (drop by) c.deref-in-Some.ensures.value in
+    let within : by ≤ length s.operations.items = subst (λ (ops : List Observed). by ≤ length ops) c.deref-in-Some.ensures.value (omega arith) in
+    let waiting = subst (λ (ops : List Observed). (p : Position) → Has last p → Waits ops (Some horizon) p.first) c.deref.ensures.value
+    (subst (λ (o : Option States). IfSome o (λ states. (p : Position) → Has states p → Waits c.deref.result.now (Some horizon) p.first)) c.in-Some.is c.in_ok-last.ensures.waiting) in
+    subst (λ (ops : List Observed). (p : Position) → Has back p → Waits ops (Some horizon) p.first) (sym items)
+    (waits_back s.operations.items horizon by last back within c.passed-by.ensures.passed waiting c.in_ok-states-in-Some.ensures)

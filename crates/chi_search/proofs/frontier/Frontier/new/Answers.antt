@@ -11,7 +11,7 @@ invariant_of-result c =
     subst (λ (ops : List Observed). IsFrontier (record { positions = positions c.in_ok-states.states; operations = ops; horizon = 0; latest = 0 })) (sym c.new.ensures.items)
     (frontier_none c.args.words.now c.in_ok-states.states c.in_ok-states.ensures)
 
-pub returns : goal.returns
-returns c =
+pub returns-clause-follows : goal.returns-clause-follows
+returns-clause-follows c =
     follows_none c.args.words.now c.in_ok-states.states (record { positions = positions c.in_ok-states.states; operations = c.new.result.items; horizon = 0; latest = 0 })
     c.in_ok-states.ensures refl c.new.ensures.items

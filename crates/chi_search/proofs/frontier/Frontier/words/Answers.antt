@@ -7,7 +7,7 @@ use Rattle.chi_search.specs.Layers.{AreReady, MayFollow, SomeEnds, SomeLeads, Wa
 use Rattle.chi_search.specs.Positions.{Position}
 use Rattle.chi_search.specs.StateSets.{Has, positions}
 use Rattle.chi_search.proofs.FirstAndLast.{last_leads}
-use Rattle.chi_search.proofs.Telling.{follows_all, ready_copied}
+use Rattle.chi_search.proofs.MovedBack.{follows_all, ready_copied}
 use Rattle.chi_search.proofs.frontier.Frontier.words.Goals as goal
 
 pub advance-requires-clause-ready : goal.advance-requires-clause-ready
