@@ -6,13 +6,13 @@ use Rattle.chi_trace.specs.declared.observed.Observed.{Observed}
 use Rattle.chi_trace.specs.Cuts.{cut, has_started, known}
 use Rattle.chi_trace.specs.Explains.{IsTrace, at, is_place}
 
-no_place : (i : ℕ) → is_place [] i ≡ false
+pub no_place : (i : ℕ) → is_place [] i ≡ false
 no_place i = le-ltb i 0 (omega arith)
 
-first_place : (op : Observed) (ts : List Observed) → is_place (op ∷ ts) 0 ≡ true
+pub first_place : (op : Observed) (ts : List Observed) → is_place (op ∷ ts) 0 ≡ true
 first_place op ts = lt-ltb 0 (suc (length ts)) (omega arith)
 
-next_place : (op : Observed) (ts : List Observed) (k : ℕ) → is_place (op ∷ ts) (suc k) ≡ is_place ts k
+pub next_place : (op : Observed) (ts : List Observed) (k : ℕ) → is_place (op ∷ ts) (suc k) ≡ is_place ts k
 next_place op ts k = by_test (nat_lt k (length ts)) refl
   where
     by_test : (b : Bool) → nat_lt k (length ts) ≡ b → is_place (op ∷ ts) (suc k) ≡ b

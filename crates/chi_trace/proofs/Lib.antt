@@ -16,5 +16,6 @@ pub mod Places
 pub mod Projection
 pub mod Segments
 pub mod Steps
+pub mod ToldAgain
 pub mod Weaving
 pub mod Whole

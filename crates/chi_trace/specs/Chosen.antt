@@ -1,9 +1,11 @@
 -- a granule's operations told in another order
-use Rattle.std.specs.Prelude.{◌≡◌, ℕ, Bool, List, map, slice_index, Option}
+use Rattle.std.specs.Prelude.{◌≡◌, ℕ, ◌==◌, Bool, List, map, slice_index, Option, ◌↔◌}
+use Rattle.std.specs.List.{filter}
+use Rattle.std.specs.List.Sorted.{IsPermutation}
 use Rattle.chi_history.specs.History.{one_if}
 use Rattle.chi_trace.specs.declared.observed.Observed.{Observed}
 use Rattle.chi_trace.specs.Explains.{at, is_place, times_in}
-use Rattle.chi_trace.specs.Granules.{Finishes}
+use Rattle.chi_trace.specs.Granules.{ExplainsGranule, Finishes, granule_of}
 
 -- the operations at these places
 abbrev pub chosen : List Observed → List ℕ → List Observed
@@ -17,3 +19,12 @@ PlacesExplain = (trace : List Observed) (left : ℕ → Bool) (places : List ℕ
     → Finishes trace left w final (map (slice_index places) order))
     × ((order : List ℕ) → Finishes trace left w final order
     → (own : List ℕ) × Finishes (chosen trace places) (is_place (chosen trace places)) w final own × (order ≡ map (slice_index places) own))
+
+-- the operation is one of the granule
+abbrev pub is_in : ℕ → Observed → Bool
+is_in g op = granule_of op == g
+
+-- A granule's operations can be explained exactly where they can by themselves, told in any order.
+abbrev pub GranulesTold : Type 0
+GranulesTold = (trace ops : List Observed) (g w : ℕ) (final : Option ℕ) → IsPermutation (filter (is_in g) trace) ops
+    → ((order : List ℕ) × ExplainsGranule trace g w final order) ↔ ((order : List ℕ) × Finishes ops (is_place ops) w final order)

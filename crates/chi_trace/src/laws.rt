@@ -1,6 +1,6 @@
 //! Laws of traces. Each function does nothing: its contract is the law, for proofs that call it.
 
-ghost use Rattle.chi_trace.specs.Chosen.{PlacesExplain};
+ghost use Rattle.chi_trace.specs.Chosen.{GranulesTold, PlacesExplain};
 ghost use Rattle.chi_trace.specs.Segments.{QuietTimesDivide};
 ghost use Rattle.chi_trace.specs.TraceLaws.{CutsAreExplained, ExplanationsAreLegal, GranulesExplain, OrdersOfGranulesExplain, PartsExplain, PartsJoin};
 
@@ -17,6 +17,11 @@ pub fn explanations_are_legal()
 /// A trace can be explained exactly where each granule's operations can.
 pub fn granules_explain()
     ensures { GranulesExplain }
+{}
+
+/// A granule's operations can be explained exactly where they can by themselves, told in any order.
+pub fn granules_told()
+    ensures { GranulesTold }
 {}
 
 /// Orders of the granules' operations make one of the whole trace.
