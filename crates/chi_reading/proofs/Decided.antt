@@ -83,7 +83,7 @@ decided q region bits packet is = by_kind (kind_of q.opcode)
     by_kind (Some kind) = decided_as kind q region bits packet is
     by_kind None = tt
 
-accessed : (region : Option Extent) (a : Asked) → HasPacket a → IfSome region IsRegion → IfOk (access_of region a) IsWithin
+pub accessed : (region : Option Extent) (a : Asked) → HasPacket a → IfSome region IsRegion → IfOk (access_of region a) IsWithin
 accessed (Some region) a has is = decided (request_of a) region has.bits has.packet is
 accessed None a has is = by_line (line_of a.addr) refl (value_of (region_of (a.addr / 64 * 64) 8) IsRegion (region_lawful (a.addr / 64 * 64) 8))
   where

@@ -1,12 +1,12 @@
 mod ByStart
-mod Decided
+pub mod Decided
 mod Decoded
 mod Elements
 mod Faultless
 mod InOrder
 mod ObjectText
 mod OneMore
-mod Packets
+pub mod Packets
 mod RegionText
 mod Shorter
 mod ToldSoFar

@@ -18,7 +18,7 @@ use Rattle.chi_reading.specs.declared.fault.RequestFault.TheVariants.{NotObject}
 use Rattle.chi_reading.specs.declared.fault.TraceFault.TheVariants.{InRequest}
 use Rattle.chi_reading.specs.declared.stated.Stated.{Stated}
 use Rattle.chi_reading.specs.Faults.{fault_in}
-use Rattle.chi_reading.specs.Requests.{asked_of, end_of, reply_by, stated_at, stated_of}
+use Rattle.chi_reading.specs.Requests.{asked_of, end_of, fields_of, reply_by, stated_at, stated_of}
 use Rattle.chi_reading.proofs.Faultless.{present, renamed, value_of, where_true}
 
 -- sixteen bytes
@@ -56,17 +56,12 @@ lanes_within d =
 asked_within : (d : Data) → IfOk (asked_of d) HasPacket
 unfolding asked_of
 asked_within d =
-    then_ok (number_of member.Src 65535 d) _ HasPacket (λ src e.
-    then_ok (number_of member.Txn 65535 d) _ HasPacket (λ txn e1.
-    then_ok (number_of member.Opcode 255 d) _ HasPacket (λ opcode e2.
-    then_ok (number_of member.Size 7 d) _ HasPacket (λ size e3.
-    then_ok (number_of member.Addr (2 ^ 64 - 1) d) _ HasPacket (λ addr e4.
-    then_ok (number_of member.Endian 1 d) _ HasPacket (λ endian e5.
-    then_ok (number_of member.Be 65535 d) _ HasPacket (λ be e6.
-    then_ok (member_by member.Lanes (hex_bytes 16) d) _ HasPacket (λ lanes e7.
-    let bits = at_ok (number_of member.Be 65535 d) be (λ n. n ≤ 65535) e6 (number_within member.Be 65535 d) in
-    let packet = at_ok (member_by member.Lanes (hex_bytes 16) d) lanes IsPacket e7 (lanes_within d) in
-    record { bits = omega (arith, bits); packet = packet }))))))))
+    then_ok (fields_of d) _ HasPacket (λ fields e.
+    then_ok (number_of member.Be 65535 d) _ HasPacket (λ be e1.
+    then_ok (member_by member.Lanes (hex_bytes 16) d) _ HasPacket (λ lanes e2.
+    let bits = at_ok (number_of member.Be 65535 d) be (λ n. n ≤ 65535) e1 (number_within member.Be 65535 d) in
+    let packet = at_ok (member_by member.Lanes (hex_bytes 16) d) lanes IsPacket e2 (lanes_within d) in
+    record { bits = omega (arith, bits); packet = packet })))
 
 stated_within : (d : Data) → IfOk (stated_of d) (λ s. HasPacket s.asked)
 unfolding stated_of

@@ -1,5 +1,5 @@
 -- the requests of a trace's text, and the operation that was observed of each
-use Rattle.std.specs.Prelude.{ℕ, ◌+◌, ◌-◌, ◌*◌, ◌/◌, ◌^◌, ◌==◌, nat_lt, if◌then◌else◌, List, [], ◌∷◌, codes, Option, None, Some, is_some, is_none, option_and_then, Result, Ok, Err}
+use Rattle.std.specs.Prelude.{ℕ, ◌+◌, ◌-◌, ◌*◌, ◌/◌, ◌^◌, ◌==◌, nat_lt, if◌then◌else◌, List, [], ◌∷◌, replicate, codes, Option, None, Some, is_some, is_none, option_and_then, Result, Ok, Err}
 use Rattle.std.specs.Option.{ok_or, option_map}
 use Rattle.std.specs.Result.{result_ok}
 use Rattle.std.specs.Str.{bytes_eq}
@@ -27,18 +27,24 @@ use Rattle.chi_reading.specs.declared.fault.TraceFault.{TraceFault}
 use Rattle.chi_reading.specs.declared.fault.TraceFault.TheVariants.{TooManyRequests, InRequest}
 use Rattle.chi_reading.specs.Faults.{fault_in, or_else}
 
--- the request that an object states
-unfoldable pub asked_of : Data → Result Asked ScriptFault
-asked_of d = do
+-- the fields of a request that an object states, with no data
+unfoldable pub fields_of : Data → Result Asked ScriptFault
+fields_of d = do
   src ← number_of member.Src 65535 d
   txn ← number_of member.Txn 65535 d
   opcode ← number_of member.Opcode 255 d
   size ← number_of member.Size 7 d
   addr ← number_of member.Addr (2 ^ 64 - 1) d
   endian ← number_of member.Endian 1 d
+  Ok (record { src = src; txn = txn; opcode = opcode; size = size; addr = addr; endian = endian == 1; be = 0; lanes = replicate 16 0 })
+
+-- the request that an object states, with its data
+unfoldable pub asked_of : Data → Result Asked ScriptFault
+asked_of d = do
+  fields ← fields_of d
   be ← number_of member.Be 65535 d
   lanes ← member_by member.Lanes (hex_bytes 16) d
-  Ok (record { src = src; txn = txn; opcode = opcode; size = size; addr = addr; endian = endian == 1; be = be; lanes = lanes })
+  Ok (record fields { be = be; lanes = lanes })
 
 -- the request as a home decides it, which does not look at requester and transaction
 abbrev pub request_of : Asked → Request

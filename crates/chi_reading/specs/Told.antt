@@ -21,11 +21,15 @@ region_words first (word ∷ words) = record { granule = first; word = word } �
 abbrev pub start_of : Data → Option ℕ
 start_of d = option_and_then (λ addr. if addr % 8 == 0 && nat_lt addr (2 ^ 52) then Some addr else None) (option_and_then as_u64 (as_number d))
 
--- a granule's word, of an object with its address and its eight bytes in address order, as 16 hex digits
+-- a granule's word, of a text of its eight bytes in address order, as 16 hex digits
+abbrev pub word_of : Data → Option ℕ
+word_of d = option_map little (hex_bytes 8 d)
+
+-- a granule and its word, of an object with the address and the bytes
 abbrev pub told_of : Data → Option GranuleWord
 told_of d =
-    option_and_then (λ addr. option_map (λ bytes. record { granule = addr / 8; word = little bytes })
-    (option_and_then (hex_bytes 8) (get (codes "bytes") d))) (option_and_then start_of (get (codes "addr") d))
+    option_and_then (λ addr. option_map (λ word. record { granule = addr / 8; word = word })
+    (option_and_then word_of (get (codes "bytes") d))) (option_and_then start_of (get (codes "addr") d))
 
 -- one more word, of a granule that none was told of
 abbrev pub told_more : List GranuleWord → Option GranuleWord → Option (List GranuleWord)

@@ -3,7 +3,7 @@
 ghost use Rattle.std.specs.Prelude.{◌≡◌};
 ghost use Rattle.serde_json.specs.View.{view};
 ghost use Rattle.chi_script.specs.Script.{hex_bytes, member_by};
-ghost use Rattle.chi_reading.specs.Requests.{asked_of, request_of};
+ghost use Rattle.chi_reading.specs.Requests.{asked_of, fields_of, request_of};
 
 use chi_fields::Request;
 use chi_script::{Member, ScriptFault, number};
@@ -52,8 +52,14 @@ pub(crate) fn packet(value: &Value) -> Option<[u8; 16]>
     <[u8; 16] as FromHex>::from_hex(text).ok()
 }
 
-/// The data packet that a request states.
-fn lanes(object: &Value) -> Result<[u8; 16], ScriptFault>
+/// The data packet that a request states, or an object like it: the member `lanes`, a text of 32 hex digits.
+///
+/// Source: profile.
+///
+/// ```
+/// let lanes = lanes(&object)?;
+/// ```
+pub fn lanes(object: &Value) -> Result<[u8; 16], ScriptFault>
     ensures { result ≡ member_by Member.Lanes (hex_bytes 16) (view object.now) }
 {
     let Some(value) = object.get(Member::Lanes.name()) else {
@@ -65,10 +71,17 @@ fn lanes(object: &Value) -> Result<[u8; 16], ScriptFault>
     }
 }
 
-/// The request that an object states, or the first fault of its members.
-#[tactic(auto, unfolding(crate::specs::Requests::asked_of))]
-pub(crate) fn request_asked(object: &Value) -> Result<Asked, ScriptFault>
-    ensures { result ≡ asked_of (view object.now) }
+/// The fields of a request that an object states, with no data: its byte enables and its lanes are 0. They are read in the
+/// order `src`, `txn`, `op`, `size`, `addr`, `endian`.
+///
+/// Source: profile.
+///
+/// ```
+/// let asked = request_fields(&object)?;
+/// ```
+#[tactic(auto, unfolding(crate::specs::Requests::fields_of))]
+pub fn request_fields(object: &Value) -> Result<Asked, ScriptFault>
+    ensures { result ≡ fields_of (view object.now) }
 {
     let src = number(object, Member::Src, 65535)?;
     let txn = number(object, Member::Txn, 65535)?;
@@ -76,8 +89,6 @@ pub(crate) fn request_asked(object: &Value) -> Result<Asked, ScriptFault>
     let size = number(object, Member::Size, 7)?;
     let addr = number(object, Member::Addr, u64::MAX)?;
     let endian = number(object, Member::Endian, 1)?;
-    let be = number(object, Member::Be, 65535)?;
-    let lanes = lanes(object)?;
     Ok(Asked {
         src: src as u16,
         txn: txn as u16,
@@ -85,7 +96,29 @@ pub(crate) fn request_asked(object: &Value) -> Result<Asked, ScriptFault>
         size: size as u8,
         addr,
         endian: endian == 1,
+        be: 0,
+        lanes: [0; 16],
+    })
+}
+
+/// The request that an object states, with its data, or the first fault of its members: those of `request_fields`, and
+/// then `be` and `lanes`.
+///
+/// Source: profile.
+///
+/// ```
+/// let asked = request_asked(&object)?;
+/// ```
+#[tactic(auto, unfolding(crate::specs::Requests::asked_of))]
+pub fn request_asked(object: &Value) -> Result<Asked, ScriptFault>
+    ensures { result ≡ asked_of (view object.now) }
+{
+    let fields = request_fields(object)?;
+    let be = number(object, Member::Be, 65535)?;
+    let lanes = lanes(object)?;
+    Ok(Asked {
         be: be as u16,
         lanes,
+        ..fields
     })
 }

@@ -12,7 +12,13 @@ use chi_trace::Observed;
 
 /// The access that a home decides of a request: of a region, or of all addresses below 2^52, for which the line of 64 bytes
 /// around the address stands.
-fn access(asked: &Asked, region: &Option<Region>) -> Result<Access, Refusal>
+///
+/// Source: profile.
+///
+/// ```
+/// let access = access(&asked, &None)?;
+/// ```
+pub fn access(asked: &Asked, region: &Option<Region>) -> Result<Access, Refusal>
     ensures { result ≡ access_of region.now asked.now }
 {
     let request = asked.request();

@@ -4,7 +4,7 @@ ghost use Rattle.std.specs.Prelude.{◌≡◌};
 ghost use Rattle.serde_json.specs.Find.{get};
 ghost use Rattle.serde_json.specs.View.{view};
 ghost use Rattle.chi_script.specs.Member.{member_name};
-ghost use Rattle.chi_reading.specs.Requests.{answer_of, end_of, reply_by, stated_at, stated_of};
+ghost use Rattle.chi_reading.specs.Requests.{answer_of, end_of, reply_by, seen_of, stated_at, stated_of};
 
 use crate::asked::{Asked, packet, request_asked};
 use crate::fault::{RequestFault, TraceFault, fault_in};
@@ -45,6 +45,24 @@ fn answer(value: &Value) -> Option<Reply>
     Some(Reply::CompData(lanes))
 }
 
+/// What was answered, and `None` in it where that was not seen: `comp`, a data packet as 32 hex digits, or `null`. `None` is
+/// answered where the value is none of these.
+///
+/// Source: profile.
+///
+/// ```
+/// let reply = seen_reply(&value)?; // Some(Reply::Comp)
+/// ```
+pub fn seen_reply(value: &Value) -> Option<Option<Reply>>
+    ensures { result ≡ seen_of (view value.now) }
+{
+    if value.is_null() {
+        return Some(None);
+    }
+    let reply = answer(value)?;
+    Some(Some(reply))
+}
+
 /// What was answered, where it was seen: the member `reply`, which may be `null`, and may be left out where the end is.
 fn reply(object: &Value) -> Result<Option<Reply>, ScriptFault>
     ensures { result ≡ reply_by (get (member_name Member.Reply) (view object.now)) (get (member_name Member.End) (view object.now)) }
@@ -55,11 +73,8 @@ fn reply(object: &Value) -> Result<Option<Reply>, ScriptFault>
             None => Ok(None),
         };
     };
-    if value.is_null() {
-        return Ok(None);
-    }
-    match answer(value) {
-        Some(reply) => Ok(Some(reply)),
+    match seen_reply(value) {
+        Some(reply) => Ok(reply),
         None => Err(ScriptFault::BadMember(Member::Reply)),
     }
 }

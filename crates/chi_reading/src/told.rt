@@ -2,7 +2,7 @@
 
 ghost use Rattle.std.specs.Prelude.{◌≡◌, ◌≢◌, ◌≤◌, ◌^◌, ℕ, List, [], None, Some, Ok, Err, IfOk, IfErr};
 ghost use Rattle.serde_json.specs.View.{items_view, view};
-ghost use Rattle.chi_reading.specs.Told.{region_words, stated_list, told_from, told_of};
+ghost use Rattle.chi_reading.specs.Told.{region_words, start_of, stated_list, told_from, told_of, word_of};
 ghost use Rattle.chi_verdict.specs.declared.words.GranuleWord.{GranuleWord};
 ghost use Rattle.chi_verdict.specs.Words.{told};
 
@@ -31,22 +31,51 @@ pub(crate) fn region_words(
     GranuleWords::of_map(alloc, &map)
 }
 
+/// An address at which a granule starts: a multiple of 8 below 2^52. `None` is answered where the value is none.
+///
+/// Source: profile.
+///
+/// ```
+/// let addr = granule_start(&value)?; // 4096
+/// ```
+pub fn granule_start(value: &Value) -> Option<u64>
+    ensures { result ≡ start_of (view value.now) }
+{
+    let addr = value.as_u64()?;
+    if addr % 8 != 0 || addr >= 1 << 52 {
+        return None;
+    }
+    Some(addr)
+}
+
+/// The word of a granule: a text of 16 hex digits, which are its eight bytes in address order. `None` is answered where the
+/// value is none.
+///
+/// Source: profile.
+///
+/// ```
+/// let word = granule_word(&value)?; // 1, of "0100000000000000"
+/// ```
+pub fn granule_word(value: &Value) -> Option<u64>
+    ensures { result ≡ word_of (view value.now) }
+{
+    let text = value.as_str()?;
+    match <[u8; 8] as FromHex>::from_hex(text) {
+        Ok(bytes) => Some(u64::from_le_bytes(bytes)),
+        Err(_) => None,
+    }
+}
+
 /// The word of a granule that an object tells: its address, and its eight bytes in address order.
 fn word_told(value: &Value) -> Option<GranuleWord>
     ensures { result ≡ told_of (view value.now) }
 {
-    let addr = value.get("addr")?.as_u64()?;
-    if addr % 8 != 0 || addr >= 1 << 52 {
-        return None;
-    }
-    let bytes = value.get("bytes")?.as_str()?;
-    match <[u8; 8] as FromHex>::from_hex(bytes) {
-        Ok(bytes) => Some(GranuleWord {
-            granule: addr / 8,
-            word: u64::from_le_bytes(bytes),
-        }),
-        Err(_) => None,
-    }
+    let addr = granule_start(value.get("addr")?)?;
+    let word = granule_word(value.get("bytes")?)?;
+    Some(GranuleWord {
+        granule: addr / 8,
+        word,
+    })
 }
 
 /// The words of a list of granules, each told once.

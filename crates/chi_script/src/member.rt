@@ -1,14 +1,15 @@
-//! The members of a script and of a trace.
+//! The members of a script, of a trace and of an event.
 
 ghost use Rattle.std.specs.Prelude.{◌≡◌};
 ghost use Rattle.chi_script.specs.Member.{member_name};
 
-/// A member of the object that a script or a trace is, or of a request in it.
+/// A member of the object that a script, a trace or an event is, or of a request in it.
 ///
 /// - `Base` to `Requests` are the object's. `Image` may be left out.
 /// - `Src` to `Lanes` are a request's.
-/// - `Final`, of the object, and `Start`, `End` and `Reply`, of a request, are of traces alone. `Final` may be left
-///   out.
+/// - `Final`, of the object, and `Start`, `End` and `Reply`, of a request, are of traces, and `Final` and `Reply` also
+///   of events. `Final` may be left out.
+/// - `Event` to `Length` are of events alone.
 #[derive(Clone, Copy, Debug, PartialEq, Eq)]
 pub enum Member {
     Base,
@@ -27,6 +28,11 @@ pub enum Member {
     Start,
     End,
     Reply,
+    Event,
+    Time,
+    Id,
+    Bytes,
+    Length,
 }
 
 impl Member {
@@ -55,6 +61,11 @@ impl Member {
             Member::Start => "start",
             Member::End => "end",
             Member::Reply => "reply",
+            Member::Event => "event",
+            Member::Time => "time",
+            Member::Id => "id",
+            Member::Bytes => "bytes",
+            Member::Length => "length",
         }
     }
 }
