@@ -10,7 +10,7 @@ mod HeldAlone
 mod InOrder
 mod LastEnd
 mod Later
-mod Memory
+pub mod Memory
 mod OneGranule
 mod Open
 mod Parts

@@ -1,0 +1,13 @@
+pub mod Extended
+pub mod Splits
+pub mod Later
+pub mod Steps
+pub mod Taken
+pub mod Places
+pub mod ByKind
+pub mod OneMore
+pub mod Opens
+pub mod Lists
+pub mod Observable
+pub mod InTime
+pub mod Parted

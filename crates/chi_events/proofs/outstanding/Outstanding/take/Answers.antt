@@ -1,0 +1,38 @@
+-- one event more is taken
+use Rattle.std.proofs.Common.{◌≤◌, IfSome, All, sym, subst, arith}
+use Rattle.chi_events.specs.Outstanding.{IsEndOf, OutstandingValue, StaysOrStarts, Tells}
+use Rattle.chi_events.proofs.OneMore.{tells_more}
+use Rattle.chi_events.proofs.Opens.{stays_more}
+use Rattle.chi_events.proofs.outstanding.Outstanding.take.Goals as goal
+
+pub invariant_of-self-2 : goal.invariant_of-self-2
+invariant_of-self-2 c =
+    let e = c.args.event.now in
+    let s = c.self.inside in
+    let later : s.time ≤ e.time = omega arith in
+    (stays_more s.requests.items s.time e.time c.self.invariant later e.kind c.in_ok-ended.ended c.take_kind.new.requests.items c.in_ok-ended.ensures.taken.1).are_open
+
+pub returns-clause-tells : goal.returns-clause-tells
+returns-clause-tells c events before tells =
+    let e = c.args.event.now in
+    let s = c.self.inside in
+    let o : OutstandingValue = record { requests = s.requests.items; time = s.time } in
+    let later : s.time ≤ e.time = omega arith in
+    tells_more events before o e.time (subst (Tells events before) (sym c.self.view_is) tells) later e.kind c.in_ok-ended.ended c.take_kind.new.requests.items
+    c.event_fits.ensures c.in_ok-ended.ensures.taken.0 c.in_ok-ended.ensures.taken.1
+
+pub returns-clause-ended : goal.returns-clause-ended
+returns-clause-ended c =
+    let e = c.args.event.now in
+    let s = c.self.inside in
+    let later : s.time ≤ e.time = omega arith in
+    subst (λ (o : OutstandingValue). IfSome c.in_ok-ended.ended (IsEndOf o.requests e.time)) c.self.view_is
+    (stays_more s.requests.items s.time e.time c.self.invariant later e.kind c.in_ok-ended.ended c.take_kind.new.requests.items c.in_ok-ended.ensures.taken.1).ended
+
+pub returns-clause-requests : goal.returns-clause-requests
+returns-clause-requests c =
+    let e = c.args.event.now in
+    let s = c.self.inside in
+    let later : s.time ≤ e.time = omega arith in
+    subst (λ (o : OutstandingValue). All (StaysOrStarts o.requests e) c.take_kind.new.requests.items) c.self.view_is
+    (stays_more s.requests.items s.time e.time c.self.invariant later e.kind c.in_ok-ended.ended c.take_kind.new.requests.items c.in_ok-ended.ensures.taken.1).requests

@@ -1,0 +1,5 @@
+pub mod Told
+pub mod Operations
+pub mod Outstanding
+pub mod Taking
+pub mod EventLaws

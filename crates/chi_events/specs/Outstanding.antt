@@ -1,0 +1,139 @@
+-- requests that are outstanding, and why an event cannot come next
+use Rattle.std.specs.Prelude.{◌≡◌, ℕ, ◌+◌, ◌-◌, ◌^◌, ◌<◌, ◌≤◌, ◌==◌, ◌⊎◌, nat_lt, Bool, true, false, not, if◌then◌else◌, List, length, slice_index, map, filter, filter_map, find, All, AllPairs, Contains, Option, Some, None, IfSome, is_some, option_map, Result, Ok, Err, IsPermutation}
+use Rattle.std.specs.List.Sorted.{IsNonDecreasingBy}
+use Rattle.chi_fields.specs.Access.{Access}
+use Rattle.chi_fields.specs.declared.refusal.Refusal.{Refusal}
+use Rattle.chi_fields.specs.declared.refusal.Refusal.TheVariants as refusal
+use Rattle.chi_reading.specs.Requests.{access_of}
+use Rattle.chi_trace.specs.declared.observed.Observed.{Observed}
+use Rattle.chi_events.specs.declared.event.Event.{Event}
+use Rattle.chi_events.specs.declared.event.EventKind.{EventKind}
+use Rattle.chi_events.specs.declared.event.EventKind.TheVariants as event_kind
+use Rattle.chi_events.specs.declared.event.Packet.{Packet}
+use Rattle.chi_events.specs.declared.event.Requested.{Requested}
+use Rattle.chi_events.specs.declared.fault.EventFault.{EventFault}
+use Rattle.chi_events.specs.declared.fault.EventFault.TheVariants as fault
+use Rattle.chi_events.specs.declared.outstanding.Open.{Open}
+use Rattle.chi_events.specs.Operations.{access_told, is_outstanding, is_whole, operation_of, reply_told, waits_for_data, with_packet}
+use Rattle.chi_events.specs.Told.{Told, requested, told}
+
+-- the outstanding requests in the order in which they were taken, and the time of the last event
+pub record OutstandingValue : Type 0 where
+  pub requests : List Open
+  pub time : ℕ
+
+-- it was taken by now, and its access, once its data have come, is at its address and within 2^52 bytes
+pub record IsOpen (time : ℕ) (o : Open) : Type 0 where
+  pub start : o.start ≤ time
+  pub at : IfSome o.access (λ access. access.addr ≡ o.asked.addr)
+  pub within : IfSome o.access (λ access. access.addr + access.len ≤ 2 ^ 52)
+
+-- what is kept of a request
+abbrev pub open_of : Told → Open
+open_of t = record {
+  id = t.request.id;
+  start = t.time;
+  asked = t.request.asked;
+  access = option_map (λ a. a.access) (access_told t);
+  completion = option_map (λ r. r.reply) (reply_told t);
+}
+
+-- the operation that an outstanding request is, once its data have come: it is open
+abbrev pub open_operation : Open → Option Observed
+open_operation o = option_map (λ access. record { start = o.start; end = 2 ^ 64 - 1; src = o.asked.src; access = access; reply = None }) o.access
+
+-- sixteen byte enables and sixteen bytes
+pub record IsPacket (be : ℕ) (lanes : List ℕ) : Type 0 where
+  pub bits : be < 2 ^ 16
+  pub whole : length lanes ≡ 16
+  pub bytes : (i : ℕ) → slice_index lanes i < 256
+
+-- the data that an event tells are a packet
+abbrev pub HasPacket : EventKind → Type 0
+HasPacket (event_kind.Request r) = IsPacket r.asked.be r.asked.lanes
+HasPacket (event_kind.Data p) = IsPacket p.be p.lanes
+HasPacket _ = Unit {0}
+
+-- the word that it tells is one
+abbrev pub HasWord : EventKind → Type 0
+HasWord (event_kind.Word told) = told.word < 2 ^ 64
+HasWord (event_kind.Final told) = told.word < 2 ^ 64
+HasWord _ = Unit {0}
+
+-- what is true of every event, since its numbers fit their types
+pub record IsEvent (e : Event) : Type 0 where
+  pub time : e.time < 2 ^ 64
+  pub packet : HasPacket e.kind
+  pub word : HasWord e.kind
+
+-- the request was not refused: it has an access, or waits for its data
+pub record IsAccepted (t : Told) : Type 0 where
+  pub decided : access_told t ≡ None → waits_for_data t ≡ true
+
+-- These requests are outstanding after the events, and these operations had ended, in some order. An outstanding request is the
+-- last of its number.
+pub record Tells (events : List Event) (ended : List Observed) (o : OutstandingValue) : Type 0 where
+  pub bounds : All IsEvent events
+  pub in_time : IsNonDecreasingBy (λ (e : Event). e.time) events
+  pub times : All (λ e. e.time ≤ o.time) events
+  pub requests : o.requests ≡ map open_of (filter is_outstanding (told events))
+  pub ends : IsPermutation (filter_map operation_of (filter (λ t. not (is_outstanding t)) (told events))) ended
+  pub last : AllPairs (λ t later. is_outstanding t ≡ true → t.request.id ≡ later.request.id → ⊥) (told events)
+  pub accepted : All IsAccepted (told events)
+
+-- the outstanding request with this number
+abbrev pub open_with : ℕ → List Open → Option Open
+open_with id requests = find (λ o. o.id == id) requests
+
+-- why a home takes no request: what its data may still mend is no reason before they have come
+abbrev pub refusal_fault : Bool → Result Access Refusal → Option EventFault
+refusal_fault whole (Ok access) = None
+refusal_fault false (Err refusal.BadByteEnable) = None
+refusal_fault whole (Err refused) = Some (fault.Refused refused)
+
+abbrev pub request_fault : Requested → Option Open → Option EventFault
+request_fault r (Some o) = Some fault.NumberTaken
+request_fault r None = refusal_fault (is_whole r) (access_of None r.asked)
+
+abbrev pub data_fault : Packet → Option Open → Option EventFault
+data_fault p None = Some fault.NotOutstanding
+data_fault p (Some o) = if is_some o.access then Some fault.DataTwice else refusal_fault true (access_of None (with_packet o.asked p))
+
+abbrev pub reply_fault : Option Open → Option EventFault
+reply_fault None = Some fault.NotOutstanding
+reply_fault (Some o) = if is_some o.completion then Some fault.ReplyTwice else None
+
+abbrev pub drop_fault : Option Open → Option EventFault
+drop_fault None = Some fault.NotOutstanding
+drop_fault (Some o) = None
+
+abbrev pub kind_fault : List Open → EventKind → Option EventFault
+kind_fault requests (event_kind.Request r) = request_fault r (open_with r.id requests)
+kind_fault requests (event_kind.Data p) = data_fault p (open_with p.id requests)
+kind_fault requests (event_kind.Reply c) = reply_fault (open_with c.id requests)
+kind_fault requests (event_kind.Dropped id) = drop_fault (open_with id requests)
+kind_fault requests (event_kind.Word w) = None
+kind_fault requests (event_kind.Final w) = None
+kind_fault requests (event_kind.Unknown addr len) = None
+
+-- why the event cannot come next, if it cannot
+abbrev pub fault_of : OutstandingValue → Event → Option EventFault
+fault_of o e = if nat_lt e.time o.time then Some fault.TimeFalls else kind_fault o.requests e.kind
+
+-- the event is its request
+abbrev pub IsTakenBy : Event → Open → Type 0
+IsTakenBy e o = (o.start ≡ e.time) × ((r : Requested) × (requested e.kind ≡ Some r) × (o.asked ≡ r.asked))
+
+-- an outstanding request was so before, or was taken by this event
+abbrev pub StaysOrStarts : List Open → Event → Open → Type 0
+StaysOrStarts before e o = IsTakenBy e o ⊎ ((p : Open) × Contains before p × (o.start ≡ p.start) × (o.asked ≡ p.asked))
+
+-- the operation is one of these requests, and ended at this time
+pub record IsEndOf (before : List Open) (time : ℕ) (op : Observed) : Type 0 where
+  pub request : Open
+  pub is : Contains before request
+  pub start : op.start ≡ request.start
+  pub at : op.access.addr ≡ request.asked.addr
+  pub within : op.access.addr + op.access.len ≤ 2 ^ 52
+  pub end : op.end ≡ time
+  pub lasting : op.start ≤ op.end

@@ -1,0 +1,65 @@
+//! What a monitor tells of a home while a simulation runs.
+
+use chi_lanes::Reply;
+use chi_reading::Asked;
+use chi_verdict::GranuleWord;
+
+/// A request that a home has taken. `id` is a number that no other outstanding request has. Its data have come with it, or are
+/// told by a later event; until then its byte enables and lanes are 0.
+///
+/// Source: profile.
+#[derive(Clone, Copy, Debug)]
+pub struct Requested {
+    pub id: u64,
+    pub asked: Asked,
+    pub has_data: bool,
+}
+
+/// The data of a request: the byte enables and the lanes of the aligned 16 bytes that contain its address.
+///
+/// Source: Arm IHI 0050 Issue B, data packet.
+#[derive(Clone, Copy, Debug)]
+pub struct Packet {
+    pub id: u64,
+    pub be: u16,
+    pub lanes: [u8; 16],
+}
+
+/// The completion of a request. `reply` is `None` where it does not say what was done, as that of an error response.
+///
+/// Source: profile.
+#[derive(Clone, Copy, Debug)]
+pub struct Completion {
+    pub id: u64,
+    pub reply: Option<Reply>,
+}
+
+/// What an event tells.
+///
+/// - `Request`: a request was taken.
+/// - `Data`: its data have come.
+/// - `Reply`: its completion has left.
+/// - `Dropped`: the request with this number took no effect. It was refused or retried, or its data were cancelled.
+/// - `Word`: the word of a granule before its first request.
+/// - `Final`: the word of a granule after its last request.
+/// - `Unknown`: something that these events do not tell may have written the `length` bytes from `addr` on.
+#[derive(Clone, Copy, Debug)]
+pub enum EventKind {
+    Request(Requested),
+    Data(Packet),
+    Reply(Completion),
+    Dropped { id: u64 },
+    Word(GranuleWord),
+    Final(GranuleWord),
+    Unknown { addr: u64, length: u64 },
+}
+
+/// An event, and when it was seen: a count of one clock, of which only the order is looked at. A monitor tells events in the
+/// order of their times; those of one time may be told in any order.
+///
+/// Source: profile.
+#[derive(Clone, Copy, Debug)]
+pub struct Event {
+    pub time: u64,
+    pub kind: EventKind,
+}

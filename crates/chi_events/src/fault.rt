@@ -1,0 +1,34 @@
+//! Why an event cannot come next.
+
+use chi_fields::{Refusal, refusal_name};
+use thiserror::Error;
+
+/// Why an event cannot come after those before it.
+///
+/// - `TimeFalls`: it is earlier than the one before it.
+/// - `NumberTaken`: a request with this number is outstanding.
+/// - `NotOutstanding`: no request with this number is outstanding.
+/// - `DataTwice`: the request has its data already, or needs none.
+/// - `ReplyTwice`: its completion has left already.
+/// - `Refused`: `decode` refuses the request, so that no home can have taken it.
+///
+/// ```
+/// let fault = EventFault::TimeFalls; // is earlier than the event before it
+/// ```
+#[derive(Clone, Copy, Debug, PartialEq, Eq, Error)]
+pub enum EventFault {
+    #[error("is earlier than the event before it")]
+    TimeFalls,
+    #[error("takes a number of an outstanding request")]
+    NumberTaken,
+    #[error("is of no outstanding request")]
+    NotOutstanding,
+    #[error("has data for a request that has them or needs none")]
+    DataTwice,
+    #[error("has a second reply")]
+    ReplyTwice,
+    #[error("is refused: {}", refusal_name(*.0))]
+    Refused(Refusal),
+    #[error("no memory")]
+    Memory,
+}

@@ -1,0 +1,13 @@
+//! Events of a home, as a monitor tells them, and the trace that they are.
+#![tactic(auto)]
+
+mod bounds;
+mod event;
+mod fault;
+pub mod laws;
+mod outstanding;
+mod taking;
+
+pub use event::{Completion, Event, EventKind, Packet, Requested};
+pub use fault::EventFault;
+pub use outstanding::{Open, Outstanding};

@@ -1,0 +1,131 @@
+//! The requests that are outstanding, as events come.
+
+ghost use Rattle.std.specs.Prelude.{◌≡◌, ◌≢◌, ℕ, [], ◌∷◌, ◌++◌, List, All, None, Some, IfErr, IfOk, IfSome, option_to_list, filter_map};
+ghost use Rattle.chi_trace.specs.declared.observed.Observed.{Observed};
+ghost use Rattle.chi_events.specs.declared.event.Event.{Event};
+ghost use Rattle.chi_events.specs.Outstanding.{IsEndOf, IsOpen, StaysOrStarts, Tells, fault_of, open_operation};
+
+use crate::bounds::event_fits;
+use crate::event::Event;
+use crate::fault::EventFault;
+use crate::taking::take_kind;
+use chi_fields::Access;
+use chi_lanes::Reply;
+use chi_reading::Asked;
+use chi_trace::Observed;
+use std::alloc::Global;
+use std::marker::Model;
+
+/// An outstanding request: its access, once its data have come, and its completion, once that has left. `completion` is
+/// `Some(None)` where it does not say what was done.
+#[derive(Clone, Copy, Debug)]
+pub struct Open {
+    pub id: u64,
+    pub start: u64,
+    pub asked: Asked,
+    pub access: Option<Access>,
+    pub completion: Option<Option<Reply>>,
+}
+
+impl Open {
+    /// The operation that it is, if its data have come: one that is open.
+    ///
+    /// ```
+    /// let op = open.operation();
+    /// ```
+    pub fn operation(&self) -> Option<Observed>
+        ensures { result ≡ open_operation self.now }
+    {
+        let access = self.access?;
+        Some(Observed {
+            start: self.start,
+            end: u64::MAX,
+            src: self.asked.src,
+            access,
+            reply: None,
+        })
+    }
+}
+
+/// The requests that are outstanding, as events come.
+///
+/// Source: profile.
+///
+/// ```
+/// let mut outstanding = Outstanding::new(alloc);
+/// for event in &events {
+///     if let Some(op) = outstanding.take(event)? {
+///         show(&op);
+///     }
+/// }
+/// ```
+#[derive(Drop)]
+pub struct Outstanding {
+    requests: Vec<Open>,
+    time: u64,
+}
+
+impl Model for Outstanding {
+    ghost use Rattle.std.specs.Prelude.{All};
+    ghost use Rattle.chi_events.specs.Outstanding.{IsOpen, OutstandingValue};
+
+    ghost Value = { OutstandingValue };
+
+    ghost view = { λ o. record { requests = o.requests.items; time = o.time } };
+
+    ghost invariant = { λ o. All (IsOpen o.time) o.requests.items };
+}
+
+impl Outstanding {
+    /// No request is outstanding, before any event.
+    ///
+    /// ```
+    /// let outstanding = Outstanding::new(alloc);
+    /// ```
+    pub fn new(alloc: Global) -> Outstanding
+        ensures tells { Tells [] [] result }
+        ensures none { (result.requests ≡ []) × (result.time ≡ 0) }
+    {
+        Outstanding {
+            requests: Vec::new(alloc),
+            time: 0,
+        }
+    }
+
+    /// Takes an event, where it can come next, and answers the operation that ended by it, if one did.
+    ///
+    /// ```
+    /// if let Some(op) = outstanding.take(&event)? {
+    ///     show(&op);
+    /// }
+    /// ```
+    pub fn take(&mut self, event: &Event) -> Result<Option<Observed>, EventFault>
+        ensures tells { IfOk result (λ ended. (events : List Event) (past : List Observed) → Tells events past self.old → Tells (events ++ event.now ∷ []) (past ++ option_to_list ended) self.new) }
+        ensures taken { IfOk result (λ ended. fault_of self.old event.now ≡ None) }
+        ensures fault { IfErr result (λ fault. fault ≢ EventFault.Memory → fault_of self.old event.now ≡ Some fault) }
+        ensures failed { IfErr result (λ fault. self.new ≡ self.old) }
+        ensures time { IfOk result (λ ended. self.new.time ≡ event.now.time) }
+        ensures ended { IfOk result (λ ended. IfSome ended (IsEndOf self.old.requests event.now.time)) }
+        ensures requests { IfOk result (λ ended. All (StaysOrStarts self.old.requests event.now) self.new.requests) }
+    {
+        if event.time < self.time {
+            return Err(EventFault::TimeFalls);
+        }
+        event_fits(event);
+        let ended = take_kind(&mut self.requests, event.time, &event.kind)?;
+        self.time = event.time;
+        Ok(ended)
+    }
+
+    /// The requests that are outstanding, in the order in which they were taken.
+    ///
+    /// ```
+    /// let count = outstanding.requests().len();
+    /// ```
+    pub fn requests(&self) -> &[Open]
+        ensures requests { result.now ≡ self.now.requests }
+        ensures are_open { All (IsOpen self.now.time) self.now.requests }
+    {
+        self.requests.as_slice()
+    }
+}
