@@ -1,0 +1,144 @@
+-- the event that a line tells, or its first fault
+use Rattle.std.specs.Prelude.{ℕ, nat_eq, true, false, ◌+◌, ◌-◌, ◌/◌, ◌^◌, nat_le, ◌&&◌, ◌||◌, Bool, if◌then◌else◌, List, [], ◌∷◌, codes, Option, None, Some, is_some, option_and_then, Result, Ok, Err}
+use Rattle.std.specs.List.{list_any, starts_with}
+use Rattle.std.specs.Option.{ok_or}
+use Rattle.std.specs.Str.{bytes_eq}
+use Rattle.serde_json.specs.Data.{Data, Members, no_members, member}
+use Rattle.serde_json.specs.Find.{as_bool, as_object, as_str, get}
+use Rattle.chi_script.specs.declared.fault.ScriptFault.{ScriptFault}
+use Rattle.chi_script.specs.declared.fault.ScriptFault.TheVariants as script_fault
+use Rattle.chi_script.specs.declared.member.Member.{Member}
+use Rattle.chi_script.specs.declared.member.Member.TheVariants as name
+use Rattle.chi_script.specs.Member.{member_name}
+use Rattle.chi_script.specs.Script.{◌>>=◌, hex_bytes, json_value, member_by, number_of}
+use Rattle.chi_reading.specs.Faults.{or_else}
+use Rattle.chi_reading.specs.Requests.{asked_of, fields_of, seen_of}
+use Rattle.chi_reading.specs.Told.{start_of, word_of as granule_word}
+use Rattle.chi_events.specs.declared.event.Completion.{Completion}
+use Rattle.chi_events.specs.declared.event.Event.{Event}
+use Rattle.chi_events.specs.declared.event.EventKind.{EventKind}
+use Rattle.chi_events.specs.declared.event.EventKind.TheVariants as kind
+use Rattle.chi_events.specs.declared.event.Packet.{Packet}
+use Rattle.chi_events.specs.declared.event.Requested.{Requested}
+use Rattle.chi_event_text.specs.declared.fault.LineFault.{LineFault}
+use Rattle.chi_event_text.specs.declared.fault.LineFault.TheVariants.{NotJson, NotObject, Missing, BadMember, UnknownMember, Memory}
+use Rattle.chi_event_text.specs.declared.kind.LineKind.{LineKind}
+use Rattle.chi_event_text.specs.declared.kind.LineKind.TheVariants as line
+
+-- a fault of the walk as a line's: the members of an event have no fault of a list of requests or of a region
+abbrev pub as_line : ScriptFault → LineFault
+as_line script_fault.NotJson = NotJson
+as_line script_fault.NotObject = NotObject
+as_line (script_fault.Missing m) = Missing m
+as_line (script_fault.BadMember m) = BadMember m
+as_line script_fault.TooManyRequests = BadMember name.Requests
+as_line (script_fault.RegionRefused fault) = BadMember name.Base
+as_line script_fault.Memory = Memory
+
+-- ---- kinds
+
+-- the kind of this name
+abbrev pub kind_named : List ℕ → Option LineKind
+kind_named s =
+    if bytes_eq s (codes "request") then Some line.Request else (
+    if bytes_eq s (codes "data") then Some line.Data else (
+    if bytes_eq s (codes "reply") then Some line.Reply else (
+    if bytes_eq s (codes "dropped") then Some line.Dropped else (
+    if bytes_eq s (codes "word") then Some line.Word else (
+    if bytes_eq s (codes "unknown") then Some line.Unknown else None)))))
+
+abbrev pub kind_of : Data → Option LineKind
+kind_of d = option_and_then kind_named (as_str d)
+
+-- the members that a line of a kind may have
+abbrev pub members_of : LineKind → List Member
+members_of line.Request =
+    name.Event ∷ name.Time ∷ name.Id ∷ name.Src ∷ name.Txn ∷ name.Opcode ∷ name.Size ∷ name.Addr ∷ name.Endian ∷ name.Be ∷ name.Lanes ∷ []
+members_of line.Data = name.Event ∷ name.Time ∷ name.Id ∷ name.Be ∷ name.Lanes ∷ []
+members_of line.Reply = name.Event ∷ name.Time ∷ name.Id ∷ name.Reply ∷ []
+members_of line.Dropped = name.Event ∷ name.Time ∷ name.Id ∷ []
+members_of line.Word = name.Event ∷ name.Time ∷ name.Addr ∷ name.Bytes ∷ name.Final ∷ []
+members_of line.Unknown = name.Event ∷ name.Time ∷ name.Addr ∷ name.Length ∷ []
+
+-- members whose name begins with `x-` are ignored
+abbrev pub is_ignored : List ℕ → Bool
+is_ignored s = starts_with nat_eq s (codes "x-")
+
+-- a name is that of one of some members
+abbrev pub is_among : List Member → List ℕ → Bool
+is_among ms s = list_any (λ m. bytes_eq (member_name m) s) ms
+
+-- a line of a kind may have a member of this name
+unfoldable pub is_known : LineKind → List ℕ → Bool
+is_known k s = is_ignored s || is_among (members_of k) s
+
+-- the same of each member
+unfoldable pub all_known : LineKind → Members → Bool
+all_known k no_members = true
+all_known k (member s d ms) = is_known k s && all_known k ms
+
+-- ---- what is told
+
+-- a request: with its data where `be` or `lanes` is there, and then both have to be
+unfoldable pub requested_of : Data → Result Requested ScriptFault
+requested_of d = do
+  id ← number_of name.Id (2 ^ 64 - 1) d
+  asked ← if has_data then asked_of d else fields_of d
+  Ok (record { id = id; asked = asked; has_data = has_data })
+  where
+    has_data : Bool
+    has_data = is_some (get (member_name name.Be) d) || is_some (get (member_name name.Lanes) d)
+
+-- its data
+unfoldable pub packet_of : Data → Result Packet ScriptFault
+packet_of d = do
+  id ← number_of name.Id (2 ^ 64 - 1) d
+  be ← number_of name.Be 65535 d
+  lanes ← member_by name.Lanes (hex_bytes 16) d
+  Ok (record { id = id; be = be; lanes = lanes })
+
+-- its completion
+unfoldable pub completion_of : Data → Result Completion ScriptFault
+completion_of d = do
+  id ← number_of name.Id (2 ^ 64 - 1) d
+  reply ← member_by name.Reply seen_of d
+  Ok (record { id = id; reply = reply })
+
+-- whether a word is one at the end, by the member `final`
+abbrev pub final_by : Option Data → Result Bool ScriptFault
+final_by None = Ok false
+final_by (Some d) = ok_or (as_bool d) (script_fault.BadMember name.Final)
+
+-- a word, before the first request of its granule or after the last
+unfoldable pub word_of : Data → Result EventKind ScriptFault
+word_of d = do
+  addr ← member_by name.Addr start_of d
+  word ← member_by name.Bytes granule_word d
+  is_final ← final_by (get (member_name name.Final) d)
+  Ok ((if is_final then kind.Final else kind.Word) (record { granule = addr / 8; word = word }))
+
+-- bytes of which nothing is known
+unfoldable pub unknown_of : Data → Result EventKind ScriptFault
+unknown_of d = do
+  addr ← number_of name.Addr (2 ^ 64 - 1) d
+  length ← number_of name.Length 4096 d
+  if nat_le 1 length && nat_le (addr + length) (2 ^ 52) then Ok (kind.Unknown addr length) else Err (script_fault.BadMember name.Length)
+
+-- what a line of a kind tells
+unfoldable pub told_of : LineKind → Data → Result EventKind ScriptFault
+told_of line.Request d = requested_of d >>= λ r. Ok (kind.Request r)
+told_of line.Data d = packet_of d >>= λ p. Ok (kind.Data p)
+told_of line.Reply d = completion_of d >>= λ c. Ok (kind.Reply c)
+told_of line.Dropped d = number_of name.Id (2 ^ 64 - 1) d >>= λ id. Ok (kind.Dropped id)
+told_of line.Word d = word_of d
+told_of line.Unknown d = unknown_of d
+
+-- the event of a line: its kind, its time, what it tells, and that it has no other members
+unfoldable pub event_text : List ℕ → Result Event LineFault
+event_text text = do
+  d ← ok_or (json_value text) NotJson
+  members ← ok_or (as_object d) NotObject
+  k ← or_else as_line (member_by name.Event kind_of d)
+  time ← or_else as_line (number_of name.Time (2 ^ 64 - 1) d)
+  told ← or_else as_line (told_of k d)
+  if all_known k members then Ok (record { time = time; kind = told }) else Err UnknownMember

@@ -1,0 +1,50 @@
+//! Why a line is refused.
+
+ghost use Rattle.std.specs.Prelude.{◌≡◌};
+ghost use Rattle.chi_event_text.specs.EventText.{as_line};
+
+use chi_script::{Member, ScriptFault};
+use thiserror::Error;
+
+/// Why a line is refused: the first fault that its reading meets, or `Memory` where a growth is refused before.
+///
+/// - `NotJson`: the line is not one JSON text in UTF-8, or nests more than 127 deep.
+/// - `NotObject`: the value is not an object.
+/// - `Missing`, `BadMember`: a member is not there, or not as stated.
+/// - `UnknownMember`: there is a member that the event does not have, and whose name does not begin with `x-`.
+///
+/// ```
+/// let fault = LineFault::Missing(Member::Time); // member time is missing
+/// ```
+#[derive(Clone, Copy, Debug, PartialEq, Eq, Error)]
+pub enum LineFault {
+    #[error("is not JSON")]
+    NotJson,
+    #[error("is not an object")]
+    NotObject,
+    #[error("member {} is missing", .0.name())]
+    Missing(Member),
+    #[error("member {} is not as stated", .0.name())]
+    BadMember(Member),
+    #[error("has a member that its event does not have")]
+    UnknownMember,
+    #[error("no memory")]
+    Memory,
+}
+
+impl From<ScriptFault> for LineFault {
+    ghost from_gives = { λ fault result. result ≡ as_line fault };
+
+    // A line has no list of requests and no region, so that it has none of the faults of these.
+    fn from(fault: ScriptFault) -> LineFault {
+        match fault {
+            ScriptFault::NotJson => LineFault::NotJson,
+            ScriptFault::NotObject => LineFault::NotObject,
+            ScriptFault::Missing(member) => LineFault::Missing(member),
+            ScriptFault::BadMember(member) => LineFault::BadMember(member),
+            ScriptFault::TooManyRequests => LineFault::BadMember(Member::Requests),
+            ScriptFault::RegionRefused(_) => LineFault::BadMember(Member::Base),
+            ScriptFault::Memory => LineFault::Memory,
+        }
+    }
+}

@@ -1,0 +1,66 @@
+//! Lines of JSON that tell an event each, and how one is read.
+
+ghost use Rattle.std.specs.Prelude.{◌≡◌, ◌≢◌, IfErr, IfOk, Ok, Err};
+ghost use Rattle.serde_json.specs.View.{view};
+ghost use Rattle.chi_script.specs.Script.{member_by};
+ghost use Rattle.chi_event_text.specs.EventText.{event_text, kind_of};
+
+use crate::fault::LineFault;
+use crate::kind::LineKind;
+use crate::told::{stated, told};
+use chi_events::Event;
+use chi_script::{Member, ScriptFault, json, number};
+use serde_json::Value;
+use std::alloc::Global;
+
+/// The kind that a line names.
+fn kind_told(object: &Value) -> Result<LineKind, ScriptFault>
+    ensures { result ≡ member_by Member.Event kind_of (view object.now) }
+{
+    let name = stated(object, Member::Event)?.as_str();
+    name.and_then(LineKind::named)
+        .ok_or(ScriptFault::BadMember(Member::Event))
+}
+
+/// The event that a line tells, or the line's first fault.
+///
+/// The line is a JSON object in UTF-8. Its member `event` names what is told, and `time` is a whole number below 2^64, as
+/// `id` and `addr` are. The members beside these are, by the kind of event:
+///
+/// - `request`: `id`, and the fields of a request as a trace has them: `src` and `txn`, 0 to 65,535; `op`, 0 to 255; `size`,
+///   0 to 7; `addr`; and `endian`, 0 or 1. Where its data come with it, also `be`, 0 to 65,535, and `lanes`, 32 hex digits,
+///   lane 0 first. Where both are left out they are 0, and the data are told by an event `data`.
+/// - `data`: `id`, `be` and `lanes`.
+/// - `reply`: `id`, and `reply`: the text `comp`, one of 32 hex digits, lane 0 first, or `null`.
+/// - `dropped`: `id`.
+/// - `word`: `addr`, a multiple of 8 below 2^52, and `bytes`, 16 hex digits: the eight bytes in address order. Where `final`
+///   is `true` the word is one at the end; it may be left out.
+/// - `unknown`: `addr`, and `length`, 1 to 4,096. Where their sum is over 2^52, `length` is the bad member.
+///
+/// Members whose name begins with `x-` are ignored, and others are refused. Of two members of one name the last counts.
+///
+/// The faults' order is that of `event`, `time`, the kind's members as they are listed here, and then members that it does
+/// not have. `Memory` is answered where a growth is refused before a fault is met.
+///
+/// Source: profile.
+///
+/// ```
+/// let event = read_event(alloc, b"{\"time\":70,\"event\":\"dropped\",\"id\":3}")?;
+/// ```
+#[tactic(auto, unfolding(crate::specs::EventText::event_text))]
+pub fn read_event(alloc: Global, line: &[u8]) -> Result<Event, LineFault>
+    ensures ok { IfOk result (λ event. event_text line.now ≡ Ok event) }
+    ensures fault { IfErr result (λ fault. fault ≢ LineFault.Memory → event_text line.now ≡ Err fault) }
+{
+    let object = json(alloc, line)?;
+    let Some(members) = object.as_object() else {
+        return Err(LineFault::NotObject);
+    };
+    let kind = kind_told(&object)?;
+    let time = number(&object, Member::Time, u64::MAX)?;
+    let told = told(kind, &object)?;
+    if !kind.knows_all(members) {
+        return Err(LineFault::UnknownMember);
+    }
+    Ok(Event { time, kind: told })
+}

@@ -1,0 +1,62 @@
+//! Whether a line tells what is wanted.
+
+use chi_event_text::{LineFault, read_event};
+use chi_events::EventKind;
+use chi_reading::Asked;
+use chi_verdict::GranuleWord;
+use std::alloc::Global;
+
+fn same_asked(asked: &Asked, want: &Asked) -> bool {
+    asked.src == want.src
+        && asked.txn == want.txn
+        && asked.opcode == want.opcode
+        && asked.size == want.size
+        && asked.addr == want.addr
+        && asked.endian == want.endian
+        && asked.be == want.be
+        && asked.lanes == want.lanes
+}
+
+fn same_word(told: &GranuleWord, want: &GranuleWord) -> bool {
+    told.granule == want.granule && told.word == want.word
+}
+
+fn same_kind(kind: &EventKind, want: &EventKind) -> bool {
+    match (kind, want) {
+        (EventKind::Request(told), EventKind::Request(want)) => {
+            told.id == want.id
+                && told.has_data == want.has_data
+                && same_asked(&told.asked, &want.asked)
+        }
+        (EventKind::Data(told), EventKind::Data(want)) => {
+            told.id == want.id && told.be == want.be && told.lanes == want.lanes
+        }
+        (EventKind::Reply(told), EventKind::Reply(want)) => {
+            told.id == want.id && told.reply == want.reply
+        }
+        (EventKind::Dropped { id }, EventKind::Dropped { id: want }) => id == want,
+        (EventKind::Word(told), EventKind::Word(want)) => same_word(told, want),
+        (EventKind::Final(told), EventKind::Final(want)) => same_word(told, want),
+        (
+            EventKind::Unknown { addr, length },
+            EventKind::Unknown {
+                addr: want_addr,
+                length: want_length,
+            },
+        ) => addr == want_addr && length == want_length,
+        _ => false,
+    }
+}
+
+/// Whether a line tells this, at time 70.
+pub(crate) fn tells(alloc: Global, line: &str, want: &EventKind) -> bool {
+    match read_event(alloc, line.as_bytes()) {
+        Ok(event) => event.time == 70 && same_kind(&event.kind, want),
+        Err(_) => false,
+    }
+}
+
+/// The fault of a line; `None` where it has none.
+pub(crate) fn fault_of(alloc: Global, line: &str) -> Option<LineFault> {
+    read_event(alloc, line.as_bytes()).err()
+}

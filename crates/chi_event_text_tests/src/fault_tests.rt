@@ -1,0 +1,188 @@
+//! The faults of a line, and their texts.
+
+use crate::comparison::fault_of;
+use chi_event_text::LineFault;
+use chi_script::Member;
+use std::test::Fail;
+
+#[test]
+fn faults_and_their_texts(rt: HostRuntime) -> Result<(), Fail> {
+    for (line, fault, text) in [
+        ("{", LineFault::NotJson, "is not JSON"),
+        ("", LineFault::NotJson, "is not JSON"),
+        (
+            r#"[{"event":"dropped"}]"#,
+            LineFault::NotObject,
+            "is not an object",
+        ),
+        (
+            "{}",
+            LineFault::Missing(Member::Event),
+            "member event is missing",
+        ),
+        (
+            r#"{"event":"Data"}"#,
+            LineFault::BadMember(Member::Event),
+            "member event is not as stated",
+        ),
+        (
+            r#"{"event":"data"}"#,
+            LineFault::Missing(Member::Time),
+            "member time is missing",
+        ),
+        (
+            r#"{"event":"data","time":18446744073709551616}"#,
+            LineFault::BadMember(Member::Time),
+            "member time is not as stated",
+        ),
+        (
+            r#"{"event":"dropped","time":70}"#,
+            LineFault::Missing(Member::Id),
+            "member id is missing",
+        ),
+        (
+            r#"{"event":"word","time":70,"addr":0}"#,
+            LineFault::Missing(Member::Bytes),
+            "member bytes is missing",
+        ),
+        (
+            r#"{"event":"unknown","time":70,"addr":0}"#,
+            LineFault::Missing(Member::Length),
+            "member length is missing",
+        ),
+        (
+            r#"{"event":"dropped","time":70,"id":3,"note":0}"#,
+            LineFault::UnknownMember,
+            "has a member that its event does not have",
+        ),
+    ] {
+        assert_eq!(rt; fault_of(rt.alloc(), line), Some(fault), "{line}");
+        assert_eq!(rt; format!(in rt.alloc(); "{fault}")?.as_str(), text);
+    }
+    assert_eq!(rt;
+        format!(in rt.alloc(); "{}", LineFault::Memory)?.as_str(),
+        "no memory"
+    );
+    Ok(())
+}
+
+#[test]
+fn bad_members(rt: HostRuntime) {
+    for (line, member) in [
+        (r#"{"event":7}"#, Member::Event),
+        (r#"{"event":"dropped","time":-1}"#, Member::Time),
+        (r#"{"event":"dropped","time":70,"id":0.5}"#, Member::Id),
+        (
+            r#"{"event":"data","time":70,"id":3,"be":65536}"#,
+            Member::Be,
+        ),
+        (
+            r#"{"event":"data","time":70,"id":3,"be":1,"lanes":"0g000000000000000000000000000000"}"#,
+            Member::Lanes,
+        ),
+        (
+            r#"{"event":"reply","time":70,"id":3,"reply":"Comp"}"#,
+            Member::Reply,
+        ),
+        (
+            r#"{"event":"reply","time":70,"id":3,"reply":0}"#,
+            Member::Reply,
+        ),
+        (
+            r#"{"event":"word","time":70,"addr":4,"bytes":"0000000000000000"}"#,
+            Member::Addr,
+        ),
+        (
+            r#"{"event":"word","time":70,"addr":4503599627370496,"bytes":"0000000000000000"}"#,
+            Member::Addr,
+        ),
+        (
+            r#"{"event":"word","time":70,"addr":8,"bytes":"00000000000000"}"#,
+            Member::Bytes,
+        ),
+        (
+            r#"{"event":"word","time":70,"addr":8,"bytes":"0000000000000000","final":1}"#,
+            Member::Final,
+        ),
+        (
+            r#"{"event":"unknown","time":70,"addr":0,"length":0}"#,
+            Member::Length,
+        ),
+        (
+            r#"{"event":"unknown","time":70,"addr":0,"length":4097}"#,
+            Member::Length,
+        ),
+        (
+            r#"{"event":"unknown","time":70,"addr":4503599627366401,"length":4096}"#,
+            Member::Length,
+        ),
+    ] {
+        assert_eq!(rt;
+            fault_of(rt.alloc(), line),
+            Some(LineFault::BadMember(member)),
+            "{line}"
+        );
+    }
+}
+
+// Missing members that the table above does not have.
+#[test]
+fn missing_members(rt: HostRuntime) {
+    for (line, member) in [
+        (r#"{"event":"data","time":70}"#, Member::Id),
+        (r#"{"event":"data","time":70,"id":3}"#, Member::Be),
+        (r#"{"event":"data","time":70,"id":3,"be":1}"#, Member::Lanes),
+        (r#"{"event":"reply","time":70}"#, Member::Id),
+        (r#"{"event":"reply","time":70,"id":3}"#, Member::Reply),
+        (r#"{"event":"word","time":70}"#, Member::Addr),
+        (r#"{"event":"unknown","time":70}"#, Member::Addr),
+    ] {
+        assert_eq!(rt;
+            fault_of(rt.alloc(), line),
+            Some(LineFault::Missing(member)),
+            "{line}"
+        );
+    }
+}
+
+// A member of another kind of event is refused, and so is one whose name is like `x-`.
+#[test]
+fn members_of_other_events(rt: HostRuntime) {
+    for line in [
+        r#"{"event":"dropped","time":70,"id":3,"reply":null}"#,
+        r#"{"event":"data","time":70,"id":3,"be":1,"lanes":"00000000000000000000000000000000","addr":0}"#,
+        r#"{"event":"reply","time":70,"id":3,"reply":null,"final":true}"#,
+        r#"{"event":"word","time":70,"addr":0,"bytes":"0000000000000000","id":3}"#,
+        r#"{"event":"unknown","time":70,"addr":0,"length":1,"bytes":"00"}"#,
+        r#"{"event":"dropped","time":70,"id":3,"X-note":0}"#,
+        r#"{"event":"dropped","time":70,"id":3,"x":0}"#,
+        r#"{"event":"dropped","time":70,"id":3,"":0}"#,
+    ] {
+        assert_eq!(rt;
+            fault_of(rt.alloc(), line),
+            Some(LineFault::UnknownMember),
+            "{line}"
+        );
+    }
+}
+
+// The first fault is told: members in the order of the kind, and other members last.
+#[test]
+fn first_fault(rt: HostRuntime) {
+    for (line, fault) in [
+        (
+            r#"{"note":0,"time":-1,"event":"write"}"#,
+            LineFault::BadMember(Member::Event),
+        ),
+        (
+            r#"{"note":0,"event":"data","lanes":"","id":-1,"time":70}"#,
+            LineFault::BadMember(Member::Id),
+        ),
+        (
+            r#"{"note":0,"event":"data","lanes":"","id":1,"be":0,"time":70}"#,
+            LineFault::BadMember(Member::Lanes),
+        ),
+    ] {
+        assert_eq!(rt; fault_of(rt.alloc(), line), Some(fault), "{line}");
+    }
+}
