@@ -1,0 +1,110 @@
+-- what is said of the events by the granules once all that is still open was told
+use Rattle.std.proofs.Common.{◌≡◌, ℕ, ◌++◌, true, List, [], ◌∷◌, Option, Some, None, IfSome, filter, sym, ap, subst, ◌∙◌}
+use Rattle.std.specs.Prelude.{IfOk, Result, Err, Ok, filter_map}
+use Rattle.std.proofs.lemmas.List.Elements.{filter-append}
+use Rattle.chi_events.specs.EventLaws.{OperationsAreTold}
+use Rattle.chi_events.specs.Outstanding.{open_operation}
+use Rattle.chi_events.specs.declared.event.Event.{Event}
+use Rattle.chi_search.specs.Frontiers.{Follows}
+use Rattle.chi_search.specs.Layers.{SomeLeads}
+use Rattle.chi_trace.specs.Chosen.{GranulesTold, is_in}
+use Rattle.chi_trace.specs.TraceLaws.{GranulesExplain, PartsExplain}
+use Rattle.chi_trace.specs.declared.observed.Observed.{Observed}
+use Rattle.chi_verdict.specs.Words.{told, word_told}
+use Rattle.chi_watch.specs.Endings.{AreToldTo, IfExplained, IfUnexplained, IsExplainable, IsInexplicableAt}
+use Rattle.chi_watch.specs.Followed.{IsWord}
+use Rattle.chi_watch.specs.Judged.{IsExplained, finals, is_known, openings}
+use Rattle.chi_watch.specs.Watches.{HasTaken, IsGranuleOf, IsUnexplained, Watches, WatchValue, granule}
+use Rattle.chi_watch.specs.declared.ending.Ending.{Ending}
+use Rattle.chi_watch.specs.declared.ending.Ending.TheVariants.{Explained, Undecided, Unexplained}
+use Rattle.chi_watch.specs.declared.followed.Followed.{Followed}
+use Rattle.chi_watch.proofs.ToldAtTheEnd.{own_open}
+use Rattle.chi_watch.proofs.Verdicts.{explained, leads_none, unexplained}
+
+-- the operations of each granule that are open were told of it
+abbrev pub AreClosed : WatchValue → (ℕ → Option Followed) → Type 0
+AreClosed w new = (g : ℕ) → AreToldTo (own_open g w.outstanding.requests) (granule w g) (new g)
+
+-- the operations of a granule, those that had ended and those that are open
+abbrev operations_of : List Observed → WatchValue → ℕ → List Observed
+operations_of ended w g = filter (is_in g) (ended ++ filter_map open_operation w.outstanding.requests)
+
+-- they lead to a word that may have been its last
+abbrev SomeWordFits : List Event → List Observed → WatchValue → ℕ → Type 0
+SomeWordFits events ended w g = (v : ℕ) × SomeLeads (operations_of ended w g) (word_told (openings events) g ∷ []) v × IsWord (told (finals events) g) v
+
+module _ (events : List Event) (ended : List Observed) (w : WatchValue) (new : ℕ → Option Followed) (is : Watches events ended w) (closed : AreClosed w new) where
+  parted : (g : ℕ) → filter (is_in g) ended ++ own_open g w.outstanding.requests ≡ operations_of ended w g
+  parted g = sym (filter-append (is_in g) ended (filter_map open_operation w.outstanding.requests))
+
+  -- Of a granule that is watched the search follows all of them.
+  record IsFollowed (g : ℕ) (f : Followed) : Type 0 where
+    known : f.is_known ≡ is_known events g
+    follows : is_known events g ≡ true → Follows (word_told (openings events) g ∷ []) (operations_of ended w g) f.frontier
+    last : f.last ≡ told (finals events) g
+
+  followed : (g : ℕ) (a : Option Followed) (f : Followed) → IsGranuleOf events ended w.outstanding g a → AreToldTo (own_open g w.outstanding.requests) a (Some f) → IsFollowed g f
+  followed g None f was more = absurd more
+  followed g (Some before) f was more = record {
+    known = more.known ∙ was.known;
+    follows = λ known.
+        subst (λ l. Follows (word_told (openings events) g ∷ []) l f.frontier) (parted g)
+        (more.follows (was.known ∙ known) (word_told (openings events) g ∷ []) (filter (is_in g) ended) (was.follows (was.known ∙ known)));
+    last = more.last ∙ was.last;
+  }
+
+  -- One that is not watched has none.
+  none_followed : (g : ℕ) (a : Option Followed) → IsGranuleOf events ended w.outstanding g a → AreToldTo (own_open g w.outstanding.requests) a None → SomeWordFits events ended w g
+  none_followed g (Some before) was more = absurd more
+  none_followed g None was more = (
+    word_told (openings events) g,
+    subst (λ l. SomeLeads l (word_told (openings events) g ∷ []) (word_told (openings events) g)) (sym (ap (λ l. l ++ own_open g w.outstanding.requests) was.none ∙ more) ∙ parted g)
+        (leads_none (word_told (openings events) g)),
+    subst (λ o. IsWord o (word_told (openings events) g)) (sym was.last) tt,
+  )
+
+  inexplicable : OperationsAreTold → GranulesTold → PartsExplain → (g : ℕ) → IsInexplicableAt (new g) → IsUnexplained events g
+  inexplicable operations_law granules_law parts_law g = by_case (new g) (closed g)
+    where
+      by_case : (b : Option Followed) → AreToldTo (own_open g w.outstanding.requests) (granule w g) b → IsInexplicableAt b → IsUnexplained events g
+      by_case None more not = absurd not
+      by_case (Some f) more not =
+          let own = followed g (granule w g) f (is.each g) more in
+          let known : is_known events g ≡ true = sym own.known ∙ not.known in
+          unexplained operations_law granules_law parts_law events ended w.outstanding g is.tells known
+          (λ v leads word. not.none (word_told (openings events) g ∷ []) _ (own.follows known) v leads (subst (λ o. IsWord o v) (sym own.last) word))
+
+  explainable : OperationsAreTold → GranulesTold → GranulesExplain → ((g : ℕ) → IfSome (new g) IsExplainable) → IsExplained events
+  explainable operations_law granules_law whole_law each =
+      explained operations_law granules_law whole_law events ended w.outstanding is.tells (λ g known. by_case g known (new g) (closed g) (each g))
+    where
+      by_case : (g : ℕ) → is_known events g ≡ true → (b : Option Followed) → AreToldTo (own_open g w.outstanding.requests) (granule w g) b → IfSome b IsExplainable → SomeWordFits events ended w g
+      by_case g known None more can = none_followed g (granule w g) (is.each g) more
+      by_case g known (Some f) more can =
+          let own = followed g (granule w g) f (is.each g) more in
+          let led = can (own.known ∙ known) (word_told (openings events) g ∷ []) _ (own.follows known) in
+          (led.0, led.1, subst (λ o. IsWord o led.0) own.last led.2)
+
+pub ended_unexplained : OperationsAreTold → GranulesTold → PartsExplain → (w : WatchValue) (new : ℕ → Option Followed) → AreClosed w new
+    → (g : ℕ) → IsInexplicableAt (new g) → (events : List Event) → HasTaken events w → IsUnexplained events g
+ended_unexplained operations_law granules_law parts_law w new closed g not events (ended, is) =
+    inexplicable events ended w new is closed operations_law granules_law parts_law g not
+
+pub ended_explained : OperationsAreTold → GranulesTold → GranulesExplain → (w : WatchValue) (new : ℕ → Option Followed) → AreClosed w new
+    → ((g : ℕ) → IfSome (new g) IsExplainable) → (events : List Event) → HasTaken events w → IsExplained events
+ended_explained operations_law granules_law whole_law w new closed each events (ended, is) =
+    explainable events ended w new is closed operations_law granules_law whole_law each
+
+-- what follows from what is said of the granules
+pub said_explained : {E : Type 0} (r : Result Ending E) (A B : Type 0) → (A → B) → IfOk r (λ ending. IfExplained ending A) → IfOk r (λ ending. IfExplained ending B)
+said_explained (Ok Explained) A B implies said = implies said
+said_explained (Ok (Unexplained g)) A B implies said = tt
+said_explained (Ok (Undecided g)) A B implies said = tt
+said_explained (Err fault) A B implies said = tt
+
+pub said_unexplained : {E : Type 0} (r : Result Ending E) (P Q : ℕ → Type 0) → ((g : ℕ) → P g → Q g) → IfOk r (λ ending. IfUnexplained ending P)
+    → IfOk r (λ ending. IfUnexplained ending Q)
+said_unexplained (Ok Explained) P Q implies said = tt
+said_unexplained (Ok (Unexplained g)) P Q implies said = implies g said
+said_unexplained (Ok (Undecided g)) P Q implies said = tt
+said_unexplained (Err fault) P Q implies said = tt

@@ -1,0 +1,124 @@
+-- what a watch knows once an operation has ended
+use Rattle.std.proofs.Common.{◌≡◌, ℕ, ◌/◌, ◌≤◌, ◌==◌, ◌⊎◌, Bool, true, false, List, [], ◌∷◌, ◌++◌, All, Option, Some, None, IfSome, IsTrue, is_some, filter, cond, inl, inr, refl, sym, ap, subst, ◌∙◌, arith, append-nil, eqb-true, eq-eqb, true≢false}
+use Rattle.std.specs.Prelude.{option_to_list}
+use Rattle.std.proofs.lemmas.List.Elements.{All-contains, All-weaker, filter-append}
+use Rattle.chi_events.specs.declared.event.Event.{Event}
+use Rattle.chi_events.specs.declared.outstanding.Open.{Open}
+use Rattle.chi_events.specs.Outstanding.{IsEndOf, OutstandingValue, StaysOrStarts}
+use Rattle.chi_search.specs.Frontiers.{Follows}
+use Rattle.chi_trace.specs.Chosen.{is_in}
+use Rattle.chi_trace.specs.Granules.{granule_of}
+use Rattle.chi_trace.specs.declared.observed.Observed.{Observed}
+use Rattle.chi_verdict.specs.Words.{word_told}
+use Rattle.chi_watch.specs.declared.followed.Followed.{Followed}
+use Rattle.chi_watch.specs.Changes.{CanEnd, IsClosed, IsClosedBy, IsTold, IsToldIfKnown}
+use Rattle.chi_watch.specs.Judged.{openings}
+use Rattle.chi_watch.specs.Requests.{StartsBy, granule_asked}
+use Rattle.chi_watch.specs.Watches.{IsGranuleOf, IsWatched}
+
+-- the operations of a granule, with one more of it, or of another
+own_more : (g : ℕ) (ended : List Observed) (op : Observed) → granule_of op ≡ g → filter (is_in g) (ended ++ op ∷ []) ≡ filter (is_in g) ended ++ op ∷ []
+own_more g ended op is = filter-append (is_in g) ended (op ∷ []) ∙ ap (λ (b : Bool). filter (is_in g) ended ++ cond b (op ∷ []) []) (eq-eqb (granule_of op) g is)
+
+other_more : (g : ℕ) (ended : List Observed) (op : Observed) → (granule_of op == g) ≡ false → filter (is_in g) (ended ++ op ∷ []) ≡ filter (is_in g) ended
+other_more g ended op other =
+    filter-append (is_in g) ended (op ∷ []) ∙ (ap (λ (b : Bool). filter (is_in g) ended ++ cond b (op ∷ []) []) other ∙ append-nil (filter (is_in g) ended))
+
+module _ (events : List Event) (ended : List Observed) (before after : OutstandingValue) (e : Event) (now : after.time ≡ e.time) (later : before.time ≤ e.time)
+    (stay : All (StaysOrStarts before.requests e) after.requests) where
+  -- a horizon stays one, since a request that is taken now starts no earlier
+  starts_on : (g horizon : ℕ) → horizon ≤ before.time → StartsBy before.requests g horizon → StartsBy after.requests g horizon
+  starts_on g horizon past starts = All-weaker (StaysOrStarts before.requests e) (λ p. granule_asked p ≡ g → horizon ≤ p.start) each after.requests stay
+    where
+      each : (p : Open) → StaysOrStarts before.requests e p → granule_asked p ≡ g → horizon ≤ p.start
+      each p (inl taken) is = omega (arith, taken.0, past, later)
+      each p (inr (old, has, start, asked)) is =
+          let starts_by : horizon ≤ old.start = All-contains (λ (q : Open). granule_asked q ≡ g → horizon ≤ q.start) before.requests old starts has (ap (λ a. a.addr / 8) (sym asked) ∙ is) in
+          omega (arith, start, starts_by)
+
+  -- where no operation of the granule ended
+  watched_on : (g : ℕ) (f : Followed) (more : List Observed) → filter (is_in g) more ≡ filter (is_in g) ended → IsWatched events ended before g f → IsWatched events more after g f
+  watched_on g f more same w = record {
+    known = w.known;
+    follows = λ known. subst (λ (ops : List Observed). Follows (word_told (openings events) g ∷ []) ops f.frontier) (sym same) (w.follows known);
+    latest = omega (arith, w.latest, later, now);
+    past = omega (arith, w.past, later, now);
+    horizon = starts_on g f.frontier.horizon w.past w.horizon;
+    last = w.last;
+  }
+
+  stays_on : (g : ℕ) (x : Option Followed) (more : List Observed) → filter (is_in g) more ≡ filter (is_in g) ended → IsGranuleOf events ended before g x → IsGranuleOf events more after g x
+  stays_on g None more same w = record { known = w.known; none = same ∙ w.none; opening = w.opening; last = w.last }
+  stays_on g (Some f) more same w = watched_on g f more same w
+
+  -- where an operation of the granule ended
+  module _ (op : Observed) (ends : IsEndOf before.requests e.time op) (horizon : ℕ) (early : horizon ≤ op.start) (g : ℕ) (is : granule_of op ≡ g) (earliest : StartsBy after.requests g horizon) where
+    can_end : (f : Followed) → IsWatched events ended before g f → CanEnd horizon f op
+    can_end f w =
+        let starts : f.frontier.horizon ≤ ends.request.start = All-contains (λ (q : Open). granule_asked q ≡ g → f.frontier.horizon ≤ q.start) before.requests ends.request w.horizon ends.is
+        (ap (λ n. n / 8) (sym ends.at) ∙ is) in
+        record {
+          past = omega (arith, starts, ends.start);
+          starts = early;
+          ends = omega (arith, w.latest, later, ends.end);
+          lasting = ends.lasting;
+          within = ends.within;
+        }
+
+    told_on : (old new : Followed) → IsTrue old.is_known → IsTold op horizon old new → IsWatched events ended before g old → IsWatched events (ended ++ op ∷ []) after g new
+    told_on old new known t w = record {
+      known = t.known ∙ w.known;
+      follows = λ so. subst (λ (ops : List Observed). Follows (word_told (openings events) g ∷ []) ops new.frontier) (sym (own_more g ended op is)) (t.follows (word_told (openings events) g ∷ []) (filter (is_in g) ended) (w.follows known));
+      latest = omega (arith, t.latest, ends.end, now);
+      past = past t.horizon_is;
+      horizon = starts t.horizon_is;
+      last = t.last ∙ w.last;
+    }
+      where
+        past : (new.frontier.horizon ≤ horizon) ⊎ (new.frontier.horizon ≡ old.frontier.horizon) → new.frontier.horizon ≤ after.time
+        past (inl below) = omega (arith, below, early, ends.lasting, ends.end, now)
+        past (inr same) = omega (arith, same, w.past, later, now)
+
+        starts : (new.frontier.horizon ≤ horizon) ⊎ (new.frontier.horizon ≡ old.frontier.horizon) → StartsBy after.requests g new.frontier.horizon
+        starts (inl below) = All-weaker (λ (p : Open). granule_asked p ≡ g → horizon ≤ p.start) (λ (p : Open). granule_asked p ≡ g → new.frontier.horizon ≤ p.start)
+            (λ p so own. let here : horizon ≤ p.start = so own in omega (arith, below, here)) after.requests earliest
+        starts (inr same) = subst (StartsBy after.requests g) (sym same) (starts_on g old.frontier.horizon w.past w.horizon)
+
+    unknown_on : (old : Followed) → old.is_known ≡ false → IsWatched events ended before g old → IsWatched events (ended ++ op ∷ []) after g old
+    unknown_on old unknown w = record {
+      known = w.known;
+      follows = λ known. absurd (true≢false (sym known ∙ unknown));
+      latest = omega (arith, w.latest, later, now);
+      past = omega (arith, w.past, later, now);
+      horizon = starts_on g old.frontier.horizon w.past w.horizon;
+      last = w.last;
+    }
+
+    closes_on : (old new : Followed) → IsToldIfKnown op horizon old new → IsWatched events ended before g old → IsWatched events (ended ++ op ∷ []) after g new
+    closes_on old new t w = by_known old.is_known refl
+      where
+        by_known : (b : Bool) → old.is_known ≡ b → IsWatched events (ended ++ op ∷ []) after g new
+        by_known true known = told_on old new known (t.told known (can_end old w)) w
+        by_known false unknown = subst (IsWatched events (ended ++ op ∷ []) after g) (sym (t.unknown unknown)) (unknown_on old unknown w)
+
+    closed_on : (x y : Option Followed) → IsTrue (is_some x) → IsClosed op horizon x y → IsGranuleOf events ended before g x → IsGranuleOf events (ended ++ op ∷ []) after g y
+    closed_on None y some t w = absurd (true≢false (sym some))
+    closed_on (Some old) None some t w = absurd t
+    closed_on (Some old) (Some new) some t w = closes_on old new t w
+
+  -- what is known of each granule
+  pub closed : (old new : ℕ → Option Followed) (op : Option Observed) → IfSome op (IsEndOf before.requests e.time) → All (λ p. IsTrue (is_some (old (granule_asked p)))) before.requests
+      → IsClosedBy op after.requests old new → (g : ℕ) → IsGranuleOf events ended before g (old g) → IsGranuleOf events (ended ++ option_to_list op) after g (new g)
+  closed old new None ends requested t g w =
+      subst (IsGranuleOf events (ended ++ []) after g) (sym (t g)) (stays_on g (old g) (ended ++ []) (ap (filter (is_in g)) (append-nil ended)) w)
+  closed old new (Some op) ends requested (horizon, early, earliest, more) g w = by_granule (granule_of op == g) refl
+    where
+      by_granule : (b : Bool) → (granule_of op == g) ≡ b → IsGranuleOf events (ended ++ op ∷ []) after g (new g)
+      by_granule true same =
+          let is : granule_of op ≡ g = eqb-true (granule_of op) g same in
+          let at : granule_asked ends.request ≡ g = ap (λ n. n / 8) (sym ends.at) ∙ is in
+          let some : IsTrue (is_some (old g)) = subst (λ n. IsTrue (is_some (old n))) at (All-contains (λ (p : Open). IsTrue (is_some (old (granule_asked p)))) before.requests ends.request requested ends.is) in
+          closed_on op ends horizon early g is (rw (← is) earliest) (old g) (new g) some (rw (← is) more.own) w
+      by_granule false other =
+          subst (IsGranuleOf events (ended ++ op ∷ []) after g) (sym (more.others g (λ same. absurd (true≢false (sym (eq-eqb (granule_of op) g (sym same)) ∙ other)))))
+          (stays_on g (old g) (ended ++ op ∷ []) (other_more g ended op other) w)

@@ -1,0 +1,11 @@
+pub mod AtTheEnd
+pub mod Closing
+pub mod Found
+pub mod Judging
+pub mod Lists
+pub mod Noted
+pub mod NotedKinds
+pub mod Taken
+pub mod ToldAtTheEnd
+pub mod Verdicts
+pub mod Words

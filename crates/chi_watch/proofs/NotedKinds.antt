@@ -1,0 +1,157 @@
+-- what a watch knows once an event was noted, by the kind of the event
+use Rattle.std.proofs.Common.{◌≡◌, ℕ, ◌/◌, ◌==◌, ◌≤◌, Bool, true, false, List, [], ◌∷◌, ◌++◌, Option, Some, None, is_some, filter, filter_map, refl, sym, ap, subst, ◌∙◌, arith, append-nil, ne_eqb, eqb-true, eq-eqb, true≢false}
+use Rattle.std.specs.Option.{unwrap_or}
+use Rattle.std.proofs.lemmas.List.Elements.{All-weaker}
+use Rattle.chi_events.specs.declared.event.Event.{Event}
+use Rattle.chi_events.specs.declared.event.EventKind.{EventKind}
+use Rattle.chi_events.specs.declared.event.EventKind.TheVariants.{Request, Data, Reply, Dropped, Word, Final, Unknown}
+use Rattle.chi_events.specs.declared.outstanding.Open.{Open}
+use Rattle.chi_events.specs.Outstanding.{OutstandingValue}
+use Rattle.chi_search.specs.Frontiers.{Follows, FrontierValue}
+use Rattle.chi_trace.specs.Chosen.{is_in}
+use Rattle.chi_trace.specs.declared.observed.Observed.{Observed}
+use Rattle.chi_verdict.specs.declared.words.GranuleWord.{GranuleWord}
+use Rattle.chi_verdict.specs.Words.{told}
+use Rattle.chi_watch.specs.declared.followed.Followed.{Followed}
+use Rattle.chi_watch.specs.Changes.{IsForgotten, IsGone, IsNoted, IsSameOrUntouched, IsTouched, IsTouchedAndMarked}
+use Rattle.chi_watch.specs.Judged.{covers, final_in, finals, opening_in, openings}
+use Rattle.chi_watch.specs.Requests.{StartsBy, granule_asked}
+use Rattle.chi_watch.specs.Watches.{IsGranuleOf, IsUntold, IsWatched, has_last}
+use Rattle.chi_watch.proofs.Noted.{begun, finals_more, known_gone, known_same, openings_more, retold, told_other, told_own}
+
+one_none : {X Y : Type 0} (h : X → Option Y) (x : X) → h x ≡ None → filter_map h (x ∷ []) ≡ []
+one_none h x is = rw is refl
+
+one_some : {X Y : Type 0} (h : X → Option Y) (x : X) (y : Y) → h x ≡ Some y → filter_map h (x ∷ []) ≡ y ∷ []
+one_some h x y is = rw is refl
+
+-- what the granules must be for a word to be told
+abbrev pub Fits : EventKind → (ℕ → Option Followed) → Type 0
+Fits (Word told) old = old told.granule ≡ None
+Fits (Final told) old = has_last (old told.granule) ≡ false
+Fits _ old = Unit {0}
+
+module _ (events : List Event) (e : Event) (ended : List Observed) (o : OutstandingValue) where
+  no_opening : opening_in e.kind ≡ None → (g : ℕ) → told (openings (events ++ e ∷ [])) g ≡ told (openings events) g
+  no_opening none g = ap (λ (words : List GranuleWord). told words g) (openings_more events e ∙ (ap (λ words. openings events ++ words) (one_none (λ (x : Event). opening_in x.kind) e none) ∙ append-nil (openings events)))
+
+  no_final : final_in e.kind ≡ None → (g : ℕ) → told (finals (events ++ e ∷ [])) g ≡ told (finals events) g
+  no_final none g = ap (λ (words : List GranuleWord). told words g) (finals_more events e ∙ (ap (λ words. finals events ++ words) (one_none (λ (x : Event). final_in x.kind) e none) ∙ append-nil (finals events)))
+
+  one_opening : (w : GranuleWord) → opening_in e.kind ≡ Some w → openings (events ++ e ∷ []) ≡ openings events ++ w ∷ []
+  one_opening w some = openings_more events e ∙ ap (λ words. openings events ++ words) (one_some (λ (x : Event). opening_in x.kind) e w some)
+
+  one_final : (w : GranuleWord) → final_in e.kind ≡ Some w → finals (events ++ e ∷ []) ≡ finals events ++ w ∷ []
+  one_final w some = finals_more events e ∙ ap (λ words. finals events ++ words) (one_some (λ (x : Event). final_in x.kind) e w some)
+
+  abbrev Is : ℕ → Option Followed → Type 0
+  Is g x = IsGranuleOf events ended o g x
+
+  abbrev Will : ℕ → Option Followed → Type 0
+  Will g x = IsGranuleOf (events ++ e ∷ []) ended o g x
+
+  -- an event that tells no word
+  passes : opening_in e.kind ≡ None → final_in e.kind ≡ None → (g : ℕ) (x : Option Followed) → covers g e.kind ≡ false → Is g x → Will g x
+  passes none none_final g x other w = retold events e ended o g x (known_same events e g other) (no_opening none g) (no_final none_final g) w
+
+  -- a granule that is watched from its first request on
+  requested_own : opening_in e.kind ≡ None → final_in e.kind ≡ None → (g : ℕ) → covers g e.kind ≡ false → (x : Option Followed) (f : Followed) → IsSameOrUntouched 0 x f → Is g x → Will g (Some f)
+  requested_own none none_final g other None f was w =
+      begun (events ++ e ∷ []) ended o g 0 f (known_same events e g other ∙ w.known) w.none (ap (λ (word : Option ℕ). unwrap_or word 0) (no_opening none g ∙ w.opening)) (no_final none_final g ∙ w.last) was
+  requested_own none none_final g other (Some old) f was w = subst (λ (y : Followed). Will g (Some y)) (sym was) (passes none none_final g (Some old) other w)
+
+  module _ (old new : ℕ → Option Followed) (each : (g : ℕ) → Is g (old g)) where
+    moved : (g : ℕ) (x : Option Followed) → new g ≡ x → Will g x → Will g (new g)
+    moved g x is w = subst (Will g) (sym is) w
+
+    by_other : (here : ℕ) → ((g : ℕ) → (g ≡ here → ⊥) → Will g (new g)) → Will here (new here) → (g : ℕ) → Will g (new g)
+    by_other here others own g = by_test (g == here) refl
+      where
+        by_test : (b : Bool) → (g == here) ≡ b → Will g (new g)
+        by_test true same = subst (λ (n : ℕ). Will n (new n)) (sym (eqb-true g here same)) own
+        by_test false other = others g (λ same. absurd (true≢false (sym (eq-eqb g here same) ∙ other)))
+
+    touched : opening_in e.kind ≡ None → final_in e.kind ≡ None → ((g : ℕ) → covers g e.kind ≡ false) → (here : ℕ) → IsTouched old new here 0 → (g : ℕ) → Will g (new g)
+    touched none none_final uncovered here t = by_other here
+        (λ g other. moved g (old g) (t.others g other) (passes none none_final g (old g) (uncovered g) (each g)))
+        (moved here (Some t.followed) t.is (requested_own none none_final here (uncovered here) (old here) t.followed t.was (each here)))
+
+    -- a word before the first request
+    worded : (w : GranuleWord) → e.kind ≡ Word w → old w.granule ≡ None → IsTouched old new w.granule w.word → (g : ℕ) → Will g (new g)
+    worded w is none t = by_other w.granule
+        (λ g other. moved g (old g) (t.others g other) (retold events e ended o g (old g) (known_same events e g (ap (covers g) is))
+        (ap (λ (words : List GranuleWord). told words g) (one_opening w (ap opening_in is)) ∙ told_other (openings events) w g (ne_eqb w.granule g (λ same. other (sym same))))
+        (no_final (ap final_in is) g) (each g)))
+        (moved w.granule (Some t.followed) t.is (begun (events ++ e ∷ []) ended o w.granule w.word t.followed (known_same events e w.granule (ap (covers w.granule) is) ∙ untold.known) untold.none
+        (ap (λ (word : Option ℕ). unwrap_or word 0) (ap (λ (words : List GranuleWord). told words w.granule) (one_opening w (ap opening_in is)) ∙ told_own (openings events) w untold.opening))
+        (no_final (ap final_in is) w.granule ∙ untold.last) (subst (λ (x : Option Followed). IsSameOrUntouched w.word x t.followed) none t.was)))
+      where
+        untold : IsUntold events ended w.granule
+        untold = subst (Is w.granule) none (each w.granule)
+
+    -- a word after the last request
+    last_told : (w : GranuleWord) → e.kind ≡ Final w → (f : Followed) → IsWatched events ended o w.granule f → f.last ≡ None → Will w.granule (Some (record f { last = Some w.word }))
+    last_told w is f base none = record {
+      known = base.known ∙ sym (known_same events e w.granule (ap (covers w.granule) is));
+      follows = λ so. subst (λ (word : Option ℕ). Follows (unwrap_or word 0 ∷ []) (filter (is_in w.granule) ended) f.frontier) (sym (no_opening (ap opening_in is) w.granule)) (base.follows so);
+      latest = base.latest;
+      past = base.past;
+      horizon = base.horizon;
+      last = sym (ap (λ (words : List GranuleWord). told words w.granule) (one_final w (ap final_in is)) ∙ told_own (finals events) w (sym base.last ∙ none));
+    }
+
+    last_own : (w : GranuleWord) → e.kind ≡ Final w → (x : Option Followed) (f : Followed) → IsSameOrUntouched 0 x f → has_last x ≡ false → Is w.granule x
+        → Will w.granule (Some (record f { last = Some w.word }))
+    last_own w is None f u none untold =
+        last_told w is f (begun events ended o w.granule 0 f untold.known untold.none (ap (λ (word : Option ℕ). unwrap_or word 0) untold.opening) untold.last u) u.last
+    last_own w is (Some before) f same none watched =
+        last_told w is f (subst (IsWatched events ended o w.granule) (sym same) watched) (ap (λ (y : Followed). y.last) same ∙ no_last before.last none)
+      where
+        no_last : (x : Option ℕ) → is_some x ≡ false → x ≡ None
+        no_last None so = refl
+        no_last (Some v) so = absurd (true≢false so)
+
+    ended_with : (w : GranuleWord) → e.kind ≡ Final w → has_last (old w.granule) ≡ false → IsTouchedAndMarked w.granule (λ f. record f { last = Some w.word }) old new → (g : ℕ) → Will g (new g)
+    ended_with w is none t = by_other w.granule
+        (λ g other. moved g (old g) (t.others g other) (retold events e ended o g (old g) (known_same events e g (ap (covers g) is)) (no_opening (ap opening_in is) g)
+        (ap (λ (words : List GranuleWord). told words g) (one_final w (ap final_in is)) ∙ told_other (finals events) w g (ne_eqb w.granule g (λ same. other (sym same)))) (each g)))
+        (moved w.granule (Some (record t.followed { last = Some w.word })) t.is (last_own w is (old w.granule) t.followed t.was none (each w.granule)))
+
+    -- something that is not told
+    gone : opening_in e.kind ≡ None → final_in e.kind ≡ None → (g : ℕ) → covers g e.kind ≡ true → (x y : Option Followed) → IsGone x y → Is g x → Will g y
+    gone none none_final g covered x None was w = absurd was
+    gone none none_final g covered None (Some f) (unknown, horizon, latest, last) w = record {
+      known = unknown ∙ sym (known_gone events e g covered);
+      follows = λ known. absurd (true≢false (sym known ∙ unknown));
+      latest = omega (arith, latest);
+      past = omega (arith, horizon);
+      horizon = All-weaker (λ (p : Open). Unit {0}) (λ (p : Open). granule_asked p ≡ g → f.frontier.horizon ≤ p.start) (λ p all is. omega (arith, horizon)) o.requests (λ i d below. tt);
+      last = last ∙ sym (no_final none_final g ∙ w.last);
+    }
+    gone none none_final g covered (Some before) (Some f) (unknown, frontier, last) w = record {
+      known = unknown ∙ sym (known_gone events e g covered);
+      follows = λ known. absurd (true≢false (sym known ∙ unknown));
+      latest = subst (λ (s : FrontierValue). s.latest ≤ o.time) (sym frontier) w.latest;
+      past = subst (λ (s : FrontierValue). s.horizon ≤ o.time) (sym frontier) w.past;
+      horizon = subst (λ (s : FrontierValue). StartsBy o.requests g s.horizon) (sym frontier) w.horizon;
+      last = last ∙ (w.last ∙ sym (no_final none_final g));
+    }
+
+    forgotten : opening_in e.kind ≡ None → final_in e.kind ≡ None → ((g : ℕ) → IsForgotten (covers g e.kind) (old g) (new g)) → (g : ℕ) → Will g (new g)
+    forgotten none none_final all g = by_test (covers g e.kind) refl
+      where
+        by_test : (b : Bool) → covers g e.kind ≡ b → Will g (new g)
+        by_test true covered = gone none none_final g covered (old g) (new g) ((all g).gone covered) (each g)
+        by_test false other = moved g (old g) ((all g).same other) (passes none none_final g (old g) other (each g))
+
+    stays : opening_in e.kind ≡ None → final_in e.kind ≡ None → ((g : ℕ) → covers g e.kind ≡ false) → ((g : ℕ) → new g ≡ old g) → (g : ℕ) → Will g (new g)
+    stays none none_final uncovered same g = moved g (old g) (same g) (passes none none_final g (old g) (uncovered g) (each g))
+
+    pub noted : (k : EventKind) → e.kind ≡ k → Fits k old → IsNoted k old new → (g : ℕ) → Will g (new g)
+    noted (Request r) is fits t = touched (ap opening_in is) (ap final_in is) (λ g. ap (covers g) is) (r.asked.addr / 8) t
+    noted (Word w) is fits t = worded w is fits t
+    noted (Final w) is fits t = ended_with w is fits t
+    noted (Unknown addr len) is fits t = forgotten (ap opening_in is) (ap final_in is) (λ g. subst (λ (k : EventKind). IsForgotten (covers g k) (old g) (new g)) (sym is) (t g))
+    noted (Data p) is fits t = stays (ap opening_in is) (ap final_in is) (λ g. ap (covers g) is) t
+    noted (Reply c) is fits t = stays (ap opening_in is) (ap final_in is) (λ g. ap (covers g) is) t
+    noted (Dropped id) is fits t = stays (ap opening_in is) (ap final_in is) (λ g. ap (covers g) is) t

@@ -1,0 +1,128 @@
+-- what a watch knows once it took an event
+use Rattle.std.specs.Prelude.{if◌then◌else◌, option_to_list}
+use Rattle.std.proofs.Common.{◌≡◌, ℕ, ◌/◌, ◌==◌, ◌≤◌, Bool, true, false, List, [], ◌∷◌, ◌++◌, All, Option, Some, None, IfSome, IsTrue, is_some, inl, inr, refl, sym, ap, subst, ◌∙◌, eqb-true, eq-eqb, true≢false}
+use Rattle.std.specs.List.{list_any}
+use Rattle.std.proofs.lemmas.List.Elements.{All-contains, All-weaker}
+use Rattle.chi_events.specs.declared.event.Event.{Event}
+use Rattle.chi_events.specs.declared.event.EventKind.{EventKind}
+use Rattle.chi_events.specs.declared.event.EventKind.TheVariants.{Request, Data, Reply, Dropped, Word, Final, Unknown}
+use Rattle.chi_events.specs.declared.event.Requested.{Requested}
+use Rattle.chi_events.specs.declared.outstanding.Open.{Open}
+use Rattle.chi_events.specs.Outstanding.{IsEndOf, OutstandingValue, StaysOrStarts, Tells}
+use Rattle.chi_events.specs.Told.{requested}
+use Rattle.chi_trace.specs.Granules.{granule_of}
+use Rattle.chi_trace.specs.declared.observed.Observed.{Observed}
+use Rattle.chi_watch.specs.declared.followed.Followed.{Followed}
+use Rattle.chi_watch.specs.declared.fault.WatchFault.TheVariants as fault
+use Rattle.chi_watch.specs.Changes.{IsClosed, IsClosedBy, IsGone, IsNoted, OthersStay}
+use Rattle.chi_watch.specs.Judged.{covers}
+use Rattle.chi_watch.specs.Requests.{granule_asked}
+use Rattle.chi_watch.specs.Watches.{WatchValue, Watches, granule, granule_fault, has_last}
+use Rattle.chi_watch.proofs.Closing.{closed}
+use Rattle.chi_watch.proofs.NotedKinds.{Fits, noted}
+
+-- a granule is watched after an operation ended just where it was before, and its word at the end is told just where it was
+module _ (requests : List Open) (old new : ℕ → Option Followed) where
+  same_some : (op : Option Observed) → IsClosedBy op requests old new → (g : ℕ) → is_some (new g) ≡ is_some (old g)
+  same_some None t g = ap is_some (t g)
+  same_some (Some op) (horizon, early, earliest, more) g = by_granule (g == granule_of op) refl
+    where
+      own : (x y : Option Followed) → IsClosed op horizon x y → is_some y ≡ is_some x
+      own None y is = ap is_some is
+      own (Some x) None is = absurd is
+      own (Some x) (Some y) is = refl
+
+      by_granule : (b : Bool) → (g == granule_of op) ≡ b → is_some (new g) ≡ is_some (old g)
+      by_granule true same = let is : g ≡ granule_of op = eqb-true g (granule_of op) same in rw is (own (old (granule_of op)) (new (granule_of op)) more.own)
+      by_granule false other = ap is_some (more.others g (λ same. absurd (true≢false (sym (eq-eqb g (granule_of op) same) ∙ other))))
+
+  same_last : (op : Option Observed) → IsClosedBy op requests old new → (g : ℕ) → has_last (new g) ≡ has_last (old g)
+  same_last None t g = ap has_last (t g)
+  same_last (Some op) (horizon, early, earliest, more) g = by_granule (g == granule_of op) refl
+    where
+      own : (x y : Option Followed) → IsClosed op horizon x y → has_last y ≡ has_last x
+      own None y is = ap has_last is
+      own (Some x) None is = absurd is
+      own (Some x) (Some y) is = ap is_some is.last
+
+      by_granule : (b : Bool) → (g == granule_of op) ≡ b → has_last (new g) ≡ has_last (old g)
+      by_granule true same = let is : g ≡ granule_of op = eqb-true g (granule_of op) same in rw is (own (old (granule_of op)) (new (granule_of op)) more.own)
+      by_granule false other = ap has_last (more.others g (λ same. absurd (true≢false (sym (eq-eqb g (granule_of op) same) ∙ other))))
+
+-- a granule that is watched stays so
+module _ (old new : ℕ → Option Followed) where
+  others_some : (here : ℕ) (f : Followed) → new here ≡ Some f → OthersStay old new here → (g : ℕ) → IsTrue (is_some (old g)) → IsTrue (is_some (new g))
+  others_some here f is others g some = by_granule (g == here) refl
+    where
+      by_granule : (b : Bool) → (g == here) ≡ b → IsTrue (is_some (new g))
+      by_granule true same = let at : g ≡ here = eqb-true g here same in rw at (ap is_some is)
+      by_granule false other = ap is_some (others g (λ same. absurd (true≢false (sym (eq-eqb g here same) ∙ other)))) ∙ some
+
+  noted_some : (k : EventKind) → IsNoted k old new → (g : ℕ) → IsTrue (is_some (old g)) → IsTrue (is_some (new g))
+  noted_some (Request r) t g some = others_some (r.asked.addr / 8) t.followed t.is t.others g some
+  noted_some (Word w) t g some = others_some w.granule t.followed t.is t.others g some
+  noted_some (Final w) t g some = others_some w.granule (record t.followed { last = Some w.word }) t.is t.others g some
+  noted_some (Unknown addr len) t g some = by_test (covers g (Unknown addr len)) refl
+    where
+      is_gone : (x y : Option Followed) → IsGone x y → IsTrue (is_some y)
+      is_gone x None is = absurd is
+      is_gone x (Some f) is = refl
+
+      by_test : (b : Bool) → covers g (Unknown addr len) ≡ b → IsTrue (is_some (new g))
+      by_test true covered = is_gone (old g) (new g) ((t g).gone covered)
+      by_test false other = ap is_some ((t g).same other) ∙ some
+  noted_some (Data p) t g some = ap is_some (t g) ∙ some
+  noted_some (Reply c) t g some = ap is_some (t g) ∙ some
+  noted_some (Dropped id) t g some = ap is_some (t g) ∙ some
+
+  -- the granule of a request that is taken is watched
+  request_some : (k : EventKind) (r : Requested) → requested k ≡ Some r → IsNoted k old new → IsTrue (is_some (new (r.asked.addr / 8)))
+  request_some (Request q) r is t = subst (λ (o : Option Requested). IfSome o (λ s. IsTrue (is_some (new (s.asked.addr / 8))))) is (ap is_some t.is)
+  request_some (Word w) r is t = absurd (true≢false (ap is_some (sym is)))
+  request_some (Final w) r is t = absurd (true≢false (ap is_some (sym is)))
+  request_some (Unknown addr len) r is t = absurd (true≢false (ap is_some (sym is)))
+  request_some (Data p) r is t = absurd (true≢false (ap is_some (sym is)))
+  request_some (Reply c) r is t = absurd (true≢false (ap is_some (sym is)))
+  request_some (Dropped id) r is t = absurd (true≢false (ap is_some (sym is)))
+
+-- what is no fault
+pub none_of : {F : Type 0} (b : Bool) (f : F) (rest : Option F) → (if b then Some f else rest) ≡ None → b ≡ false
+none_of true f rest is = absurd (true≢false (ap is_some is))
+none_of false f rest is = refl
+
+none_is : {X : Type 0} (x : Option X) → is_some x ≡ false → x ≡ None
+none_is None is = refl
+none_is (Some x) is = absurd (true≢false is)
+
+module _ (events : List Event) (ended : List Observed) (w : WatchValue) (e : Event) (o : OutstandingValue) (op : Option Observed) (mid : ℕ → Option Followed) (last : List (ℕ × Followed)) where
+  abbrev now : WatchValue
+  now = record { outstanding = o; granules = last }
+
+  fits : IsClosedBy op o.requests (granule w) mid → (k : EventKind) → granule_fault w k ≡ None → Fits k mid
+  fits c (Word told) is = none_is (mid told.granule) (same_some o.requests (granule w) mid op c told.granule ∙ none_of (is_some (granule w told.granule)) fault.WordLate None is)
+  fits c (Final told) is =
+      same_last o.requests (granule w) mid op c told.granule
+      ∙ none_of (has_last (granule w told.granule)) fault.FinalTwice (if list_any (λ p. granule_asked p == told.granule) w.outstanding.requests then Some fault.FinalEarly else None) is
+  fits c (Request r) is = tt
+  fits c (Unknown addr len) is = tt
+  fits c (Data p) is = tt
+  fits c (Reply r) is = tt
+  fits c (Dropped id) is = tt
+
+  pub taken : granule_fault w e.kind ≡ None → o.time ≡ e.time → w.outstanding.time ≤ e.time → All (StaysOrStarts w.outstanding.requests e) o.requests → IfSome op (IsEndOf w.outstanding.requests e.time)
+      → IsClosedBy op o.requests (granule w) mid → IsNoted e.kind mid (granule now) → Tells (events ++ e ∷ []) (ended ++ option_to_list op) o
+      → Watches events ended w → Watches (events ++ e ∷ []) (ended ++ option_to_list op) now
+  taken none at later stay ends c t tells is = record {
+    tells = tells;
+    each = noted events e (ended ++ option_to_list op) o mid (granule now)
+        (λ g. closed events ended w.outstanding o e at later stay (granule w) mid op ends is.requested c g (is.each g)) e.kind refl (fits c e.kind none) t;
+    requested = All-weaker (StaysOrStarts w.outstanding.requests e) (λ (p : Open). IsTrue (is_some (granule now (granule_asked p)))) each o.requests stay;
+  }
+    where
+      each : (p : Open) → StaysOrStarts w.outstanding.requests e p → IsTrue (is_some (granule now (granule_asked p)))
+      each p (inl (start, (r, is_r, asked))) =
+          subst (λ (n : ℕ). IsTrue (is_some (granule now n))) (ap (λ a. a.addr / 8) (sym asked)) (request_some mid (granule now) e.kind r is_r t)
+      each p (inr (old, has, start, asked)) =
+          let before : IsTrue (is_some (granule w (granule_asked old))) = All-contains (λ (q : Open). IsTrue (is_some (granule w (granule_asked q)))) w.outstanding.requests old is.requested has in
+          let middle : IsTrue (is_some (mid (granule_asked old))) = same_some o.requests (granule w) mid op c (granule_asked old) ∙ before in
+          subst (λ (n : ℕ). IsTrue (is_some (granule now n))) (ap (λ a. a.addr / 8) (sym asked)) (noted_some mid (granule now) e.kind t (granule_asked old) middle)

@@ -1,0 +1,78 @@
+-- operations that are told of granules one after the other
+use Rattle.std.proofs.Common.{◌≡◌, ℕ, ◌+◌, ◌<◌, ◌==◌, ◌++◌, Bool, true, false, cond, List, [], ◌∷◌, Option, Some, None, filter, get_or, length, take}
+use Rattle.std.proofs.Common.{refl, sym, ap, subst, ◌∙◌, append-nil, append_assoc, eqb-true, eq-eqb, true≢false, ne_eqb}
+use Rattle.std.specs.Prelude.{nat_lt, filter_map}
+use Rattle.std.specs.BTreeMap.{is_at}
+use Rattle.std.specs.List.{cons_option}
+use Rattle.std.specs.Ordering.{is_eq, nat_cmp}
+use Rattle.std.specs.declared.cmp.Ordering.TheVariants.{Equal, Greater, Less}
+use Rattle.std.proofs.lemmas.List.{take_more}
+use Rattle.std.proofs.lemmas.List.Elements.{filter-append, filter_map-append}
+use Rattle.chi_events.specs.Outstanding.{open_operation}
+use Rattle.chi_events.specs.declared.outstanding.Open.{Open}
+use Rattle.chi_search.specs.Frontiers.{Follows}
+use Rattle.chi_trace.specs.Chosen.{is_in}
+use Rattle.chi_trace.specs.Granules.{granule_of}
+use Rattle.chi_trace.specs.declared.observed.Observed.{Observed}
+use Rattle.chi_watch.specs.Endings.{AreToldTo, HasOneTold}
+use Rattle.chi_watch.specs.declared.followed.Followed.{Followed}
+
+-- where none is told nothing changes
+pub told_none : (x : Option Followed) → AreToldTo [] x x
+told_none None = refl
+told_none (Some f) = record { follows = λ known words told follows. subst (λ l. Follows words l f.frontier) (sym (append-nil told)) follows; last = refl; known = refl }
+
+pub told_more : (xs ys : List Observed) (a b c : Option Followed) → AreToldTo xs a b → AreToldTo ys b c → AreToldTo (xs ++ ys) a c
+told_more xs ys None None None first second = ap (λ l. l ++ ys) first ∙ second
+told_more xs ys None None (Some h) first second = second
+told_more xs ys None (Some g) c first second = absurd first
+told_more xs ys (Some f) None c first second = absurd first
+told_more xs ys (Some f) (Some g) None first second = second
+told_more xs ys (Some f) (Some g) (Some h) first second = record {
+  follows = λ known words told follows.
+      subst (λ l. Follows words l h.frontier) (append_assoc told xs ys)
+      (second.follows (first.known ∙ known) words (told ++ xs) (first.follows known words told follows));
+  last = second.last ∙ first.last;
+  known = second.known ∙ first.known;
+}
+
+-- one operation more is told of its granule, and none of another
+pub told_one : (op : Observed) (old new : ℕ → Option Followed) → HasOneTold op old new → (g : ℕ) → AreToldTo (filter (is_in g) (op ∷ [])) (old g) (new g)
+told_one op old new one g = by_test (granule_of op == g) refl
+  where
+    by_test : (b : Bool) → (granule_of op == g) ≡ b → AreToldTo (cond b (op ∷ []) []) (old g) (new g)
+    by_test true own =
+        let here = eqb-true (granule_of op) g own in
+        subst (λ h. AreToldTo (op ∷ []) (old h) (new h)) here
+        (subst (λ x. AreToldTo (op ∷ []) x (new (granule_of op))) (sym one.was) (subst (AreToldTo (op ∷ []) (Some one.before)) (sym one.is) one.told))
+    by_test false own =
+        subst (AreToldTo [] (old g)) (sym (one.others g (λ same. true≢false (sym (eq-eqb (granule_of op) g (sym same)) ∙ own)))) (told_none (old g))
+
+-- the operations of a granule that these requests are
+abbrev pub own_open : ℕ → List Open → List Observed
+own_open g requests = filter (is_in g) (filter_map open_operation requests)
+
+-- one request more
+pub told_next : (requests : List Open) (i : ℕ) (p : Open) (g : ℕ) (a b c : Option Followed) → i < length requests → p ≡ get_or requests i p
+    → AreToldTo (own_open g (take i requests)) a b → AreToldTo (own_open g (p ∷ [])) b c → AreToldTo (own_open g (take (i + 1) requests)) a c
+told_next requests i p g a b c below is first second = subst (λ l. AreToldTo l a c) (sym parts) (told_more _ _ a b c first second)
+  where
+    parts : own_open g (take (i + 1) requests) ≡ own_open g (take i requests) ++ own_open g (p ∷ [])
+    parts =
+        ap (own_open g) (take_more requests i p below ∙ ap (λ x. take i requests ++ x ∷ []) (sym is))
+        ∙ ap (filter (is_in g)) (filter_map-append open_operation (take i requests) (p ∷ []))
+        ∙ filter-append (is_in g) (filter_map open_operation (take i requests)) (filter_map open_operation (p ∷ []))
+
+-- the same, where the request's operation is known
+pub told_as : (p : Open) (o : Option Observed) (g : ℕ) (a b : Option Followed) → o ≡ open_operation p → AreToldTo (filter (is_in g) (cons_option o [])) a b
+    → AreToldTo (own_open g (p ∷ [])) a b
+told_as p o g a b is told = subst (λ x. AreToldTo (filter (is_in g) (cons_option x [])) a b) is told
+
+-- another number is not found at this one
+pub not_at : (k h : ℕ) → (h ≡ k → ⊥) → is_at (nat_cmp k) h ≡ false
+not_at k h other = by_tests (nat_lt k h) (k == h) (ne_eqb k h (λ same. other (sym same)))
+  where
+    by_tests : (b c : Bool) → c ≡ false → is_eq (cond b Less (cond c Equal Greater)) ≡ false
+    by_tests true c is = refl
+    by_tests false true is = absurd (true≢false is)
+    by_tests false false is = refl

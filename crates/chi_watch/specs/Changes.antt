@@ -1,0 +1,107 @@
+-- changes of the granules that are watched
+use Rattle.std.specs.Prelude.{◌≡◌, ℕ, ◌+◌, ◌/◌, ◌^◌, ◌<◌, ◌≤◌, ◌⊎◌, Bool, true, List, [], ◌∷◌, ◌++◌, Option, Some, None, false, IsTrue}
+use Rattle.chi_events.specs.declared.event.EventKind.{EventKind}
+use Rattle.chi_events.specs.declared.outstanding.Open.{Open}
+use Rattle.chi_events.specs.declared.event.EventKind.TheVariants.{Request, Word, Final, Unknown}
+use Rattle.chi_search.specs.Frontiers.{Follows}
+use Rattle.chi_trace.specs.Granules.{granule_of}
+use Rattle.chi_trace.specs.declared.observed.Observed.{Observed}
+use Rattle.chi_watch.specs.declared.followed.Followed.{Followed}
+use Rattle.chi_watch.specs.Judged.{covers}
+use Rattle.chi_watch.specs.Requests.{StartsBy}
+
+-- the others stay as they were
+abbrev pub OthersStay : (ℕ → Option Followed) → (ℕ → Option Followed) → ℕ → Type 0
+OthersStay old new g = (h : ℕ) → (h ≡ g → ⊥) → new h ≡ old h
+
+-- a granule before its first request
+pub record IsUntouched (word : ℕ) (f : Followed) : Type 0 where
+  pub follows : Follows (word ∷ []) [] f.frontier
+  pub horizon : f.frontier.horizon ≡ 0
+  pub latest : f.frontier.latest ≡ 0
+  pub last : f.last ≡ None
+  pub known : IsTrue f.is_known
+
+abbrev pub IsSameOrUntouched : ℕ → Option Followed → Followed → Type 0
+IsSameOrUntouched word None new = IsUntouched word new
+IsSameOrUntouched word (Some old) new = new ≡ old
+
+-- the granule is watched, from this word on where it was not before
+pub record IsTouched (old new : ℕ → Option Followed) (g word : ℕ) : Type 0 where
+  pub others : OthersStay old new g
+  pub followed : Followed
+  pub is : new g ≡ Some followed
+  pub was : IsSameOrUntouched word (old g) followed
+
+-- the operation can be told to the search of its granule
+pub record CanEnd (horizon : ℕ) (f : Followed) (op : Observed) : Type 0 where
+  pub past : f.frontier.horizon ≤ op.start
+  pub starts : horizon ≤ op.start
+  pub ends : f.frontier.latest ≤ op.end
+  pub lasting : op.start ≤ op.end
+  pub within : op.access.addr + op.access.len ≤ 2 ^ 52
+
+-- one operation more of the granule was told to its search
+pub record IsTold (op : Observed) (horizon : ℕ) (old new : Followed) : Type 0 where
+  pub follows : (words : List ℕ) (told : List Observed) → Follows words told old.frontier → Follows words (told ++ op ∷ []) new.frontier
+  pub horizon_is : (new.frontier.horizon ≤ horizon) ⊎ (new.frontier.horizon ≡ old.frontier.horizon)
+  pub latest : new.frontier.latest ≡ op.end
+  pub last : new.last ≡ old.last
+  pub known : new.is_known ≡ old.is_known
+
+-- the operation was told to its granule's search, where all that wrote to the granule is told
+pub record IsToldIfKnown (op : Observed) (horizon : ℕ) (old new : Followed) : Type 0 where
+  pub told : IsTrue old.is_known → CanEnd horizon old op → IsTold op horizon old new
+  pub unknown : old.is_known ≡ false → new ≡ old
+  pub last : new.last ≡ old.last
+
+abbrev pub IsClosed : Observed → ℕ → Option Followed → Option Followed → Type 0
+IsClosed op horizon None new = new ≡ None
+IsClosed op horizon (Some old) None = ⊥
+IsClosed op horizon (Some old) (Some new) = IsToldIfKnown op horizon old new
+
+pub record HasOneMore (op : Observed) (horizon : ℕ) (old new : ℕ → Option Followed) : Type 0 where
+  pub others : OthersStay old new (granule_of op)
+  pub own : IsClosed op horizon (old (granule_of op)) (new (granule_of op))
+
+-- the operation that ended, if one did, was told with a horizon at or before which no outstanding request of its granule was taken
+abbrev pub IsClosedBy : Option Observed → List Open → (ℕ → Option Followed) → (ℕ → Option Followed) → Type 0
+IsClosedBy None requests old new = (g : ℕ) → new g ≡ old g
+IsClosedBy (Some op) requests old new = (horizon : ℕ) × (horizon ≤ op.start) × StartsBy requests (granule_of op) horizon × HasOneMore op horizon old new
+
+-- one granule was changed, and no other
+pub record IsMarked (g : ℕ) (change : Followed → Followed) (old new : ℕ → Option Followed) : Type 0 where
+  pub others : OthersStay old new g
+  pub before : Followed
+  pub was : old g ≡ Some before
+  pub is : new g ≡ Some (change before)
+
+-- the granule is watched, from the word 0 on where it was not before, and was changed
+pub record IsTouchedAndMarked (g : ℕ) (change : Followed → Followed) (old new : ℕ → Option Followed) : Type 0 where
+  pub others : OthersStay old new g
+  pub followed : Followed
+  pub was : IsSameOrUntouched 0 (old g) followed
+  pub is : new g ≡ Some (change followed)
+
+-- something that is not told may have written to the granule: it is watched no further
+abbrev pub IsGone : Option Followed → Option Followed → Type 0
+IsGone old None = ⊥
+IsGone None (Some new) = (new.is_known ≡ false) × (new.frontier.horizon ≡ 0) × (new.frontier.latest ≡ 0) × (new.last ≡ None)
+IsGone (Some old) (Some new) = (new.is_known ≡ false) × (new.frontier ≡ old.frontier) × (new.last ≡ old.last)
+
+pub record IsForgotten (covered : Bool) (old new : Option Followed) : Type 0 where
+  pub same : covered ≡ false → new ≡ old
+  pub gone : covered ≡ true → IsGone old new
+
+-- what is noted of the granules by an event
+abbrev pub IsNoted : EventKind → (ℕ → Option Followed) → (ℕ → Option Followed) → Type 0
+IsNoted (Request r) old new = IsTouched old new (r.asked.addr / 8) 0
+IsNoted (Word told) old new = IsTouched old new told.granule told.word
+IsNoted (Final told) old new = IsTouchedAndMarked told.granule (λ f. record f { last = Some told.word }) old new
+IsNoted (Unknown addr len) old new = (g : ℕ) → IsForgotten (covers g (Unknown addr len)) (old g) (new g)
+IsNoted _ old new = (g : ℕ) → new g ≡ old g
+
+-- the bytes that are unknown lie below 2^52
+abbrev pub HasLength : EventKind → Type 0
+HasLength (Unknown addr len) = (0 < len) × (addr + len ≤ 2 ^ 52)
+HasLength _ = Unit {0}

@@ -1,0 +1,52 @@
+-- what is judged of events: the operations of the granules of which all is told
+use Rattle.std.specs.Prelude.{ℕ, ◌+◌, ◌*◌, nat_lt, Bool, false, not, ◌&&◌, if◌then◌else◌, List, Option, Some, None, filter, filter_map}
+use Rattle.std.specs.List.{list_any}
+use Rattle.chi_events.specs.declared.event.Event.{Event}
+use Rattle.chi_events.specs.declared.event.EventKind.{EventKind}
+use Rattle.chi_events.specs.declared.event.EventKind.TheVariants.{Word, Final, Unknown}
+use Rattle.chi_events.specs.Operations.{operations}
+use Rattle.chi_trace.specs.Explains.{Explains}
+use Rattle.chi_trace.specs.Granules.{granule_of}
+use Rattle.chi_trace.specs.declared.observed.Observed.{Observed}
+use Rattle.chi_verdict.specs.Words.{memory_of, told}
+use Rattle.chi_verdict.specs.declared.words.GranuleWord.{GranuleWord}
+
+-- a word that is told before a granule's first request
+abbrev pub opening_in : EventKind → Option GranuleWord
+opening_in (Word w) = Some w
+opening_in _ = None
+
+-- and one that is told after its last
+abbrev pub final_in : EventKind → Option GranuleWord
+final_in (Final w) = Some w
+final_in _ = None
+
+abbrev pub openings : List Event → List GranuleWord
+openings events = filter_map (λ e. opening_in e.kind) events
+
+abbrev pub finals : List Event → List GranuleWord
+finals events = filter_map (λ e. final_in e.kind) events
+
+-- something that is not told may have written to the granule
+abbrev pub covers : ℕ → EventKind → Bool
+covers g (Unknown addr len) = nat_lt addr (8 * g + 8) && nat_lt (8 * g) (addr + len)
+covers g _ = false
+
+-- all that wrote to the granule is told
+abbrev pub is_known : List Event → ℕ → Bool
+is_known events g = not (list_any (λ e. covers g e.kind) events)
+
+abbrev pub judged : List Event → List Observed
+judged events = filter (λ op. is_known events (granule_of op)) (operations events)
+
+-- the word that was told of a granule at the end
+abbrev pub final_of : List Event → ℕ → Option ℕ
+final_of events g = if is_known events g then told (finals events) g else None
+
+-- the order explains the operations that are judged, and leaves the words that were told at the end
+abbrev pub IsExplainedBy : List Event → List ℕ → Type 0
+IsExplainedBy events order = Explains (memory_of (openings events)) (final_of events) (judged events) order
+
+-- Some order explains the operations that are judged.
+abbrev pub IsExplained : List Event → Type 0
+IsExplained events = (order : List ℕ) × IsExplainedBy events order

@@ -1,0 +1,100 @@
+-- what a watch knows of the events that it took
+use Rattle.std.specs.Prelude.{◌≡◌, ℕ, ◌+◌, ◌/◌, ◌^◌, ◌≤◌, ◌==◌, nat_le, nat_lt, Bool, true, false, ◌&&◌, if◌then◌else◌, List, [], ◌∷◌, All, Option, Some, None, is_some, option_map, IsTrue, filter}
+use Rattle.std.specs.List.{list_any}
+use Rattle.std.specs.BTreeMap.{is_at}
+use Rattle.std.specs.Map.{lookup}
+use Rattle.std.specs.Option.{option_or}
+use Rattle.std.specs.Ordering.{nat_cmp}
+use Rattle.chi_events.specs.declared.event.Event.{Event}
+use Rattle.chi_events.specs.Operations.{operations}
+use Rattle.chi_events.specs.Outstanding.{OutstandingValue, Tells, fault_of as outstanding_fault}
+use Rattle.chi_events.specs.declared.event.EventKind.{EventKind}
+use Rattle.chi_events.specs.declared.event.EventKind.TheVariants.{Request, Word, Final, Unknown}
+use Rattle.chi_search.specs.Frontiers.{Follows}
+use Rattle.chi_search.specs.Layers.{SomeLeads}
+use Rattle.chi_trace.specs.Chosen.{is_in}
+use Rattle.chi_trace.specs.Granules.{ExplainsGranule}
+use Rattle.chi_trace.specs.declared.observed.Observed.{Observed}
+use Rattle.chi_verdict.specs.Words.{told, word_told}
+use Rattle.chi_watch.specs.declared.followed.Followed.{Followed}
+use Rattle.chi_watch.specs.declared.fault.WatchFault.{WatchFault}
+use Rattle.chi_watch.specs.declared.fault.WatchFault.TheVariants as fault
+use Rattle.chi_watch.specs.Faults.{as_watch_fault}
+use Rattle.chi_watch.specs.Followed.{IsWord}
+use Rattle.chi_watch.specs.Requests.{StartsBy, granule_asked}
+use Rattle.chi_watch.specs.Judged.{IsExplainedBy, final_of, finals, is_known, openings}
+
+pub record WatchValue : Type 0 where
+  pub outstanding : OutstandingValue
+  pub granules : List (ℕ × Followed)
+
+-- what is known of a granule
+abbrev pub granule : WatchValue → ℕ → Option Followed
+granule w g = lookup (is_at (nat_cmp g)) w.granules
+
+-- A granule that is watched: where all that wrote to it is told, its search follows its operations that had ended, from its
+-- word at the opening on.
+pub record IsWatched (events : List Event) (ended : List Observed) (o : OutstandingValue) (g : ℕ) (f : Followed) : Type 0 where
+  pub known : f.is_known ≡ is_known events g
+  pub follows : IsTrue f.is_known → Follows (word_told (openings events) g ∷ []) (filter (is_in g) ended) f.frontier
+  pub latest : f.frontier.latest ≤ o.time
+  pub past : f.frontier.horizon ≤ o.time
+  pub horizon : StartsBy o.requests g f.frontier.horizon
+  pub last : f.last ≡ told (finals events) g
+
+-- nothing was told of the granule
+pub record IsUntold (events : List Event) (ended : List Observed) (g : ℕ) : Type 0 where
+  pub known : is_known events g ≡ true
+  pub none : filter (is_in g) ended ≡ []
+  pub opening : told (openings events) g ≡ None
+  pub last : told (finals events) g ≡ None
+
+abbrev pub IsGranuleOf : List Event → List Observed → OutstandingValue → ℕ → Option Followed → Type 0
+IsGranuleOf events ended o g None = IsUntold events ended g
+IsGranuleOf events ended o g (Some f) = IsWatched events ended o g f
+
+-- the watch took these events, by which these operations had ended
+pub record Watches (events : List Event) (ended : List Observed) (w : WatchValue) : Type 0 where
+  pub tells : Tells events ended w.outstanding
+  pub each : (g : ℕ) → IsGranuleOf events ended w.outstanding g (granule w g)
+  pub requested : All (λ p. IsTrue (is_some (granule w (granule_asked p)))) w.outstanding.requests
+
+abbrev pub HasTaken : List Event → WatchValue → Type 0
+HasTaken events w = (ended : List Observed) × Watches events ended w
+
+-- All that wrote to the granule is told, and no order explains its operations, from its word at the opening to the one that was
+-- told at the end.
+pub record IsUnexplained (events : List Event) (g : ℕ) : Type 0 where
+  pub known : is_known events g ≡ true
+  pub none : (order : List ℕ) → ExplainsGranule (operations events) g (word_told (openings events) g) (final_of events g) order → ⊥
+  pub whole : (order : List ℕ) → IsExplainedBy events order → ⊥
+
+-- All that wrote to the granule is told, no request of it is outstanding, and its search goes on to no word.
+pub record IsFound (w : WatchValue) (g : ℕ) : Type 0 where
+  pub followed : Followed
+  pub is : granule w g ≡ Some followed
+  pub known : IsTrue followed.is_known
+  pub quiet : list_any (λ p. granule_asked p == g) w.outstanding.requests ≡ false
+  pub none : (words : List ℕ) (told : List Observed) → Follows words told followed.frontier → (v : ℕ) → SomeLeads told words v → IsWord followed.last v → ⊥
+
+-- why the granules do not take an event
+abbrev pub has_last : Option Followed → Bool
+has_last None = false
+has_last (Some f) = is_some f.last
+
+abbrev pub final_fault : Bool → Bool → Option WatchFault
+final_fault told outstanding = if told then Some fault.FinalTwice else if outstanding then Some fault.FinalEarly else None
+
+abbrev pub length_fault : ℕ → ℕ → Option WatchFault
+length_fault addr len = if nat_lt 0 len && nat_le len 4096 && nat_le (addr + len) (2 ^ 52) then None else Some fault.TooLong
+
+abbrev pub granule_fault : WatchValue → EventKind → Option WatchFault
+granule_fault w (Request r) = if has_last (granule w (r.asked.addr / 8)) then Some fault.AfterFinal else None
+granule_fault w (Word told) = if is_some (granule w told.granule) then Some fault.WordLate else None
+granule_fault w (Final told) = final_fault (has_last (granule w told.granule)) (list_any (λ p. granule_asked p == told.granule) w.outstanding.requests)
+granule_fault w (Unknown addr len) = length_fault addr len
+granule_fault w _ = None
+
+-- why an event cannot be taken, if it cannot
+abbrev pub fault_of : WatchValue → Event → Option WatchFault
+fault_of w e = option_or (granule_fault w e.kind) (option_map as_watch_fault (outstanding_fault w.outstanding e))

@@ -1,0 +1,33 @@
+//! The operation that ended by an event, if one did.
+
+ghost use Rattle.std.specs.Prelude.{IfOk};
+ghost use Rattle.std.specs.BTreeMap.{get};
+ghost use Rattle.std.specs.Ordering.{nat_cmp};
+ghost use Rattle.chi_watch.specs.Changes.{IsClosedBy};
+
+use crate::followed::Followed;
+use crate::granules::close;
+use crate::quiet::earliest;
+use chi_events::Open;
+use chi_search::Progress;
+use chi_trace::Observed;
+use std::alloc::{AllocError, Global};
+use std::collections::BTreeMap;
+
+/// Tells the search of its granule the operation that ended, while these requests are outstanding.
+pub(crate) fn close_ended<P: Progress>(
+    alloc: Global,
+    granules: &mut BTreeMap<u64, Followed>,
+    requests: &[Open],
+    ended: &Option<Observed>,
+    budget: u64,
+    progress: &mut P,
+) -> Result<(), AllocError>
+    ensures { IfOk result (λ _. IsClosedBy ended.now requests.now (get nat_cmp granules.old) (get nat_cmp granules.new)) }
+{
+    let Some(op) = ended else {
+        return Ok(());
+    };
+    let horizon = earliest(requests, op.access.addr() / 8, op.start);
+    close(alloc, granules, op, horizon, budget, progress)
+}

@@ -1,0 +1,128 @@
+//! One granule that is watched.
+
+ghost use Rattle.std.specs.Prelude.{◌≡◌, ℕ, [], ◌∷◌, ◌++◌, ◌≤◌, ◌⊎◌, ◌↔◌, List, None, false, IfOk, IfSome, IsTrue};
+ghost use Rattle.std.specs.List.{Contains};
+ghost use Rattle.chi_trace.specs.declared.observed.Observed.{Observed};
+ghost use Rattle.chi_search.specs.Frontiers.{CanBeTold, Follows};
+ghost use Rattle.chi_search.specs.Layers.{SomeLeads};
+ghost use Rattle.chi_watch.specs.Changes.{CanEnd, IsTold, IsUntouched};
+ghost use Rattle.chi_watch.specs.Followed.{IfExplained, IfUnexplained, IsMovedOn, IsWord};
+
+use chi_search::{Frontier, Progress, Words};
+use chi_trace::Observed;
+use std::alloc::{AllocError, Global};
+
+/// A granule that is watched: the search over its operations that have ended, how many it may keep before it is moved on, the
+/// word after its last request, where it was told, and whether all that wrote to it is told.
+#[derive(Drop)]
+pub struct Followed {
+    pub(crate) frontier: Frontier,
+    pub(crate) limit: usize,
+    pub(crate) last: Option<u64>,
+    pub(crate) is_known: bool,
+}
+
+/// Whether a granule's operations can be explained.
+#[derive(Clone, Copy, Debug, PartialEq, Eq)]
+pub enum Standing {
+    Explained,
+    Unexplained,
+    Undecided,
+}
+
+/// How many operations a search keeps at least before it is moved on.
+const FEW: usize = 16;
+
+/// A granule before its first request.
+pub(crate) fn untouched(alloc: Global, word: u64) -> Result<Followed, AllocError>
+    ensures untouched { IfOk result (IsUntouched word) }
+{
+    Ok(Followed {
+        frontier: Frontier::new(alloc, &[word])?,
+        limit: 1,
+        last: None,
+        is_known: true,
+    })
+}
+
+/// Moves the search of a granule on, where it keeps as many operations as it may. No operation to come starts before the
+/// horizon.
+fn move_on<P: Progress>(
+    alloc: Global,
+    followed: &mut Followed,
+    horizon: u64,
+    budget: u64,
+    progress: &mut P,
+) -> Result<(), AllocError>
+    ensures { IfOk result (λ _. IsMovedOn followed.old horizon followed.new) }
+{
+    if followed.frontier.kept() < followed.limit {
+        return Ok(());
+    }
+    let mut left = budget;
+    match followed
+        .frontier
+        .advanced(alloc, horizon, &mut left, progress)?
+    {
+        Some(frontier) => {
+            followed.limit = frontier.kept().saturating_mul(2).max(FEW);
+            followed.frontier = frontier;
+        }
+        None => followed.limit = followed.limit.saturating_mul(2),
+    }
+    Ok(())
+}
+
+/// Tells the search of a granule an operation that has ended, where all that wrote to the granule is told.
+pub(crate) fn tell<P: Progress>(
+    alloc: Global,
+    followed: &mut Followed,
+    op: &Observed,
+    horizon: u64,
+    budget: u64,
+    progress: &mut P,
+) -> Result<(), AllocError>
+    ensures told { IfOk result (λ _. IsTrue followed.old.is_known → CanEnd horizon followed.old op.now → IsTold op.now horizon followed.old followed.new) }
+    ensures unknown { followed.old.is_known ≡ false → followed.new ≡ followed.old }
+    ensures last { IfOk result (λ _. followed.new.last ≡ followed.old.last) }
+{
+    if followed.is_known {
+        move_on(alloc, followed, horizon, budget, progress)?;
+        followed.frontier.add(op)?;
+    }
+    Ok(())
+}
+
+/// Whether one of the words is the last, where that was told.
+fn fits(words: &[u64], last: Option<u64>) -> bool
+    ensures some { IsTrue result → (v : ℕ) × Contains words.now v × IsWord last v }
+    ensures none { result ≡ false → (v : ℕ) → Contains words.now v → IsWord last v → ⊥ }
+{
+    match last {
+        Some(word) => words.contains(&word),
+        None => words.len() > 0,
+    }
+}
+
+/// Whether the operations that were told can be explained, and leave the last word, where one was told.
+pub(crate) fn judge<P: Progress>(
+    alloc: Global,
+    followed: &Followed,
+    budget: u64,
+    progress: &mut P,
+) -> Result<Standing, AllocError>
+    ensures explained { IfOk result (λ s. IfExplained s ((words : List ℕ) (told : List Observed) → Follows words told followed.now.frontier → (v : ℕ) × SomeLeads told words v × IsWord followed.now.last v)) }
+    ensures unexplained { IfOk result (λ s. IfUnexplained s ((words : List ℕ) (told : List Observed) → Follows words told followed.now.frontier → (v : ℕ) → SomeLeads told words v → IsWord followed.now.last v → ⊥)) }
+{
+    let mut left = budget;
+    match followed.frontier.words(alloc, &mut left, progress)? {
+        Words::Unknown => Ok(Standing::Undecided),
+        Words::Each(words) => {
+            if fits(&words, followed.last) {
+                Ok(Standing::Explained)
+            } else {
+                Ok(Standing::Unexplained)
+            }
+        }
+    }
+}

@@ -1,0 +1,96 @@
+//! The granules that are watched, by their numbers.
+
+ghost use Rattle.std.specs.Prelude.{◌≡◌, ℕ, ◌+◌, ◌^◌, ◌≤◌, Some, None, false, IfOk, IfSome, IsTrue, is_some};
+ghost use Rattle.std.specs.BTreeMap.{get};
+ghost use Rattle.std.specs.Ordering.{nat_cmp};
+ghost use Rattle.chi_trace.specs.Granules.{granule_of};
+ghost use Rattle.chi_watch.specs.Changes.{HasOneMore, IsMarked, IsTouched, IsTouchedAndMarked};
+ghost use Rattle.chi_watch.specs.declared.followed.Followed.{Followed};
+
+use crate::followed::{Followed, tell, untouched};
+use chi_search::Progress;
+use chi_trace::Observed;
+use std::alloc::{AllocError, Global};
+use std::collections::BTreeMap;
+
+/// Watches a granule, from this word on, where it was not watched before.
+pub(crate) fn touch(
+    alloc: Global,
+    granules: &mut BTreeMap<u64, Followed>,
+    granule: u64,
+    word: u64,
+) -> Result<(), AllocError>
+    ensures { IfOk result (λ _. IsTouched (get nat_cmp granules.old) (get nat_cmp granules.new) granule word) }
+{
+    if granules.contains_key(&granule) {
+        return Ok(());
+    }
+    let followed = untouched(alloc, word)?;
+    granules.insert(granule, followed)?;
+    Ok(())
+}
+
+/// Tells the search of its granule an operation that has ended.
+pub(crate) fn close<P: Progress>(
+    alloc: Global,
+    granules: &mut BTreeMap<u64, Followed>,
+    op: &Observed,
+    horizon: u64,
+    budget: u64,
+    progress: &mut P,
+) -> Result<(), AllocError>
+    ensures { IfOk result (λ _. HasOneMore op.now horizon (get nat_cmp granules.old) (get nat_cmp granules.new)) }
+{
+    let granule = op.access.addr() / 8;
+    match granules.get_mut(&granule) {
+        Some(followed) => tell(alloc, followed, op, horizon, budget, progress),
+        None => Ok(()),
+    }
+}
+
+/// Notes the word after a granule's last request.
+fn set_last(granules: &mut BTreeMap<u64, Followed>, granule: u64, word: u64)
+    requires watched { IsTrue (is_some (get nat_cmp granules.now granule)) }
+    ensures { IsMarked granule (λ f. record f { last = Some word }) (get nat_cmp granules.old) (get nat_cmp granules.new) }
+{
+    if let Some(followed) = granules.get_mut(&granule) {
+        followed.last = Some(word);
+    }
+}
+
+/// Notes that something that is not told may have written to a granule.
+fn set_unknown(granules: &mut BTreeMap<u64, Followed>, granule: u64)
+    requires watched { IsTrue (is_some (get nat_cmp granules.now granule)) }
+    ensures { IsMarked granule (λ f. record f { is_known = false }) (get nat_cmp granules.old) (get nat_cmp granules.new) }
+{
+    if let Some(followed) = granules.get_mut(&granule) {
+        followed.is_known = false;
+    }
+}
+
+/// Tells the word after a granule's last request.
+pub(crate) fn tell_last(
+    alloc: Global,
+    granules: &mut BTreeMap<u64, Followed>,
+    granule: u64,
+    word: u64,
+) -> Result<(), AllocError>
+    ensures { IfOk result (λ _. IsTouchedAndMarked granule (λ f. record f { last = Some word }) (get nat_cmp granules.old) (get nat_cmp granules.new)) }
+{
+    touch(alloc, granules, granule, 0)?;
+    set_last(granules, granule, word);
+    Ok(())
+}
+
+/// Tells that something that is not told may have written to a granule.
+pub(crate) fn forget_one(
+    alloc: Global,
+    granules: &mut BTreeMap<u64, Followed>,
+    granule: u64,
+) -> Result<(), AllocError>
+    ensures { IfOk result (λ _. IsTouchedAndMarked granule (λ f. record f { is_known = false }) (get nat_cmp granules.old) (get nat_cmp granules.new)) }
+{
+    touch(alloc, granules, granule, 0)?;
+    set_unknown(granules, granule);
+    Ok(())
+}

@@ -1,0 +1,15 @@
+//! Granules that are watched while events come.
+#![tactic(auto)]
+
+mod ended;
+mod ending;
+mod fault;
+mod followed;
+mod granules;
+mod noting;
+mod quiet;
+mod watch;
+
+pub use ending::Ending;
+pub use fault::WatchFault;
+pub use watch::Watch;

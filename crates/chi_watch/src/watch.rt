@@ -1,0 +1,215 @@
+//! Granules that are watched while events come.
+
+ghost use Rattle.std.specs.Prelude.{◌≡◌, ◌≢◌, ◌==◌, ℕ, [], ◌∷◌, ◌++◌, List, None, Some, IfErr, IfOk, IfSome, IsTrue};
+ghost use Rattle.std.specs.List.{list_any};
+ghost use Rattle.chi_events.specs.declared.event.Event.{Event};
+ghost use Rattle.chi_watch.specs.Changes.{HasLength};
+ghost use Rattle.chi_watch.specs.Requests.{granule_asked};
+ghost use Rattle.chi_watch.specs.Watches.{HasTaken, IsFound, IsUnexplained, fault_of, granule as granule_of, granule_fault, has_last};
+
+use crate::ended::close_ended;
+use crate::fault::WatchFault;
+use crate::followed::{Followed, Standing, judge};
+use crate::noting::note;
+use crate::quiet::{has_length, is_open};
+use chi_events::laws::operations_are_told;
+use chi_events::{Event, EventKind, Outstanding};
+use chi_search::Progress;
+use chi_trace::Observed;
+use chi_trace::laws::{granules_told, parts_explain};
+use std::alloc::{AllocError, Global};
+use std::collections::BTreeMap;
+use std::marker::Model;
+
+/// The granules that events tell of, each followed as far as what is told of it allows.
+///
+/// Source: profile.
+///
+/// ```
+/// let mut watch = Watch::new(alloc);
+/// for event in &events {
+///     if let Some(granule) = watch.take(alloc, event, 1_000_000, &mut NoProgress)? {
+///         show(granule);
+///     }
+/// }
+/// ```
+#[derive(Drop)]
+pub struct Watch {
+    pub(crate) outstanding: Outstanding,
+    pub(crate) granules: BTreeMap<u64, Followed>,
+}
+
+impl Model for Watch {
+    ghost use Rattle.chi_watch.specs.Watches.{WatchValue};
+
+    ghost Value = { WatchValue };
+
+    ghost view = { λ w. record { outstanding = w.outstanding; granules = w.granules.entries } };
+}
+
+impl Watch {
+    /// Nothing is watched, before any event.
+    ///
+    /// ```
+    /// let watch = Watch::new(alloc);
+    /// ```
+    pub fn new(alloc: Global) -> Watch
+        ensures { HasTaken [] result }
+    {
+        Watch {
+            outstanding: Outstanding::new(alloc),
+            granules: BTreeMap::new(alloc),
+        }
+    }
+
+    /// Whether the granule's word at the end was told.
+    fn has_last(&self, granule: u64) -> bool
+        ensures { result ≡ has_last (granule_of self.now granule) }
+    {
+        match self.granules.get(&granule) {
+            Some(followed) => followed.last.is_some(),
+            None => false,
+        }
+    }
+
+    /// Whether a request of the granule is outstanding.
+    fn is_open(&self, granule: u64) -> bool
+        ensures { result ≡ list_any (λ p. granule_asked p == granule) self.now.outstanding.requests }
+    {
+        is_open(self.outstanding.requests(), granule)
+    }
+
+    /// Whether the granules take an event of this kind, or why they do not.
+    fn admits(&self, kind: &EventKind) -> Result<(), WatchFault>
+        ensures fits { IfOk result (λ _. granule_fault self.now kind.now ≡ None) }
+        ensures fault { IfErr result (λ fault. granule_fault self.now kind.now ≡ Some fault) }
+        ensures length { IfOk result (λ _. HasLength kind.now) }
+    {
+        match kind {
+            EventKind::Request(request) => {
+                if self.has_last(request.asked.addr / 8) {
+                    return Err(WatchFault::AfterFinal);
+                }
+                Ok(())
+            }
+            EventKind::Word(told) => {
+                if self.granules.contains_key(&told.granule) {
+                    return Err(WatchFault::WordLate);
+                }
+                Ok(())
+            }
+            EventKind::Final(told) => {
+                if self.has_last(told.granule) {
+                    return Err(WatchFault::FinalTwice);
+                }
+                if self.is_open(told.granule) {
+                    return Err(WatchFault::FinalEarly);
+                }
+                Ok(())
+            }
+            EventKind::Unknown { addr, length } => {
+                if !has_length(*addr, *length) {
+                    return Err(WatchFault::TooLong);
+                }
+                Ok(())
+            }
+            _ => Ok(()),
+        }
+    }
+
+    /// Whether all that wrote to the granule is told, no request of it is outstanding, and its search goes on to no word.
+    fn is_found<P: Progress>(
+        &self,
+        alloc: Global,
+        granule: u64,
+        budget: u64,
+        progress: &mut P,
+    ) -> Result<bool, AllocError>
+        ensures { IfOk result (λ is. IsTrue is → IsFound self.now granule) }
+    {
+        let Some(followed) = self.granules.get(&granule) else {
+            return Ok(false);
+        };
+        if !followed.is_known || self.is_open(granule) {
+            return Ok(false);
+        }
+        match judge(alloc, followed, budget, progress)? {
+            Standing::Unexplained => Ok(true),
+            Standing::Explained | Standing::Undecided => Ok(false),
+        }
+    }
+
+    /// Whether it is seen that no order explains a granule of which no request is outstanding.
+    fn is_unexplained<P: Progress>(
+        &self,
+        alloc: Global,
+        granule: u64,
+        budget: u64,
+        progress: &mut P,
+    ) -> Result<bool, AllocError>
+        ensures { IfOk result (λ is. IsTrue is → (events : List Event) → HasTaken events self.now → IsUnexplained events granule) }
+    {
+        operations_are_told();
+        granules_told();
+        parts_explain();
+        let _requests = self.outstanding.requests();
+        self.is_found(alloc, granule, budget, progress)
+    }
+
+    /// Takes an event, where it can come next, and answers the operation that ended by it, if one did.
+    fn step<P: Progress>(
+        &mut self,
+        alloc: Global,
+        event: &Event,
+        budget: u64,
+        progress: &mut P,
+    ) -> Result<Option<Observed>, WatchFault>
+        ensures taken { IfOk result (λ ended. (events : List Event) → HasTaken events self.old → HasTaken (events ++ event.now ∷ []) self.new) }
+        ensures fits { IfOk result (λ ended. fault_of self.old event.now ≡ None) }
+        ensures fault { IfErr result (λ fault. fault ≢ WatchFault.Memory → fault_of self.old event.now ≡ Some fault) }
+    {
+        self.admits(&event.kind)?;
+        let ended = self.outstanding.take(event)?;
+        close_ended(
+            alloc,
+            &mut self.granules,
+            self.outstanding.requests(),
+            &ended,
+            budget,
+            progress,
+        )?;
+        note(alloc, &mut self.granules, &event.kind)?;
+        Ok(ended)
+    }
+
+    /// Takes an event, where it can come next, and answers the granule, where by this event it was seen that no order explains
+    /// its operations. `budget` is how many states may be looked at for an answer.
+    ///
+    /// A granule is judged when an operation of it ends and no other is outstanding there.
+    ///
+    /// ```
+    /// let found = watch.take(alloc, &event, 1_000_000, &mut NoProgress)?;
+    /// ```
+    pub fn take<P: Progress>(
+        &mut self,
+        alloc: Global,
+        event: &Event,
+        budget: u64,
+        progress: &mut P,
+    ) -> Result<Option<u64>, WatchFault>
+        ensures taken { IfOk result (λ found. (events : List Event) → HasTaken events self.old → HasTaken (events ++ event.now ∷ []) self.new) }
+        ensures unexplained { IfOk result (λ found. IfSome found (λ g. (events : List Event) → HasTaken events self.old → IsUnexplained (events ++ event.now ∷ []) g)) }
+        ensures fits { IfOk result (λ found. fault_of self.old event.now ≡ None) }
+        ensures fault { IfErr result (λ fault. fault ≢ WatchFault.Memory → fault_of self.old event.now ≡ Some fault) }
+    {
+        let Some(op) = self.step(alloc, event, budget, progress)? else {
+            return Ok(None);
+        };
+        let granule = op.access.addr() / 8;
+        if self.is_unexplained(alloc, granule, budget, progress)? {
+            Ok(Some(granule))
+        } else {
+            Ok(None)
+        }
+    }
+}

@@ -1,0 +1,11 @@
+//! Tests of how granules are watched while events come.
+#![tactic(auto)]
+
+#[cfg(test)]
+mod ending_tests;
+#[cfg(test)]
+mod fault_tests;
+#[cfg(test)]
+mod home;
+#[cfg(test)]
+mod watch_tests;
