@@ -1,9 +1,10 @@
 -- what is said of the events by the granules once all that is still open was told
-use Rattle.std.proofs.Common.{◌≡◌, ℕ, ◌++◌, true, List, [], ◌∷◌, Option, Some, None, IfSome, filter, sym, ap, subst, ◌∙◌}
-use Rattle.std.specs.Prelude.{IfOk, Result, Err, Ok, filter_map}
+use Rattle.std.proofs.Common.{◌≡◌, ℕ, ◌++◌, ◌⊎◌, true, inl, inr, List, [], ◌∷◌, All, Option, Some, None, IfSome, filter, length, sym, ap, subst, ◌∙◌, arith}
+use Rattle.std.specs.Prelude.{filter_map}
+use Rattle.std.specs.List.{Contains}
 use Rattle.std.proofs.lemmas.List.Elements.{filter-append}
 use Rattle.chi_events.specs.EventLaws.{OperationsAreTold}
-use Rattle.chi_events.specs.Outstanding.{open_operation}
+use Rattle.chi_events.specs.Outstanding.{IsOpen, open_operation}
 use Rattle.chi_events.specs.declared.event.Event.{Event}
 use Rattle.chi_search.specs.Frontiers.{Follows}
 use Rattle.chi_search.specs.Layers.{SomeLeads}
@@ -11,15 +12,15 @@ use Rattle.chi_trace.specs.Chosen.{GranulesTold, is_in}
 use Rattle.chi_trace.specs.TraceLaws.{GranulesExplain, PartsExplain}
 use Rattle.chi_trace.specs.declared.observed.Observed.{Observed}
 use Rattle.chi_verdict.specs.Words.{told, word_told}
-use Rattle.chi_watch.specs.Endings.{AreToldTo, IfExplained, IfUnexplained, IsExplainable, IsInexplicableAt}
+use Rattle.chi_watch.specs.Endings.{AreToldTo, CanClose, IsExplainable, IsInexplicableAt, IsListed}
 use Rattle.chi_watch.specs.Followed.{IsWord}
 use Rattle.chi_watch.specs.Judged.{IsExplained, finals, is_known, openings}
+use Rattle.chi_watch.specs.Quiet.{CanBeExplained}
 use Rattle.chi_watch.specs.Watches.{HasTaken, IsGranuleOf, IsUnexplained, Watches, WatchValue, granule}
-use Rattle.chi_watch.specs.declared.ending.Ending.{Ending}
-use Rattle.chi_watch.specs.declared.ending.Ending.TheVariants.{Explained, Undecided, Unexplained}
 use Rattle.chi_watch.specs.declared.followed.Followed.{Followed}
+use Rattle.chi_watch.proofs.Opened.{all_can_close}
 use Rattle.chi_watch.proofs.ToldAtTheEnd.{own_open}
-use Rattle.chi_watch.proofs.Verdicts.{explained, leads_none, unexplained}
+use Rattle.chi_watch.proofs.Verdicts.{explained, leads_none, one_explained, unexplained}
 
 -- the operations of each granule that are open were told of it
 abbrev pub AreClosed : WatchValue → (ℕ → Option Followed) → Type 0
@@ -74,37 +75,55 @@ module _ (events : List Event) (ended : List Observed) (w : WatchValue) (new : �
           unexplained operations_law granules_law parts_law events ended w.outstanding g is.tells known
           (λ v leads word. not.none (word_told (openings events) g ∷ []) _ (own.follows known) v leads (subst (λ o. IsWord o v) (sym own.last) word))
 
+  word_fits : (g : ℕ) → is_known events g ≡ true → (b : Option Followed) → AreToldTo (own_open g w.outstanding.requests) (granule w g) b → IfSome b IsExplainable → SomeWordFits events ended w g
+  word_fits g known None more can = none_followed g (granule w g) (is.each g) more
+  word_fits g known (Some f) more can =
+      let own = followed g (granule w g) f (is.each g) more in
+      let led = can (own.known ∙ known) (word_told (openings events) g ∷ []) _ (own.follows known) in
+      (led.0, led.1, subst (λ o. IsWord o led.0) own.last led.2)
+
   explainable : OperationsAreTold → GranulesTold → GranulesExplain → ((g : ℕ) → IfSome (new g) IsExplainable) → IsExplained events
   explainable operations_law granules_law whole_law each =
-      explained operations_law granules_law whole_law events ended w.outstanding is.tells (λ g known. by_case g known (new g) (closed g) (each g))
-    where
-      by_case : (g : ℕ) → is_known events g ≡ true → (b : Option Followed) → AreToldTo (own_open g w.outstanding.requests) (granule w g) b → IfSome b IsExplainable → SomeWordFits events ended w g
-      by_case g known None more can = none_followed g (granule w g) (is.each g) more
-      by_case g known (Some f) more can =
-          let own = followed g (granule w g) f (is.each g) more in
-          let led = can (own.known ∙ known) (word_told (openings events) g ∷ []) _ (own.follows known) in
-          (led.0, led.1, subst (λ o. IsWord o led.0) own.last led.2)
+      explained operations_law granules_law whole_law events ended w.outstanding is.tells (λ g known. word_fits g known (new g) (closed g) (each g))
 
-pub ended_unexplained : OperationsAreTold → GranulesTold → PartsExplain → (w : WatchValue) (new : ℕ → Option Followed) → AreClosed w new
-    → (g : ℕ) → IsInexplicableAt (new g) → (events : List Event) → HasTaken events w → IsUnexplained events g
-ended_unexplained operations_law granules_law parts_law w new closed g not events (ended, is) =
-    inexplicable events ended w new is closed operations_law granules_law parts_law g not
+  explainable_here : OperationsAreTold → GranulesTold → (g : ℕ) → is_known events g ≡ true → IfSome (new g) IsExplainable → CanBeExplained events g
+  explainable_here operations_law granules_law g known can =
+      let fits = word_fits g known (new g) (closed g) can in
+      one_explained operations_law granules_law events ended w.outstanding g is.tells known fits.0 fits.1 fits.2
 
-pub ended_explained : OperationsAreTold → GranulesTold → GranulesExplain → (w : WatchValue) (new : ℕ → Option Followed) → AreClosed w new
-    → ((g : ℕ) → IfSome (new g) IsExplainable) → (events : List Event) → HasTaken events w → IsExplained events
-ended_explained operations_law granules_law whole_law w new closed each events (ended, is) =
-    explainable events ended w new is closed operations_law granules_law whole_law each
+pub ended_unexplained : OperationsAreTold → GranulesTold → PartsExplain → (w : WatchValue) (new : ℕ → Option Followed) → All (IsOpen w.outstanding.time) w.outstanding.requests
+    → (All (CanClose (granule w)) w.outstanding.requests → AreClosed w new) → (g : ℕ) → IsInexplicableAt (new g) → (events : List Event) → HasTaken events w → IsUnexplained events g
+ended_unexplained operations_law granules_law parts_law w new are_open closes g not events (ended, is) =
+    inexplicable events ended w new is (closes (all_can_close events ended w is are_open)) operations_law granules_law parts_law g not
 
--- what follows from what is said of the granules
-pub said_explained : {E : Type 0} (r : Result Ending E) (A B : Type 0) → (A → B) → IfOk r (λ ending. IfExplained ending A) → IfOk r (λ ending. IfExplained ending B)
-said_explained (Ok Explained) A B implies said = implies said
-said_explained (Ok (Unexplained g)) A B implies said = tt
-said_explained (Ok (Undecided g)) A B implies said = tt
-said_explained (Err fault) A B implies said = tt
+pub ended_explained : OperationsAreTold → GranulesTold → GranulesExplain → (w : WatchValue) (new : ℕ → Option Followed) → All (IsOpen w.outstanding.time) w.outstanding.requests
+    → (All (CanClose (granule w)) w.outstanding.requests → AreClosed w new) → ((g : ℕ) → IfSome (new g) IsExplainable) → (events : List Event) → HasTaken events w → IsExplained events
+ended_explained operations_law granules_law whole_law w new are_open closes each events (ended, is) =
+    explainable events ended w new is (closes (all_can_close events ended w is are_open)) operations_law granules_law whole_law each
 
-pub said_unexplained : {E : Type 0} (r : Result Ending E) (P Q : ℕ → Type 0) → ((g : ℕ) → P g → Q g) → IfOk r (λ ending. IfUnexplained ending P)
-    → IfOk r (λ ending. IfUnexplained ending Q)
-said_unexplained (Ok Explained) P Q implies said = tt
-said_unexplained (Ok (Unexplained g)) P Q implies said = implies g said
-said_unexplained (Ok (Undecided g)) P Q implies said = tt
-said_unexplained (Err fault) P Q implies said = tt
+-- a granule that can be explained, or of which something else is so
+abbrev CanOr : Type 0 → Option Followed → Type 0
+CanOr A o = IfSome o (λ f. IsExplainable f ⊎ A)
+
+pub ended_each : OperationsAreTold → GranulesTold → (A : Type 0) (w : WatchValue) (new : ℕ → Option Followed) → All (IsOpen w.outstanding.time) w.outstanding.requests
+    → (All (CanClose (granule w)) w.outstanding.requests → AreClosed w new) → (g : ℕ) → IfSome (new g) (λ f. IsExplainable f ⊎ A) → (events : List Event) → HasTaken events w
+    → is_known events g ≡ true → CanBeExplained events g ⊎ A
+ended_each operations_law granules_law A w new are_open closes g said events (ended, is) known = by_case (new g) said here
+  where
+    here : IfSome (new g) IsExplainable → CanBeExplained events g
+    here can = explainable_here events ended w new is (closes (all_can_close events ended w is are_open)) operations_law granules_law g known can
+
+    by_case : (o : Option Followed) → CanOr A o → (IfSome o IsExplainable → CanBeExplained events g) → CanBeExplained events g ⊎ A
+    by_case None can explains = inl (explains tt)
+    by_case (Some f) (inl can) explains = inl (explains can)
+    by_case (Some f) (inr other) explains = inr other
+
+none_contained : (l : List ℕ) (g : ℕ) → l ≡ [] → Contains l g → ⊥
+none_contained l g none (k, below, is) = omega (arith, below, ap length none)
+
+-- where none is listed each can be explained
+pub none_listed : (g : ℕ) (un dec : List ℕ) → un ≡ [] → dec ≡ [] → (o : Option Followed) → IfSome o (λ f. IsExplainable f ⊎ IsListed g un dec) → IfSome o IsExplainable
+none_listed g un dec no_un no_dec None said = tt
+none_listed g un dec no_un no_dec (Some f) (inl can) = can
+none_listed g un dec no_un no_dec (Some f) (inr (inl in_un)) = absurd (none_contained un g no_un in_un)
+none_listed g un dec no_un no_dec (Some f) (inr (inr in_dec)) = absurd (none_contained dec g no_dec in_dec)

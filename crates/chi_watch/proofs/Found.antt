@@ -1,5 +1,5 @@
--- a granule whose search goes on to no word
-use Rattle.std.proofs.Common.{◌≡◌, ℕ, ◌==◌, ◌||◌, Bool, true, false, List, [], ◌∷◌, ◌++◌, All, Option, IfSome, filter, filter_map, refl, sym, ap, subst, ◌∙◌, append-nil, eq-eqb, true≢false}
+-- granules that are quiet, whose search goes on to a word or to none
+use Rattle.std.proofs.Common.{◌≡◌, ℕ, ◌==◌, ◌⊎◌, ◌||◌, Bool, true, false, List, [], ◌∷◌, ◌++◌, All, Option, Some, None, IfSome, inl, inr, filter, filter_map, refl, sym, ap, subst, ◌∙◌, append-nil, eq-eqb, true≢false}
 use Rattle.std.specs.List.{list_any}
 use Rattle.std.proofs.lemmas.List.Elements.{All-cons, All-nil, All-weaker, filter-append}
 use Rattle.chi_events.specs.EventLaws.{OperationsAreTold}
@@ -10,12 +10,15 @@ use Rattle.chi_search.specs.Layers.{SomeLeads}
 use Rattle.chi_trace.specs.Chosen.{GranulesTold, is_in}
 use Rattle.chi_trace.specs.TraceLaws.{PartsExplain}
 use Rattle.chi_trace.specs.declared.observed.Observed.{Observed}
-use Rattle.chi_verdict.specs.Words.{word_told}
+use Rattle.chi_verdict.specs.Words.{told, word_told}
+use Rattle.chi_watch.specs.Endings.{IsExplainable}
 use Rattle.chi_watch.specs.Followed.{IsWord}
-use Rattle.chi_watch.specs.Judged.{openings}
+use Rattle.chi_watch.specs.Judged.{finals, is_known, openings}
+use Rattle.chi_watch.specs.Quiet.{CanBeExplained}
 use Rattle.chi_watch.specs.Requests.{IsQuiet, granule_asked}
-use Rattle.chi_watch.specs.Watches.{HasTaken, IsFound, IsGranuleOf, IsUnexplained, IsWatched, WatchValue}
-use Rattle.chi_watch.proofs.Verdicts.{quiet_none, unexplained}
+use Rattle.chi_watch.specs.Watches.{HasTaken, IsFound, IsGranuleOf, IsUnexplained, IsWatched, WatchValue, granule}
+use Rattle.chi_watch.specs.declared.followed.Followed.{Followed}
+use Rattle.chi_watch.proofs.Verdicts.{leads_none, one_explained, quiet_none, unexplained}
 
 is_quiet : (requests : List Open) (g : ℕ) → list_any (λ (p : Open). granule_asked p == g) requests ≡ false → IsQuiet requests g
 is_quiet [] g none = All-nil (λ (p : Open). granule_asked p ≡ g → ⊥)
@@ -26,19 +29,43 @@ is_quiet (p ∷ requests) g none = by_test (granule_asked p == g) refl none (is_
     by_test true same none rest = absurd (true≢false none)
     by_test false other none rest = All-cons (λ (q : Open). granule_asked q ≡ g → ⊥) p requests (λ is. true≢false (sym (eq-eqb (granule_asked p) g is) ∙ other)) (rest none)
 
+module _ (events : List Event) (ended : List Observed) (w : WatchValue) (are_open : All (IsOpen w.outstanding.time) w.outstanding.requests) (g : ℕ)
+    (quiet : list_any (λ p. granule_asked p == g) w.outstanding.requests ≡ false) where
+  none : filter (is_in g) (filter_map open_operation w.outstanding.requests) ≡ []
+  none = quiet_none w.outstanding.requests g
+      (All-weaker (IsOpen w.outstanding.time) (λ (p : Open). IfSome p.access (λ access. access.addr ≡ p.asked.addr)) (λ p o. o.at) w.outstanding.requests are_open) (is_quiet w.outstanding.requests g quiet)
+
+  alone : filter (is_in g) (ended ++ filter_map open_operation w.outstanding.requests) ≡ filter (is_in g) ended
+  alone = filter-append (is_in g) ended (filter_map open_operation w.outstanding.requests) ∙ (ap (λ (ops : List Observed). filter (is_in g) ended ++ ops) none ∙ append-nil (filter (is_in g) ended))
+
 pub found_is : OperationsAreTold → GranulesTold → PartsExplain → (events : List Event) (w : WatchValue) → All (IsOpen w.outstanding.time) w.outstanding.requests → HasTaken events w
     → (g : ℕ) → IsFound w g → IsUnexplained events g
 found_is told granules parts events w are_open (ended, is) g found =
     unexplained told granules parts events ended w.outstanding g is.tells (sym watched.known ∙ found.known)
     (λ v leads word. found.none (word_told (openings events) g ∷ []) (filter (is_in g) ended) (watched.follows found.known) v
-    (subst (λ (ops : List Observed). SomeLeads ops (word_told (openings events) g ∷ []) v) alone leads) (subst (λ (last : Option ℕ). IsWord last v) (sym watched.last) word))
+    (subst (λ (ops : List Observed). SomeLeads ops (word_told (openings events) g ∷ []) v) (alone events ended w are_open g found.quiet) leads)
+    (subst (λ (last : Option ℕ). IsWord last v) (sym watched.last) word))
   where
     watched : IsWatched events ended w.outstanding g found.followed
     watched = subst (IsGranuleOf events ended w.outstanding g) found.is (is.each g)
 
-    none : filter (is_in g) (filter_map open_operation w.outstanding.requests) ≡ []
-    none = quiet_none w.outstanding.requests g
-        (All-weaker (IsOpen w.outstanding.time) (λ (p : Open). IfSome p.access (λ access. access.addr ≡ p.asked.addr)) (λ p o. o.at) w.outstanding.requests are_open) (is_quiet w.outstanding.requests g found.quiet)
+-- A granule that is quiet is explained where it is not watched, and where its search goes on to a word that may have been its last.
+pub not_found_is : OperationsAreTold → GranulesTold → (A : Type 0) (events : List Event) (w : WatchValue) → All (IsOpen w.outstanding.time) w.outstanding.requests → HasTaken events w
+    → (g : ℕ) → list_any (λ p. granule_asked p == g) w.outstanding.requests ≡ false → IfSome (granule w g) (λ f. IsExplainable f ⊎ A) → is_known events g ≡ true → CanBeExplained events g ⊎ A
+not_found_is operations_law granules_law A events w are_open (ended, is) g quiet said known = by_case (granule w g) (is.each g) said
+  where
+    word : ℕ
+    word = word_told (openings events) g
 
-    alone : filter (is_in g) (ended ++ filter_map open_operation w.outstanding.requests) ≡ filter (is_in g) ended
-    alone = filter-append (is_in g) ended (filter_map open_operation w.outstanding.requests) ∙ (ap (λ (ops : List Observed). filter (is_in g) ended ++ ops) none ∙ append-nil (filter (is_in g) ended))
+    explained : (v : ℕ) → SomeLeads (filter (is_in g) ended) (word ∷ []) v → IsWord (told (finals events) g) v → CanBeExplained events g
+    explained v leads last =
+        one_explained operations_law granules_law events ended w.outstanding g is.tells known v
+        (subst (λ (ops : List Observed). SomeLeads ops (word ∷ []) v) (sym (alone events ended w are_open g quiet)) leads) last
+
+    by_case : (x : Option Followed) → IsGranuleOf events ended w.outstanding g x → IfSome x (λ f. IsExplainable f ⊎ A) → CanBeExplained events g ⊎ A
+    by_case None was said =
+        inl (explained word (subst (λ (ops : List Observed). SomeLeads ops (word ∷ []) word) (sym was.none) (leads_none word)) (subst (λ last. IsWord last word) (sym was.last) tt))
+    by_case (Some f) was (inl can) =
+        let led = can (was.known ∙ known) (word ∷ []) (filter (is_in g) ended) (was.follows (was.known ∙ known)) in
+        inl (explained led.0 led.1 (subst (λ last. IsWord last led.0) was.last led.2))
+    by_case (Some f) was (inr looked) = inr looked

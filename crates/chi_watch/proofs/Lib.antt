@@ -1,10 +1,13 @@
 pub mod AtTheEnd
 pub mod Closing
+pub mod Counted
 pub mod Found
 pub mod Judging
 pub mod Lists
+pub mod Looked
 pub mod Noted
 pub mod NotedKinds
+pub mod Opened
 pub mod Taken
 pub mod ToldAtTheEnd
 pub mod Verdicts

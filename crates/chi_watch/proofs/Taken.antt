@@ -1,14 +1,14 @@
 -- what a watch knows once it took an event
-use Rattle.std.specs.Prelude.{if◌then◌else◌, option_to_list}
-use Rattle.std.proofs.Common.{◌≡◌, ℕ, ◌/◌, ◌==◌, ◌≤◌, Bool, true, false, List, [], ◌∷◌, ◌++◌, All, Option, Some, None, IfSome, IsTrue, is_some, inl, inr, refl, sym, ap, subst, ◌∙◌, eqb-true, eq-eqb, true≢false}
+use Rattle.std.specs.Prelude.{◌+◌, ◌-◌, if◌then◌else◌, length, min, option_to_list}
+use Rattle.std.proofs.Common.{◌≡◌, ℕ, ◌/◌, ◌^◌, ◌==◌, ◌<◌, ◌≤◌, Bool, true, false, List, [], ◌∷◌, ◌++◌, All, Option, Some, None, IfSome, IsTrue, is_some, inl, inr, refl, sym, ap, subst, ◌∙◌, eqb-true, eq-eqb, true≢false, arith, length-append}
 use Rattle.std.specs.List.{list_any}
-use Rattle.std.proofs.lemmas.List.Elements.{All-contains, All-weaker}
+use Rattle.std.proofs.lemmas.List.Elements.{All-contains, All-pop, All-weaker}
 use Rattle.chi_events.specs.declared.event.Event.{Event}
 use Rattle.chi_events.specs.declared.event.EventKind.{EventKind}
 use Rattle.chi_events.specs.declared.event.EventKind.TheVariants.{Request, Data, Reply, Dropped, Word, Final, Unknown}
 use Rattle.chi_events.specs.declared.event.Requested.{Requested}
 use Rattle.chi_events.specs.declared.outstanding.Open.{Open}
-use Rattle.chi_events.specs.Outstanding.{IsEndOf, OutstandingValue, StaysOrStarts, Tells}
+use Rattle.chi_events.specs.Outstanding.{IsEndOf, IsEvent, OutstandingValue, StaysOrStarts, Tells}
 use Rattle.chi_events.specs.Told.{requested}
 use Rattle.chi_trace.specs.Granules.{granule_of}
 use Rattle.chi_trace.specs.declared.observed.Observed.{Observed}
@@ -94,9 +94,13 @@ none_is : {X : Type 0} (x : Option X) → is_some x ≡ false → x ≡ None
 none_is None is = refl
 none_is (Some x) is = absurd (true≢false is)
 
-module _ (events : List Event) (ended : List Observed) (w : WatchValue) (e : Event) (o : OutstandingValue) (op : Option Observed) (mid : ℕ → Option Followed) (last : List (ℕ × Followed)) where
+module _ (events : List Event) (ended : List Observed) (w : WatchValue) (e : Event) (o : OutstandingValue) (op : Option Observed) (mid : ℕ → Option Followed) (last : List (ℕ × Followed)) (count : ℕ) where
   abbrev now : WatchValue
-  now = record { outstanding = o; granules = last }
+  now = record { outstanding = o; granules = last; ended = count }
+
+  -- one operation more had ended, if one did
+  counted : count ≡ min (w.ended + length (option_to_list op)) (2 ^ 64 - 1) → w.ended ≡ min (length ended) (2 ^ 64 - 1) → count ≡ min (length (ended ++ option_to_list op)) (2 ^ 64 - 1)
+  counted more before = omega (arith, more, before, length-append ended (option_to_list op))
 
   fits : IsClosedBy op o.requests (granule w) mid → (k : EventKind) → granule_fault w k ≡ None → Fits k mid
   fits c (Word told) is = none_is (mid told.granule) (same_some o.requests (granule w) mid op c told.granule ∙ none_of (is_some (granule w told.granule)) fault.WordLate None is)
@@ -111,12 +115,14 @@ module _ (events : List Event) (ended : List Observed) (w : WatchValue) (e : Eve
 
   pub taken : granule_fault w e.kind ≡ None → o.time ≡ e.time → w.outstanding.time ≤ e.time → All (StaysOrStarts w.outstanding.requests e) o.requests → IfSome op (IsEndOf w.outstanding.requests e.time)
       → IsClosedBy op o.requests (granule w) mid → IsNoted e.kind mid (granule now) → Tells (events ++ e ∷ []) (ended ++ option_to_list op) o
-      → Watches events ended w → Watches (events ++ e ∷ []) (ended ++ option_to_list op) now
-  taken none at later stay ends c t tells is = record {
+      → count ≡ min (w.ended + length (option_to_list op)) (2 ^ 64 - 1) → Watches events ended w → Watches (events ++ e ∷ []) (ended ++ option_to_list op) now
+  taken none at later stay ends c t tells more is = record {
     tells = tells;
+    time = subst (λ n. n < 2 ^ 64) (sym at) (All-pop IsEvent (events ++ e ∷ []) events (Some e) refl tells.bounds).1.time;
     each = noted events e (ended ++ option_to_list op) o mid (granule now)
         (λ g. closed events ended w.outstanding o e at later stay (granule w) mid op ends is.requested c g (is.each g)) e.kind refl (fits c e.kind none) t;
     requested = All-weaker (StaysOrStarts w.outstanding.requests e) (λ (p : Open). IsTrue (is_some (granule now (granule_asked p)))) each o.requests stay;
+    count = counted more is.count;
   }
     where
       each : (p : Open) → StaysOrStarts w.outstanding.requests e p → IsTrue (is_some (granule now (granule_asked p)))

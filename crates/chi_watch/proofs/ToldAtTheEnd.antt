@@ -1,20 +1,16 @@
 -- operations that are told of granules one after the other
-use Rattle.std.proofs.Common.{◌≡◌, ℕ, ◌+◌, ◌<◌, ◌==◌, ◌++◌, Bool, true, false, cond, List, [], ◌∷◌, Option, Some, None, filter, get_or, length, take}
-use Rattle.std.proofs.Common.{refl, sym, ap, subst, ◌∙◌, append-nil, append_assoc, eqb-true, eq-eqb, true≢false, ne_eqb}
-use Rattle.std.specs.Prelude.{nat_lt, filter_map}
-use Rattle.std.specs.BTreeMap.{is_at}
+use Rattle.std.proofs.Common.{◌≡◌, ℕ, ◌+◌, ◌<◌, ◌++◌, List, [], ◌∷◌, Option, Some, None, filter, get_or, length, take}
+use Rattle.std.proofs.Common.{refl, sym, ap, subst, ◌∙◌, append-nil, append_assoc}
+use Rattle.std.specs.Prelude.{filter_map}
 use Rattle.std.specs.List.{cons_option}
-use Rattle.std.specs.Ordering.{is_eq, nat_cmp}
-use Rattle.std.specs.declared.cmp.Ordering.TheVariants.{Equal, Greater, Less}
 use Rattle.std.proofs.lemmas.List.{take_more}
 use Rattle.std.proofs.lemmas.List.Elements.{filter-append, filter_map-append}
 use Rattle.chi_events.specs.Outstanding.{open_operation}
 use Rattle.chi_events.specs.declared.outstanding.Open.{Open}
 use Rattle.chi_search.specs.Frontiers.{Follows}
 use Rattle.chi_trace.specs.Chosen.{is_in}
-use Rattle.chi_trace.specs.Granules.{granule_of}
 use Rattle.chi_trace.specs.declared.observed.Observed.{Observed}
-use Rattle.chi_watch.specs.Endings.{AreToldTo, HasOneTold}
+use Rattle.chi_watch.specs.Endings.{AreToldTo}
 use Rattle.chi_watch.specs.declared.followed.Followed.{Followed}
 
 -- where none is told nothing changes
@@ -36,18 +32,6 @@ told_more xs ys (Some f) (Some g) (Some h) first second = record {
   known = second.known ∙ first.known;
 }
 
--- one operation more is told of its granule, and none of another
-pub told_one : (op : Observed) (old new : ℕ → Option Followed) → HasOneTold op old new → (g : ℕ) → AreToldTo (filter (is_in g) (op ∷ [])) (old g) (new g)
-told_one op old new one g = by_test (granule_of op == g) refl
-  where
-    by_test : (b : Bool) → (granule_of op == g) ≡ b → AreToldTo (cond b (op ∷ []) []) (old g) (new g)
-    by_test true own =
-        let here = eqb-true (granule_of op) g own in
-        subst (λ h. AreToldTo (op ∷ []) (old h) (new h)) here
-        (subst (λ x. AreToldTo (op ∷ []) x (new (granule_of op))) (sym one.was) (subst (AreToldTo (op ∷ []) (Some one.before)) (sym one.is) one.told))
-    by_test false own =
-        subst (AreToldTo [] (old g)) (sym (one.others g (λ same. true≢false (sym (eq-eqb (granule_of op) g (sym same)) ∙ own)))) (told_none (old g))
-
 -- the operations of a granule that these requests are
 abbrev pub own_open : ℕ → List Open → List Observed
 own_open g requests = filter (is_in g) (filter_map open_operation requests)
@@ -67,12 +51,3 @@ told_next requests i p g a b c below is first second = subst (λ l. AreToldTo l 
 pub told_as : (p : Open) (o : Option Observed) (g : ℕ) (a b : Option Followed) → o ≡ open_operation p → AreToldTo (filter (is_in g) (cons_option o [])) a b
     → AreToldTo (own_open g (p ∷ [])) a b
 told_as p o g a b is told = subst (λ x. AreToldTo (filter (is_in g) (cons_option x [])) a b) is told
-
--- another number is not found at this one
-pub not_at : (k h : ℕ) → (h ≡ k → ⊥) → is_at (nat_cmp k) h ≡ false
-not_at k h other = by_tests (nat_lt k h) (k == h) (ne_eqb k h (λ same. other (sym same)))
-  where
-    by_tests : (b c : Bool) → c ≡ false → is_eq (cond b Less (cond c Equal Greater)) ≡ false
-    by_tests true c is = refl
-    by_tests false true is = absurd (true≢false is)
-    by_tests false false is = refl

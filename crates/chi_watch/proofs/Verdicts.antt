@@ -23,6 +23,7 @@ use Rattle.chi_verdict.specs.Words.{AreWords, memory_of, told, word_told}
 use Rattle.chi_verdict.proofs.Memory.{IsMemory-memory_of, word_of-memory_of}
 use Rattle.chi_watch.specs.Followed.{IsWord}
 use Rattle.chi_watch.specs.Judged.{IsExplained, final_of, finals, is_known, judged, opening_in, openings}
+use Rattle.chi_watch.specs.Quiet.{CanBeExplained}
 use Rattle.chi_watch.specs.Requests.{IsQuiet, granule_asked}
 use Rattle.chi_watch.specs.Watches.{IsUnexplained}
 use Rattle.chi_watch.proofs.Lists.{All-filter_map, IsPermutation-filter}
@@ -173,6 +174,13 @@ explained operations_law granules_law whole_law events ended o tells each =
         explains_from granules_law (judged events) [] g w (final_of events g)
         (subst (λ l. IsPermutation l []) (sym (kept_none (is_known events) g unknown (operations events))) (IsPermutation-refl [])) w (leads_none w)
         (subst (λ f. IsWord f w) (sym (ap (λ b. cond b (told (finals events) g) None) unknown)) tt)
+
+-- Where those of one granule of which all is told lead to such a word, some order explains them.
+pub one_explained : OperationsAreTold → GranulesTold → (events : List Event) (ended : List Observed) (o : OutstandingValue) (g : ℕ) → Tells events ended o → is_known events g ≡ true
+    → (v : ℕ) → SomeLeads (filter (is_in g) (ended ++ filter_map open_operation o.requests)) (word_told (openings events) g ∷ []) v → IsWord (told (finals events) g) v → CanBeExplained events g
+one_explained operations_law granules_law events ended o g tells known v leads word =
+    explains_from granules_law (operations events) _ g (word_told (openings events) g) (final_of events g) (all_told operations_law events ended o g tells) v leads
+    (subst (λ f. IsWord f v) (sym (ap (λ b. cond b (told (finals events) g) None) known)) word)
 
 -- the access of a request, once its data have come, is at its address
 abbrev IsAt : Open → Type 0

@@ -1,41 +1,35 @@
 -- what is said where the events end
-use Rattle.std.specs.Prelude.{◌≡◌, ℕ, ◌++◌, List, [], ◌∷◌, Option, None, Some, IsTrue}
+use Rattle.std.specs.Prelude.{◌≡◌, ℕ, ◌+◌, ◌-◌, ◌^◌, ◌≤◌, ◌++◌, ◌⊎◌, List, [], Option, None, Some, IfSome, IsTrue}
+use Rattle.std.specs.List.{Contains}
+use Rattle.chi_events.specs.declared.outstanding.Open.{Open}
 use Rattle.chi_search.specs.Frontiers.{Follows}
 use Rattle.chi_search.specs.Layers.{SomeLeads}
 use Rattle.chi_trace.specs.declared.observed.Observed.{Observed}
-use Rattle.chi_trace.specs.Granules.{granule_of}
-use Rattle.chi_watch.specs.Changes.{OthersStay}
 use Rattle.chi_watch.specs.Followed.{IsWord}
+use Rattle.chi_watch.specs.Requests.{granule_asked}
 use Rattle.chi_watch.specs.declared.followed.Followed.{Followed}
-use Rattle.chi_watch.specs.declared.ending.Ending.{Ending}
-use Rattle.chi_watch.specs.declared.ending.Ending.TheVariants.{Explained, Unexplained, Undecided}
 
--- A, where the operations are explained
-abbrev pub IfExplained : Ending → Type 0 → Type 0
-IfExplained Explained A = A
-IfExplained (Unexplained granule) A = Unit {0}
-IfExplained (Undecided granule) A = Unit {0}
+-- the granule is listed: as one that no order explains, or as one of which that is not decided
+abbrev pub IsListed : ℕ → List ℕ → List ℕ → Type 0
+IsListed g unexplained undecided = Contains unexplained g ⊎ Contains undecided g
 
--- P of the granule whose operations are not
-abbrev pub IfUnexplained : Ending → (ℕ → Type 0) → Type 0
-IfUnexplained Explained P = Unit {0}
-IfUnexplained (Unexplained granule) P = P granule
-IfUnexplained (Undecided granule) P = Unit {0}
+-- an operation that started at this time and is open at the end can be told to the search of its granule, which is watched
+abbrev pub TakesOpen : ℕ → Option Followed → Type 0
+TakesOpen start None = ⊥
+TakesOpen start (Some f) = (f.frontier.horizon ≤ start) × (f.frontier.latest ≤ 2 ^ 64 - 1)
+
+-- an outstanding request's operation can be told, once its data have come
+pub record CanClose (granules : ℕ → Option Followed) (p : Open) : Type 0 where
+  pub at : IfSome p.access (λ access. access.addr ≡ p.asked.addr)
+  pub within : IfSome p.access (λ access. access.addr + access.len ≤ 2 ^ 52)
+  pub lasting : p.start ≤ 2 ^ 64 - 1
+  pub takes : TakesOpen p.start (granules (granule_asked p))
 
 -- these operations more were told to the granule's search, where all that wrote to the granule is told
 pub record AreTold (ops : List Observed) (old new : Followed) : Type 0 where
   pub follows : IsTrue old.is_known → (words : List ℕ) (told : List Observed) → Follows words told old.frontier → Follows words (told ++ ops) new.frontier
   pub last : new.last ≡ old.last
   pub known : new.is_known ≡ old.is_known
-
--- one operation more was told to its granule's search, and no other granule was changed
-pub record HasOneTold (op : Observed) (old new : ℕ → Option Followed) : Type 0 where
-  pub others : OthersStay old new (granule_of op)
-  pub before : Followed
-  pub after : Followed
-  pub was : old (granule_of op) ≡ Some before
-  pub is : new (granule_of op) ≡ Some after
-  pub told : AreTold (op ∷ []) before after
 
 -- These operations more were told of a granule, where it is watched. There are none where it is not.
 abbrev pub AreToldTo : List Observed → Option Followed → Option Followed → Type 0

@@ -28,3 +28,8 @@ abbrev pub IfUnexplained : Standing → Type 0 → Type 0
 IfUnexplained Explained A = Unit {0}
 IfUnexplained Unexplained A = A
 IfUnexplained Undecided A = Unit {0}
+
+abbrev pub IfUndecided : Standing → Type 0 → Type 0
+IfUndecided Explained A = Unit {0}
+IfUndecided Unexplained A = Unit {0}
+IfUndecided Undecided A = A

@@ -1,7 +1,11 @@
 pub mod Followed
 pub mod Judged
 pub mod Changes
+pub mod Counts
 pub mod Endings
 pub mod Faults
+pub mod Listing
+pub mod Looks
+pub mod Quiet
 pub mod Requests
 pub mod Watches

@@ -1,5 +1,5 @@
 -- what a watch knows of the events that it took
-use Rattle.std.specs.Prelude.{◌≡◌, ℕ, ◌+◌, ◌/◌, ◌^◌, ◌≤◌, ◌==◌, nat_le, nat_lt, Bool, true, false, ◌&&◌, if◌then◌else◌, List, [], ◌∷◌, All, Option, Some, None, is_some, option_map, IsTrue, filter}
+use Rattle.std.specs.Prelude.{◌≡◌, ℕ, ◌+◌, ◌-◌, ◌/◌, ◌^◌, ◌<◌, ◌≤◌, ◌==◌, length, min, nat_le, nat_lt, Bool, true, false, ◌&&◌, if◌then◌else◌, List, [], ◌∷◌, All, Option, Some, None, is_some, option_map, IsTrue, filter}
 use Rattle.std.specs.List.{list_any}
 use Rattle.std.specs.BTreeMap.{is_at}
 use Rattle.std.specs.Map.{lookup}
@@ -24,9 +24,12 @@ use Rattle.chi_watch.specs.Followed.{IsWord}
 use Rattle.chi_watch.specs.Requests.{StartsBy, granule_asked}
 use Rattle.chi_watch.specs.Judged.{IsExplainedBy, final_of, finals, is_known, openings}
 
+-- the requests that are outstanding, each granule of which something was told, and how many operations had ended: 2^64 - 1 stands
+-- for that many and more
 pub record WatchValue : Type 0 where
   pub outstanding : OutstandingValue
   pub granules : List (ℕ × Followed)
+  pub ended : ℕ
 
 -- what is known of a granule
 abbrev pub granule : WatchValue → ℕ → Option Followed
@@ -56,8 +59,10 @@ IsGranuleOf events ended o g (Some f) = IsWatched events ended o g f
 -- the watch took these events, by which these operations had ended
 pub record Watches (events : List Event) (ended : List Observed) (w : WatchValue) : Type 0 where
   pub tells : Tells events ended w.outstanding
+  pub time : w.outstanding.time < 2 ^ 64
   pub each : (g : ℕ) → IsGranuleOf events ended w.outstanding g (granule w g)
   pub requested : All (λ p. IsTrue (is_some (granule w (granule_asked p)))) w.outstanding.requests
+  pub count : w.ended ≡ min (length ended) (2 ^ 64 - 1)
 
 abbrev pub HasTaken : List Event → WatchValue → Type 0
 HasTaken events w = (ended : List Observed) × Watches events ended w

@@ -4,6 +4,7 @@ ghost use Rattle.std.specs.Prelude.{IfOk};
 ghost use Rattle.std.specs.BTreeMap.{get};
 ghost use Rattle.std.specs.Ordering.{nat_cmp};
 ghost use Rattle.chi_watch.specs.Changes.{IsClosedBy};
+ghost use Rattle.chi_watch.specs.Looks.{LookedSome};
 
 use crate::followed::Followed;
 use crate::granules::close;
@@ -23,7 +24,8 @@ pub(crate) fn close_ended<P: Progress>(
     budget: u64,
     progress: &mut P,
 ) -> Result<(), AllocError>
-    ensures { IfOk result (λ _. IsClosedBy ended.now requests.now (get nat_cmp granules.old) (get nat_cmp granules.new)) }
+    ensures closed { IfOk result (λ _. IsClosedBy ended.now requests.now (get nat_cmp granules.old) (get nat_cmp granules.new)) }
+    ensures looked { IfOk result (λ _. LookedSome P.looked progress.old progress.new) }
 {
     let Some(op) = ended else {
         return Ok(());

@@ -5,8 +5,10 @@ ghost use Rattle.std.specs.List.{Contains};
 ghost use Rattle.chi_trace.specs.declared.observed.Observed.{Observed};
 ghost use Rattle.chi_search.specs.Frontiers.{CanBeTold, Follows};
 ghost use Rattle.chi_search.specs.Layers.{SomeLeads};
+ghost use Rattle.chi_search.specs.Looks.{LookedMore};
 ghost use Rattle.chi_watch.specs.Changes.{CanEnd, IsTold, IsUntouched};
-ghost use Rattle.chi_watch.specs.Followed.{IfExplained, IfUnexplained, IsMovedOn, IsWord};
+ghost use Rattle.chi_watch.specs.Followed.{IfExplained, IfUndecided, IfUnexplained, IsMovedOn, IsWord};
+ghost use Rattle.chi_watch.specs.Looks.{LookedSome};
 
 use chi_search::{Frontier, Progress, Words};
 use chi_trace::Observed;
@@ -54,7 +56,8 @@ fn move_on<P: Progress>(
     budget: u64,
     progress: &mut P,
 ) -> Result<(), AllocError>
-    ensures { IfOk result (λ _. IsMovedOn followed.old horizon followed.new) }
+    ensures moved { IfOk result (λ _. IsMovedOn followed.old horizon followed.new) }
+    ensures looked { IfOk result (λ _. LookedSome P.looked progress.old progress.new) }
 {
     if followed.frontier.kept() < followed.limit {
         return Ok(());
@@ -85,6 +88,7 @@ pub(crate) fn tell<P: Progress>(
     ensures told { IfOk result (λ _. IsTrue followed.old.is_known → CanEnd horizon followed.old op.now → IsTold op.now horizon followed.old followed.new) }
     ensures unknown { followed.old.is_known ≡ false → followed.new ≡ followed.old }
     ensures last { IfOk result (λ _. followed.new.last ≡ followed.old.last) }
+    ensures looked { IfOk result (λ _. LookedSome P.looked progress.old progress.new) }
 {
     if followed.is_known {
         move_on(alloc, followed, horizon, budget, progress)?;
@@ -104,7 +108,8 @@ fn fits(words: &[u64], last: Option<u64>) -> bool
     }
 }
 
-/// Whether the operations that were told can be explained, and leave the last word, where one was told.
+/// Whether the operations that were told can be explained, and leave the last word, where one was told. Undecided where so many
+/// states as the budget were looked at.
 pub(crate) fn judge<P: Progress>(
     alloc: Global,
     followed: &Followed,
@@ -113,6 +118,8 @@ pub(crate) fn judge<P: Progress>(
 ) -> Result<Standing, AllocError>
     ensures explained { IfOk result (λ s. IfExplained s ((words : List ℕ) (told : List Observed) → Follows words told followed.now.frontier → (v : ℕ) × SomeLeads told words v × IsWord followed.now.last v)) }
     ensures unexplained { IfOk result (λ s. IfUnexplained s ((words : List ℕ) (told : List Observed) → Follows words told followed.now.frontier → (v : ℕ) → SomeLeads told words v → IsWord followed.now.last v → ⊥)) }
+    ensures undecided { IfOk result (λ s. IfUndecided s (LookedMore P.looked progress.old progress.new budget)) }
+    ensures looked { IfOk result (λ _. LookedSome P.looked progress.old progress.new) }
 {
     let mut left = budget;
     match followed.frontier.words(alloc, &mut left, progress)? {

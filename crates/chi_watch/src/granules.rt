@@ -5,6 +5,7 @@ ghost use Rattle.std.specs.BTreeMap.{get};
 ghost use Rattle.std.specs.Ordering.{nat_cmp};
 ghost use Rattle.chi_trace.specs.Granules.{granule_of};
 ghost use Rattle.chi_watch.specs.Changes.{HasOneMore, IsMarked, IsTouched, IsTouchedAndMarked};
+ghost use Rattle.chi_watch.specs.Looks.{LookedSome};
 ghost use Rattle.chi_watch.specs.declared.followed.Followed.{Followed};
 
 use crate::followed::{Followed, tell, untouched};
@@ -39,7 +40,8 @@ pub(crate) fn close<P: Progress>(
     budget: u64,
     progress: &mut P,
 ) -> Result<(), AllocError>
-    ensures { IfOk result (λ _. HasOneMore op.now horizon (get nat_cmp granules.old) (get nat_cmp granules.new)) }
+    ensures told { IfOk result (λ _. HasOneMore op.now horizon (get nat_cmp granules.old) (get nat_cmp granules.new)) }
+    ensures looked { IfOk result (λ _. LookedSome P.looked progress.old progress.new) }
 {
     let granule = op.access.addr() / 8;
     match granules.get_mut(&granule) {

@@ -1,6 +1,7 @@
 //! Granules that are watched while events come.
 #![tactic(auto)]
 
+mod counts;
 mod ended;
 mod ending;
 mod fault;
@@ -10,6 +11,7 @@ mod noting;
 mod quiet;
 mod watch;
 
+pub use counts::Counts;
 pub use ending::Ending;
 pub use fault::WatchFault;
 pub use watch::Watch;

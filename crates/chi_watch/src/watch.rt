@@ -1,9 +1,13 @@
 //! Granules that are watched while events come.
 
-ghost use Rattle.std.specs.Prelude.{◌≡◌, ◌≢◌, ◌==◌, ℕ, [], ◌∷◌, ◌++◌, List, None, Some, IfErr, IfOk, IfSome, IsTrue};
+ghost use Rattle.std.specs.Prelude.{◌≡◌, ◌≢◌, ◌==◌, ◌⊎◌, ◌+◌, ◌-◌, ◌^◌, length, min, option_to_list, ℕ, [], ◌∷◌, ◌++◌, true, false, List, None, Some, IfErr, IfOk, IfSome, IsTrue};
 ghost use Rattle.std.specs.List.{list_any};
 ghost use Rattle.chi_events.specs.declared.event.Event.{Event};
 ghost use Rattle.chi_watch.specs.Changes.{HasLength};
+ghost use Rattle.chi_watch.specs.Endings.{IsExplainable};
+ghost use Rattle.chi_watch.specs.Judged.{is_known};
+ghost use Rattle.chi_watch.specs.Looks.{LookedAtLeast, LookedSome};
+ghost use Rattle.chi_watch.specs.Quiet.{BecomesQuiet, CanBeExplained, granule_about, number_about};
 ghost use Rattle.chi_watch.specs.Requests.{granule_asked};
 ghost use Rattle.chi_watch.specs.Watches.{HasTaken, IsFound, IsUnexplained, fault_of, granule as granule_of, granule_fault, has_last};
 
@@ -11,7 +15,7 @@ use crate::ended::close_ended;
 use crate::fault::WatchFault;
 use crate::followed::{Followed, Standing, judge};
 use crate::noting::note;
-use crate::quiet::{has_length, is_open};
+use crate::quiet::{granule_with, has_length, is_open};
 use chi_events::laws::operations_are_told;
 use chi_events::{Event, EventKind, Outstanding};
 use chi_search::Progress;
@@ -37,6 +41,7 @@ use std::marker::Model;
 pub struct Watch {
     pub(crate) outstanding: Outstanding,
     pub(crate) granules: BTreeMap<u64, Followed>,
+    pub(crate) ended: u64,
 }
 
 impl Model for Watch {
@@ -44,7 +49,29 @@ impl Model for Watch {
 
     ghost Value = { WatchValue };
 
-    ghost view = { λ w. record { outstanding = w.outstanding; granules = w.granules.entries } };
+    ghost view = { λ w. record { outstanding = w.outstanding; granules = w.granules.entries; ended = w.ended } };
+}
+
+/// The number of the request that an event of this kind is about, where it is about one that was taken before.
+fn number_about(kind: &EventKind) -> Option<u64>
+    ensures { result ≡ number_about kind.now }
+{
+    match kind {
+        EventKind::Data(packet) => Some(packet.id),
+        EventKind::Reply(completion) => Some(completion.id),
+        EventKind::Dropped { id } => Some(*id),
+        _ => None,
+    }
+}
+
+/// So many operations, and one more where one has ended.
+fn one_more(count: u64, ended: &Option<Observed>) -> u64
+    ensures { result ≡ min (count + length (option_to_list ended.now)) (2 ^ 64 - 1) }
+{
+    match ended {
+        Some(_) => count.saturating_add(1),
+        None => count,
+    }
 }
 
 impl Watch {
@@ -59,6 +86,7 @@ impl Watch {
         Watch {
             outstanding: Outstanding::new(alloc),
             granules: BTreeMap::new(alloc),
+            ended: 0,
         }
     }
 
@@ -117,6 +145,14 @@ impl Watch {
         }
     }
 
+    /// The granule of the outstanding request that an event is about, where it is about one.
+    fn granule_about(&self, event: &Event) -> Option<u64>
+        ensures { result ≡ granule_about self.now event.now }
+    {
+        let id = number_about(&event.kind)?;
+        granule_with(self.outstanding.requests(), id)
+    }
+
     /// Whether all that wrote to the granule is told, no request of it is outstanding, and its search goes on to no word.
     fn is_found<P: Progress>(
         &self,
@@ -125,7 +161,9 @@ impl Watch {
         budget: u64,
         progress: &mut P,
     ) -> Result<bool, AllocError>
-        ensures { IfOk result (λ is. IsTrue is → IsFound self.now granule) }
+        ensures found { IfOk result (λ is. IsTrue is → IsFound self.now granule) }
+        ensures none { IfOk result (λ is. is ≡ false → list_any (λ p. granule_asked p == granule) self.now.outstanding.requests ≡ false → IfSome (granule_of self.now granule) (λ f. IsExplainable f ⊎ LookedAtLeast P.looked progress.old progress.new budget)) }
+        ensures looked { IfOk result (λ _. LookedSome P.looked progress.old progress.new) }
     {
         let Some(followed) = self.granules.get(&granule) else {
             return Ok(false);
@@ -139,15 +177,23 @@ impl Watch {
         }
     }
 
-    /// Whether it is seen that no order explains a granule of which no request is outstanding.
-    fn is_unexplained<P: Progress>(
+    /// Whether it is seen that no order explains a granule's operations, of which all is told and no request is outstanding.
+    /// `budget` is how many states may be looked at for an answer.
+    ///
+    /// ```
+    /// let is_wrong = watch.is_unexplained(alloc, granule, 1_000_000, &mut NoProgress)?;
+    /// ```
+    pub fn is_unexplained<P: Progress>(
         &self,
         alloc: Global,
         granule: u64,
         budget: u64,
         progress: &mut P,
     ) -> Result<bool, AllocError>
-        ensures { IfOk result (λ is. IsTrue is → (events : List Event) → HasTaken events self.now → IsUnexplained events granule) }
+        ensures found { IfOk result (λ is. IsTrue is → (events : List Event) → HasTaken events self.now → IsUnexplained events granule) }
+        ensures quiet { IfOk result (λ is. IsTrue is → list_any (λ p. granule_asked p == granule) self.now.outstanding.requests ≡ false) }
+        ensures judged { IfOk result (λ is. is ≡ false → list_any (λ p. granule_asked p == granule) self.now.outstanding.requests ≡ false → (events : List Event) → HasTaken events self.now → is_known events granule ≡ true → CanBeExplained events granule ⊎ LookedAtLeast P.looked progress.old progress.new budget) }
+        ensures looked { IfOk result (λ _. LookedSome P.looked progress.old progress.new) }
     {
         operations_are_told();
         granules_told();
@@ -156,17 +202,18 @@ impl Watch {
         self.is_found(alloc, granule, budget, progress)
     }
 
-    /// Takes an event, where it can come next, and answers the operation that ended by it, if one did.
+    /// Takes an event, where it can come next.
     fn step<P: Progress>(
         &mut self,
         alloc: Global,
         event: &Event,
         budget: u64,
         progress: &mut P,
-    ) -> Result<Option<Observed>, WatchFault>
-        ensures taken { IfOk result (λ ended. (events : List Event) → HasTaken events self.old → HasTaken (events ++ event.now ∷ []) self.new) }
-        ensures fits { IfOk result (λ ended. fault_of self.old event.now ≡ None) }
+    ) -> Result<(), WatchFault>
+        ensures taken { IfOk result (λ _. (events : List Event) → HasTaken events self.old → HasTaken (events ++ event.now ∷ []) self.new) }
+        ensures fits { IfOk result (λ _. fault_of self.old event.now ≡ None) }
         ensures fault { IfErr result (λ fault. fault ≢ WatchFault.Memory → fault_of self.old event.now ≡ Some fault) }
+        ensures looked { IfOk result (λ _. LookedSome P.looked progress.old progress.new) }
     {
         self.admits(&event.kind)?;
         let ended = self.outstanding.take(event)?;
@@ -179,13 +226,14 @@ impl Watch {
             progress,
         )?;
         note(alloc, &mut self.granules, &event.kind)?;
-        Ok(ended)
+        self.ended = one_more(self.ended, &ended);
+        Ok(())
     }
 
     /// Takes an event, where it can come next, and answers the granule, where by this event it was seen that no order explains
     /// its operations. `budget` is how many states may be looked at for an answer.
     ///
-    /// A granule is judged when an operation of it ends and no other is outstanding there.
+    /// A granule is judged when its last outstanding request has ended or was dropped.
     ///
     /// ```
     /// let found = watch.take(alloc, &event, 1_000_000, &mut NoProgress)?;
@@ -199,13 +247,17 @@ impl Watch {
     ) -> Result<Option<u64>, WatchFault>
         ensures taken { IfOk result (λ found. (events : List Event) → HasTaken events self.old → HasTaken (events ++ event.now ∷ []) self.new) }
         ensures unexplained { IfOk result (λ found. IfSome found (λ g. (events : List Event) → HasTaken events self.old → IsUnexplained (events ++ event.now ∷ []) g)) }
+        ensures quiet { IfOk result (λ found. IfSome found (BecomesQuiet self.old event.now self.new)) }
+        ensures judged { IfOk result (λ found. found ≡ None → (g : ℕ) → BecomesQuiet self.old event.now self.new g → (events : List Event) → HasTaken events self.old → is_known (events ++ event.now ∷ []) g ≡ true → CanBeExplained (events ++ event.now ∷ []) g ⊎ LookedAtLeast P.looked progress.old progress.new budget) }
         ensures fits { IfOk result (λ found. fault_of self.old event.now ≡ None) }
         ensures fault { IfErr result (λ fault. fault ≢ WatchFault.Memory → fault_of self.old event.now ≡ Some fault) }
+        ensures looked { IfOk result (λ _. LookedSome P.looked progress.old progress.new) }
     {
-        let Some(op) = self.step(alloc, event, budget, progress)? else {
+        let about = self.granule_about(event);
+        self.step(alloc, event, budget, progress)?;
+        let Some(granule) = about else {
             return Ok(None);
         };
-        let granule = op.access.addr() / 8;
         if self.is_unexplained(alloc, granule, budget, progress)? {
             Ok(Some(granule))
         } else {

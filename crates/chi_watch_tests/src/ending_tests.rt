@@ -1,28 +1,36 @@
 //! What is said where the events end.
 
-use crate::home::{GRANULE, add, answer, done, ending_of, read, read_next, word, write};
+use crate::comparison::assert_same;
+use crate::home::{
+    GRANULE, add, answer, done, ending_of, next_word, read, read_next, take, take_all, word, write,
+};
 use chi_events::EventKind;
 use chi_search::NoProgress;
-use chi_watch::{Ending, Watch};
+use chi_watch::Watch;
 use std::test::Fail;
 
 #[test]
 fn no_events(rt: HostRuntime) -> Result<(), Fail> {
     let ending = Watch::new(rt.alloc()).ending(rt.alloc(), 1_000_000, &mut NoProgress)?;
-    assert_eq!(rt; ending, Ending::Explained);
+    assert_same(
+        &rt,
+        (ending.unexplained.len(), ending.undecided.len()),
+        (0, 0),
+    );
     Ok(())
 }
 
 // A write that is still open may have taken effect or not, and so may a read that is; but no write is of 6.
 #[test]
 fn operations_that_are_open(rt: HostRuntime) -> Result<(), Fail> {
-    for (value, ending) in [
-        (0, Ending::Explained),
-        (5, Ending::Explained),
-        (6, Ending::Unexplained { granule: GRANULE }),
-    ] {
+    for (value, unexplained) in [(0, [].as_slice()), (5, &[]), (6, &[GRANULE])] {
         let kinds = [write(1, 5), read(2), answer(2, value), read_next(3)];
-        assert_eq!(rt; ending_of(rt.alloc(), &kinds)?, Some(ending));
+        let ending = ending_of(rt.alloc(), &kinds)?;
+        assert_same(
+            &rt,
+            (value, ending.unexplained.as_slice(), ending.undecided.len()),
+            (value, unexplained, 0),
+        );
     }
     Ok(())
 }
@@ -30,12 +38,14 @@ fn operations_that_are_open(rt: HostRuntime) -> Result<(), Fail> {
 // The word at the end is the one that the operations leave.
 #[test]
 fn words_at_the_end(rt: HostRuntime) -> Result<(), Fail> {
-    for (last, ending) in [
-        (5, Ending::Explained),
-        (0, Ending::Unexplained { granule: GRANULE }),
-    ] {
+    for (last, unexplained) in [(5, [].as_slice()), (0, &[GRANULE])] {
         let kinds = [write(1, 5), done(1), EventKind::Final(word(last))];
-        assert_eq!(rt; ending_of(rt.alloc(), &kinds)?, Some(ending));
+        let ending = ending_of(rt.alloc(), &kinds)?;
+        assert_same(
+            &rt,
+            (last, ending.unexplained.as_slice(), ending.undecided.len()),
+            (last, unexplained, 0),
+        );
     }
     Ok(())
 }
@@ -44,24 +54,49 @@ fn words_at_the_end(rt: HostRuntime) -> Result<(), Fail> {
 #[test]
 fn words_of_a_granule_without_requests(rt: HostRuntime) -> Result<(), Fail> {
     let told = [EventKind::Word(word(7)), EventKind::Final(word(7))];
-    assert_eq!(rt; ending_of(rt.alloc(), &told)?, Some(Ending::Explained));
     let other = [EventKind::Word(word(7)), EventKind::Final(word(8))];
-    assert_eq!(rt;
-        ending_of(rt.alloc(), &other)?,
-        Some(Ending::Unexplained { granule: GRANULE })
-    );
     let zero = [EventKind::Final(word(0))];
-    assert_eq!(rt; ending_of(rt.alloc(), &zero)?, Some(Ending::Explained));
+    for (kinds, unexplained) in [
+        (told.as_slice(), [].as_slice()),
+        (&other, &[GRANULE]),
+        (&zero, &[]),
+    ] {
+        let ending = ending_of(rt.alloc(), kinds)?;
+        assert_same(
+            &rt,
+            (ending.unexplained.as_slice(), ending.undecided.len()),
+            (unexplained, 0),
+        );
+    }
     Ok(())
 }
 
-// Two additions are open: within a budget of no states that cannot be decided.
+// The word of the higher address is told first, but the granules stand in the order of their addresses.
+#[test]
+fn granules_in_the_order_of_their_addresses(rt: HostRuntime) -> Result<(), Fail> {
+    let kinds = [EventKind::Final(next_word(3)), EventKind::Final(word(4))];
+    let ending = ending_of(rt.alloc(), &kinds)?;
+    assert_same(
+        &rt,
+        (ending.unexplained.as_slice(), ending.undecided.len()),
+        ([GRANULE, GRANULE + 1].as_slice(), 0),
+    );
+    Ok(())
+}
+
+// Two additions are open: within a budget of no states that cannot be decided. Of the next granule only the word at the end is
+// told, which is decided without a state.
 #[test]
 fn no_budget(rt: HostRuntime) -> Result<(), Fail> {
     let alloc = rt.alloc();
     let mut watch = Watch::new(alloc);
-    crate::home::take_all(alloc, &mut watch, &[add(1, 1), add(2, 1)])?;
+    take_all(alloc, &mut watch, &[add(1, 1), add(2, 1)])?;
+    take(alloc, &mut watch, 3, EventKind::Final(next_word(3)))?;
     let ending = watch.ending(alloc, 0, &mut NoProgress)?;
-    assert_eq!(rt; ending, Ending::Undecided { granule: GRANULE });
+    assert_same(
+        &rt,
+        (ending.unexplained.as_slice(), ending.undecided.as_slice()),
+        ([GRANULE + 1].as_slice(), [GRANULE].as_slice()),
+    );
     Ok(())
 }

@@ -7,6 +7,7 @@ use chi_search::NoProgress;
 use chi_verdict::GranuleWord;
 use chi_watch::{Ending, Watch, WatchFault};
 use std::alloc::Global;
+use std::test::Fail;
 
 // The granule at address 4096 has the number 512. Its eight bytes are lanes 0 to 7 of their packet.
 pub(crate) const GRANULE: u64 = 512;
@@ -82,6 +83,14 @@ pub(crate) fn word(word: u64) -> GranuleWord {
     }
 }
 
+/// The word of the next granule.
+pub(crate) fn next_word(word: u64) -> GranuleWord {
+    GranuleWord {
+        granule: GRANULE + 1,
+        word,
+    }
+}
+
 /// What the watch finds by an event.
 pub(crate) fn take(
     alloc: Global,
@@ -110,11 +119,10 @@ pub(crate) fn take_all(
 }
 
 /// What is said after these events, by none of which anything is found.
-pub(crate) fn ending_of(alloc: Global, kinds: &[EventKind]) -> Result<Option<Ending>, WatchFault> {
+pub(crate) fn ending_of(alloc: Global, kinds: &[EventKind]) -> Result<Ending, Fail> {
     let mut watch = Watch::new(alloc);
     if take_all(alloc, &mut watch, kinds)?.is_some() {
-        return Ok(None);
+        return Err(Fail::new("a granule was found by an event"));
     }
-    let ending = watch.ending(alloc, 1_000_000, &mut NoProgress)?;
-    Ok(Some(ending))
+    Ok(watch.ending(alloc, 1_000_000, &mut NoProgress)?)
 }

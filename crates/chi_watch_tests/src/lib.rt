@@ -2,6 +2,10 @@
 #![tactic(auto)]
 
 #[cfg(test)]
+mod comparison;
+#[cfg(test)]
+mod counts_tests;
+#[cfg(test)]
 mod ending_tests;
 #[cfg(test)]
 mod fault_tests;

@@ -1,6 +1,8 @@
 //! What is found while events come.
 
-use crate::home::{GRANULE, add, answer, done, error, read, take, take_all, word, write};
+use crate::home::{
+    GRANULE, add, answer, done, error, read, read_next, take, take_all, word, write,
+};
 use chi_events::EventKind;
 use chi_watch::Watch;
 use std::test::Fail;
@@ -86,6 +88,54 @@ fn dropped_and_in_error(rt: HostRuntime) -> Result<(), Fail> {
         )?;
         assert_eq!(rt; found.is_some(), is_found);
     }
+    Ok(())
+}
+
+// A read that answered 5 beside the write is found when the write is dropped, and no sooner. Where another read is outstanding it
+// is found when that is dropped too.
+#[test]
+fn a_write_that_was_dropped_after_a_read(rt: HostRuntime) -> Result<(), Fail> {
+    let alloc = rt.alloc();
+    for (value, is_found) in [(0, false), (5, true)] {
+        let mut watch = Watch::new(alloc);
+        let kinds = [
+            write(1, 5),
+            read(2),
+            answer(2, value),
+            EventKind::Dropped { id: 1 },
+        ];
+        let found = take_all(alloc, &mut watch, &kinds)?;
+        assert_eq!(rt; found.is_some(), is_found);
+        let mut watch = Watch::new(alloc);
+        let kinds = [
+            write(1, 5),
+            read(2),
+            read(3),
+            answer(2, value),
+            EventKind::Dropped { id: 1 },
+            EventKind::Dropped { id: 3 },
+        ];
+        let found = take_all(alloc, &mut watch, &kinds)?;
+        assert_eq!(rt; found.is_some(), is_found);
+    }
+    Ok(())
+}
+
+// A request of another granule that is dropped has that judged, and not this one.
+#[test]
+fn a_request_of_another_granule_that_was_dropped(rt: HostRuntime) -> Result<(), Fail> {
+    let alloc = rt.alloc();
+    let mut watch = Watch::new(alloc);
+    let kinds = [
+        write(1, 5),
+        read(2),
+        answer(2, 6),
+        read_next(3),
+        EventKind::Dropped { id: 3 },
+    ];
+    assert_eq!(rt; take_all(alloc, &mut watch, &kinds)?, None);
+    let found = take(alloc, &mut watch, 6, EventKind::Dropped { id: 1 })?;
+    assert_eq!(rt; found, Some(GRANULE));
     Ok(())
 }
 

@@ -4,7 +4,7 @@ use Rattle.chi_watch.proofs.followed.tell.Goals as goal
 
 pub returns-in_ok-add-clause-told : goal.returns-in_ok-add-clause-told
 returns-in_ok-add-clause-told g c known can =
-    let moved = c.in_ok-move_on.ensures in
+    let moved = c.in_ok-move_on.ensures.moved in
     let past : c.move_on.new.followed.frontier.horizon ≤ c.args.op.now.start = elim moved.horizon_is [
       | inl below ↦ omega (arith, below, can.starts)
       | inr same ↦ omega (arith, same, can.past)

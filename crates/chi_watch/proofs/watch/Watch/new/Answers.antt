@@ -1,5 +1,5 @@
 -- Before any event nothing is told of any granule.
-use Rattle.std.proofs.Common.{ℕ, List, [], All, IsTrue, is_some, refl, sym, subst}
+use Rattle.std.proofs.Common.{ℕ, List, [], All, IsTrue, is_some, arith, refl, sym, subst}
 use Rattle.std.proofs.lemmas.List.Elements.{All-nil}
 use Rattle.chi_events.specs.declared.outstanding.Open.{Open}
 use Rattle.chi_verdict.specs.Words.{told}
@@ -14,9 +14,11 @@ returns c = (
   [],
   record {
     tells = c.new.ensures.tells;
-    each = λ g. subst (λ (entries : List (ℕ × Followed)). IsGranuleOf [] [] c.new.result g (granule (record { outstanding = c.new.result; granules = entries }) g)) (sym c.new-2.ensures.empty)
+    time = let none = c.new.ensures.none.1 in omega (arith, none);
+    each = λ g. subst (λ (entries : List (ℕ × Followed)). IsGranuleOf [] [] c.new.result g (granule (record { outstanding = c.new.result; granules = entries; ended = 0 }) g)) (sym c.new-2.ensures.empty)
         (record { known = refl; none = refl; opening = refl; last = refl });
-    requested = subst (λ (requests : List Open). All (λ p. IsTrue (is_some (granule (record { outstanding = c.new.result; granules = c.new-2.result.entries }) (granule_asked p)))) requests) (sym c.new.ensures.none.0)
-        (All-nil (λ (p : Open). IsTrue (is_some (granule (record { outstanding = c.new.result; granules = c.new-2.result.entries }) (granule_asked p)))));
+    requested = subst (λ (requests : List Open). All (λ p. IsTrue (is_some (granule (record { outstanding = c.new.result; granules = c.new-2.result.entries; ended = 0 }) (granule_asked p)))) requests) (sym c.new.ensures.none.0)
+        (All-nil (λ (p : Open). IsTrue (is_some (granule (record { outstanding = c.new.result; granules = c.new-2.result.entries; ended = 0 }) (granule_asked p)))));
+    count = omega arith;
   },
 )

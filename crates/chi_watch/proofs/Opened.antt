@@ -1,0 +1,126 @@
+-- operations that are open at the end, each told to the search of its granule
+use Rattle.std.proofs.Common.{◌≡◌, ℕ, ◌+◌, ◌-◌, ◌/◌, ◌^◌, ◌<◌, ◌≤◌, ◌==◌, ◌⊎◌, Bool, true, false, cond, List, [], ◌∷◌, All, Option, Some, None, IfSome, IsTrue, is_some, filter, inl, inr, refl, sym, ap, subst, ◌∙◌, arith, eqb-true, eq-eqb, true≢false}
+use Rattle.std.proofs.lemmas.List.Elements.{All-contains, All-contains_itself, All-weaker}
+use Rattle.std.specs.List.{Contains}
+use Rattle.chi_fields.specs.Access.{Access}
+use Rattle.chi_events.specs.Outstanding.{IsOpen, open_operation}
+use Rattle.chi_events.specs.declared.event.Event.{Event}
+use Rattle.chi_events.specs.declared.outstanding.Open.{Open}
+use Rattle.chi_trace.specs.Chosen.{is_in}
+use Rattle.chi_trace.specs.Granules.{granule_of}
+use Rattle.chi_trace.specs.declared.observed.Observed.{Observed}
+use Rattle.chi_watch.specs.Changes.{CanEnd, HasOneMore, IsClosed}
+use Rattle.chi_watch.specs.Endings.{AreToldTo, CanClose, TakesOpen}
+use Rattle.chi_watch.specs.Requests.{granule_asked}
+use Rattle.chi_watch.specs.Watches.{IsGranuleOf, WatchValue, Watches, granule}
+use Rattle.chi_watch.specs.declared.followed.Followed.{Followed}
+use Rattle.chi_watch.proofs.ToldAtTheEnd.{told_none}
+
+-- the operation is the request's
+pub record IsOpened (p : Open) (op : Observed) : Type 0 where
+  pub start : op.start ≡ p.start
+  pub end : op.end ≡ 2 ^ 64 - 1
+  pub granule : granule_of op ≡ granule_asked p
+  pub lasting : op.start ≤ op.end
+  pub within : op.access.addr + op.access.len ≤ 2 ^ 52
+
+pub opened : (granules : ℕ → Option Followed) (p : Open) (op : Observed) → CanClose granules p → Some op ≡ open_operation p → IsOpened p op
+opened granules p op can = by_access p.access can.at can.within
+  where
+    by_access : (a : Option Access) → IfSome a (λ access. access.addr ≡ p.asked.addr) → IfSome a (λ access. access.addr + access.len ≤ 2 ^ 52)
+        → Some op ≡ open_operation (record p { access = a }) → IsOpened p op
+    by_access None at within is = absurd (true≢false (ap is_some is))
+    by_access (Some access) at within is =
+        subst (λ o. IfSome o (IsOpened p)) (sym is)
+        (record { start = refl; end = refl; granule = ap (λ addr. addr / 8) at; lasting = can.lasting; within = within })
+
+-- what the search of a granule that is told it takes
+module _ (op : Observed) (lasting : op.start ≤ op.end) (within : op.access.addr + op.access.len ≤ 2 ^ 52) (end : op.end ≡ 2 ^ 64 - 1) where
+  can_end : (f : Followed) → (f.frontier.horizon ≤ op.start) × (f.frontier.latest ≤ 2 ^ 64 - 1) → CanEnd 0 f op
+  can_end f takes = record { past = takes.0; starts = omega arith; ends = subst (λ n. f.frontier.latest ≤ n) (sym end) takes.1; lasting = lasting; within = within }
+
+  told_to : (x y : Option Followed) → TakesOpen op.start x → IsClosed op 0 x y → AreToldTo (op ∷ []) x y
+  told_to None y takes is = absurd takes
+  told_to (Some f) None takes is = absurd is
+  told_to (Some f) (Some h) takes is = record {
+    follows = λ known. (is.told known (can_end f takes)).follows;
+    last = is.last;
+    known = by_known f.is_known refl;
+  }
+    where
+      by_known : (b : Bool) → f.is_known ≡ b → h.is_known ≡ f.is_known
+      by_known true known = (is.told known (can_end f takes)).known
+      by_known false unknown = ap (λ (x : Followed). x.is_known) (is.unknown unknown)
+
+  takes_on : (start : ℕ) (x y : Option Followed) → TakesOpen op.start x → IsClosed op 0 x y → TakesOpen start x → TakesOpen start y
+  takes_on start None y takes is other = absurd takes
+  takes_on start (Some f) None takes is other = absurd is
+  takes_on start (Some f) (Some h) takes is other = by_known f.is_known refl
+    where
+      horizon : (h.frontier.horizon ≤ 0) ⊎ (h.frontier.horizon ≡ f.frontier.horizon) → h.frontier.horizon ≤ start
+      horizon (inl none) = omega (arith, none)
+      horizon (inr same) = subst (λ n. n ≤ start) (sym same) other.0
+
+      by_known : (b : Bool) → f.is_known ≡ b → TakesOpen start (Some h)
+      by_known true known =
+          let t = is.told known (can_end f takes) in
+          (horizon t.horizon_is, subst (λ n. n ≤ 2 ^ 64 - 1) (sym (t.latest ∙ end)) (omega arith))
+      by_known false unknown = subst (λ (x : Followed). TakesOpen start (Some x)) (sym (is.unknown unknown)) other
+
+-- one request's operation is told to the search of its granule
+module _ (p : Open) (op : Observed) (old new : ℕ → Option Followed) (can : CanClose old p) (is : Some op ≡ open_operation p) (more : HasOneMore op 0 old new) where
+  own : IsOpened p op
+  own = opened old p op can is
+
+  takes : TakesOpen op.start (old (granule_of op))
+  takes = subst (λ n. TakesOpen n (old (granule_of op))) (sym own.start) (subst (λ g. TakesOpen p.start (old g)) (sym own.granule) can.takes)
+
+  pub told_one : (g : ℕ) → AreToldTo (filter (is_in g) (op ∷ [])) (old g) (new g)
+  told_one g = by_test (granule_of op == g) refl
+    where
+      by_test : (b : Bool) → (granule_of op == g) ≡ b → AreToldTo (cond b (op ∷ []) []) (old g) (new g)
+      by_test true here =
+          subst (λ h. AreToldTo (op ∷ []) (old h) (new h)) (eqb-true (granule_of op) g here)
+          (told_to op own.lasting own.within own.end (old (granule_of op)) (new (granule_of op)) takes more.own)
+      by_test false other =
+          subst (AreToldTo [] (old g)) (sym (more.others g (λ same. absurd (true≢false (sym (eq-eqb (granule_of op) g (sym same)) ∙ other))))) (told_none (old g))
+
+  -- and the others can still be told
+  closes_on : (q : Open) → CanClose old q → CanClose new q
+  closes_on q c = record { at = c.at; within = c.within; lasting = c.lasting; takes = by_test (granule_of op == granule_asked q) refl }
+    where
+      by_test : (b : Bool) → (granule_of op == granule_asked q) ≡ b → TakesOpen q.start (new (granule_asked q))
+      by_test true here =
+          let at : granule_of op ≡ granule_asked q = eqb-true (granule_of op) (granule_asked q) here in
+          subst (λ g. TakesOpen q.start (new g)) at
+          (takes_on op own.lasting own.within own.end q.start (old (granule_of op)) (new (granule_of op)) takes more.own (subst (λ g. TakesOpen q.start (old g)) (sym at) c.takes))
+      by_test false other =
+          subst (TakesOpen q.start) (sym (more.others (granule_asked q) (λ same. absurd (true≢false (sym (eq-eqb (granule_of op) (granule_asked q) (sym same)) ∙ other))))) c.takes
+
+  pub all_close_on : (requests : List Open) → All (CanClose old) requests → All (CanClose new) requests
+  all_close_on = All-weaker (CanClose old) (CanClose new) closes_on
+
+-- each outstanding request's operation can be told, where the watch took the events
+module _ (events : List Event) (ended : List Observed) (w : WatchValue) (is : Watches events ended w) (are_open : All (IsOpen w.outstanding.time) w.outstanding.requests) where
+  takes_open : (p : Open) → p.start ≤ w.outstanding.time → Contains w.outstanding.requests p → (x : Option Followed) → IsTrue (is_some x)
+      → IsGranuleOf events ended w.outstanding (granule_asked p) x → TakesOpen p.start x
+  takes_open p start has None some of = absurd (true≢false (sym some))
+  takes_open p start has (Some f) some of = (
+    All-contains (λ (q : Open). granule_asked q ≡ granule_asked p → f.frontier.horizon ≤ q.start) w.outstanding.requests p of.horizon has refl,
+    let time : w.outstanding.time < 2 ^ 64 = is.time in let latest : f.frontier.latest ≤ w.outstanding.time = of.latest in omega arith,
+  )
+
+  can_close : (p : Open) → Contains w.outstanding.requests p → CanClose (granule w) p
+  can_close p has =
+      let o : IsOpen w.outstanding.time p = All-contains (IsOpen w.outstanding.time) w.outstanding.requests p are_open has in
+      let time : w.outstanding.time < 2 ^ 64 = is.time in
+      record {
+        at = o.at;
+        within = o.within;
+        lasting = omega (arith, o.start);
+        takes = takes_open p o.start has (granule w (granule_asked p))
+            (All-contains (λ (q : Open). IsTrue (is_some (granule w (granule_asked q)))) w.outstanding.requests p is.requested has) (is.each (granule_asked p));
+      }
+
+  pub all_can_close : All (CanClose (granule w)) w.outstanding.requests
+  all_can_close = All-weaker (Contains w.outstanding.requests) (CanClose (granule w)) can_close w.outstanding.requests (All-contains_itself w.outstanding.requests)
