@@ -1,4 +1,4 @@
-mod Growing
+pub mod Growing
 mod Operations
 mod Places
 mod Spent

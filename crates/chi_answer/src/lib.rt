@@ -9,4 +9,6 @@ mod text;
 mod witness;
 
 pub use answer::{Answer, answer_of};
+pub use lines::{add_granule, add_undecided};
+pub use part::{Part, add_parts};
 pub use text::answer_text;

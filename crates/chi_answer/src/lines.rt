@@ -59,8 +59,12 @@ pub(crate) fn add_operation(
     add_parts(to, &[Part::Text("\n")])
 }
 
-/// The line of the granule that cannot be explained.
-pub(crate) fn add_granule(to: &mut Vec<u8>, granule: u64) -> Result<(), AllocError>
+/// Adds the line of a granule that cannot be explained, which has this number.
+///
+/// ```
+/// add_granule(&mut text, 512)?; // not explained: granule 0000000000001000
+/// ```
+pub fn add_granule(to: &mut Vec<u8>, granule: u64) -> Result<(), AllocError>
     ensures { OnOk result (to.new.items ≡ to.old.items ++ granule_line granule) }
 {
     add_parts(
@@ -122,8 +126,12 @@ pub(crate) fn add_words(to: &mut Vec<u8>, words: &[u64]) -> Result<(), AllocErro
     add_more(to, words.len() - 16)
 }
 
-/// The line of an answer that was not found.
-pub(crate) fn add_undecided(to: &mut Vec<u8>, granule: u64, states: u64) -> Result<(), AllocError>
+/// Adds the line of an answer that was not found: of this granule so many states were looked at.
+///
+/// ```
+/// add_undecided(&mut text, 512, 0)?; // undecided: granule 0000000000001000 after 0 states
+/// ```
+pub fn add_undecided(to: &mut Vec<u8>, granule: u64, states: u64) -> Result<(), AllocError>
     ensures { OnOk result (to.new.items ≡ to.old.items ++ undecided_line granule states) }
 {
     add_parts(

@@ -9,8 +9,12 @@ use std::alloc::AllocError;
 
 /// A part of an answer: some text, a number in decimal, an address with its most significant byte first, a granule's word with
 /// its byte at the lowest address first, an opcode, or a data packet, lane 0 first.
+///
+/// ```
+/// let parts = [Part::Text("at "), Part::Number(40)]; // at 40
+/// ```
 #[derive(Clone, Copy)]
-pub(crate) enum Part {
+pub enum Part {
     Text(&'static str),
     Number(u64),
     Address(u64),
@@ -61,7 +65,11 @@ fn add_part(to: &mut Vec<u8>, part: Part) -> Result<(), AllocError>
 }
 
 /// Adds some parts to a text, one after the other.
-pub(crate) fn add_parts(to: &mut Vec<u8>, parts: &[Part]) -> Result<(), AllocError>
+///
+/// ```
+/// add_parts(&mut text, &[Part::Text("at "), Part::Number(40)])?; // at 40
+/// ```
+pub fn add_parts(to: &mut Vec<u8>, parts: &[Part]) -> Result<(), AllocError>
     ensures { OnOk result (to.new.items ≡ to.old.items ++ flat_map part_text parts.now) }
 {
     for part in parts {
