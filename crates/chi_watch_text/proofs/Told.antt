@@ -1,0 +1,286 @@
+-- one line more
+use Rattle.std.specs.Prelude.{if◌then◌else◌}
+use Rattle.std.proofs.Common.{◌≡◌, ◌≢◌, ℕ, ◌≤◌, filter, get_or, not, ◌==◌, ◌||◌, ◌+◌, ◌<◌, List, [], ◌∷◌, ◌++◌, All, Option, None, Some, IfSome, inl, inr, Ok, Err, Result, IsErrAnd, Bool, true, false, true≢false, eq-eqb, length, length-append, refl, sym, ap, subst, ◌∙◌, arith}
+use Rattle.std.specs.List.{AllPairs, Contains}
+use Rattle.std.proofs.lemmas.List.Elements.{All-cons, All-contains, All-contains_itself, All-filter, All-nil, All-push, All-weaker, Contains-get_or}
+use Rattle.std.proofs.lemmas.List.{get_or_push}
+use Rattle.std.proofs.lemmas.List.Quantifiers.{all_pairs_push}
+use Rattle.std.specs.Io.BufRead.{drop_through, take_through}
+use Rattle.chi_event_text.specs.EventText.{event_text}
+use Rattle.chi_events.specs.declared.event.Event.{Event}
+use Rattle.chi_watch.specs.declared.ending.Ending.{Ending}
+use Rattle.chi_watch.specs.Looks.{LookedAtLeast, LookedSome}
+use Rattle.chi_watch.proofs.Looked.{at_least_after}
+use Rattle.chi_watch.specs.Watches.{HasTaken, IsUnexplained, WatchValue}
+use Rattle.chi_watch_text.specs.Found.{is_found, with_found, with_quiet}
+use Rattle.chi_watch_text.specs.Lines.{AreEvents, AreLines, AreTold}
+use Rattle.chi_watch_text.specs.declared.fault.LinesFault.{LinesFault}
+use Rattle.chi_watch_text.specs.declared.fault.LinesFault.TheVariants as fault
+use Rattle.chi_watch_text.specs.declared.watched.Found.{Found}
+use Rattle.chi_watch_text.specs.declared.watched.Watched.{Watched}
+use Rattle.chi_watch_text.specs.Outcomes.{EndsAt, HasTakenLines, IsEventFault, IsFoundBy, IsOutcome, IsPast, IsSeenBy, IsSettled, IsStillFound, IsTold, IsWatched, SaysAtEnd, SaysOf, TakesEvent}
+use Rattle.chi_watch_text.specs.Reading.{IsRead, IsRefused}
+
+lines_more : (text : List ℕ) (lines : List (List ℕ)) (rest : List ℕ) → AreLines text lines rest → 0 < length rest → AreLines text (lines ++ take_through 10 rest ∷ []) (drop_through 10 rest)
+unfolding AreLines
+lines_more text [] rest is some = rw is (some, refl, refl)
+lines_more text (line ∷ lines) rest (more, is, are) some = (more, is, lines_more (drop_through 10 text) lines rest are some)
+
+events_more : (lines : List (List ℕ)) (events : List Event) (line : List ℕ) (e : Event) → AreEvents lines events → event_text line ≡ Ok e → AreEvents (lines ++ line ∷ []) (events ++ e ∷ [])
+unfolding AreEvents
+events_more [] [] line e are is = (is, tt)
+events_more [] (d ∷ events) line e are is = absurd are
+events_more (l ∷ lines) [] line e are is = absurd are
+events_more (l ∷ lines) (d ∷ events) line e (here, are) is = (here, events_more lines events line e are is)
+
+told_more : (text : List ℕ) (count : ℕ) (events : List Event) (rest : List ℕ) (e : Event) → AreTold text count events rest → 0 < length rest → event_text (take_through 10 rest) ≡ Ok e
+    → AreTold text (count + 1) (events ++ e ∷ []) (drop_through 10 rest)
+told_more text count events rest e told some is = record {
+  lines = told.lines ++ take_through 10 rest ∷ [];
+  count_is = omega (arith, told.count_is, length-append told.lines (take_through 10 rest ∷ []));
+  are_lines = lines_more text told.lines rest told.are_lines some;
+  are_events = events_more told.lines events (take_through 10 rest) e told.are_events is;
+}
+
+-- nothing was read
+pub none_taken : (start : Option (List ℕ)) (w : WatchValue) (found quiet : List Found) → HasTaken [] w → found ≡ [] → quiet ≡ [] → HasTakenLines start 0 0 found quiet w start
+unfolding AreEvents AreLines
+none_taken None w found quiet has none calm = tt
+none_taken (Some text) w found quiet has none calm = record {
+  events = [];
+  told = record { lines = []; count_is = refl; are_lines = refl; are_events = tt };
+  taken = has;
+  times = All-nil (λ e. e.time ≤ 0);
+  found_by = subst (All (IsFoundBy text)) (sym none) (All-nil (IsFoundBy text));
+  quiet_by = subst (All (IsSeenBy text)) (sym calm) (All-nil (IsSeenBy text));
+}
+
+-- the last of some events is none earlier than the others
+latest : (events : List Event) (e : Event) (w : WatchValue) → HasTaken (events ++ e ∷ []) w → All (λ d. d.time ≤ e.time) (events ++ e ∷ [])
+latest events e w has k d below =
+    subst (λ (last : Event). (get_or (events ++ e ∷ []) k d).time ≤ last.time) (get_or_push events e d (length events) refl)
+    (has.1.tells.in_time k (length events) d (omega (arith, below, length-append events (e ∷ []))) (omega (arith, length-append events (e ∷ []))))
+
+-- Each granule is found once.
+pub found_once : (it : Found) (found : List Found) → AllPairs (λ a b. a.granule ≢ b.granule) found → AllPairs (λ a b. a.granule ≢ b.granule) (with_found it found)
+found_once it found once = by_test (is_found it.granule found) refl
+  where
+    by_test : (b : Bool) → is_found it.granule found ≡ b → AllPairs (λ (x y : Found). x.granule ≢ y.granule) (if b then found else found ++ it ∷ [])
+    by_test true is = once
+    by_test false is = all_pairs_push (λ (x y : Found). x.granule ≢ y.granule) found (it) once (others found is)
+      where
+        others : (l : List Found) → is_found it.granule l ≡ false → All (λ (x : Found). x.granule ≢ it.granule) l
+        others [] none = All-nil (λ (x : Found). x.granule ≢ it.granule)
+        others (f ∷ l) none = by_head (f.granule == it.granule) refl none (others l)
+          where
+            by_head : (b : Bool) → (f.granule == it.granule) ≡ b → (b || is_found it.granule l) ≡ false → (is_found it.granule l ≡ false → All (λ (x : Found). x.granule ≢ it.granule) l)
+                → All (λ (x : Found). x.granule ≢ it.granule) (f ∷ l)
+            by_head true same none rest = absurd (true≢false none)
+            by_head false other none rest = All-cons (λ (x : Found). x.granule ≢ it.granule) f l (λ same. true≢false (sym (eq-eqb f.granule it.granule same) ∙ other)) (rest none)
+
+-- a granule that is noted is one that was found before, or this one
+pub noted : (P : Found → Type 0) (it : Found) (found : List Found) → All P found → P it → All P (with_found it found)
+noted P it found all one = by_test (is_found it.granule found)
+  where
+    by_test : (b : Bool) → All P (if b then found else found ++ it ∷ [])
+    by_test true = all
+    by_test false = All-push P found it all one
+
+-- those that were looked at are settled
+pub still_first : (w : WatchValue) (quiet found : List Found) → All (IsStillFound w quiet found) found
+still_first w quiet found = All-weaker (Contains found) (IsStillFound w quiet found) (λ f here. inl here) found (All-contains_itself found)
+
+pub still_more : (w : WatchValue) (quiet found before after : List Found) (i : ℕ) (d : Found) → i < length quiet → IsSettled w (get_or quiet i d) before after
+    → All (IsStillFound w quiet found) before → All (IsStillFound w quiet found) after
+still_more w quiet found before after i d below (inl same) all = subst (All (IsStillFound w quiet found)) (sym same) all
+still_more w quiet found before after i d below (inr (is, none)) all =
+    subst (All (IsStillFound w quiet found)) (sym is) (noted (IsStillFound w quiet found) (get_or quiet i d) before all (inr (Contains-get_or quiet i d below, none)))
+
+pub once_more : (w : WatchValue) (it : Found) (before after : List Found) → IsSettled w it before after → AllPairs (λ a b. a.granule ≢ b.granule) before → AllPairs (λ a b. a.granule ≢ b.granule) after
+once_more w it before after (inl same) once = subst (AllPairs (λ (x y : Found). x.granule ≢ y.granule)) (sym same) once
+once_more w it before after (inr (is, none)) once = subst (AllPairs (λ (x y : Found). x.granule ≢ y.granule)) (sym is) (found_once it before once)
+
+-- a text whose next line is empty is at its end
+pub none_left : (now later : Option (List ℕ)) (line : List ℕ) → line ≡ [] → IfSome now (λ text. (line ≡ take_through 10 text) × (later ≡ Some (drop_through 10 text))) → IfSome now (λ text. text ≡ [])
+none_left None later line none is = tt
+none_left (Some []) later line none is = refl
+none_left (Some (b ∷ rest)) later line none (same, left) = absurd (omega (arith, is_long b rest, ap length (sym same ∙ none)))
+  where
+    is_long : (b : ℕ) (rest : List ℕ) → 0 < length (take_through 10 (b ∷ rest))
+    is_long b rest = by_test (b == 10) (take_through 10 rest)
+      where
+        by_test : (t : Bool) (more : List ℕ) → 0 < length (if t then b ∷ [] else b ∷ more)
+        by_test true more = omega arith
+        by_test false more = omega arith
+
+-- and of those that became quiet one is put in its place
+quiet_noted : (P : Found → Type 0) (seen : Option ℕ) (line : ℕ) (quiet : List Found) → All P quiet → IfSome seen (λ g. P (record { granule = g; line = line })) → All P (with_quiet seen line quiet)
+quiet_noted P None line quiet all one = all
+quiet_noted P (Some g) line quiet all one =
+    All-push P (filter (λ f. not (f.granule == g)) quiet) (record { granule = g; line = line }) (All-filter (λ f. not (f.granule == g)) P quiet all) one
+
+-- one event more was taken
+pub event_taken : (start now later : Option (List ℕ)) (count line time : ℕ) (found quiet after : List Found) (old new : WatchValue) (e : Event) (seen : Option ℕ)
+    → HasTakenLines start count time found quiet old now → IfSome now (λ text. IsRead text (Some e) later) → TakesEvent old e new seen → line ≡ count + 1 → after ≡ with_quiet seen line quiet
+    → HasTakenLines start line e.time found after new later
+event_taken None now later count line time found quiet after old new e seen has next takes here is = tt
+event_taken (Some text) None later count line time found quiet after old new e seen has next takes here is = absurd has
+event_taken (Some text) (Some rest) later count line time found quiet after old new e seen has (some, tells, left) takes here is =
+    subst (HasTakenLines (Some text) line e.time found after new) (sym left) (record {
+      events = has.events ++ e ∷ [];
+      told = more;
+      taken = taken;
+      times = latest has.events e new taken;
+      found_by = has.found_by;
+      quiet_by = subst (All (IsSeenBy text)) (sym is) (quiet_noted (IsSeenBy text) seen line quiet has.quiet_by (by_seen seen takes.unexplained));
+    })
+  where
+    more : AreTold text line (has.events ++ e ∷ []) (drop_through 10 rest)
+    more = subst (λ (n : ℕ). AreTold text n (has.events ++ e ∷ []) (drop_through 10 rest)) (sym here) (told_more text count has.events rest e has.told some tells)
+
+    taken : HasTaken (has.events ++ e ∷ []) new
+    taken = takes.taken has.events has.taken
+
+    by_seen : (o : Option ℕ) → IfSome o (λ g. (events : List Event) → HasTaken events old → IsUnexplained (events ++ e ∷ []) g) → IfSome o (λ g. IsSeenBy text (record { granule = g; line = line }))
+    by_seen None none = tt
+    by_seen (Some g) none = record { events = has.events ++ e ∷ []; rest = drop_through 10 rest; told = more; unexplained = none has.events has.taken }
+
+-- all events of a time are told
+past : (events : List Event) (time : ℕ) (rest : List ℕ) (next : Option Event) (later : Option (List ℕ)) → All (λ d. d.time ≤ time) events → IsRead rest next later → IfSome next (λ e. time < e.time)
+    → IsPast events rest
+past events time rest None later times read after = inl read
+past events time rest (Some e) later times (some, tells, left) after =
+    inr (e, tells, All-weaker (λ d. d.time ≤ time) (λ d. d.time < e.time) (λ d le. omega (arith, le, after)) events times)
+
+-- those of a time that is past are found
+pub settled : (start now later : Option (List ℕ)) (count time : ℕ) (found quiet found_after quiet_after : List Found) (w : WatchValue) (next : Option Event) (is_past : Bool)
+    → HasTakenLines start count time found quiet w now → IfSome now (λ text. IsRead text next later) → (is_past ≡ true → IfSome next (λ e. time < e.time))
+    → (is_past ≡ false → (found_after ≡ found) × (quiet_after ≡ quiet)) → (is_past ≡ true → quiet_after ≡ []) → (is_past ≡ true → All (IsStillFound w quiet found) found_after)
+    → HasTakenLines start count time found_after quiet_after w now
+settled None now later count time found quiet found_after quiet_after w next is_past has read after waits cleared each = tt
+settled (Some text) None later count time found quiet found_after quiet_after w next is_past has read after waits cleared each = absurd has
+settled (Some text) (Some rest) later count time found quiet found_after quiet_after w next false has read after waits cleared each = record {
+  events = has.events;
+  told = has.told;
+  taken = has.taken;
+  times = has.times;
+  found_by = subst (All (IsFoundBy text)) (sym (waits refl).0) has.found_by;
+  quiet_by = subst (All (IsSeenBy text)) (sym (waits refl).1) has.quiet_by;
+}
+settled (Some text) (Some rest) later count time found quiet found_after quiet_after w next true has read after waits cleared each = record {
+  events = has.events;
+  told = has.told;
+  taken = has.taken;
+  times = has.times;
+  found_by = All-weaker (IsStillFound w quiet found) (IsFoundBy text) is_found_by found_after (each refl);
+  quiet_by = subst (All (IsSeenBy text)) (sym (cleared refl)) (All-nil (IsSeenBy text));
+}
+  where
+    is_found_by : (f : Found) → IsStillFound w quiet found f → IsFoundBy text f
+    is_found_by f (inl before) = All-contains (IsFoundBy text) found f has.found_by before
+    is_found_by f (inr (calm, none)) = record {
+      seen = All-contains (IsSeenBy text) quiet f has.quiet_by calm;
+      events = has.events;
+      count = count;
+      rest = rest;
+      told = has.told;
+      past = past has.events time rest next later has.times read (after refl);
+      unexplained = none has.events has.taken;
+    }
+
+-- where it does not keep going none is found before it stops
+pub none_found : (is_past stop going : Bool) (found after : List Found) → (going ≡ false → found ≡ []) → (is_past ≡ false → after ≡ found) → stop ≡ false
+    → (stop ≡ false → is_past ≡ true → going ≡ false → after ≡ []) → going ≡ false → after ≡ []
+none_found true stop going found after first waits goes none ends = none goes refl ends
+none_found false stop going found after first waits goes none ends = waits refl ∙ first ends
+
+-- what is said of the events
+says_of : (w : WatchValue) (events : List Event) → HasTaken events w → (ending : Ending) → SaysAtEnd w ending → SaysOf events ending
+says_of w events has ending says = record {
+  whole = λ none_un none_dec. says.whole none_un none_dec events has;
+  each = λ g. says.each g events has;
+  unexplained = All-weaker (λ g. (all : List Event) → HasTaken all w → IsUnexplained all g) (IsUnexplained events) (λ g none. none events has) ending.unexplained.items says.unexplained;
+}
+
+-- what is said of the text where it ends at its end
+pub at_end : (start now later : Option (List ℕ)) (count time : ℕ) (found quiet : List Found) (going : Bool) (w : WatchValue) (watched : Watched) → HasTakenLines start count time found quiet w now
+    → IfSome now (λ text. IsRead text None later) → AllPairs (λ a b. a.granule ≢ b.granule) found → (going ≡ false → found ≡ []) → IsTold w found watched → watched.ending ≢ None
+    → IfSome watched.ending (SaysAtEnd w) → IfSome start (λ text. IsWatched text going watched)
+at_end None now later count time found quiet going w watched has read once first told some says = tt
+at_end (Some text) None later count time found quiet going w watched has read once first told some says = absurd has
+at_end (Some text) (Some rest) later count time found quiet going w watched has read once first told some says = record {
+  events = has.events;
+  count = count;
+  rest = [];
+  told = subst (AreTold text count has.events) read has.told;
+  found = subst (All (IsFoundBy text)) (sym told.found_is) has.found_by;
+  once = subst (AllPairs (λ (x y : Found). x.granule ≢ y.granule)) (sym told.found_is) once;
+  ends = subst (λ l. EndsAt going [] has.events l watched.ending) (sym told.found_is) (by_ending watched.ending some says);
+  counted = told.counted has.events has.taken;
+  watch = w;
+  taken = has.taken;
+  granules = told.granules;
+  unjudged_is = told.unjudged_is;
+}
+  where
+    by_ending : (o : Option Ending) → o ≢ None → IfSome o (SaysAtEnd w) → EndsAt going [] has.events found o
+    by_ending None is_some said = absurd (is_some refl)
+    by_ending (Some ending) is_some said = (refl, says_of w has.events has.taken ending said, first)
+
+-- what is said of the text where it stops
+pub at_stop : (start now later : Option (List ℕ)) (count time : ℕ) (found quiet : List Found) (going is_past : Bool) (w : WatchValue) (next : Option Event) (watched : Watched)
+    → HasTakenLines start count time found quiet w now → IfSome now (λ text. IsRead text next later) → (is_past ≡ true → IfSome next (λ e. time < e.time))
+    → AllPairs (λ a b. a.granule ≢ b.granule) found → (is_past ≡ true) × (going ≡ false) × (0 < length found) → IsTold w found watched → watched.ending ≡ None
+    → IfSome start (λ text. IsWatched text going watched)
+at_stop None now later count time found quiet going is_past w next watched has read after once stops told none = tt
+at_stop (Some text) None later count time found quiet going is_past w next watched has read after once stops told none = absurd has
+at_stop (Some text) (Some rest) later count time found quiet going is_past w next watched has read after once stops told none = record {
+  events = has.events;
+  count = count;
+  rest = rest;
+  told = has.told;
+  found = subst (All (IsFoundBy text)) (sym told.found_is) has.found_by;
+  once = subst (AllPairs (λ (x y : Found). x.granule ≢ y.granule)) (sym told.found_is) once;
+  ends = subst (EndsAt going rest has.events watched.found.items) (sym none)
+      (stops.1, subst (λ l. 0 < length l) (sym told.found_is) stops.2, past has.events time rest next later has.times read (after stops.0));
+  counted = told.counted has.events has.taken;
+  watch = w;
+  taken = has.taken;
+  granules = told.granules;
+  unjudged_is = told.unjudged_is;
+}
+
+-- what is said of the text where a line tells no event
+pub where_refused : (start now : Option (List ℕ)) (count number time : ℕ) (found quiet : List Found) (going : Bool) (w : WatchValue) (f : LinesFault) → HasTakenLines start count time found quiet w now
+    → number ≡ count + 1 → IfSome now (λ text. IsRefused (take_through 10 text) number f) → IfSome start (λ text. IsOutcome text going (Err f))
+where_refused None now count number time found quiet going w f has here is = tt
+where_refused (Some text) None count number time found quiet going w f has here is = absurd has
+where_refused (Some text) (Some rest) count number time found quiet going w fault.Read has here is = tt
+where_refused (Some text) (Some rest) count number time found quiet going w (fault.Line n f) has here (same, refused) = (has.events, count, rest, has.told, sym (same ∙ here), refused)
+where_refused (Some text) (Some rest) count number time found quiet going w (fault.Event n f) has here is = absurd is
+where_refused (Some text) (Some rest) count number time found quiet going w fault.TooManyLines has here is = absurd is
+where_refused (Some text) (Some rest) count number time found quiet going w fault.Memory has here is = tt
+
+-- or one whose event is not taken
+pub where_not_taken : (start now later : Option (List ℕ)) (count number time : ℕ) (found quiet : List Found) (going : Bool) (w : WatchValue) (e : Event) (f : LinesFault)
+    → HasTakenLines start count time found quiet w now → number ≡ count + 1 → IfSome now (λ text. IsRead text (Some e) later) → IsEventFault w e number f → IfSome start (λ text. IsOutcome text going (Err f))
+where_not_taken None now later count number time found quiet going w e f has here read is = tt
+where_not_taken (Some text) None later count number time found quiet going w e f has here read is = absurd has
+where_not_taken (Some text) (Some rest) later count number time found quiet going w e fault.Read has here read is = absurd is
+where_not_taken (Some text) (Some rest) later count number time found quiet going w e (fault.Line n f) has here read is = absurd is
+where_not_taken (Some text) (Some rest) later count number time found quiet going w e (fault.Event n f) has here read (same, refused) =
+    (has.events, count, rest, has.told, sym (same ∙ here), (e, read.1, (w, has.taken, refused)))
+where_not_taken (Some text) (Some rest) later count number time found quiet going w e fault.TooManyLines has here read is = absurd is
+where_not_taken (Some text) (Some rest) later count number time found quiet going w e fault.Memory has here read is = tt
+
+-- a fault that is passed on
+pub passed_on : {A E : Type 0} (r : Result A E) (f : E) (P : Result A E → Type 0) → IsErrAnd r (λ y. y ≡ f) → P (Err f) → P r
+passed_on (Ok a) f P is h = absurd is
+passed_on (Err y) f P is h = subst (λ z. P (Err z)) (sym is) h
+
+-- for each granule that is not decided at least so many states were looked at
+pub undecided_after : {P : Type 0} (looked : P → ℕ → Type 0) (old middle new : P) (budget : ℕ) → LookedSome looked old middle → (o : Option Ending)
+    → IfSome o (λ ending. All (λ g. LookedAtLeast looked middle new budget) ending.undecided.items) → IfSome o (λ ending. All (λ g. LookedAtLeast looked old new budget) ending.undecided.items)
+undecided_after looked old middle new budget some None all = tt
+undecided_after looked old middle new budget some (Some ending) all =
+    All-weaker (λ g. LookedAtLeast looked middle new budget) (λ g. LookedAtLeast looked old new budget) (λ g whole. at_least_after looked old middle new budget some whole) ending.undecided.items all

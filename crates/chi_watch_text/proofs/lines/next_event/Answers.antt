@@ -1,0 +1,11 @@
+-- a line that is empty is the end
+use Rattle.std.proofs.Common.{◌∙◌, sym, eqb-true}
+use Rattle.std.proofs.lemmas.List.{nil_from_length}
+use Rattle.chi_watch_text.proofs.Told.{none_left}
+use Rattle.chi_watch_text.proofs.lines.next_event.Goals as goal
+
+pub returns-then-is_empty-clause-told : goal.returns-then-is_empty-clause-told
+returns-then-is_empty-clause-told g c =
+    let line = c.next_line.new.line.items in
+    none_left (g.R.Read.remaining c.args.from.now) (g.R.Read.remaining c.next_line.new.from) line
+    (nil_from_length line (sym c.next_line.new.line.ok.0 ∙ eqb-true c.next_line.new.line.len 0 (sym c.is_empty.ensures ∙ c.if-is_empty.true))) c.in_ok-next_line.ensures.line

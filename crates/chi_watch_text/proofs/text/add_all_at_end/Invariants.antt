@@ -1,0 +1,7 @@
+-- the lines so far
+use Rattle.std.proofs.Common.{◌≡◌, ◌++◌, flat_map, take}
+use Rattle.chi_watch_text.specs.Texts.{end_text}
+use Rattle.chi_watch_text.proofs.text.add_all_at_end.Given as goal
+
+abbrev pub invariant-loop-granule : goal.invariant-loop-granule
+invariant-loop-granule l = l.to.items ≡ l.initial.to.items ++ flat_map (end_text l.found) (take l.granule-index l.unexplained)

@@ -1,0 +1,92 @@
+-- line after line is taken
+use Rattle.std.proofs.Common.{ℕ, ◌-◌, IfSome, Option, Result, length, ap, subst, arith}
+use Rattle.chi_watch.proofs.Looked.{looked_none, some_after}
+use Rattle.chi_events.specs.declared.event.Event.{Event}
+use Rattle.chi_watch_text.specs.Outcomes.{HasTakenLines, IsOutcome}
+use Rattle.chi_watch_text.specs.Reading.{IsRead}
+use Rattle.chi_watch_text.specs.declared.fault.LinesFault.{LinesFault}
+use Rattle.chi_watch_text.specs.declared.watched.Watched.{Watched}
+use Rattle.chi_watch_text.proofs.Told.{at_end, at_stop, event_taken, none_found, none_taken, passed_on, settled, undecided_after, where_not_taken, where_refused}
+use Rattle.chi_watch_text.proofs.watching.watch_lines.Goals as goal
+
+pub loop-number-init : goal.loop-number-init
+loop-number-init g c = record {
+  taken = none_taken (g.R.Read.remaining c.args.from.now) c.new-watch.result c.new-found.result.items c.new-quiet.result.items c.new-watch.ensures c.new-found.ensures.items c.new-quiet.ensures.items;
+  once = λ i j d before below. absurd (let none = ap length c.new-found.ensures.items in omega (arith, before, below, none));
+  first = λ stop. c.new-found.ensures.items;
+  looked = looked_none g.P.Progress.looked c.args.progress.now;
+}
+
+pub returns-in_err-next-clause-outcome : goal.returns-in_err-next-clause-outcome
+returns-in_err-next-clause-outcome g c =
+    let n = c.loop-number.number in
+    passed_on c.from_residual.result c.in_err-next.field-0.0 (λ (r : Result Watched LinesFault). IfSome (g.R.Read.remaining c.args.from.now) (λ text. IsOutcome text c.args.options.now.keep_going r)) c.from_residual.ensures.1
+    (where_refused (g.R.Read.remaining c.args.from.now) (g.R.Read.remaining c.loop-number.from) (n - 1) n c.loop-number.time c.loop-number.found.items c.loop-number.quiet.items c.args.options.now.keep_going
+    c.loop-number.watch c.in_err-next.field-0.0 c.loop-number.invariant.taken (omega arith) c.in_err-next.ensures.fault)
+
+pub loop-number-preserved : goal.loop-number-preserved
+loop-number-preserved g c =
+    let n = c.loop-number.number in
+    let before = c.loop-number.invariant in
+    let settled_now =
+    settled (g.R.Read.remaining c.args.from.now) (g.R.Read.remaining c.loop-number.from) (g.R.Read.remaining c.next_event.new.from) (n - 1) c.loop-number.time c.loop-number.found.items c.loop-number.quiet.items
+    c.settle.new.found.items c.settle.new.quiet.items c.loop-number.watch c.in_ok-next.next c.is_past-is_past.result before.taken c.in_ok-next.ensures.told c.is_past-is_past.ensures
+    c.in_ok-settle.ensures.waits c.in_ok-settle.ensures.cleared c.in_ok-settle.ensures.each in
+    let first = none_found c.is_past-is_past.result c.stops.result c.args.options.now.keep_going c.loop-number.found.items c.settle.new.found.items before.first
+    (λ waits. (c.in_ok-settle.ensures.waits waits).0) c.if-stops.false (rw c.deref.ensures.value at c.stops.ensures.goes_on) in
+    let some = some_after g.P.Progress.looked c.args.progress.now c.loop-number.progress c.settle.new.progress before.looked c.in_ok-settle.ensures.looked in
+    let read = subst (λ (o : Option Event). IfSome (g.R.Read.remaining c.loop-number.from) (λ text. IsRead text o (g.R.Read.remaining c.next_event.new.from))) c.in-Some.is c.in_ok-next.ensures.told in
+    record {
+      taken = subst (λ (k : ℕ). HasTakenLines (g.R.Read.remaining c.args.from.now) k c.in-Some.event.time c.settle.new.found.items c.note_quiet.new.quiet.items c.take_event.new.watch (g.R.Read.remaining c.next_event.new.from)) (omega arith)
+          (event_taken (g.R.Read.remaining c.args.from.now) (g.R.Read.remaining c.loop-number.from) (g.R.Read.remaining c.next_event.new.from) (n - 1) n c.loop-number.time c.settle.new.found.items c.settle.new.quiet.items
+          c.note_quiet.new.quiet.items c.loop-number.watch c.take_event.new.watch c.in-Some.event c.in_ok-seen.seen settled_now read c.in_ok-seen.ensures.taken (omega arith) c.in_ok-note_quiet.ensures);
+      once = c.in_ok-settle.ensures.once before.once;
+      first = first;
+      looked = some_after g.P.Progress.looked c.args.progress.now c.settle.new.progress c.take_event.new.progress some c.in_ok-seen.ensures.looked;
+    }
+
+pub returns-then-stops-clause-outcome : goal.returns-then-stops-clause-outcome
+returns-then-stops-clause-outcome g c =
+    let n = c.loop-number.number in
+    let before = c.loop-number.invariant in
+    let settled_now =
+    settled (g.R.Read.remaining c.args.from.now) (g.R.Read.remaining c.loop-number.from) (g.R.Read.remaining c.next_event.new.from) (n - 1) c.loop-number.time c.loop-number.found.items c.loop-number.quiet.items
+    c.settle.new.found.items c.settle.new.quiet.items c.loop-number.watch c.in_ok-next.next c.is_past-is_past.result before.taken c.in_ok-next.ensures.told c.is_past-is_past.ensures
+    c.in_ok-settle.ensures.waits c.in_ok-settle.ensures.cleared c.in_ok-settle.ensures.each in
+    at_stop (g.R.Read.remaining c.args.from.now) (g.R.Read.remaining c.loop-number.from) (g.R.Read.remaining c.next_event.new.from) (n - 1) c.loop-number.time c.settle.new.found.items c.settle.new.quiet.items
+    c.args.options.now.keep_going c.is_past-is_past.result c.loop-number.watch c.in_ok-next.next c.stopped.result settled_now c.in_ok-next.ensures.told c.is_past-is_past.ensures (c.in_ok-settle.ensures.once before.once)
+    ((rw c.deref.ensures.value at c.stops.ensures.stops) c.if-stops.true) c.stopped.ensures.told c.stopped.ensures.ending
+
+pub returns-in_default-clause-outcome : goal.returns-in_default-clause-outcome
+returns-in_default-clause-outcome g c =
+    let n = c.loop-number.number in
+    let before = c.loop-number.invariant in
+    let settled_now =
+    settled (g.R.Read.remaining c.args.from.now) (g.R.Read.remaining c.loop-number.from) (g.R.Read.remaining c.next_event.new.from) (n - 1) c.loop-number.time c.loop-number.found.items c.loop-number.quiet.items
+    c.settle.new.found.items c.settle.new.quiet.items c.loop-number.watch c.in_ok-next.next c.is_past-is_past.result before.taken c.in_ok-next.ensures.told c.is_past-is_past.ensures
+    c.in_ok-settle.ensures.waits c.in_ok-settle.ensures.cleared c.in_ok-settle.ensures.each in
+    let first = none_found c.is_past-is_past.result c.stops.result c.args.options.now.keep_going c.loop-number.found.items c.settle.new.found.items before.first
+    (λ waits. (c.in_ok-settle.ensures.waits waits).0) c.if-stops.false (rw c.deref.ensures.value at c.stops.ensures.goes_on) in
+    let some = some_after g.P.Progress.looked c.args.progress.now c.loop-number.progress c.settle.new.progress before.looked c.in_ok-settle.ensures.looked in
+    let read = subst (λ (o : Option Event). IfSome (g.R.Read.remaining c.loop-number.from) (λ text. IsRead text o (g.R.Read.remaining c.next_event.new.from))) c.in_default.is c.in_ok-next.ensures.told in
+    let ended = c.in_ok-ended.ensures in
+    at_end (g.R.Read.remaining c.args.from.now) (g.R.Read.remaining c.loop-number.from) (g.R.Read.remaining c.next_event.new.from) (n - 1) c.loop-number.time c.settle.new.found.items c.settle.new.quiet.items
+    c.args.options.now.keep_going c.loop-number.watch c.in_ok-ended.field-0 settled_now read (c.in_ok-settle.ensures.once before.once) first ended.told ended.ending ended.says
+
+pub returns-in_default-clause-undecided : goal.returns-in_default-clause-undecided
+returns-in_default-clause-undecided g c =
+    let some = some_after g.P.Progress.looked c.args.progress.now c.loop-number.progress c.settle.new.progress c.loop-number.invariant.looked c.in_ok-settle.ensures.looked in
+    undecided_after g.P.Progress.looked c.args.progress.now c.settle.new.progress c.ended.new.progress c.args.options.now.budget some c.in_ok-ended.field-0.ending c.in_ok-ended.ensures.undecided
+
+pub returns-in_err-seen-clause-outcome : goal.returns-in_err-seen-clause-outcome
+returns-in_err-seen-clause-outcome g c =
+    let n = c.loop-number.number in
+    let before = c.loop-number.invariant in
+    let settled_now =
+    settled (g.R.Read.remaining c.args.from.now) (g.R.Read.remaining c.loop-number.from) (g.R.Read.remaining c.next_event.new.from) (n - 1) c.loop-number.time c.loop-number.found.items c.loop-number.quiet.items
+    c.settle.new.found.items c.settle.new.quiet.items c.loop-number.watch c.in_ok-next.next c.is_past-is_past.result before.taken c.in_ok-next.ensures.told c.is_past-is_past.ensures
+    c.in_ok-settle.ensures.waits c.in_ok-settle.ensures.cleared c.in_ok-settle.ensures.each in
+    let read = subst (λ (o : Option Event). IfSome (g.R.Read.remaining c.loop-number.from) (λ text. IsRead text o (g.R.Read.remaining c.next_event.new.from))) c.in-Some.is c.in_ok-next.ensures.told in
+    passed_on c.from_residual-in_err-seen.result c.in_err-seen.field-0.0 (λ (r : Result Watched LinesFault). IfSome (g.R.Read.remaining c.args.from.now) (λ text. IsOutcome text c.args.options.now.keep_going r)) c.from_residual-in_err-seen.ensures.1
+    (where_not_taken (g.R.Read.remaining c.args.from.now) (g.R.Read.remaining c.loop-number.from) (g.R.Read.remaining c.next_event.new.from) (n - 1) n c.loop-number.time c.settle.new.found.items c.settle.new.quiet.items
+    c.args.options.now.keep_going c.loop-number.watch c.in-Some.event c.in_err-seen.field-0.0 settled_now (omega arith) read c.in_err-seen.ensures.fault)

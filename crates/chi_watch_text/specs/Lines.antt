@@ -1,0 +1,23 @@
+-- lines of a text, and the events that they tell
+use Rattle.std.specs.Prelude.{◌≡◌, ℕ, ◌<◌, List, [], ◌∷◌, length, Ok}
+use Rattle.std.specs.Io.BufRead.{drop_through, take_through}
+use Rattle.chi_events.specs.declared.event.Event.{Event}
+use Rattle.chi_event_text.specs.EventText.{event_text}
+
+-- The text begins with these lines, each up to its line feed, and the rest follows. The last line of a text may have no line feed.
+unfoldable pub AreLines : List ℕ → List (List ℕ) → List ℕ → Type 0
+AreLines text [] rest = text ≡ rest
+AreLines text (line ∷ lines) rest = (0 < length text) × (line ≡ take_through 10 text) × AreLines (drop_through 10 text) lines rest
+
+-- each line tells its event
+unfoldable pub AreEvents : List (List ℕ) → List Event → Type 0
+AreEvents [] [] = Unit {0}
+AreEvents (line ∷ lines) (e ∷ events) = (event_text line ≡ Ok e) × AreEvents lines events
+AreEvents lines events = ⊥
+
+-- the first lines of the text, so many of them, tell these events, and the rest follows
+pub record AreTold (text : List ℕ) (count : ℕ) (events : List Event) (rest : List ℕ) : Type 0 where
+  pub lines : List (List ℕ)
+  pub count_is : length lines ≡ count
+  pub are_lines : AreLines text lines rest
+  pub are_events : AreEvents lines events

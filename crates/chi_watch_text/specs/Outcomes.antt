@@ -1,0 +1,128 @@
+-- what comes of events that are read line by line
+use Rattle.std.specs.Prelude.{◌≡◌, ◌≢◌, ℕ, ◌+◌, ◌<◌, ◌≤◌, ◌⊎◌, Bool, true, false, List, [], ◌∷◌, ◌++◌, All, length, Option, None, Some, IfSome, Result, Ok, Err}
+use Rattle.std.specs.List.{AllPairs, Contains}
+use Rattle.std.specs.Io.BufRead.{take_through}
+use Rattle.chi_event_text.specs.EventText.{event_text}
+use Rattle.chi_events.specs.declared.event.Event.{Event}
+use Rattle.chi_watch.specs.Counts.{AreCounted, unjudged}
+use Rattle.chi_watch.specs.Endings.{IsListed}
+use Rattle.chi_watch.specs.Judged.{IsExplained, is_known}
+use Rattle.chi_watch.specs.Quiet.{CanBeExplained}
+use Rattle.chi_watch.specs.Watches.{HasTaken, IsUnexplained, WatchValue, fault_of}
+use Rattle.chi_watch.specs.declared.ending.Ending.{Ending}
+use Rattle.chi_watch_text.specs.Found.{with_found}
+use Rattle.chi_watch_text.specs.Lines.{AreTold}
+use Rattle.chi_watch_text.specs.declared.fault.LinesFault.{LinesFault}
+use Rattle.chi_watch_text.specs.declared.fault.LinesFault.TheVariants as fault
+use Rattle.chi_watch_text.specs.declared.watched.Found.{Found}
+use Rattle.chi_watch_text.specs.declared.watched.Watched.{Watched}
+
+-- the watch took the event, and the granule that was answered is one whose operations no order explains
+pub record TakesEvent (old : WatchValue) (event : Event) (new : WatchValue) (seen : Option ℕ) : Type 0 where
+  pub taken : (events : List Event) → HasTaken events old → HasTaken (events ++ event ∷ []) new
+  pub unexplained : IfSome seen (λ g. (events : List Event) → HasTaken events old → IsUnexplained (events ++ event ∷ []) g)
+
+-- why the event of the line with this number is not taken
+abbrev pub IsEventFault : WatchValue → Event → ℕ → LinesFault → Type 0
+IsEventFault watch event number fault.Read = ⊥
+IsEventFault watch event number (fault.Line n f) = ⊥
+IsEventFault watch event number (fault.Event n f) = (n ≡ number) × (fault_of watch event ≡ Some f)
+IsEventFault watch event number fault.TooManyLines = ⊥
+IsEventFault watch event number fault.Memory = Unit {0}
+
+-- by the lines up to this one no order explains the granule
+pub record IsSeenBy (text : List ℕ) (f : Found) : Type 0 where
+  pub events : List Event
+  pub rest : List ℕ
+  pub told : AreTold text f.line events rest
+  pub unexplained : IsUnexplained events f.granule
+
+-- all events of the last time are told: nothing follows, or the next line tells one of a later time
+abbrev pub IsPast : List Event → List ℕ → Type 0
+IsPast events rest = (rest ≡ []) ⊎ ((e : Event) × (event_text (take_through 10 rest) ≡ Ok e) × All (λ d. d.time < e.time) events)
+
+-- No order explains the granule by the lines up to the one that is named, and none does once all events of that time are told.
+pub record IsFoundBy (text : List ℕ) (f : Found) : Type 0 where
+  pub seen : IsSeenBy text f
+  pub events : List Event
+  pub count : ℕ
+  pub rest : List ℕ
+  pub told : AreTold text count events rest
+  pub past : IsPast events rest
+  pub unexplained : IsUnexplained events f.granule
+
+-- a granule that was found before, or is one of these that became quiet and is still unexplained
+abbrev pub IsStillFound : WatchValue → List Found → List Found → Found → Type 0
+IsStillFound w quiet found f = Contains found f ⊎ (Contains quiet f × ((events : List Event) → HasTaken events w → IsUnexplained events f.granule))
+
+-- the granule is noted only where no order explains it
+abbrev pub IsSettled : WatchValue → Found → List Found → List Found → Type 0
+IsSettled w it old new = (new ≡ old) ⊎ ((new ≡ with_found it old) × ((events : List Event) → HasTaken events w → IsUnexplained events it.granule))
+
+-- What is said of events at their end. Where no granule is listed all is explained. Each granule of which all is told can be
+-- explained, or is listed; no order explains one that is listed as such.
+pub record SaysOf (events : List Event) (ending : Ending) : Type 0 where
+  pub whole : ending.unexplained.items ≡ [] → ending.undecided.items ≡ [] → IsExplained events
+  pub each : (g : ℕ) → is_known events g ≡ true → CanBeExplained events g ⊎ IsListed g ending.unexplained.items ending.undecided.items
+  pub unexplained : All (IsUnexplained events) ending.unexplained.items
+
+-- where the reading ends: at the end of the text, or, where it does not keep going, once all events are told of a time at which a
+-- granule was found
+abbrev pub EndsAt : Bool → List ℕ → List Event → List Found → Option Ending → Type 0
+EndsAt going rest events found (Some ending) = (rest ≡ []) × SaysOf events ending × (going ≡ false → found ≡ [])
+EndsAt going rest events found None = (going ≡ false) × (0 < length found) × IsPast events rest
+
+-- What is found of a text: of so many lines, which tell events that a watch takes.
+pub record IsWatched (text : List ℕ) (going : Bool) (w : Watched) : Type 0 where
+  pub events : List Event
+  pub count : ℕ
+  pub rest : List ℕ
+  pub told : AreTold text count events rest
+  pub found : All (IsFoundBy text) w.found.items
+  pub once : AllPairs (λ a b. a.granule ≢ b.granule) w.found.items
+  pub ends : EndsAt going rest events w.found.items w.ending
+  pub counted : AreCounted events w.counts
+  pub watch : WatchValue
+  pub taken : HasTaken events watch
+  pub granules : w.counts.granules ≡ length watch.granules
+  pub unjudged_is : w.unjudged ≡ unjudged watch
+
+-- what comes of a text: what is found of it, or the first line that is not taken
+abbrev pub IsOutcome : List ℕ → Bool → Result Watched LinesFault → Type 0
+IsOutcome text going (Ok watched) = IsWatched text going watched
+IsOutcome text going (Err fault.Read) = Unit {0}
+IsOutcome text going (Err (fault.Line number f)) =
+    (events : List Event) × (before : ℕ) × (rest : List ℕ) × AreTold text before events rest × (before + 1 ≡ number) × (event_text (take_through 10 rest) ≡ Err f)
+IsOutcome text going (Err (fault.Event number f)) =
+    (events : List Event) × (before : ℕ) × (rest : List ℕ) × AreTold text before events rest × (before + 1 ≡ number) × ((e : Event) × (event_text (take_through 10 rest) ≡ Ok e) × ((w : WatchValue) × HasTaken events w × (fault_of w e ≡ Some f)))
+IsOutcome text going (Err fault.TooManyLines) = Unit {0}
+IsOutcome text going (Err fault.Memory) = Unit {0}
+
+-- what a watch says once its events have ended, or where it stops
+pub record IsTold (w : WatchValue) (found : List Found) (watched : Watched) : Type 0 where
+  pub found_is : watched.found.items ≡ found
+  pub counted : (events : List Event) → HasTaken events w → AreCounted events watched.counts
+  pub granules : watched.counts.granules ≡ length w.granules
+  pub unjudged_is : watched.unjudged ≡ unjudged w
+
+-- what is said of the events that a watch took
+pub record SaysAtEnd (w : WatchValue) (ending : Ending) : Type 0 where
+  pub whole : ending.unexplained.items ≡ [] → ending.undecided.items ≡ [] → (events : List Event) → HasTaken events w → IsExplained events
+  pub each : (g : ℕ) (events : List Event) → HasTaken events w → is_known events g ≡ true → CanBeExplained events g ⊎ IsListed g ending.unexplained.items ending.undecided.items
+  pub unexplained : All (λ g. (events : List Event) → HasTaken events w → IsUnexplained events g) ending.unexplained.items
+
+-- After so many lines a watch took their events, of which none is later than this time. These granules were found by them, and these
+-- others became quiet at this time. The rest follows.
+pub record AreTaken (text : List ℕ) (count time : ℕ) (found quiet : List Found) (watch : WatchValue) (rest : List ℕ) : Type 0 where
+  pub events : List Event
+  pub told : AreTold text count events rest
+  pub taken : HasTaken events watch
+  pub times : All (λ e. e.time ≤ time) events
+  pub found_by : All (IsFoundBy text) found
+  pub quiet_by : All (IsSeenBy text) quiet
+
+-- the same of a text that may not be known
+abbrev pub HasTakenLines : Option (List ℕ) → ℕ → ℕ → List Found → List Found → WatchValue → Option (List ℕ) → Type 0
+HasTakenLines None count time found quiet watch rest = Unit {0}
+HasTakenLines (Some text) count time found quiet watch None = ⊥
+HasTakenLines (Some text) count time found quiet watch (Some rest) = AreTaken text count time found quiet watch rest

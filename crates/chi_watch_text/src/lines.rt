@@ -1,0 +1,57 @@
+//! Lines, and the events that they tell.
+
+ghost use Rattle.std.specs.Prelude.{◌≡◌, ◌⊎◌, Ok, Some, IfErr, IfOk, IfSome};
+ghost use Rattle.std.specs.Io.BufRead.{drop_through, take_through};
+ghost use Rattle.chi_event_text.specs.EventText.{event_text};
+ghost use Rattle.chi_watch_text.specs.Reading.{IsRead, IsRefused};
+
+use crate::fault::LinesFault;
+use chi_event_text::{LineFault, read_event};
+use chi_events::Event;
+use std::alloc::Global;
+use std::io::{BufRead, ErrorKind};
+
+/// Reads the next line. At the end it is empty.
+fn next_line<R: BufRead>(from: &mut R, line: &mut Vec<u8>) -> Result<(), LinesFault>
+    ensures line { IfOk result (λ _. IfSome (R.remaining from.old) (λ text. (line.new.items ≡ take_through 10 text) × (R.remaining from.new ≡ Some (drop_through 10 text)))) }
+    ensures fault { IfErr result (λ fault. (fault ≡ LinesFault.Read) ⊎ (fault ≡ LinesFault.Memory)) }
+{
+    line.clear();
+    match from.read_until(b'\n', line) {
+        Ok(_) => Ok(()),
+        Err(fault) => match fault.kind() {
+            ErrorKind::OutOfMemory => Err(LinesFault::Memory),
+            _ => Err(LinesFault::Read),
+        },
+    }
+}
+
+/// The event that the line with this number tells.
+fn event_told(alloc: Global, line: &[u8], number: u64) -> Result<Event, LinesFault>
+    ensures told { IfOk result (λ event. event_text line.now ≡ Ok event) }
+    ensures fault { IfErr result (IsRefused line.now number) }
+{
+    match read_event(alloc, line) {
+        Ok(event) => Ok(event),
+        Err(LineFault::Memory) => Err(LinesFault::Memory),
+        Err(fault) => Err(LinesFault::Line { number, fault }),
+    }
+}
+
+/// Reads the event of the next line, which has this number. There is none at the end.
+pub(crate) fn next_event<R: BufRead>(
+    alloc: Global,
+    from: &mut R,
+    line: &mut Vec<u8>,
+    number: u64,
+) -> Result<Option<Event>, LinesFault>
+    ensures told { IfOk result (λ event. IfSome (R.remaining from.old) (λ text. IsRead text event (R.remaining from.new))) }
+    ensures fault { IfErr result (λ fault. IfSome (R.remaining from.old) (λ text. IsRefused (take_through 10 text) number fault)) }
+{
+    next_line(from, line)?;
+    if line.is_empty() {
+        return Ok(None);
+    }
+    let event = event_told(alloc, line, number)?;
+    Ok(Some(event))
+}

@@ -1,0 +1,82 @@
+//! What is found of events that are read line by line.
+
+ghost use Rattle.std.specs.Prelude.{◌≡◌, IfOk};
+ghost use Rattle.chi_watch_text.specs.Found.{is_found, verdict_of, with_found};
+
+use chi_watch::{Counts, Ending};
+use std::alloc::AllocError;
+
+/// A granule that no order explains, by its number, and the line by which its last outstanding request had gone, counted from 1.
+#[derive(Clone, Copy, Debug, PartialEq, Eq)]
+pub struct Found {
+    pub granule: u64,
+    pub line: u64,
+}
+
+/// What is found of events that are read line by line: granules that no order explains, each with the line by which that was first
+/// seen; what is said where the events end, or nothing where it stopped at the line of the last granule found; and how much was
+/// told. `unjudged` is of how many granules that were told of nothing is said.
+#[derive(Debug, PartialEq, Eq, Drop)]
+pub struct Watched {
+    pub found: Vec<Found>,
+    pub ending: Option<Ending>,
+    pub counts: Counts,
+    pub unjudged: u64,
+}
+
+/// Whether all that was watched is explained.
+///
+/// - `Explained`: some order explains it.
+/// - `Unexplained`: of a granule at least none does.
+/// - `Undecided`: neither was found.
+#[derive(Clone, Copy, Debug, PartialEq, Eq)]
+pub enum WatchVerdict {
+    Explained,
+    Unexplained,
+    Undecided,
+}
+
+impl Watched {
+    /// Whether all that was watched is explained.
+    ///
+    /// ```
+    /// let is_right = watched.verdict() == WatchVerdict::Explained;
+    /// ```
+    pub fn verdict(&self) -> WatchVerdict
+        ensures { result ≡ verdict_of self.now }
+    {
+        if self.found.len() > 0 {
+            return WatchVerdict::Unexplained;
+        }
+        match &self.ending {
+            None => WatchVerdict::Explained,
+            Some(ending) => {
+                if ending.unexplained.len() > 0 {
+                    WatchVerdict::Unexplained
+                } else if ending.undecided.len() > 0 {
+                    WatchVerdict::Undecided
+                } else {
+                    WatchVerdict::Explained
+                }
+            }
+        }
+    }
+}
+
+/// Whether a granule was found.
+pub(crate) fn is_found(found: &[Found], granule: u64) -> bool
+    ensures { result ≡ is_found granule found.now }
+{
+    found.iter().any(|it| it.granule == granule)
+}
+
+/// Notes a granule that is found, where it was not found before.
+pub(crate) fn note_found(found: &mut Vec<Found>, it: Found) -> Result<(), AllocError>
+    ensures { IfOk result (λ _. found.new.items ≡ with_found it found.old.items) }
+{
+    if is_found(found, it.granule) {
+        return Ok(());
+    }
+    found.push(it)?;
+    Ok(())
+}

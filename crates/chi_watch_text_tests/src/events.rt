@@ -1,0 +1,90 @@
+//! Texts of events, and what is found by their lines.
+
+use chi_search::NoProgress;
+use chi_watch_text::{LinesFault, WatchOptions, Watched, watch_lines, watched_text};
+use std::alloc::{AllocError, Global};
+use std::test::Fail;
+
+// A write of 5 to address 4096, and its completion.
+pub(crate) const WRITE: &str =
+    "{\"time\":1,\"event\":\"request\",\"id\":1,\"src\":0,\"txn\":1,\"op\":28,\"size\":3,\"addr\":4096,\"endian\":0,\"be\":255,\"lanes\":\"05000000000000000000000000000000\"}
+{\"time\":2,\"event\":\"reply\",\"id\":1,\"reply\":\"comp\"}
+";
+
+// A read of it, without its completion.
+pub(crate) const READ: &str =
+    "{\"time\":3,\"event\":\"request\",\"id\":2,\"src\":0,\"txn\":2,\"op\":4,\"size\":3,\"addr\":4096,\"endian\":0}
+";
+
+// The completion that tells 5, and the one that tells 0, which has no line feed.
+pub(crate) const FIVE: &str =
+    "{\"time\":4,\"event\":\"reply\",\"id\":2,\"reply\":\"05000000000000000000000000000000\"}
+";
+
+pub(crate) const ZERO: &str =
+    "{\"time\":4,\"event\":\"reply\",\"id\":2,\"reply\":\"00000000000000000000000000000000\"}";
+
+// A write of 5 to address 4096 that is taken at time 4.
+pub(crate) const WRITE_AT_FOUR: &str =
+    "{\"time\":4,\"event\":\"request\",\"id\":1,\"src\":0,\"txn\":1,\"op\":28,\"size\":3,\"addr\":4096,\"endian\":0,\"be\":255,\"lanes\":\"05000000000000000000000000000000\"}
+{\"time\":5,\"event\":\"reply\",\"id\":1,\"reply\":\"comp\"}
+";
+
+// A read of address 4104 that tells 9, and then one of 4096 that tells 5.
+pub(crate) const NINE_AND_FIVE: &str =
+    "{\"time\":5,\"event\":\"request\",\"id\":3,\"src\":0,\"txn\":3,\"op\":4,\"size\":3,\"addr\":4104,\"endian\":0}
+{\"time\":6,\"event\":\"reply\",\"id\":3,\"reply\":\"00000000000000000900000000000000\"}
+{\"time\":7,\"event\":\"request\",\"id\":4,\"src\":0,\"txn\":4,\"op\":4,\"size\":3,\"addr\":4096,\"endian\":0}
+{\"time\":8,\"event\":\"reply\",\"id\":4,\"reply\":\"05000000000000000000000000000000\"}
+";
+
+// That the word at address 4112 is 8 at the end, of which nothing else is told.
+pub(crate) const LAST: &str =
+    "{\"time\":9,\"event\":\"word\",\"addr\":4112,\"bytes\":\"0800000000000000\",\"final\":true}
+";
+
+// That something which is not told may have written to address 4120.
+pub(crate) const UNKNOWN: &str = "{\"time\":10,\"event\":\"unknown\",\"addr\":4120,\"length\":8}
+";
+
+/// The texts one after the other.
+pub(crate) fn joined(alloc: Global, texts: &[&str]) -> Result<Vec<u8>, AllocError> {
+    let mut all = Vec::new(alloc);
+    for text in texts {
+        all.extend_from_slice(text.as_bytes())?;
+    }
+    Ok(all)
+}
+
+/// What is found of texts one after the other.
+pub(crate) fn watched(
+    alloc: Global,
+    texts: &[&str],
+    options: &WatchOptions,
+) -> Result<Watched, LinesFault> {
+    let all = joined(alloc, texts)?;
+    let mut from = all.as_slice();
+    watch_lines(alloc, &mut from, options, &mut NoProgress)
+}
+
+/// The text of it.
+pub(crate) fn answer(
+    alloc: Global,
+    texts: &[&str],
+    options: &WatchOptions,
+) -> Result<String, Fail> {
+    let watched = watched(alloc, texts, options)?;
+    let text = watched_text(alloc, &watched, options.budget)?;
+    Ok(String::from_utf8(text)?)
+}
+
+/// It stops at the first line by which a granule is found, or it keeps going.
+pub(crate) const STOPPING: WatchOptions = WatchOptions {
+    budget: 1_000_000,
+    keep_going: false,
+};
+
+pub(crate) const GOING: WatchOptions = WatchOptions {
+    budget: 1_000_000,
+    keep_going: true,
+};

@@ -1,0 +1,144 @@
+//! The texts of what is found.
+
+use crate::comparison::assert_same;
+use crate::events::{
+    FIVE, GOING, LAST, NINE_AND_FIVE, READ, STOPPING, UNKNOWN, WRITE, ZERO, answer,
+};
+use chi_watch::{Counts, Ending};
+use chi_watch_text::{Found, WatchOptions, Watched, watched_text};
+use std::test::Fail;
+
+#[test]
+fn what_is_explained(rt: HostRuntime) -> Result<(), Fail> {
+    let text = answer(rt.alloc(), &[WRITE, READ, FIVE], &STOPPING)?;
+    assert_same(
+        &rt,
+        text.as_str(),
+        "explained
+  operations that ended: 2
+  requests outstanding: 0
+  granules: 1
+  granules not judged: 0
+",
+    );
+    Ok(())
+}
+
+#[test]
+fn what_is_outstanding_or_not_judged(rt: HostRuntime) -> Result<(), Fail> {
+    let text = answer(rt.alloc(), &[WRITE, READ, UNKNOWN], &STOPPING)?;
+    assert_same(
+        &rt,
+        text.as_str(),
+        "explained
+  operations that ended: 1
+  requests outstanding: 1
+  granules: 2
+  granules not judged: 1
+",
+    );
+    Ok(())
+}
+
+#[test]
+fn where_it_stops_at_a_line(rt: HostRuntime) -> Result<(), Fail> {
+    let texts = [WRITE, READ, ZERO, "\n", NINE_AND_FIVE, LAST];
+    let text = answer(rt.alloc(), &texts, &STOPPING)?;
+    assert_same(
+        &rt,
+        text.as_str(),
+        "not explained: granule 0000000000001000
+  at line 4
+  operations that ended: 2
+  requests outstanding: 0
+  granules: 1
+  granules not judged: 0
+",
+    );
+    Ok(())
+}
+
+#[test]
+fn where_it_keeps_going(rt: HostRuntime) -> Result<(), Fail> {
+    let texts = [WRITE, READ, ZERO, "\n", NINE_AND_FIVE, LAST];
+    let text = answer(rt.alloc(), &texts, &GOING)?;
+    assert_same(
+        &rt,
+        text.as_str(),
+        "not explained: granule 0000000000001000
+  at line 4
+not explained: granule 0000000000001008
+  at line 6
+not explained: granule 0000000000001010
+  at the end
+  operations that ended: 4
+  requests outstanding: 0
+  granules: 3
+  granules not judged: 0
+",
+    );
+    Ok(())
+}
+
+// Within a budget of no states a granule that has an operation is not decided, and one with words alone is.
+#[test]
+fn no_budget(rt: HostRuntime) -> Result<(), Fail> {
+    let options = WatchOptions {
+        budget: 0,
+        keep_going: true,
+    };
+    let text = answer(rt.alloc(), &[WRITE, LAST], &options)?;
+    assert_same(
+        &rt,
+        text.as_str(),
+        "not explained: granule 0000000000001010
+  at the end
+undecided: granule 0000000000001000 after 0 states
+  operations that ended: 1
+  requests outstanding: 0
+  granules: 2
+  granules not judged: 0
+",
+    );
+    Ok(())
+}
+
+// A granule that was found by a line is not told of at the end. The address of the granule 2^52 / 8 - 1 is 2^52 - 8.
+#[test]
+fn all_there_is_to_tell(rt: HostRuntime) -> Result<(), Fail> {
+    let found = Found {
+        granule: 513,
+        line: 18446744073709551614,
+    };
+    let ending = Ending {
+        unexplained: vec![in rt.alloc(); 0, 513]?,
+        undecided: vec![in rt.alloc(); 512, 562949953421311]?,
+    };
+    let watched = Watched {
+        found: vec![in rt.alloc(); found]?,
+        ending: Some(ending),
+        counts: Counts {
+            ended: 1000,
+            outstanding: 20,
+            granules: 300,
+        },
+        unjudged: 4,
+    };
+    let text = String::from_utf8(watched_text(rt.alloc(), &watched, 70)?)?;
+    assert_same(
+        &rt,
+        text.as_str(),
+        "not explained: granule 0000000000001008
+  at line 18446744073709551614
+not explained: granule 0000000000000000
+  at the end
+undecided: granule 0000000000001000 after 70 states
+undecided: granule 000ffffffffffff8 after 70 states
+  operations that ended: 1000
+  requests outstanding: 20
+  granules: 300
+  granules not judged: 4
+",
+    );
+    Ok(())
+}
