@@ -70,9 +70,7 @@ subcommand_is (Some b) name found is_named has =
 -- the subcommand that the arguments name, and its options
 pub subcommand_found : (app : App) (arguments : List Text) (matches : ArgMatches) (name : Text) (found : List Row) → app ≡ program_app
     → is_simple_and_free app ≡ true → HasMatchesOf app arguments matches
-    → Some name ≡ subcommand_name_of matches → Some found ≡ option_map (λ p. p.1) (subcommand_rows_of matches) → Finds arguments found
-subcommand_found app arguments matches name found is simple has is_named finds = (
-  name,
-  sym (ap (λ (a : App). subcommand_of a arguments) is) ∙ (sym (has (both _ _ simple).0).1
-      ∙ subcommand_is (out-ArgMatches matches).subcommand name found is_named finds),
-)
+    → Some name ≡ subcommand_name_of matches → Some found ≡ option_map (λ p. p.1) (subcommand_rows_of matches) → Finds arguments name found
+subcommand_found app arguments matches name found is simple has is_named finds =
+    sym (ap (λ (a : App). subcommand_of a arguments) is) ∙ (sym (has (both _ _ simple).0).1
+    ∙ subcommand_is (out-ArgMatches matches).subcommand name found is_named finds)

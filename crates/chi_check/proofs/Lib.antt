@@ -1,3 +1,4 @@
 pub mod CheckLemmas
 pub mod ChosenLemmas
 pub mod CommandLemmas
+mod WatchLemmas

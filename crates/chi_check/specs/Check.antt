@@ -10,7 +10,7 @@ use Rattle.chi_answer.specs.Answers.{IfUndecided, IsAnswer}
 use Rattle.chi_answer.specs.Texts.{IsText}
 use Rattle.chi_check.specs.CheckStatus.{answer_status}
 use Rattle.chi_check.specs.declared.fault.CheckFault.{CheckFault}
-use Rattle.chi_check.specs.declared.fault.CheckFault.TheVariants.{Read, TooLong, Memory, Trace, Write}
+use Rattle.chi_check.specs.declared.fault.CheckFault.TheVariants.{Read, TooLong, Memory, Trace, Events, Write}
 use Rattle.chi_check.specs.declared.options.CheckOptions.{CheckOptions}
 
 -- the greatest number of bytes of a trace
@@ -45,6 +45,7 @@ Outcome options input old new (Err Read) = Unit {0}
 Outcome options input old new (Err TooLong) = most_bytes < length input
 Outcome options input old new (Err Memory) = Unit {0}
 Outcome options input old new (Err (Trace fault)) = fault ≢ trace_fault.Memory → trace_text input ≡ Err fault
+Outcome options input old new (Err (Events fault)) = ⊥
 Outcome options input old new (Err (Write fault)) = (answer : Answer) × (text : List ℕ) × Answers options input answer text × AppendsFront old new text
 
 -- nothing is written where no answer was found

@@ -7,20 +7,29 @@ use Rattle.chi_answer.specs.declared.answer.Answer.{Answer}
 use Rattle.chi_answer.specs.declared.answer.Answer.TheVariants.{Explained, Blamed, Unexplained, Undecided}
 use Rattle.chi_reading.specs.declared.fault.TraceFault.{TraceFault}
 use Rattle.chi_reading.specs.declared.fault.TraceFault.TheVariants as trace_fault
+use Rattle.chi_watch_text.specs.declared.fault.LinesFault.{LinesFault}
+use Rattle.chi_watch_text.specs.declared.fault.LinesFault.TheVariants as lines_fault
 use Rattle.chi_check.specs.declared.fault.CheckFault.{CheckFault}
-use Rattle.chi_check.specs.declared.fault.CheckFault.TheVariants.{Read, TooLong, Memory, Trace, Write}
+use Rattle.chi_check.specs.declared.fault.CheckFault.TheVariants.{Read, TooLong, Memory, Trace, Events, Write}
 
 -- a trace that is refused, or for which there is no memory
 abbrev pub trace_status : TraceFault → ℕ
 trace_status trace_fault.Memory = 4
 trace_status _ = 3
 
--- 3 where the trace is refused, 4 out of memory, 5 where a device failed
+-- a line of events that is refused, or out of memory, or a read that failed
+abbrev pub lines_status : LinesFault → ℕ
+lines_status lines_fault.Read = 5
+lines_status lines_fault.Memory = 4
+lines_status _ = 3
+
+-- 3 where the trace or an event is refused, 4 out of memory, 5 where a device failed
 abbrev pub status_of : CheckFault → ℕ
 status_of Read = 5
 status_of TooLong = 3
 status_of Memory = 4
 status_of (Trace fault) = trace_status fault
+status_of (Events fault) = lines_status fault
 status_of (Write fault) = 5
 
 -- 0 where the trace is explained, 1 where it is not, 6 where that is undecided

@@ -1,12 +1,13 @@
--- which options the arguments name
-use Rattle.std.specs.Prelude.{◌≡◌, ℕ, Bool, false, List, Option, Some, None, Result, codes}
+-- which task the arguments name, and with which options
+use Rattle.std.specs.Prelude.{◌≡◌, ℕ, Bool, true, false, ◌∷◌, List, Option, Some, None, Result, codes}
 use Rattle.std.specs.Option.{option_map_or}
 use Rattle.std.specs.Result.{result_ok, result_unwrap_or}
 use Rattle.std.specs.Str.{bytes_eq}
 use Rattle.std.specs.Str.Parse.{ParsesUnsigned}
 use Rattle.clap.specs.Walk.{Row, Text, first_of, one_of}
 use Rattle.clap.specs.Simple.{subcommand_of}
-use Rattle.chi_check.specs.declared.options.CheckOptions.{CheckOptions}
+use Rattle.chi_check.specs.declared.command.Task.{Task}
+use Rattle.chi_check.specs.declared.command.Task.TheVariants.{Explain, Watch}
 use Rattle.chi_check.specs.CommandLine.{program_app}
 
 -- what was found has this word as the value of an option
@@ -31,12 +32,39 @@ IsNumberOrNone (Some text) time = (read : Result ℕ (Unit {0})) × ParsesUnsign
 abbrev pub IsUntil : List Row → Option ℕ → Type 0
 IsUntil found time = IsNumberOrNone (one_of (codes "until") found) time
 
--- in these arguments `clap` finds a subcommand, and this of its options, by use or by default
-abbrev pub Finds : List Text → List Row → Type 0
-Finds arguments found = (name : Text) × (subcommand_of program_app arguments ≡ Some (name, found))
+-- in these arguments `clap` finds the subcommand of this name, and this of its options, by use or by default
+abbrev pub Finds : List Text → Text → List Row → Type 0
+Finds arguments name found = subcommand_of program_app arguments ≡ Some (name, found)
 
--- the arguments name these options: those of what `clap` finds in them
-abbrev pub Chooses : List Text → CheckOptions → Type 0
-Chooses arguments options =
-    (found : List Row) × Finds arguments found × (options.witness ≡ has_word found (codes "witness") (codes "true")) × IsBudget found options.budget
-    × IsUntil found options.until
+-- the name `watch` is that of the watch, and any other that of the explaining
+abbrev pub IsNamed : Text → Task → Type 0
+IsNamed name (Explain options) = bytes_eq name (codes "watch") ≡ false
+IsNamed name (Watch options) = bytes_eq name (codes "watch") ≡ true
+
+-- the task has the options that were found
+abbrev pub HasOptions : List Row → Task → Type 0
+HasOptions found (Explain options) =
+    (options.witness ≡ has_word found (codes "witness") (codes "true")) × IsBudget found options.budget × IsUntil found options.until
+HasOptions found (Watch options) = (options.keep_going ≡ has_word found (codes "keep-going") (codes "true")) × IsBudget found options.budget
+
+-- the arguments name this task with these options: those of what `clap` finds in them
+abbrev pub Chooses : List Text → Task → Type 0
+Chooses arguments task = (name : Text) × (found : List Row) × Finds arguments name found × IsNamed name task × HasOptions found task
+
+-- the first argument is this word
+abbrev pub BeginsWith : List Text → Text → Type 0
+BeginsWith arguments word = (rest : List Text) × (arguments ≡ word ∷ rest)
+
+-- the task is `explain`, whatever its options
+abbrev pub IsExplain : Task → Type 0
+IsExplain (Explain options) = Unit {0}
+IsExplain (Watch options) = ⊥
+
+-- the task is `watch`, whatever its options
+abbrev pub IsWatch : Task → Type 0
+IsWatch (Explain options) = ⊥
+IsWatch (Watch options) = Unit {0}
+
+-- a first argument that is a task's name names the task
+abbrev pub IsNamedFirst : List Text → Task → Type 0
+IsNamedFirst arguments task = (BeginsWith arguments (codes "explain") → IsExplain task) × (BeginsWith arguments (codes "watch") → IsWatch task)

@@ -22,22 +22,30 @@ switch_rule name = record (new_rule name) { long = Some name; action = Some SetT
 abbrev pub is_word : ValueParser
 is_word = value_parser.Unsigned 0 (2 ^ 64 - 1)
 
--- the task `explain`: its witness may be asked for, and its time and its budget are whole numbers below 2^64
-abbrev pub task_app : App
-task_app = with_rule (with_rule (with_rule (new_app (codes "explain")) (switch_rule (codes "witness"))) (option_rule (codes "until") is_word []))
-    (option_rule (codes "budget") is_word (codes "1000000" ∷ []))
+-- the budget of both tasks is a whole number below 2^64, and 1,000,000 by default
+abbrev pub budget_rule : Rule
+budget_rule = option_rule (codes "budget") is_word (codes "1000000" ∷ [])
 
--- the program: it wants its task, has a version, and its name is not among its arguments
+-- the task `explain`: its witness may be asked for, its time is a whole number below 2^64, and it has a budget
+abbrev pub explain_app : App
+explain_app = with_rule (with_rule (with_rule (new_app (codes "explain")) (switch_rule (codes "witness"))) (option_rule (codes "until") is_word [])) budget_rule
+
+-- the task `watch`: it has a budget, and may be asked to keep going
+abbrev pub watch_app : App
+watch_app = with_rule (with_rule (new_app (codes "watch")) budget_rule) (switch_rule (codes "keep-going"))
+
+-- the program: it wants a task, has a version, and its name is not among its arguments
 abbrev pub bare_app : App
 bare_app = on_top (λ s. record s { no_binary_name = true; has_version = true; subcommand_required = true }) (new_app (codes "chicheck"))
 
+-- with its tasks `explain` and `watch`
 abbrev pub program_app : App
-program_app = with_subcommand bare_app task_app.top
+program_app = with_subcommand (with_subcommand bare_app explain_app.top) watch_app.top
 
 -- why the arguments name no task: there is no memory, or `clap` finds this fault in them or is asked for help
 abbrev pub IsArgumentsFault : List Text → ErrorKind → Type 0
 IsArgumentsFault arguments kind = (kind ≡ error_kind.OutOfMemory) ⊎ IsAmong kind (fault_of program_app arguments)
 
--- the arguments name the task: `clap` finds no fault in them
+-- the arguments name a task: `clap` finds no fault in them
 abbrev pub IsTaken : List Text → Type 0
 IsTaken arguments = fault_of program_app arguments ≡ []

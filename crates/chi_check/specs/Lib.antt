@@ -3,3 +3,4 @@ pub mod CheckStatus
 pub mod Chosen
 pub mod CommandLine
 pub mod ProgramOutcome
+pub mod Watch

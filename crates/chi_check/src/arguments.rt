@@ -2,15 +2,15 @@
 
 ghost use Rattle.std.specs.Prelude.{◌≡◌, map, string_bytes, IfOk, IfSome};
 ghost use Rattle.clap.specs.Values.{kind_of};
-ghost use Rattle.chi_check.specs.Check.{KeepsUnanswered, Outcome};
+ghost use Rattle.chi_check.specs.Check.{KeepsUnanswered};
 ghost use Rattle.chi_check.specs.CheckStatus.{IsAnswerStatus, IsStatus, IsStatusOfArguments, KeepsButForHelp, status_of};
-ghost use Rattle.chi_check.specs.ProgramOutcome.{Ends, ProgramOutcome};
+ghost use Rattle.chi_check.specs.ProgramOutcome.{Ends, ProgramOutcome, TaskOutcome};
 
 use crate::check::check;
-use crate::command::options_of;
+use crate::command::{Task, task_of};
 use crate::fault::{CheckFault, status_of};
-use crate::options::CheckOptions;
 use crate::progress_line::ShownProgress;
+use crate::watch::watch;
 use chi_script::WriteFault;
 use clap::Error;
 use clap::error::ErrorKind;
@@ -20,19 +20,37 @@ use std::io::{Read, Write};
 /// The status where the command line is refused.
 pub(crate) const REFUSED: u8 = 2;
 
-// Checks a trace, and flushes what was written. A fault of the flush is one of the writer.
-fn run_check<R: Read, W: Write, P: ShownProgress>(
+// Does a task with its input.
+fn do_task<R: Read, W: Write, P: ShownProgress>(
     alloc: Global,
-    options: &CheckOptions,
+    task: &Task,
     from: &mut R,
     to: &mut W,
     progress: &mut P,
 ) -> Result<u8, CheckFault>
-    ensures outcome { IfSome (R.remaining from.old) (λ input. Outcome options.now input (W.contents to.old) (W.contents to.new) result) }
+    ensures outcome { IfSome (R.remaining from.old) (λ input. TaskOutcome task.now input (W.contents to.old) (W.contents to.new) result) }
     ensures unanswered { KeepsUnanswered (W.contents to.old) (W.contents to.new) result }
     ensures status { IfOk result IsAnswerStatus }
 {
-    let status = check(alloc, from, to, options, progress)?;
+    match task {
+        Task::Explain(options) => check(alloc, from, to, options, progress),
+        Task::Watch(options) => watch(alloc, from, to, options, progress),
+    }
+}
+
+// Does a task with its input, and flushes what was written. A fault of the flush is one of the writer.
+fn run_task<R: Read, W: Write, P: ShownProgress>(
+    alloc: Global,
+    task: &Task,
+    from: &mut R,
+    to: &mut W,
+    progress: &mut P,
+) -> Result<u8, CheckFault>
+    ensures outcome { IfSome (R.remaining from.old) (λ input. TaskOutcome task.now input (W.contents to.old) (W.contents to.new) result) }
+    ensures unanswered { KeepsUnanswered (W.contents to.old) (W.contents to.new) result }
+    ensures status { IfOk result IsAnswerStatus }
+{
+    let status = do_task(alloc, task, from, to, progress)?;
     match to.flush() {
         Ok(()) => Ok(status),
         Err(_) => Err(CheckFault::Write(WriteFault::Failed)),
@@ -47,19 +65,19 @@ pub(crate) fn report_fault<E: Write>(fault: &CheckFault, errors: &mut E) -> u8
     status_of(fault)
 }
 
-// Checks a trace, and reports its fault.
-fn end_check<R: Read, W: Write, E: Write, P: ShownProgress>(
+// Does a task with its input, and reports its fault.
+fn end_task<R: Read, W: Write, E: Write, P: ShownProgress>(
     alloc: Global,
-    options: &CheckOptions,
+    task: &Task,
     from: &mut R,
     to: &mut W,
     errors: &mut E,
     progress: &mut P,
 ) -> u8
-    ensures ends { Ends options.now (R.remaining from.old) (W.contents to.old) (W.contents to.new) result }
+    ensures ends { Ends task.now (R.remaining from.old) (W.contents to.old) (W.contents to.new) result }
     ensures status { IsStatus result }
 {
-    match run_check(alloc, options, from, to, progress) {
+    match run_task(alloc, task, from, to, progress) {
         Ok(status) => status,
         Err(fault) => report_fault(&fault, errors),
     }
@@ -83,8 +101,8 @@ fn report_arguments<W: Write, E: Write>(error: &Error, to: &mut W, errors: &mut 
     }
 }
 
-/// The program: reads the arguments after its name, checks the trace from `from` as they say, and writes the answer to
-/// `to`. A fault is reported to `errors`, whose own faults are ignored, and `progress` is told how far the search is. The
+/// The program: reads the arguments after its name, does the task that they name with what `from` gives, and writes the
+/// answer to `to`. A fault is reported to `errors`, whose own faults are ignored, and `progress` is told how far the search is. The
 /// answer is the status to end with.
 ///
 /// ```
@@ -101,8 +119,8 @@ pub fn run_arguments<R: Read, W: Write, E: Write, P: ShownProgress>(
     ensures outcome { ProgramOutcome (map string_bytes arguments.now) (R.remaining from.old) (W.contents to.old) (W.contents to.new) result }
     ensures status { IsStatus result }
 {
-    match options_of(alloc, arguments) {
-        Ok(options) => end_check(alloc, &options, from, to, errors, progress),
+    match task_of(alloc, arguments) {
+        Ok(task) => end_task(alloc, &task, from, to, errors, progress),
         Err(error) => report_arguments(&error, to, errors),
     }
 }

@@ -1,18 +1,26 @@
 //! The command line.
 
-ghost use Rattle.std.specs.Prelude.{◌≡◌, ◌-◌, ◌^◌, [], ◌∷◌, false, codes, map, string_bytes, IfErr, IfOk};
+ghost use Rattle.std.specs.Prelude.{◌≡◌, ◌-◌, ◌^◌, [], false, codes, map, string_bytes, IfErr, IfOk};
 ghost use Rattle.clap.specs.Matches.{found_of};
 ghost use Rattle.clap.specs.Simple.{app_of};
 ghost use Rattle.clap.specs.Values.{kind_of};
 ghost use Rattle.clap.specs.Walk.{rows_of, rule_of};
 ghost use Rattle.clap.specs.declared.builder.value_parser.ValueParser.TheVariants as value_parser;
-ghost use Rattle.chi_check.specs.Chosen.{Chooses, IsBudget, IsUntil, has_word};
-ghost use Rattle.chi_check.specs.CommandLine.{IsArgumentsFault, IsTaken, option_rule, program_app, switch_rule, task_app};
+ghost use Rattle.chi_check.specs.Chosen.{Chooses, HasOptions, IsBudget, IsNamed, IsNamedFirst, IsUntil, has_word};
+ghost use Rattle.chi_check.specs.CommandLine.{IsArgumentsFault, IsTaken, budget_rule, explain_app, option_rule, program_app, switch_rule, watch_app};
 
 use crate::options::CheckOptions;
+use chi_watch_text::WatchOptions;
 use clap::error::ErrorKind;
 use clap::{Arg, ArgAction, ArgMatches, Command, Error, value_parser};
 use std::alloc::Global;
+
+/// What is done with the input: it is a trace to be explained, or it tells events to be watched.
+#[derive(Clone, Copy)]
+pub enum Task {
+    Explain(CheckOptions),
+    Watch(WatchOptions),
+}
 
 // What `--version` prints after the program's name.
 const VERSION: &str = "0.1.0";
@@ -31,17 +39,23 @@ with where, or `undecided`.
     \"start\":10,\"end\":20,\"reply\":\"00000000000000000000000000000000\"}]}' | chicheck explain
   explained
 
-Statuses: 0 explained; 1 not explained; 2 command line refused; 3 trace refused; 4 no memory;
-5 a read or a write failed; 6 undecided.";
+Events on standard input are one JSON object a line: requests, their data and their replies, as
+a monitor tells them. `watch` reads them as they come (docs/EVENTS.md).
+
+Statuses: 0 explained; 1 not explained; 2 command line refused; 3 trace or event refused; 4 no
+memory; 5 a read or a write failed; 6 undecided.";
 
 const EXPLAIN_ABOUT: &str = "Looks for an order of the operations that is a legal history";
+
+const WATCH_ABOUT: &str =
+    "Judges events as they come, and stops at the first that cannot be explained";
 
 // How many states of each granule are looked at where no number is given.
 const BUDGET: u64 = 1_000_000;
 
 // The option that takes the number of states.
 fn budget_option<'a>(alloc: Global) -> Arg<'a>
-    ensures rule { rule_of result ≡ option_rule (codes "budget") (value_parser.Unsigned 0 (2 ^ 64 - 1)) (codes "1000000" ∷ []) }
+    ensures rule { rule_of result ≡ budget_rule }
     ensures local { result.global ≡ false }
 {
     Arg::new(alloc, "budget")
@@ -75,9 +89,20 @@ fn witness_option<'a>(alloc: Global) -> Arg<'a>
         .help("Writes the operations in the order found, and the memory after them")
 }
 
+// The option that asks for more than the first granule.
+fn keep_going_option<'a>(alloc: Global) -> Arg<'a>
+    ensures rule { rule_of result ≡ switch_rule (codes "keep-going") }
+    ensures local { result.global ≡ false }
+{
+    Arg::new(alloc, "keep-going")
+        .long("keep-going")
+        .action(ArgAction::SetTrue)
+        .help("Goes on after a granule that cannot be explained, and lists them all")
+}
+
 // The task `explain`.
 fn explain_command<'a>(alloc: Global) -> Result<Command<'a>, Error>
-    ensures app { IfOk result (λ command. app_of command ≡ task_app) }
+    ensures app { IfOk result (λ command. app_of command ≡ explain_app) }
     ensures memory { IfErr result (λ error. kind_of error ≡ ErrorKind.OutOfMemory) }
 {
     Ok(
@@ -86,6 +111,19 @@ fn explain_command<'a>(alloc: Global) -> Result<Command<'a>, Error>
             .arg(witness_option(alloc))?
             .arg(until_option(alloc))?
             .arg(budget_option(alloc))?,
+    )
+}
+
+// The task `watch`.
+fn watch_command<'a>(alloc: Global) -> Result<Command<'a>, Error>
+    ensures app { IfOk result (λ command. app_of command ≡ watch_app) }
+    ensures memory { IfErr result (λ error. kind_of error ≡ ErrorKind.OutOfMemory) }
+{
+    Ok(
+        Command::new(alloc, "watch")
+            .about(WATCH_ABOUT)
+            .arg(budget_option(alloc))?
+            .arg(keep_going_option(alloc))?,
     )
 }
 
@@ -101,7 +139,8 @@ fn whole_command<'a>(alloc: Global) -> Result<Command<'a>, Error>
             .version(VERSION)
             .after_help(MORE)
             .subcommand_required(true)
-            .subcommand(explain_command(alloc)?)?,
+            .subcommand(explain_command(alloc)?)?
+            .subcommand(watch_command(alloc)?)?,
     )
 }
 
@@ -129,8 +168,8 @@ fn chosen_time(chosen: &ArgMatches<'_>) -> Option<u64>
     chosen.get_one::<u64>("until")
 }
 
-// The options that the task was given, or that stand in for them.
-fn chosen_options(chosen: &ArgMatches<'_>) -> CheckOptions
+// The options that `explain` was given, or that stand in for them.
+fn explain_options(chosen: &ArgMatches<'_>) -> CheckOptions
     ensures witness { result.witness ≡ has_word (rows_of (found_of chosen.now)) (codes "witness") (codes "true") }
     ensures budget { IsBudget (rows_of (found_of chosen.now)) result.budget }
     ensures until { IsUntil (rows_of (found_of chosen.now)) result.until }
@@ -142,22 +181,46 @@ fn chosen_options(chosen: &ArgMatches<'_>) -> CheckOptions
     }
 }
 
-/// Reads the arguments after the program's name: `explain`, and its options.
+// The options that `watch` was given, or that stand in for them.
+fn watch_options(chosen: &ArgMatches<'_>) -> WatchOptions
+    ensures budget { IsBudget (rows_of (found_of chosen.now)) result.budget }
+    ensures keep_going { result.keep_going ≡ has_word (rows_of (found_of chosen.now)) (codes "keep-going") (codes "true") }
+{
+    WatchOptions {
+        budget: chosen_budget(chosen),
+        keep_going: has_word(chosen, "keep-going", "true"),
+    }
+}
+
+// The task of this name, with its options.
+fn chosen_task(name: &str, chosen: &ArgMatches<'_>) -> Task
+    ensures named { IsNamed name.now result }
+    ensures options { HasOptions (rows_of (found_of chosen.now)) result }
+{
+    if name == "watch" {
+        Task::Watch(watch_options(chosen))
+    } else {
+        Task::Explain(explain_options(chosen))
+    }
+}
+
+/// Reads the arguments after the program's name: `explain` or `watch`, and its options.
 ///
-/// Which arguments are refused, and as what, and which options the others name, `clap`'s definitions say of the
+/// Which arguments are refused, and as what, and which task and options the others name, `clap`'s definitions say of the
 /// program's command line. That `clap` refuses a budget or a time that is no number no contract says; `.ci/checker` shows it.
 ///
 /// ```
-/// let options = options_of(alloc, &arguments)?; // explain --witness --budget 1000 --until 4711
+/// let task = task_of(alloc, &arguments)?; // explain --witness --budget 1000 --until 4711
 /// ```
-pub fn options_of(alloc: Global, arguments: &[String]) -> Result<CheckOptions, Error>
-    ensures chosen { IfOk result (λ options. Chooses (map string_bytes arguments.now) options) }
+pub fn task_of(alloc: Global, arguments: &[String]) -> Result<Task, Error>
+    ensures chosen { IfOk result (λ task. Chooses (map string_bytes arguments.now) task) }
+    ensures first { IfOk result (λ task. IsNamedFirst (map string_bytes arguments.now) task) }
     ensures taken { IfOk result (λ _. IsTaken (map string_bytes arguments.now)) }
     ensures refused { IfErr result (λ error. IsArgumentsFault (map string_bytes arguments.now) (kind_of error)) }
 {
     let matches = whole_command(alloc)?.try_get_matches_from(arguments)?;
-    let Some((_, chosen)) = matches.subcommand() else {
+    let Some((name, chosen)) = matches.subcommand() else {
         unreachable!()
     };
-    Ok(chosen_options(chosen))
+    Ok(chosen_task(name, chosen))
 }

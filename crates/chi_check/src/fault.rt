@@ -5,6 +5,7 @@ ghost use Rattle.chi_check.specs.CheckStatus.{status_of};
 
 use chi_reading::TraceFault;
 use chi_script::WriteFault;
+use chi_watch_text::LinesFault;
 use thiserror::Error;
 
 /// Why no whole answer was written.
@@ -12,7 +13,8 @@ use thiserror::Error;
 /// - `Read`: the reader answered a fault, which may also be that it was interrupted.
 /// - `TooLong`: the input has more than 536,870,912 bytes.
 /// - `Memory`: no memory for the input, for the search or for the answer.
-/// - `Trace`: the trace was refused. Up to here nothing is written.
+/// - `Trace`: the trace was refused.
+/// - `Events`: a line of events was refused, or not read. Up to here nothing is written.
 /// - `Write`: the answer was not written whole.
 #[derive(Debug, Drop, Error)]
 pub enum CheckFault {
@@ -25,10 +27,12 @@ pub enum CheckFault {
     #[error(transparent)]
     Trace(TraceFault),
     #[error(transparent)]
+    Events(LinesFault),
+    #[error(transparent)]
     Write(WriteFault),
 }
 
-/// The status that the program ends with on this fault: 3 where the trace is refused, 4 out of memory, 5 where a
+/// The status that the program ends with on this fault: 3 where the trace or an event is refused, 4 out of memory, 5 where a
 /// device failed.
 ///
 /// Source: profile.
@@ -41,6 +45,9 @@ pub fn status_of(fault: &CheckFault) -> u8
         CheckFault::Memory => 4,
         CheckFault::Trace(TraceFault::Memory) => 4,
         CheckFault::Trace(_) => 3,
+        CheckFault::Events(LinesFault::Read) => 5,
+        CheckFault::Events(LinesFault::Memory) => 4,
+        CheckFault::Events(_) => 3,
         CheckFault::Write(_) => 5,
     }
 }

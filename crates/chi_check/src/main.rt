@@ -1,4 +1,4 @@
-//! chicheck: whether what was observed at a home node can be explained, from a trace on standard input.
+//! chicheck: whether what was observed at a home node can be explained, from a trace or from events on standard input.
 #![tactic(auto)]
 
 mod arguments;
@@ -7,6 +7,7 @@ mod command;
 mod fault;
 mod options;
 mod progress_line;
+mod watch;
 
 ghost use Rattle.std.specs.Prelude.{◌≡◌, ◌⊎◌};
 

@@ -4,6 +4,8 @@ ghost use Rattle.std.specs.Prelude.{◌≡◌, ℕ, ◌+◌, ◌-◌, ◌^◌, N
 ghost use Rattle.std.specs.Io.KnownBytes.{Keeps};
 
 use chi_search::Progress;
+use chi_watch::Counts;
+use chi_watch_text::WatchProgress;
 use std::io::{IsTerminal, Write};
 use std::time::{Clock, Duration, Instant};
 
@@ -12,11 +14,13 @@ const FIRST: u64 = 1000;
 
 const NEXT: u64 = 100;
 
-// How many states are looked at between two looks at the clock.
+// How many states are looked at, or events are told, between two looks at the clock.
 const STATES: u64 = 4096;
 
+const EVENTS: u64 = 1024;
+
 /// Shows how far a search is, until something else is written.
-pub trait ShownProgress: Progress {
+pub trait ShownProgress: WatchProgress {
     ghost use Rattle.std.specs.Prelude.{ℕ};
 
     /// Takes back what is shown.
@@ -24,8 +28,10 @@ pub trait ShownProgress: Progress {
         ensures { (n : ℕ) → Self.looked self.old n → Self.looked self.new n };
 }
 
-/// A line on a terminal that says how many states a search has looked at. It is first written where a second has gone
-/// by since the program began, and then written over ten times a second. Where `to` is no terminal nothing is written.
+/// A line on a terminal that says how many states a search has looked at, or, once events are told, how many operations have
+/// ended, of how many granules, how many requests are outstanding, and the time of the last event. It is first written where a
+/// second has gone by since the program began, and then written over ten times a second. Where `to` is no terminal nothing is
+/// written.
 ///
 /// Its own faults are ignored.
 #[derive(Drop)]
@@ -35,6 +41,8 @@ pub struct ProgressLine<'a, C, W> {
     began: Option<Instant>,
     shown: Option<Instant>,
     states: u64,
+    events: u64,
+    reached: Option<(Counts, u64)>,
 }
 
 impl<'a, C: Clock, W: Write + IsTerminal> ProgressLine<'a, C, W> {
@@ -58,6 +66,8 @@ impl<'a, C: Clock, W: Write + IsTerminal> ProgressLine<'a, C, W> {
             began,
             shown: None,
             states: 0,
+            events: 0,
+            reached: None,
         }
     }
 }
@@ -78,8 +88,31 @@ impl<'a, C: Clock, W: Write> ProgressLine<'a, C, W> {
     fn show(&mut self)
         ensures { self.new.states ≡ self.old.states }
     {
-        let states = self.states;
-        let _written = write!(self.to, "\rchicheck: {states} states\u{1b}[K");
+        let _written = match self.reached {
+            Some((counts, time)) => {
+                let ended = counts.ended;
+                let granules = counts.granules;
+                let outstanding = counts.outstanding;
+                write!(
+                    self.to,
+                    "\rchicheck: {ended} operations, {granules} granules, {outstanding} open, time {time}\u{1b}[K"
+                )
+            }
+            None => {
+                let states = self.states;
+                write!(self.to, "\rchicheck: {states} states\u{1b}[K")
+            }
+        };
+    }
+
+    // Writes the line where it is time to.
+    fn show_if_due(&mut self)
+        ensures { self.new.states ≡ self.old.states }
+    {
+        if let Some(now) = self.due() {
+            self.show();
+            self.shown = Some(now);
+        }
     }
 }
 
@@ -91,12 +124,21 @@ impl<'a, C: Clock, W: Write> Progress for ProgressLine<'a, C, W> {
         ensures quiet { self.old.began ≡ None → Keeps (W.contents self.old.to) (W.contents self.new.to) }
     {
         self.states = self.states.saturating_add(1);
-        if self.began.is_none() || self.states % STATES != 0 {
-            return;
+        if self.began.is_some() && self.states % STATES == 0 {
+            self.show_if_due();
         }
-        if let Some(now) = self.due() {
-            self.show();
-            self.shown = Some(now);
+    }
+}
+
+impl<'a, C: Clock, W: Write> WatchProgress for ProgressLine<'a, C, W> {
+    fn reached(&mut self, counts: Counts, time: u64)
+        ensures counted { (n : ℕ) → self.old.states ≡ min n (2 ^ 64 - 1) → self.new.states ≡ min n (2 ^ 64 - 1) }
+        ensures quiet { self.old.began ≡ None → Keeps (W.contents self.old.to) (W.contents self.new.to) }
+    {
+        self.events = self.events.wrapping_add(1);
+        if self.began.is_some() && self.events % EVENTS == 0 {
+            self.reached = Some((counts, time));
+            self.show_if_due();
         }
     }
 }

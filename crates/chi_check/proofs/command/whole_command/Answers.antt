@@ -1,7 +1,7 @@
--- The program has its task.
+-- The program has both tasks.
 use Rattle.std.proofs.Common.{ap, ◌≡◌, ◌∙◌, true}
 use Rattle.clap.specs.Simple.{App, Shape, app_of, app_of_fields, on_top, with_subcommand}
-use Rattle.chi_check.specs.CommandLine.{bare_app}
+use Rattle.chi_check.specs.CommandLine.{bare_app, explain_app}
 use Rattle.chi_check.proofs.CommandLemmas.{third_fails}
 use Rattle.chi_check.proofs.command.whole_command.Goals as goal
 
@@ -15,5 +15,9 @@ returns-clause-app c =
     (ap app_of_fields c.after_help.ensures ∙ (ap app_of_fields c.version.ensures
     ∙ ap (λ (a : App). on_top (λ (s : Shape). record s { has_version = true }) a) (ap app_of_fields c.about.ensures
     ∙ (unnamed ∙ ap (λ (a : App). on_top (λ (s : Shape). record s { no_binary_name = true }) a) c.new.ensures.app)))) in
+    let explained : app_of c.in_ok-subcommand.field-0 ≡ with_subcommand bare_app explain_app.top =
     c.in_ok-subcommand.ensures.shape (third_fails _ _ _ _ (ap (λ (a : App). a.top.is_plain) c.in_ok-explain_command.ensures.app))
-    ∙ (ap (λ (a : App). with_subcommand a (app_of c.in_ok-explain_command.field-0).top) bare ∙ ap (λ (a : App). with_subcommand bare_app a.top) c.in_ok-explain_command.ensures.app)
+    ∙ (ap (λ (a : App). with_subcommand a (app_of c.in_ok-explain_command.field-0).top) bare ∙ ap (λ (a : App). with_subcommand bare_app a.top) c.in_ok-explain_command.ensures.app) in
+    c.in_ok-subcommand-2.ensures.shape (third_fails _ _ _ _ (ap (λ (a : App). a.top.is_plain) c.in_ok-watch_command.ensures.app))
+    ∙ (ap (λ (a : App). with_subcommand a (app_of c.in_ok-watch_command.field-0).top) explained
+    ∙ ap (λ (a : App). with_subcommand (with_subcommand bare_app explain_app.top) a.top) c.in_ok-watch_command.ensures.app)

@@ -1,13 +1,13 @@
--- What is answered to the arguments is what `clap` finds in them, or out of memory. The options are those of the
--- subcommand that it finds.
+-- What is answered to the arguments is what `clap` finds in them, or out of memory. The task and its options are those
+-- of the subcommand that it finds.
 use Rattle.std.proofs.Common.{map, string_bytes}
 use Rattle.std.proofs.lemmas.Result.{err_from_is_err_and}
 use Rattle.clap.specs.Matches.{found_of}
 use Rattle.clap.specs.Simple.{app_of}
 use Rattle.clap.specs.Walk.{rows_of}
 use Rattle.chi_check.proofs.ChosenLemmas.{subcommand_found}
-use Rattle.chi_check.proofs.CommandLemmas.{arguments_fault, arguments_taken, program_is_simple}
-use Rattle.chi_check.proofs.command.options_of.Goals as goal
+use Rattle.chi_check.proofs.CommandLemmas.{arguments_fault, arguments_taken, named_first, program_is_simple}
+use Rattle.chi_check.proofs.command.task_of.Goals as goal
 
 pub returns-in_err-matches-clause-refused : goal.returns-in_err-matches-clause-refused
 returns-in_err-matches-clause-refused c =
@@ -26,7 +26,19 @@ pub returns-clause-chosen : goal.returns-clause-chosen
 returns-clause-chosen c =
     let app = app_of c.in_ok-whole_command.field-0 in
     let is = c.in_ok-whole_command.ensures.app in
+    let name = c.in-Some.name.now in
     let found = rows_of (found_of c.in-Some.chosen.now) in
-    let finds = subcommand_found app (map string_bytes c.args.arguments.now) c.in_ok-matches.matches c.in-Some.field-0-0.now found is
-    (program_is_simple app is) c.in_ok-matches.ensures.matches c.in-Some.ensures.name c.in-Some.ensures.rows in
-    (found, finds, c.chosen_options.ensures.witness, c.chosen_options.ensures.budget, c.chosen_options.ensures.until)
+    let finds = subcommand_found app (map string_bytes c.args.arguments.now) c.in_ok-matches.matches name found is (program_is_simple app is)
+    c.in_ok-matches.ensures.matches c.in-Some.ensures.name c.in-Some.ensures.rows in
+    (name, found, finds, c.chosen_task.ensures.named, c.chosen_task.ensures.options)
+
+pub returns-clause-first : goal.returns-clause-first
+returns-clause-first c =
+    let app = app_of c.in_ok-whole_command.field-0 in
+    let is = c.in_ok-whole_command.ensures.app in
+    let arguments = map string_bytes c.args.arguments.now in
+    let name = c.in-Some.name.now in
+    let found = rows_of (found_of c.in-Some.chosen.now) in
+    let finds = subcommand_found app arguments c.in_ok-matches.matches name found is (program_is_simple app is) c.in_ok-matches.ensures.matches
+    c.in-Some.ensures.name c.in-Some.ensures.rows in
+    named_first arguments name found c.chosen_task.result finds c.chosen_task.ensures.named
