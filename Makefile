@@ -2,9 +2,11 @@
 PREFIX ?= /usr/local
 PROGRAM := crates/chi_home/out/chi_home
 CHECKER := crates/chi_check/out/chi_check
+SOAK := crates/chi_soak/out/chi_soak
 SCRIPT ?= examples/fetch_add.json
+SECONDS ?= 10
 
-.PHONY: help try build checker run test edits lib dv install bench bench-c bench-explain corpus
+.PHONY: help try build checker run soak test edits lib dv install bench bench-c bench-explain corpus
 
 help:
 	@echo "make try [SCRIPT=FILE]     build chihome with no proof, and show a script and the transcript of chihome run"
@@ -12,6 +14,7 @@ help:
 	@echo "make test                  the gate: every proof from nothing, the edits that must fail, tests, runs and what the documents show"
 	@echo "make edits [CRATES=..]     the edits outside the gate, of some crates or of all: the prover must refuse each"
 	@echo "make checker               chicheck, proved: the program that explains traces"
+	@echo "make soak [SECONDS=N]      four workers race at the lock-free store for so many seconds, 10 if not said, while chicheck watches"
 	@echo "make lib                   out/libchi_c.a and out/libchi.so, for C, C++, SystemVerilog and Python"
 	@echo "make dv                    the benches in SystemVerilog, in Verilator: the calls, and a monitor whose traces chicheck judges"
 	@echo "make install PREFIX=DIR    put the programs chihome and chicheck into DIR/bin, and the libraries, header, package and module below DIR;"
@@ -40,6 +43,10 @@ checker:
 run: build
 	@cat "$(SCRIPT)"; echo; echo
 	@$(PROGRAM) run < "$(SCRIPT)"
+
+soak: checker
+	@$(call quiet,cd crates/chi_soak && rt run -- 0)
+	$(SOAK) $(SECONDS) | $(CHECKER) watch
 
 test:
 	@.ci/need python3:python3 cc:gcc c++:g++
@@ -81,6 +88,7 @@ bench-c: lib
 bench-explain: checker
 	bench/verdict.sh $(SEED)
 	bench/chicheck.py $(SEED)
+	bench/watch.py 20000 $(or $(SEED),1)
 
 corpus: build
 	bench/build.sh && cd bench && out/release/corpus ../$(PROGRAM) 10000 $(SEED)

@@ -1,0 +1,210 @@
+//! Events as lines of JSON.
+
+ghost use Rattle.std.specs.Prelude.{◌≡◌, ◌++◌, OnOk};
+ghost use Rattle.chi_soak.specs.Line.{byte_order, completion_text, data_text, dropped_text, event_line, fields_text, first_text, granule_text, kind_text, last_text, late_text, packet_text, quoted_text, reply_text, request_text, unknown_text};
+
+use crate::part::{Part, add_parts};
+use chi_events::{Completion, Event, EventKind, Packet, Requested};
+use chi_lanes::Reply;
+use chi_reading::Asked;
+use chi_verdict::GranuleWord;
+use std::alloc::AllocError;
+
+/// The number of a byte order: 1 is big-endian.
+fn byte_order(endian: bool) -> u64
+    ensures { result ≡ byte_order endian }
+{
+    if endian { 1 } else { 0 }
+}
+
+/// The fields of a request, without its data.
+fn add_fields(to: &mut Vec<u8>, asked: &Asked) -> Result<(), AllocError>
+    ensures { OnOk result (to.new.items ≡ to.old.items ++ fields_text asked.now) }
+{
+    add_parts(
+        to,
+        &[
+            Part::Text(",\"src\":"),
+            Part::Number(asked.src as u64),
+            Part::Text(",\"txn\":"),
+            Part::Number(asked.txn as u64),
+            Part::Text(",\"op\":"),
+            Part::Number(asked.opcode as u64),
+            Part::Text(",\"size\":"),
+            Part::Number(asked.size as u64),
+            Part::Text(",\"addr\":"),
+            Part::Number(asked.addr),
+            Part::Text(",\"endian\":"),
+            Part::Number(byte_order(asked.endian)),
+        ],
+    )
+}
+
+/// Byte enables and a data packet.
+fn add_packet(to: &mut Vec<u8>, be: u16, lanes: [u8; 16]) -> Result<(), AllocError>
+    ensures { OnOk result (to.new.items ≡ to.old.items ++ packet_text be lanes) }
+{
+    add_parts(
+        to,
+        &[
+            Part::Text(",\"be\":"),
+            Part::Number(be as u64),
+            Part::Text(",\"lanes\":\""),
+            Part::Packet(lanes),
+            Part::Text("\""),
+        ],
+    )
+}
+
+/// The data of a request, where they have come with it.
+fn add_data(to: &mut Vec<u8>, request: &Requested) -> Result<(), AllocError>
+    ensures { OnOk result (to.new.items ≡ to.old.items ++ data_text request.now) }
+{
+    if request.has_data {
+        add_packet(to, request.asked.be, request.asked.lanes)
+    } else {
+        Ok(())
+    }
+}
+
+/// A request, and its data.
+fn add_request(to: &mut Vec<u8>, request: &Requested) -> Result<(), AllocError>
+    ensures { OnOk result (to.new.items ≡ to.old.items ++ request_text request.now) }
+{
+    add_parts(
+        to,
+        &[Part::Text("request\",\"id\":"), Part::Number(request.id)],
+    )?;
+    add_fields(to, &request.asked)?;
+    add_data(to, request)
+}
+
+/// The data of a request that come after it.
+fn add_late(to: &mut Vec<u8>, packet: &Packet) -> Result<(), AllocError>
+    ensures { OnOk result (to.new.items ≡ to.old.items ++ late_text packet.now) }
+{
+    add_parts(to, &[Part::Text("data\",\"id\":"), Part::Number(packet.id)])?;
+    add_packet(to, packet.be, packet.lanes)
+}
+
+/// A data packet, as a value of JSON.
+fn add_quoted(to: &mut Vec<u8>, lanes: [u8; 16]) -> Result<(), AllocError>
+    ensures { OnOk result (to.new.items ≡ to.old.items ++ quoted_text lanes) }
+{
+    add_parts(
+        to,
+        &[Part::Text("\""), Part::Packet(lanes), Part::Text("\"")],
+    )
+}
+
+/// What completed a request.
+fn add_completion(to: &mut Vec<u8>, reply: Option<Reply>) -> Result<(), AllocError>
+    ensures { OnOk result (to.new.items ≡ to.old.items ++ completion_text reply) }
+{
+    match reply {
+        Some(Reply::Comp) => add_parts(to, &[Part::Text("\"comp\"")]),
+        Some(Reply::CompData(lanes)) => add_quoted(to, lanes),
+        None => add_parts(to, &[Part::Text("null")]),
+    }
+}
+
+/// The end of a request, and what completed it.
+fn add_reply(to: &mut Vec<u8>, completion: &Completion) -> Result<(), AllocError>
+    ensures { OnOk result (to.new.items ≡ to.old.items ++ reply_text completion.now) }
+{
+    add_parts(
+        to,
+        &[
+            Part::Text("reply\",\"id\":"),
+            Part::Number(completion.id),
+            Part::Text(",\"reply\":"),
+        ],
+    )?;
+    add_completion(to, completion.reply)
+}
+
+/// The end of a request that took no effect.
+fn add_dropped(to: &mut Vec<u8>, id: u64) -> Result<(), AllocError>
+    ensures { OnOk result (to.new.items ≡ to.old.items ++ dropped_text id) }
+{
+    add_parts(to, &[Part::Text("dropped\",\"id\":"), Part::Number(id)])
+}
+
+/// The granule of a word, and its bytes.
+fn add_granule(to: &mut Vec<u8>, told: &GranuleWord) -> Result<(), AllocError>
+    ensures { OnOk result (to.new.items ≡ to.old.items ++ granule_text told.now) }
+{
+    add_parts(
+        to,
+        &[
+            Part::Text(",\"addr\":"),
+            Part::Number(told.granule.wrapping_mul(8)),
+            Part::Text(",\"bytes\":\""),
+            Part::Word(told.word),
+            Part::Text("\""),
+        ],
+    )
+}
+
+/// A word before the first request of its granule.
+fn add_first(to: &mut Vec<u8>, told: &GranuleWord) -> Result<(), AllocError>
+    ensures { OnOk result (to.new.items ≡ to.old.items ++ first_text told.now) }
+{
+    add_parts(to, &[Part::Text("word\"")])?;
+    add_granule(to, told)
+}
+
+/// A word after the last one.
+fn add_last(to: &mut Vec<u8>, told: &GranuleWord) -> Result<(), AllocError>
+    ensures { OnOk result (to.new.items ≡ to.old.items ++ last_text told.now) }
+{
+    add_parts(to, &[Part::Text("word\"")])?;
+    add_granule(to, told)?;
+    add_parts(to, &[Part::Text(",\"final\":true")])
+}
+
+/// Bytes that something else may have written.
+fn add_unknown(to: &mut Vec<u8>, addr: u64, length: u64) -> Result<(), AllocError>
+    ensures { OnOk result (to.new.items ≡ to.old.items ++ unknown_text addr length) }
+{
+    add_parts(
+        to,
+        &[
+            Part::Text("unknown\",\"addr\":"),
+            Part::Number(addr),
+            Part::Text(",\"length\":"),
+            Part::Number(length),
+        ],
+    )
+}
+
+/// What an event tells.
+fn add_kind(to: &mut Vec<u8>, kind: &EventKind) -> Result<(), AllocError>
+    ensures { OnOk result (to.new.items ≡ to.old.items ++ kind_text kind.now) }
+{
+    match kind {
+        EventKind::Request(request) => add_request(to, request),
+        EventKind::Data(packet) => add_late(to, packet),
+        EventKind::Reply(completion) => add_reply(to, completion),
+        EventKind::Dropped { id } => add_dropped(to, *id),
+        EventKind::Word(told) => add_first(to, told),
+        EventKind::Final(told) => add_last(to, told),
+        EventKind::Unknown { addr, length } => add_unknown(to, *addr, *length),
+    }
+}
+
+/// Adds the line that tells an event, as `chicheck watch` reads it.
+pub(crate) fn add_event(to: &mut Vec<u8>, event: &Event) -> Result<(), AllocError>
+    ensures { OnOk result (to.new.items ≡ to.old.items ++ event_line event.now) }
+{
+    add_parts(
+        to,
+        &[
+            Part::Text("{\"time\":"),
+            Part::Number(event.time),
+            Part::Text(",\"event\":\""),
+        ],
+    )?;
+    add_kind(to, &event.kind)?;
+    add_parts(to, &[Part::Text("}\n")])
+}
