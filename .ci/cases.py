@@ -1,11 +1,14 @@
-"""What checker, traces, refusals and faults share: runs of a program with a time limit, and the count of their cases."""
+"""What checker, watching, traces, refusals and faults share: runs of a program with a time limit, on a terminal and with
+faults (.ci/faults.c), and the count of their cases. CHICHECK names another chicheck than the one that make builds."""
 
 import json
 import os
 import subprocess
 import sys
+import time
 
-CHECKER, HOME = "crates/chi_check/out/chi_check", "crates/chi_home/out/chi_home"
+BUILT, HOME = "crates/chi_check/out/chi_check", "crates/chi_home/out/chi_home"
+CHECKER = os.environ.get("CHICHECK", BUILT)
 NAME = os.path.basename(sys.argv[0])
 tried, failed = 0, 0
 
@@ -51,6 +54,63 @@ def unexplained(case, text, first):
 def trace(requests, granules=1, **members):
     """A trace over these granules from 4096 on, as text."""
     return json.dumps({"base": 4096, "granules": granules, **members, "requests": requests})
+
+
+def on_terminal(words, text, wait=0, **faults):
+    """Returns the status, the output and what stood on a terminal that took the errors."""
+    screen, line = os.openpty()
+    pipes = {"stdin": subprocess.PIPE, "stdout": subprocess.PIPE, "stderr": line}
+    with subprocess.Popen([CHECKER, *words], env={**os.environ, **faults}, **pipes) as ran:
+        time.sleep(wait)
+        out = ran.communicate(text.encode(), timeout=60)[0]
+    os.close(line)
+    shown = b""
+    try:
+        while part := os.read(screen, 1 << 16):
+            shown += part
+    except OSError:
+        pass  # All was read.
+    os.close(screen)
+    return ran.returncode, out, shown
+
+
+def faults_library(folder):
+    """Builds the library that makes calls fail, into the folder."""
+    library = f"{folder}/faults.so"
+    subprocess.run(["cc", "-O1", "-shared", "-fPIC", "-o", library, ".ci/faults.c", "-ldl"], check=True, timeout=60)
+    return library
+
+
+def refuse_in_turn(case, preload, words, text):
+    """Refuses each block of memory in turn, and each from it on: the answer is as it was, or that there is no memory."""
+    right = run(CHECKER, words, text)
+    for on in ["0", "1"]:
+        for block in range(1, 100000):
+            met = f"{preload}.met"
+            found = run(CHECKER, words, text, LD_PRELOAD=preload, FAULT_MEMORY=str(block), FAULT_ON=on, FAULT_MET=met)
+            if not os.path.exists(met):
+                told(f"{case}: the last block", found == right and block > 10)
+                break
+            os.remove(met)
+            told(f"{case}: block {block} refused: {found}", found in (right, (4, b"", b"chicheck: no memory\n")))
+
+
+def fail_in_turn(preload, words, text):
+    """Fails each read and write of chicheck, one byte a call."""
+    right = run(CHECKER, words, text)
+    for case, call, fault in [
+        ("reader_that_fails", "READ", "input could not be read"),
+        ("writer_that_fails", "WRITE", "output could not be written"),
+    ]:
+        for n in range(1, 100000):
+            met = f"{preload}.met"
+            found = run(CHECKER, words, text, LD_PRELOAD=preload, FAULT_BYTES="1", FAULT_MET=met, **{f"FAULT_{call}": str(n)})
+            if not os.path.exists(met):
+                told(f"one byte a {call}", found == right and n > 100)
+                break
+            os.remove(met)
+            wanted = (5, right[1][: n - 1] if call == "WRITE" else b"", f"chicheck: {fault}\n".encode())
+            told(f"{case}: {call} {n}: {found}", found == wanted)
 
 
 def end(least):

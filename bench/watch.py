@@ -1,0 +1,127 @@
+#!/usr/bin/env python3
+"""Tries chicheck watch on histories by chance: watch.py [COUNT [SEED]]
+
+Each history is told as events (histories.py). What has to be answered on them, with and without --keep-going, is found by
+trying every order (telling.py, orders.py), and `chicheck explain` has to give the same verdict on the same operations. A
+history that the program disagrees on is shown. CHICHECK names the program."""
+
+import collections
+import json
+import os
+import random
+import subprocess
+import sys
+from concurrent.futures import ThreadPoolExecutor
+
+os.chdir(f"{os.path.dirname(os.path.abspath(__file__))}/..")
+sys.dont_write_bytecode = True
+
+from histories import history
+from telling import Told, Watched
+
+CHECKER = os.environ.get("CHICHECK", "crates/chi_check/out/chi_check")
+COUNT, SEED = [int(it) for it in sys.argv[1:]] + [20000, 1][len(sys.argv) - 1 :]
+# How many disagreements are shown.
+SHOWN = 3
+# The status where an event is refused.
+REFUSED = 3
+
+
+def lines_of(events):
+    return "".join(f"{json.dumps(it)}\n" for it in events)
+
+
+def run(words, text):
+    """Returns the status and the output, with what stood on standard error."""
+    ran = subprocess.run([CHECKER, *words.split()], input=text.encode(), capture_output=True, timeout=60)
+    return ran.returncode, (ran.stdout + ran.stderr).decode()
+
+
+def is_same_verdict(found, unexplained):
+    """Whether an answer of explain names one of the granules that are not explained, or says that all are."""
+    if not unexplained:
+        return found == (0, "explained\n")
+    return found[0] == 1 and found[1].split("\n")[0] in [f"not explained: granule {it:016x}" for it in unexplained]
+
+
+def unexplained_as_a_whole(told):
+    return [it for it in told.granules - told.unknown if not told.is_explained(it)]
+
+
+def disagreements(events):
+    """What the program answers otherwise than it has to: the words, the answer, and the one that has to be."""
+    found = []
+    for words, keeps_going in [("watch", False), ("watch --keep-going", True)]:
+        watched, answer = Watched(events, keeps_going), run(words, lines_of(events))
+        if answer != watched.answer():
+            found.append((words, answer, watched.answer()))
+    told = Told()
+    for event in events:
+        told.take(event)
+    unexplained, answer = unexplained_as_a_whole(told), run("explain", json.dumps(told.trace()))
+    if not is_same_verdict(answer, unexplained) or set(unexplained) != watched.places.keys() - told.unknown:
+        found.append(("explain", answer, unexplained))
+    return found
+
+
+def without(events, at):
+    """The events without one of them, and where that is a request without all of the request's."""
+    number = events[at].get("id")
+    if events[at]["event"] != "request":
+        return events[:at] + events[at + 1 :]
+    left = events[:at]
+    for place, it in enumerate(events[at + 1 :], at + 1):
+        if it.get("id") == number and it["event"] == "request":
+            return left + events[place:]
+        if it.get("id") != number:
+            left.append(it)
+    return left
+
+
+def smallest(events):
+    """Events of which none can be left out, on which the program disagrees too."""
+    for at in range(len(events)):
+        fewer = without(events, at)
+        try:
+            if run("watch", lines_of(fewer))[0] != REFUSED and disagreements(fewer):
+                return smallest(fewer)
+        except KeyError:
+            pass  # What is left is of no outstanding request.
+    return events
+
+
+def outcomes(events):
+    """How the mistakes of a history are found, for the counts."""
+    watched = Watched(events, True)
+    return {"found at a line" if line else "found at the end" for line in watched.places.values()}
+
+
+def tried(number):
+    """Tries a history. Returns what it was, and what the program disagrees on."""
+    events, traits = history(random.Random(f"{SEED}/{number}"))
+    return number, events, traits | outcomes(events), disagreements(events)
+
+
+def show(number, events):
+    small = smallest(events)
+    print(f"history {number} of seed {SEED}:\n{lines_of(small)}", end="")
+    for words, answer, wanted in disagreements(small):
+        print(f"{words}: {answer}\n in place of {wanted}")
+
+
+def main():
+    counts, disagreed = collections.Counter(), 0
+    with ThreadPoolExecutor(len(os.sched_getaffinity(0))) as pool:
+        for number, events, traits, found in pool.map(tried, range(COUNT)):
+            counts.update(traits)
+            if found:
+                disagreed += 1
+                if disagreed <= SHOWN:
+                    show(number, events)
+    for trait, count in sorted(counts.items()):
+        print(f"{trait}: {count}")
+    print(f"{COUNT} histories, {disagreed} disagreed on")
+    sys.exit(disagreed > 0)
+
+
+main()
