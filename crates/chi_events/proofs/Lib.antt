@@ -11,3 +11,4 @@ pub mod Lists
 pub mod Observable
 pub mod InTime
 pub mod Parted
+pub mod About

@@ -85,6 +85,13 @@ pub record Tells (events : List Event) (ended : List Observed) (o : OutstandingV
 abbrev pub open_with : ℕ → List Open → Option Open
 open_with id requests = find (λ o. o.id == id) requests
 
+-- the outstanding request that an event of this kind is about
+abbrev pub request_about : List Open → EventKind → Option Open
+request_about requests (event_kind.Data p) = open_with p.id requests
+request_about requests (event_kind.Reply c) = open_with c.id requests
+request_about requests (event_kind.Dropped id) = open_with id requests
+request_about requests _ = None
+
 -- why a home takes no request: what its data may still mend is no reason before they have come
 abbrev pub refusal_fault : Bool → Result Access Refusal → Option EventFault
 refusal_fault whole (Ok access) = None
@@ -137,3 +144,10 @@ pub record IsEndOf (before : List Open) (time : ℕ) (op : Observed) : Type 0 wh
   pub within : op.access.addr + op.access.len ≤ 2 ^ 52
   pub end : op.end ≡ time
   pub lasting : op.start ≤ op.end
+
+-- the operation is that of the request that the event is about
+pub record IsEndOfAbout (before : List Open) (kind : EventKind) (op : Observed) : Type 0 where
+  pub request : Open
+  pub is : request_about before kind ≡ Some request
+  pub start : op.start ≡ request.start
+  pub src : op.src ≡ request.asked.src

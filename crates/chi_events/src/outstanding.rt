@@ -1,14 +1,14 @@
 //! The requests that are outstanding, as events come.
 
-ghost use Rattle.std.specs.Prelude.{◌≡◌, ◌≢◌, ℕ, [], ◌∷◌, ◌++◌, List, All, None, Some, IfErr, IfOk, IfSome, option_to_list, filter_map};
+ghost use Rattle.std.specs.Prelude.{◌≡◌, ◌≢◌, ℕ, [], ◌∷◌, ◌++◌, List, All, None, Some, IfErr, IfOk, IfSome, option_map, option_to_list, filter_map};
 ghost use Rattle.chi_trace.specs.declared.observed.Observed.{Observed};
 ghost use Rattle.chi_events.specs.declared.event.Event.{Event};
-ghost use Rattle.chi_events.specs.Outstanding.{IsEndOf, IsOpen, StaysOrStarts, Tells, fault_of, open_operation};
+ghost use Rattle.chi_events.specs.Outstanding.{IsEndOf, IsEndOfAbout, IsOpen, StaysOrStarts, Tells, fault_of, open_operation, request_about};
 
 use crate::bounds::event_fits;
 use crate::event::Event;
 use crate::fault::EventFault;
-use crate::taking::take_kind;
+use crate::taking::{request_about, take_kind};
 use chi_fields::Access;
 use chi_lanes::Reply;
 use chi_reading::Asked;
@@ -106,6 +106,7 @@ impl Outstanding {
         ensures failed { IfErr result (λ fault. self.new ≡ self.old) }
         ensures time { IfOk result (λ ended. self.new.time ≡ event.now.time) }
         ensures ended { IfOk result (λ ended. IfSome ended (IsEndOf self.old.requests event.now.time)) }
+        ensures about { IfOk result (λ ended. IfSome ended (IsEndOfAbout self.old.requests event.now.kind)) }
         ensures requests { IfOk result (λ ended. All (StaysOrStarts self.old.requests event.now) self.new.requests) }
     {
         if event.time < self.time {
@@ -115,6 +116,18 @@ impl Outstanding {
         let ended = take_kind(&mut self.requests, event.time, &event.kind)?;
         self.time = event.time;
         Ok(ended)
+    }
+
+    /// The outstanding request that an event is about, as it was taken, where it is about one.
+    ///
+    /// ```
+    /// let addr = outstanding.about(&event)?.addr;
+    /// ```
+    pub fn about(&self, event: &Event) -> Option<Asked>
+        ensures { result ≡ option_map (λ o. o.asked) (request_about self.now.requests event.now.kind) }
+    {
+        let request = request_about(&self.requests, &event.kind)?;
+        Some(request.asked)
     }
 
     /// The requests that are outstanding, in the order in which they were taken.

@@ -3,7 +3,7 @@
 ghost use Rattle.std.specs.Prelude.{◌≡◌, ◌≢◌, ◌+◌, ◌<◌, ◌==◌, ◌++◌, [], ◌∷◌, Some, None, IfErr, IfOk, length, take, drop, position};
 ghost use Rattle.chi_reading.specs.Requests.{access_of};
 ghost use Rattle.chi_events.specs.Operations.{is_whole};
-ghost use Rattle.chi_events.specs.Outstanding.{kind_fault, open_with, refusal_fault, request_fault};
+ghost use Rattle.chi_events.specs.Outstanding.{kind_fault, open_with, refusal_fault, request_about, request_fault};
 ghost use Rattle.chi_events.specs.Taking.{Changes, Takes, ended_by, first_access_of, still_open};
 
 use crate::event::{Completion, EventKind, Packet, Requested};
@@ -18,6 +18,25 @@ fn place_of(requests: &[Open], id: u64) -> Option<usize>
     ensures { result ≡ position (λ o. o.id == id) requests.now }
 {
     requests.iter().position(|open| open.id == id)
+}
+
+/// The outstanding request with a number.
+fn request_with(requests: &[Open], id: u64) -> Option<Open>
+    ensures { result ≡ open_with id requests.now }
+{
+    requests.iter().copied().find(|open| open.id == id)
+}
+
+/// The outstanding request that an event of this kind is about.
+pub(crate) fn request_about(requests: &[Open], kind: &EventKind) -> Option<Open>
+    ensures { result ≡ request_about requests.now kind.now }
+{
+    match kind {
+        EventKind::Data(packet) => request_with(requests, packet.id),
+        EventKind::Reply(completion) => request_with(requests, completion.id),
+        EventKind::Dropped { id } => request_with(requests, *id),
+        _ => None,
+    }
 }
 
 /// The access of a request that comes with all the data that it needs; none, where they are still to come.

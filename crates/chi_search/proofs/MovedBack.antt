@@ -132,3 +132,28 @@ follows_all words told f states from last is same copied goes follows v =
     subst (λ (all : List Observed). SomeEnds all last v ↔ SomeEnds all from v) (append-nil ops) (goes [] (none_follow ops is.sorted) v) in
     chained (SomeEnds ops last v) (SomeEnds ops from v) (SomeLeads told words v) on
     (chained (SomeEnds ops from v) (SomeEnds ops states v) (SomeLeads told words v) (first.1, first.0) (here.1, here.0))
+
+-- a copy of the states is a search that may go on
+pub frontier_copied : (f : FrontierValue) (states back : States) → f.positions ≡ positions states → AreBack 0 back states → IsFrontier f → IsFrontier (record f { positions = positions back })
+frontier_copied f states back same copied is = record {
+  sorted = is.sorted;
+  within = is.within;
+  ended = is.ended;
+  ready = λ p has. ready_copied f.operations states back copied (λ q there. is.ready q (subst (λ (ps : List Position). Contains ps q) (sym same) there)) p has;
+}
+
+-- and follows the same operations
+pub follows_copied : (words : List ℕ) (told : List Observed) (f : FrontierValue) (states back : States) → f.positions ≡ positions states → AreBack 0 back states
+    → Follows words told f → Follows words told (record f { positions = positions back })
+follows_copied words told f states back same copied follows more may v =
+    let ops = f.operations in
+    let here : SomeLeads (told ++ more) words v ↔ SomeEnds (ops ++ more) states v =
+    subst (λ (ps : List Position). SomeLeads (told ++ more) words v ↔ ((p : Position) × Contains ps p × Ends (ops ++ more) (Some v) p)) same (follows more before v) in
+    chained (SomeLeads (told ++ more) words v) (SomeEnds (ops ++ more) states v) (SomeEnds (ops ++ more) back v) here
+    (goes_back ops more 0 v states back (omega arith) (λ p has. omega arith) copied)
+  where
+    before : MayBeTold f more
+    before = record {
+      sorted = may.sorted;
+      each = All-weaker (CanBeTold (record f { positions = positions back })) (CanBeTold f) (λ o c. record { lasting = c.lasting; starts = c.starts; ends = c.ends }) more may.each;
+    }

@@ -70,6 +70,25 @@ impl Frontier {
         })
     }
 
+    /// The same search, to be told other operations.
+    ///
+    /// ```
+    /// let mut other = frontier.copy(alloc)?;
+    /// ```
+    pub fn copy(&self, alloc: Global) -> Result<Frontier, AllocError>
+        ensures follows { IfOk result (λ copy. (words : List ℕ) (told : List Observed) → Follows words told self.now → Follows words told copy) }
+        ensures same { IfOk result (λ copy. (copy.operations ≡ self.now.operations) × (copy.horizon ≡ self.now.horizon) × (copy.latest ≡ self.now.latest)) }
+    {
+        let states = moved_back(alloc, &self.states, 0)?;
+        let operations = Vec::from_slice(alloc, &self.operations)?;
+        Ok(Frontier {
+            states,
+            operations,
+            horizon: self.horizon,
+            latest: self.latest,
+        })
+    }
+
     /// Tells an operation, where it may be told next: it ends no earlier than those before it, starts no earlier than the
     /// horizon, ends no earlier than it starts, and lies within 2^52 bytes.
     ///

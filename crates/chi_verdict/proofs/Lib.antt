@@ -9,7 +9,7 @@ mod Gained
 mod HeldAlone
 mod InOrder
 mod LastEnd
-mod Later
+pub mod Later
 pub mod Memory
 mod OneGranule
 mod Open

@@ -16,6 +16,6 @@ mod words;
 pub use execution::{Executed, execute};
 pub use first::{Blame, First, first_unexplained};
 pub use held::words_held;
-pub use trace::{Trace, are_traced};
+pub use trace::{Trace, are_traced, cut};
 pub use verdict::{Verdict, explain};
 pub use words::{GranuleWord, GranuleWords};

@@ -55,8 +55,12 @@ pub fn are_traced(ops: &[Observed]) -> bool
     true
 }
 
-/// The operations that had started by a time, with the replies of those that had ended.
-pub(crate) fn cut(alloc: Global, ops: &[Observed], time: u64) -> Result<Vec<Observed>, AllocError>
+/// What had happened by a time of operations in any order: those that had started, with the replies of those that had ended.
+///
+/// ```
+/// let before = cut(alloc, &ops, 4711)?;
+/// ```
+pub fn cut(alloc: Global, ops: &[Observed], time: u64) -> Result<Vec<Observed>, AllocError>
     ensures { IfOk result (λ cut_off. cut_off.items ≡ cut time ops.now) }
 {
     let mut cut_off = Vec::new(alloc);

@@ -1,6 +1,7 @@
 -- one event more is taken
 use Rattle.std.proofs.Common.{◌≤◌, IfSome, All, sym, subst, arith}
-use Rattle.chi_events.specs.Outstanding.{IsEndOf, OutstandingValue, StaysOrStarts, Tells}
+use Rattle.chi_events.specs.Outstanding.{IsEndOf, IsEndOfAbout, OutstandingValue, StaysOrStarts, Tells}
+use Rattle.chi_events.proofs.About.{ends_about}
 use Rattle.chi_events.proofs.OneMore.{tells_more}
 use Rattle.chi_events.proofs.Opens.{stays_more}
 use Rattle.chi_events.proofs.outstanding.Outstanding.take.Goals as goal
@@ -36,3 +37,10 @@ returns-clause-requests c =
     let later : s.time ≤ e.time = omega arith in
     subst (λ (o : OutstandingValue). All (StaysOrStarts o.requests e) c.take_kind.new.requests.items) c.self.view_is
     (stays_more s.requests.items s.time e.time c.self.invariant later e.kind c.in_ok-ended.ended c.take_kind.new.requests.items c.in_ok-ended.ensures.taken.1).requests
+
+pub returns-clause-about : goal.returns-clause-about
+returns-clause-about c =
+    let e = c.args.event.now in
+    let s = c.self.inside in
+    subst (λ (o : OutstandingValue). IfSome c.in_ok-ended.ended (IsEndOfAbout o.requests e.kind)) c.self.view_is
+    (ends_about e.time s.requests.items c.take_kind.new.requests.items c.in_ok-ended.ended e.kind c.in_ok-ended.ensures.taken.1)
