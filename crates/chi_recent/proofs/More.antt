@@ -1,0 +1,62 @@
+-- operations that are told to a search one after the other
+use Rattle.std.proofs.Common.{◌≡◌, ℕ, List, ◌∷◌, IfOk, arith}
+use Rattle.std.specs.Prelude.{Result, Ok, Err}
+use Rattle.std.proofs.lemmas.List.Elements.{All-head, All-tail, All-weaker}
+use Rattle.chi_trace.specs.declared.observed.Observed.{Observed}
+use Rattle.chi_search.specs.declared.words.Words.{Words}
+use Rattle.chi_search.specs.declared.words.Words.TheVariants.{Each, Unknown}
+use Rattle.chi_search.specs.Found.{IfUnknown, IfWords}
+use Rattle.chi_search.specs.Frontiers.{CanBeTold, FrontierValue, MayBeTold}
+use Rattle.chi_recent.specs.declared.reach.Reach.{Reach}
+use Rattle.chi_recent.specs.declared.reach.Reach.TheVariants.{Whole, Stops, Undecided}
+use Rattle.chi_recent.specs.Reaches.{IfUndecided}
+use Rattle.chi_recent.proofs.Cutting.{ends_after, sorted_tail}
+
+-- a search of the same times may be told the same
+pub may_same : (f next : FrontierValue) (rest : List Observed) → next.horizon ≡ f.horizon → next.latest ≡ f.latest → MayBeTold f rest → MayBeTold next rest
+may_same f next rest horizon latest may = record {
+  sorted = may.sorted;
+  each = All-weaker (CanBeTold f) (CanBeTold next)
+      (λ op c. record { lasting = c.lasting; starts = omega (arith, c.starts, horizon); ends = omega (arith, c.ends, latest) }) rest may.each;
+}
+
+-- once the first was told the rest may be
+pub may_rest : (f next : FrontierValue) (op : Observed) (rest : List Observed) → next.horizon ≡ f.horizon → next.latest ≡ op.end → MayBeTold f (op ∷ rest) → MayBeTold next rest
+may_rest f next op rest horizon latest may = record {
+  sorted = sorted_tail op rest may.sorted;
+  each = λ i d below.
+      let c = All-tail (CanBeTold f) op rest may.each i d below in
+      let e = ends_after op rest may.sorted i d below in
+      record { lasting = c.lasting; starts = omega (arith, c.starts, horizon); ends = omega (arith, e, latest) };
+}
+
+-- the first may be told
+pub may_first : (f : FrontierValue) (op : Observed) (rest : List Observed) → MayBeTold f (op ∷ rest) → CanBeTold f op
+may_first f op rest may = All-head (CanBeTold f) op rest may.each
+
+-- what follows of words, and of words that are not known
+pub words_imply : (found : Words) (P Q : List ℕ → Type 0) → ((each : List ℕ) → P each → Q each) → IfWords found P → IfWords found Q
+words_imply (Each words) P Q implies is = implies words.items is
+words_imply Unknown P Q implies is = tt
+
+pub unknown_implies : (found : Words) (A B : Type 0) → (A → B) → IfUnknown found A → IfUnknown found B
+unknown_implies (Each words) A B implies is = tt
+unknown_implies Unknown A B implies is = implies is
+
+-- what follows of the words that were found
+pub ok_words_imply : {E : Type 0} (r : Result Words E) (P Q : List ℕ → Type 0) → ((each : List ℕ) → P each → Q each)
+    → IfOk r (λ found. IfWords found P) → IfOk r (λ found. IfWords found Q)
+ok_words_imply (Ok (Each words)) P Q implies is = implies words.items is
+ok_words_imply (Ok Unknown) P Q implies is = tt
+ok_words_imply (Err e) P Q implies is = tt
+
+-- what follows where the reach is not known
+pub ok_undecided_implies : {E A B L : Type 0} (r : Result Reach E) → (A → L → B) → IfOk r (λ reach. IfUndecided reach A) → IfOk r (λ reach. L) → IfOk r (λ reach. IfUndecided reach B)
+ok_undecided_implies (Ok (Whole words)) implies is looked = tt
+ok_undecided_implies (Ok (Stops stop)) implies is looked = tt
+ok_undecided_implies (Ok Undecided) implies is looked = implies is looked
+ok_undecided_implies (Err e) implies is looked = tt
+
+pub ok_implies : {E L M : Type 0} (r : Result Reach E) → (L → M) → IfOk r (λ reach. L) → IfOk r (λ reach. M)
+ok_implies (Ok reach) implies is = implies is
+ok_implies (Err e) implies is = tt

@@ -1,0 +1,61 @@
+-- a middle end up to which they cannot be explained is the next high one, and one up to which they can stands before the next low one
+use Rattle.std.proofs.Common.{◌≡◌, ℕ, ◌+◌, ◌-◌, ◌/◌, ◌<◌, ◌⊎◌, length, inl, inr, sym, subst, ⊎_elim, arith}
+use Rattle.std.proofs.lemmas.List.{get_or_default}
+use Rattle.chi_trace.specs.Explains.{at, nothing}
+use Rattle.chi_trace.specs.declared.observed.Observed.{Observed}
+use Rattle.chi_verdict.proofs.Spent.{some_after}
+use Rattle.chi_recent.specs.Looks.{LookedAtLeast}
+use Rattle.chi_recent.specs.Searches.{IsExplained, IsSeen}
+use Rattle.chi_recent.proofs.Looked.{at_least_after, at_least_before}
+use Rattle.chi_recent.proofs.Reached.{place_seen}
+use Rattle.chi_recent.proofs.recent.Recent.first_place.Goals as goal
+
+pub loop-low-preserved-then-branch : goal.loop-low-preserved-then-branch
+loop-low-preserved-then-branch g c =
+    let r = c.args.self.now in
+    let ops = c.args.ops.now in
+    let middle = c.loop-low.low + (c.loop-low.high - c.loop-low.low) / 2 in
+    let first : middle < c.args.count = omega arith in
+    let below : middle < length ops = omega arith in
+    let same = get_or_default ops middle c.index-ops-middle.result nothing below in
+    record {
+      order = omega arith;
+      within = first;
+      unexplained = λ trace n w is order explains.
+          c.in_ok-is_unexplained.ensures.unexplained c.if-branch.true trace n w is
+          (subst (λ (o : Observed). IsSeen r o.end) (sym same) (place_seen r ops c.args.count middle c.requires.kept c.requires.seen first below trace n w is))
+          (subst (λ (o : Observed). IsExplained o.end trace n w) (sym same) (order, explains));
+      first = λ trace n w is. ⊎_elim
+          (λ explained. inl explained)
+          (λ least. inr (at_least_before g.P.Progress.looked c.args.progress.now c.loop-low.progress c.is_unexplained.new.progress c.args.budget least c.in_ok-is_unexplained.ensures.looked))
+          (c.loop-low.invariant.first trace n w is);
+      looked = some_after g.P.Progress.looked c.args.progress.now c.loop-low.progress c.is_unexplained.new.progress c.loop-low.invariant.looked c.in_ok-is_unexplained.ensures.looked;
+    }
+
+pub loop-low-preserved : goal.loop-low-preserved
+loop-low-preserved g c =
+    let r = c.args.self.now in
+    let ops = c.args.ops.now in
+    let middle = c.loop-low.low + (c.loop-low.high - c.loop-low.low) / 2 in
+    let first : middle < c.args.count = omega arith in
+    let below : middle < length ops = omega arith in
+    let same = get_or_default ops middle c.index-ops-middle.result nothing below in
+    record {
+      order = omega arith;
+      within = c.loop-low.invariant.within;
+      unexplained = c.loop-low.invariant.unexplained;
+      first = λ trace n w is. ⊎_elim
+          (λ explained. inl (λ i next.
+          let place : middle ≡ i = omega (arith, next) in
+          subst (λ (j : ℕ). IsExplained (at ops j).end trace n w) place (subst (λ (o : Observed). IsExplained o.end trace n w) same explained)))
+          (λ least. inr (at_least_after g.P.Progress.looked c.args.progress.now c.loop-low.progress c.is_unexplained.new.progress c.args.budget c.loop-low.invariant.looked least))
+          (c.in_ok-is_unexplained.ensures.explained c.if-branch.false trace n w is
+          (subst (λ (o : Observed). IsSeen r o.end) (sym same) (place_seen r ops c.args.count middle c.requires.kept c.requires.seen first below trace n w is)));
+      looked = some_after g.P.Progress.looked c.args.progress.now c.loop-low.progress c.is_unexplained.new.progress c.loop-low.invariant.looked c.in_ok-is_unexplained.ensures.looked;
+    }
+
+pub returns-clause-first : goal.returns-clause-first
+returns-clause-first g c trace n w is =
+    let same : c.loop-low.low ≡ c.loop-low.high = omega arith in
+    subst (λ (place : ℕ). ((i : ℕ) → i + 1 ≡ place → IsExplained (at c.args.ops.now i).end trace n w) ⊎ LookedAtLeast g.P.Progress.looked c.args.progress.now c.loop-low.progress c.args.budget) same
+    (c.loop-low.invariant.first trace n w is)

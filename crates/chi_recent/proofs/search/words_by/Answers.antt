@@ -1,0 +1,35 @@
+-- the words after what was known by a time
+use Rattle.std.proofs.Common.{ℕ, ◌↔◌, List, ◌++◌, All, IfOk, subst, ◌∙◌}
+use Rattle.std.specs.List.{Contains}
+use Rattle.std.proofs.lemmas.Result.{IfOk-weaker}
+use Rattle.chi_trace.specs.declared.observed.Observed.{Observed}
+use Rattle.chi_trace.specs.Cuts.{cut}
+use Rattle.chi_search.specs.declared.words.Words.{Words}
+use Rattle.chi_search.specs.Found.{IfUnknown, IfWords}
+use Rattle.chi_search.specs.Frontiers.{Follows, MayBeTold}
+use Rattle.chi_search.specs.Layers.{SomeLeads}
+use Rattle.chi_search.specs.Looks.{LookedMore}
+use Rattle.chi_recent.specs.Recent.{LiesWithin}
+use Rattle.chi_recent.proofs.Cutting.{cut_told, cut_within}
+use Rattle.chi_recent.proofs.More.{unknown_implies}
+use Rattle.chi_recent.proofs.search.words_by.Goals as goal
+
+pub returns-clause-words : goal.returns-clause-words
+returns-clause-words g c =
+    let before = c.args.before.now in
+    let known = c.deref.ensures.value ∙ c.in_ok-known.ensures in
+    subst (λ (ops : List Observed). IfOk c.words_after.result (λ (found : Words). IfWords found (λ each. (words : List ℕ) (told : List Observed) → Follows words told before → (v : ℕ) → Contains each v ↔ SomeLeads (told ++ ops) words v)))
+    known c.words_after.ensures.words
+
+pub returns-clause-unknown : goal.returns-clause-unknown
+returns-clause-unknown g c =
+    let looked = LookedMore g.P.Progress.looked c.args.progress.now c.words_after.new.progress c.args.budget in
+    let before = c.args.before.now in
+    let more = c.args.more.now in
+    let known = c.deref.ensures.value ∙ c.in_ok-known.ensures in
+    let said = subst (λ (ops : List Observed). IfOk c.words_after.result (λ (found : Words). IfUnknown found (MayBeTold before ops → All LiesWithin ops → looked))) known c.words_after.ensures.unknown in
+    IfOk-weaker c.words_after.result (λ (found : Words). IfUnknown found (MayBeTold before (cut c.args.time more) → All LiesWithin (cut c.args.time more) → looked))
+    (λ (found : Words). IfUnknown found (MayBeTold before more → All LiesWithin more → looked))
+    (λ found. unknown_implies found (MayBeTold before (cut c.args.time more) → All LiesWithin (cut c.args.time more) → looked) (MayBeTold before more → All LiesWithin more → looked)
+    (λ is may within. is (cut_told before c.args.time more may) (cut_within c.args.time more within)))
+    said

@@ -1,0 +1,4 @@
+pub mod Recent
+pub mod Reaches
+pub mod Looks
+pub mod Searches

@@ -1,0 +1,12 @@
+//! The operations of one granule that ended last, and how far they can be explained.
+#![tactic(auto)]
+
+mod reach;
+mod reaching;
+mod recent;
+mod search;
+mod traced;
+
+pub use reach::{Reach, Stop};
+pub use recent::Recent;
+pub use traced::Traced;

@@ -1,0 +1,268 @@
+//! How far the operations that are kept can be explained.
+
+ghost use Rattle.std.specs.Prelude.{◌≡◌, ℕ, ◌+◌, ◌-◌, ◌<◌, ◌≤◌, ◌⊎◌, ◌↔◌, List, All, None, true, false, length, IfOk, IfSome, IsTrue, IsPermutation};
+ghost use Rattle.std.specs.List.{Contains, filter};
+ghost use Rattle.chi_search.specs.Found.{IfUnknown, IfWords};
+ghost use Rattle.chi_search.specs.Looks.{LookedMore};
+ghost use Rattle.chi_trace.specs.Explains.{at, is_answered};
+ghost use Rattle.chi_trace.specs.declared.observed.Observed.{Observed};
+ghost use Rattle.chi_recent.specs.Looks.{LookedAtLeast, LookedSome};
+ghost use Rattle.chi_recent.specs.Reaches.{AreLast, CanLeave, IfStops, IfUndecided, IfWhole, IsRecentOf, IsStop};
+ghost use Rattle.chi_recent.specs.Recent.{operations};
+ghost use Rattle.chi_recent.specs.Searches.{AreSeen, AreWordsBy, IsExplained, IsSeen, IsUnexplained, is_traced_during};
+
+use crate::reach::{Reach, Stop};
+use crate::recent::{Recent, ended_before, operations};
+use crate::search::{words_after, words_by};
+use crate::traced::Traced;
+use chi_search::{Progress, Words};
+use chi_trace::Observed;
+use chi_trace::laws::granules_told;
+use std::alloc::{AllocError, Global};
+
+/// The first operation that was answered at a time.
+fn answered_at(kept: &[Traced], time: u64) -> Option<Traced>
+    ensures there { IfSome result (λ traced. Contains kept.now traced) }
+    ensures ends { IfSome result (λ traced. traced.op.end ≡ time) }
+    ensures answered { IfSome result (λ traced. is_answered traced.op ≡ true) }
+    ensures none { result ≡ None → All (λ traced. is_answered traced.op ≡ true → traced.op.end ≡ time → ⊥) kept.now }
+{
+    for traced in kept {
+        if traced.op.end == time && traced.op.reply.is_some() {
+            return Some(*traced);
+        }
+    }
+    None
+}
+
+/// Those that had started by a time and had not ended before, in the order of their starts.
+fn open_at(alloc: Global, kept: &[Traced], time: u64) -> Result<Vec<Traced>, AllocError>
+    ensures { IfOk result (λ during. IsPermutation (filter (is_traced_during time) kept.now) during.items) }
+{
+    let mut during = Vec::new(alloc);
+    for traced in kept {
+        if traced.op.start <= time && time <= traced.op.end {
+            during.push(*traced)?;
+        }
+    }
+    during.sort_by_key(|traced| traced.op.start)?;
+    Ok(during)
+}
+
+impl Recent {
+    /// Each word that all of them can leave, where the search has not stopped.
+    fn last_words<P: Progress>(
+        &self,
+        alloc: Global,
+        ops: &[Observed],
+        budget: u64,
+        progress: &mut P,
+    ) -> Result<Words, AllocError>
+        requires kept { ops.now ≡ operations self.now.kept }
+        ensures words { IfOk result (λ found. IfWords found (λ each. self.now.is_stopped ≡ false → (trace : List Observed) (g w : ℕ) → IsRecentOf trace g w self.now → (v : ℕ) → Contains each v ↔ CanLeave trace g w v)) }
+        ensures unknown { IfOk result (λ found. IfUnknown found ((trace : List Observed) (g w : ℕ) → IsRecentOf trace g w self.now → LookedMore P.looked progress.old progress.new budget)) }
+        ensures looked { IfOk result (λ _. LookedSome P.looked progress.old progress.new) }
+    {
+        granules_told();
+        words_after(alloc, &self.before, ops, budget, progress)
+    }
+
+    /// Each word that they can leave by a time: of those that had started, with the replies of those that had ended.
+    fn words_at<P: Progress>(
+        &self,
+        alloc: Global,
+        ops: &[Observed],
+        time: u64,
+        budget: u64,
+        progress: &mut P,
+    ) -> Result<Words, AllocError>
+        requires kept { ops.now ≡ operations self.now.kept }
+        ensures words { IfOk result (λ found. IfWords found (AreWordsBy self.now time)) }
+        ensures unknown { IfOk result (λ found. IfUnknown found ((trace : List Observed) (g w : ℕ) → IsRecentOf trace g w self.now → LookedMore P.looked progress.old progress.new budget)) }
+        ensures looked { IfOk result (λ _. LookedSome P.looked progress.old progress.new) }
+    {
+        granules_told();
+        words_by(alloc, &self.before, ops, time, budget, progress)
+    }
+
+    /// Whether they are seen not to be explained up to a time, within so many states.
+    fn is_unexplained<P: Progress>(
+        &self,
+        alloc: Global,
+        ops: &[Observed],
+        time: u64,
+        budget: u64,
+        progress: &mut P,
+    ) -> Result<bool, AllocError>
+        requires kept { ops.now ≡ operations self.now.kept }
+        ensures unexplained { IfOk result (λ is. IsTrue is → (trace : List Observed) (g w : ℕ) → IsRecentOf trace g w self.now → IsSeen self.now time → IsExplained time trace g w → ⊥) }
+        ensures explained { IfOk result (λ is. is ≡ false → (trace : List Observed) (g w : ℕ) → IsRecentOf trace g w self.now → IsSeen self.now time → IsExplained time trace g w ⊎ LookedAtLeast P.looked progress.old progress.new budget) }
+        ensures looked { IfOk result (λ _. LookedSome P.looked progress.old progress.new) }
+    {
+        match self.words_at(alloc, ops, time, budget, progress)? {
+            Words::Each(words) => Ok(words.is_empty()),
+            Words::Unknown => Ok(false),
+        }
+    }
+
+    /// Of the first so many, up to the end of the last of which they are not explained, one up to whose end they are not: the
+    /// first, where the searches before it come to an end within so many states each.
+    fn first_place<P: Progress>(
+        &self,
+        alloc: Global,
+        ops: &[Observed],
+        count: usize,
+        budget: u64,
+        progress: &mut P,
+    ) -> Result<usize, AllocError>
+        requires kept { ops.now ≡ operations self.now.kept }
+        requires some { 0 < count }
+        requires within { count ≤ length ops.now }
+        requires seen { AreSeen self.now ops.now count }
+        requires last { IsUnexplained self.now (at ops.now (count - 1)).end }
+        ensures within { IfOk result (λ place. place < count) }
+        ensures unexplained { IfOk result (λ place. IsUnexplained self.now (at ops.now place).end) }
+        ensures first { IfOk result (λ place. (trace : List Observed) (g w : ℕ) → IsRecentOf trace g w self.now → ((i : ℕ) → i + 1 ≡ place → IsExplained (at ops.now i).end trace g w) ⊎ LookedAtLeast P.looked progress.old progress.new budget) }
+        ensures looked { IfOk result (λ _. LookedSome P.looked progress.old progress.new) }
+    {
+        let mut low = 0;
+        let mut high = count - 1;
+        while low < high {
+            let middle = low + (high - low) / 2;
+            if self.is_unexplained(alloc, ops, ops[middle].end, budget, progress)? {
+                high = middle;
+            } else {
+                low = middle + 1;
+            }
+        }
+        Ok(high)
+    }
+
+    /// The words that they can leave up to the time before, where there is one. There are none where that is not found, or
+    /// nothing explains them up to then.
+    fn words_before<P: Progress>(
+        &self,
+        alloc: Global,
+        ops: &[Observed],
+        time: u64,
+        budget: u64,
+        progress: &mut P,
+    ) -> Result<Option<Vec<u64>>, AllocError>
+        requires kept { ops.now ≡ operations self.now.kept }
+        ensures words { IfOk result (λ found. IfSome found (λ words. (earlier : ℕ) → earlier + 1 ≡ time → AreWordsBy self.now earlier words.items)) }
+        ensures some { IfOk result (λ found. IfSome found (λ words. (earlier : ℕ) → earlier + 1 ≡ time → 0 < length words.items)) }
+        ensures none { IfOk result (λ found. found ≡ None → (trace : List Observed) (g w : ℕ) → IsRecentOf trace g w self.now → ((earlier : ℕ) × (earlier + 1 ≡ time) × (IsSeen self.now earlier → IsExplained earlier trace g w → ⊥)) ⊎ LookedAtLeast P.looked progress.old progress.new budget) }
+        ensures looked { IfOk result (λ _. LookedSome P.looked progress.old progress.new) }
+    {
+        if time == 0 {
+            return Ok(Some(Vec::new(alloc)));
+        }
+        match self.words_at(alloc, ops, time - 1, budget, progress)? {
+            Words::Unknown => Ok(None),
+            Words::Each(words) => {
+                if words.is_empty() {
+                    Ok(None)
+                } else {
+                    Ok(Some(words))
+                }
+            }
+        }
+    }
+
+    /// What is said of the place of an operation up to whose end they are not explained.
+    fn stop_at<P: Progress>(
+        &self,
+        alloc: Global,
+        ops: &[Observed],
+        place: usize,
+        budget: u64,
+        progress: &mut P,
+    ) -> Result<Reach, AllocError>
+        requires kept { ops.now ≡ operations self.now.kept }
+        requires within { place < length ops.now }
+        requires seen { AreSeen self.now ops.now (place + 1) }
+        requires unexplained { IsUnexplained self.now (at ops.now place).end }
+        ensures whole { IfOk result (λ reach. IfWhole reach (λ words. ⊥)) }
+        ensures stops { IfOk result (λ reach. IfStops reach (λ stop. (trace : List Observed) (g w : ℕ) → IsRecentOf trace g w self.now → IsStop trace g w stop)) }
+        ensures undecided { IfOk result (λ reach. IfUndecided reach ((trace : List Observed) (g w : ℕ) → IsRecentOf trace g w self.now → ((i : ℕ) → i + 1 ≡ place → IsExplained (at ops.now i).end trace g w) → LookedAtLeast P.looked progress.old progress.new budget)) }
+        ensures looked { IfOk result (λ _. LookedSome P.looked progress.old progress.new) }
+    {
+        granules_told();
+        let time = ops[place].end;
+        let Some(words) = self.words_before(alloc, ops, time, budget, progress)? else {
+            return Ok(Reach::Undecided);
+        };
+        let Some(op) = answered_at(&self.kept, time) else {
+            return Ok(Reach::Undecided);
+        };
+        Ok(Reach::Stops(Stop {
+            time,
+            op,
+            overlapping: open_at(alloc, &self.kept, time)?,
+            words,
+        }))
+    }
+
+    /// Where they stop being explained, within the first so many, up to the end of the last of which they are not.
+    fn stop_within<P: Progress>(
+        &self,
+        alloc: Global,
+        ops: &[Observed],
+        count: usize,
+        budget: u64,
+        progress: &mut P,
+    ) -> Result<Reach, AllocError>
+        requires kept { ops.now ≡ operations self.now.kept }
+        requires within { count ≤ length ops.now }
+        requires seen { AreSeen self.now ops.now count }
+        requires last { (trace : List Observed) (g w : ℕ) → IsRecentOf trace g w self.now → (0 < count) × (IsExplained (at ops.now (count - 1)).end trace g w → ⊥) }
+        ensures whole { IfOk result (λ reach. IfWhole reach (λ words. ⊥)) }
+        ensures stops { IfOk result (λ reach. IfStops reach (λ stop. (trace : List Observed) (g w : ℕ) → IsRecentOf trace g w self.now → IsStop trace g w stop)) }
+        ensures undecided { IfOk result (λ reach. IfUndecided reach ((trace : List Observed) (g w : ℕ) → IsRecentOf trace g w self.now → LookedAtLeast P.looked progress.old progress.new budget)) }
+        ensures looked { IfOk result (λ _. LookedSome P.looked progress.old progress.new) }
+    {
+        if count == 0 {
+            return Ok(Reach::Undecided);
+        }
+        let place = self.first_place(alloc, ops, count, budget, progress)?;
+        self.stop_at(alloc, ops, place, budget, progress)
+    }
+
+    /// How far the operations that were told can be explained. `budget` is how many states may be looked at in each search.
+    ///
+    /// ```
+    /// match recent.reach(alloc, 1_000_000, &mut NoProgress)? {
+    ///     Reach::Whole(words) => goes_on_from(&words),
+    ///     Reach::Stops(stop) => show(&stop),
+    ///     Reach::Undecided => take_more_time(),
+    /// }
+    /// ```
+    pub fn reach<P: Progress>(
+        &self,
+        alloc: Global,
+        budget: u64,
+        progress: &mut P,
+    ) -> Result<Reach, AllocError>
+        ensures whole { IfOk result (λ reach. IfWhole reach (λ words. (trace : List Observed) (g w : ℕ) → IsRecentOf trace g w self.now → AreLast trace g w words)) }
+        ensures stops { IfOk result (λ reach. IfStops reach (λ stop. (trace : List Observed) (g w : ℕ) → IsRecentOf trace g w self.now → IsStop trace g w stop)) }
+        ensures undecided { IfOk result (λ reach. IfUndecided reach ((trace : List Observed) (g w : ℕ) → IsRecentOf trace g w self.now → LookedAtLeast P.looked progress.old progress.new budget)) }
+        ensures looked { IfOk result (λ _. LookedSome P.looked progress.old progress.new) }
+    {
+        granules_told();
+        let ops = operations(alloc, &self.kept)?;
+        if self.is_stopped {
+            let count = ended_before(&ops, self.horizon);
+            return self.stop_within(alloc, &ops, count, budget, progress);
+        }
+        match self.last_words(alloc, &ops, budget, progress)? {
+            Words::Unknown => Ok(Reach::Undecided),
+            Words::Each(words) => {
+                if words.is_empty() {
+                    self.stop_within(alloc, &ops, ops.len(), budget, progress)
+                } else {
+                    Ok(Reach::Whole(words))
+                }
+            }
+        }
+    }
+}

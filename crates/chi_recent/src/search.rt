@@ -1,0 +1,76 @@
+//! A search that is told more operations.
+
+ghost use Rattle.std.specs.Prelude.{◌≡◌, ◌+◌, ◌-◌, ◌≤◌, ◌<◌, ◌⊎◌, ℕ, ◌++◌, ◌↔◌, List, All, None, IfOk, IfSome, length, take};
+ghost use Rattle.std.specs.List.{Contains};
+ghost use Rattle.chi_search.specs.Found.{IfUnknown, IfWords};
+ghost use Rattle.chi_search.specs.Frontiers.{Follows, MayBeTold};
+ghost use Rattle.chi_search.specs.Layers.{SomeLeads};
+ghost use Rattle.chi_search.specs.Looks.{LookedMore};
+ghost use Rattle.chi_trace.specs.Cuts.{cut};
+ghost use Rattle.chi_trace.specs.Explains.{at};
+ghost use Rattle.chi_trace.specs.declared.observed.Observed.{Observed};
+ghost use Rattle.chi_recent.specs.Looks.{LookedSome};
+ghost use Rattle.chi_recent.specs.Recent.{LiesWithin};
+
+use chi_search::{Frontier, Progress, Words};
+use chi_trace::Observed;
+use chi_verdict::cut;
+use std::alloc::{AllocError, Global};
+
+/// The search once more operations are told, one after the other. There is none where one of them cannot be told next.
+pub(crate) fn told_after(
+    alloc: Global,
+    before: &Frontier,
+    more: &[Observed],
+) -> Result<Option<Frontier>, AllocError>
+    ensures follows { IfOk result (λ after. IfSome after (λ frontier. (words : List ℕ) (told : List Observed) → Follows words told before.now → Follows words (told ++ more.now) frontier)) }
+    ensures next { IfOk result (λ after. IfSome after (λ frontier. (rest : List Observed) → MayBeTold before.now (more.now ++ rest) → MayBeTold frontier rest)) }
+    ensures horizon { IfOk result (λ after. IfSome after (λ frontier. frontier.horizon ≡ before.now.horizon)) }
+    ensures latest { IfOk result (λ after. IfSome after (λ frontier. (time : ℕ) → before.now.latest ≤ time → All (λ op. op.end ≤ time) more.now → frontier.latest ≤ time)) }
+    ensures refused { IfOk result (λ after. after ≡ None → MayBeTold before.now more.now → All LiesWithin more.now → ⊥) }
+{
+    let mut after = before.copy(alloc)?;
+    for op in more {
+        if !after.add(op)? {
+            return Ok(None);
+        }
+    }
+    Ok(Some(after))
+}
+
+/// Each word that is left once more operations are told, one after the other. They are not known where the budget was spent,
+/// or one of them cannot be told next.
+pub(crate) fn words_after<P: Progress>(
+    alloc: Global,
+    before: &Frontier,
+    more: &[Observed],
+    budget: u64,
+    progress: &mut P,
+) -> Result<Words, AllocError>
+    ensures words { IfOk result (λ found. IfWords found (λ each. (words : List ℕ) (told : List Observed) → Follows words told before.now → (v : ℕ) → Contains each v ↔ SomeLeads (told ++ more.now) words v)) }
+    ensures unknown { IfOk result (λ found. IfUnknown found (MayBeTold before.now more.now → All LiesWithin more.now → LookedMore P.looked progress.old progress.new budget)) }
+    ensures looked { IfOk result (λ _. LookedSome P.looked progress.old progress.new) }
+{
+    let mut left = budget;
+    match told_after(alloc, before, more)? {
+        Some(after) => after.words(alloc, &mut left, progress),
+        None => Ok(Words::Unknown),
+    }
+}
+
+/// The same by a time: of the operations that had started, with the replies of those that had ended.
+pub(crate) fn words_by<P: Progress>(
+    alloc: Global,
+    before: &Frontier,
+    more: &[Observed],
+    time: u64,
+    budget: u64,
+    progress: &mut P,
+) -> Result<Words, AllocError>
+    ensures words { IfOk result (λ found. IfWords found (λ each. (words : List ℕ) (told : List Observed) → Follows words told before.now → (v : ℕ) → Contains each v ↔ SomeLeads (told ++ cut time more.now) words v)) }
+    ensures unknown { IfOk result (λ found. IfUnknown found (MayBeTold before.now more.now → All LiesWithin more.now → LookedMore P.looked progress.old progress.new budget)) }
+    ensures looked { IfOk result (λ _. LookedSome P.looked progress.old progress.new) }
+{
+    let known = cut(alloc, more, time)?;
+    words_after(alloc, before, &known, budget, progress)
+}

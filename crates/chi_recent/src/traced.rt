@@ -1,0 +1,14 @@
+//! An operation with its request.
+
+use chi_reading::Asked;
+use chi_trace::Observed;
+
+/// An operation that was observed, and the request that it is, as it was taken: its requester, transaction, opcode, size, address
+/// and byte order. Byte enables and lanes of the request are looked at no more; those of the operation count.
+///
+/// Source: profile.
+#[derive(Clone, Copy, Debug)]
+pub struct Traced {
+    pub asked: Asked,
+    pub op: Observed,
+}
