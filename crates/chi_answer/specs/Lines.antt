@@ -3,6 +3,7 @@ use Rattle.std.specs.Prelude.{ℕ, ◌-◌, ◌*◌, ◌^◌, ◌%◌, ◌==◌,
 use Rattle.chi_fields.specs.declared.request.Request.{Request}
 use Rattle.chi_lanes.specs.declared.reply.Reply.{Reply}
 use Rattle.chi_trace.specs.Explains.{at}
+use Rattle.chi_trace.specs.declared.observed.Observed.{Observed}
 use Rattle.chi_script.specs.Transcript.{address_text, reply_text, request_text, word_text}
 use Rattle.chi_reading.specs.declared.asked.Asked.{Asked}
 use Rattle.chi_reading.specs.TraceText.{RecordedValue, no_request}
@@ -23,10 +24,6 @@ operation_text a reply = request_text (request_in a) ++ (seen_text reply ++ code
 -- the request at a place of the trace, the places counted from 0
 abbrev pub asked_at : RecordedValue → ℕ → Asked
 asked_at r i = slice_index_or r.requests i no_request
-
--- the line of the operation at a place, as it was observed
-abbrev pub observed_text : RecordedValue → ℕ → List ℕ
-observed_text r i = operation_text (asked_at r i) (at r.trace.operations i).reply
 
 -- the granule of which no order explains the operations, by its address
 unfoldable pub granule_line : ℕ → List ℕ
@@ -50,12 +47,20 @@ abbrev pub until_text : ℕ → List ℕ
 until_text end = if end == 2 ^ 64 - 1 then codes " on: " else codes " to " ++ decimal end ++ codes ": "
 
 -- an operation that was open, with its times
-unfoldable pub open_line : RecordedValue → ℕ → List ℕ
-open_line r i = codes "  open from " ++ decimal (at r.trace.operations i).start ++ until_text (at r.trace.operations i).end ++ observed_text r i
+unfoldable pub open_line : Asked → Observed → List ℕ
+open_line a op = codes "  open from " ++ decimal op.start ++ until_text op.end ++ operation_text a op.reply
+
+-- the one at a place of the trace
+abbrev pub open_at : RecordedValue → ℕ → List ℕ
+open_at r i = open_line (asked_at r i) (at r.trace.operations i)
 
 -- the operation that ended at the time up to which they cannot be explained
-unfoldable pub blamed_line : RecordedValue → ℕ → ℕ → List ℕ
-blamed_line r time i = codes "at " ++ decimal time ++ codes ": " ++ observed_text r i
+unfoldable pub blamed_line : ℕ → Asked → Observed → List ℕ
+blamed_line time a op = codes "at " ++ decimal time ++ codes ": " ++ operation_text a op.reply
+
+-- the one at a place of the trace
+abbrev pub blamed_at : RecordedValue → ℕ → ℕ → List ℕ
+blamed_at r time i = blamed_line time (asked_at r i) (at r.trace.operations i)
 
 -- the time up to which they can, where there is one
 unfoldable pub explained_line : ℕ → ℕ → List ℕ

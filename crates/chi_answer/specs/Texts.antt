@@ -7,7 +7,7 @@ use Rattle.chi_verdict.specs.Words.{told}
 use Rattle.chi_reading.specs.TraceText.{RecordedValue}
 use Rattle.chi_answer.specs.declared.answer.Answer.{Answer}
 use Rattle.chi_answer.specs.declared.answer.Answer.TheVariants.{Explained, Blamed, Unexplained, Undecided}
-use Rattle.chi_answer.specs.Lines.{blamed_line, end_line, explained_line, granule_line, open_line, undecided_line, word_lines}
+use Rattle.chi_answer.specs.Lines.{blamed_at, end_line, explained_line, granule_line, open_at, undecided_line, word_lines}
 use Rattle.chi_answer.specs.Witnesses.{IsWitness}
 
 -- words that a granule can hold, where they were found
@@ -18,8 +18,8 @@ found_words Unknown = []
 -- where the trace stops being explained
 abbrev pub blame_text : RecordedValue → Blame → List ℕ
 blame_text r blame =
-    granule_line blame.granule ++ (blamed_line r blame.time blame.op
-    ++ (found_words blame.words ++ (flat_map (open_line r) blame.overlapping.items ++ explained_line blame.time (vec_len blame.order))))
+    granule_line blame.granule ++ (blamed_at r blame.time blame.op
+    ++ (found_words blame.words ++ (flat_map (open_at r) blame.overlapping.items ++ explained_line blame.time (vec_len blame.order))))
 
 -- the word that was observed at the end, and those that could have been there
 abbrev pub end_words : ℕ → List ℕ → List ℕ

@@ -1,38 +1,46 @@
 //! The lines of where a trace stops being explained.
 
 ghost use Rattle.std.specs.Prelude.{◌≡◌, ◌++◌, ◌<◌, All, OnOk, flat_map, length};
-ghost use Rattle.chi_trace.specs.Explains.{at};
-ghost use Rattle.chi_answer.specs.Lines.{blamed_line, end_line, explained_line, observed_text, open_line, until_text};
+ghost use Rattle.chi_answer.specs.Lines.{blamed_at, blamed_line, end_line, explained_line, open_at, open_line, until_text};
 
 use crate::lines::add_operation;
 use crate::part::{Part, add_parts};
-use chi_reading::Recorded;
+use chi_reading::{Asked, Recorded};
+use chi_trace::Observed;
 use std::alloc::AllocError;
 
-/// The line of the operation at a place, as it was observed.
-fn add_observed(to: &mut Vec<u8>, recorded: &Recorded, place: usize) -> Result<(), AllocError>
-    requires { place < length recorded.now.trace.operations }
-    ensures { OnOk result (to.new.items ≡ to.old.items ++ observed_text recorded.now place) }
+/// Adds the line of an operation that was answered at a time up to which its granule's operations cannot be explained.
+///
+/// ```
+/// add_blamed(&mut text, 40, &asked, &op)?; // at 40: 2 1 30 AtomicLoad.ADD 3 0000000000001008 comp
+/// ```
+pub fn add_blamed(
+    to: &mut Vec<u8>,
+    time: u64,
+    asked: &Asked,
+    op: &Observed,
+) -> Result<(), AllocError>
+    ensures { OnOk result (to.new.items ≡ to.old.items ++ blamed_line time asked.now op.now) }
 {
-    let reply = recorded.trace().operations()[place].reply;
-    add_operation(to, &recorded.requests()[place], reply)
+    add_parts(
+        to,
+        &[Part::Text("at "), Part::Number(time), Part::Text(": ")],
+    )?;
+    add_operation(to, asked, op.reply)
 }
 
-/// The line of the operation that ended at the time up to which they cannot be explained.
-pub(crate) fn add_blamed(
+/// The line of the operation at a place of the trace that was answered at the time.
+pub(crate) fn add_blamed_at(
     to: &mut Vec<u8>,
     recorded: &Recorded,
     time: u64,
     place: usize,
 ) -> Result<(), AllocError>
     requires { place < length recorded.now.trace.operations }
-    ensures { OnOk result (to.new.items ≡ to.old.items ++ blamed_line recorded.now time place) }
+    ensures { OnOk result (to.new.items ≡ to.old.items ++ blamed_at recorded.now time place) }
 {
-    add_parts(
-        to,
-        &[Part::Text("at "), Part::Number(time), Part::Text(": ")],
-    )?;
-    add_observed(to, recorded, place)
+    let op = &recorded.trace().operations()[place];
+    add_blamed(to, time, &recorded.requests()[place], op)
 }
 
 /// Until when an operation was open.
@@ -48,25 +56,26 @@ fn add_until(to: &mut Vec<u8>, end: u64) -> Result<(), AllocError>
     )
 }
 
-/// When the operation at a place started and ended.
-fn times_at(recorded: &Recorded, place: usize) -> (u64, u64)
-    requires { place < length recorded.now.trace.operations }
-    ensures start { result.0 ≡ (at recorded.now.trace.operations place).start }
-    ensures end { result.1 ≡ (at recorded.now.trace.operations place).end }
+/// Adds the line of an operation that was open, with its times.
+///
+/// ```
+/// add_open(&mut text, &asked, &op)?; //   open from 30 to 40: 2 1 30 AtomicLoad.ADD 3 0000000000001008 comp
+/// ```
+pub fn add_open(to: &mut Vec<u8>, asked: &Asked, op: &Observed) -> Result<(), AllocError>
+    ensures { OnOk result (to.new.items ≡ to.old.items ++ open_line asked.now op.now) }
 {
-    let op = &recorded.trace().operations()[place];
-    (op.start, op.end)
+    add_parts(to, &[Part::Text("  open from "), Part::Number(op.start)])?;
+    add_until(to, op.end)?;
+    add_operation(to, asked, op.reply)
 }
 
-/// The line of an operation that was open.
-fn add_open(to: &mut Vec<u8>, recorded: &Recorded, place: usize) -> Result<(), AllocError>
+/// The line of the operation at a place of the trace, which was open.
+fn add_open_at(to: &mut Vec<u8>, recorded: &Recorded, place: usize) -> Result<(), AllocError>
     requires { place < length recorded.now.trace.operations }
-    ensures { OnOk result (to.new.items ≡ to.old.items ++ open_line recorded.now place) }
+    ensures { OnOk result (to.new.items ≡ to.old.items ++ open_at recorded.now place) }
 {
-    let (start, end) = times_at(recorded, place);
-    add_parts(to, &[Part::Text("  open from "), Part::Number(start)])?;
-    add_until(to, end)?;
-    add_observed(to, recorded, place)
+    let op = &recorded.trace().operations()[place];
+    add_open(to, &recorded.requests()[place], op)
 }
 
 /// The lines of the operations that were open.
@@ -76,10 +85,10 @@ pub(crate) fn add_overlapping(
     places: &[usize],
 ) -> Result<(), AllocError>
     requires { All (λ place. place < length recorded.now.trace.operations) places.now }
-    ensures { OnOk result (to.new.items ≡ to.old.items ++ flat_map (open_line recorded.now) places.now) }
+    ensures { OnOk result (to.new.items ≡ to.old.items ++ flat_map (open_at recorded.now) places.now) }
 {
     for place in places {
-        add_open(to, recorded, *place)?;
+        add_open_at(to, recorded, *place)?;
     }
     Ok(())
 }
@@ -103,8 +112,12 @@ pub(crate) fn add_explained(to: &mut Vec<u8>, time: u64, count: usize) -> Result
     )
 }
 
-/// The line of the word that was observed at the end.
-pub(crate) fn add_end(to: &mut Vec<u8>, word: u64) -> Result<(), AllocError>
+/// Adds the line of the word that was observed at the end.
+///
+/// ```
+/// add_end(&mut text, 4)?; // at the end: 0400000000000000
+/// ```
+pub fn add_end(to: &mut Vec<u8>, word: u64) -> Result<(), AllocError>
     ensures { OnOk result (to.new.items ≡ to.old.items ++ end_line word) }
 {
     add_parts(

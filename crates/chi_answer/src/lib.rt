@@ -9,6 +9,7 @@ mod text;
 mod witness;
 
 pub use answer::{Answer, answer_of};
-pub use lines::{add_granule, add_undecided};
+pub use blame_lines::{add_blamed, add_end, add_open};
+pub use lines::{add_granule, add_undecided, add_words};
 pub use part::{Part, add_parts};
 pub use text::answer_text;

@@ -6,7 +6,7 @@ ghost use Rattle.chi_answer.specs.Answers.{IsAnswer};
 ghost use Rattle.chi_answer.specs.Texts.{IsText, blame_text, end_text, found_words};
 
 use crate::answer::Answer;
-use crate::blame_lines::{add_blamed, add_end, add_explained, add_overlapping};
+use crate::blame_lines::{add_blamed_at, add_end, add_explained, add_overlapping};
 use crate::lines::{add_granule, add_undecided, add_words};
 use crate::part::{Part, add_parts};
 use crate::witness::add_witness;
@@ -31,7 +31,7 @@ fn add_blame(to: &mut Vec<u8>, recorded: &Recorded, blame: &Blame) -> Result<(),
     ensures { OnOk result (to.new.items ≡ to.old.items ++ blame_text recorded.now blame.now) }
 {
     add_granule(to, blame.granule)?;
-    add_blamed(to, recorded, blame.time, blame.op)?;
+    add_blamed_at(to, recorded, blame.time, blame.op)?;
     add_found(to, &blame.words)?;
     add_overlapping(to, recorded, &blame.overlapping)?;
     add_explained(to, blame.time, blame.order.len())
