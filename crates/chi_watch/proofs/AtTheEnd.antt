@@ -1,11 +1,15 @@
 -- what is said of the events by the granules once all that is still open was told
-use Rattle.std.proofs.Common.{◌≡◌, ℕ, ◌++◌, ◌⊎◌, true, inl, inr, List, [], ◌∷◌, All, Option, Some, None, IfSome, filter, length, sym, ap, subst, ◌∙◌, arith}
+use Rattle.std.proofs.Common.{◌≡◌, ℕ, ◌-◌, ◌^◌, ◌++◌, ◌⊎◌, true, inl, inr, List, [], ◌∷◌, All, Option, Some, None, IfSome, filter, length, sym, ap, subst, ◌∙◌, arith}
 use Rattle.std.specs.Prelude.{filter_map}
 use Rattle.std.specs.List.{Contains}
-use Rattle.std.proofs.lemmas.List.Elements.{filter-append}
+use Rattle.std.proofs.lemmas.List.Elements.{All-cons, All-head, All-nil, All-tail, filter-append}
 use Rattle.chi_events.specs.EventLaws.{OperationsAreTold}
+use Rattle.chi_events.specs.Operations.{operations}
 use Rattle.chi_events.specs.Outstanding.{IsOpen, open_operation}
 use Rattle.chi_events.specs.declared.event.Event.{Event}
+use Rattle.chi_recent.specs.Reaches.{IfUndecided, IsRecentOf}
+use Rattle.chi_recent.specs.Recent.{Keeps}
+use Rattle.chi_recent.proofs.Keeping.{keeps_later}
 use Rattle.chi_search.specs.Frontiers.{Follows}
 use Rattle.chi_search.specs.Layers.{SomeLeads}
 use Rattle.chi_trace.specs.Chosen.{GranulesTold, is_in}
@@ -16,11 +20,14 @@ use Rattle.chi_watch.specs.Endings.{AreToldTo, CanClose, IsExplainable, IsInexpl
 use Rattle.chi_watch.specs.Followed.{IsWord}
 use Rattle.chi_watch.specs.Judged.{IsExplained, finals, is_known, openings}
 use Rattle.chi_watch.specs.Quiet.{CanBeExplained}
+use Rattle.chi_watch.specs.Reaching.{IsFoundAtEnd, IsFoundIn, IsOfSomeTrace, ReachesBy, granules_of}
 use Rattle.chi_watch.specs.Watches.{HasTaken, IsGranuleOf, IsUnexplained, Watches, WatchValue, granule}
+use Rattle.chi_watch.specs.declared.ending.FoundAtEnd.{FoundAtEnd}
 use Rattle.chi_watch.specs.declared.followed.Followed.{Followed}
 use Rattle.chi_watch.proofs.Opened.{all_can_close}
 use Rattle.chi_watch.proofs.ToldAtTheEnd.{own_open}
-use Rattle.chi_watch.proofs.Verdicts.{explained, leads_none, one_explained, unexplained}
+use Rattle.chi_watch.proofs.Reached.{undecided_weaker}
+use Rattle.chi_watch.proofs.Verdicts.{all_told, explained, leads_none, one_explained, unexplained}
 
 -- the operations of each granule that are open were told of it
 abbrev pub AreClosed : WatchValue → (ℕ → Option Followed) → Type 0
@@ -42,6 +49,7 @@ module _ (events : List Event) (ended : List Observed) (w : WatchValue) (new : �
   record IsFollowed (g : ℕ) (f : Followed) : Type 0 where
     known : f.is_known ≡ is_known events g
     follows : is_known events g ≡ true → Follows (word_told (openings events) g ∷ []) (operations_of ended w g) f.frontier
+    recent : is_known events g ≡ true → Keeps (word_told (openings events) g ∷ []) (operations_of ended w g) (2 ^ 64 - 1) f.recent
     last : f.last ≡ told (finals events) g
 
   followed : (g : ℕ) (a : Option Followed) (f : Followed) → IsGranuleOf events ended w.outstanding g a → AreToldTo (own_open g w.outstanding.requests) a (Some f) → IsFollowed g f
@@ -51,7 +59,21 @@ module _ (events : List Event) (ended : List Observed) (w : WatchValue) (new : �
     follows = λ known.
         subst (λ l. Follows (word_told (openings events) g ∷ []) l f.frontier) (parted g)
         (more.follows (was.known ∙ known) (word_told (openings events) g ∷ []) (filter (is_in g) ended) (was.follows (was.known ∙ known)));
+    recent = λ known.
+        subst (λ l. Keeps (word_told (openings events) g ∷ []) l (2 ^ 64 - 1) f.recent) (parted g)
+        (more.recent (was.known ∙ known) (word_told (openings events) g ∷ []) (filter (is_in g) ended)
+        (keeps_later (word_told (openings events) g ∷ []) (filter (is_in g) ended) w.outstanding.time before.recent (was.recent (was.known ∙ known)) (2 ^ 64 - 1) (omega (arith, is.time))));
     last = more.last ∙ was.last;
+  }
+
+  -- and the last of them are kept.
+  closed_recent : OperationsAreTold → (g : ℕ) (f : Followed) → IsFollowed g f → is_known events g ≡ true → IsRecentOf (operations events) g (word_told (openings events) g) f.recent
+  closed_recent operations_law g f own known = record {
+    traced = (operations_law events ended w.outstanding is.tells).0;
+    told = operations_of ended w g;
+    now = 2 ^ 64 - 1;
+    moved = all_told operations_law events ended w.outstanding g is.tells;
+    keeps = own.recent known;
   }
 
   -- One that is not watched has none.
@@ -75,6 +97,32 @@ module _ (events : List Event) (ended : List Observed) (w : WatchValue) (new : �
           unexplained operations_law granules_law parts_law events ended w.outstanding g is.tells known
           (λ v leads word. not.none (word_told (openings events) g ∷ []) _ (own.follows known) v leads (subst (λ o. IsWord o v) (sym own.last) word))
 
+  found_here : OperationsAreTold → (found : FoundAtEnd) → IsUnexplained events found.granule → IsInexplicableAt (new found.granule) → IsFoundIn new found → IsFoundAtEnd events found
+  found_here operations_law found not none said = by_case (new found.granule) (closed found.granule) none said.last said.reach
+    where
+      by_case : (b : Option Followed) → AreToldTo (own_open found.granule w.outstanding.requests) (granule w found.granule) b → IsInexplicableAt b
+          → IfSome b (λ f. found.last ≡ f.last) → IfSome b (λ f. ReachesBy f.recent found.reach) → IsFoundAtEnd events found
+      by_case None more none last reach = absurd none
+      by_case (Some f) more none last reach =
+          let own = followed found.granule (granule w found.granule) f (is.each found.granule) more in
+          record {
+            unexplained = not;
+            last = last ∙ own.last;
+            reach = reach (operations events) found.granule (word_told (openings events) found.granule) (closed_recent operations_law found.granule f own not.known);
+          }
+
+  unreached_here : OperationsAreTold → (A : Type 0) (found : FoundAtEnd) → IsUnexplained events found.granule → IsInexplicableAt (new found.granule)
+      → IfSome (new found.granule) (λ f. IfUndecided found.reach (IsOfSomeTrace f.recent → A)) → IfUndecided found.reach A
+  unreached_here operations_law A found not none spent = by_case (new found.granule) (closed found.granule) none spent
+    where
+      by_case : (b : Option Followed) → AreToldTo (own_open found.granule w.outstanding.requests) (granule w found.granule) b → IsInexplicableAt b
+          → IfSome b (λ f. IfUndecided found.reach (IsOfSomeTrace f.recent → A)) → IfUndecided found.reach A
+      by_case None more none spent = absurd none
+      by_case (Some f) more none spent =
+          let own = followed found.granule (granule w found.granule) f (is.each found.granule) more in
+          undecided_weaker found.reach
+          (λ so. so (operations events, found.granule, word_told (openings events) found.granule, closed_recent operations_law found.granule f own not.known)) spent
+
   word_fits : (g : ℕ) → is_known events g ≡ true → (b : Option Followed) → AreToldTo (own_open g w.outstanding.requests) (granule w g) b → IfSome b IsExplainable → SomeWordFits events ended w g
   word_fits g known None more can = none_followed g (granule w g) (is.each g) more
   word_fits g known (Some f) more can =
@@ -91,10 +139,19 @@ module _ (events : List Event) (ended : List Observed) (w : WatchValue) (new : �
       let fits = word_fits g known (new g) (closed g) can in
       one_explained operations_law granules_law events ended w.outstanding g is.tells known fits.0 fits.1 fits.2
 
-pub ended_unexplained : OperationsAreTold → GranulesTold → PartsExplain → (w : WatchValue) (new : ℕ → Option Followed) → All (IsOpen w.outstanding.time) w.outstanding.requests
-    → (All (CanClose (granule w)) w.outstanding.requests → AreClosed w new) → (g : ℕ) → IsInexplicableAt (new g) → (events : List Event) → HasTaken events w → IsUnexplained events g
-ended_unexplained operations_law granules_law parts_law w new are_open closes g not events (ended, is) =
-    inexplicable events ended w new is (closes (all_can_close events ended w is are_open)) operations_law granules_law parts_law g not
+pub ended_found : OperationsAreTold → GranulesTold → PartsExplain → (w : WatchValue) (new : ℕ → Option Followed) → All (IsOpen w.outstanding.time) w.outstanding.requests
+    → (All (CanClose (granule w)) w.outstanding.requests → AreClosed w new) → (found : FoundAtEnd) → IsInexplicableAt (new found.granule) → IsFoundIn new found
+    → (events : List Event) → HasTaken events w → IsFoundAtEnd events found
+ended_found operations_law granules_law parts_law w new are_open closes found none said events (ended, is) =
+    let closed = closes (all_can_close events ended w is are_open) in
+    found_here events ended w new is closed operations_law found (inexplicable events ended w new is closed operations_law granules_law parts_law found.granule none) none said
+
+pub ended_unreached : OperationsAreTold → GranulesTold → PartsExplain → (A : Type 0) (w : WatchValue) (new : ℕ → Option Followed) → All (IsOpen w.outstanding.time) w.outstanding.requests
+    → (All (CanClose (granule w)) w.outstanding.requests → AreClosed w new) → (found : FoundAtEnd) → IsInexplicableAt (new found.granule)
+    → IfSome (new found.granule) (λ f. IfUndecided found.reach (IsOfSomeTrace f.recent → A)) → (events : List Event) → HasTaken events w → IfUndecided found.reach A
+ended_unreached operations_law granules_law parts_law A w new are_open closes found none spent events (ended, is) =
+    let closed = closes (all_can_close events ended w is are_open) in
+    unreached_here events ended w new is closed operations_law A found (inexplicable events ended w new is closed operations_law granules_law parts_law found.granule none) none spent
 
 pub ended_explained : OperationsAreTold → GranulesTold → GranulesExplain → (w : WatchValue) (new : ℕ → Option Followed) → All (IsOpen w.outstanding.time) w.outstanding.requests
     → (All (CanClose (granule w)) w.outstanding.requests → AreClosed w new) → ((g : ℕ) → IfSome (new g) IsExplainable) → (events : List Event) → HasTaken events w → IsExplained events
@@ -117,6 +174,17 @@ ended_each operations_law granules_law A w new are_open closes g said events (en
     by_case None can explains = inl (explains tt)
     by_case (Some f) (inl can) explains = inl (explains can)
     by_case (Some f) (inr other) explains = inr other
+
+-- what is said of each granule that is listed
+pub all_found : (new : ℕ → Option Followed) (P Q : FoundAtEnd → Type 0) (found : List FoundAtEnd) (un : List ℕ) → granules_of found ≡ un → All (λ h. IsInexplicableAt (new h)) un → All P found
+    → ((f : FoundAtEnd) → IsInexplicableAt (new f.granule) → P f → Q f) → All Q found
+all_found new P Q found un same listed all each = go found (subst (All (λ h. IsInexplicableAt (new h))) (sym same) listed) all
+  where
+    go : (l : List FoundAtEnd) → All (λ h. IsInexplicableAt (new h)) (granules_of l) → All P l → All Q l
+    go [] none of_all = All-nil Q
+    go (f ∷ l) none of_all =
+        All-cons Q f l (each f (All-head (λ h. IsInexplicableAt (new h)) f.granule (granules_of l) none) (All-head P f l of_all))
+        (go l (All-tail (λ h. IsInexplicableAt (new h)) f.granule (granules_of l) none) (All-tail P f l of_all))
 
 none_contained : (l : List ℕ) (g : ℕ) → l ≡ [] → Contains l g → ⊥
 none_contained l g none (k, below, is) = omega (arith, below, ap length none)

@@ -5,6 +5,8 @@ use Rattle.std.proofs.lemmas.List.Elements.{All-contains, All-weaker, filter-app
 use Rattle.chi_events.specs.declared.event.Event.{Event}
 use Rattle.chi_events.specs.declared.outstanding.Open.{Open}
 use Rattle.chi_events.specs.Outstanding.{IsEndOf, OutstandingValue, StaysOrStarts}
+use Rattle.chi_recent.specs.Recent.{Keeps}
+use Rattle.chi_recent.proofs.Keeping.{keeps_later}
 use Rattle.chi_search.specs.Frontiers.{Follows}
 use Rattle.chi_trace.specs.Chosen.{is_in}
 use Rattle.chi_trace.specs.Granules.{granule_of}
@@ -44,6 +46,11 @@ module _ (events : List Event) (ended : List Observed) (before after : Outstandi
     latest = omega (arith, w.latest, later, now);
     past = omega (arith, w.past, later, now);
     horizon = starts_on g f.frontier.horizon w.past w.horizon;
+    recent = λ known.
+        subst (λ (ops : List Observed). Keeps (word_told (openings events) g ∷ []) ops after.time f.recent) (sym same)
+        (keeps_later (word_told (openings events) g ∷ []) (filter (is_in g) ended) before.time f.recent (w.recent known) after.time (omega (arith, later, now)));
+    recent_past = omega (arith, w.recent_past, later, now);
+    recent_horizon = starts_on g f.recent.horizon w.recent_past w.recent_horizon;
     last = w.last;
   }
 
@@ -55,10 +62,12 @@ module _ (events : List Event) (ended : List Observed) (before after : Outstandi
   module _ (op : Observed) (ends : IsEndOf before.requests e.time op) (horizon : ℕ) (early : horizon ≤ op.start) (g : ℕ) (is : granule_of op ≡ g) (earliest : StartsBy after.requests g horizon) where
     can_end : (f : Followed) → IsWatched events ended before g f → CanEnd horizon f op
     can_end f w =
-        let starts : f.frontier.horizon ≤ ends.request.start = All-contains (λ (q : Open). granule_asked q ≡ g → f.frontier.horizon ≤ q.start) before.requests ends.request w.horizon ends.is
-        (ap (λ n. n / 8) (sym ends.at) ∙ is) in
+        let own : granule_asked ends.request ≡ g = ap (λ n. n / 8) (sym ends.at) ∙ is in
+        let starts : f.frontier.horizon ≤ ends.request.start = All-contains (λ (q : Open). granule_asked q ≡ g → f.frontier.horizon ≤ q.start) before.requests ends.request w.horizon ends.is own in
+        let recent : f.recent.horizon ≤ ends.request.start = All-contains (λ (q : Open). granule_asked q ≡ g → f.recent.horizon ≤ q.start) before.requests ends.request w.recent_horizon ends.is own in
         record {
           past = omega (arith, starts, ends.start);
+          recent = omega (arith, recent, ends.start);
           starts = early;
           ends = omega (arith, w.latest, later, ends.end);
           lasting = ends.lasting;
@@ -70,19 +79,28 @@ module _ (events : List Event) (ended : List Observed) (before after : Outstandi
       known = t.known ∙ w.known;
       follows = λ so. subst (λ (ops : List Observed). Follows (word_told (openings events) g ∷ []) ops new.frontier) (sym (own_more g ended op is)) (t.follows (word_told (openings events) g ∷ []) (filter (is_in g) ended) (w.follows known));
       latest = omega (arith, t.latest, ends.end, now);
-      past = past t.horizon_is;
-      horizon = starts t.horizon_is;
+      past = past old.frontier.horizon new.frontier.horizon w.past t.horizon_is;
+      horizon = starts old.frontier.horizon new.frontier.horizon w.past w.horizon t.horizon_is;
+      recent = λ so.
+          subst (λ (ops : List Observed). Keeps (word_told (openings events) g ∷ []) ops after.time new.recent) (sym (own_more g ended op is))
+          (keeps_later (word_told (openings events) g ∷ []) (filter (is_in g) ended ++ op ∷ []) op.end new.recent (kept so) after.time (omega (arith, ends.end, now)));
+      recent_past = past old.recent.horizon new.recent.horizon w.recent_past t.recent_horizon;
+      recent_horizon = starts old.recent.horizon new.recent.horizon w.recent_past w.recent_horizon t.recent_horizon;
       last = t.last ∙ w.last;
     }
       where
-        past : (new.frontier.horizon ≤ horizon) ⊎ (new.frontier.horizon ≡ old.frontier.horizon) → new.frontier.horizon ≤ after.time
-        past (inl below) = omega (arith, below, early, ends.lasting, ends.end, now)
-        past (inr same) = omega (arith, same, w.past, later, now)
+        past : (from to : ℕ) → from ≤ before.time → (to ≤ horizon) ⊎ (to ≡ from) → to ≤ after.time
+        past from to was (inl below) = omega (arith, below, early, ends.lasting, ends.end, now)
+        past from to was (inr same) = omega (arith, same, was, later, now)
 
-        starts : (new.frontier.horizon ≤ horizon) ⊎ (new.frontier.horizon ≡ old.frontier.horizon) → StartsBy after.requests g new.frontier.horizon
-        starts (inl below) = All-weaker (λ (p : Open). granule_asked p ≡ g → horizon ≤ p.start) (λ (p : Open). granule_asked p ≡ g → new.frontier.horizon ≤ p.start)
+        starts : (from to : ℕ) → from ≤ before.time → StartsBy before.requests g from → (to ≤ horizon) ⊎ (to ≡ from) → StartsBy after.requests g to
+        starts from to was by (inl below) = All-weaker (λ (p : Open). granule_asked p ≡ g → horizon ≤ p.start) (λ (p : Open). granule_asked p ≡ g → to ≤ p.start)
             (λ p so own. let here : horizon ≤ p.start = so own in omega (arith, below, here)) after.requests earliest
-        starts (inr same) = subst (StartsBy after.requests g) (sym same) (starts_on g old.frontier.horizon w.past w.horizon)
+        starts from to was by (inr same) = subst (StartsBy after.requests g) (sym same) (starts_on g from was by)
+
+        kept : IsTrue new.is_known → Keeps (word_told (openings events) g ∷ []) (filter (is_in g) ended ++ op ∷ []) op.end new.recent
+        kept so = t.recent (word_told (openings events) g ∷ []) (filter (is_in g) ended)
+            (keeps_later (word_told (openings events) g ∷ []) (filter (is_in g) ended) before.time old.recent (w.recent known) op.end (omega (arith, later, ends.end)))
 
     unknown_on : (old : Followed) → old.is_known ≡ false → IsWatched events ended before g old → IsWatched events (ended ++ op ∷ []) after g old
     unknown_on old unknown w = record {
@@ -91,6 +109,9 @@ module _ (events : List Event) (ended : List Observed) (before after : Outstandi
       latest = omega (arith, w.latest, later, now);
       past = omega (arith, w.past, later, now);
       horizon = starts_on g old.frontier.horizon w.past w.horizon;
+      recent = λ known. absurd (true≢false (sym known ∙ unknown));
+      recent_past = omega (arith, w.recent_past, later, now);
+      recent_horizon = starts_on g old.recent.horizon w.recent_past w.recent_horizon;
       last = w.last;
     }
 

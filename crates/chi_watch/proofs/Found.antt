@@ -35,7 +35,7 @@ module _ (events : List Event) (ended : List Observed) (w : WatchValue) (are_ope
   none = quiet_none w.outstanding.requests g
       (All-weaker (IsOpen w.outstanding.time) (λ (p : Open). IfSome p.access (λ access. access.addr ≡ p.asked.addr)) (λ p o. o.at) w.outstanding.requests are_open) (is_quiet w.outstanding.requests g quiet)
 
-  alone : filter (is_in g) (ended ++ filter_map open_operation w.outstanding.requests) ≡ filter (is_in g) ended
+  pub alone : filter (is_in g) (ended ++ filter_map open_operation w.outstanding.requests) ≡ filter (is_in g) ended
   alone = filter-append (is_in g) ended (filter_map open_operation w.outstanding.requests) ∙ (ap (λ (ops : List Observed). filter (is_in g) ended ++ ops) none ∙ append-nil (filter (is_in g) ended))
 
 pub found_is : OperationsAreTold → GranulesTold → PartsExplain → (events : List Event) (w : WatchValue) → All (IsOpen w.outstanding.time) w.outstanding.requests → HasTaken events w

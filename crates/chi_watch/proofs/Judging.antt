@@ -16,8 +16,8 @@ use Rattle.chi_trace.specs.declared.observed.Observed.{Observed}
 use Rattle.chi_watch.specs.Endings.{IsExplainable, IsInexplicableAt, IsListed}
 use Rattle.chi_watch.specs.Followed.{IfExplained, IfUndecided, IfUnexplained, IsWord}
 use Rattle.chi_watch.specs.Listing.{IsListedAs}
-use Rattle.chi_watch.specs.Looks.{LookedSome}
-use Rattle.chi_watch.specs.declared.ending.Ending.{Ending}
+use Rattle.chi_recent.specs.Looks.{LookedSome}
+use Rattle.chi_watch.specs.declared.listing.Listed.{Listed}
 use Rattle.chi_watch.specs.declared.followed.Followed.{Followed}
 use Rattle.chi_watch.specs.declared.followed.Standing.{Standing}
 use Rattle.chi_watch.specs.declared.followed.Standing.TheVariants.{Explained, Undecided, Unexplained}
@@ -69,7 +69,7 @@ said_here entries un dec all g = by_case (lookup (is_at (nat_cmp g)) entries) re
 
 module _ {P : Type 0} (looked : P → ℕ → Type 0) (budget : ℕ) (get : ℕ → Option Followed) (entries : List (ℕ × Followed)) (start : P) where
   -- The entries before those that are left are explained or listed, as it is said. The map has each that is left.
-  pub record AreJudged (now : P) (ending : Ending) (left : List (ℕ × Followed)) : Type 0 where
+  pub record AreJudged (now : P) (ending : Listed) (left : List (ℕ × Followed)) : Type 0 where
     pub seen : List (ℕ × Followed)
     pub parts : entries ≡ seen ++ left
     pub said : All (IsSaid ending.unexplained.items ending.undecided.items) seen
@@ -77,7 +77,7 @@ module _ {P : Type 0} (looked : P → ℕ → Type 0) (budget : ℕ) (get : ℕ 
     pub none : All (λ g. IsInexplicableAt (get g)) ending.unexplained.items
     pub spent : LookedFor looked start now budget ending.undecided.items
 
-  pub judged_none : (ending : Ending) (left : List (ℕ × Followed)) → ending.unexplained.items ≡ [] → ending.undecided.items ≡ [] → left ≡ entries
+  pub judged_none : (ending : Listed) (left : List (ℕ × Followed)) → ending.unexplained.items ≡ [] → ending.undecided.items ≡ [] → left ≡ entries
       → All (λ e. get e.0 ≡ Some e.1) entries → AreJudged start ending left
   judged_none ending left no_un no_dec is has = record {
     seen = [];
@@ -89,12 +89,12 @@ module _ {P : Type 0} (looked : P → ℕ → Type 0) (budget : ℕ) (get : ℕ 
   }
 
   -- once none is left each is explained or listed
-  pub judged_all : (now : P) (ending : Ending) (left : List (ℕ × Followed)) → left ≡ [] → AreJudged now ending left
+  pub judged_all : (now : P) (ending : Listed) (left : List (ℕ × Followed)) → left ≡ [] → AreJudged now ending left
       → All (λ e. IsExplainable e.1 ⊎ IsListed e.0 ending.unexplained.items ending.undecided.items) entries
   judged_all now ending left none are =
       subst (All (IsSaid ending.unexplained.items ending.undecided.items)) (sym (are.parts ∙ (ap (λ l. are.seen ++ l) none ∙ append-nil are.seen))) are.said
 
-  module _ (now : P) (ending : Ending) (left rest : List (ℕ × Followed)) (g : ℕ) (f : Followed) (one : left ≡ (g, f) ∷ rest) (are : AreJudged now ending left) where
+  module _ (now : P) (ending : Listed) (left rest : List (ℕ × Followed)) (g : ℕ) (f : Followed) (one : left ≡ (g, f) ∷ rest) (are : AreJudged now ending left) where
     here : get g ≡ Some f
     here = All-head (λ e. get e.0 ≡ Some e.1) (g, f) rest (subst (All (λ e. get e.0 ≡ Some e.1)) one are.has)
 
@@ -123,7 +123,7 @@ module _ {P : Type 0} (looked : P → ℕ → Type 0) (budget : ℕ) (get : ℕ 
     }
 
     -- it was judged, and listed where it is not explained
-    module _ (known : IsTrue f.is_known) (later : P) (next : Ending) where
+    module _ (known : IsTrue f.is_known) (later : P) (next : Listed) where
       pub listed : (s : Standing) → IfExplained s ((words : List ℕ) (told : List Observed) → Follows words told f.frontier → (v : ℕ) × SomeLeads told words v × IsWord f.last v)
           → IfUnexplained s ((words : List ℕ) (told : List Observed) → Follows words told f.frontier → (v : ℕ) → SomeLeads told words v → IsWord f.last v → ⊥)
           → IfUndecided s (LookedMore looked now later budget) → LookedSome looked now later → IsListedAs s g ending next → AreJudged later next rest

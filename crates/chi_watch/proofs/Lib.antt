@@ -8,6 +8,7 @@ pub mod Looked
 pub mod Noted
 pub mod NotedKinds
 pub mod Opened
+pub mod Reached
 pub mod Taken
 pub mod ToldAtTheEnd
 pub mod Verdicts

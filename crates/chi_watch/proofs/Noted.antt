@@ -7,6 +7,8 @@ use Rattle.std.proofs.lemmas.List.Folds.{list_any-append}
 use Rattle.chi_events.specs.declared.event.Event.{Event}
 use Rattle.chi_events.specs.declared.outstanding.Open.{Open}
 use Rattle.chi_events.specs.Outstanding.{OutstandingValue}
+use Rattle.chi_recent.specs.Recent.{Keeps}
+use Rattle.chi_recent.proofs.Keeping.{keeps_later}
 use Rattle.chi_search.specs.Frontiers.{Follows}
 use Rattle.chi_trace.specs.Chosen.{is_in}
 use Rattle.chi_trace.specs.declared.observed.Observed.{Observed}
@@ -15,7 +17,7 @@ use Rattle.chi_verdict.specs.Words.{told, word_told}
 use Rattle.chi_watch.specs.declared.followed.Followed.{Followed}
 use Rattle.chi_watch.specs.Changes.{IsUntouched}
 use Rattle.chi_watch.specs.Judged.{covers, final_in, finals, is_known, opening_in, openings}
-use Rattle.chi_watch.specs.Requests.{granule_asked}
+use Rattle.chi_watch.specs.Requests.{StartsBy, granule_asked}
 use Rattle.chi_watch.specs.Watches.{IsGranuleOf, IsWatched}
 
 -- what is told of a granule by two lists of words
@@ -39,6 +41,10 @@ pub told_own : (xs : List GranuleWord) (w : GranuleWord) → told xs w.granule �
 unfolding told
 told_own xs w none = told_both xs (w ∷ []) w.granule none ∙ ap (λ (b : Bool). cond b (Some w.word) None) (eq-eqb w.granule w.granule refl)
 
+-- no request starts before time 0
+pub from_start : (o : OutstandingValue) (g horizon : ℕ) → horizon ≡ 0 → StartsBy o.requests g horizon
+from_start o g horizon none = All-weaker (λ (p : Open). Unit {0}) (λ (p : Open). granule_asked p ≡ g → horizon ≤ p.start) (λ p all is. omega (arith, none)) o.requests (λ i d below. tt)
+
 -- a granule that is watched from now on
 pub begun : (events : List Event) (ended : List Observed) (o : OutstandingValue) (g word : ℕ) (f : Followed) → is_known events g ≡ true → filter (is_in g) ended ≡ [] → word_told (openings events) g ≡ word
     → told (finals events) g ≡ None → IsUntouched word f → IsWatched events ended o g f
@@ -47,7 +53,12 @@ begun events ended o g word f known none opening last u = record {
   follows = λ so. subst (λ (w : ℕ). Follows (w ∷ []) (filter (is_in g) ended) f.frontier) (sym opening) (subst (λ (ops : List Observed). Follows (word ∷ []) ops f.frontier) (sym none) u.follows);
   latest = omega (arith, u.latest);
   past = omega (arith, u.horizon);
-  horizon = All-weaker (λ (p : Open). Unit {0}) (λ (p : Open). granule_asked p ≡ g → f.frontier.horizon ≤ p.start) (λ p all is. omega (arith, u.horizon)) o.requests (λ i d below. tt);
+  horizon = from_start o g f.frontier.horizon u.horizon;
+  recent = λ so.
+      subst (λ (w : ℕ). Keeps (w ∷ []) (filter (is_in g) ended) o.time f.recent) (sym opening)
+      (subst (λ (ops : List Observed). Keeps (word ∷ []) ops o.time f.recent) (sym none) (keeps_later (word ∷ []) [] 0 f.recent u.recent o.time (omega arith)));
+  recent_past = omega (arith, u.recent_horizon);
+  recent_horizon = from_start o g f.recent.horizon u.recent_horizon;
   last = u.last ∙ sym last;
 }
 
@@ -86,5 +97,8 @@ module _ (events : List Event) (e : Event) where
       latest = w.latest;
       past = w.past;
       horizon = w.horizon;
+      recent = λ so. subst (λ (word : Option ℕ). Keeps (unwrap_or word 0 ∷ []) (filter (is_in g) ended) o.time f.recent) (sym opening) (w.recent so);
+      recent_past = w.recent_past;
+      recent_horizon = w.recent_horizon;
       last = w.last ∙ sym last;
     }

@@ -1,12 +1,11 @@
 -- what a watch knows once an event was noted, by the kind of the event
 use Rattle.std.proofs.Common.{◌≡◌, ℕ, ◌/◌, ◌==◌, ◌≤◌, Bool, true, false, List, [], ◌∷◌, ◌++◌, Option, Some, None, is_some, filter, filter_map, refl, sym, ap, subst, ◌∙◌, arith, append-nil, ne_eqb, eqb-true, eq-eqb, true≢false}
 use Rattle.std.specs.Option.{unwrap_or}
-use Rattle.std.proofs.lemmas.List.Elements.{All-weaker}
 use Rattle.chi_events.specs.declared.event.Event.{Event}
 use Rattle.chi_events.specs.declared.event.EventKind.{EventKind}
 use Rattle.chi_events.specs.declared.event.EventKind.TheVariants.{Request, Data, Reply, Dropped, Word, Final, Unknown}
-use Rattle.chi_events.specs.declared.outstanding.Open.{Open}
 use Rattle.chi_events.specs.Outstanding.{OutstandingValue}
+use Rattle.chi_recent.specs.Recent.{Keeps, RecentValue}
 use Rattle.chi_search.specs.Frontiers.{Follows, FrontierValue}
 use Rattle.chi_trace.specs.Chosen.{is_in}
 use Rattle.chi_trace.specs.declared.observed.Observed.{Observed}
@@ -15,9 +14,9 @@ use Rattle.chi_verdict.specs.Words.{told}
 use Rattle.chi_watch.specs.declared.followed.Followed.{Followed}
 use Rattle.chi_watch.specs.Changes.{IsForgotten, IsGone, IsNoted, IsSameOrUntouched, IsTouched, IsTouchedAndMarked}
 use Rattle.chi_watch.specs.Judged.{covers, final_in, finals, opening_in, openings}
-use Rattle.chi_watch.specs.Requests.{StartsBy, granule_asked}
+use Rattle.chi_watch.specs.Requests.{StartsBy}
 use Rattle.chi_watch.specs.Watches.{IsGranuleOf, IsUntold, IsWatched, has_last}
-use Rattle.chi_watch.proofs.Noted.{begun, finals_more, known_gone, known_same, openings_more, retold, told_other, told_own}
+use Rattle.chi_watch.proofs.Noted.{begun, finals_more, from_start, known_gone, known_same, openings_more, retold, told_other, told_own}
 
 one_none : {X Y : Type 0} (h : X → Option Y) (x : X) → h x ≡ None → filter_map h (x ∷ []) ≡ []
 one_none h x is = rw is refl
@@ -97,6 +96,9 @@ module _ (events : List Event) (e : Event) (ended : List Observed) (o : Outstand
       latest = base.latest;
       past = base.past;
       horizon = base.horizon;
+      recent = λ so. subst (λ (word : Option ℕ). Keeps (unwrap_or word 0 ∷ []) (filter (is_in w.granule) ended) o.time f.recent) (sym (no_opening (ap opening_in is) w.granule)) (base.recent so);
+      recent_past = base.recent_past;
+      recent_horizon = base.recent_horizon;
       last = sym (ap (λ (words : List GranuleWord). told words w.granule) (one_final w (ap final_in is)) ∙ told_own (finals events) w (sym base.last ∙ none));
     }
 
@@ -120,20 +122,26 @@ module _ (events : List Event) (e : Event) (ended : List Observed) (o : Outstand
     -- something that is not told
     gone : opening_in e.kind ≡ None → final_in e.kind ≡ None → (g : ℕ) → covers g e.kind ≡ true → (x y : Option Followed) → IsGone x y → Is g x → Will g y
     gone none none_final g covered x None was w = absurd was
-    gone none none_final g covered None (Some f) (unknown, horizon, latest, last) w = record {
+    gone none none_final g covered None (Some f) (unknown, horizon, latest, last, recent) w = record {
       known = unknown ∙ sym (known_gone events e g covered);
       follows = λ known. absurd (true≢false (sym known ∙ unknown));
       latest = omega (arith, latest);
       past = omega (arith, horizon);
-      horizon = All-weaker (λ (p : Open). Unit {0}) (λ (p : Open). granule_asked p ≡ g → f.frontier.horizon ≤ p.start) (λ p all is. omega (arith, horizon)) o.requests (λ i d below. tt);
+      horizon = from_start o g f.frontier.horizon horizon;
+      recent = λ known. absurd (true≢false (sym known ∙ unknown));
+      recent_past = omega (arith, recent);
+      recent_horizon = from_start o g f.recent.horizon recent;
       last = last ∙ sym (no_final none_final g ∙ w.last);
     }
-    gone none none_final g covered (Some before) (Some f) (unknown, frontier, last) w = record {
+    gone none none_final g covered (Some before) (Some f) (unknown, frontier, last, recent) w = record {
       known = unknown ∙ sym (known_gone events e g covered);
       follows = λ known. absurd (true≢false (sym known ∙ unknown));
       latest = subst (λ (s : FrontierValue). s.latest ≤ o.time) (sym frontier) w.latest;
       past = subst (λ (s : FrontierValue). s.horizon ≤ o.time) (sym frontier) w.past;
       horizon = subst (λ (s : FrontierValue). StartsBy o.requests g s.horizon) (sym frontier) w.horizon;
+      recent = λ known. absurd (true≢false (sym known ∙ unknown));
+      recent_past = subst (λ (r : RecentValue). r.horizon ≤ o.time) (sym recent) w.recent_past;
+      recent_horizon = subst (λ (r : RecentValue). StartsBy o.requests g r.horizon) (sym recent) w.recent_horizon;
       last = last ∙ (w.last ∙ sym (no_final none_final g));
     }
 

@@ -1,11 +1,12 @@
 -- operations that are open at the end, each told to the search of its granule
-use Rattle.std.proofs.Common.{◌≡◌, ℕ, ◌+◌, ◌-◌, ◌/◌, ◌^◌, ◌<◌, ◌≤◌, ◌==◌, ◌⊎◌, Bool, true, false, cond, List, [], ◌∷◌, All, Option, Some, None, IfSome, IsTrue, is_some, filter, inl, inr, refl, sym, ap, subst, ◌∙◌, arith, eqb-true, eq-eqb, true≢false}
+use Rattle.std.proofs.Common.{◌≡◌, ℕ, ◌+◌, ◌-◌, ◌/◌, ◌^◌, ◌<◌, ◌≤◌, ◌==◌, ◌⊎◌, Bool, true, false, cond, List, [], ◌∷◌, ◌++◌, All, Option, Some, None, IfSome, IsTrue, is_some, filter, inl, inr, refl, sym, ap, subst, ◌∙◌, arith, eqb-true, eq-eqb, true≢false}
 use Rattle.std.proofs.lemmas.List.Elements.{All-contains, All-contains_itself, All-weaker}
 use Rattle.std.specs.List.{Contains}
 use Rattle.chi_fields.specs.Access.{Access}
 use Rattle.chi_events.specs.Outstanding.{IsOpen, open_operation}
 use Rattle.chi_events.specs.declared.event.Event.{Event}
 use Rattle.chi_events.specs.declared.outstanding.Open.{Open}
+use Rattle.chi_recent.specs.Recent.{Keeps}
 use Rattle.chi_trace.specs.Chosen.{is_in}
 use Rattle.chi_trace.specs.Granules.{granule_of}
 use Rattle.chi_trace.specs.declared.observed.Observed.{Observed}
@@ -36,14 +37,16 @@ opened granules p op can = by_access p.access can.at can.within
 
 -- what the search of a granule that is told it takes
 module _ (op : Observed) (lasting : op.start ≤ op.end) (within : op.access.addr + op.access.len ≤ 2 ^ 52) (end : op.end ≡ 2 ^ 64 - 1) where
-  can_end : (f : Followed) → (f.frontier.horizon ≤ op.start) × (f.frontier.latest ≤ 2 ^ 64 - 1) → CanEnd 0 f op
-  can_end f takes = record { past = takes.0; starts = omega arith; ends = subst (λ n. f.frontier.latest ≤ n) (sym end) takes.1; lasting = lasting; within = within }
+  can_end : (f : Followed) → (f.frontier.horizon ≤ op.start) × (f.frontier.latest ≤ 2 ^ 64 - 1) × (f.recent.horizon ≤ op.start) → CanEnd 0 f op
+  can_end f takes = record { past = takes.0; recent = takes.2; starts = omega arith; ends = subst (λ n. f.frontier.latest ≤ n) (sym end) takes.1; lasting = lasting; within = within }
 
   told_to : (x y : Option Followed) → TakesOpen op.start x → IsClosed op 0 x y → AreToldTo (op ∷ []) x y
   told_to None y takes is = absurd takes
   told_to (Some f) None takes is = absurd is
   told_to (Some f) (Some h) takes is = record {
     follows = λ known. (is.told known (can_end f takes)).follows;
+    recent = λ known words told kept.
+        subst (λ n. Keeps words (told ++ op ∷ []) n h.recent) end ((is.told known (can_end f takes)).recent words told (subst (λ n. Keeps words told n f.recent) (sym end) kept));
     last = is.last;
     known = by_known f.is_known refl;
   }
@@ -57,14 +60,17 @@ module _ (op : Observed) (lasting : op.start ≤ op.end) (within : op.access.add
   takes_on start (Some f) None takes is other = absurd is
   takes_on start (Some f) (Some h) takes is other = by_known f.is_known refl
     where
-      horizon : (h.frontier.horizon ≤ 0) ⊎ (h.frontier.horizon ≡ f.frontier.horizon) → h.frontier.horizon ≤ start
-      horizon (inl none) = omega (arith, none)
-      horizon (inr same) = subst (λ n. n ≤ start) (sym same) other.0
+      horizon : (from to : ℕ) → from ≤ start → (to ≤ 0) ⊎ (to ≡ from) → to ≤ start
+      horizon from to was (inl none) = omega (arith, none)
+      horizon from to was (inr same) = subst (λ n. n ≤ start) (sym same) was
 
       by_known : (b : Bool) → f.is_known ≡ b → TakesOpen start (Some h)
       by_known true known =
-          let t = is.told known (can_end f takes) in
-          (horizon t.horizon_is, subst (λ n. n ≤ 2 ^ 64 - 1) (sym (t.latest ∙ end)) (omega arith))
+          let t = is.told known (can_end f takes) in (
+            horizon f.frontier.horizon h.frontier.horizon other.0 t.horizon_is,
+            subst (λ n. n ≤ 2 ^ 64 - 1) (sym (t.latest ∙ end)) (omega arith),
+            horizon f.recent.horizon h.recent.horizon other.2 t.recent_horizon,
+          )
       by_known false unknown = subst (λ (x : Followed). TakesOpen start (Some x)) (sym (is.unknown unknown)) other
 
 -- one request's operation is told to the search of its granule
@@ -108,6 +114,7 @@ module _ (events : List Event) (ended : List Observed) (w : WatchValue) (is : Wa
   takes_open p start has (Some f) some of = (
     All-contains (λ (q : Open). granule_asked q ≡ granule_asked p → f.frontier.horizon ≤ q.start) w.outstanding.requests p of.horizon has refl,
     let time : w.outstanding.time < 2 ^ 64 = is.time in let latest : f.frontier.latest ≤ w.outstanding.time = of.latest in omega arith,
+    All-contains (λ (q : Open). granule_asked q ≡ granule_asked p → f.recent.horizon ≤ q.start) w.outstanding.requests p of.recent_horizon has refl,
   )
 
   can_close : (p : Open) → Contains w.outstanding.requests p → CanClose (granule w) p

@@ -1,5 +1,5 @@
 -- operations that are told of granules one after the other
-use Rattle.std.proofs.Common.{◌≡◌, ℕ, ◌+◌, ◌<◌, ◌++◌, List, [], ◌∷◌, Option, Some, None, filter, get_or, length, take}
+use Rattle.std.proofs.Common.{◌≡◌, ℕ, ◌+◌, ◌-◌, ◌^◌, ◌<◌, ◌++◌, List, [], ◌∷◌, Option, Some, None, filter, get_or, length, take}
 use Rattle.std.proofs.Common.{refl, sym, ap, subst, ◌∙◌, append-nil, append_assoc}
 use Rattle.std.specs.Prelude.{filter_map}
 use Rattle.std.specs.List.{cons_option}
@@ -7,6 +7,7 @@ use Rattle.std.proofs.lemmas.List.{take_more}
 use Rattle.std.proofs.lemmas.List.Elements.{filter-append, filter_map-append}
 use Rattle.chi_events.specs.Outstanding.{open_operation}
 use Rattle.chi_events.specs.declared.outstanding.Open.{Open}
+use Rattle.chi_recent.specs.Recent.{Keeps}
 use Rattle.chi_search.specs.Frontiers.{Follows}
 use Rattle.chi_trace.specs.Chosen.{is_in}
 use Rattle.chi_trace.specs.declared.observed.Observed.{Observed}
@@ -16,7 +17,12 @@ use Rattle.chi_watch.specs.declared.followed.Followed.{Followed}
 -- where none is told nothing changes
 pub told_none : (x : Option Followed) → AreToldTo [] x x
 told_none None = refl
-told_none (Some f) = record { follows = λ known words told follows. subst (λ l. Follows words l f.frontier) (sym (append-nil told)) follows; last = refl; known = refl }
+told_none (Some f) = record {
+  follows = λ known words told follows. subst (λ l. Follows words l f.frontier) (sym (append-nil told)) follows;
+  recent = λ known words told kept. subst (λ l. Keeps words l (2 ^ 64 - 1) f.recent) (sym (append-nil told)) kept;
+  last = refl;
+  known = refl;
+}
 
 pub told_more : (xs ys : List Observed) (a b c : Option Followed) → AreToldTo xs a b → AreToldTo ys b c → AreToldTo (xs ++ ys) a c
 told_more xs ys None None None first second = ap (λ l. l ++ ys) first ∙ second
@@ -28,6 +34,9 @@ told_more xs ys (Some f) (Some g) (Some h) first second = record {
   follows = λ known words told follows.
       subst (λ l. Follows words l h.frontier) (append_assoc told xs ys)
       (second.follows (first.known ∙ known) words (told ++ xs) (first.follows known words told follows));
+  recent = λ known words told kept.
+      subst (λ l. Keeps words l (2 ^ 64 - 1) h.recent) (append_assoc told xs ys)
+      (second.recent (first.known ∙ known) words (told ++ xs) (first.recent known words told kept));
   last = second.last ∙ first.last;
   known = second.known ∙ first.known;
 }

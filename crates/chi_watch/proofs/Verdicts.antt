@@ -26,7 +26,8 @@ use Rattle.chi_watch.specs.Judged.{IsExplained, final_of, finals, is_known, judg
 use Rattle.chi_watch.specs.Quiet.{CanBeExplained}
 use Rattle.chi_watch.specs.Requests.{IsQuiet, granule_asked}
 use Rattle.chi_watch.specs.Watches.{IsUnexplained}
-use Rattle.chi_watch.proofs.Lists.{All-filter_map, IsPermutation-filter}
+use Rattle.chi_recent.proofs.Lists.{IsPermutation-filter}
+use Rattle.chi_watch.proofs.Lists.{All-filter_map}
 
 -- the words that are told at the opening have eight bytes
 pub openings_are_words : (events : List Event) → All IsEvent events → AreWords (openings events)
@@ -118,7 +119,7 @@ leads_none w = (
 )
 
 -- the operations of a granule of which all is told, in another order
-all_told : OperationsAreTold → (events : List Event) (ended : List Observed) (o : OutstandingValue) (g : ℕ) → Tells events ended o
+pub all_told : OperationsAreTold → (events : List Event) (ended : List Observed) (o : OutstandingValue) (g : ℕ) → Tells events ended o
     → IsPermutation (filter (is_in g) (operations events)) (filter (is_in g) (ended ++ filter_map open_operation o.requests))
 all_told law events ended o g tells = IsPermutation-filter (is_in g) _ _ (law events ended o tells).1
 

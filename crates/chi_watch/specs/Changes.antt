@@ -3,6 +3,7 @@ use Rattle.std.specs.Prelude.{◌≡◌, ℕ, ◌+◌, ◌/◌, ◌^◌, ◌<◌
 use Rattle.chi_events.specs.declared.event.EventKind.{EventKind}
 use Rattle.chi_events.specs.declared.outstanding.Open.{Open}
 use Rattle.chi_events.specs.declared.event.EventKind.TheVariants.{Request, Word, Final, Unknown}
+use Rattle.chi_recent.specs.Recent.{Keeps}
 use Rattle.chi_search.specs.Frontiers.{Follows}
 use Rattle.chi_trace.specs.Granules.{granule_of}
 use Rattle.chi_trace.specs.declared.observed.Observed.{Observed}
@@ -19,6 +20,8 @@ pub record IsUntouched (word : ℕ) (f : Followed) : Type 0 where
   pub follows : Follows (word ∷ []) [] f.frontier
   pub horizon : f.frontier.horizon ≡ 0
   pub latest : f.frontier.latest ≡ 0
+  pub recent : Keeps (word ∷ []) [] 0 f.recent
+  pub recent_horizon : f.recent.horizon ≡ 0
   pub last : f.last ≡ None
   pub known : IsTrue f.is_known
 
@@ -36,16 +39,19 @@ pub record IsTouched (old new : ℕ → Option Followed) (g word : ℕ) : Type 0
 -- the operation can be told to the search of its granule
 pub record CanEnd (horizon : ℕ) (f : Followed) (op : Observed) : Type 0 where
   pub past : f.frontier.horizon ≤ op.start
+  pub recent : f.recent.horizon ≤ op.start
   pub starts : horizon ≤ op.start
   pub ends : f.frontier.latest ≤ op.end
   pub lasting : op.start ≤ op.end
   pub within : op.access.addr + op.access.len ≤ 2 ^ 52
 
--- one operation more of the granule was told to its search
+-- one operation more of the granule was told to its search, and is kept with the last of them
 pub record IsTold (op : Observed) (horizon : ℕ) (old new : Followed) : Type 0 where
   pub follows : (words : List ℕ) (told : List Observed) → Follows words told old.frontier → Follows words (told ++ op ∷ []) new.frontier
   pub horizon_is : (new.frontier.horizon ≤ horizon) ⊎ (new.frontier.horizon ≡ old.frontier.horizon)
   pub latest : new.frontier.latest ≡ op.end
+  pub recent : (words : List ℕ) (told : List Observed) → Keeps words told op.end old.recent → Keeps words (told ++ op ∷ []) op.end new.recent
+  pub recent_horizon : (new.recent.horizon ≤ horizon) ⊎ (new.recent.horizon ≡ old.recent.horizon)
   pub last : new.last ≡ old.last
   pub known : new.is_known ≡ old.is_known
 
@@ -86,8 +92,8 @@ pub record IsTouchedAndMarked (g : ℕ) (change : Followed → Followed) (old ne
 -- something that is not told may have written to the granule: it is watched no further
 abbrev pub IsGone : Option Followed → Option Followed → Type 0
 IsGone old None = ⊥
-IsGone None (Some new) = (new.is_known ≡ false) × (new.frontier.horizon ≡ 0) × (new.frontier.latest ≡ 0) × (new.last ≡ None)
-IsGone (Some old) (Some new) = (new.is_known ≡ false) × (new.frontier ≡ old.frontier) × (new.last ≡ old.last)
+IsGone None (Some new) = (new.is_known ≡ false) × (new.frontier.horizon ≡ 0) × (new.frontier.latest ≡ 0) × (new.last ≡ None) × (new.recent.horizon ≡ 0)
+IsGone (Some old) (Some new) = (new.is_known ≡ false) × (new.frontier ≡ old.frontier) × (new.last ≡ old.last) × (new.recent ≡ old.recent)
 
 pub record IsForgotten (covered : Bool) (old new : Option Followed) : Type 0 where
   pub same : covered ≡ false → new ≡ old

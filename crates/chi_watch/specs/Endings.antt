@@ -2,6 +2,7 @@
 use Rattle.std.specs.Prelude.{◌≡◌, ℕ, ◌+◌, ◌-◌, ◌^◌, ◌≤◌, ◌++◌, ◌⊎◌, List, [], Option, None, Some, IfSome, IsTrue}
 use Rattle.std.specs.List.{Contains}
 use Rattle.chi_events.specs.declared.outstanding.Open.{Open}
+use Rattle.chi_recent.specs.Recent.{Keeps}
 use Rattle.chi_search.specs.Frontiers.{Follows}
 use Rattle.chi_search.specs.Layers.{SomeLeads}
 use Rattle.chi_trace.specs.declared.observed.Observed.{Observed}
@@ -16,7 +17,7 @@ IsListed g unexplained undecided = Contains unexplained g ⊎ Contains undecided
 -- an operation that started at this time and is open at the end can be told to the search of its granule, which is watched
 abbrev pub TakesOpen : ℕ → Option Followed → Type 0
 TakesOpen start None = ⊥
-TakesOpen start (Some f) = (f.frontier.horizon ≤ start) × (f.frontier.latest ≤ 2 ^ 64 - 1)
+TakesOpen start (Some f) = (f.frontier.horizon ≤ start) × (f.frontier.latest ≤ 2 ^ 64 - 1) × (f.recent.horizon ≤ start)
 
 -- an outstanding request's operation can be told, once its data have come
 pub record CanClose (granules : ℕ → Option Followed) (p : Open) : Type 0 where
@@ -28,6 +29,7 @@ pub record CanClose (granules : ℕ → Option Followed) (p : Open) : Type 0 whe
 -- these operations more were told to the granule's search, where all that wrote to the granule is told
 pub record AreTold (ops : List Observed) (old new : Followed) : Type 0 where
   pub follows : IsTrue old.is_known → (words : List ℕ) (told : List Observed) → Follows words told old.frontier → Follows words (told ++ ops) new.frontier
+  pub recent : IsTrue old.is_known → (words : List ℕ) (told : List Observed) → Keeps words told (2 ^ 64 - 1) old.recent → Keeps words (told ++ ops) (2 ^ 64 - 1) new.recent
   pub last : new.last ≡ old.last
   pub known : new.is_known ≡ old.is_known
 

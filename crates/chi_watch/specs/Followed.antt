@@ -16,6 +16,7 @@ pub record IsMovedOn (old : Followed) (horizon : ℕ) (new : Followed) : Type 0 
   pub follows : (words : List ℕ) (told : List Observed) → Follows words told old.frontier → Follows words told new.frontier
   pub horizon_is : (new.frontier.horizon ≤ horizon) ⊎ (new.frontier.horizon ≡ old.frontier.horizon)
   pub latest : new.frontier.latest ≡ old.frontier.latest
+  pub recent : new.recent ≡ old.recent
   pub last : new.last ≡ old.last
   pub known : new.is_known ≡ old.is_known
 

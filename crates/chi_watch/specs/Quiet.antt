@@ -1,27 +1,18 @@
 -- granules that become quiet by an event, and what is shown of them
-use Rattle.std.specs.Prelude.{◌≡◌, ℕ, ◌==◌, false, List, Option, Some, None, option_map, option_and_then}
+use Rattle.std.specs.Prelude.{◌≡◌, ℕ, ◌==◌, false, List, Option, Some, option_map}
 use Rattle.std.specs.List.{list_any}
 use Rattle.chi_events.specs.declared.event.Event.{Event}
-use Rattle.chi_events.specs.declared.event.EventKind.{EventKind}
-use Rattle.chi_events.specs.declared.event.EventKind.TheVariants.{Data, Reply, Dropped}
 use Rattle.chi_events.specs.Operations.{operations}
-use Rattle.chi_events.specs.Outstanding.{open_with}
+use Rattle.chi_events.specs.Outstanding.{request_about}
 use Rattle.chi_trace.specs.Granules.{ExplainsGranule}
 use Rattle.chi_verdict.specs.Words.{word_told}
 use Rattle.chi_watch.specs.Judged.{final_of, openings}
 use Rattle.chi_watch.specs.Requests.{granule_asked}
 use Rattle.chi_watch.specs.Watches.{WatchValue}
 
--- the number of the request that an event is about, where it is about one that was taken before
-abbrev pub number_about : EventKind → Option ℕ
-number_about (Data p) = Some p.id
-number_about (Reply c) = Some c.id
-number_about (Dropped id) = Some id
-number_about _ = None
-
 -- the granule of the outstanding request that an event is about
 abbrev pub granule_about : WatchValue → Event → Option ℕ
-granule_about w e = option_map granule_asked (option_and_then (λ id. open_with id w.outstanding.requests) (number_about e.kind))
+granule_about w e = option_map granule_asked (request_about w.outstanding.requests e.kind)
 
 -- by this event the last outstanding request of the granule has gone
 pub record BecomesQuiet (old : WatchValue) (e : Event) (new : WatchValue) (g : ℕ) : Type 0 where

@@ -10,6 +10,7 @@ use Rattle.chi_events.specs.Operations.{operations}
 use Rattle.chi_events.specs.Outstanding.{OutstandingValue, Tells, fault_of as outstanding_fault}
 use Rattle.chi_events.specs.declared.event.EventKind.{EventKind}
 use Rattle.chi_events.specs.declared.event.EventKind.TheVariants.{Request, Word, Final, Unknown}
+use Rattle.chi_recent.specs.Recent.{Keeps}
 use Rattle.chi_search.specs.Frontiers.{Follows}
 use Rattle.chi_search.specs.Layers.{SomeLeads}
 use Rattle.chi_trace.specs.Chosen.{is_in}
@@ -36,13 +37,16 @@ abbrev pub granule : WatchValue → ℕ → Option Followed
 granule w g = lookup (is_at (nat_cmp g)) w.granules
 
 -- A granule that is watched: where all that wrote to it is told, its search follows its operations that had ended, from its
--- word at the opening on.
+-- word at the opening on, and the last of them are kept.
 pub record IsWatched (events : List Event) (ended : List Observed) (o : OutstandingValue) (g : ℕ) (f : Followed) : Type 0 where
   pub known : f.is_known ≡ is_known events g
   pub follows : IsTrue f.is_known → Follows (word_told (openings events) g ∷ []) (filter (is_in g) ended) f.frontier
   pub latest : f.frontier.latest ≤ o.time
   pub past : f.frontier.horizon ≤ o.time
   pub horizon : StartsBy o.requests g f.frontier.horizon
+  pub recent : IsTrue f.is_known → Keeps (word_told (openings events) g ∷ []) (filter (is_in g) ended) o.time f.recent
+  pub recent_past : f.recent.horizon ≤ o.time
+  pub recent_horizon : StartsBy o.requests g f.recent.horizon
   pub last : f.last ≡ told (finals events) g
 
 -- nothing was told of the granule

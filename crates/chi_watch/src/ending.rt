@@ -1,33 +1,46 @@
 //! What is said where the events end.
 
-ghost use Rattle.std.specs.Prelude.{◌≡◌, ◌⊎◌, ℕ, [], true, List, All, IfOk, IfSome, filter, filter_map};
+ghost use Rattle.std.specs.Prelude.{◌≡◌, ◌⊎◌, ℕ, [], true, List, All, IfOk, filter, filter_map};
 ghost use Rattle.std.specs.BTreeMap.{get};
 ghost use Rattle.std.specs.Ordering.{nat_cmp};
 ghost use Rattle.chi_events.specs.Outstanding.{open_operation};
 ghost use Rattle.chi_events.specs.declared.event.Event.{Event};
+ghost use Rattle.chi_recent.specs.Looks.{LookedAtLeast, LookedSome};
+ghost use Rattle.chi_recent.specs.Reaches.{IfUndecided};
 ghost use Rattle.chi_trace.specs.Chosen.{is_in};
-ghost use Rattle.chi_watch.specs.Endings.{AreToldTo, CanClose, IsExplainable, IsInexplicableAt, IsListed};
-ghost use Rattle.chi_watch.specs.Listing.{IsListedAs};
+ghost use Rattle.chi_watch.specs.Endings.{AreToldTo, CanClose, IsListed};
 ghost use Rattle.chi_watch.specs.Judged.{IsExplained, is_known};
 ghost use Rattle.chi_watch.specs.Quiet.{CanBeExplained};
-ghost use Rattle.chi_watch.specs.Looks.{LookedAtLeast, LookedSome};
-ghost use Rattle.chi_watch.specs.Watches.{HasTaken, IsUnexplained};
+ghost use Rattle.chi_watch.specs.Reaching.{IsFoundAtEnd, IsFoundIn, IsUnreachedIn, granules_of};
+ghost use Rattle.chi_watch.specs.Watches.{HasTaken};
 
-use crate::followed::{Followed, Standing, judge};
+use crate::followed::Followed;
 use crate::granules::close;
+use crate::listing::judge_all;
+use crate::reaching::reach_of;
 use crate::watch::Watch;
 use chi_events::Open;
 use chi_events::laws::operations_are_told;
+use chi_recent::{Reach, Traced};
 use chi_search::Progress;
 use chi_trace::laws::{granules_explain, granules_told, parts_explain};
 use std::alloc::{AllocError, Global};
 use std::collections::BTreeMap;
 
+/// A granule that no order explains, by its number; its word at the end, where one was told; and how far its operations can be
+/// explained.
+#[derive(Debug, Drop)]
+pub struct FoundAtEnd {
+    pub granule: u64,
+    pub last: Option<u64>,
+    pub reach: Reach,
+}
+
 /// The granules whose operations no order explains, and those of which that is not decided, in the order of their addresses.
 /// Where there are none of either, all that was told is explained.
-#[derive(Debug, PartialEq, Eq, Drop)]
+#[derive(Debug, Drop)]
 pub struct Ending {
-    pub unexplained: Vec<u64>,
+    pub unexplained: Vec<FoundAtEnd>,
     pub undecided: Vec<u64>,
 }
 
@@ -44,46 +57,63 @@ fn close_open<P: Progress>(
 {
     for request in requests {
         if let Some(op) = request.operation() {
-            close(alloc, granules, &op, 0, budget, progress)?;
+            let traced = Traced {
+                asked: request.asked,
+                op,
+            };
+            close(alloc, granules, &traced, 0, budget, progress)?;
         }
     }
     Ok(())
 }
 
-/// Lists a granule where it is not explained.
-fn list(ending: &mut Ending, granule: u64, standing: Standing) -> Result<(), AllocError>
-    ensures { IfOk result (λ _. IsListedAs standing granule ending.old ending.new) }
-{
-    match standing {
-        Standing::Explained => {}
-        Standing::Unexplained => ending.unexplained.push(granule)?,
-        Standing::Undecided => ending.undecided.push(granule)?,
-    }
-    Ok(())
-}
-
-/// Judges each granule of which all is told.
-fn judge_all<P: Progress>(
+/// What is said of a granule that no order explains.
+fn found_at_end<P: Progress>(
     alloc: Global,
     granules: &BTreeMap<u64, Followed>,
+    granule: u64,
     budget: u64,
     progress: &mut P,
-) -> Result<Ending, AllocError>
-    ensures each { IfOk result (λ ending. (g : ℕ) → IfSome (get nat_cmp granules.now g) (λ f. IsExplainable f ⊎ IsListed g ending.unexplained.items ending.undecided.items)) }
-    ensures unexplained { IfOk result (λ ending. All (λ g. IsInexplicableAt (get nat_cmp granules.now g)) ending.unexplained.items) }
-    ensures undecided { IfOk result (λ ending. All (λ g. LookedAtLeast P.looked progress.old progress.new budget) ending.undecided.items) }
+) -> Result<FoundAtEnd, AllocError>
+    ensures granule { IfOk result (λ found. found.granule ≡ granule) }
+    ensures found { IfOk result (IsFoundIn (get nat_cmp granules.now)) }
+    ensures undecided { IfOk result (IsUnreachedIn P.looked progress.old progress.new budget (get nat_cmp granules.now)) }
+    ensures looked { IfOk result (λ _. LookedSome P.looked progress.old progress.new) }
 {
-    let mut ending = Ending {
-        unexplained: Vec::new(alloc),
-        undecided: Vec::new(alloc),
+    let Some(followed) = granules.get(&granule) else {
+        return Ok(FoundAtEnd {
+            granule,
+            last: None,
+            reach: Reach::Undecided,
+        });
     };
-    for (granule, followed) in granules {
-        if followed.is_known {
-            let standing = judge(alloc, followed, budget, progress)?;
-            list(&mut ending, *granule, standing)?;
-        }
+    let reach = reach_of(alloc, followed, budget, progress)?;
+    Ok(FoundAtEnd {
+        granule,
+        last: followed.last,
+        reach,
+    })
+}
+
+/// What is said of each granule that no order explains.
+fn each_found_at_end<P: Progress>(
+    alloc: Global,
+    granules: &BTreeMap<u64, Followed>,
+    unexplained: &[u64],
+    budget: u64,
+    progress: &mut P,
+) -> Result<Vec<FoundAtEnd>, AllocError>
+    ensures granules { IfOk result (λ found. granules_of found.items ≡ unexplained.now) }
+    ensures found { IfOk result (λ found. All (IsFoundIn (get nat_cmp granules.now)) found.items) }
+    ensures undecided { IfOk result (λ found. All (IsUnreachedIn P.looked progress.old progress.new budget (get nat_cmp granules.now)) found.items) }
+    ensures looked { IfOk result (λ _. LookedSome P.looked progress.old progress.new) }
+{
+    let mut found = Vec::new(alloc);
+    for granule in unexplained {
+        let it = found_at_end(alloc, granules, *granule, budget, progress)?;
+        found.push(it)?;
     }
-    Ok(ending)
+    Ok(found)
 }
 
 impl Watch {
@@ -100,9 +130,11 @@ impl Watch {
         progress: &mut P,
     ) -> Result<Ending, AllocError>
         ensures explained { IfOk result (λ ending. ending.unexplained.items ≡ [] → ending.undecided.items ≡ [] → (events : List Event) → HasTaken events self → IsExplained events) }
-        ensures each { IfOk result (λ ending. (g : ℕ) (events : List Event) → HasTaken events self → is_known events g ≡ true → CanBeExplained events g ⊎ IsListed g ending.unexplained.items ending.undecided.items) }
-        ensures unexplained { IfOk result (λ ending. All (λ g. (events : List Event) → HasTaken events self → IsUnexplained events g) ending.unexplained.items) }
+        ensures each { IfOk result (λ ending. (g : ℕ) (events : List Event) → HasTaken events self → is_known events g ≡ true → CanBeExplained events g ⊎ IsListed g (granules_of ending.unexplained.items) ending.undecided.items) }
+        ensures unexplained { IfOk result (λ ending. All (λ found. (events : List Event) → HasTaken events self → IsFoundAtEnd events found) ending.unexplained.items) }
+        ensures unreached { IfOk result (λ ending. All (λ found. (events : List Event) → HasTaken events self → IfUndecided found.reach (LookedAtLeast P.looked progress.old progress.new budget)) ending.unexplained.items) }
         ensures undecided { IfOk result (λ ending. All (λ g. LookedAtLeast P.looked progress.old progress.new budget) ending.undecided.items) }
+        ensures looked { IfOk result (λ _. LookedSome P.looked progress.old progress.new) }
     {
         operations_are_told();
         granules_told();
@@ -111,6 +143,17 @@ impl Watch {
         let mut granules = self.granules;
         let requests = self.outstanding.requests();
         close_open(alloc, &mut granules, requests, budget, progress)?;
-        judge_all(alloc, &granules, budget, progress)
+        let listed = judge_all(alloc, &granules, budget, progress)?;
+        let unexplained = each_found_at_end(
+            alloc,
+            &granules,
+            &listed.unexplained,
+            budget,
+            progress,
+        )?;
+        Ok(Ending {
+            unexplained,
+            undecided: listed.undecided,
+        })
     }
 }

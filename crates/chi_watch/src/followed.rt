@@ -8,17 +8,18 @@ ghost use Rattle.chi_search.specs.Layers.{SomeLeads};
 ghost use Rattle.chi_search.specs.Looks.{LookedMore};
 ghost use Rattle.chi_watch.specs.Changes.{CanEnd, IsTold, IsUntouched};
 ghost use Rattle.chi_watch.specs.Followed.{IfExplained, IfUndecided, IfUnexplained, IsMovedOn, IsWord};
-ghost use Rattle.chi_watch.specs.Looks.{LookedSome};
+ghost use Rattle.chi_recent.specs.Looks.{LookedSome};
 
+use chi_recent::{Recent, Traced};
 use chi_search::{Frontier, Progress, Words};
-use chi_trace::Observed;
 use std::alloc::{AllocError, Global};
 
 /// A granule that is watched: the search over its operations that have ended, how many it may keep before it is moved on, the
-/// word after its last request, where it was told, and whether all that wrote to it is told.
+/// last of these operations, the word after its last request, where it was told, and whether all that wrote to it is told.
 #[derive(Drop)]
 pub struct Followed {
     pub(crate) frontier: Frontier,
+    pub(crate) recent: Recent,
     pub(crate) limit: usize,
     pub(crate) last: Option<u64>,
     pub(crate) is_known: bool,
@@ -33,7 +34,7 @@ pub enum Standing {
 }
 
 /// How many operations a search keeps at least before it is moved on.
-const FEW: usize = 16;
+const FEW: usize = 4;
 
 /// A granule before its first request.
 pub(crate) fn untouched(alloc: Global, word: u64) -> Result<Followed, AllocError>
@@ -41,6 +42,7 @@ pub(crate) fn untouched(alloc: Global, word: u64) -> Result<Followed, AllocError
 {
     Ok(Followed {
         frontier: Frontier::new(alloc, &[word])?,
+        recent: Recent::new(alloc, word)?,
         limit: 1,
         last: None,
         is_known: true,
@@ -80,19 +82,21 @@ fn move_on<P: Progress>(
 pub(crate) fn tell<P: Progress>(
     alloc: Global,
     followed: &mut Followed,
-    op: &Observed,
+    traced: &Traced,
     horizon: u64,
     budget: u64,
     progress: &mut P,
 ) -> Result<(), AllocError>
-    ensures told { IfOk result (λ _. IsTrue followed.old.is_known → CanEnd horizon followed.old op.now → IsTold op.now horizon followed.old followed.new) }
+    ensures told { IfOk result (λ _. IsTrue followed.old.is_known → CanEnd horizon followed.old traced.now.op → IsTold traced.now.op horizon followed.old followed.new) }
     ensures unknown { followed.old.is_known ≡ false → followed.new ≡ followed.old }
     ensures last { IfOk result (λ _. followed.new.last ≡ followed.old.last) }
     ensures looked { IfOk result (λ _. LookedSome P.looked progress.old progress.new) }
 {
     if followed.is_known {
         move_on(alloc, followed, horizon, budget, progress)?;
-        followed.frontier.add(op)?;
+        followed.recent.settle(alloc, horizon, budget, progress)?;
+        followed.frontier.add(&traced.op)?;
+        followed.recent.add(traced)?;
     }
     Ok(())
 }

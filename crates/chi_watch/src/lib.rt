@@ -7,11 +7,13 @@ mod ending;
 mod fault;
 mod followed;
 mod granules;
+mod listing;
 mod noting;
 mod quiet;
+mod reaching;
 mod watch;
 
 pub use counts::Counts;
-pub use ending::Ending;
+pub use ending::{Ending, FoundAtEnd};
 pub use fault::WatchFault;
 pub use watch::Watch;

@@ -1,8 +1,7 @@
 //! Outstanding requests of one granule.
 
-ghost use Rattle.std.specs.Prelude.{◌≡◌, ◌+◌, ◌^◌, ◌≤◌, ◌==◌, ◌&&◌, nat_le, nat_lt, option_map};
+ghost use Rattle.std.specs.Prelude.{◌≡◌, ◌+◌, ◌^◌, ◌≤◌, ◌==◌, ◌&&◌, nat_le, nat_lt};
 ghost use Rattle.std.specs.List.{list_any};
-ghost use Rattle.chi_events.specs.Outstanding.{open_with};
 ghost use Rattle.chi_watch.specs.Requests.{StartsBy, granule_asked};
 
 use chi_events::Open;
@@ -28,14 +27,6 @@ pub(crate) fn is_open(requests: &[Open], granule: u64) -> bool
     requests
         .iter()
         .any(|request| request.asked.addr / 8 == granule)
-}
-
-/// The granule of the outstanding request with this number, where there is one.
-pub(crate) fn granule_with(requests: &[Open], id: u64) -> Option<u64>
-    ensures { result ≡ option_map granule_asked (open_with id requests.now) }
-{
-    let request = requests.iter().find(|request| request.id == id)?;
-    Some(request.asked.addr / 8)
 }
 
 /// Whether this is a length from 1 to 4,096 of bytes below 2^52.

@@ -6,16 +6,16 @@ ghost use Rattle.chi_events.specs.declared.event.Event.{Event};
 ghost use Rattle.chi_watch.specs.Changes.{HasLength};
 ghost use Rattle.chi_watch.specs.Endings.{IsExplainable};
 ghost use Rattle.chi_watch.specs.Judged.{is_known};
-ghost use Rattle.chi_watch.specs.Looks.{LookedAtLeast, LookedSome};
-ghost use Rattle.chi_watch.specs.Quiet.{BecomesQuiet, CanBeExplained, granule_about, number_about};
+ghost use Rattle.chi_recent.specs.Looks.{LookedAtLeast, LookedSome};
+ghost use Rattle.chi_watch.specs.Quiet.{BecomesQuiet, CanBeExplained, granule_about};
 ghost use Rattle.chi_watch.specs.Requests.{granule_asked};
 ghost use Rattle.chi_watch.specs.Watches.{HasTaken, IsFound, IsUnexplained, fault_of, granule as granule_of, granule_fault, has_last};
 
-use crate::ended::close_ended;
+use crate::ended::{close_ended, traced};
 use crate::fault::WatchFault;
 use crate::followed::{Followed, Standing, judge};
 use crate::noting::note;
-use crate::quiet::{granule_with, has_length, is_open};
+use crate::quiet::{has_length, is_open};
 use chi_events::laws::operations_are_told;
 use chi_events::{Event, EventKind, Outstanding};
 use chi_search::Progress;
@@ -50,18 +50,6 @@ impl Model for Watch {
     ghost Value = { WatchValue };
 
     ghost view = { λ w. record { outstanding = w.outstanding; granules = w.granules.entries; ended = w.ended } };
-}
-
-/// The number of the request that an event of this kind is about, where it is about one that was taken before.
-fn number_about(kind: &EventKind) -> Option<u64>
-    ensures { result ≡ number_about kind.now }
-{
-    match kind {
-        EventKind::Data(packet) => Some(packet.id),
-        EventKind::Reply(completion) => Some(completion.id),
-        EventKind::Dropped { id } => Some(*id),
-        _ => None,
-    }
 }
 
 /// So many operations, and one more where one has ended.
@@ -101,7 +89,7 @@ impl Watch {
     }
 
     /// Whether a request of the granule is outstanding.
-    fn is_open(&self, granule: u64) -> bool
+    pub(crate) fn is_open(&self, granule: u64) -> bool
         ensures { result ≡ list_any (λ p. granule_asked p == granule) self.now.outstanding.requests }
     {
         is_open(self.outstanding.requests(), granule)
@@ -149,8 +137,8 @@ impl Watch {
     fn granule_about(&self, event: &Event) -> Option<u64>
         ensures { result ≡ granule_about self.now event.now }
     {
-        let id = number_about(&event.kind)?;
-        granule_with(self.outstanding.requests(), id)
+        let asked = self.outstanding.about(event)?;
+        Some(asked.addr / 8)
     }
 
     /// Whether all that wrote to the granule is told, no request of it is outstanding, and its search goes on to no word.
@@ -216,12 +204,13 @@ impl Watch {
         ensures looked { IfOk result (λ _. LookedSome P.looked progress.old progress.new) }
     {
         self.admits(&event.kind)?;
+        let about = self.outstanding.about(event);
         let ended = self.outstanding.take(event)?;
         close_ended(
             alloc,
             &mut self.granules,
             self.outstanding.requests(),
-            &ended,
+            &traced(about, ended),
             budget,
             progress,
         )?;

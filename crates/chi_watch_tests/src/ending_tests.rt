@@ -2,7 +2,8 @@
 
 use crate::comparison::assert_same;
 use crate::home::{
-    GRANULE, add, answer, done, ending_of, next_word, read, read_next, take, take_all, word, write,
+    GRANULE, add, answer, done, ending_of, granules_at_end, next_word, read, read_next, take,
+    take_all, word, write,
 };
 use chi_events::EventKind;
 use chi_search::NoProgress;
@@ -26,9 +27,10 @@ fn operations_that_are_open(rt: HostRuntime) -> Result<(), Fail> {
     for (value, unexplained) in [(0, [].as_slice()), (5, &[]), (6, &[GRANULE])] {
         let kinds = [write(1, 5), read(2), answer(2, value), read_next(3)];
         let ending = ending_of(rt.alloc(), &kinds)?;
+        let found = granules_at_end(rt.alloc(), &ending)?;
         assert_same(
             &rt,
-            (value, ending.unexplained.as_slice(), ending.undecided.len()),
+            (value, found.as_slice(), ending.undecided.len()),
             (value, unexplained, 0),
         );
     }
@@ -41,9 +43,10 @@ fn words_at_the_end(rt: HostRuntime) -> Result<(), Fail> {
     for (last, unexplained) in [(5, [].as_slice()), (0, &[GRANULE])] {
         let kinds = [write(1, 5), done(1), EventKind::Final(word(last))];
         let ending = ending_of(rt.alloc(), &kinds)?;
+        let found = granules_at_end(rt.alloc(), &ending)?;
         assert_same(
             &rt,
-            (last, ending.unexplained.as_slice(), ending.undecided.len()),
+            (last, found.as_slice(), ending.undecided.len()),
             (last, unexplained, 0),
         );
     }
@@ -62,9 +65,10 @@ fn words_of_a_granule_without_requests(rt: HostRuntime) -> Result<(), Fail> {
         (&zero, &[]),
     ] {
         let ending = ending_of(rt.alloc(), kinds)?;
+        let found = granules_at_end(rt.alloc(), &ending)?;
         assert_same(
             &rt,
-            (ending.unexplained.as_slice(), ending.undecided.len()),
+            (found.as_slice(), ending.undecided.len()),
             (unexplained, 0),
         );
     }
@@ -76,9 +80,10 @@ fn words_of_a_granule_without_requests(rt: HostRuntime) -> Result<(), Fail> {
 fn granules_in_the_order_of_their_addresses(rt: HostRuntime) -> Result<(), Fail> {
     let kinds = [EventKind::Final(next_word(3)), EventKind::Final(word(4))];
     let ending = ending_of(rt.alloc(), &kinds)?;
+    let found = granules_at_end(rt.alloc(), &ending)?;
     assert_same(
         &rt,
-        (ending.unexplained.as_slice(), ending.undecided.len()),
+        (found.as_slice(), ending.undecided.len()),
         ([GRANULE, GRANULE + 1].as_slice(), 0),
     );
     Ok(())
@@ -93,9 +98,10 @@ fn no_budget(rt: HostRuntime) -> Result<(), Fail> {
     take_all(alloc, &mut watch, &[add(1, 1), add(2, 1)])?;
     take(alloc, &mut watch, 3, EventKind::Final(next_word(3)))?;
     let ending = watch.ending(alloc, 0, &mut NoProgress)?;
+    let found = granules_at_end(alloc, &ending)?;
     assert_same(
         &rt,
-        (ending.unexplained.as_slice(), ending.undecided.as_slice()),
+        (found.as_slice(), ending.undecided.as_slice()),
         ([GRANULE + 1].as_slice(), [GRANULE].as_slice()),
     );
     Ok(())

@@ -12,4 +12,6 @@ mod fault_tests;
 #[cfg(test)]
 mod home;
 #[cfg(test)]
+mod reach_tests;
+#[cfg(test)]
 mod watch_tests;

@@ -2,7 +2,7 @@
 use Rattle.std.specs.BTreeMap.{get}
 use Rattle.std.specs.Ordering.{nat_cmp}
 use Rattle.chi_watch.proofs.Judging.{AreJudged}
-use Rattle.chi_watch.proofs.ending.judge_all.Given as goal
+use Rattle.chi_watch.proofs.listing.judge_all.Given as goal
 
 abbrev pub invariant-loop-granule : goal.invariant-loop-granule
-invariant-loop-granule g l = AreJudged g.P.Progress.looked l.budget (get nat_cmp l.granules) l.granules.entries l.initial.progress l.progress l.ending l.granule-iterator
+invariant-loop-granule g l = AreJudged g.P.Progress.looked l.budget (get nat_cmp l.granules) l.granules.entries l.initial.progress l.progress l.listed l.granule-iterator

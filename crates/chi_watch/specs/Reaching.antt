@@ -1,0 +1,52 @@
+-- how far a granule's operations can be explained
+use Rattle.std.specs.Prelude.{◌≡◌, ℕ, List, Option, IfSome, map}
+use Rattle.chi_events.specs.declared.event.Event.{Event}
+use Rattle.chi_events.specs.Operations.{operations}
+use Rattle.chi_recent.specs.Looks.{LookedAtLeast}
+use Rattle.chi_recent.specs.Reaches.{AreLast, IfUndecided, IsRecentOf, IsStop}
+use Rattle.chi_recent.specs.Recent.{RecentValue}
+use Rattle.chi_recent.specs.declared.reach.Reach.{Reach}
+use Rattle.chi_recent.specs.declared.reach.Reach.TheVariants.{Whole, Stops, Undecided}
+use Rattle.chi_trace.specs.declared.observed.Observed.{Observed}
+use Rattle.chi_verdict.specs.Words.{told, word_told}
+use Rattle.chi_watch.specs.Judged.{finals, openings}
+use Rattle.chi_watch.specs.Watches.{IsUnexplained}
+use Rattle.chi_watch.specs.declared.ending.FoundAtEnd.{FoundAtEnd}
+use Rattle.chi_watch.specs.declared.followed.Followed.{Followed}
+
+-- the granule's operations in a trace can be explained so far, from this word on
+abbrev pub IsReachIn : List Observed → ℕ → ℕ → Reach → Type 0
+IsReachIn trace g w (Whole words) = AreLast trace g w words.items
+IsReachIn trace g w (Stops stop) = IsStop trace g w stop
+IsReachIn trace g w Undecided = Unit {0}
+
+-- those that the events tell, from its word at the opening on
+abbrev pub IsReach : List Event → ℕ → Reach → Type 0
+IsReach events g reach = IsReachIn (operations events) g (word_told (openings events) g) reach
+
+-- those of which the last are kept, in whichever trace they are
+abbrev pub ReachesBy : RecentValue → Reach → Type 0
+ReachesBy r reach = (trace : List Observed) (g w : ℕ) → IsRecentOf trace g w r → IsReachIn trace g w reach
+
+-- the operations that are kept are those of a granule in some trace
+abbrev pub IsOfSomeTrace : RecentValue → Type 0
+IsOfSomeTrace r = (trace : List Observed) × (g : ℕ) × (w : ℕ) × IsRecentOf trace g w r
+
+-- what is said of a granule at the end: its word, and how far its operations can be explained
+pub record IsFoundIn (granules : ℕ → Option Followed) (found : FoundAtEnd) : Type 0 where
+  pub last : IfSome (granules found.granule) (λ f. found.last ≡ f.last)
+  pub reach : IfSome (granules found.granule) (λ f. ReachesBy f.recent found.reach)
+
+-- where that is not known so many states were looked at
+abbrev pub IsUnreachedIn : {P : Type 0} → (P → ℕ → Type 0) → P → P → ℕ → (ℕ → Option Followed) → FoundAtEnd → Type 0
+IsUnreachedIn looked old new budget granules found = IfSome (granules found.granule) (λ f. IfUndecided found.reach (IsOfSomeTrace f.recent → LookedAtLeast looked old new budget))
+
+-- the granules that are found at the end
+abbrev pub granules_of : List FoundAtEnd → List ℕ
+granules_of found = map (λ f. f.granule) found
+
+-- No order explains the granule. The word is the one that was told of it at the end, and its operations can be explained so far.
+pub record IsFoundAtEnd (events : List Event) (found : FoundAtEnd) : Type 0 where
+  pub unexplained : IsUnexplained events found.granule
+  pub last : found.last ≡ told (finals events) found.granule
+  pub reach : IsReach events found.granule found.reach

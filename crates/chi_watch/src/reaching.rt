@@ -1,0 +1,63 @@
+//! How far the operations of a granule can be explained.
+
+ghost use Rattle.std.specs.Prelude.{◌≡◌, ◌==◌, false, List, IfOk};
+ghost use Rattle.std.specs.List.{list_any};
+ghost use Rattle.chi_events.specs.declared.event.Event.{Event};
+ghost use Rattle.chi_recent.specs.Looks.{LookedAtLeast, LookedSome};
+ghost use Rattle.chi_recent.specs.Reaches.{IfUndecided};
+ghost use Rattle.chi_watch.specs.Reaching.{IsOfSomeTrace, IsReach, ReachesBy};
+ghost use Rattle.chi_watch.specs.Requests.{granule_asked};
+ghost use Rattle.chi_watch.specs.Watches.{HasTaken, IsUnexplained};
+
+use crate::followed::Followed;
+use crate::watch::Watch;
+use chi_events::laws::operations_are_told;
+use chi_recent::Reach;
+use chi_search::Progress;
+use chi_trace::laws::granules_told;
+use std::alloc::{AllocError, Global};
+
+/// How far the operations that were told of a granule can be explained.
+pub(crate) fn reach_of<P: Progress>(
+    alloc: Global,
+    followed: &Followed,
+    budget: u64,
+    progress: &mut P,
+) -> Result<Reach, AllocError>
+    ensures right { IfOk result (ReachesBy followed.now.recent) }
+    ensures undecided { IfOk result (λ reach. IfUndecided reach (IsOfSomeTrace followed.now.recent → LookedAtLeast P.looked progress.old progress.new budget)) }
+    ensures looked { IfOk result (λ _. LookedSome P.looked progress.old progress.new) }
+{
+    followed.recent.reach(alloc, budget, progress)
+}
+
+impl Watch {
+    /// How far a granule's operations can be explained, of which all is told and no request is outstanding. `budget` is how many
+    /// states may be looked at in each search.
+    ///
+    /// ```
+    /// let reach = watch.reach(alloc, granule, 1_000_000, &mut NoProgress)?;
+    /// ```
+    pub fn reach<P: Progress>(
+        &self,
+        alloc: Global,
+        granule: u64,
+        budget: u64,
+        progress: &mut P,
+    ) -> Result<Reach, AllocError>
+        ensures right { IfOk result (λ reach. (events : List Event) → HasTaken events self.now → IsReach events granule reach) }
+        ensures undecided { IfOk result (λ reach. IfUndecided reach (list_any (λ p. granule_asked p == granule) self.now.outstanding.requests ≡ false → (events : List Event) → HasTaken events self.now → IsUnexplained events granule → LookedAtLeast P.looked progress.old progress.new budget)) }
+        ensures looked { IfOk result (λ _. LookedSome P.looked progress.old progress.new) }
+    {
+        operations_are_told();
+        granules_told();
+        let _requests = self.outstanding.requests();
+        let Some(followed) = self.granules.get(&granule) else {
+            return Ok(Reach::Undecided);
+        };
+        if !followed.is_known || self.is_open(granule) {
+            return Ok(Reach::Undecided);
+        }
+        reach_of(alloc, followed, budget, progress)
+    }
+}
