@@ -4,16 +4,17 @@ use Rattle.std.specs.Io.KnownBytes.{Appends, Keeps}
 use Rattle.std.proofs.lemmas.List.Elements.{All-head}
 use Rattle.chi_script.specs.WriterBytes.{AppendsFront}
 use Rattle.chi_script.specs.declared.device.WriteFault.{WriteFault}
-use Rattle.chi_watch.specs.Looks.{LookedAtLeast}
+use Rattle.chi_recent.specs.Looks.{LookedAtLeast}
 use Rattle.chi_watch.specs.declared.ending.Ending.{Ending}
+use Rattle.chi_watch.specs.declared.ending.FoundAtEnd.{FoundAtEnd}
 use Rattle.chi_watch_text.specs.Found.{ending_verdict, found_verdict, listed_verdict, verdict_of}
-use Rattle.chi_watch_text.specs.Outcomes.{IsWatched}
+use Rattle.chi_watch_text.specs.Outcomes.{IsWatched, WentBy}
 use Rattle.chi_watch_text.specs.Texts.{watched_text}
 use Rattle.chi_watch_text.specs.declared.options.WatchOptions.{WatchOptions}
 use Rattle.chi_watch_text.specs.declared.watched.Found.{Found}
 use Rattle.chi_watch_text.specs.declared.watched.Watched.{Watched}
 use Rattle.chi_check.specs.ProgramOutcome.{TaskOutcome}
-use Rattle.chi_check.specs.Watch.{WatchOutcome, WentBy, verdict_status}
+use Rattle.chi_check.specs.Watch.{WatchOutcome, verdict_status}
 use Rattle.chi_check.specs.declared.command.Task.{Task}
 use Rattle.chi_check.specs.declared.command.Task.TheVariants.{Explain, Watch}
 use Rattle.chi_check.specs.declared.fault.CheckFault.TheVariants.{Write}
@@ -37,7 +38,7 @@ pub spent_at_six : {P : Type 0} (looked : P → ℕ → Type 0) (old new : P) (b
     → WentBy looked old new budget watched → status ≡ 6 → LookedAtLeast looked old new budget
 spent_at_six looked old new budget status watched is went six = by_found watched.found.items watched.ending went (sym is ∙ six)
   where
-    by_lists : (un dec : List ℕ) → All (λ (g : ℕ). LookedAtLeast looked old new budget) dec → verdict_status (listed_verdict un dec) ≡ 6 → LookedAtLeast looked old new budget
+    by_lists : (un : List FoundAtEnd) (dec : List ℕ) → All (λ (g : ℕ). LookedAtLeast looked old new budget) dec → verdict_status (listed_verdict un dec) ≡ 6 → LookedAtLeast looked old new budget
     by_lists (g ∷ un) dec all is_six = cc
     by_lists [] (g ∷ dec) all is_six = All-head (λ (h : ℕ). LookedAtLeast looked old new budget) g dec all
     by_lists [] [] all is_six = cc

@@ -1,8 +1,7 @@
 -- what a watch does: what it answers to the events that its input tells
-use Rattle.std.specs.Prelude.{◌≡◌, ℕ, List, All, Option, IfSome, Result, Ok, Err}
+use Rattle.std.specs.Prelude.{◌≡◌, ℕ, List, Option, Result, Ok, Err}
 use Rattle.std.specs.Io.KnownBytes.{Appends}
 use Rattle.chi_script.specs.WriterBytes.{AppendsFront}
-use Rattle.chi_watch.specs.Looks.{LookedAtLeast}
 use Rattle.chi_watch_text.specs.Found.{verdict_of}
 use Rattle.chi_watch_text.specs.Outcomes.{IsOutcome, IsWatched}
 use Rattle.chi_watch_text.specs.Texts.{watched_text}
@@ -18,10 +17,6 @@ abbrev pub verdict_status : WatchVerdict → ℕ
 verdict_status Explained = 0
 verdict_status Unexplained = 1
 verdict_status Undecided = 6
-
--- for each granule that is not decided at least as many states as the budget were looked at
-abbrev pub WentBy : {P : Type 0} → (P → ℕ → Type 0) → P → P → ℕ → Watched → Type 0
-WentBy looked old new budget watched = IfSome watched.ending (λ ending. All (λ g. LookedAtLeast looked old new budget) ending.undecided.items)
 
 -- After Ok the text of what is found of the events was written, and this is its status. What each fault means, and what was
 -- written then: nothing but where the writer failed.

@@ -1,11 +1,11 @@
 //! From the lines of events to an answer's bytes.
 
 ghost use Rattle.std.specs.Prelude.{◌≡◌, IfOk, IfSome};
-ghost use Rattle.chi_watch.specs.Looks.{LookedAtLeast};
-ghost use Rattle.chi_watch_text.specs.Outcomes.{IsOutcome};
+ghost use Rattle.chi_recent.specs.Looks.{LookedAtLeast};
+ghost use Rattle.chi_watch_text.specs.Outcomes.{IsOutcome, WentBy};
 ghost use Rattle.chi_check.specs.Check.{KeepsUnanswered};
 ghost use Rattle.chi_check.specs.CheckStatus.{IsAnswerStatus};
-ghost use Rattle.chi_check.specs.Watch.{WatchOutcome, WentBy, verdict_status};
+ghost use Rattle.chi_check.specs.Watch.{WatchOutcome, verdict_status};
 
 use crate::fault::CheckFault;
 use crate::progress_line::ShownProgress;

@@ -1,6 +1,6 @@
 -- one line more
 use Rattle.std.specs.Prelude.{if◌then◌else◌}
-use Rattle.std.proofs.Common.{◌≡◌, ◌≢◌, ℕ, ◌≤◌, filter, get_or, not, ◌==◌, ◌||◌, ◌+◌, ◌<◌, List, [], ◌∷◌, ◌++◌, All, Option, None, Some, IfSome, inl, inr, Ok, Err, Result, IsErrAnd, Bool, true, false, true≢false, eq-eqb, length, length-append, refl, sym, ap, subst, ◌∙◌, arith}
+use Rattle.std.proofs.Common.{◌≡◌, ◌≢◌, ℕ, ◌≤◌, filter, get_or, not, ◌==◌, ◌||◌, ◌⊎◌, ◌+◌, ◌<◌, List, [], ◌∷◌, ◌++◌, All, Option, None, Some, IfSome, inl, inr, Ok, Err, Result, IsErrAnd, Bool, true, false, true≢false, eq-eqb, length, length-append, refl, sym, ap, subst, ◌∙◌, arith}
 use Rattle.std.specs.List.{AllPairs, Contains}
 use Rattle.std.proofs.lemmas.List.Elements.{All-cons, All-contains, All-contains_itself, All-filter, All-nil, All-push, All-weaker, Contains-get_or}
 use Rattle.std.proofs.lemmas.List.{get_or_push}
@@ -9,16 +9,20 @@ use Rattle.std.specs.Io.BufRead.{drop_through, take_through}
 use Rattle.chi_event_text.specs.EventText.{event_text}
 use Rattle.chi_events.specs.declared.event.Event.{Event}
 use Rattle.chi_watch.specs.declared.ending.Ending.{Ending}
-use Rattle.chi_watch.specs.Looks.{LookedAtLeast, LookedSome}
-use Rattle.chi_watch.proofs.Looked.{at_least_after}
+use Rattle.chi_recent.specs.Looks.{LookedAtLeast, LookedSome}
+use Rattle.chi_recent.proofs.Looked.{at_least_after, at_least_before, looked_none, some_after}
+use Rattle.chi_recent.specs.declared.reach.Reach.{Reach}
+use Rattle.chi_watch.proofs.Reached.{undecided_weaker}
+use Rattle.chi_watch.specs.Reaching.{IsFoundAtEnd}
 use Rattle.chi_watch.specs.Watches.{HasTaken, IsUnexplained, WatchValue}
-use Rattle.chi_watch_text.specs.Found.{is_found, with_found, with_quiet}
+use Rattle.chi_watch_text.specs.Found.{is_found, with_quiet}
 use Rattle.chi_watch_text.specs.Lines.{AreEvents, AreLines, AreTold}
 use Rattle.chi_watch_text.specs.declared.fault.LinesFault.{LinesFault}
 use Rattle.chi_watch_text.specs.declared.fault.LinesFault.TheVariants as fault
+use Rattle.chi_watch_text.specs.declared.quiet.Quiet.{Quiet}
 use Rattle.chi_watch_text.specs.declared.watched.Found.{Found}
 use Rattle.chi_watch_text.specs.declared.watched.Watched.{Watched}
-use Rattle.chi_watch_text.specs.Outcomes.{EndsAt, HasTakenLines, IsEventFault, IsFoundBy, IsOutcome, IsPast, IsSeenBy, IsSettled, IsStillFound, IsTold, IsWatched, SaysAtEnd, SaysOf, TakesEvent}
+use Rattle.chi_watch_text.specs.Outcomes.{AreUnreached, EndsAt, HasTakenLines, IsEventFault, IsFoundBy, IsOutcome, IsPast, IsQuietBy, IsSeenBy, IsSettled, IsStillFound, IsTold, IsUnreached, IsWatched, ReachedBy, SaysAtEnd, SaysOf, TakesEvent, WentBy}
 use Rattle.chi_watch_text.specs.Reading.{IsRead, IsRefused}
 
 lines_more : (text : List ℕ) (lines : List (List ℕ)) (rest : List ℕ) → AreLines text lines rest → 0 < length rest → AreLines text (lines ++ take_through 10 rest ∷ []) (drop_through 10 rest)
@@ -43,7 +47,7 @@ told_more text count events rest e told some is = record {
 }
 
 -- nothing was read
-pub none_taken : (start : Option (List ℕ)) (w : WatchValue) (found quiet : List Found) → HasTaken [] w → found ≡ [] → quiet ≡ [] → HasTakenLines start 0 0 found quiet w start
+pub none_taken : (start : Option (List ℕ)) (w : WatchValue) (found : List Found) (quiet : List Quiet) → HasTaken [] w → found ≡ [] → quiet ≡ [] → HasTakenLines start 0 0 found quiet w start
 unfolding AreEvents AreLines
 none_taken None w found quiet has none calm = tt
 none_taken (Some text) w found quiet has none calm = record {
@@ -52,7 +56,7 @@ none_taken (Some text) w found quiet has none calm = record {
   taken = has;
   times = All-nil (λ e. e.time ≤ 0);
   found_by = subst (All (IsFoundBy text)) (sym none) (All-nil (IsFoundBy text));
-  quiet_by = subst (All (IsSeenBy text)) (sym calm) (All-nil (IsSeenBy text));
+  quiet_by = subst (All (IsQuietBy text)) (sym calm) (All-nil (IsQuietBy text));
 }
 
 -- the last of some events is none earlier than the others
@@ -62,43 +66,70 @@ latest events e w has k d below =
     (has.1.tells.in_time k (length events) d (omega (arith, below, length-append events (e ∷ []))) (omega (arith, length-append events (e ∷ []))))
 
 -- Each granule is found once.
-pub found_once : (it : Found) (found : List Found) → AllPairs (λ a b. a.granule ≢ b.granule) found → AllPairs (λ a b. a.granule ≢ b.granule) (with_found it found)
-found_once it found once = by_test (is_found it.granule found) refl
+found_once : (it : Found) (found : List Found) → is_found it.granule found ≡ false → AllPairs (λ a b. a.granule ≢ b.granule) found → AllPairs (λ a b. a.granule ≢ b.granule) (found ++ it ∷ [])
+found_once it found is once = all_pairs_push (λ (x y : Found). x.granule ≢ y.granule) found it once (others found is)
   where
-    by_test : (b : Bool) → is_found it.granule found ≡ b → AllPairs (λ (x y : Found). x.granule ≢ y.granule) (if b then found else found ++ it ∷ [])
-    by_test true is = once
-    by_test false is = all_pairs_push (λ (x y : Found). x.granule ≢ y.granule) found (it) once (others found is)
+    others : (l : List Found) → is_found it.granule l ≡ false → All (λ (x : Found). x.granule ≢ it.granule) l
+    others [] none = All-nil (λ (x : Found). x.granule ≢ it.granule)
+    others (f ∷ l) none = by_head (f.granule == it.granule) refl none (others l)
       where
-        others : (l : List Found) → is_found it.granule l ≡ false → All (λ (x : Found). x.granule ≢ it.granule) l
-        others [] none = All-nil (λ (x : Found). x.granule ≢ it.granule)
-        others (f ∷ l) none = by_head (f.granule == it.granule) refl none (others l)
-          where
-            by_head : (b : Bool) → (f.granule == it.granule) ≡ b → (b || is_found it.granule l) ≡ false → (is_found it.granule l ≡ false → All (λ (x : Found). x.granule ≢ it.granule) l)
-                → All (λ (x : Found). x.granule ≢ it.granule) (f ∷ l)
-            by_head true same none rest = absurd (true≢false none)
-            by_head false other none rest = All-cons (λ (x : Found). x.granule ≢ it.granule) f l (λ same. true≢false (sym (eq-eqb f.granule it.granule same) ∙ other)) (rest none)
-
--- a granule that is noted is one that was found before, or this one
-pub noted : (P : Found → Type 0) (it : Found) (found : List Found) → All P found → P it → All P (with_found it found)
-noted P it found all one = by_test (is_found it.granule found)
-  where
-    by_test : (b : Bool) → All P (if b then found else found ++ it ∷ [])
-    by_test true = all
-    by_test false = All-push P found it all one
+        by_head : (b : Bool) → (f.granule == it.granule) ≡ b → (b || is_found it.granule l) ≡ false → (is_found it.granule l ≡ false → All (λ (x : Found). x.granule ≢ it.granule) l)
+            → All (λ (x : Found). x.granule ≢ it.granule) (f ∷ l)
+        by_head true same none rest = absurd (true≢false none)
+        by_head false other none rest = All-cons (λ (x : Found). x.granule ≢ it.granule) f l (λ same. true≢false (sym (eq-eqb f.granule it.granule same) ∙ other)) (rest none)
 
 -- those that were looked at are settled
-pub still_first : (w : WatchValue) (quiet found : List Found) → All (IsStillFound w quiet found) found
+pub still_first : (w : WatchValue) (quiet : List Quiet) (found : List Found) → All (IsStillFound w quiet found) found
 still_first w quiet found = All-weaker (Contains found) (IsStillFound w quiet found) (λ f here. inl here) found (All-contains_itself found)
 
-pub still_more : (w : WatchValue) (quiet found before after : List Found) (i : ℕ) (d : Found) → i < length quiet → IsSettled w (get_or quiet i d) before after
+pub still_more : (w : WatchValue) (quiet : List Quiet) (found before after : List Found) (i : ℕ) (d : Quiet) → i < length quiet → IsSettled w (get_or quiet i d) before after
     → All (IsStillFound w quiet found) before → All (IsStillFound w quiet found) after
 still_more w quiet found before after i d below (inl same) all = subst (All (IsStillFound w quiet found)) (sym same) all
-still_more w quiet found before after i d below (inr (is, none)) all =
-    subst (All (IsStillFound w quiet found)) (sym is) (noted (IsStillFound w quiet found) (get_or quiet i d) before all (inr (Contains-get_or quiet i d below, none)))
+still_more w quiet found before after i d below (inr (f, is, other, noted)) all =
+    subst (All (IsStillFound w quiet found)) (sym is) (All-push (IsStillFound w quiet found) before f all (inr (get_or quiet i d, Contains-get_or quiet i d below, noted)))
 
-pub once_more : (w : WatchValue) (it : Found) (before after : List Found) → IsSettled w it before after → AllPairs (λ a b. a.granule ≢ b.granule) before → AllPairs (λ a b. a.granule ≢ b.granule) after
-once_more w it before after (inl same) once = subst (AllPairs (λ (x y : Found). x.granule ≢ y.granule)) (sym same) once
-once_more w it before after (inr (is, none)) once = subst (AllPairs (λ (x y : Found). x.granule ≢ y.granule)) (sym is) (found_once it before once)
+pub once_more : (w : WatchValue) (q : Quiet) (before after : List Found) → IsSettled w q before after → AllPairs (λ a b. a.granule ≢ b.granule) before → AllPairs (λ a b. a.granule ≢ b.granule) after
+once_more w q before after (inl same) once = subst (AllPairs (λ (x y : Found). x.granule ≢ y.granule)) (sym same) once
+once_more w q before after (inr (f, is, other, noted)) once = subst (AllPairs (λ (x y : Found). x.granule ≢ y.granule)) (sym is) (found_once f before other once)
+
+module _ {P : Type 0} (w : WatchValue) (looked : P → ℕ → Type 0) where
+  -- what is said of how far those can be explained that are found more
+  pub unreached_same : (old new : P) (budget : ℕ) (before after : List Found) → after ≡ before → AreUnreached w looked old new budget before after
+  unreached_same old new budget before after same events has =
+      subst (All (λ f. Contains before f ⊎ IsUnreached looked old new budget f.reach)) (sym same)
+      (All-weaker (Contains before) (λ f. Contains before f ⊎ IsUnreached looked old new budget f.reach) (λ f here. inl here) before (All-contains_itself before))
+
+  unreached_wider : (old middle new last : P) (budget : ℕ) (reach : Reach) → LookedSome looked old middle → LookedSome looked new last → IsUnreached looked middle new budget reach
+      → IsUnreached looked old last budget reach
+  unreached_wider old middle new last budget reach first further is =
+      undecided_weaker reach (λ whole. at_least_before looked old new last budget (at_least_after looked old middle new budget first whole) further) is
+
+  -- some, and then others
+  pub unreached_more : (old middle new : P) (budget : ℕ) (before between after : List Found) → LookedSome looked old middle → LookedSome looked middle new
+      → AreUnreached w looked old middle budget before between → AreUnreached w looked middle new budget between after → AreUnreached w looked old new budget before after
+  unreached_more old middle new budget before between after some more first further events has =
+      All-weaker (λ f. Contains between f ⊎ IsUnreached looked middle new budget f.reach) (λ f. Contains before f ⊎ IsUnreached looked old new budget f.reach)
+      (λ f is. by_side f is) after (further events has)
+    where
+      passed : (f : Found) → Contains before f ⊎ IsUnreached looked old middle budget f.reach → Contains before f ⊎ IsUnreached looked old new budget f.reach
+      passed f (inl here) = inl here
+      passed f (inr is) = inr (unreached_wider old old middle new budget f.reach (looked_none looked old) more is)
+
+      by_side : (f : Found) → Contains between f ⊎ IsUnreached looked middle new budget f.reach → Contains before f ⊎ IsUnreached looked old new budget f.reach
+      by_side f (inl here) = passed f (All-contains (λ x. Contains before x ⊎ IsUnreached looked old middle budget x.reach) between f (first events has) here)
+      by_side f (inr is) = inr (unreached_wider old middle new new budget f.reach some (looked_none looked new) is)
+
+  -- so of each that is found, and of each found before
+  pub unreached_all : (old middle new last : P) (budget : ℕ) (before after : List Found) → LookedSome looked old middle → LookedSome looked middle new → LookedSome looked new last
+      → (events : List Event) → HasTaken events w → AreUnreached w looked middle new budget before after
+      → All (λ f. IsUnreached looked old middle budget f.reach) before → All (λ f. IsUnreached looked old last budget f.reach) after
+  unreached_all old middle new last budget before after some more rest events has further all =
+      All-weaker (λ f. Contains before f ⊎ IsUnreached looked middle new budget f.reach) (λ f. IsUnreached looked old last budget f.reach) (λ f is. by_side f is) after (further events has)
+    where
+      by_side : (f : Found) → Contains before f ⊎ IsUnreached looked middle new budget f.reach → IsUnreached looked old last budget f.reach
+      by_side f (inl here) = unreached_wider old old middle last budget f.reach (looked_none looked old) (some_after looked middle new last more rest)
+          (All-contains (λ x. IsUnreached looked old middle budget x.reach) before f all here)
+      by_side f (inr is) = unreached_wider old middle new last budget f.reach some rest is
 
 -- a text whose next line is empty is at its end
 pub none_left : (now later : Option (List ℕ)) (line : List ℕ) → line ≡ [] → IfSome now (λ text. (line ≡ take_through 10 text) × (later ≡ Some (drop_through 10 text))) → IfSome now (λ text. text ≡ [])
@@ -114,13 +145,13 @@ none_left (Some (b ∷ rest)) later line none (same, left) = absurd (omega (arit
         by_test false more = omega arith
 
 -- and of those that became quiet one is put in its place
-quiet_noted : (P : Found → Type 0) (seen : Option ℕ) (line : ℕ) (quiet : List Found) → All P quiet → IfSome seen (λ g. P (record { granule = g; line = line })) → All P (with_quiet seen line quiet)
+quiet_noted : (P : Quiet → Type 0) (seen : Option ℕ) (line : ℕ) (quiet : List Quiet) → All P quiet → IfSome seen (λ g. P (record { granule = g; line = line })) → All P (with_quiet seen line quiet)
 quiet_noted P None line quiet all one = all
 quiet_noted P (Some g) line quiet all one =
-    All-push P (filter (λ f. not (f.granule == g)) quiet) (record { granule = g; line = line }) (All-filter (λ f. not (f.granule == g)) P quiet all) one
+    All-push P (filter (λ q. not (q.granule == g)) quiet) (record { granule = g; line = line }) (All-filter (λ q. not (q.granule == g)) P quiet all) one
 
 -- one event more was taken
-pub event_taken : (start now later : Option (List ℕ)) (count line time : ℕ) (found quiet after : List Found) (old new : WatchValue) (e : Event) (seen : Option ℕ)
+pub event_taken : (start now later : Option (List ℕ)) (count line time : ℕ) (found : List Found) (quiet after : List Quiet) (old new : WatchValue) (e : Event) (seen : Option ℕ)
     → HasTakenLines start count time found quiet old now → IfSome now (λ text. IsRead text (Some e) later) → TakesEvent old e new seen → line ≡ count + 1 → after ≡ with_quiet seen line quiet
     → HasTakenLines start line e.time found after new later
 event_taken None now later count line time found quiet after old new e seen has next takes here is = tt
@@ -132,7 +163,7 @@ event_taken (Some text) (Some rest) later count line time found quiet after old 
       taken = taken;
       times = latest has.events e new taken;
       found_by = has.found_by;
-      quiet_by = subst (All (IsSeenBy text)) (sym is) (quiet_noted (IsSeenBy text) seen line quiet has.quiet_by (by_seen seen takes.unexplained));
+      quiet_by = subst (All (IsQuietBy text)) (sym is) (quiet_noted (IsQuietBy text) seen line quiet has.quiet_by (by_seen seen takes.unexplained));
     })
   where
     more : AreTold text line (has.events ++ e ∷ []) (drop_through 10 rest)
@@ -141,7 +172,7 @@ event_taken (Some text) (Some rest) later count line time found quiet after old 
     taken : HasTaken (has.events ++ e ∷ []) new
     taken = takes.taken has.events has.taken
 
-    by_seen : (o : Option ℕ) → IfSome o (λ g. (events : List Event) → HasTaken events old → IsUnexplained (events ++ e ∷ []) g) → IfSome o (λ g. IsSeenBy text (record { granule = g; line = line }))
+    by_seen : (o : Option ℕ) → IfSome o (λ g. (events : List Event) → HasTaken events old → IsUnexplained (events ++ e ∷ []) g) → IfSome o (λ g. IsSeenBy text g line)
     by_seen None none = tt
     by_seen (Some g) none = record { events = has.events ++ e ∷ []; rest = drop_through 10 rest; told = more; unexplained = none has.events has.taken }
 
@@ -153,39 +184,40 @@ past events time rest (Some e) later times (some, tells, left) after =
     inr (e, tells, All-weaker (λ d. d.time ≤ time) (λ d. d.time < e.time) (λ d le. omega (arith, le, after)) events times)
 
 -- those of a time that is past are found
-pub settled : (start now later : Option (List ℕ)) (count time : ℕ) (found quiet found_after quiet_after : List Found) (w : WatchValue) (next : Option Event) (is_past : Bool)
+pub settled : (start now later : Option (List ℕ)) (count time : ℕ) (found found_after : List Found) (quiet quiet_after : List Quiet) (w : WatchValue) (next : Option Event) (is_past : Bool)
     → HasTakenLines start count time found quiet w now → IfSome now (λ text. IsRead text next later) → (is_past ≡ true → IfSome next (λ e. time < e.time))
     → (is_past ≡ false → (found_after ≡ found) × (quiet_after ≡ quiet)) → (is_past ≡ true → quiet_after ≡ []) → (is_past ≡ true → All (IsStillFound w quiet found) found_after)
     → HasTakenLines start count time found_after quiet_after w now
-settled None now later count time found quiet found_after quiet_after w next is_past has read after waits cleared each = tt
-settled (Some text) None later count time found quiet found_after quiet_after w next is_past has read after waits cleared each = absurd has
-settled (Some text) (Some rest) later count time found quiet found_after quiet_after w next false has read after waits cleared each = record {
+settled None now later count time found found_after quiet quiet_after w next is_past has read after waits cleared each = tt
+settled (Some text) None later count time found found_after quiet quiet_after w next is_past has read after waits cleared each = absurd has
+settled (Some text) (Some rest) later count time found found_after quiet quiet_after w next false has read after waits cleared each = record {
   events = has.events;
   told = has.told;
   taken = has.taken;
   times = has.times;
   found_by = subst (All (IsFoundBy text)) (sym (waits refl).0) has.found_by;
-  quiet_by = subst (All (IsSeenBy text)) (sym (waits refl).1) has.quiet_by;
+  quiet_by = subst (All (IsQuietBy text)) (sym (waits refl).1) has.quiet_by;
 }
-settled (Some text) (Some rest) later count time found quiet found_after quiet_after w next true has read after waits cleared each = record {
+settled (Some text) (Some rest) later count time found found_after quiet quiet_after w next true has read after waits cleared each = record {
   events = has.events;
   told = has.told;
   taken = has.taken;
   times = has.times;
   found_by = All-weaker (IsStillFound w quiet found) (IsFoundBy text) is_found_by found_after (each refl);
-  quiet_by = subst (All (IsSeenBy text)) (sym (cleared refl)) (All-nil (IsSeenBy text));
+  quiet_by = subst (All (IsQuietBy text)) (sym (cleared refl)) (All-nil (IsQuietBy text));
 }
   where
     is_found_by : (f : Found) → IsStillFound w quiet found f → IsFoundBy text f
     is_found_by f (inl before) = All-contains (IsFoundBy text) found f has.found_by before
-    is_found_by f (inr (calm, none)) = record {
-      seen = All-contains (IsSeenBy text) quiet f has.quiet_by calm;
+    is_found_by f (inr (q, calm, noted)) = record {
+      seen = subst (λ g. IsSeenBy text g f.line) (sym noted.granule) (subst (IsSeenBy text q.granule) (sym noted.line) (All-contains (IsQuietBy text) quiet q has.quiet_by calm));
       events = has.events;
       count = count;
       rest = rest;
       told = has.told;
       past = past has.events time rest next later has.times read (after refl);
-      unexplained = none has.events has.taken;
+      unexplained = noted.unexplained has.events has.taken;
+      reach = noted.reach has.events has.taken;
     }
 
 -- where it does not keep going none is found before it stops
@@ -199,11 +231,11 @@ says_of : (w : WatchValue) (events : List Event) → HasTaken events w → (endi
 says_of w events has ending says = record {
   whole = λ none_un none_dec. says.whole none_un none_dec events has;
   each = λ g. says.each g events has;
-  unexplained = All-weaker (λ g. (all : List Event) → HasTaken all w → IsUnexplained all g) (IsUnexplained events) (λ g none. none events has) ending.unexplained.items says.unexplained;
+  unexplained = All-weaker (λ f. (all : List Event) → HasTaken all w → IsFoundAtEnd all f) (IsFoundAtEnd events) (λ f is. is events has) ending.unexplained.items says.unexplained;
 }
 
 -- what is said of the text where it ends at its end
-pub at_end : (start now later : Option (List ℕ)) (count time : ℕ) (found quiet : List Found) (going : Bool) (w : WatchValue) (watched : Watched) → HasTakenLines start count time found quiet w now
+pub at_end : (start now later : Option (List ℕ)) (count time : ℕ) (found : List Found) (quiet : List Quiet) (going : Bool) (w : WatchValue) (watched : Watched) → HasTakenLines start count time found quiet w now
     → IfSome now (λ text. IsRead text None later) → AllPairs (λ a b. a.granule ≢ b.granule) found → (going ≡ false → found ≡ []) → IsTold w found watched → watched.ending ≢ None
     → IfSome watched.ending (SaysAtEnd w) → IfSome start (λ text. IsWatched text going watched)
 at_end None now later count time found quiet going w watched has read once first told some says = tt
@@ -228,7 +260,7 @@ at_end (Some text) (Some rest) later count time found quiet going w watched has 
     by_ending (Some ending) is_some said = (refl, says_of w has.events has.taken ending said, first)
 
 -- what is said of the text where it stops
-pub at_stop : (start now later : Option (List ℕ)) (count time : ℕ) (found quiet : List Found) (going is_past : Bool) (w : WatchValue) (next : Option Event) (watched : Watched)
+pub at_stop : (start now later : Option (List ℕ)) (count time : ℕ) (found : List Found) (quiet : List Quiet) (going is_past : Bool) (w : WatchValue) (next : Option Event) (watched : Watched)
     → HasTakenLines start count time found quiet w now → IfSome now (λ text. IsRead text next later) → (is_past ≡ true → IfSome next (λ e. time < e.time))
     → AllPairs (λ a b. a.granule ≢ b.granule) found → (is_past ≡ true) × (going ≡ false) × (0 < length found) → IsTold w found watched → watched.ending ≡ None
     → IfSome start (λ text. IsWatched text going watched)
@@ -251,7 +283,7 @@ at_stop (Some text) (Some rest) later count time found quiet going is_past w nex
 }
 
 -- what is said of the text where a line tells no event
-pub where_refused : (start now : Option (List ℕ)) (count number time : ℕ) (found quiet : List Found) (going : Bool) (w : WatchValue) (f : LinesFault) → HasTakenLines start count time found quiet w now
+pub where_refused : (start now : Option (List ℕ)) (count number time : ℕ) (found : List Found) (quiet : List Quiet) (going : Bool) (w : WatchValue) (f : LinesFault) → HasTakenLines start count time found quiet w now
     → number ≡ count + 1 → IfSome now (λ text. IsRefused (take_through 10 text) number f) → IfSome start (λ text. IsOutcome text going (Err f))
 where_refused None now count number time found quiet going w f has here is = tt
 where_refused (Some text) None count number time found quiet going w f has here is = absurd has
@@ -262,7 +294,7 @@ where_refused (Some text) (Some rest) count number time found quiet going w faul
 where_refused (Some text) (Some rest) count number time found quiet going w fault.Memory has here is = tt
 
 -- or one whose event is not taken
-pub where_not_taken : (start now later : Option (List ℕ)) (count number time : ℕ) (found quiet : List Found) (going : Bool) (w : WatchValue) (e : Event) (f : LinesFault)
+pub where_not_taken : (start now later : Option (List ℕ)) (count number time : ℕ) (found : List Found) (quiet : List Quiet) (going : Bool) (w : WatchValue) (e : Event) (f : LinesFault)
     → HasTakenLines start count time found quiet w now → number ≡ count + 1 → IfSome now (λ text. IsRead text (Some e) later) → IsEventFault w e number f → IfSome start (λ text. IsOutcome text going (Err f))
 where_not_taken None now later count number time found quiet going w e f has here read is = tt
 where_not_taken (Some text) None later count number time found quiet going w e f has here read is = absurd has
@@ -279,8 +311,29 @@ passed_on (Ok a) f P is h = absurd is
 passed_on (Err y) f P is h = subst (λ z. P (Err z)) (sym is) h
 
 -- for each granule that is not decided at least so many states were looked at
-pub undecided_after : {P : Type 0} (looked : P → ℕ → Type 0) (old middle new : P) (budget : ℕ) → LookedSome looked old middle → (o : Option Ending)
-    → IfSome o (λ ending. All (λ g. LookedAtLeast looked middle new budget) ending.undecided.items) → IfSome o (λ ending. All (λ g. LookedAtLeast looked old new budget) ending.undecided.items)
-undecided_after looked old middle new budget some None all = tt
-undecided_after looked old middle new budget some (Some ending) all =
-    All-weaker (λ g. LookedAtLeast looked middle new budget) (λ g. LookedAtLeast looked old new budget) (λ g whole. at_least_after looked old middle new budget some whole) ending.undecided.items all
+pub undecided_after : {P : Type 0} (looked : P → ℕ → Type 0) (old middle new : P) (budget : ℕ) (watched : Watched) → LookedSome looked old middle → WentBy looked middle new budget watched
+    → WentBy looked old new budget watched
+undecided_after looked old middle new budget watched some went = by_ending watched.ending went
+  where
+    by_ending : (o : Option Ending) → IfSome o (λ ending. All (λ g. LookedAtLeast looked middle new budget) ending.undecided.items) → IfSome o (λ ending. All (λ g. LookedAtLeast looked old new budget) ending.undecided.items)
+    by_ending None all = tt
+    by_ending (Some ending) all =
+        All-weaker (λ g. LookedAtLeast looked middle new budget) (λ g. LookedAtLeast looked old new budget) (λ g whole. at_least_after looked old middle new budget some whole) ending.undecided.items all
+
+-- and for each of which it is not known how far it can be explained
+pub reached_by_found : {P : Type 0} (looked : P → ℕ → Type 0) (old new : P) (budget : ℕ) (found : List Found) (watched : Watched) → watched.found.items ≡ found
+    → All (λ f. IsUnreached looked old new budget f.reach) found → IfSome watched.ending (λ ending. All (λ f. IsUnreached looked old new budget f.reach) ending.unexplained.items)
+    → ReachedBy looked old new budget watched
+reached_by_found looked old new budget found watched same all at_end = record {
+  found = subst (All (λ f. IsUnreached looked old new budget f.reach)) (sym same) all;
+  at_end = at_end;
+}
+
+-- the granules that are found at the end are so of the events that the watch took
+pub unreached_at_end : {P : Type 0} (looked : P → ℕ → Type 0) (old middle new : P) (budget : ℕ) (w : WatchValue) → LookedSome looked old middle → (events : List Event) → HasTaken events w
+    → (o : Option Ending) → IfSome o (λ ending. All (λ f. (all : List Event) → HasTaken all w → IsUnreached looked middle new budget f.reach) ending.unexplained.items)
+    → IfSome o (λ ending. All (λ f. IsUnreached looked old new budget f.reach) ending.unexplained.items)
+unreached_at_end looked old middle new budget w some events has None all = tt
+unreached_at_end looked old middle new budget w some events has (Some ending) all =
+    All-weaker (λ f. (told : List Event) → HasTaken told w → IsUnreached looked middle new budget f.reach) (λ f. IsUnreached looked old new budget f.reach)
+    (λ f is. undecided_weaker f.reach (λ whole. at_least_after looked old middle new budget some whole) (is events has)) ending.unexplained.items all

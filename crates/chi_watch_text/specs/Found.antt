@@ -1,7 +1,9 @@
 -- granules that are found by lines
-use Rattle.std.specs.Prelude.{ℕ, ◌==◌, ◌++◌, Bool, not, if◌then◌else◌, filter, List, [], ◌∷◌, Option, None, Some}
+use Rattle.std.specs.Prelude.{ℕ, ◌==◌, ◌++◌, Bool, not, filter, List, [], ◌∷◌, Option, None, Some}
 use Rattle.std.specs.List.{list_any}
 use Rattle.chi_watch.specs.declared.ending.Ending.{Ending}
+use Rattle.chi_watch.specs.declared.ending.FoundAtEnd.{FoundAtEnd}
+use Rattle.chi_watch_text.specs.declared.quiet.Quiet.{Quiet}
 use Rattle.chi_watch_text.specs.declared.watched.Found.{Found}
 use Rattle.chi_watch_text.specs.declared.watched.Watched.{Watched}
 use Rattle.chi_watch_text.specs.declared.watched.WatchVerdict.{WatchVerdict}
@@ -11,18 +13,14 @@ use Rattle.chi_watch_text.specs.declared.watched.WatchVerdict.TheVariants.{Expla
 abbrev pub is_found : ℕ → List Found → Bool
 is_found g found = list_any (λ f. f.granule == g) found
 
--- with a granule that is found, where it was not found before
-abbrev pub with_found : Found → List Found → List Found
-with_found f found = if is_found f.granule found then found else found ++ f ∷ []
-
 -- the granules that became quiet at a time, with the one that did so by this line, if one did, in the place of what was there of it
-abbrev pub with_quiet : Option ℕ → ℕ → List Found → List Found
+abbrev pub with_quiet : Option ℕ → ℕ → List Quiet → List Quiet
 with_quiet None line quiet = quiet
-with_quiet (Some g) line quiet = filter (λ f. not (f.granule == g)) quiet ++ record { granule = g; line = line } ∷ []
+with_quiet (Some g) line quiet = filter (λ q. not (q.granule == g)) quiet ++ record { granule = g; line = line } ∷ []
 
 -- Some of one kind come before none of another.
-abbrev pub listed_verdict : List ℕ → List ℕ → WatchVerdict
-listed_verdict (g ∷ unexplained) undecided = Unexplained
+abbrev pub listed_verdict : List FoundAtEnd → List ℕ → WatchVerdict
+listed_verdict (f ∷ unexplained) undecided = Unexplained
 listed_verdict [] (g ∷ undecided) = Undecided
 listed_verdict [] [] = Explained
 

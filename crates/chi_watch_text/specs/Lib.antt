@@ -1,5 +1,6 @@
 pub mod Found
 pub mod Lines
 pub mod Outcomes
+pub mod ReachTexts
 pub mod Reading
 pub mod Texts

@@ -4,16 +4,21 @@ use Rattle.std.specs.List.{AllPairs, Contains}
 use Rattle.std.specs.Io.BufRead.{take_through}
 use Rattle.chi_event_text.specs.EventText.{event_text}
 use Rattle.chi_events.specs.declared.event.Event.{Event}
+use Rattle.chi_recent.specs.Looks.{LookedAtLeast}
+use Rattle.chi_recent.specs.Reaches.{IfUndecided}
+use Rattle.chi_recent.specs.declared.reach.Reach.{Reach}
 use Rattle.chi_watch.specs.Counts.{AreCounted, unjudged}
 use Rattle.chi_watch.specs.Endings.{IsListed}
 use Rattle.chi_watch.specs.Judged.{IsExplained, is_known}
 use Rattle.chi_watch.specs.Quiet.{CanBeExplained}
+use Rattle.chi_watch.specs.Reaching.{IsFoundAtEnd, IsReach, granules_of}
 use Rattle.chi_watch.specs.Watches.{HasTaken, IsUnexplained, WatchValue, fault_of}
 use Rattle.chi_watch.specs.declared.ending.Ending.{Ending}
-use Rattle.chi_watch_text.specs.Found.{with_found}
+use Rattle.chi_watch_text.specs.Found.{is_found}
 use Rattle.chi_watch_text.specs.Lines.{AreTold}
 use Rattle.chi_watch_text.specs.declared.fault.LinesFault.{LinesFault}
 use Rattle.chi_watch_text.specs.declared.fault.LinesFault.TheVariants as fault
+use Rattle.chi_watch_text.specs.declared.quiet.Quiet.{Quiet}
 use Rattle.chi_watch_text.specs.declared.watched.Found.{Found}
 use Rattle.chi_watch_text.specs.declared.watched.Watched.{Watched}
 
@@ -31,40 +36,62 @@ IsEventFault watch event number fault.TooManyLines = ⊥
 IsEventFault watch event number fault.Memory = Unit {0}
 
 -- by the lines up to this one no order explains the granule
-pub record IsSeenBy (text : List ℕ) (f : Found) : Type 0 where
+pub record IsSeenBy (text : List ℕ) (g line : ℕ) : Type 0 where
   pub events : List Event
   pub rest : List ℕ
-  pub told : AreTold text f.line events rest
-  pub unexplained : IsUnexplained events f.granule
+  pub told : AreTold text line events rest
+  pub unexplained : IsUnexplained events g
+
+-- that is so of one that became quiet by its line
+abbrev pub IsQuietBy : List ℕ → Quiet → Type 0
+IsQuietBy text q = IsSeenBy text q.granule q.line
 
 -- all events of the last time are told: nothing follows, or the next line tells one of a later time
 abbrev pub IsPast : List Event → List ℕ → Type 0
 IsPast events rest = (rest ≡ []) ⊎ ((e : Event) × (event_text (take_through 10 rest) ≡ Ok e) × All (λ d. d.time < e.time) events)
 
--- No order explains the granule by the lines up to the one that is named, and none does once all events of that time are told.
+-- No order explains the granule by the lines up to the one that is named, and none does once all events of that time are told. By
+-- these its operations can be explained so far.
 pub record IsFoundBy (text : List ℕ) (f : Found) : Type 0 where
-  pub seen : IsSeenBy text f
+  pub seen : IsSeenBy text f.granule f.line
   pub events : List Event
   pub count : ℕ
   pub rest : List ℕ
   pub told : AreTold text count events rest
   pub past : IsPast events rest
   pub unexplained : IsUnexplained events f.granule
+  pub reach : IsReach events f.granule f.reach
+
+-- the granule that became quiet is noted: no order explains it, and its operations can be explained so far
+pub record IsNotedAs (w : WatchValue) (q : Quiet) (f : Found) : Type 0 where
+  pub granule : f.granule ≡ q.granule
+  pub line : f.line ≡ q.line
+  pub unexplained : (events : List Event) → HasTaken events w → IsUnexplained events f.granule
+  pub reach : (events : List Event) → HasTaken events w → IsReach events f.granule f.reach
 
 -- a granule that was found before, or is one of these that became quiet and is still unexplained
-abbrev pub IsStillFound : WatchValue → List Found → List Found → Found → Type 0
-IsStillFound w quiet found f = Contains found f ⊎ (Contains quiet f × ((events : List Event) → HasTaken events w → IsUnexplained events f.granule))
+abbrev pub IsStillFound : WatchValue → List Quiet → List Found → Found → Type 0
+IsStillFound w quiet found f = Contains found f ⊎ ((q : Quiet) × Contains quiet q × IsNotedAs w q f)
 
--- the granule is noted only where no order explains it
-abbrev pub IsSettled : WatchValue → Found → List Found → List Found → Type 0
-IsSettled w it old new = (new ≡ old) ⊎ ((new ≡ with_found it old) × ((events : List Event) → HasTaken events w → IsUnexplained events it.granule))
+-- the granule is noted only where no order explains it, and once
+abbrev pub IsSettled : WatchValue → Quiet → List Found → List Found → Type 0
+IsSettled w q old new = (new ≡ old) ⊎ ((f : Found) × (new ≡ old ++ f ∷ []) × (is_found f.granule old ≡ false) × IsNotedAs w q f)
+
+-- where it is not known how far a granule can be explained, at least as many states as the budget were looked at
+abbrev pub IsUnreached : {P : Type 0} → (P → ℕ → Type 0) → P → P → ℕ → Reach → Type 0
+IsUnreached looked old new budget reach = IfUndecided reach (LookedAtLeast looked old new budget)
+
+-- so of each granule that is found more, where the watch took some events
+abbrev pub AreUnreached : {P : Type 0} → WatchValue → (P → ℕ → Type 0) → P → P → ℕ → List Found → List Found → Type 0
+AreUnreached w looked old new budget before after =
+    (events : List Event) → HasTaken events w → All (λ f. Contains before f ⊎ IsUnreached looked old new budget f.reach) after
 
 -- What is said of events at their end. Where no granule is listed all is explained. Each granule of which all is told can be
 -- explained, or is listed; no order explains one that is listed as such.
 pub record SaysOf (events : List Event) (ending : Ending) : Type 0 where
   pub whole : ending.unexplained.items ≡ [] → ending.undecided.items ≡ [] → IsExplained events
-  pub each : (g : ℕ) → is_known events g ≡ true → CanBeExplained events g ⊎ IsListed g ending.unexplained.items ending.undecided.items
-  pub unexplained : All (IsUnexplained events) ending.unexplained.items
+  pub each : (g : ℕ) → is_known events g ≡ true → CanBeExplained events g ⊎ IsListed g (granules_of ending.unexplained.items) ending.undecided.items
+  pub unexplained : All (IsFoundAtEnd events) ending.unexplained.items
 
 -- where the reading ends: at the end of the text, or, where it does not keep going, once all events are told of a time at which a
 -- granule was found
@@ -108,21 +135,30 @@ pub record IsTold (w : WatchValue) (found : List Found) (watched : Watched) : Ty
 -- what is said of the events that a watch took
 pub record SaysAtEnd (w : WatchValue) (ending : Ending) : Type 0 where
   pub whole : ending.unexplained.items ≡ [] → ending.undecided.items ≡ [] → (events : List Event) → HasTaken events w → IsExplained events
-  pub each : (g : ℕ) (events : List Event) → HasTaken events w → is_known events g ≡ true → CanBeExplained events g ⊎ IsListed g ending.unexplained.items ending.undecided.items
-  pub unexplained : All (λ g. (events : List Event) → HasTaken events w → IsUnexplained events g) ending.unexplained.items
+  pub each : (g : ℕ) (events : List Event) → HasTaken events w → is_known events g ≡ true → CanBeExplained events g ⊎ IsListed g (granules_of ending.unexplained.items) ending.undecided.items
+  pub unexplained : All (λ f. (events : List Event) → HasTaken events w → IsFoundAtEnd events f) ending.unexplained.items
 
 -- After so many lines a watch took their events, of which none is later than this time. These granules were found by them, and these
 -- others became quiet at this time. The rest follows.
-pub record AreTaken (text : List ℕ) (count time : ℕ) (found quiet : List Found) (watch : WatchValue) (rest : List ℕ) : Type 0 where
+pub record AreTaken (text : List ℕ) (count time : ℕ) (found : List Found) (quiet : List Quiet) (watch : WatchValue) (rest : List ℕ) : Type 0 where
   pub events : List Event
   pub told : AreTold text count events rest
   pub taken : HasTaken events watch
   pub times : All (λ e. e.time ≤ time) events
   pub found_by : All (IsFoundBy text) found
-  pub quiet_by : All (IsSeenBy text) quiet
+  pub quiet_by : All (IsQuietBy text) quiet
 
 -- the same of a text that may not be known
-abbrev pub HasTakenLines : Option (List ℕ) → ℕ → ℕ → List Found → List Found → WatchValue → Option (List ℕ) → Type 0
+abbrev pub HasTakenLines : Option (List ℕ) → ℕ → ℕ → List Found → List Quiet → WatchValue → Option (List ℕ) → Type 0
 HasTakenLines None count time found quiet watch rest = Unit {0}
 HasTakenLines (Some text) count time found quiet watch None = ⊥
 HasTakenLines (Some text) count time found quiet watch (Some rest) = AreTaken text count time found quiet watch rest
+
+-- for each granule that is not decided at least as many states as the budget were looked at
+abbrev pub WentBy : {P : Type 0} → (P → ℕ → Type 0) → P → P → ℕ → Watched → Type 0
+WentBy looked old new budget watched = IfSome watched.ending (λ ending. All (λ g. LookedAtLeast looked old new budget) ending.undecided.items)
+
+-- and for each of which it is not known how far it can be explained
+pub record ReachedBy {P : Type 0} (looked : P → ℕ → Type 0) (old new : P) (budget : ℕ) (watched : Watched) : Type 0 where
+  pub found : All (λ f. IsUnreached looked old new budget f.reach) watched.found.items
+  pub at_end : IfSome watched.ending (λ ending. All (λ f. IsUnreached looked old new budget f.reach) ending.unexplained.items)

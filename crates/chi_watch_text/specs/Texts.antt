@@ -3,19 +3,21 @@ use Rattle.std.specs.Prelude.{ℕ, ◌++◌, if◌then◌else◌, List, [], Opti
 use Rattle.chi_answer.specs.Lines.{granule_line, undecided_line}
 use Rattle.chi_watch.specs.declared.counts.Counts.{Counts}
 use Rattle.chi_watch.specs.declared.ending.Ending.{Ending}
+use Rattle.chi_watch.specs.declared.ending.FoundAtEnd.{FoundAtEnd}
 use Rattle.chi_watch_text.specs.Found.{is_found, verdict_of}
+use Rattle.chi_watch_text.specs.ReachTexts.{reach_text}
 use Rattle.chi_watch_text.specs.declared.watched.Found.{Found}
 use Rattle.chi_watch_text.specs.declared.watched.Watched.{Watched}
 use Rattle.chi_watch_text.specs.declared.watched.WatchVerdict.{WatchVerdict}
 use Rattle.chi_watch_text.specs.declared.watched.WatchVerdict.TheVariants.{Explained, Unexplained, Undecided}
 
--- a granule, and the line by which it was found
+-- a granule, how far it can be explained, and the line by which it was found
 unfoldable pub found_text : Found → List ℕ
-found_text f = granule_line f.granule ++ (codes "  at line " ++ decimal f.line ++ codes "\n")
+found_text f = granule_line f.granule ++ (reach_text None f.reach ++ (codes "  at line " ++ decimal f.line ++ codes "\n"))
 
 -- one that is not explained at the end, where it was not found before
-unfoldable pub end_text : List Found → ℕ → List ℕ
-end_text found g = if is_found g found then [] else granule_line g ++ codes "  at the end\n"
+unfoldable pub end_text : List Found → FoundAtEnd → List ℕ
+end_text found f = if is_found f.granule found then [] else granule_line f.granule ++ (reach_text f.last f.reach ++ codes "  at the end\n")
 
 -- one that is not decided
 abbrev pub undecided_text : ℕ → ℕ → List ℕ

@@ -6,6 +6,7 @@ mod lines;
 mod options;
 mod progress;
 mod quiet;
+mod reach_lines;
 mod text;
 mod watched;
 mod watching;

@@ -1,21 +1,27 @@
 //! Granules that became quiet, and that no order explains by what is told up to then.
 
-ghost use Rattle.std.specs.Prelude.{◌≡◌, ◌==◌, ◌≢◌, ◌⊎◌, [], ℕ, true, false, List, All, not, filter, IfOk};
-ghost use Rattle.std.specs.List.{AllPairs, Contains};
-ghost use Rattle.chi_events.specs.declared.event.Event.{Event};
-ghost use Rattle.chi_watch.specs.Looks.{LookedSome};
-ghost use Rattle.chi_watch.specs.Watches.{HasTaken, IsUnexplained};
+ghost use Rattle.std.specs.Prelude.{◌≡◌, ◌==◌, ◌≢◌, [], true, false, All, not, filter, IfOk};
+ghost use Rattle.std.specs.List.{AllPairs};
+ghost use Rattle.chi_recent.specs.Looks.{LookedSome};
 ghost use Rattle.chi_watch_text.specs.Found.{with_quiet};
-ghost use Rattle.chi_watch_text.specs.Outcomes.{IsSettled, IsStillFound};
+ghost use Rattle.chi_watch_text.specs.Outcomes.{AreUnreached, IsSettled, IsStillFound};
 
-use crate::watched::{Found, note_found};
+use crate::watched::{Found, is_found};
 use chi_search::Progress;
 use chi_watch::Watch;
 use std::alloc::{AllocError, Global};
 
+/// A granule that became quiet and that no order explains by what was told then, by its number; and the line by which its last
+/// outstanding request had gone.
+#[derive(Clone, Copy)]
+pub struct Quiet {
+    pub(crate) granule: u64,
+    pub(crate) line: u64,
+}
+
 /// All but this granule.
-fn without(alloc: Global, quiet: &[Found], granule: u64) -> Result<Vec<Found>, AllocError>
-    ensures { IfOk result (λ others. others.items ≡ filter (λ f. not (f.granule == granule)) quiet.now) }
+fn without(alloc: Global, quiet: &[Quiet], granule: u64) -> Result<Vec<Quiet>, AllocError>
+    ensures { IfOk result (λ others. others.items ≡ filter (λ q. not (q.granule == granule)) quiet.now) }
 {
     quiet
         .iter()
@@ -27,7 +33,7 @@ fn without(alloc: Global, quiet: &[Found], granule: u64) -> Result<Vec<Found>, A
 /// Notes the granule that became quiet by a line, if one did.
 pub(crate) fn note_quiet(
     alloc: Global,
-    quiet: &mut Vec<Found>,
+    quiet: &mut Vec<Quiet>,
     seen: Option<u64>,
     line: u64,
 ) -> Result<(), AllocError>
@@ -37,25 +43,34 @@ pub(crate) fn note_quiet(
         return Ok(());
     };
     let mut others = without(alloc, quiet, granule)?;
-    others.push(Found { granule, line })?;
+    others.push(Quiet { granule, line })?;
     *quiet = others;
     Ok(())
 }
 
-/// Notes a granule, where it is still quiet and unexplained.
+/// Notes a granule, where it is still quiet and unexplained and was not noted before.
 fn settle_one<P: Progress>(
     alloc: Global,
     watch: &Watch,
-    it: Found,
+    it: Quiet,
     found: &mut Vec<Found>,
     budget: u64,
     progress: &mut P,
 ) -> Result<(), AllocError>
     ensures noted { IfOk result (λ _. IsSettled watch.now it found.old.items found.new.items) }
+    ensures unreached { IfOk result (λ _. AreUnreached watch.now P.looked progress.old progress.new budget found.old.items found.new.items) }
     ensures looked { IfOk result (λ _. LookedSome P.looked progress.old progress.new) }
 {
+    if is_found(found, it.granule) {
+        return Ok(());
+    }
     if watch.is_unexplained(alloc, it.granule, budget, progress)? {
-        return note_found(found, it);
+        let reach = watch.reach(alloc, it.granule, budget, progress)?;
+        found.push(Found {
+            granule: it.granule,
+            line: it.line,
+            reach,
+        })?;
     }
     Ok(())
 }
@@ -64,12 +79,13 @@ fn settle_one<P: Progress>(
 fn settle_each<P: Progress>(
     alloc: Global,
     watch: &Watch,
-    quiet: &[Found],
+    quiet: &[Quiet],
     found: &mut Vec<Found>,
     budget: u64,
     progress: &mut P,
 ) -> Result<(), AllocError>
     ensures each { IfOk result (λ _. All (IsStillFound watch.now quiet.now found.old.items) found.new.items) }
+    ensures unreached { IfOk result (λ _. AreUnreached watch.now P.looked progress.old progress.new budget found.old.items found.new.items) }
     ensures once { IfOk result (λ _. AllPairs (λ a b. a.granule ≢ b.granule) found.old.items → AllPairs (λ a b. a.granule ≢ b.granule) found.new.items) }
     ensures looked { IfOk result (λ _. LookedSome P.looked progress.old progress.new) }
 {
@@ -84,7 +100,7 @@ pub(crate) fn settle<P: Progress>(
     alloc: Global,
     watch: &Watch,
     is_past: bool,
-    quiet: &mut Vec<Found>,
+    quiet: &mut Vec<Quiet>,
     found: &mut Vec<Found>,
     budget: u64,
     progress: &mut P,
@@ -92,6 +108,7 @@ pub(crate) fn settle<P: Progress>(
     ensures waits { IfOk result (λ _. is_past ≡ false → (found.new.items ≡ found.old.items) × (quiet.new.items ≡ quiet.old.items)) }
     ensures cleared { IfOk result (λ _. is_past ≡ true → quiet.new.items ≡ []) }
     ensures each { IfOk result (λ _. is_past ≡ true → All (IsStillFound watch.now quiet.old.items found.old.items) found.new.items) }
+    ensures unreached { IfOk result (λ _. AreUnreached watch.now P.looked progress.old progress.new budget found.old.items found.new.items) }
     ensures once { IfOk result (λ _. AllPairs (λ a b. a.granule ≢ b.granule) found.old.items → AllPairs (λ a b. a.granule ≢ b.granule) found.new.items) }
     ensures looked { IfOk result (λ _. LookedSome P.looked progress.old progress.new) }
 {

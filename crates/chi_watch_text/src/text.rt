@@ -3,9 +3,10 @@
 ghost use Rattle.std.specs.Prelude.{◌≡◌, ◌++◌, IfOk, OnOk, flat_map};
 ghost use Rattle.chi_watch_text.specs.Texts.{answer_text, counts_text, end_text, ending_text, found_text, undecided_text, watched_text};
 
+use crate::reach_lines::add_reach;
 use crate::watched::{Found, WatchVerdict, Watched, is_found};
 use chi_answer::{Part, add_granule, add_parts, add_undecided};
-use chi_watch::{Counts, Ending};
+use chi_watch::{Counts, Ending, FoundAtEnd};
 use std::alloc::{AllocError, Global};
 
 /// The lines of a granule that was found.
@@ -13,6 +14,7 @@ fn add_found(to: &mut Vec<u8>, found: &Found) -> Result<(), AllocError>
     ensures { OnOk result (to.new.items ≡ to.old.items ++ found_text found.now) }
 {
     add_granule(to, found.granule)?;
+    add_reach(to, None, &found.reach)?;
     add_parts(
         to,
         &[
@@ -24,13 +26,14 @@ fn add_found(to: &mut Vec<u8>, found: &Found) -> Result<(), AllocError>
 }
 
 /// The lines of a granule that no order explains at the end, where it was not found before.
-fn add_at_end(to: &mut Vec<u8>, found: &[Found], granule: u64) -> Result<(), AllocError>
-    ensures { OnOk result (to.new.items ≡ to.old.items ++ end_text found.now granule) }
+fn add_at_end(to: &mut Vec<u8>, found: &[Found], it: &FoundAtEnd) -> Result<(), AllocError>
+    ensures { OnOk result (to.new.items ≡ to.old.items ++ end_text found.now it.now) }
 {
-    if is_found(found, granule) {
+    if is_found(found, it.granule) {
         return Ok(());
     }
-    add_granule(to, granule)?;
+    add_granule(to, it.granule)?;
+    add_reach(to, it.last, &it.reach)?;
     add_parts(to, &[Part::Text("  at the end\n")])
 }
 
@@ -45,11 +48,15 @@ fn add_all_found(to: &mut Vec<u8>, found: &[Found]) -> Result<(), AllocError>
 }
 
 /// The lines of granules that no order explains at the end.
-fn add_all_at_end(to: &mut Vec<u8>, found: &[Found], unexplained: &[u64]) -> Result<(), AllocError>
+fn add_all_at_end(
+    to: &mut Vec<u8>,
+    found: &[Found],
+    unexplained: &[FoundAtEnd],
+) -> Result<(), AllocError>
     ensures { OnOk result (to.new.items ≡ to.old.items ++ flat_map (end_text found.now) unexplained.now) }
 {
-    for granule in unexplained {
-        add_at_end(to, found, *granule)?;
+    for it in unexplained {
+        add_at_end(to, found, it)?;
     }
     Ok(())
 }

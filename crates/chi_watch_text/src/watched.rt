@@ -1,22 +1,24 @@
 //! What is found of events that are read line by line.
 
-ghost use Rattle.std.specs.Prelude.{◌≡◌, IfOk};
-ghost use Rattle.chi_watch_text.specs.Found.{is_found, verdict_of, with_found};
+ghost use Rattle.std.specs.Prelude.{◌≡◌};
+ghost use Rattle.chi_watch_text.specs.Found.{is_found, verdict_of};
 
+use chi_recent::Reach;
 use chi_watch::{Counts, Ending};
-use std::alloc::AllocError;
 
-/// A granule that no order explains, by its number, and the line by which its last outstanding request had gone, counted from 1.
-#[derive(Clone, Copy, Debug, PartialEq, Eq)]
+/// A granule that no order explains, by its number; the line by which its last outstanding request had gone, counted from 1; and
+/// how far its operations can be explained.
+#[derive(Debug, Drop)]
 pub struct Found {
     pub granule: u64,
     pub line: u64,
+    pub reach: Reach,
 }
 
 /// What is found of events that are read line by line: granules that no order explains, each with the line by which that was first
 /// seen; what is said where the events end, or nothing where it stopped at the line of the last granule found; and how much was
 /// told. `unjudged` is of how many granules that were told of nothing is said.
-#[derive(Debug, PartialEq, Eq, Drop)]
+#[derive(Debug, Drop)]
 pub struct Watched {
     pub found: Vec<Found>,
     pub ending: Option<Ending>,
@@ -68,15 +70,4 @@ pub(crate) fn is_found(found: &[Found], granule: u64) -> bool
     ensures { result ≡ is_found granule found.now }
 {
     found.iter().any(|it| it.granule == granule)
-}
-
-/// Notes a granule that is found, where it was not found before.
-pub(crate) fn note_found(found: &mut Vec<Found>, it: Found) -> Result<(), AllocError>
-    ensures { IfOk result (λ _. found.new.items ≡ with_found it found.old.items) }
-{
-    if is_found(found, it.granule) {
-        return Ok(());
-    }
-    found.push(it)?;
-    Ok(())
 }

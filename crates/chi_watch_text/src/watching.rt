@@ -1,8 +1,10 @@
 //! Events that are read line by line and watched.
 
 ghost use Rattle.std.specs.Prelude.{◌≡◌, ◌≢◌, ◌<◌, ◌⊎◌, ℕ, [], List, All, None, true, false, IfErr, IfOk, IfSome, length};
-ghost use Rattle.chi_watch.specs.Looks.{LookedAtLeast, LookedSome};
-ghost use Rattle.chi_watch_text.specs.Outcomes.{IsEventFault, IsOutcome, IsTold, SaysAtEnd, TakesEvent};
+ghost use Rattle.chi_events.specs.declared.event.Event.{Event};
+ghost use Rattle.chi_recent.specs.Looks.{LookedSome};
+ghost use Rattle.chi_watch.specs.Watches.{HasTaken};
+ghost use Rattle.chi_watch_text.specs.Outcomes.{IsEventFault, IsOutcome, IsTold, IsUnreached, ReachedBy, SaysAtEnd, TakesEvent, WentBy};
 
 use crate::fault::LinesFault;
 use crate::lines::next_event;
@@ -80,7 +82,9 @@ fn ended<P: WatchProgress>(
     ensures told { IfOk result (λ watched. IsTold watch found.items watched) }
     ensures ending { IfOk result (λ watched. watched.ending ≢ None) }
     ensures says { IfOk result (λ watched. IfSome watched.ending (SaysAtEnd watch)) }
-    ensures undecided { IfOk result (λ watched. IfSome watched.ending (λ ending. All (λ g. LookedAtLeast P.looked progress.old progress.new budget) ending.undecided.items)) }
+    ensures undecided { IfOk result (WentBy P.looked progress.old progress.new budget) }
+    ensures unreached { IfOk result (λ watched. IfSome watched.ending (λ ending. All (λ f. (events : List Event) → HasTaken events watch → IsUnreached P.looked progress.old progress.new budget f.reach) ending.unexplained.items)) }
+    ensures looked { IfOk result (λ _. LookedSome P.looked progress.old progress.new) }
 {
     let counts = watch.counts();
     let unjudged = watch.unjudged();
@@ -111,7 +115,8 @@ pub fn watch_lines<R: BufRead, P: WatchProgress>(
     progress: &mut P,
 ) -> Result<Watched, LinesFault>
     ensures outcome { IfSome (R.remaining from.old) (λ text. IsOutcome text options.now.keep_going result) }
-    ensures undecided { IfOk result (λ watched. IfSome watched.ending (λ ending. All (λ g. LookedAtLeast P.looked progress.old progress.new options.now.budget) ending.undecided.items)) }
+    ensures undecided { IfOk result (WentBy P.looked progress.old progress.new options.now.budget) }
+    ensures unreached { IfOk result (ReachedBy P.looked progress.old progress.new options.now.budget) }
 {
     let mut watch = Watch::new(alloc);
     let mut found = Vec::new(alloc);

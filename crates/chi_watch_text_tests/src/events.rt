@@ -88,3 +88,23 @@ pub(crate) const GOING: WatchOptions = WatchOptions {
     budget: 1_000_000,
     keep_going: true,
 };
+
+/// The granules that were found by lines, each with its line.
+pub(crate) fn places(alloc: Global, watched: &Watched) -> Result<Vec<(u64, u64)>, AllocError> {
+    watched
+        .found
+        .iter()
+        .map(|it| (it.granule, it.line))
+        .collect(alloc)
+}
+
+/// The granules that are found at the end.
+pub(crate) fn at_end(alloc: Global, watched: &Watched) -> Result<Vec<u64>, AllocError> {
+    let mut granules = Vec::new(alloc);
+    if let Some(ending) = &watched.ending {
+        for it in &ending.unexplained {
+            granules.push(it.granule)?;
+        }
+    }
+    Ok(granules)
+}

@@ -1,8 +1,8 @@
 //! What is found where it keeps going.
 
 use crate::comparison::assert_same;
-use crate::events::{GOING, LAST, NINE_AND_FIVE, READ, WRITE, ZERO, watched};
-use chi_watch_text::{Found, LinesFault};
+use crate::events::{GOING, LAST, NINE_AND_FIVE, READ, WRITE, ZERO, at_end, places, watched};
+use chi_watch_text::LinesFault;
 use std::test::Fail;
 
 // The granules at 4096, 4104 and 4112 have the numbers 512, 513 and 514. That of 4096 is found by line 4, and by line 8 again.
@@ -10,22 +10,15 @@ use std::test::Fail;
 fn each_granule_at_its_first_line(rt: HostRuntime) -> Result<(), Fail> {
     let texts = [WRITE, READ, ZERO, "\n", NINE_AND_FIVE, LAST];
     let watched = watched(rt.alloc(), &texts, &GOING)?;
-    let first = Found {
-        granule: 512,
-        line: 4,
-    };
-    let second = Found {
-        granule: 513,
-        line: 6,
-    };
-    let unexplained = watched.ending.as_ref().map(|it| it.unexplained.as_slice());
     let undecided = watched.ending.as_ref().map(|it| it.undecided.len());
+    let places = places(rt.alloc(), &watched)?;
+    let unexplained = at_end(rt.alloc(), &watched)?;
     assert_same(
         &rt,
-        (watched.found.as_slice(), unexplained, undecided),
+        (places.as_slice(), unexplained.as_slice(), undecided),
         (
-            [first, second].as_slice(),
-            Some([512, 513, 514].as_slice()),
+            [(512, 4), (513, 6)].as_slice(),
+            [512, 513, 514].as_slice(),
             Some(0),
         ),
     );

@@ -12,6 +12,8 @@ mod line_tests;
 #[cfg(test)]
 mod progress_tests;
 #[cfg(test)]
+mod reach_text_tests;
+#[cfg(test)]
 mod reader_tests;
 #[cfg(test)]
 mod text_tests;

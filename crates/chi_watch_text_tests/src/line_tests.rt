@@ -1,12 +1,12 @@
 //! What is found by lines, and where it stops.
 
 use crate::comparison::assert_same;
-use crate::events::{FIVE, LAST, READ, STOPPING, WRITE, WRITE_AT_FOUR, ZERO, watched};
+use crate::events::{FIVE, LAST, READ, STOPPING, WRITE, WRITE_AT_FOUR, ZERO, places, watched};
 use chi_event_text::LineFault;
 use chi_events::EventFault;
 use chi_script::Member;
 use chi_watch::WatchFault;
-use chi_watch_text::{Found, LinesFault, WatchVerdict};
+use chi_watch_text::{LinesFault, WatchVerdict};
 use std::test::Fail;
 
 #[test]
@@ -31,23 +31,16 @@ fn lines_that_are_explained(rt: HostRuntime) -> Result<(), Fail> {
 // read.
 #[test]
 fn a_lost_write(rt: HostRuntime) -> Result<(), Fail> {
-    let wrong = Found {
-        granule: 512,
-        line: 4,
-    };
     for texts in [
         [WRITE, READ, ZERO].as_slice(),
         &[WRITE, READ, ZERO, "\n", LAST, "no event\n"],
     ] {
         let watched = watched(rt.alloc(), texts, &STOPPING)?;
+        let places = places(rt.alloc(), &watched)?;
         assert_same(
             &rt,
-            (
-                texts.len(),
-                watched.found.as_slice(),
-                watched.ending.is_some(),
-            ),
-            (texts.len(), [wrong].as_slice(), false),
+            (texts.len(), places.as_slice(), watched.ending.is_some()),
+            (texts.len(), [(512, 4)].as_slice(), false),
         );
     }
     Ok(())

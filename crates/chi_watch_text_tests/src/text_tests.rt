@@ -4,7 +4,8 @@ use crate::comparison::assert_same;
 use crate::events::{
     FIVE, GOING, LAST, NINE_AND_FIVE, READ, STOPPING, UNKNOWN, WRITE, ZERO, answer,
 };
-use chi_watch::{Counts, Ending};
+use chi_recent::Reach;
+use chi_watch::{Counts, Ending, FoundAtEnd};
 use chi_watch_text::{Found, WatchOptions, Watched, watched_text};
 use std::test::Fail;
 
@@ -48,6 +49,10 @@ fn where_it_stops_at_a_line(rt: HostRuntime) -> Result<(), Fail> {
         &rt,
         text.as_str(),
         "not explained: granule 0000000000001000
+at 4: 0 2 04 ReadNoSnp 3 0000000000001000 data 00000000000000000000000000000000
+  the granule can hold 0500000000000000
+  open from 3 to 4: 0 2 04 ReadNoSnp 3 0000000000001000 data 00000000000000000000000000000000
+  explained up to 3
   at line 4
   operations that ended: 2
   requests outstanding: 0
@@ -66,10 +71,20 @@ fn where_it_keeps_going(rt: HostRuntime) -> Result<(), Fail> {
         &rt,
         text.as_str(),
         "not explained: granule 0000000000001000
+at 4: 0 2 04 ReadNoSnp 3 0000000000001000 data 00000000000000000000000000000000
+  the granule can hold 0500000000000000
+  open from 3 to 4: 0 2 04 ReadNoSnp 3 0000000000001000 data 00000000000000000000000000000000
+  explained up to 3
   at line 4
 not explained: granule 0000000000001008
+at 6: 0 3 04 ReadNoSnp 3 0000000000001008 data 00000000000000000900000000000000
+  the granule can hold 0000000000000000
+  open from 5 to 6: 0 3 04 ReadNoSnp 3 0000000000001008 data 00000000000000000900000000000000
+  explained up to 5
   at line 6
 not explained: granule 0000000000001010
+at the end: 0800000000000000
+  the granule can hold 0000000000000000
   at the end
   operations that ended: 4
   requests outstanding: 0
@@ -92,6 +107,8 @@ fn no_budget(rt: HostRuntime) -> Result<(), Fail> {
         &rt,
         text.as_str(),
         "not explained: granule 0000000000001010
+at the end: 0800000000000000
+  the granule can hold 0000000000000000
   at the end
 undecided: granule 0000000000001000 after 0 states
   operations that ended: 1
@@ -103,19 +120,34 @@ undecided: granule 0000000000001000 after 0 states
     Ok(())
 }
 
+/// A granule that is found at the end, of which no word is told and it is not found how far it can be explained.
+fn at_end(granule: u64) -> FoundAtEnd {
+    FoundAtEnd {
+        granule,
+        last: None,
+        reach: Reach::Undecided,
+    }
+}
+
 // A granule that was found by a line is not told of at the end. The address of the granule 2^52 / 8 - 1 is 2^52 - 8.
 #[test]
 fn all_there_is_to_tell(rt: HostRuntime) -> Result<(), Fail> {
     let found = Found {
         granule: 513,
         line: 18446744073709551614,
+        reach: Reach::Undecided,
     };
+    let mut unexplained = Vec::new(rt.alloc());
+    unexplained.push(at_end(0))?;
+    unexplained.push(at_end(513))?;
     let ending = Ending {
-        unexplained: vec![in rt.alloc(); 0, 513]?,
+        unexplained,
         undecided: vec![in rt.alloc(); 512, 562949953421311]?,
     };
+    let mut by_line = Vec::new(rt.alloc());
+    by_line.push(found)?;
     let watched = Watched {
-        found: vec![in rt.alloc(); found]?,
+        found: by_line,
         ending: Some(ending),
         counts: Counts {
             ended: 1000,

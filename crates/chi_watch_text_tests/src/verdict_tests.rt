@@ -1,7 +1,8 @@
 //! The verdict on what is found.
 
 use crate::comparison::assert_same;
-use chi_watch::{Counts, Ending};
+use chi_recent::Reach;
+use chi_watch::{Counts, Ending, FoundAtEnd};
 use chi_watch_text::{Found, WatchVerdict, Watched};
 use std::alloc::{AllocError, Global};
 use std::test::Fail;
@@ -13,16 +14,28 @@ fn verdict(
     unexplained: usize,
     undecided: usize,
 ) -> Result<WatchVerdict, AllocError> {
-    let by_line = Found {
-        granule: 512,
-        line: 4,
-    };
+    let mut by_line = Vec::new(alloc);
+    for _ in 0..found {
+        by_line.push(Found {
+            granule: 512,
+            line: 4,
+            reach: Reach::Undecided,
+        })?;
+    }
+    let mut at_end = Vec::new(alloc);
+    for _ in 0..unexplained {
+        at_end.push(FoundAtEnd {
+            granule: 513,
+            last: None,
+            reach: Reach::Undecided,
+        })?;
+    }
     let ending = Ending {
-        unexplained: vec![in alloc; 513; unexplained]?,
+        unexplained: at_end,
         undecided: vec![in alloc; 514; undecided]?,
     };
     let watched = Watched {
-        found: vec![in alloc; by_line; found]?,
+        found: by_line,
         ending: Some(ending),
         counts: Counts {
             ended: 0,

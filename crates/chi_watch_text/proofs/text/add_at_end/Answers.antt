@@ -1,7 +1,8 @@
 -- nothing is said of a granule that was found before
-use Rattle.std.proofs.Common.{◌∙◌, codes, append-nil, sym}
+use Rattle.std.proofs.Common.{ℕ, List, ◌∙◌, ◌++◌, codes, append-nil, sym}
 use Rattle.chi_answer.specs.Lines.{granule_line}
 use Rattle.chi_answer.proofs.Growing.{part_then}
+use Rattle.chi_watch_text.specs.ReachTexts.{reach_text}
 use Rattle.chi_watch_text.specs.Texts.{end_text}
 use Rattle.chi_watch_text.proofs.text.add_at_end.Goals as goal
 
@@ -12,6 +13,8 @@ returns-then-is_found c = rw (sym c.is_found.ensures ∙ c.if-is_found.true) (sy
 pub returns : goal.returns
 unfolding end_text
 returns c =
+    let it = c.args.it.now in
+    let reach : List ℕ = reach_text it.last it.reach in
     rw (sym c.is_found.ensures ∙ c.if-is_found.false)
-    (part_then c.add_parts.result c.args.to.now.items c.add_granule.new.to.items c.add_parts.new.to.items (granule_line c.args.granule) (codes "  at the end\n") c.in_ok-add_granule.ensures
-    (simp append-nil at c.add_parts.ensures))
+    (part_then c.add_parts.result c.args.to.now.items c.add_granule.new.to.items c.add_parts.new.to.items (granule_line it.granule) (reach ++ codes "  at the end\n") c.in_ok-add_granule.ensures
+    (part_then c.add_parts.result c.add_granule.new.to.items c.add_reach.new.to.items c.add_parts.new.to.items reach (codes "  at the end\n") c.in_ok-add_reach.ensures (simp append-nil at c.add_parts.ensures)))

@@ -1,0 +1,29 @@
+-- the text of how far a granule's operations can be explained
+use Rattle.std.specs.Prelude.{ℕ, ◌-◌, ◌==◌, ◌++◌, if◌then◌else◌, List, [], Option, None, Some, codes, decimal, flat_map}
+use Rattle.chi_answer.specs.Lines.{blamed_line, end_line, open_line, word_lines}
+use Rattle.chi_recent.specs.declared.reach.Reach.{Reach}
+use Rattle.chi_recent.specs.declared.reach.Reach.TheVariants.{Whole, Stops, Undecided}
+use Rattle.chi_recent.specs.declared.reach.Stop.{Stop}
+use Rattle.chi_recent.specs.declared.traced.Traced.{Traced}
+
+-- an operation that was open
+abbrev pub kept_line : Traced → List ℕ
+kept_line t = open_line t.asked t.op
+
+-- the time up to which they can be explained, where there is one
+unfoldable pub up_to_line : ℕ → List ℕ
+up_to_line time = if time == 0 then [] else codes "  explained up to " ++ decimal (time - 1) ++ codes "\n"
+
+-- where they stop being explained
+abbrev pub stop_text : Stop → List ℕ
+stop_text s = blamed_line s.time s.op.asked s.op.op ++ (word_lines s.words.items ++ (flat_map kept_line s.overlapping.items ++ up_to_line s.time))
+
+-- the word that was told at the end, and those that could have been there
+abbrev pub last_text : Option ℕ → List ℕ → List ℕ
+last_text None words = []
+last_text (Some last) words = end_line last ++ word_lines words
+
+abbrev pub reach_text : Option ℕ → Reach → List ℕ
+reach_text last (Whole words) = last_text last words.items
+reach_text last (Stops stop) = stop_text stop
+reach_text last Undecided = []
