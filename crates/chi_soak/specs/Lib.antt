@@ -1,2 +1,1 @@
 pub mod Line
-pub mod Part

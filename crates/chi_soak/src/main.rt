@@ -7,7 +7,6 @@ mod events;
 mod fault;
 mod lines;
 mod options;
-mod part;
 mod plant;
 mod requests;
 mod rounds;
