@@ -3,12 +3,19 @@ a trace's request, and a word is the granule's eight bytes in address order."""
 
 READ, WRITE, STORE, LOAD, SWAP, COMPARE = 4, 28, 40, 48, 56, 57
 ADD, CLR, EOR, SET, SMAX, SMIN, UMAX, UMIN = range(8)
+NAMES = {READ: "ReadNoSnp", WRITE: "WriteNoSnpPtl", SWAP: "AtomicSwap", COMPARE: "AtomicCompare"}
+FUNCTIONS = ["ADD", "CLR", "EOR", "SET", "SMAX", "SMIN", "UMAX", "UMIN"]
 OPCODES = [READ, WRITE, *range(STORE, STORE + 8), *range(LOAD, LOAD + 8), SWAP, COMPARE]
 
 
 def granule_of(request):
     """The address of the request's granule."""
     return request["addr"] // 8 * 8
+
+
+def name_of(op):
+    """The name of an opcode."""
+    return NAMES.get(op) or f"{'AtomicLoad' if op >= LOAD else 'AtomicStore'}.{FUNCTIONS[op % 8]}"
 
 
 def length_of(request):

@@ -1,5 +1,5 @@
-"""Whether some order explains a granule's operations: every order is tried, as docs/EXPLAIN.md says what an order is ("What
-the answer means"). Nothing is done to be fast but that what was met before is not tried again."""
+"""Which words a granule's operations can leave, and where they stop being explained: every order is tried, as docs/EXPLAIN.md
+says what an order is ("What the answer means"). Nothing is done to be fast but that what was met before is not tried again."""
 
 import collections
 
@@ -22,9 +22,9 @@ def can_come(operations, taken, it):
     return True
 
 
-def is_explained(word, operations, final):
-    """Whether some order has each operation whose reply was seen once and each other at most once, none before one that ended
-    before it started, each reply that was seen as the memory's answer, and the final word (unless that is None)."""
+def words_left(word, operations):
+    """The word after each order that has each operation whose reply was seen once and each other at most once, none before one
+    that ended before it started, and each reply that was seen as the memory's answer. A word may come more than once."""
     met, rest = set(), [(frozenset(), word)]
     while rest:
         state = rest.pop()
@@ -32,11 +32,28 @@ def is_explained(word, operations, final):
             continue
         met.add(state)
         taken, word = state
-        if final in (None, word) and all(at in taken or it.reply is None for at, it in enumerate(operations)):
-            return True
+        if all(at in taken or it.reply is None for at, it in enumerate(operations)):
+            yield word
         for at, it in enumerate(operations):
             if at not in taken and can_come(operations, taken, it):
                 after, reply = execute(word, it.request)
                 if it.reply is None or it.reply.lower() == reply:
                     rest.append((taken | {at}, after))
-    return False
+
+
+def is_explained(word, operations, final):
+    """Whether some order explains the operations and leaves the final word (any, where that is None)."""
+    return any(final in (None, it) for it in words_left(word, operations))
+
+
+def known_by(operations, time):
+    """What was known of the operations by a time: those that had started, with the replies of those that had ended."""
+    return [it if it.end <= time else it._replace(reply=None) for it in operations if it.start <= time]
+
+
+def first_unexplained(word, operations):
+    """The first time up to which no order explains the operations, or None where one explains them all."""
+    for time in sorted({it.end for it in operations if it.reply is not None}):
+        if not is_explained(word, known_by(operations, time), None):
+            return time
+    return None

@@ -1,8 +1,34 @@
 """What events tell of the granules, line for line, and what `chicheck watch` has to answer by it. The orders are tried by
 orders.py, and nothing is shared with the program."""
 
-from memory import READ, granule_of
-from orders import MOST, Operation, is_explained
+from memory import READ, granule_of, name_of
+from orders import MOST, Operation, first_unexplained, is_explained, known_by, words_left
+
+
+def operation_line(it):
+    """An operation as a transcript has it."""
+    request, reply = it.request, {None: "no reply", "comp": "comp"}.get(it.reply) or f"data {it.reply.lower()}"
+    name = f"{request['op']:02x} {name_of(request['op'])}"
+    return f"{request['src']} {request['txn']} {name} {request['size']} {request['addr']:016x} {reply}"
+
+
+def word_lines(words):
+    """Words that a granule can hold, each of them, in the order of their texts."""
+    return sorted(f"  the granule can hold {it.hex()}" for it in words)
+
+
+def stop_lines(word, operations, final):
+    """How far a granule's operations can be explained, which cannot be: the lines of docs/EXPLAIN.md."""
+    time = first_unexplained(word, operations)
+    if time is None:
+        return [f"at the end: {final.hex()}", *word_lines(set(words_left(word, operations)))]
+    blamed = next(it for it in operations if it.end == time and it.reply is not None)
+    before = word_lines(set(words_left(word, known_by(operations, time - 1)))) if time else []
+    lines = [f"at {time}: {operation_line(blamed)}", *before]
+    for it in sorted((it for it in operations if it.start <= time <= it.end), key=lambda it: it.start):
+        until = "on" if it.end == MOST else f"to {it.end}"
+        lines.append(f"  open from {it.start} {until}: {operation_line(it)}")
+    return lines + ([f"  explained up to {time - 1}"] if time else [])
 
 
 class Told:
@@ -66,9 +92,16 @@ class Told:
         """The operations that have ended, and those that are open, of which the data are told."""
         return self.ended + [Operation(it["request"], it["start"], MOST, None) for it in self.open.values() if it["has_data"]]
 
-    def is_explained(self, granule):
+    def of_granule(self, granule):
+        """The granule's word at the opening, its operations, and its word at the end, where one was told."""
         operations = [it for it in self.operations() if granule_of(it.request) == granule]
-        return is_explained(self.openings.get(granule, bytes(8)), operations, self.finals.get(granule))
+        return self.openings.get(granule, bytes(8)), operations, self.finals.get(granule)
+
+    def is_explained(self, granule):
+        return is_explained(*self.of_granule(granule))
+
+    def stop_lines(self, granule):
+        return stop_lines(*self.of_granule(granule))
 
     def counts(self):
         return [
@@ -78,15 +111,16 @@ class Told:
             f"  granules not judged: {len(self.unknown)}",
         ]
 
-    def trace(self):
-        """The operations of the granules that are judged, as a trace of all addresses."""
+    def trace(self, only=None):
+        """The operations of the granules that are judged, or of one of them, as a trace of all addresses."""
+        left_out = self.unknown if only is None else self.granules - {only}
         requests = []
         for it in self.operations():
-            if granule_of(it.request) not in self.unknown:
+            if granule_of(it.request) not in left_out:
                 end = {} if it.end == MOST and it.reply is None else {"end": it.end}
                 requests.append({**it.request, "start": it.start, **end, "reply": it.reply})
         image, final = [
-            [{"addr": granule, "bytes": word.hex()} for granule, word in words.items() if granule not in self.unknown]
+            [{"addr": granule, "bytes": word.hex()} for granule, word in words.items() if granule not in left_out]
             for words in (self.openings, self.finals)
         ]
         return {"image": image, "final": final, "requests": requests}
@@ -94,10 +128,11 @@ class Told:
 
 class Watched:
     """What has to be answered on events: `places` has the granules that are not explained, in the order in which they are
-    found, each with the line, or None where that is at the end. A granule is found once all events of a time are told."""
+    found, each with the line, or None where that is at the end, and `stops` the lines that say how far each can be, and
+    `traces` its operations then as a trace. A granule is found once all events of a time are told."""
 
     def __init__(self, events, keeps_going):
-        self.told, self.places, self.quiet = Told(), {}, {}
+        self.told, self.places, self.stops, self.traces, self.quiet = Told(), {}, {}, {}, {}
         time = 0
         for line, event in enumerate(events, 1):
             if event["time"] > time:
@@ -112,15 +147,19 @@ class Watched:
         self.settle()
         if self.places and not keeps_going:
             return
-        at_end = [it for it in sorted(self.told.granules) if self.is_new(it) and not self.told.is_explained(it)]
-        self.places |= dict.fromkeys(at_end)
+        for granule in sorted(self.told.granules):
+            if self.is_new(granule) and not self.told.is_explained(granule):
+                self.find(granule, None)
+
+    def find(self, granule, line):
+        self.places[granule], self.stops[granule], self.traces[granule] = line, self.told.stop_lines(granule), self.told.trace(granule)
 
     def settle(self):
         """Finds the granules that became quiet at a time, and are still so and unexplained once all of it is told."""
         outstanding = set(map(granule_of, self.told.outstanding()))
         for granule, line in self.quiet.items():
             if self.is_new(granule) and granule not in outstanding and not self.told.is_explained(granule):
-                self.places[granule] = line
+                self.find(granule, line)
         self.quiet = {}
 
     def is_new(self, granule):
@@ -131,6 +170,6 @@ class Watched:
         """The status and the text."""
         lines = []
         for granule, line in self.places.items():
-            lines += [f"not explained: granule {granule:016x}", f"  at line {line}" if line else "  at the end"]
+            lines += [f"not explained: granule {granule:016x}", *self.stops[granule], f"  at line {line}" if line else "  at the end"]
         lines = lines or ["explained"]
         return int(bool(self.places)), "".join(f"{it}\n" for it in lines + self.told.counts())

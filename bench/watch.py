@@ -2,13 +2,15 @@
 """Tries chicheck watch on histories by chance: watch.py [COUNT [SEED]]
 
 Each history is told as events (histories.py). What has to be answered on them, with and without --keep-going, is found by
-trying every order (telling.py, orders.py), and `chicheck explain` has to give the same verdict on the same operations. A
-history that the program disagrees on is shown. CHICHECK names the program."""
+trying every order (telling.py, orders.py): which granules are not explained, by which line, and where each stops being so.
+`chicheck explain` has to give the same verdict on the same operations, and of each such granule by itself it has to say the
+same. A history that the program disagrees on is shown. CHICHECK names the program."""
 
 import collections
 import json
 import os
 import random
+import re
 import subprocess
 import sys
 from concurrent.futures import ThreadPoolExecutor
@@ -37,6 +39,49 @@ def run(words, text):
     return ran.returncode, (ran.stdout + ran.stderr).decode()
 
 
+def parted(lines):
+    """The lines with each run of a granule's words as one, in which their order is left open: the words that are told, and how
+    many there are."""
+    parts = []
+    for line in lines:
+        more = re.fullmatch(r"  and (\d+) more", line)
+        if line.startswith("  the granule can hold "):
+            if not parts or isinstance(parts[-1], str):
+                parts.append((set(), 0))
+            parts[-1] = (parts[-1][0] | {line}, parts[-1][1] + 1)
+        elif more:
+            parts[-1] = (parts[-1][0], parts[-1][1] + int(more[1]))
+        else:
+            parts.append(line)
+    return parts
+
+
+def is_same(found, wanted):
+    """Whether lines are those that have to be, where those have every word, and the lines that are looked at 16 of them at most."""
+    found, wanted = parted(found), parted(wanted)
+    return len(found) == len(wanted) and all(is_same_part(*both) for both in zip(found, wanted))
+
+
+def is_same_part(found, wanted):
+    if isinstance(found, str) or isinstance(wanted, str):
+        return found == wanted
+    return found[1] == wanted[1] and len(found[0]) == min(16, wanted[1]) and found[0] <= wanted[0]
+
+
+def stop_of(lines):
+    """The lines of where a granule stops being explained, whichever operation of that time is named, however many an order of
+    them has, and in whichever order those stand that were open."""
+    shown = [re.sub(r"^(at \d+): .*|^(  explained up to \d+) .*", r"\1\2", it) for it in lines]
+    still_open = [it for it in shown if it.startswith("  open from ")]
+    return [it for it in shown if it not in still_open] + sorted(still_open)
+
+
+def is_same_stop(answer, granule, lines):
+    """Whether explain says of the granule by itself what watch said of it."""
+    first, *found = answer[1].splitlines()
+    return answer[0] == 1 and first == f"not explained: granule {granule:016x}" and is_same(stop_of(found), stop_of(lines))
+
+
 def is_same_verdict(found, unexplained):
     """Whether an answer of explain names one of the granules that are not explained, or says that all are."""
     if not unexplained:
@@ -53,8 +98,13 @@ def disagreements(events):
     found = []
     for words, keeps_going in [("watch", False), ("watch --keep-going", True)]:
         watched, answer = Watched(events, keeps_going), run(words, lines_of(events))
-        if answer != watched.answer():
+        status, wanted = watched.answer()
+        if answer[0] != status or not is_same(answer[1].splitlines(), wanted.splitlines()):
             found.append((words, answer, watched.answer()))
+    for granule, lines in watched.stops.items():
+        answer = run("explain", json.dumps(watched.traces[granule]))
+        if not is_same_stop(answer, granule, lines):
+            found.append((f"explain of {granule:016x}", answer, lines))
     told = Told()
     for event in events:
         told.take(event)
