@@ -16,7 +16,7 @@ help:
 	@echo "make checker               chicheck, proved: the program that explains traces"
 	@echo "make soak [SECONDS=N]      four workers race at the lock-free store for so many seconds, 10 if not said, while chicheck watches"
 	@echo "make lib                   out/libchi_c.a and out/libchi.so, for C, C++, SystemVerilog and Python"
-	@echo "make dv                    the benches in SystemVerilog, in Verilator: the calls, and a monitor whose traces chicheck judges"
+	@echo "make dv                    the benches in SystemVerilog, in Verilator: the calls, and a monitor whose events chicheck watches"
 	@echo "make install PREFIX=DIR    put the programs chihome and chicheck into DIR/bin, and the libraries, header, package and module below DIR;"
 	@echo "                           with DESTDIR=ROOT too, all of it below ROOT"
 	@echo "make bench                 the speed of chihome and of the lock-free store, beside plain Rust"

@@ -1,8 +1,10 @@
 #!/usr/bin/env bash
-# Runs the benches in Verilator. The one with the reference has to agree, and to find each of three planted mistakes.
-# The one with the monitor prints a trace: chicheck has to explain it, and must not with a planted lost update.
+# Runs the benches in Verilator. The one with the reference has to agree, and to find each of three planted mistakes. Those with
+# the monitor tell events: of flits by hand just those that were worked, and of a home node by chance events that chicheck watch
+# explains while they come, or that stop it and with it the simulation, where a mistake is planted. dv/run.sh [SEEDS [REQUESTS]]
 set -eu
 cd "$(dirname "$0")/.."
+seeds=${1:-16} requests=${2:-2000}
 .ci/need verilator:verilator c++:g++ || exit 1
 version=$(verilator --version | sed 's/^Verilator \([0-9]*\).*/\1/')
 if [ "$version" -lt 5 ]; then
@@ -11,6 +13,10 @@ if [ "$version" -lt 5 ]; then
 fi
 # A simulation that takes longer than this ends with status 124.
 limited="timeout -k 5 120"
+fail() {
+  printf 'dv: %s\n' "$*" >&2
+  exit 1
+}
 build() { # folder, top module, files and flags
   mkdir -p "$1"
   timeout -k 5 600 verilator --binary -Wall -Wno-DECLFILENAME -Wno-UNUSEDSIGNAL --timing --top-module "$2" --Mdir "$1" "${@:3}" \
@@ -23,30 +29,56 @@ build out/dv tb -CFLAGS "-I$PWD/include" dv/chi_pkg.sv dv/home_node.sv dv/tb.sv 
 $limited out/dv/Vtb +rows=c/rows.txt
 for bug in 1 2 3; do
   if found=$($limited out/dv/Vtb "+bug=$bug" 2>&1); then
-    echo "dv: planted mistake $bug was not found" >&2
-    exit 1
+    fail "planted mistake $bug was not found"
   fi
   echo "planted mistake $bug:"
   printf '%s\n' "$found" | grep '^tb:'
 done
 
+build out/dv_directed chi_directed_tb dv/chi_monitor.sv dv/chi_directed_tb.sv
+$limited out/dv_directed/Vchi_directed_tb +events=out/dv_directed.jsonl > out/dv_directed/said.log || fail "the flits by hand stop the simulation"
+diff dv/directed.jsonl out/dv_directed.jsonl || fail "the flits by hand give other events"
+echo "flits by hand: $(wc -l < dv/directed.jsonl) events"
+
 checker=crates/chi_check/out/chi_check
 .ci/built chicheck
-judge() { # what the trace is, its file, the status and the beginning of the answer that are wanted, plusargs
-  shown=$($limited out/dv_trace/Vtrace_tb "+trace=$2" "${@:5}" 2>&1) || {
-    printf '%s\n' "$shown" >&2
-    exit 1
-  }
-  printf '%s\n' "$shown" | grep -E '^(trace_tb|chi_monitor):'
-  status=0
-  answer=$($limited $checker explain < "$2") || status=$?
-  if [ $status != "$3" ] || [[ $answer != "$4"* ]]; then
-    printf 'dv: the trace of %s has status %d: %s\n' "$1" $status "$answer" >&2
-    exit 1
-  fi
-  printf 'the trace of %s: %s\n' "$1" "$answer"
+pipe=$(mktemp -u)
+mkfifo "$pipe"
+trap 'rm -f "$pipe"' EXIT
+watch() { # the build, and plusargs: sets the statuses of both programs and the first line of the answer
+  timeout -k 5 120 $checker watch < "$pipe" > out/dv_answer &
+  simulated=0
+  $limited "out/dv_channels_$1/Vchi_channels_tb" "+events=$pipe" "+requests=$requests" "${@:2}" > out/dv_said 2>&1 || simulated=$?
+  watched=0
+  wait $! || watched=$?
+  answer=$(head -n 1 out/dv_answer)
 }
-build out/dv_trace trace_tb dv/slow_home_node.sv dv/chi_monitor.sv dv/trace_tb.sv
-judge 'the home node' out/dv_trace/intact.json 0 explained
-judge 'a planted lost update' out/dv_trace/lost_update.json 1 'not explained: granule ' +lost_update
+mistakes=("" "a lost update" "a stale read" "byte enables ignored" "a compare that writes on a mismatch" "the wrong half of the window"
+  "no sign in SMAX" "a retried request that took effect" "a response for another TxnID")
+for kind in 128 256 512 point; do
+  if [ $kind = point ]; then flags="-GSeesPoint=1'b1"; else flags="-GDataWidth=$kind"; fi
+  build out/dv_channels_$kind chi_channels_tb $flags dv/chi_home_node.sv dv/chi_monitor.sv dv/chi_channels_tb.sv
+  for seed in $(seq "$seeds"); do
+    for more in "" +errors; do
+      watch $kind "+seed=$seed" $more
+      [ "$simulated $watched" = "0 0" ] || fail "$kind, seed $seed $more: the home node ends with $simulated, and chicheck with $watched: $(cat out/dv_answer out/dv_said)"
+    done
+  done
+  echo "$kind: $seeds seeds are explained, also with errors; of the last $(grep '^chi_monitor: [0-9]' out/dv_said)"
+  for mistake in 1 2 3 4 5 6 7 8; do
+    found=0 stopped=0
+    for seed in $(seq "$seeds"); do
+      watch $kind "+seed=$seed" "+mistake=$mistake"
+      [ $watched = 0 ] || [ $watched = 1 ] || fail "$kind, seed $seed, mistake $mistake: chicheck ends with $watched"
+      [ $watched = 0 ] || found=$((found + 1))
+      [ $simulated = 0 ] || stopped=$((stopped + 1))
+    done
+    [ $((16 * found)) -ge $((15 * seeds)) ] || fail "$kind: ${mistakes[mistake]} is found with $found of $seeds seeds"
+    [ $stopped -gt 0 ] || fail "$kind: ${mistakes[mistake]} stops no simulation"
+    echo "$kind: ${mistakes[mistake]} is found with $found of $seeds seeds, and stops the simulation with $stopped; with the last: $answer"
+  done
+  watch $kind +seed=1 +mistake=9
+  [ $watched = 0 ] && grep -q ' is open,' out/dv_said || fail "$kind: a request without an answer: $(cat out/dv_answer out/dv_said)"
+  echo "$kind: where a request is not answered the events are $answer; the first that is open: $(grep -m 1 ' is open,' out/dv_said)"
+done
 echo "dv: PASS"
