@@ -38,7 +38,7 @@ def members(usual, changed):
 def sample(changed={}):
     """The sample, with some members changed or left out, a request's in the second."""
     first = members(FIRST, {}).rstrip(",")
-    return f'{{{members(OBJECT, changed)}"requests":[{{{first}}},{{{members(SECOND, changed)}"more":[]}}],"more":{{}}}}'
+    return f'{{{members(OBJECT, changed)}"requests":[{{{first}}},{{{members(SECOND, changed)}"x-more":[]}}],"x-more":{{}}}}'
 
 
 def witness_of_sample(src=200, txn=1):

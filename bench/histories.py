@@ -6,7 +6,7 @@ from memory import COMPARE, OPCODES, READ, WRITE, answers_data, enabled, execute
 MOST = 2**64 - 1
 # Bytes at which numbers carry, change their sign or stand still.
 BYTES = [0, 0, 0, 1, 1, 2, 127, 128, 255]
-IN_SERVING = ["lost", "lost", "twice", "stale", "stale", "changed", "changed", "other kind", "beside"]
+IN_SERVING = ["lost", "lost", "twice", "stale", "stale", "changed", "changed"]
 MISTAKES = [*IN_SERVING, "final", "opening"]
 ANYWHERE = [0, 4096, 4104, 4112, 65536, 2**40 + 8, 2**52 - 16, 2**52 - 8]
 
@@ -196,11 +196,9 @@ class Home:
             return execute(word, request)[0], reply
         if self.mistake == "stale":
             return word, execute(self.earlier[granule_of(request)], request)[1]
-        if self.mistake == "other kind":
-            return word, "comp" if reply != "comp" else "0" * 32
         if reply == "comp":
             return word, reply
-        at, length = (0, 16) if self.mistake == "beside" else (request["addr"] % 16, length_of(request))
+        at, length = request["addr"] % 16, length_of(request)
         packet = bytes.fromhex(reply)
         return word, (packet[:at] + self.spoiled(packet[at : at + length]) + packet[at + length :]).hex()
 

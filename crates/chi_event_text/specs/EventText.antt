@@ -1,9 +1,8 @@
 -- the event that a line tells, or its first fault
-use Rattle.std.specs.Prelude.{ℕ, nat_eq, true, false, ◌+◌, ◌-◌, ◌/◌, ◌^◌, nat_le, ◌&&◌, ◌||◌, Bool, if◌then◌else◌, List, [], ◌∷◌, codes, Option, None, Some, is_some, option_and_then, Result, Ok, Err}
-use Rattle.std.specs.List.{list_any, starts_with}
+use Rattle.std.specs.Prelude.{ℕ, false, ◌+◌, ◌-◌, ◌/◌, ◌^◌, nat_le, ◌&&◌, ◌||◌, Bool, if◌then◌else◌, List, [], ◌∷◌, codes, Option, None, Some, is_some, option_and_then, Result, Ok, Err}
 use Rattle.std.specs.Option.{ok_or}
 use Rattle.std.specs.Str.{bytes_eq}
-use Rattle.serde_json.specs.Data.{Data, Members, no_members, member}
+use Rattle.serde_json.specs.Data.{Data}
 use Rattle.serde_json.specs.Find.{as_bool, as_object, as_str, get}
 use Rattle.chi_script.specs.declared.fault.ScriptFault.{ScriptFault}
 use Rattle.chi_script.specs.declared.fault.ScriptFault.TheVariants as script_fault
@@ -11,9 +10,10 @@ use Rattle.chi_script.specs.declared.member.Member.{Member}
 use Rattle.chi_script.specs.declared.member.Member.TheVariants as name
 use Rattle.chi_script.specs.Member.{member_name}
 use Rattle.chi_script.specs.Script.{◌>>=◌, hex_bytes, json_value, member_by, number_of}
-use Rattle.chi_reading.specs.Faults.{or_else}
+use Rattle.chi_reading.specs.Faults.{faultless, or_else}
 use Rattle.chi_reading.specs.Requests.{asked_of, fields_of, seen_of}
 use Rattle.chi_reading.specs.Told.{start_of, word_of as granule_word}
+use Rattle.chi_reading.specs.Unknown.{unknown_in}
 use Rattle.chi_events.specs.declared.event.Completion.{Completion}
 use Rattle.chi_events.specs.declared.event.Event.{Event}
 use Rattle.chi_events.specs.declared.event.EventKind.{EventKind}
@@ -59,23 +59,6 @@ members_of line.Reply = name.Event ∷ name.Time ∷ name.Id ∷ name.Reply ∷ 
 members_of line.Dropped = name.Event ∷ name.Time ∷ name.Id ∷ []
 members_of line.Word = name.Event ∷ name.Time ∷ name.Addr ∷ name.Bytes ∷ name.Final ∷ []
 members_of line.Unknown = name.Event ∷ name.Time ∷ name.Addr ∷ name.Length ∷ []
-
--- members whose name begins with `x-` are ignored
-abbrev pub is_ignored : List ℕ → Bool
-is_ignored s = starts_with nat_eq s (codes "x-")
-
--- a name is that of one of some members
-abbrev pub is_among : List Member → List ℕ → Bool
-is_among ms s = list_any (λ m. bytes_eq (member_name m) s) ms
-
--- a line of a kind may have a member of this name
-unfoldable pub is_known : LineKind → List ℕ → Bool
-is_known k s = is_ignored s || is_among (members_of k) s
-
--- the same of each member
-unfoldable pub all_known : LineKind → Members → Bool
-all_known k no_members = true
-all_known k (member s d ms) = is_known k s && all_known k ms
 
 -- ---- what is told
 
@@ -141,4 +124,4 @@ event_text text = do
   k ← or_else as_line (member_by name.Event kind_of d)
   time ← or_else as_line (number_of name.Time (2 ^ 64 - 1) d)
   told ← or_else as_line (told_of k d)
-  if all_known k members then Ok (record { time = time; kind = told }) else Err UnknownMember
+  faultless UnknownMember (unknown_in (members_of k) members) (record { time = time; kind = told })

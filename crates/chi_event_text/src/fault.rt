@@ -3,6 +3,7 @@
 ghost use Rattle.std.specs.Prelude.{◌≡◌};
 ghost use Rattle.chi_event_text.specs.EventText.{as_line};
 
+use chi_reading::MemberName;
 use chi_script::{Member, ScriptFault};
 use thiserror::Error;
 
@@ -26,8 +27,8 @@ pub enum LineFault {
     Missing(Member),
     #[error("member {} is not as stated", .0.name())]
     BadMember(Member),
-    #[error("has a member that its event does not have")]
-    UnknownMember,
+    #[error("has an unknown member {0}")]
+    UnknownMember(MemberName),
     #[error("no memory")]
     Memory,
 }

@@ -9,6 +9,7 @@ use crate::fault::LineFault;
 use crate::kind::LineKind;
 use crate::told::{stated, told};
 use chi_events::Event;
+use chi_reading::unknown_member;
 use chi_script::{Member, ScriptFault, json, number};
 use serde_json::Value;
 use std::alloc::Global;
@@ -59,8 +60,8 @@ pub fn read_event(alloc: Global, line: &[u8]) -> Result<Event, LineFault>
     let kind = kind_told(&object)?;
     let time = number(&object, Member::Time, u64::MAX)?;
     let told = told(kind, &object)?;
-    if !kind.knows_all(members) {
-        return Err(LineFault::UnknownMember);
+    match unknown_member(members, kind.members()) {
+        Some(name) => Err(LineFault::UnknownMember(name)),
+        None => Ok(Event { time, kind: told }),
     }
-    Ok(Event { time, kind: told })
 }

@@ -2,6 +2,7 @@
 
 use crate::comparison::fault_of;
 use chi_event_text::LineFault;
+use chi_reading::MemberName;
 use chi_script::Member;
 use std::test::Fail;
 
@@ -52,8 +53,8 @@ fn faults_and_their_texts(rt: HostRuntime) -> Result<(), Fail> {
         ),
         (
             r#"{"event":"dropped","time":70,"id":3,"note":0}"#,
-            LineFault::UnknownMember,
-            "has a member that its event does not have",
+            LineFault::UnknownMember(MemberName::of("note")),
+            "has an unknown member note",
         ),
     ] {
         assert_eq!(rt; fault_of(rt.alloc(), line), Some(fault), "{line}");
@@ -148,19 +149,37 @@ fn missing_members(rt: HostRuntime) {
 // A member of another kind of event is refused, and so is one whose name is like `x-`.
 #[test]
 fn members_of_other_events(rt: HostRuntime) {
-    for line in [
-        r#"{"event":"dropped","time":70,"id":3,"reply":null}"#,
-        r#"{"event":"data","time":70,"id":3,"be":1,"lanes":"00000000000000000000000000000000","addr":0}"#,
-        r#"{"event":"reply","time":70,"id":3,"reply":null,"final":true}"#,
-        r#"{"event":"word","time":70,"addr":0,"bytes":"0000000000000000","id":3}"#,
-        r#"{"event":"unknown","time":70,"addr":0,"length":1,"bytes":"00"}"#,
-        r#"{"event":"dropped","time":70,"id":3,"X-note":0}"#,
-        r#"{"event":"dropped","time":70,"id":3,"x":0}"#,
-        r#"{"event":"dropped","time":70,"id":3,"":0}"#,
+    for (line, name) in [
+        (
+            r#"{"event":"dropped","time":70,"id":3,"reply":null}"#,
+            "reply",
+        ),
+        (
+            r#"{"event":"data","time":70,"id":3,"be":1,"lanes":"00000000000000000000000000000000","addr":0}"#,
+            "addr",
+        ),
+        (
+            r#"{"event":"reply","time":70,"id":3,"reply":null,"final":true}"#,
+            "final",
+        ),
+        (
+            r#"{"event":"word","time":70,"addr":0,"bytes":"0000000000000000","id":3}"#,
+            "id",
+        ),
+        (
+            r#"{"event":"unknown","time":70,"addr":0,"length":1,"bytes":"00"}"#,
+            "bytes",
+        ),
+        (
+            r#"{"event":"dropped","time":70,"id":3,"X-note":0}"#,
+            "X-note",
+        ),
+        (r#"{"event":"dropped","time":70,"id":3,"x":0}"#, "x"),
+        (r#"{"event":"dropped","time":70,"id":3,"":0}"#, ""),
     ] {
         assert_eq!(rt;
             fault_of(rt.alloc(), line),
-            Some(LineFault::UnknownMember),
+            Some(LineFault::UnknownMember(MemberName::of(name))),
             "{line}"
         );
     }

@@ -73,7 +73,7 @@ module _ (events : List Event) (ended : List Observed) (o : OutstandingValue) (t
       (λ t by accepted outstanding fault found. data_leaves time t by accepted outstanding p (ap (data_fault p) (sym found) ∙ fault)) is_event fault
   tells_more (event_kind.Reply c) op after is_event fault takes =
       tell_change (event_kind.Reply c) c.id (λ o. still_open (with_reply c o)) (λ o. ended_by time (with_reply c o)) op after takes (reply_about time c)
-      (λ t by accepted outstanding fault found. reply_leaves time t by accepted outstanding c (ap reply_fault (sym found) ∙ fault)) is_event fault
+      (λ t by accepted outstanding fault found. reply_leaves time t by accepted outstanding c (ap (reply_fault c) (sym found) ∙ fault)) is_event fault
   tells_more (event_kind.Dropped id) op after is_event fault takes =
       tell_change (event_kind.Dropped id) id (λ o. []) (λ o. None) op after takes (drop_about time id)
       (λ t by accepted outstanding fault found. dropped_leaves time t by accepted outstanding id) is_event fault

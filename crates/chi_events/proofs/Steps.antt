@@ -17,7 +17,7 @@ use Rattle.chi_events.specs.declared.event.Packet.{Packet}
 use Rattle.chi_events.specs.declared.event.Requested.{Requested}
 use Rattle.chi_events.specs.declared.outstanding.Open.{Open}
 use Rattle.chi_events.specs.Operations.{AccessAt, DataAt, ReplyAt, access_told, data_at, data_told, decided_at, is_dropped, is_outstanding, is_whole, reply_told, with_packet}
-use Rattle.chi_events.specs.Outstanding.{IsAccepted, data_fault, open_of, refusal_fault, reply_fault}
+use Rattle.chi_events.specs.Outstanding.{IsAccepted, data_fault, decided_fault, ended_fault, open_of, refusal_fault, reply_fault}
 use Rattle.chi_events.specs.Taking.{ended_by, opened, still_open, with_data, with_reply}
 use Rattle.chi_events.specs.Told.{Told}
 use Rattle.chi_events.proofs.Extended.{with_event}
@@ -45,6 +45,11 @@ not_refused (Err refusal.SizeOutOfProfile) is = cc
 not_refused (Err refusal.Misaligned) is = cc
 not_refused (Err refusal.OutOfRegion) is = cc
 not_refused (Err refusal.BadByteEnable) is = cc
+
+-- so has one with data that came later
+decided_so : (completion : Option (Option Reply)) (r : Result Access Refusal) → decided_fault completion r ≡ None → is_some (result_ok r) ≡ true
+decided_so completion (Ok access) is = refl
+decided_so completion (Err refused) is = cc
 
 -- an access that was decided at a time
 decided_time : (time : ℕ) (o : Option Access) (x : AccessAt) → ◌≡◌ {A = Option AccessAt} (option_map (λ access. record { time = time; access = access }) o) (Some x) → time ≡ x.time
@@ -90,12 +95,12 @@ module _ (time : ℕ) (t : Told) (by : IsBy time t) (accepted : IsAccepted t) (o
       let e : Event = record { time = time; kind = event_kind.Dropped id } in
       (dropped (with_event e t) (drop_more e t ∙ or_right (is_dropped t) true refl), same_accepted e t refl accepted)
 
-  pub reply_leaves : (c : Completion) → reply_fault (Some (open_of t)) ≡ None
+  pub reply_leaves : (c : Completion) → reply_fault c (Some (open_of t)) ≡ None
       → let e : Event = record { time = time; kind = event_kind.Reply c } in
       Leaves (with_event e t) (still_open (with_reply c (open_of t))) (ended_by time (with_reply c (open_of t))) × IsAccepted (with_event e t)
   reply_leaves c fault =
       let e : Event = record { time = time; kind = event_kind.Reply c } in
-      let none = none_mapped (λ (r : ReplyAt). r.reply) (reply_told t) (no_fault _ _ None fault).0 in
+      let none = none_mapped (λ (r : ReplyAt). r.reply) (reply_told t) (no_fault _ _ (ended_fault (open_of t).access (Some c.reply)) fault).0 in
       let at : ReplyAt = record { time = time; reply = c.reply } in
       let reply : reply_told (with_event e t) ≡ Some at = reply_more e t ∙ ap (λ o. or_else o (Some at)) none in
       let same : open_of (with_event e t) ≡ with_reply c (open_of t) =
@@ -116,7 +121,7 @@ module _ (time : ℕ) (t : Told) (by : IsBy time t) (accepted : IsAccepted t) (o
   data_leaves p fault =
       let e : Event = record { time = time; kind = event_kind.Data p } in
       let decision = access_of None (with_packet t.request.asked p) in
-      let faults = no_fault _ _ (refusal_fault true decision) fault in
+      let faults = no_fault _ _ (decided_fault (open_of t).completion decision) fault in
       let waits = or_parts (is_whole t.request) (is_some (data_told t)) (not-true _ (accepted.decided (none_mapped (λ (a : AccessAt). a.access) (access_told t) faults.0))) in
       let at : DataAt = record { time = time; packet = p } in
       let came : data_told (with_event e t) ≡ Some at = data_more e t ∙ ap (λ o. or_else o (Some at)) (none_from (data_told t) waits.1) in
@@ -132,7 +137,7 @@ module _ (time : ℕ) (t : Told) (by : IsBy time t) (accepted : IsAccepted t) (o
             (settled (with_event e t) time (drop_more e t ∙ or-false (is_dropped t) ∙ (waiting t outstanding).kept) (λ x y told replied.
             later_time time x.time y.time (decided_time time (result_ok decision) x (sym access ∙ told))
             (subst (λ (o : Option ReplyAt). IfSome o (λ r. r.time ≤ time)) (sym reply ∙ replied) (reply_by time t by)))),
-        record { decided = λ none. absurd (decided_none time (result_ok decision) (not_refused decision faults.1) (sym access ∙ none)) },
+        record { decided = λ none. absurd (decided_none time (result_ok decision) (decided_so (open_of t).completion decision faults.1) (sym access ∙ none)) },
       )
 
 -- what is left of a request that was taken

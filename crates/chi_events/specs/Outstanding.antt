@@ -4,8 +4,11 @@ use Rattle.std.specs.List.Sorted.{IsNonDecreasingBy}
 use Rattle.chi_fields.specs.Access.{Access}
 use Rattle.chi_fields.specs.declared.refusal.Refusal.{Refusal}
 use Rattle.chi_fields.specs.declared.refusal.Refusal.TheVariants as refusal
+use Rattle.chi_lanes.specs.declared.reply.Reply.{Reply}
+use Rattle.chi_reading.specs.Replies.{reply_fault as seen_fault}
 use Rattle.chi_reading.specs.Requests.{access_of}
 use Rattle.chi_trace.specs.declared.observed.Observed.{Observed}
+use Rattle.chi_events.specs.declared.event.Completion.{Completion}
 use Rattle.chi_events.specs.declared.event.Event.{Event}
 use Rattle.chi_events.specs.declared.event.EventKind.{EventKind}
 use Rattle.chi_events.specs.declared.event.EventKind.TheVariants as event_kind
@@ -102,13 +105,23 @@ abbrev pub request_fault : Requested → Option Open → Option EventFault
 request_fault r (Some o) = Some fault.NumberTaken
 request_fault r None = refusal_fault (is_whole r) (access_of None r.asked)
 
+-- why a request has no such reply: that is known once its data have come and its completion has left
+abbrev pub ended_fault : Option Access → Option (Option Reply) → Option EventFault
+ended_fault (Some access) (Some seen) = option_map fault.Reply (seen_fault access seen)
+ended_fault access completion = None
+
+-- why a request does not end with its data, with which a home decides so
+abbrev pub decided_fault : Option (Option Reply) → Result Access Refusal → Option EventFault
+decided_fault completion (Ok access) = ended_fault (Some access) completion
+decided_fault completion (Err refused) = Some (fault.Refused refused)
+
 abbrev pub data_fault : Packet → Option Open → Option EventFault
 data_fault p None = Some fault.NotOutstanding
-data_fault p (Some o) = if is_some o.access then Some fault.DataTwice else refusal_fault true (access_of None (with_packet o.asked p))
+data_fault p (Some o) = if is_some o.access then Some fault.DataTwice else decided_fault o.completion (access_of None (with_packet o.asked p))
 
-abbrev pub reply_fault : Option Open → Option EventFault
-reply_fault None = Some fault.NotOutstanding
-reply_fault (Some o) = if is_some o.completion then Some fault.ReplyTwice else None
+abbrev pub reply_fault : Completion → Option Open → Option EventFault
+reply_fault c None = Some fault.NotOutstanding
+reply_fault c (Some o) = if is_some o.completion then Some fault.ReplyTwice else ended_fault o.access (Some c.reply)
 
 abbrev pub drop_fault : Option Open → Option EventFault
 drop_fault None = Some fault.NotOutstanding
@@ -117,7 +130,7 @@ drop_fault (Some o) = None
 abbrev pub kind_fault : List Open → EventKind → Option EventFault
 kind_fault requests (event_kind.Request r) = request_fault r (open_with r.id requests)
 kind_fault requests (event_kind.Data p) = data_fault p (open_with p.id requests)
-kind_fault requests (event_kind.Reply c) = reply_fault (open_with c.id requests)
+kind_fault requests (event_kind.Reply c) = reply_fault c (open_with c.id requests)
 kind_fault requests (event_kind.Dropped id) = drop_fault (open_with id requests)
 kind_fault requests (event_kind.Word w) = None
 kind_fault requests (event_kind.Final w) = None

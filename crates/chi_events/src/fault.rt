@@ -1,6 +1,7 @@
 //! Why an event cannot come next.
 
 use chi_fields::{Refusal, refusal_name};
+use chi_reading::ReplyFault;
 use thiserror::Error;
 
 /// Why an event cannot come after those before it.
@@ -11,6 +12,8 @@ use thiserror::Error;
 /// - `DataTwice`: the request has its data already, or needs none.
 /// - `ReplyTwice`: its completion has left already.
 /// - `Refused`: `decode` refuses the request, so that no home can have taken it.
+/// - `Reply`: by it the data of a request have come and its completion has left, and no home gives that request this reply,
+///   whatever the memory holds.
 ///
 /// ```
 /// let fault = EventFault::TimeFalls; // is earlier than the event before it
@@ -29,6 +32,8 @@ pub enum EventFault {
     ReplyTwice,
     #[error("is refused: {}", refusal_name(*.0))]
     Refused(Refusal),
+    #[error("ends a request that {0}")]
+    Reply(ReplyFault),
     #[error("no memory")]
     Memory,
 }

@@ -3,14 +3,14 @@
 ghost use Rattle.std.specs.Prelude.{◌≡◌, ◌≢◌, ◌+◌, ◌<◌, ◌==◌, ◌++◌, [], ◌∷◌, Some, None, IfErr, IfOk, length, take, drop, position};
 ghost use Rattle.chi_reading.specs.Requests.{access_of};
 ghost use Rattle.chi_events.specs.Operations.{is_whole};
-ghost use Rattle.chi_events.specs.Outstanding.{kind_fault, open_with, refusal_fault, request_about, request_fault};
+ghost use Rattle.chi_events.specs.Outstanding.{ended_fault, kind_fault, open_with, refusal_fault, request_about, request_fault};
 ghost use Rattle.chi_events.specs.Taking.{Changes, Takes, ended_by, first_access_of, still_open};
 
 use crate::event::{Completion, EventKind, Packet, Requested};
 use crate::fault::EventFault;
 use crate::outstanding::Open;
 use chi_fields::{Access, Refusal};
-use chi_reading::{Asked, access};
+use chi_reading::{Asked, access, reply_fault};
 use chi_trace::Observed;
 
 /// The place of the outstanding request with a number.
@@ -83,6 +83,16 @@ fn take_request(requests: &mut Vec<Open>, time: u64, request: &Requested) -> Res
     }
 }
 
+/// Why a request has no such reply, where its data have come and its completion has left.
+fn ended_fault(request: &Open) -> Option<EventFault>
+    ensures { result ≡ ended_fault request.now.access request.now.completion }
+{
+    let access = request.access?;
+    let seen = request.completion?;
+    let fault = reply_fault(&access, &seen)?;
+    Some(EventFault::Reply(fault))
+}
+
 /// The operation of a request that ends at this time, if it does.
 fn operation_by(request: &Open, time: u64) -> Option<Observed>
     ensures { result ≡ ended_by time request.now }
@@ -141,6 +151,9 @@ fn take_data(
                 access: Some(access),
                 ..open
             };
+            if let Some(fault) = ended_fault(&now) {
+                return Err(fault);
+            }
             Ok(settle(requests, place, now, time))
         }
         Err(refusal) => Err(EventFault::Refused(refusal)),
@@ -168,6 +181,9 @@ fn take_reply(
         completion: Some(sent.reply),
         ..open
     };
+    if let Some(fault) = ended_fault(&now) {
+        return Err(fault);
+    }
     Ok(settle(requests, place, now, time))
 }
 

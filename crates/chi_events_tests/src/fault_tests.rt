@@ -1,13 +1,13 @@
 //! The faults of an event, and their texts.
 
 use crate::home::{
-    ENABLES, LANES, data, is_load_of, load_with_data, load_without_data, none_ends, read, reply,
-    take,
+    ENABLES, LANES, OLD, data, is_load_of, load_with_data, load_without_data, none_ends, read,
+    reply, take,
 };
 use chi_events::{EventFault, EventKind, Outstanding, Requested};
 use chi_fields::Refusal;
 use chi_lanes::Reply;
-use chi_reading::Asked;
+use chi_reading::{Asked, ReplyFault};
 use std::test::Fail;
 
 /// A request with its data.
@@ -36,7 +36,7 @@ fn faults_and_their_texts(rt: HostRuntime) -> Result<(), Fail> {
     assert!(rt; none_ends(&mut outstanding, 10, load_with_data(1)));
     assert!(rt; none_ends(&mut outstanding, 11, load_without_data(2)));
     assert!(rt; none_ends(&mut outstanding, 12, load_without_data(3)));
-    assert!(rt; none_ends(&mut outstanding, 13, reply(3, Some(Reply::Comp))));
+    assert!(rt; none_ends(&mut outstanding, 13, reply(3, Some(Reply::CompData(OLD)))));
     assert!(rt; none_ends(&mut outstanding, 14, read(4, 4096)));
     let before = format!(in rt.alloc(); "{:?}", outstanding.requests())?;
     for (time, kind, fault, text) in [
@@ -84,7 +84,7 @@ fn faults_and_their_texts(rt: HostRuntime) -> Result<(), Fail> {
         ),
         (
             15,
-            reply(3, Some(Reply::Comp)),
+            reply(3, Some(Reply::CompData(OLD))),
             EventFault::ReplyTwice,
             "has a second reply",
         ),
@@ -105,6 +105,54 @@ fn faults_and_their_texts(rt: HostRuntime) -> Result<(), Fail> {
         "no memory"
     );
     Ok(())
+}
+
+// Such a reply is refused where the request has its data, whatever the memory holds. Lane 7 is before the operand.
+#[test]
+fn replies_that_no_home_gives(rt: HostRuntime) -> Result<(), Fail> {
+    let mut stray = OLD;
+    stray[7] = 1;
+    for (opcode, sent, fault, text) in [
+        (
+            0x28,
+            Reply::CompData(OLD),
+            ReplyFault::WithData,
+            "ends a request that has a reply with data, and its kind has none",
+        ),
+        (
+            0x30,
+            Reply::Comp,
+            ReplyFault::WithoutData,
+            "ends a request that has a reply without data, and its kind has some",
+        ),
+        (
+            0x30,
+            Reply::CompData(stray),
+            ReplyFault::OutsideOperand,
+            "ends a request that has a reply with a byte outside its operand",
+        ),
+    ] {
+        let mut outstanding = Outstanding::new(rt.alloc());
+        assert!(rt; none_ends(&mut outstanding, 10, request(opcode, 3, 4104, ENABLES)));
+        let found = take(&mut outstanding, 11, reply(9, Some(sent))).err();
+        assert_eq!(rt; found, Some(EventFault::Reply(fault)));
+        let shown = format!(in rt.alloc(); "{}", EventFault::Reply(fault))?;
+        assert_eq!(rt; shown.as_str(), text);
+    }
+    Ok(())
+}
+
+// Where the data come last it is they that are refused. A request that is dropped before has no reply that counts.
+#[test]
+fn data_after_a_reply_that_no_home_gives(rt: HostRuntime) {
+    let mut outstanding = Outstanding::new(rt.alloc());
+    assert!(rt; none_ends(&mut outstanding, 10, load_without_data(3)));
+    assert!(rt; none_ends(&mut outstanding, 11, reply(3, Some(Reply::Comp))));
+    assert_eq!(rt;
+        take(&mut outstanding, 12, data(3, ENABLES)).err(),
+        Some(EventFault::Reply(ReplyFault::WithoutData))
+    );
+    assert!(rt; none_ends(&mut outstanding, 12, EventKind::Dropped { id: 3 }));
 }
 
 // A request that a home refuses is not taken.
@@ -175,13 +223,13 @@ fn refusals(rt: HostRuntime) -> Result<(), Fail> {
 fn refused_data(rt: HostRuntime) -> Result<(), Fail> {
     let mut outstanding = Outstanding::new(rt.alloc());
     assert!(rt; none_ends(&mut outstanding, 10, load_without_data(3)));
-    assert!(rt; none_ends(&mut outstanding, 11, reply(3, Some(Reply::Comp))));
+    assert!(rt; none_ends(&mut outstanding, 11, reply(3, Some(Reply::CompData(OLD)))));
     assert_eq!(rt;
         take(&mut outstanding, 12, data(3, 0x00ff)).err(),
         Some(EventFault::Refused(Refusal::BadByteEnable))
     );
     assert_eq!(rt; outstanding.requests().len(), 1);
     let ended = take(&mut outstanding, 13, data(3, ENABLES))?;
-    assert!(rt; is_load_of(&ended, 10, 13, Some(Reply::Comp)));
+    assert!(rt; is_load_of(&ended, 10, 13, Some(Reply::CompData(OLD))));
     Ok(())
 }

@@ -22,14 +22,14 @@ fn data_with_the_request(rt: HostRuntime) -> Result<(), Fail> {
 // The operation ends when both have come, in either order.
 #[test]
 fn data_after_the_request(rt: HostRuntime) -> Result<(), Fail> {
-    let sent = reply(3, Some(Reply::Comp));
+    let sent = reply(3, Some(Reply::CompData(OLD)));
     for (first, last) in [(data(3, ENABLES), sent), (sent, data(3, ENABLES))] {
         let mut outstanding = Outstanding::new(rt.alloc());
         assert!(rt; none_ends(&mut outstanding, 10, load_without_data(3)));
         assert!(rt; none_ends(&mut outstanding, 20, first));
         assert_eq!(rt; outstanding.requests().len(), 1);
         let ended = take(&mut outstanding, 35, last)?;
-        assert!(rt; is_load_of(&ended, 10, 35, Some(Reply::Comp)));
+        assert!(rt; is_load_of(&ended, 10, 35, Some(Reply::CompData(OLD))));
         assert_eq!(rt; outstanding.requests().len(), 0);
     }
     Ok(())
@@ -41,8 +41,8 @@ fn events_of_one_time(rt: HostRuntime) -> Result<(), Fail> {
     let mut outstanding = Outstanding::new(rt.alloc());
     assert!(rt; none_ends(&mut outstanding, 0, load_without_data(0)));
     assert!(rt; none_ends(&mut outstanding, 0, data(0, ENABLES)));
-    let ended = take(&mut outstanding, 0, reply(0, Some(Reply::Comp)))?;
-    assert!(rt; is_load_of(&ended, 0, 0, Some(Reply::Comp)));
+    let ended = take(&mut outstanding, 0, reply(0, Some(Reply::CompData(OLD))))?;
+    assert!(rt; is_load_of(&ended, 0, 0, Some(Reply::CompData(OLD))));
     Ok(())
 }
 
@@ -50,14 +50,14 @@ fn events_of_one_time(rt: HostRuntime) -> Result<(), Fail> {
 #[test]
 fn read_of_four_bytes(rt: HostRuntime) -> Result<(), Fail> {
     let mut outstanding = Outstanding::new(rt.alloc());
-    assert!(rt; none_ends(&mut outstanding, 40, read(18446744073709551615, 4100)));
+    assert!(rt; none_ends(&mut outstanding, 40, read(18446744073709551615, 4104)));
     let sent = reply(18446744073709551615, Some(Reply::CompData(OLD)));
     let ended = take(&mut outstanding, 41, sent)?;
     assert!(rt; ended.is_some());
     if let Some(op) = ended {
         assert_eq!(rt; (op.start, op.end, op.src), (40, 41, 2));
         assert_eq!(rt; op.access.kind(), Kind::Read);
-        assert_eq!(rt; (op.access.addr(), op.access.len()), (4100, 4));
+        assert_eq!(rt; (op.access.addr(), op.access.len()), (4104, 4));
         assert!(rt; op.access.endian());
         assert_eq!(rt; op.reply, Some(Reply::CompData(OLD)));
     }
@@ -91,8 +91,8 @@ fn dropped_request(rt: HostRuntime) {
 fn number_taken_again(rt: HostRuntime) -> Result<(), Fail> {
     let mut outstanding = Outstanding::new(rt.alloc());
     assert!(rt; none_ends(&mut outstanding, 10, load_with_data(3)));
-    let first = take(&mut outstanding, 20, reply(3, Some(Reply::Comp)))?;
-    assert!(rt; is_load_of(&first, 10, 20, Some(Reply::Comp)));
+    let first = take(&mut outstanding, 20, reply(3, Some(Reply::CompData(OLD))))?;
+    assert!(rt; is_load_of(&first, 10, 20, Some(Reply::CompData(OLD))));
     assert!(rt; none_ends(&mut outstanding, 30, load_with_data(3)));
     assert!(rt; none_ends(&mut outstanding, 35, EventKind::Dropped { id: 3 }));
     assert!(rt; none_ends(&mut outstanding, 40, load_without_data(3)));
@@ -109,8 +109,8 @@ fn one_of_three_ends(rt: HostRuntime) -> Result<(), Fail> {
     assert!(rt; none_ends(&mut outstanding, 10, read(8, 4096)));
     assert!(rt; none_ends(&mut outstanding, 11, load_with_data(5)));
     assert!(rt; none_ends(&mut outstanding, 12, load_without_data(6)));
-    let ended = take(&mut outstanding, 13, reply(5, Some(Reply::Comp)))?;
-    assert!(rt; is_load_of(&ended, 11, 13, Some(Reply::Comp)));
+    let ended = take(&mut outstanding, 13, reply(5, Some(Reply::CompData(OLD))))?;
+    assert!(rt; is_load_of(&ended, 11, 13, Some(Reply::CompData(OLD))));
     let requests = outstanding.requests();
     assert_eq!(rt; requests.len(), 2);
     assert_eq!(rt; (requests[0].id, requests[0].start), (8, 10));

@@ -13,14 +13,16 @@ use Rattle.chi_fields.specs.declared.kind.Kind.TheVariants.{Read, Write, Store, 
 use Rattle.chi_fields.specs.declared.refusal.Refusal.TheVariants.{BadByteEnable, Misaligned, OutOfRegion, ReservedSize, SizeOutOfProfile}
 use Rattle.chi_fields.specs.declared.request.Request.{Request}
 use Rattle.chi_script.proofs.RequesterBounds.{at_ok, then_ok}
+use Rattle.chi_trace.specs.declared.observed.Observed.{Observed}
 use Rattle.chi_trace.specs.Explains.{IsObserved, at, nothing}
 use Rattle.chi_reading.specs.declared.asked.Asked.{Asked}
 use Rattle.chi_reading.specs.declared.stated.Stated.{Stated}
-use Rattle.chi_reading.specs.declared.fault.RequestFault.TheVariants.{EndsBeforeStart, Refused}
+use Rattle.chi_reading.specs.declared.fault.RequestFault.TheVariants.{EndsBeforeStart, Refused, Reply}
 use Rattle.chi_reading.specs.declared.fault.TraceFault.TheVariants.{InRequest, TooManyRequests}
-use Rattle.chi_reading.specs.Faults.{or_else}
+use Rattle.chi_reading.specs.Faults.{faultless, or_else}
+use Rattle.chi_reading.specs.Replies.{reply_fault}
 use Rattle.chi_reading.specs.Requests.{Completed, access_of, all_completed, completed_of, line_of, observed_of, request_of, stated_at}
-use Rattle.chi_reading.proofs.Faultless.{renamed, unless, value_of}
+use Rattle.chi_reading.proofs.Faultless.{renamed, unless, value_of, without_fault}
 use Rattle.chi_reading.proofs.Packets.{HasPacket, IsPacket, stated_packet}
 use Rattle.chi_reading.proofs.RegionText.{region_lawful}
 
@@ -95,11 +97,12 @@ observed_within : (place : ℕ) (region : Option Extent) (s : Stated) → HasPac
 unfolding observed_of
 observed_within place region s has is =
     then_ok (or_else (λ refusal. InRequest place (Refused refusal)) (access_of region s.asked)) _ IsObserved (λ access e.
-    unless (nat_lt s.end s.start) (InRequest place EndsBeforeStart)
-    (Ok (record { start = s.start; end = s.end; src = s.asked.src; access = access; reply = s.reply })) IsObserved (λ lasting.
+    let operation : Observed = record { start = s.start; end = s.end; src = s.asked.src; access = access; reply = s.reply } in
+    unless (nat_lt s.end s.start) (InRequest place EndsBeforeStart) (faultless (λ fault. InRequest place (Reply fault)) (reply_fault access s.reply) operation) IsObserved (λ lasting.
+    without_fault (λ fault. InRequest place (Reply fault)) (reply_fault access s.reply) operation IsObserved (
     let within = at_ok (or_else (λ refusal. InRequest place (Refused refusal)) (access_of region s.asked)) access IsWithin e
     (renamed (λ refusal. InRequest place (Refused refusal)) (access_of region s.asked) IsWithin (accessed region s.asked has is)) in
-    record { lawful = within.lawful; within = within.below; lasting = ltb-false s.end s.start lasting }))
+    record { lawful = within.lawful; within = within.below; lasting = ltb-false s.end s.start lasting })))
 
 -- each operation is such as can be observed
 abbrev AreObserved : Completed → Type 0

@@ -1,3 +1,4 @@
+mod AnswersLie
 mod ByStart
 pub mod Decided
 mod Decoded
@@ -9,4 +10,6 @@ mod OneMore
 pub mod Packets
 mod RegionText
 mod Shorter
+mod ShownNames
 mod ToldSoFar
+mod UnknownNames

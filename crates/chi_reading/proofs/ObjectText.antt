@@ -1,6 +1,6 @@
 -- what an object says, of the memory and of the requests that were read of it
-use Rattle.std.proofs.Common.{◌≡◌, Some, Ok, refl, ap, ◌∙◌}
-use Rattle.serde_json.specs.Data.{Data, Items}
+use Rattle.std.proofs.Common.{◌≡◌, None, Some, Ok, refl, ap, ◌∙◌}
+use Rattle.serde_json.specs.Data.{Data, Items, Members}
 use Rattle.serde_json.specs.Find.{as_array, get}
 use Rattle.chi_script.specs.declared.member.Member.TheVariants as member
 use Rattle.chi_script.specs.Member.{member_name}
@@ -8,11 +8,12 @@ use Rattle.chi_verdict.specs.Words.{told}
 use Rattle.chi_reading.specs.declared.recorded.Memory.{Memory}
 use Rattle.chi_reading.specs.Requests.{Completed, all_completed}
 use Rattle.chi_reading.specs.TraceText.{IsMemoryOf, IsOf, IsRecorded, MemoryText, RecordedValue, memory_text, object_text}
+use Rattle.chi_reading.specs.Unknown.{trace_members, unknown_in}
 
-pub object_says : (d value : Data) (elements : Items) (t : MemoryText) (c : Completed) → memory_text d ≡ Ok t → get (member_name member.Requests) d ≡ Some value
-    → as_array value ≡ Some elements → all_completed t.region elements ≡ Ok c → object_text d ≡ Ok (record { memory = t; completed = c })
+pub object_says : (d value : Data) (ms : Members) (elements : Items) (t : MemoryText) (c : Completed) → memory_text d ≡ Ok t → get (member_name member.Requests) d ≡ Some value
+    → as_array value ≡ Some elements → unknown_in trace_members ms ≡ None → all_completed t.region elements ≡ Ok c → object_text d ms ≡ Ok (record { memory = t; completed = c })
 unfolding object_text
-object_says d value elements t c is_memory is_there is_array are_completed = rw (is_memory, is_there, is_array, are_completed) refl
+object_says d value ms elements t c is_memory is_there is_array are_known are_completed = rw (is_memory, is_there, is_array, are_known, are_completed) refl
 
 -- what was read of a text's memory and requests is what the text says
 pub recorded_of : (t : MemoryText) (m : Memory) (c : Completed) (r : RecordedValue) → IsMemoryOf t m → IsRecorded m c.requests c.operations r

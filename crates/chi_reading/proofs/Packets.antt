@@ -1,6 +1,6 @@
 -- the data packets and byte enables of the requests that a text states
 use Rattle.std.proofs.Common.{◌≡◌, ℕ, ◌-◌, ◌^◌, ◌<◌, ◌≤◌, List, length, get_or, Option, Some, None, Result, Ok, Err, IfOk, IfSome, refl, sym, ◌∙◌, arith}
-use Rattle.std.specs.Prelude.{is_some, option_and_then}
+use Rattle.std.specs.Prelude.{option_and_then}
 use Rattle.std.specs.Option.{ok_or}
 use Rattle.std.specs.Result.{result_ok}
 use Rattle.hex.specs.Hex.{decode_sized}
@@ -14,12 +14,13 @@ use Rattle.chi_script.specs.Member.{member_name}
 use Rattle.chi_script.specs.Script.{hex_bytes, member_by, number_of}
 use Rattle.chi_script.proofs.RequesterBounds.{at_ok, number_within, then_ok}
 use Rattle.chi_reading.specs.declared.asked.Asked.{Asked}
-use Rattle.chi_reading.specs.declared.fault.RequestFault.TheVariants.{NotObject}
+use Rattle.chi_reading.specs.declared.fault.RequestFault.TheVariants.{NotObject, UnknownMember}
 use Rattle.chi_reading.specs.declared.fault.TraceFault.TheVariants.{InRequest}
 use Rattle.chi_reading.specs.declared.stated.Stated.{Stated}
-use Rattle.chi_reading.specs.Faults.{fault_in}
+use Rattle.chi_reading.specs.Faults.{fault_in, or_else}
 use Rattle.chi_reading.specs.Requests.{asked_of, end_of, fields_of, reply_by, stated_at, stated_of}
-use Rattle.chi_reading.proofs.Faultless.{present, renamed, value_of, where_true}
+use Rattle.chi_reading.specs.Unknown.{request_members, unknown_in}
+use Rattle.chi_reading.proofs.Faultless.{present, renamed, value_of, without_fault}
 
 -- sixteen bytes
 pub record IsPacket (lanes : List ℕ) : Type 0 where
@@ -76,5 +77,8 @@ stated_within d =
 pub stated_packet : (place : ℕ) (d : Data) → IfOk (stated_at place d) (λ s. HasPacket s.asked)
 unfolding stated_at
 stated_packet place d =
-    where_true (is_some (as_object d)) (InRequest place NotObject) _ (λ (s : Stated). HasPacket s.asked)
-    (renamed (fault_in place) (stated_of d) (λ (s : Stated). HasPacket s.asked) (stated_within d))
+    then_ok (ok_or (as_object d) (InRequest place NotObject)) _ (λ (s : Stated). HasPacket s.asked) (λ members e.
+    then_ok (or_else (fault_in place) (stated_of d)) _ (λ (s : Stated). HasPacket s.asked) (λ stated e1.
+    without_fault (λ name. InRequest place (UnknownMember name)) (unknown_in request_members members) stated (λ (s : Stated). HasPacket s.asked)
+    (at_ok (or_else (fault_in place) (stated_of d)) stated (λ (s : Stated). HasPacket s.asked) e1
+    (renamed (fault_in place) (stated_of d) (λ (s : Stated). HasPacket s.asked) (stated_within d)))))

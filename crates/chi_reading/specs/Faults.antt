@@ -1,5 +1,5 @@
 -- the faults of a trace
-use Rattle.std.specs.Prelude.{ℕ, Result}
+use Rattle.std.specs.Prelude.{ℕ, Option, None, Some, Result, Ok, Err}
 use Rattle.std.specs.Result.{result_map_both}
 use Rattle.chi_script.specs.declared.fault.ScriptFault.{ScriptFault}
 use Rattle.chi_script.specs.declared.fault.ScriptFault.TheVariants as script_fault
@@ -26,3 +26,8 @@ fault_in place fault = as_fault fault
 -- a step of another walk, its fault by another name
 abbrev pub or_else : {A E D : Type 0} → (E → D) → Result A E → Result A D
 or_else f r = result_map_both (λ x. x) f r
+
+-- a value, where there is no fault by another name
+abbrev pub faultless : {A E D : Type 0} → (E → D) → Option E → A → Result A D
+faultless f None x = Ok x
+faultless f (Some fault) x = Err (f fault)

@@ -1,4 +1,6 @@
 pub mod Faults
+pub mod Replies
 pub mod Requests
 pub mod Told
 pub mod TraceText
+pub mod Unknown

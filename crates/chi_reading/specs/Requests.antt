@@ -25,7 +25,9 @@ use Rattle.chi_reading.specs.declared.stated.Stated.{Stated}
 use Rattle.chi_reading.specs.declared.fault.RequestFault.TheVariants as request_fault
 use Rattle.chi_reading.specs.declared.fault.TraceFault.{TraceFault}
 use Rattle.chi_reading.specs.declared.fault.TraceFault.TheVariants.{TooManyRequests, InRequest}
-use Rattle.chi_reading.specs.Faults.{fault_in, or_else}
+use Rattle.chi_reading.specs.Faults.{fault_in, faultless, or_else}
+use Rattle.chi_reading.specs.Replies.{reply_fault}
+use Rattle.chi_reading.specs.Unknown.{request_members, unknown_in}
 
 -- the fields of a request that an object states, with no data
 unfoldable pub fields_of : Data → Result Asked ScriptFault
@@ -79,7 +81,10 @@ stated_of d = do
 
 -- the same of the element at a place
 unfoldable pub stated_at : ℕ → Data → Result Stated TraceFault
-stated_at place d = if is_some (as_object d) then or_else (fault_in place) (stated_of d) else Err (InRequest place request_fault.NotObject)
+stated_at place d = do
+  members ← ok_or (as_object d) (InRequest place request_fault.NotObject)
+  stated ← or_else (fault_in place) (stated_of d)
+  faultless (λ name. InRequest place (request_fault.UnknownMember name)) (unknown_in request_members members) stated
 
 -- what a home decides of a request on a line, where there is one
 abbrev decision_on : Option Extent → Asked → Result Access Refusal
@@ -100,7 +105,8 @@ unfoldable pub observed_of : ℕ → Option Extent → Stated → Result Observe
 observed_of place region s = do
   access ← or_else (λ refusal. InRequest place (request_fault.Refused refusal)) (access_of region s.asked)
   if nat_lt s.end s.start then Err (InRequest place request_fault.EndsBeforeStart)
-      else Ok (record { start = s.start; end = s.end; src = s.asked.src; access = access; reply = s.reply })
+      else faultless (λ fault. InRequest place (request_fault.Reply fault)) (reply_fault access s.reply)
+      (record { start = s.start; end = s.end; src = s.asked.src; access = access; reply = s.reply })
 
 -- requests, and the operation of each
 pub record Completed : Type 0 where

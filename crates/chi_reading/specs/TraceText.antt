@@ -1,7 +1,7 @@
 -- the trace that a text is, or its first fault
-use Rattle.std.specs.Prelude.{◌≡◌, ℕ, false, ◌-◌, ◌/◌, ◌^◌, if◌then◌else◌, List, [], length, map, slice_index_or, take, Option, None, Some, is_some, Result, Ok, Err}
+use Rattle.std.specs.Prelude.{◌≡◌, ℕ, false, ◌-◌, ◌/◌, ◌^◌, if◌then◌else◌, List, [], length, map, slice_index_or, take, Option, None, Some, is_some, Result, Ok}
 use Rattle.std.specs.Option.{ok_or}
-use Rattle.serde_json.specs.Data.{Data}
+use Rattle.serde_json.specs.Data.{Data, Members}
 use Rattle.serde_json.specs.Find.{as_array, as_object, get}
 use Rattle.chi_fields.specs.Extent.{Extent, region_of}
 use Rattle.chi_history.specs.History.{one_if}
@@ -18,10 +18,11 @@ use Rattle.chi_verdict.specs.Words.{told}
 use Rattle.chi_reading.specs.declared.asked.Asked.{Asked}
 use Rattle.chi_reading.specs.declared.recorded.Memory.{Memory}
 use Rattle.chi_reading.specs.declared.fault.TraceFault.{TraceFault}
-use Rattle.chi_reading.specs.declared.fault.TraceFault.TheVariants.{NotJson, NotObject, RegionRefused}
-use Rattle.chi_reading.specs.Faults.{as_fault, or_else}
+use Rattle.chi_reading.specs.declared.fault.TraceFault.TheVariants.{NotJson, NotObject, RegionRefused, UnknownMember}
+use Rattle.chi_reading.specs.Faults.{as_fault, faultless, or_else}
 use Rattle.chi_reading.specs.Requests.{Completed, all_completed}
 use Rattle.chi_reading.specs.Told.{region_words, stated_list}
+use Rattle.chi_reading.specs.Unknown.{trace_members, unknown_in}
 
 -- What a text says of the memory: a region, or all addresses; the words of its granules at the opening, where they are told,
 -- and at the end.
@@ -61,10 +62,11 @@ pub record TextValue : Type 0 where
   pub memory : MemoryText
   pub completed : Completed
 
-unfoldable pub object_text : Data → Result TextValue TraceFault
-object_text d = do
+unfoldable pub object_text : Data → Members → Result TextValue TraceFault
+object_text d members = do
   memory ← memory_text d
-  elements ← or_else as_fault (member_by member.Requests as_array d)
+  listed ← or_else as_fault (member_by member.Requests as_array d)
+  elements ← faultless UnknownMember (unknown_in trace_members members) listed
   completed ← all_completed memory.region elements
   Ok (record { memory = memory; completed = completed })
 
@@ -72,7 +74,8 @@ object_text d = do
 unfoldable pub trace_text : List ℕ → Result TextValue TraceFault
 trace_text text = do
   d ← ok_or (json_value text) NotJson
-  if is_some (as_object d) then object_text d else Err NotObject
+  members ← ok_or (as_object d) NotObject
+  object_text d members
 
 -- what stands at a place past the last request
 abbrev pub no_request : Asked

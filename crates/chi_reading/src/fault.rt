@@ -3,6 +3,8 @@
 ghost use Rattle.std.specs.Prelude.{◌≡◌};
 ghost use Rattle.chi_reading.specs.Faults.{as_fault, fault_in};
 
+use crate::reply::ReplyFault;
+use crate::unknown::MemberName;
 use chi_fields::{Refusal, RegionFault, refusal_name, region_fault_name};
 use chi_script::{Member, ScriptFault};
 use thiserror::Error;
@@ -14,8 +16,10 @@ pub const MOST_OPERATIONS: usize = 1_048_576;
 ///
 /// - `NotObject`: it is not an object.
 /// - `Missing`, `BadMember`: a member is not there, or not as stated.
+/// - `UnknownMember`: it has a member that no request has, and whose name does not begin with `x-`.
 /// - `Refused`: `decode` refuses the request, so that no home can have completed it.
 /// - `EndsBeforeStart`: its end is below its start.
+/// - `Reply`: it has a reply that no home gives it, whatever the memory holds.
 ///
 /// ```
 /// let fault = RequestFault::Missing(Member::Start); // member start is missing
@@ -28,10 +32,14 @@ pub enum RequestFault {
     Missing(Member),
     #[error("member {} is not as stated", .0.name())]
     BadMember(Member),
+    #[error("has an unknown member {0}")]
+    UnknownMember(MemberName),
     #[error("is refused: {}", refusal_name(*.0))]
     Refused(Refusal),
     #[error("ends before it starts")]
     EndsBeforeStart,
+    #[error("{0}")]
+    Reply(ReplyFault),
 }
 
 /// Why a trace is refused: the first fault that its walk meets, or `Memory` where a growth is refused before.
@@ -40,6 +48,7 @@ pub enum RequestFault {
 /// - `NotObject`: the value is not an object.
 /// - `Missing`, `BadMember`: a member of the object is not there, or not as stated.
 /// - `RegionRefused`: `Region::new` refuses the base and the number of granules.
+/// - `UnknownMember`: it has a member that no trace has, and whose name does not begin with `x-`.
 /// - `TooManyRequests`: there are more than 1,048,576 requests.
 /// - `InRequest`: a request is refused, at its place in the array from 0 on.
 ///
@@ -58,6 +67,8 @@ pub enum TraceFault {
     BadMember(Member),
     #[error("trace region is refused: {}", region_fault_name(*.0))]
     RegionRefused(RegionFault),
+    #[error("trace has an unknown member {0}")]
+    UnknownMember(MemberName),
     #[error("trace has over {MOST_OPERATIONS} requests")]
     TooManyRequests,
     #[error("request {place} {fault}")]

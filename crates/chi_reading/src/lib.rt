@@ -3,16 +3,21 @@
 
 mod asked;
 mod fault;
+pub mod laws;
 mod observed;
 mod recorded;
+mod reply;
 mod requests;
 mod sorting;
 mod stated;
 mod told;
+mod unknown;
 
 pub use asked::{Asked, lanes, request_asked, request_fields};
 pub use fault::{MOST_OPERATIONS, RequestFault, TraceFault};
 pub use observed::access;
 pub use recorded::{Recorded, read_trace};
+pub use reply::{ReplyFault, reply_fault};
 pub use stated::seen_reply;
 pub use told::{granule_start, granule_word};
+pub use unknown::{MemberName, unknown_member};

@@ -6,6 +6,7 @@ ghost use Rattle.chi_reading.specs.Requests.{access_of, observed_of};
 
 use crate::asked::Asked;
 use crate::fault::{RequestFault, TraceFault};
+use crate::reply::reply_fault;
 use crate::stated::Stated;
 use chi_fields::{Access, Refusal, Region, decode};
 use chi_trace::Observed;
@@ -53,6 +54,12 @@ pub(crate) fn observed(
         return Err(TraceFault::InRequest {
             place,
             fault: RequestFault::EndsBeforeStart,
+        });
+    }
+    if let Some(fault) = reply_fault(&access, &stated.reply) {
+        return Err(TraceFault::InRequest {
+            place,
+            fault: RequestFault::Reply(fault),
         });
     }
     Ok(Observed {

@@ -1,7 +1,7 @@
 //! Traces that were read, and how one is.
 
 ghost use Rattle.std.specs.Prelude.{◌≡◌, ◌≢◌, ℕ, ◌<◌, length, IfErr, IfOk, Ok, Err};
-ghost use Rattle.serde_json.specs.View.{view};
+ghost use Rattle.serde_json.specs.View.{members_view, view};
 ghost use Rattle.chi_reading.specs.TraceText.{IsMemoryOf, IsOf, IsRecorded, MemoryText, TextValue, cut_at, memory_text, object_text, region_memory, trace_text, wide_memory};
 ghost use Rattle.chi_trace.specs.Explains.{IsObserved, at};
 
@@ -10,11 +10,12 @@ use crate::fault::TraceFault;
 use crate::requests::all_completed;
 use crate::sorting::{by_start, operations_at, requests_at};
 use crate::told::{region_words, stated_list};
+use crate::unknown::{trace_members, unknown_member};
 use chi_fields::Region;
 use chi_script::{Member, json, number, opening_words, stated_words};
 use chi_trace::Observed;
 use chi_verdict::{GranuleWords, Trace};
-use serde_json::Value;
+use serde_json::{Map, Value};
 use std::alloc::{AllocError, Global};
 use std::marker::Model;
 
@@ -210,9 +211,13 @@ fn in_order(
 
 /// The trace that an object is.
 #[tactic(auto, unfolding(crate::specs::TraceText::object_text))]
-fn object_trace(alloc: Global, object: &Value) -> Result<Recorded, TraceFault>
-    ensures ok { IfOk result (λ r. (t : TextValue) × (object_text (view object.now) ≡ Ok t) × IsOf t r) }
-    ensures fault { IfErr result (λ f. f ≢ TraceFault.Memory → object_text (view object.now) ≡ Err f) }
+fn object_trace(
+    alloc: Global,
+    object: &Value,
+    members: &Map<String, Value>,
+) -> Result<Recorded, TraceFault>
+    ensures ok { IfOk result (λ r. (t : TextValue) × (object_text (view object.now) (members_view members.now.entries) ≡ Ok t) × IsOf t r) }
+    ensures fault { IfErr result (λ f. f ≢ TraceFault.Memory → object_text (view object.now) (members_view members.now.entries) ≡ Err f) }
 {
     let memory = memory_told(alloc, object)?;
     let Some(value) = object.get(Member::Requests.name()) else {
@@ -221,6 +226,9 @@ fn object_trace(alloc: Global, object: &Value) -> Result<Recorded, TraceFault>
     let Some(list) = value.as_array() else {
         return Err(TraceFault::BadMember(Member::Requests));
     };
+    if let Some(name) = unknown_member(members, trace_members()) {
+        return Err(TraceFault::UnknownMember(name));
+    }
     let (requests, operations) = all_completed(alloc, list.as_slice(), &memory.region)?;
     match in_order(alloc, memory, &requests, &operations) {
         Ok(recorded) => Ok(recorded),
@@ -238,11 +246,14 @@ fn object_trace(alloc: Global, object: &Value) -> Result<Recorded, TraceFault>
 /// `requests` has at most 1,048,576 requests as a script has them, of requesters and transactions up to 65,535. Each has
 /// `start` and `end`, whole numbers below 2^64, of which the end is not the less; `end` is left out where the operation was
 /// open when the trace ended. `reply` is the text `comp`, one of 32 hex digits, lane 0 first, or `null` where it was not seen;
-/// it may be left out where `end` is. A request that a home refuses is a fault.
+/// it may be left out where `end` is. A request that a home refuses is a fault, and so is a reply that it gives to no request
+/// like this one, whatever the memory holds.
+///
+/// Members whose name begins with `x-` are ignored, in the trace and in its requests, and others than those above are refused.
 ///
 /// The faults' order is that of the members `base`, `granules`, with the region's own fault, `image`, `final` and
-/// `requests`, and then of the requests, of each its members, its refusal and its times. `Memory` is answered where a
-/// growth is refused before a fault is met.
+/// `requests`, then members that a trace does not have, and then of the requests, of each its members, members that it does
+/// not have, its refusal, its times and its reply. `Memory` is answered where a growth is refused before a fault is met.
 ///
 /// ```
 /// let recorded = read_trace(alloc, b"{\"requests\":[]}")?;
@@ -253,9 +264,8 @@ pub fn read_trace(alloc: Global, text: &[u8]) -> Result<Recorded, TraceFault>
     ensures fault { IfErr result (λ f. f ≢ TraceFault.Memory → trace_text text.now ≡ Err f) }
 {
     let value = json(alloc, text)?;
-    if value.is_object() {
-        object_trace(alloc, &value)
-    } else {
-        Err(TraceFault::NotObject)
+    match value.as_object() {
+        Some(members) => object_trace(alloc, &value, members),
+        None => Err(TraceFault::NotObject),
     }
 }

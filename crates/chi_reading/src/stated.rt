@@ -8,6 +8,7 @@ ghost use Rattle.chi_reading.specs.Requests.{answer_of, end_of, reply_by, seen_o
 
 use crate::asked::{Asked, packet, request_asked};
 use crate::fault::{RequestFault, TraceFault, fault_in};
+use crate::unknown::{request_members, unknown_member};
 use chi_lanes::Reply;
 use chi_script::{Member, ScriptFault, number};
 use serde_json::Value;
@@ -101,14 +102,21 @@ fn request_stated(object: &Value) -> Result<Stated, ScriptFault>
 pub(crate) fn stated_at(place: usize, value: &Value) -> Result<Stated, TraceFault>
     ensures { result ≡ stated_at place (view value.now) }
 {
-    if !value.is_object() {
+    let Some(members) = value.as_object() else {
         return Err(TraceFault::InRequest {
             place,
             fault: RequestFault::NotObject,
         });
-    }
-    match request_stated(value) {
-        Ok(stated) => Ok(stated),
-        Err(fault) => Err(fault_in(place, fault)),
+    };
+    let stated = match request_stated(value) {
+        Ok(stated) => stated,
+        Err(fault) => return Err(fault_in(place, fault)),
+    };
+    match unknown_member(members, request_members()) {
+        Some(name) => Err(TraceFault::InRequest {
+            place,
+            fault: RequestFault::UnknownMember(name),
+        }),
+        None => Ok(stated),
     }
 }

@@ -86,3 +86,116 @@ fn faults_of_a_request(rt: HostRuntime) -> Result<(), Fail> {
     }
     Ok(())
 }
+
+// The operand's lanes are 0 to 7, or 8 to 15 at address 4104. An AtomicCompare answers the operand alone, so a byte of its
+// window's other half is as wrong.
+#[test]
+fn replies_that_no_home_gives(rt: HostRuntime) -> Result<(), Fail> {
+    let with_data = "request 0 has a reply with data, and its kind has none";
+    let without_data = "request 0 has a reply without data, and its kind has some";
+    let outside = "request 0 has a reply with a byte outside its operand";
+    let cases = [
+        (
+            r#", "reply": "00000000000000000000000000000000""#,
+            with_data,
+        ),
+        (
+            r#", "op": 40, "reply": "00000000000000000000000000000000""#,
+            with_data,
+        ),
+        (r#", "op": 4, "reply": "comp""#, without_data),
+        (r#", "op": 48, "reply": "comp""#, without_data),
+        (r#", "op": 56, "reply": "comp""#, without_data),
+        (
+            r#", "op": 57, "size": 4, "be": 65535, "reply": "comp""#,
+            without_data,
+        ),
+        (
+            r#", "op": 48, "reply": "00000000000000000100000000000000""#,
+            outside,
+        ),
+        (
+            r#", "op": 48, "addr": 4104, "be": 65280, "reply": "00000000000000010000000000000000""#,
+            outside,
+        ),
+        (
+            r#", "op": 57, "size": 4, "be": 65535, "reply": "00000000000000000100000000000000""#,
+            outside,
+        ),
+        (
+            r#", "op": 57, "size": 4, "be": 65535, "reply": "ffffffffffffffff0000000000000000""#,
+            "",
+        ),
+        (
+            r#", "op": 48, "addr": 4104, "be": 65280, "reply": "0000000000000000ffffffffffffffff""#,
+            "",
+        ),
+        (r#", "op": 40, "reply": "comp""#, ""),
+        (r#", "op": 48, "reply": null"#, ""),
+    ];
+    for (members, wanted) in cases {
+        let started = format!(in rt.alloc(); ", \"start\": 5{members}")?;
+        let text = write_with(rt.alloc(), &started)?;
+        let found = fault(rt.alloc(), &text)?;
+        assert_same(&rt, (members, found.as_str()), (members, wanted));
+    }
+    Ok(())
+}
+
+// The name is shown up to its 32nd letter; what is no printing letter is a question mark for each byte.
+#[test]
+fn members_that_a_request_does_not_have(rt: HostRuntime) -> Result<(), Fail> {
+    let cases = [
+        (
+            r#", "start": 5, "finals": []"#,
+            "request 0 has an unknown member finals",
+        ),
+        (
+            r#", "start": 5, "base": 0"#,
+            "request 0 has an unknown member base",
+        ),
+        (
+            r#", "start": 5, "abcdefghijklmnopqrstuvwxyz012345": 0"#,
+            "request 0 has an unknown member abcdefghijklmnopqrstuvwxyz012345",
+        ),
+        (
+            r#", "start": 5, "abcdefghijklmnopqrstuvwxyz0123456": 0"#,
+            "request 0 has an unknown member abcdefghijklmnopqrstuvwxyz012345...",
+        ),
+        (
+            r#", "start": 5, "a \u00e9~": 0"#,
+            "request 0 has an unknown member a???~",
+        ),
+        (r#", "finals": []"#, "request 0 member start is missing"),
+        (
+            r#", "start": 5, "end": 4, "reply": null, "finals": []"#,
+            "request 0 has an unknown member finals",
+        ),
+        (r#", "start": 5, "x-note": 0"#, ""),
+    ];
+    for (members, wanted) in cases {
+        let text = write_with(rt.alloc(), members)?;
+        let found = fault(rt.alloc(), &text)?;
+        assert_same(&rt, (members, found.as_str()), (members, wanted));
+    }
+    Ok(())
+}
+
+#[test]
+fn members_that_a_trace_does_not_have(rt: HostRuntime) -> Result<(), Fail> {
+    let cases = [
+        (r#""finals": [], "#, "trace has an unknown member finals"),
+        (r#""start": 5, "#, "trace has an unknown member start"),
+        (
+            r#""finals": [], "image": 0, "#,
+            "trace member image is not as stated",
+        ),
+        (r#""x-note": [], "base": 9, "#, ""),
+    ];
+    for (members, wanted) in cases {
+        let text = without_requests(rt.alloc(), members)?;
+        let found = fault(rt.alloc(), &text)?;
+        assert_same(&rt, (members, found.as_str()), (members, wanted));
+    }
+    Ok(())
+}

@@ -1,7 +1,7 @@
 -- that the operations are such as can be observed, and the text's value
 use Rattle.std.proofs.Common.{◌≡◌, ℕ, ◌<◌, List, length, IfSome, Some, sym, ap, subst, ◌∙◌}
 use Rattle.serde_json.specs.Find.{get}
-use Rattle.serde_json.specs.View.{view}
+use Rattle.serde_json.specs.View.{members_view, view}
 use Rattle.chi_fields.specs.Extent.{IsRegion}
 use Rattle.chi_trace.specs.declared.observed.Observed.{Observed}
 use Rattle.chi_trace.specs.Explains.{IsObserved, at}
@@ -9,6 +9,7 @@ use Rattle.chi_script.specs.declared.member.Member.TheVariants.{Requests}
 use Rattle.chi_script.specs.Member.{member_name}
 use Rattle.chi_script.proofs.RequesterBounds.{at_ok}
 use Rattle.chi_reading.specs.TraceText.{memory_text}
+use Rattle.chi_reading.specs.Unknown.{unknown_in}
 use Rattle.chi_reading.proofs.Decided.{all_observed}
 use Rattle.chi_reading.proofs.RegionText.{IsOnRegion, memory_on_region}
 use Rattle.chi_reading.proofs.ObjectText.{object_says, recorded_of}
@@ -28,9 +29,10 @@ returns-in-Ok-clause-ok c =
     let d = view c.args.object.now in
     let memory = c.in_ok-memory.ensures.ok in
     let there : get (member_name Requests) d ≡ Some (view c.in-Some.value.now) = ap (λ name. get name d) (sym c.name.ensures) ∙ sym c.in-Some.ensures in
+    let known = ap (λ ms. unknown_in ms (members_view c.args.members.now.entries)) (sym c.trace_members.ensures) ∙ sym c.unknown_member.ensures ∙ c.in_default-unknown_member.is in
     let completed = rw (c.as_slice.ensures.value, memory.2.region) at c.in_ok-requests.ensures.ok in
     let recorded = rw (c.deref.ensures.value, c.deref-2.ensures.value) at c.in-Ok.ensures in (
       _,
-      object_says d _ _ memory.0 _ memory.1 there (sym c.in-Some-as_array.ensures) completed,
+      object_says d _ _ _ memory.0 _ memory.1 there (sym c.in-Some-as_array.ensures) known completed,
       recorded_of memory.0 c.in_ok-memory.memory _ c.in-Ok.recorded memory.2 recorded,
     )
