@@ -1,4 +1,4 @@
 pub mod Growing
 mod Operations
-mod Places
+pub mod Places
 mod Spent

@@ -1,6 +1,8 @@
 -- what is answered of a trace that was read
 use Rattle.std.specs.Prelude.{ℕ, ◌≤◌, List, ◌↔◌}
 use Rattle.std.specs.List.{Contains}
+use Rattle.chi_doubt.specs.Doubts.{IsDoubt}
+use Rattle.chi_doubt.specs.declared.doubt.Doubt.{Doubt}
 use Rattle.chi_search.specs.Found.{IfWords}
 use Rattle.chi_search.specs.Looks.{LookedMore}
 use Rattle.chi_verdict.specs.Blames.{IsBlame}
@@ -21,22 +23,23 @@ IsUnexplainedIn r granule = (order : List ℕ) → IsExplainedIn r.trace r.final
 abbrev pub AreHeld : RecordedValue → ℕ → List ℕ → Type 0
 AreHeld r granule words = (order : List ℕ) → IsLegal r.trace order → (v : ℕ) → Contains words v ↔ CanHold r.trace granule v
 
--- the answer is right: its order explains the trace; or no order does, and what else it says holds
+-- the answer is right: its order explains the trace; or no order does, and what else it says holds; or what it says of the granule
+-- that was not decided does
 abbrev pub IsAnswer : RecordedValue → Answer → Type 0
 IsAnswer r (Explained order) = IsExplained r.trace r.finals order.items
 IsAnswer r (Blamed blame) = IsUnexplained r × IsBlame r.trace blame
 IsAnswer r (Unexplained granule words) = IsUnexplained r × IsUnexplainedIn r granule × IfWords words (AreHeld r granule)
-IsAnswer r (Undecided granule states) = Unit {0}
+IsAnswer r (Undecided doubt) = IsDoubt r.trace doubt
 
--- P of how many states of a granule were looked at, where that did not decide it
-abbrev pub IfUndecided : Answer → (ℕ → Type 0) → Type 0
+-- P of what is said of a granule that was not decided
+abbrev pub IfUndecided : Answer → (Doubt → Type 0) → Type 0
 IfUndecided (Explained order) P = Unit {0}
 IfUndecided (Blamed blame) P = Unit {0}
 IfUndecided (Unexplained granule words) P = Unit {0}
-IfUndecided (Undecided granule states) P = P states
+IfUndecided (Undecided doubt) P = P doubt
 
 -- so many states were looked at on the way to the answer: no fewer than it says where it was not found
 pub record LookedForAnswer {P : Type 0} (looked : P → ℕ → Type 0) (old new : P) (answer : Answer) : Type 0 where
   pub count : ℕ
   pub more : LookedMore looked old new count
-  pub undecided : IfUndecided answer (λ states. states ≤ count)
+  pub undecided : IfUndecided answer (λ doubt. doubt.states ≤ count)

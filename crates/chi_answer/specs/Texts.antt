@@ -7,7 +7,8 @@ use Rattle.chi_verdict.specs.Words.{told}
 use Rattle.chi_reading.specs.TraceText.{RecordedValue}
 use Rattle.chi_answer.specs.declared.answer.Answer.{Answer}
 use Rattle.chi_answer.specs.declared.answer.Answer.TheVariants.{Explained, Blamed, Unexplained, Undecided}
-use Rattle.chi_answer.specs.Lines.{blamed_at, end_line, explained_line, granule_line, open_at, undecided_line, word_lines}
+use Rattle.chi_answer.specs.DoubtLines.{doubt_text}
+use Rattle.chi_answer.specs.Lines.{blamed_at, end_line, explained_line, granule_line, open_at, word_lines}
 use Rattle.chi_answer.specs.Witnesses.{IsWitness}
 
 -- words that a granule can hold, where they were found
@@ -38,4 +39,4 @@ IsText false r (Explained order) text = text ≡ codes "explained\n"
 IsText true r (Explained order) text = (witness : List ℕ) × IsWitness r order.items witness × (text ≡ codes "explained\n" ++ witness)
 IsText witness r (Blamed blame) text = text ≡ blame_text r blame
 IsText witness r (Unexplained granule words) text = text ≡ granule_line granule ++ end_text (told r.finals granule) words
-IsText witness r (Undecided granule states) text = text ≡ undecided_line granule states
+IsText witness r (Undecided doubt) text = text ≡ doubt_text doubt

@@ -1,9 +1,11 @@
 //! What is answered of a trace.
 
 ghost use Rattle.std.specs.Prelude.{◌≡◌, ℕ, IfOk};
+ghost use Rattle.chi_doubt.specs.Doubts.{IsAsFar};
 ghost use Rattle.chi_search.specs.Looks.{LookedMore};
 ghost use Rattle.chi_answer.specs.Answers.{IfUndecided, IsAnswer, IsUnexplained, IsUnexplainedIn, LookedForAnswer};
 
+use chi_doubt::{Doubt, doubt_of};
 use chi_reading::Recorded;
 use chi_search::{Progress, Words};
 use chi_verdict::{Blame, First, Verdict, explain, first_unexplained, words_held};
@@ -15,13 +17,13 @@ use std::alloc::{AllocError, Global};
 /// - `Blamed`: they cannot be explained, and where they stop being explainable.
 /// - `Unexplained`: those of a granule cannot be explained. The words are those with which they could be, where only the word
 ///   at the end is wrong and they were found.
-/// - `Undecided`: neither was found; of this granule so many states were looked at, which is the whole budget.
+/// - `Undecided`: neither was found of a granule, and what is said of it.
 #[derive(Debug, Drop)]
 pub enum Answer {
     Explained { order: Vec<usize> },
     Blamed(Blame),
     Unexplained { granule: u64, words: Words },
-    Undecided { granule: u64, states: u64 },
+    Undecided(Doubt),
 }
 
 /// The answer of a trace that no order explains, not even the operations of this granule.
@@ -35,7 +37,7 @@ fn unexplained<P: Progress>(
     requires trace { IsUnexplained recorded.now }
     requires granule { IsUnexplainedIn recorded.now granule }
     ensures right { IfOk result (IsAnswer recorded.now) }
-    ensures decided { IfOk result (λ answer. IfUndecided answer (λ states. ⊥)) }
+    ensures decided { IfOk result (λ answer. IfUndecided answer (λ doubt. ⊥)) }
     ensures looked { IfOk result (λ _. (k : ℕ) × LookedMore P.looked progress.old progress.new k) }
 {
     let trace = recorded.trace();
@@ -45,6 +47,23 @@ fn unexplained<P: Progress>(
     let mut left = budget;
     let words = words_held(alloc, trace, granule, &mut left, progress)?;
     Ok(Answer::Unexplained { granule, words })
+}
+
+/// The answer of a trace that was not decided within so many states of this granule.
+fn undecided<P: Progress>(
+    alloc: Global,
+    recorded: &Recorded,
+    granule: u64,
+    budget: u64,
+    progress: &mut P,
+) -> Result<Answer, AllocError>
+    ensures right { IfOk result (IsAnswer recorded.now) }
+    ensures undecided { IfOk result (λ answer. IfUndecided answer (λ doubt. doubt.states ≡ budget)) }
+    ensures far { IfOk result (λ answer. IfUndecided answer (IsAsFar P.looked progress.old progress.new budget recorded.now.trace)) }
+    ensures looked { IfOk result (λ _. (k : ℕ) × LookedMore P.looked progress.old progress.new k) }
+{
+    let doubt = doubt_of(alloc, recorded.trace(), granule, budget, progress)?;
+    Ok(Answer::Undecided(doubt))
 }
 
 /// Whether the trace can be explained, and what can be said of it, looking at no more than `budget` states of each granule at
@@ -60,12 +79,15 @@ pub fn answer_of<P: Progress>(
     progress: &mut P,
 ) -> Result<Answer, AllocError>
     ensures right { IfOk result (IsAnswer recorded.now) }
-    ensures undecided { IfOk result (λ answer. IfUndecided answer (λ states. states ≡ budget)) }
+    ensures undecided { IfOk result (λ answer. IfUndecided answer (λ doubt. doubt.states ≡ budget)) }
+    ensures far { IfOk result (λ answer. IfUndecided answer (IsAsFar P.looked progress.old progress.new budget recorded.now.trace)) }
     ensures spent { IfOk result (LookedForAnswer P.looked progress.old progress.new) }
 {
     match explain(alloc, recorded.trace(), recorded.finals(), budget, progress)? {
         Verdict::Explained(order) => Ok(Answer::Explained { order }),
         Verdict::Unexplained { granule } => unexplained(alloc, recorded, granule, budget, progress),
-        Verdict::Undecided { granule, states } => Ok(Answer::Undecided { granule, states }),
+        Verdict::Undecided { granule, states: _ } => undecided(
+            alloc, recorded, granule, budget, progress,
+        ),
     }
 }

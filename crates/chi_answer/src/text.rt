@@ -7,7 +7,8 @@ ghost use Rattle.chi_answer.specs.Texts.{IsText, blame_text, end_text, found_wor
 
 use crate::answer::Answer;
 use crate::blame_lines::{add_blamed_at, add_end, add_explained, add_overlapping};
-use crate::lines::{add_granule, add_undecided, add_words};
+use crate::doubt_lines::add_doubt;
+use crate::lines::{add_granule, add_words};
 use crate::part::{Part, add_parts};
 use crate::witness::add_witness;
 use chi_reading::Recorded;
@@ -25,8 +26,13 @@ fn add_found(to: &mut Vec<u8>, words: &Words) -> Result<(), AllocError>
     }
 }
 
-/// What is said of where a trace stops being explained.
-fn add_blame(to: &mut Vec<u8>, recorded: &Recorded, blame: &Blame) -> Result<(), AllocError>
+/// Adds what is said of where a trace stops being explained: its granule, the operation that was answered then, the words that
+/// the granule can hold, the operations that were open, and up to when it is explained.
+///
+/// ```
+/// add_blame(&mut text, &recorded, &blame)?; // not explained: granule 0000000000001008
+/// ```
+pub fn add_blame(to: &mut Vec<u8>, recorded: &Recorded, blame: &Blame) -> Result<(), AllocError>
     requires { IsBlame recorded.now.trace blame.now }
     ensures { OnOk result (to.new.items ≡ to.old.items ++ blame_text recorded.now blame.now) }
 {
@@ -85,7 +91,7 @@ pub fn answer_text(
             add_granule(&mut text, *granule)?;
             add_words_at_end(&mut text, recorded.finals().get(*granule), words)?;
         }
-        Answer::Undecided { granule, states } => add_undecided(&mut text, *granule, *states)?,
+        Answer::Undecided(doubt) => add_doubt(&mut text, doubt)?,
     }
     Ok(text)
 }

@@ -20,6 +20,19 @@ const FINAL_WORD: &str = r#"{"final": [{"addr": 8, "bytes": "0400000000000000"}]
     {"src": 1, "txn": 2, "op": 28, "size": 3, "addr": 8, "endian": 0, "be": 65280,
      "lanes": "00000000000000000600000000000000", "start": 3, "end": 4, "reply": "comp"}]}"#;
 
+// Four writes of a granule, of which the third starts as the first ends, and one beside them of the granule after it.
+const FOUR_WRITES: &str = r#"{"requests": [
+    {"src": 1, "txn": 1, "op": 28, "size": 3, "addr": 8, "endian": 0, "be": 65280,
+     "lanes": "00000000000000000100000000000000", "start": 10, "end": 20, "reply": "comp"},
+    {"src": 2, "txn": 1, "op": 28, "size": 3, "addr": 8, "endian": 0, "be": 65280,
+     "lanes": "00000000000000000200000000000000", "start": 15, "end": 22, "reply": "comp"},
+    {"src": 3, "txn": 1, "op": 28, "size": 3, "addr": 16, "endian": 0, "be": 255,
+     "lanes": "03000000000000000000000000000000", "start": 16, "end": 29, "reply": "comp"},
+    {"src": 4, "txn": 1, "op": 28, "size": 3, "addr": 8, "endian": 0, "be": 65280,
+     "lanes": "00000000000000000400000000000000", "start": 20, "end": 25, "reply": "comp"},
+    {"src": 5, "txn": 1, "op": 28, "size": 3, "addr": 8, "endian": 0, "be": 65280,
+     "lanes": "00000000000000000500000000000000", "start": 26, "end": 40, "reply": "comp"}]}"#;
+
 #[test]
 fn lost_update_beside_an_open_write(rt: HostRuntime) -> Result<(), Fail> {
     let found = text(rt.alloc(), LOST_UPDATE, 1000, false)?;
@@ -52,7 +65,37 @@ fn undecided_within_one_state(rt: HostRuntime) -> Result<(), Fail> {
     assert_same(
         &rt,
         found.as_str(),
-        "undecided: granule 0000000000000008 after 1 states\n",
+        "undecided: granule 0000000000000008 after 1 states
+  operations open at most: 1
+",
+    );
+    Ok(())
+}
+
+#[test]
+fn an_operation_without_an_end_is_open(rt: HostRuntime) -> Result<(), Fail> {
+    let found = text(rt.alloc(), LOST_UPDATE, 2, false)?;
+    assert_same(
+        &rt,
+        found.as_str(),
+        "undecided: granule 0000000000001000 after 2 states
+  explained up to 20
+  operations open at most: 2
+",
+    );
+    Ok(())
+}
+
+#[test]
+fn explained_but_for_the_last_of_four(rt: HostRuntime) -> Result<(), Fail> {
+    let found = text(rt.alloc(), FOUR_WRITES, 4, false)?;
+    assert_same(
+        &rt,
+        found.as_str(),
+        "undecided: granule 0000000000000008 after 4 states
+  explained up to 25
+  operations open at most: 3
+",
     );
     Ok(())
 }

@@ -1,0 +1,56 @@
+//! The lines of a granule that was not decided.
+
+ghost use Rattle.std.specs.Prelude.{◌≡◌, ◌++◌, OnOk};
+ghost use Rattle.chi_answer.specs.DoubtLines.{doubt_text, explained_to_line, found_line, most_open_line};
+
+use crate::lines::add_undecided;
+use crate::part::{Part, add_parts};
+use chi_doubt::Doubt;
+use std::alloc::AllocError;
+
+/// The line of a time up to which the granule's operations are explained.
+fn add_explained_to(to: &mut Vec<u8>, time: u64) -> Result<(), AllocError>
+    ensures { OnOk result (to.new.items ≡ to.old.items ++ explained_to_line time) }
+{
+    add_parts(
+        to,
+        &[
+            Part::Text("  explained up to "),
+            Part::Number(time),
+            Part::Text("\n"),
+        ],
+    )
+}
+
+/// The same, where one was found.
+fn add_found_time(to: &mut Vec<u8>, found: Option<u64>) -> Result<(), AllocError>
+    ensures { OnOk result (to.new.items ≡ to.old.items ++ found_line found) }
+{
+    match found {
+        Some(time) => add_explained_to(to, time),
+        None => Ok(()),
+    }
+}
+
+/// The line of how many of them were open at one time, at most.
+fn add_most_open(to: &mut Vec<u8>, count: usize) -> Result<(), AllocError>
+    ensures { OnOk result (to.new.items ≡ to.old.items ++ most_open_line count) }
+{
+    add_parts(
+        to,
+        &[
+            Part::Text("  operations open at most: "),
+            Part::Number(count as u64),
+            Part::Text("\n"),
+        ],
+    )
+}
+
+/// The lines of a granule that was not decided.
+pub(crate) fn add_doubt(to: &mut Vec<u8>, doubt: &Doubt) -> Result<(), AllocError>
+    ensures { OnOk result (to.new.items ≡ to.old.items ++ doubt_text doubt.now) }
+{
+    add_undecided(to, doubt.granule, doubt.states)?;
+    add_found_time(to, doubt.explained)?;
+    add_most_open(to, doubt.most_open)
+}

@@ -1,0 +1,4 @@
+mod Answering
+mod Counting
+mod Granule
+pub mod Looking

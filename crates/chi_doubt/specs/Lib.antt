@@ -1,0 +1,4 @@
+pub mod Doubts
+pub mod Explained
+pub mod Looks
+pub mod Open

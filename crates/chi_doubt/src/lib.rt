@@ -1,0 +1,10 @@
+//! What is said of a granule that was not decided: how far it is explained, and how crowded it was.
+#![tactic(auto)]
+
+mod doubt;
+mod explained;
+mod known;
+mod open;
+mod own;
+
+pub use doubt::{Doubt, doubt_of};
