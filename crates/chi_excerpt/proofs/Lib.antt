@@ -1,0 +1,4 @@
+mod Enabled
+mod Ended
+pub mod Failures
+mod Latest

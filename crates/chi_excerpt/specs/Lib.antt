@@ -1,0 +1,9 @@
+pub mod Bar
+pub mod Chosen
+pub mod Columns
+pub mod Failures
+pub mod Operands
+pub mod Replies
+pub mod Rows
+pub mod Suspects
+pub mod Texts

@@ -1,0 +1,94 @@
+//! The text of an excerpt, worked by hand.
+
+use crate::comparison::assert_same;
+use chi_excerpt::{Blamed, Excerpt, Row, add_excerpt};
+use chi_lanes::Reply;
+use chi_reading::{Asked, access};
+use chi_trace::Observed;
+use std::alloc::Global;
+use std::test::Fail;
+
+// A request of eight bytes or four, and what was observed of it.
+fn row(number: u64, asked: Asked, start: u64, end: u64, reply: Option<Reply>) -> Option<Row> {
+    let access = access(&asked, &None).ok()?;
+    Some(Row {
+        number,
+        asked,
+        op: Observed {
+            start,
+            end,
+            src: asked.src,
+            access,
+            reply,
+        },
+    })
+}
+
+// An AtomicLoad ADD of 1 to the granule at 0x1008.
+fn addition(src: u16) -> Asked {
+    Asked {
+        src,
+        txn: 1,
+        opcode: 0x30,
+        size: 3,
+        addr: 0x1008,
+        endian: false,
+        be: 0xff00,
+        lanes: [0, 0, 0, 0, 0, 0, 0, 0, 1, 0, 0, 0, 0, 0, 0, 0],
+    }
+}
+
+// A write of three of the four bytes at 0x100c.
+fn writing() -> Asked {
+    Asked {
+        src: 3,
+        txn: 4,
+        opcode: 0x1c,
+        size: 2,
+        addr: 0x100c,
+        endian: false,
+        be: 0xd000,
+        lanes: [0, 0, 0, 0, 0, 0, 0, 0, 0, 0, 0, 0, 7, 8, 9, 0],
+    }
+}
+
+// The first AtomicLoad answers 0, and so does the second, which is blamed: 1 would be legal. The write was open.
+fn lost_addition(alloc: Global) -> Result<Option<Excerpt>, Fail> {
+    let zero = Reply::CompData([0; 16]);
+    let one = Reply::CompData([0, 0, 0, 0, 0, 0, 0, 0, 1, 0, 0, 0, 0, 0, 0, 0]);
+    let (Some(first), Some(second), Some(third)) = (
+        row(0, addition(1), 0, 10, Some(zero)),
+        row(2, addition(2), 30, 40, Some(zero)),
+        row(17, writing(), 35, u64::MAX, None),
+    ) else {
+        return Ok(None);
+    };
+    Ok(Some(Excerpt {
+        before: Vec::from_slice(alloc, &[first])?,
+        blamed: Some(Blamed {
+            row: second,
+            legal: Vec::from_slice(alloc, &[one])?,
+        }),
+        open: Vec::from_slice(alloc, &[third])?,
+    }))
+}
+
+// From 0 to 40 a time t stands in column t * 39 / 40: 0 in 0, 10 in 9, 30 in 29, 35 in 34, 40 in 39.
+const LOST_ADDITION: &str = "  the last operations of the granule, from time 0 to 40:
+    request  0 |==========                              |   0 to 10  AtomicLoad.ADD  +0 L8  sent 0100000000000000  returned 0000000000000000  requester 1 txn 1
+  > request  2 |                             ###########|  30 to 40  AtomicLoad.ADD  +0 L8  sent 0100000000000000  returned 0000000000000000  requester 2 txn 1
+    legal would be:  returned 0100000000000000
+    request 17 |                                  ======|  35 on     WriteNoSnpPtl   +4 L4  sent 07--0900  no reply  requester 3 txn 4
+";
+
+#[test]
+fn a_lost_addition(rt: HostRuntime) -> Result<(), Fail> {
+    let alloc = rt.alloc();
+    let Some(excerpt) = lost_addition(alloc)? else {
+        return Err(Fail::new("a request is refused"));
+    };
+    let mut text = Vec::new(alloc);
+    add_excerpt(alloc, &mut text, "request ", &excerpt, 40)?;
+    assert_same(&rt, text.as_slice(), LOST_ADDITION.as_bytes());
+    Ok(())
+}
