@@ -6,12 +6,13 @@ SOAK := crates/chi_soak/out/chi_soak
 SCRIPT ?= examples/fetch_add.json
 SECONDS ?= 10
 
-.PHONY: help try build checker run soak test edits lib dv install bench bench-c bench-explain corpus
+.PHONY: help try build checker run soak test page-test edits lib dv install bench bench-c bench-explain corpus
 
 help:
 	@echo "make try [SCRIPT=FILE]     build chihome with no proof, and show a script and the transcript of chihome run"
 	@echo "make run [SCRIPT=FILE]     the same, once chihome is proved"
 	@echo "make test                  the gate: every proof from nothing, the edits that must fail, tests, runs and what the documents show"
+	@echo "make page-test [PICTURE=F] the page of a trace, opened in Chromium: its bars, packets, keys and mouse, and how soon it opens"
 	@echo "make edits [CRATES=..]     the edits outside the gate, of some crates or of all: the prover must refuse each"
 	@echo "make checker               chicheck, proved: the program that explains traces"
 	@echo "make soak [SECONDS=N]      four workers race at the lock-free store for so many seconds, 10 if not said, while chicheck watches"
@@ -51,6 +52,12 @@ soak: checker
 test:
 	@.ci/need python3:python3 cc:gcc c++:g++
 	.ci/gate
+
+page-test: checker
+	@.ci/need python3:python3 node:nodejs chromium:chromium
+	.ci/page
+	node --test page
+	page/test --checker $(CHECKER) $(if $(PICTURE),--picture $(PICTURE))
 
 edits:
 	.ci/edits $(CRATES)

@@ -1,0 +1,3 @@
+mod First
+mod Own
+pub mod Shown

@@ -1,0 +1,10 @@
+-- what is found of the first granules
+use Rattle.std.proofs.Common.{◌≡◌, All, map, take}
+use Rattle.chi_granules.specs.Judged.{IsJudged}
+use Rattle.chi_granules.proofs.listing.judged_each.Given as goal
+
+abbrev pub invariant-loop-number : goal.invariant-loop-number
+invariant-loop-number g l = record {
+  judged : All (IsJudged l.recorded) l.drawn.items;
+  granules : map (λ d. d.granule) l.drawn.items ≡ take l.number-index l.numbers;
+}

@@ -1,0 +1,44 @@
+-- what is found of the granules of a trace
+use Rattle.std.specs.Prelude.{◌≡◌, ℕ, ◌==◌, ◌&&◌, nat_lt, List, [], length, slice_index, ◌⊎◌}
+use Rattle.chi_history.specs.History.{one_if}
+use Rattle.chi_trace.specs.Explains.{times_in}
+use Rattle.chi_verdict.specs.declared.first.Blame.{Blame}
+use Rattle.chi_verdict.specs.Traces.{IsExplainedIn}
+use Rattle.chi_reading.specs.TraceText.{RecordedValue}
+use Rattle.chi_excerpt.specs.Failures.{order_in}
+use Rattle.chi_page.specs.declared.drawn.Drawn.{Drawn}
+use Rattle.chi_page.specs.declared.drawn.Finding.{Finding}
+use Rattle.chi_page.specs.declared.drawn.Finding.TheVariants.{Explained, Unexplained, Undecided}
+
+-- the places at which a granule's number stands in a list, each once
+abbrev pub HasEach : List ℕ → ℕ → List ℕ → Type 0
+HasEach granules g places = (i : ℕ) → times_in places i ≡ one_if (nat_lt i (length granules) && (slice_index granules i == g))
+
+-- a granule's operations are explained by this order; or no order explains them; or neither was found
+abbrev pub IsFound : RecordedValue → ℕ → Finding → List ℕ → Type 0
+IsFound r g Explained order = IsExplainedIn r.trace r.finals g order
+IsFound r g Unexplained order = ((other : List ℕ) → IsExplainedIn r.trace r.finals g other → ⊥) × (order ≡ [])
+IsFound r g Undecided order = order ≡ []
+
+-- what is said of the granule holds
+abbrev pub IsJudged : RecordedValue → Drawn → Type 0
+IsJudged r d = IsFound r d.granule d.finding d.order.items
+
+-- it is the granule that is blamed, with what an order up to the time before has of it
+pub record IsBlamed (r : RecordedValue) (blame : Blame) (d : Drawn) : Type 0 where
+  pub granule : d.granule ≡ blame.granule
+  pub finding : d.finding ≡ Unexplained
+  pub order : d.order.items ≡ order_in r blame.granule blame.order.items
+
+-- what is shown of a granule of a trace that stops being explained
+abbrev pub IsShown : RecordedValue → Blame → Drawn → Type 0
+IsShown r blame d = IsBlamed r blame d ⊎ IsJudged r d
+
+-- A, where a granule was not decided
+abbrev pub IfUndecided : Drawn → Type 0 → Type 0
+IfUndecided d A = of_finding d.finding
+  where
+    of_finding : Finding → Type 0
+    of_finding Explained = Unit {0}
+    of_finding Unexplained = Unit {0}
+    of_finding Undecided = A

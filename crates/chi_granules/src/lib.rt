@@ -1,0 +1,12 @@
+//! What is found of each granule of a trace.
+#![tactic(auto)]
+
+mod judge;
+mod listing;
+mod places;
+mod whole;
+
+pub use judge::judged_granule;
+pub use listing::judged_granules;
+pub use places::granules_of;
+pub use whole::{all_granules, granules_around};

@@ -1,0 +1,55 @@
+//! What is found of some granules of a trace.
+
+ghost use Rattle.std.specs.Prelude.{◌≡◌, All, IfOk, map};
+ghost use Rattle.chi_trace.specs.Granules.{granule_of};
+ghost use Rattle.chi_granules.specs.Judged.{IsJudged};
+
+use crate::judge::judged_granule;
+use crate::places::granules_of;
+use chi_page::Drawn;
+use chi_reading::Recorded;
+use chi_search::Progress;
+use std::alloc::{AllocError, Global};
+
+/// What is found of these granules.
+fn judged_each<P: Progress>(
+    alloc: Global,
+    recorded: &Recorded,
+    granules: &[u64],
+    numbers: &[u64],
+    budget: u64,
+    progress: &mut P,
+) -> Result<Vec<Drawn>, AllocError>
+    requires { granules.now ≡ map granule_of recorded.now.trace.operations }
+    ensures judged { IfOk result (λ drawn. All (IsJudged recorded.now) drawn.items) }
+    ensures granules { IfOk result (λ drawn. map (λ d. d.granule) drawn.items ≡ numbers.now) }
+{
+    let mut drawn = Vec::with_capacity(alloc, numbers.len())?;
+    for number in numbers {
+        let mut left = budget;
+        let judged = judged_granule(alloc, recorded, granules, *number, &mut left, progress)?;
+        drawn.push(judged)?;
+    }
+    Ok(drawn)
+}
+
+/// What is found of the granules of these numbers, in this order. No more than `budget` states are looked at of each.
+///
+/// Source: profile.
+///
+/// ```
+/// let drawn = judged_granules(alloc, &recorded, &[0x1000 / 8, 0x1008 / 8], 1_000_000, &mut NoProgress)?;
+/// ```
+pub fn judged_granules<P: Progress>(
+    alloc: Global,
+    recorded: &Recorded,
+    numbers: &[u64],
+    budget: u64,
+    progress: &mut P,
+) -> Result<Vec<Drawn>, AllocError>
+    ensures judged { IfOk result (λ drawn. All (IsJudged recorded.now) drawn.items) }
+    ensures granules { IfOk result (λ drawn. map (λ d. d.granule) drawn.items ≡ numbers.now) }
+{
+    let granules = granules_of(alloc, recorded.trace().operations())?;
+    judged_each(alloc, recorded, &granules, numbers, budget, progress)
+}

@@ -1,0 +1,81 @@
+//! What is found of all granules of a trace.
+
+ghost use Rattle.std.specs.Prelude.{All, IfOk};
+ghost use Rattle.chi_granules.specs.Judged.{IsJudged, IsShown};
+
+use crate::listing::judged_granules;
+use crate::places::granules_of;
+use chi_excerpt::order_in;
+use chi_page::{Drawn, Finding};
+use chi_reading::Recorded;
+use chi_search::NoProgress;
+use chi_verdict::Blame;
+use std::alloc::{AllocError, Global};
+
+/// The numbers of the granules of which there is an operation, or of which a word was observed at the end.
+fn numbers(alloc: Global, recorded: &Recorded) -> Result<Vec<u64>, AllocError> {
+    let mut numbers = granules_of(alloc, recorded.trace().operations())?;
+    for told in recorded.finals().as_slice() {
+        numbers.push(told.granule)?;
+    }
+    numbers.sort()?;
+    numbers.dedup();
+    Ok(numbers)
+}
+
+/// What is found of the granules of a trace, each judged by itself. No more than `budget` states are looked at of each.
+///
+/// Source: profile.
+///
+/// ```
+/// let granules = all_granules(alloc, &recorded, 1_000_000)?;
+/// ```
+pub fn all_granules(
+    alloc: Global,
+    recorded: &Recorded,
+    budget: u64,
+) -> Result<Vec<Drawn>, AllocError>
+    ensures { IfOk result (λ drawn. All (IsJudged recorded.now) drawn.items) }
+{
+    let numbers = numbers(alloc, recorded)?;
+    judged_granules(alloc, recorded, &numbers, budget, &mut NoProgress)
+}
+
+/// These numbers without one.
+fn without(alloc: Global, numbers: &[u64], number: u64) -> Result<Vec<u64>, AllocError> {
+    numbers
+        .iter()
+        .copied()
+        .filter(|other| *other != number)
+        .collect(alloc)
+}
+
+/// The same of a trace that stops being explained. The granule that is blamed stands first, with the order that explains it up
+/// to the time before.
+///
+/// Source: profile.
+///
+/// ```
+/// let granules = granules_around(alloc, &recorded, &blame, 1_000_000)?;
+/// ```
+pub fn granules_around(
+    alloc: Global,
+    recorded: &Recorded,
+    blame: &Blame,
+    budget: u64,
+) -> Result<Vec<Drawn>, AllocError>
+    ensures { IfOk result (λ drawn. All (IsShown recorded.now blame.now) drawn.items) }
+{
+    let others = without(alloc, &numbers(alloc, recorded)?, blame.granule)?;
+    let mut drawn = judged_granules(alloc, recorded, &others, budget, &mut NoProgress)?;
+    let order = order_in(alloc, recorded, blame.granule, &blame.order)?;
+    drawn.insert(
+        0,
+        Drawn {
+            granule: blame.granule,
+            finding: Finding::Unexplained,
+            order,
+        },
+    )?;
+    Ok(drawn)
+}

@@ -1,0 +1,96 @@
+-- the granules of a trace as JSON: what is said of each, and the words before and after each operation of the order found
+use Rattle.std.specs.Prelude.{ℕ, ◌+◌, ◌<◌, ◌*◌, ◌^◌, ◌%◌, List, [], ◌++◌, codes, decimal, length, slice_get, slice_index, take, All, Option, None, Some}
+use Rattle.chi_search.specs.declared.words.Words.{Words}
+use Rattle.chi_search.specs.declared.words.Words.TheVariants.{Each, Unknown}
+use Rattle.chi_script.specs.Transcript.{address_text, word_text}
+use Rattle.chi_trace.specs.declared.observed.Observed.{Observed}
+use Rattle.chi_trace.specs.Granules.{last_word}
+use Rattle.chi_verdict.specs.declared.first.Blame.{Blame}
+use Rattle.chi_verdict.specs.Words.{told, word_told}
+use Rattle.chi_reading.specs.TraceText.{RecordedValue}
+use Rattle.chi_page.specs.declared.drawn.Drawn.{Drawn}
+use Rattle.chi_page.specs.declared.drawn.Finding.{Finding}
+use Rattle.chi_page.specs.declared.drawn.Finding.TheVariants.{Explained, Unexplained, Undecided}
+use Rattle.chi_page.specs.Listed.{listed}
+
+-- what was found of a granule
+unfoldable pub finding_json : Finding → List ℕ
+finding_json Explained = codes "\"explained\""
+finding_json Unexplained = codes "\"not explained\""
+finding_json Undecided = codes "\"undecided\""
+
+-- the address of a granule
+unfoldable pub granule_json : ℕ → List ℕ
+granule_json granule = codes "\"" ++ (address_text (granule * 8 % 2 ^ 64) ++ codes "\"")
+
+-- a granule's word, as its eight bytes in address order
+unfoldable pub word_json : ℕ → List ℕ
+word_json word = codes "\"" ++ (word_text word ++ codes "\"")
+
+-- a word, or null where none was told
+unfoldable pub told_json : Option ℕ → List ℕ
+told_json None = codes "null"
+told_json (Some word) = word_json word
+
+-- an operation of an order: its place, and the words before and after it
+unfoldable pub step_json : ℕ → ℕ → ℕ → List ℕ
+step_json place before after =
+    codes "[" ++ (decimal place ++ (codes "," ++ (word_json before ++ (codes "," ++ (word_json after ++ codes "]")))))
+
+-- the one that stands n-th in the order: it finds the word that the n operations before it leave
+abbrev pub step_at : List Observed → ℕ → List ℕ → ℕ → List ℕ
+step_at ops word order n = step_json (slice_index order n) (last_word ops word (take n order)) (last_word ops word (take (n + 1) order))
+
+-- all operations of an order, from a word on
+unfoldable pub steps_json : List Observed → ℕ → List ℕ → List ℕ
+steps_json ops word order = listed (step_at ops word order) (length order)
+
+-- a granule, what was found of it, and its words at the opening and at the end
+unfoldable pub head_json : ℕ → Finding → ℕ → Option ℕ → List ℕ
+head_json granule finding word last =
+    codes "{\"granule\":" ++ (granule_json granule ++ (codes ",\"finding\":" ++ (finding_json finding ++ (codes ",\"opening\":" ++ (word_json word
+    ++ (codes ",\"final\":" ++ told_json last))))))
+
+-- the same with the order found
+unfoldable pub drawn_json : RecordedValue → Drawn → List ℕ
+drawn_json r d =
+    let word = word_told r.trace.opening d.granule in
+    head_json d.granule d.finding word (told r.finals d.granule)
+    ++ (codes ",\"steps\":[" ++ (steps_json r.trace.operations word d.order.items ++ codes "]}"))
+
+-- the one at a place of a list
+abbrev pub drawn_at : RecordedValue → Option Drawn → List ℕ
+drawn_at r None = []
+drawn_at r (Some d) = drawn_json r d
+
+-- all of them
+unfoldable pub granules_json : RecordedValue → List Drawn → List ℕ
+granules_json r granules = listed (λ n. drawn_at r (slice_get granules n)) (length granules)
+
+-- the places of operations
+unfoldable pub places_json : List ℕ → List ℕ
+places_json places = listed (λ n. decimal (slice_index places n)) (length places)
+
+-- words of a granule
+unfoldable pub each_word_json : List ℕ → List ℕ
+each_word_json words = listed (λ n. word_json (slice_index words n)) (length words)
+
+-- the words that the granule can hold, or null where they were not found
+unfoldable pub words_json : Words → List ℕ
+words_json (Each words) = codes "[" ++ (each_word_json words.items ++ codes "]")
+words_json Unknown = codes "null"
+
+-- where the trace stops being explained
+unfoldable pub blame_json : Blame → List ℕ
+blame_json blame =
+    codes "{\"granule\":" ++ (granule_json blame.granule ++ (codes ",\"time\":\"" ++ (decimal blame.time ++ (codes "\",\"place\":" ++ (decimal blame.op
+    ++ (codes ",\"open\":[" ++ (places_json blame.overlapping.items ++ (codes "],\"words\":" ++ (words_json blame.words ++ codes "}")))))))))
+
+-- the same, or null where it does not
+unfoldable pub blamed_json : Option Blame → List ℕ
+blamed_json None = codes "null"
+blamed_json (Some blame) = blame_json blame
+
+-- each order has places of the trace
+abbrev pub AreOfTrace : RecordedValue → List Drawn → Type 0
+AreOfTrace r granules = All (λ d. All (λ i. i < length r.trace.operations) d.order.items) granules

@@ -1,0 +1,4 @@
+pub mod Granules
+pub mod Listed
+pub mod Operations
+pub mod Pages

@@ -1,0 +1,90 @@
+//! Where a trace stops being explained, as JSON.
+
+ghost use Rattle.std.specs.Prelude.{◌≡◌, ◌++◌, OnOk, decimal};
+ghost use Rattle.std.specs.Option.{option_copied};
+ghost use Rattle.chi_page.specs.Granules.{blame_json, blamed_json, each_word_json, places_json, words_json};
+
+use crate::granule::{add_granule, add_word};
+use crate::listed::add_comma;
+use chi_answer::{Part, add_parts};
+use chi_search::Words;
+use chi_verdict::Blame;
+use std::alloc::AllocError;
+
+/// The place of an operation.
+fn add_place(to: &mut Vec<u8>, place: usize) -> Result<(), AllocError>
+    ensures { OnOk result (to.new.items ≡ to.old.items ++ decimal place) }
+{
+    add_parts(to, &[Part::Number(place as u64)])
+}
+
+/// The places of operations.
+fn add_places(to: &mut Vec<u8>, places: &[usize]) -> Result<(), AllocError>
+    ensures { OnOk result (to.new.items ≡ to.old.items ++ places_json places.now) }
+{
+    for number in 0..places.len() {
+        add_comma(to, number)?;
+        add_place(to, places[number])?;
+    }
+    Ok(())
+}
+
+/// Words of a granule.
+fn add_each_word(to: &mut Vec<u8>, words: &[u64]) -> Result<(), AllocError>
+    ensures { OnOk result (to.new.items ≡ to.old.items ++ each_word_json words.now) }
+{
+    for number in 0..words.len() {
+        add_comma(to, number)?;
+        add_word(to, words[number])?;
+    }
+    Ok(())
+}
+
+/// The words that a granule can hold, or null where they were not found.
+#[tactic(auto, unfolding(crate::specs::Granules::words_json))]
+fn add_words(to: &mut Vec<u8>, words: &Words) -> Result<(), AllocError>
+    ensures { OnOk result (to.new.items ≡ to.old.items ++ words_json words.now) }
+{
+    match words {
+        Words::Each(words) => {
+            add_parts(to, &[Part::Text("[")])?;
+            add_each_word(to, words)?;
+            add_parts(to, &[Part::Text("]")])
+        }
+        Words::Unknown => add_parts(to, &[Part::Text("null")]),
+    }
+}
+
+/// Where a trace stops being explained.
+#[tactic(auto, unfolding(crate::specs::Granules::blame_json))]
+fn add_blame(to: &mut Vec<u8>, blame: &Blame) -> Result<(), AllocError>
+    ensures { OnOk result (to.new.items ≡ to.old.items ++ blame_json blame.now) }
+{
+    add_parts(to, &[Part::Text("{\"granule\":")])?;
+    add_granule(to, blame.granule)?;
+    add_parts(
+        to,
+        &[
+            Part::Text(",\"time\":\""),
+            Part::Number(blame.time),
+            Part::Text("\",\"place\":"),
+            Part::Number(blame.op as u64),
+            Part::Text(",\"open\":["),
+        ],
+    )?;
+    add_places(to, &blame.overlapping)?;
+    add_parts(to, &[Part::Text("],\"words\":")])?;
+    add_words(to, &blame.words)?;
+    add_parts(to, &[Part::Text("}")])
+}
+
+/// The same, or null where it does not.
+#[tactic(auto, unfolding(crate::specs::Granules::blamed_json))]
+pub(crate) fn add_blamed(to: &mut Vec<u8>, blame: Option<&Blame>) -> Result<(), AllocError>
+    ensures { OnOk result (to.new.items ≡ to.old.items ++ blamed_json (option_copied blame.entry)) }
+{
+    match blame {
+        Some(blame) => add_blame(to, blame),
+        None => add_parts(to, &[Part::Text("null")]),
+    }
+}

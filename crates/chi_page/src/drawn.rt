@@ -1,0 +1,46 @@
+//! What is known of a granule that a page shows.
+
+ghost use Rattle.std.specs.Prelude.{◌<◌, ◌↔◌, All, IsTrue, length};
+ghost use Rattle.chi_page.specs.Granules.{AreOfTrace};
+
+use chi_reading::Recorded;
+
+/// What was found of a granule: its operations can be explained, or they cannot, or neither was found.
+///
+/// Source: profile.
+#[derive(Clone, Copy, Debug, PartialEq, Eq)]
+pub enum Finding {
+    Explained,
+    Unexplained,
+    Undecided,
+}
+
+/// A granule, by its number, counted from address 0. `order` has places of the trace: the granule's operations in an order
+/// that explains them, as far as they can be explained.
+///
+/// Source: profile.
+#[derive(Debug, Drop)]
+pub struct Drawn {
+    pub granule: u64,
+    pub finding: Finding,
+    pub order: Vec<usize>,
+}
+
+/// Whether an order has no other places than the first so many.
+fn are_below(order: &[usize], count: usize) -> bool
+    ensures { IsTrue result ↔ All (λ place. place < count) order.now }
+{
+    order.iter().all(|place| *place < count)
+}
+
+/// Whether the order of each granule has no other places than those of the trace.
+///
+/// ```
+/// let is_drawable = are_of_trace(&recorded, &granules);
+/// ```
+pub fn are_of_trace(recorded: &Recorded, granules: &[Drawn]) -> bool
+    ensures { IsTrue result ↔ AreOfTrace recorded.now granules.now }
+{
+    let count = recorded.trace().operations().len();
+    granules.iter().all(|drawn| are_below(&drawn.order, count))
+}

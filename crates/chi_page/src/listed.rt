@@ -1,0 +1,17 @@
+//! Texts one after the other.
+
+ghost use Rattle.std.specs.Prelude.{◌≡◌, ◌++◌, OnOk};
+ghost use Rattle.chi_page.specs.Listed.{comma};
+
+use chi_answer::{Part, add_parts};
+use std::alloc::AllocError;
+
+/// What stands before the text with this number, counted from 0.
+pub(crate) fn add_comma(to: &mut Vec<u8>, number: usize) -> Result<(), AllocError>
+    ensures { OnOk result (to.new.items ≡ to.old.items ++ comma number) }
+{
+    if number == 0 {
+        return Ok(());
+    }
+    add_parts(to, &[Part::Text(",\n")])
+}

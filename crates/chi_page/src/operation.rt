@@ -1,0 +1,171 @@
+//! The operations of a trace as JSON.
+
+ghost use Rattle.std.specs.Prelude.{◌≡◌, ◌<◌, ◌++◌, OnOk, length};
+ghost use Rattle.chi_page.specs.Operations.{end_json, endian_json, header_json, observed_json, operation_at, operation_json, operations_json, packet_json, reply_json, request_json};
+
+use crate::listed::add_comma;
+use chi_answer::{Part, add_parts};
+use chi_fields::op_name;
+use chi_lanes::Reply;
+use chi_reading::{Asked, Recorded};
+use chi_trace::Observed;
+use std::alloc::AllocError;
+
+/// Whose a request is, its opcode, size and address.
+#[tactic(auto, unfolding(crate::specs::Operations::header_json))]
+fn add_header(to: &mut Vec<u8>, asked: &Asked) -> Result<(), AllocError>
+    ensures { OnOk result (to.new.items ≡ to.old.items ++ header_json asked.now) }
+{
+    add_parts(
+        to,
+        &[
+            Part::Number(u64::from(asked.src)),
+            Part::Text(","),
+            Part::Number(u64::from(asked.txn)),
+            Part::Text(","),
+            Part::Number(u64::from(asked.opcode)),
+            Part::Text(",\""),
+            Part::Text(op_name(asked.opcode)),
+            Part::Text("\","),
+            Part::Number(u64::from(asked.size)),
+            Part::Text(",\""),
+            Part::Address(asked.addr),
+            Part::Text("\""),
+        ],
+    )
+}
+
+/// The order of the bytes.
+#[tactic(auto, unfolding(crate::specs::Operations::endian_json))]
+fn add_endian(to: &mut Vec<u8>, endian: bool) -> Result<(), AllocError>
+    ensures { OnOk result (to.new.items ≡ to.old.items ++ endian_json endian) }
+{
+    if endian {
+        add_parts(to, &[Part::Text("1")])
+    } else {
+        add_parts(to, &[Part::Text("0")])
+    }
+}
+
+/// The data packet.
+#[tactic(auto, unfolding(crate::specs::Operations::packet_json))]
+fn add_packet(to: &mut Vec<u8>, asked: &Asked) -> Result<(), AllocError>
+    ensures { OnOk result (to.new.items ≡ to.old.items ++ packet_json asked.now) }
+{
+    add_parts(
+        to,
+        &[
+            Part::Text(","),
+            Part::Number(u64::from(asked.be)),
+            Part::Text(",\""),
+            Part::Packet(asked.lanes),
+            Part::Text("\""),
+        ],
+    )
+}
+
+/// A request.
+#[tactic(auto, unfolding(crate::specs::Operations::request_json))]
+fn add_request(to: &mut Vec<u8>, asked: &Asked) -> Result<(), AllocError>
+    ensures { OnOk result (to.new.items ≡ to.old.items ++ request_json asked.now) }
+{
+    add_header(to, asked)?;
+    add_parts(to, &[Part::Text(",")])?;
+    add_endian(to, asked.endian)?;
+    add_packet(to, asked)
+}
+
+/// An end, or null where there was none.
+#[tactic(auto, unfolding(crate::specs::Operations::end_json))]
+fn add_end(to: &mut Vec<u8>, end: u64) -> Result<(), AllocError>
+    ensures { OnOk result (to.new.items ≡ to.old.items ++ end_json end) }
+{
+    if end == u64::MAX {
+        add_parts(to, &[Part::Text("null")])
+    } else {
+        add_parts(to, &[Part::Text("\""), Part::Number(end), Part::Text("\"")])
+    }
+}
+
+/// A reply, or null where none was seen.
+#[tactic(auto, unfolding(crate::specs::Operations::reply_json))]
+fn add_reply(to: &mut Vec<u8>, reply: Option<Reply>) -> Result<(), AllocError>
+    ensures { OnOk result (to.new.items ≡ to.old.items ++ reply_json reply) }
+{
+    match reply {
+        None => add_parts(to, &[Part::Text("null")]),
+        Some(Reply::Comp) => add_parts(to, &[Part::Text("\"comp\"")]),
+        Some(Reply::CompData(lanes)) => {
+            add_parts(
+                to,
+                &[Part::Text("\""), Part::Packet(lanes), Part::Text("\"")],
+            )
+        }
+    }
+}
+
+/// How long the operand is, and when the operation was under way.
+#[tactic(auto, unfolding(crate::specs::Operations::observed_json))]
+fn add_observed(to: &mut Vec<u8>, op: &Observed) -> Result<(), AllocError>
+    ensures { OnOk result (to.new.items ≡ to.old.items ++ observed_json op.now) }
+{
+    add_parts(
+        to,
+        &[
+            Part::Text(","),
+            Part::Number(op.access.len() as u64),
+            Part::Text(",\""),
+            Part::Number(op.start),
+            Part::Text("\","),
+        ],
+    )?;
+    add_end(to, op.end)?;
+    add_parts(to, &[Part::Text(",")])?;
+    add_reply(to, op.reply)
+}
+
+/// An operation, with the number of its request in the text.
+#[tactic(auto, unfolding(crate::specs::Operations::operation_json))]
+fn add_operation(
+    to: &mut Vec<u8>,
+    number: usize,
+    asked: &Asked,
+    op: &Observed,
+) -> Result<(), AllocError>
+    ensures { OnOk result (to.new.items ≡ to.old.items ++ operation_json number asked.now op.now) }
+{
+    add_parts(
+        to,
+        &[
+            Part::Text("["),
+            Part::Number(number as u64),
+            Part::Text(","),
+        ],
+    )?;
+    add_request(to, asked)?;
+    add_observed(to, op)?;
+    add_parts(to, &[Part::Text("]")])
+}
+
+/// The operation at a place of the trace.
+fn add_operation_at(to: &mut Vec<u8>, recorded: &Recorded, at: usize) -> Result<(), AllocError>
+    requires { at < length recorded.now.trace.operations }
+    ensures { OnOk result (to.new.items ≡ to.old.items ++ operation_at recorded.now at) }
+{
+    let number = recorded.places()[at];
+    let asked = &recorded.requests()[at];
+    let op = &recorded.trace().operations()[at];
+    add_operation(to, number, asked, op)
+}
+
+/// All operations, in the order of their starts.
+pub(crate) fn add_operations(to: &mut Vec<u8>, recorded: &Recorded) -> Result<(), AllocError>
+    ensures { OnOk result (to.new.items ≡ to.old.items ++ operations_json recorded.now) }
+{
+    let requests = recorded.requests();
+    for at in 0..requests.len() {
+        add_comma(to, at)?;
+        add_operation_at(to, recorded, at)?;
+    }
+    Ok(())
+}

@@ -1,0 +1,7 @@
+//! Tests of the page of a trace.
+#![tactic(auto)]
+
+#[cfg(test)]
+mod comparison;
+#[cfg(test)]
+mod page_tests;
