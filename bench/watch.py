@@ -78,7 +78,7 @@ def stop_of(lines):
 
 def is_same_stop(answer, granule, lines):
     """Whether explain says of the granule by itself what watch said of it."""
-    first, *found = answer[1].splitlines()
+    first, *found = answer[1].split("  the last operations of the granule")[0].splitlines()
     return answer[0] == 1 and first == f"not explained: granule {granule:016x}" and is_same(stop_of(found), stop_of(lines))
 
 

@@ -15,7 +15,7 @@ use Rattle.clap.specs.declared.parser.matches.SubCommand.{SubCommand}
 use Rattle.clap.specs.declared.parser.matches.ArgMatches.{ArgMatches}
 use Rattle.clap.specs.declared.parser.matches.ArgMatches.TheViews.{out-ArgMatches, out-SubCommand}
 use Rattle.clap.proofs.WalkLemmas.{both, first_value-rows, one_text-rows}
-use Rattle.chi_check.specs.Chosen.{Finds, IsNumberOrMillion, IsNumberOrNone, has_word}
+use Rattle.chi_check.specs.Chosen.{Finds, IsNumberOr, IsNumberOrNone, has_word}
 use Rattle.chi_check.specs.CommandLine.{program_app}
 
 -- the value of an option is looked at, or there is none
@@ -29,19 +29,19 @@ no_word_found found option word is = ap (λ value. option_map_or (λ t. bytes_eq
 abbrev ReadsNumber : Text → Result ℕ ParseIntError → Type 0
 ReadsNumber text r = ParsesUnsigned 64 10 text r × ExplainsUnsignedError 10 text r × HasUnsignedDigitsIfOk text r
 
--- the number of an option, or 1,000,000 where it has none
-pub number_found : (found : Found) (option : Text) (number : Option ℕ) → (one_text found option ≡ None → number ≡ None)
+-- the number of an option, or another where it has none
+pub number_found : (other : ℕ) (found : Found) (option : Text) (number : Option ℕ) → (one_text found option ≡ None → number ≡ None)
     → ((text : Text) → one_text found option ≡ Some text → ReadsOne ReadsNumber text number)
-    → IsNumberOrMillion (one_of option (rows_of found)) (unwrap_or number 1000000)
-number_found found option number none value =
-    subst (λ text. IsNumberOrMillion text (unwrap_or number 1000000)) (one_text-rows found option) (go (one_text found option) refl)
+    → IsNumberOr other (one_of option (rows_of found)) (unwrap_or number other)
+number_found other found option number none value =
+    subst (λ text. IsNumberOr other text (unwrap_or number other)) (one_text-rows found option) (go (one_text found option) refl)
   where
-    read : (text : Text) (n : Option ℕ) → ReadsOne ReadsNumber text n → IsNumberOrMillion (Some text) (unwrap_or n 1000000)
+    read : (text : Text) (n : Option ℕ) → ReadsOne ReadsNumber text n → IsNumberOr other (Some text) (unwrap_or n other)
     read text (Some n) h = (Ok n, h.0, refl)
     read text None h = (Err tt, h.1.0, refl)
 
-    go : (o : Option Text) → one_text found option ≡ o → IsNumberOrMillion o (unwrap_or number 1000000)
-    go None is = ap (λ n. unwrap_or n 1000000) (none is)
+    go : (o : Option Text) → one_text found option ≡ o → IsNumberOr other o (unwrap_or number other)
+    go None is = ap (λ n. unwrap_or n other) (none is)
     go (Some text) is = read text number (value text is)
 
 -- the same, or none

@@ -6,11 +6,14 @@ use Rattle.chi_search.specs.Looks.{LookedMore}
 use Rattle.chi_reading.specs.declared.fault.TraceFault.TheVariants as trace_fault
 use Rattle.chi_reading.specs.TraceText.{IsOf, RecordedValue, TextValue, cut_at, trace_text}
 use Rattle.chi_answer.specs.declared.answer.Answer.{Answer}
+use Rattle.chi_answer.specs.declared.answer.Answer.TheVariants.{Explained, Blamed, Unexplained, Undecided}
 use Rattle.chi_answer.specs.Answers.{IfUndecided, IsAnswer}
 use Rattle.chi_answer.specs.Texts.{IsText}
+use Rattle.chi_excerpt.specs.declared.failure.Failure.{Failure}
+use Rattle.chi_excerpt.specs.Failures.{IsFailure, IsFailureText}
 use Rattle.chi_check.specs.CheckStatus.{answer_status}
 use Rattle.chi_check.specs.declared.fault.CheckFault.{CheckFault}
-use Rattle.chi_check.specs.declared.fault.CheckFault.TheVariants.{Read, TooLong, Memory, Trace, Events, Write}
+use Rattle.chi_check.specs.declared.fault.CheckFault.TheVariants.{Read, TooLong, Memory, Trace, Events, Page, Write}
 use Rattle.chi_check.specs.declared.options.CheckOptions.{CheckOptions}
 
 -- the greatest number of bytes of a trace
@@ -22,11 +25,24 @@ abbrev pub judged : Option ℕ → RecordedValue → RecordedValue
 judged None r = r
 judged (Some time) r = cut_at time r
 
--- the answer is a right one of the trace, undecided only where it names the budget, and this is its text
+-- What is written of an answer: its text; and where the trace stops being explained, the operations of the granule around the one
+-- that is blamed too.
+abbrev pub IsWritten : CheckOptions → RecordedValue → Answer → List ℕ → Type 0
+IsWritten options r (Explained order) text = IsText options.witness r (Explained order) text
+IsWritten options r (Blamed blame) text =
+    (failure : Failure) × IsFailure r failure × (failure.blame ≡ blame) × IsFailureText r options.around failure text
+IsWritten options r (Unexplained granule words) text = IsText options.witness r (Unexplained granule words) text
+IsWritten options r (Undecided doubt) text = IsText options.witness r (Undecided doubt) text
+
+-- the answer is a right one of the trace, undecided only where it names the budget, and this is what is written of it
 pub record IsRight (options : CheckOptions) (r : RecordedValue) (answer : Answer) (text : List ℕ) : Type 0 where
-  pub right : IsAnswer (judged options.until r) answer
-  pub undecided : IfUndecided answer (λ states. states ≡ options.budget)
-  pub text_is : IsText options.witness (judged options.until r) answer text
+  pub right : IsAnswer r answer
+  pub undecided : IfUndecided answer (λ doubt. doubt.states ≡ options.budget)
+  pub text_is : IsWritten options r answer text
+
+-- some answer is right, and this is its status and what is written of it
+abbrev pub IsRightOf : CheckOptions → RecordedValue → ℕ → List ℕ → Type 0
+IsRightOf options r status text = (answer : Answer) × IsRight options r answer text × (status ≡ answer_status answer)
 
 -- the input is a trace, this is a right answer of it, and this its text
 pub record Answers (options : CheckOptions) (input : List ℕ) (answer : Answer) (text : List ℕ) : Type 0 where
@@ -35,7 +51,7 @@ pub record Answers (options : CheckOptions) (input : List ℕ) (answer : Answer)
   pub read : trace_text input ≡ Ok value
   pub recorded : RecordedValue
   pub is : IsOf value recorded
-  pub right : IsRight options recorded answer text
+  pub right : IsRight options (judged options.until recorded) answer text
 
 -- After Ok the text of a right answer of the input's trace was written, and this is its status. What each fault means,
 -- and what was written then: nothing but where the writer failed.
@@ -46,6 +62,7 @@ Outcome options input old new (Err TooLong) = most_bytes < length input
 Outcome options input old new (Err Memory) = Unit {0}
 Outcome options input old new (Err (Trace fault)) = fault ≢ trace_fault.Memory → trace_text input ≡ Err fault
 Outcome options input old new (Err (Events fault)) = ⊥
+Outcome options input old new (Err Page) = Unit {0}
 Outcome options input old new (Err (Write fault)) = (answer : Answer) × (text : List ℕ) × Answers options input answer text × AppendsFront old new text
 
 -- nothing is written where no answer was found
@@ -63,7 +80,7 @@ IsReadFault input fault = ⊥
 
 -- the status and the text are those of a right answer of the trace
 abbrev pub IsAnswered : CheckOptions → RecordedValue → ℕ → List ℕ → Type 0
-IsAnswered options r status text = (answer : Answer) × IsRight options r answer text × (status ≡ answer_status answer)
+IsAnswered options r status text = IsRightOf options (judged options.until r) status text
 
 -- so many states were looked at on the way to the status: no fewer than the budget where it is that of an undecided trace
 pub record LookedForStatus {P : Type 0} (looked : P → ℕ → Type 0) (old new : P) (budget status : ℕ) : Type 0 where

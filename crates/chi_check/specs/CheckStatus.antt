@@ -10,7 +10,7 @@ use Rattle.chi_reading.specs.declared.fault.TraceFault.TheVariants as trace_faul
 use Rattle.chi_watch_text.specs.declared.fault.LinesFault.{LinesFault}
 use Rattle.chi_watch_text.specs.declared.fault.LinesFault.TheVariants as lines_fault
 use Rattle.chi_check.specs.declared.fault.CheckFault.{CheckFault}
-use Rattle.chi_check.specs.declared.fault.CheckFault.TheVariants.{Read, TooLong, Memory, Trace, Events, Write}
+use Rattle.chi_check.specs.declared.fault.CheckFault.TheVariants.{Read, TooLong, Memory, Trace, Events, Page, Write}
 
 -- a trace that is refused, or for which there is no memory
 abbrev pub trace_status : TraceFault → ℕ
@@ -30,6 +30,7 @@ status_of TooLong = 3
 status_of Memory = 4
 status_of (Trace fault) = trace_status fault
 status_of (Events fault) = lines_status fault
+status_of Page = 5
 status_of (Write fault) = 5
 
 -- 0 where the trace is explained, 1 where it is not, 6 where that is undecided
@@ -37,7 +38,7 @@ abbrev pub answer_status : Answer → ℕ
 answer_status (Explained order) = 0
 answer_status (Blamed blame) = 1
 answer_status (Unexplained granule words) = 1
-answer_status (Undecided granule states) = 6
+answer_status (Undecided doubt) = 6
 
 -- the status of an answer
 abbrev pub IsAnswerStatus : ℕ → Type 0

@@ -1,6 +1,6 @@
 -- which task the arguments name, and with which options
 use Rattle.std.specs.Prelude.{◌≡◌, ℕ, Bool, true, false, ◌∷◌, List, Option, Some, None, Result, codes}
-use Rattle.std.specs.Option.{option_map_or}
+use Rattle.std.specs.Option.{option_map, option_map_or}
 use Rattle.std.specs.Result.{result_ok, result_unwrap_or}
 use Rattle.std.specs.Str.{bytes_eq}
 use Rattle.std.specs.Str.Parse.{ParsesUnsigned}
@@ -14,14 +14,18 @@ use Rattle.chi_check.specs.CommandLine.{program_app}
 abbrev pub has_word : List Row → Text → Text → Bool
 has_word found option word = option_map_or (λ text. bytes_eq text word) (first_of option found) false
 
--- the number that a text is, and 1,000,000 where there is none below 2^64
-abbrev pub IsNumberOrMillion : Option Text → ℕ → Type 0
-IsNumberOrMillion None budget = budget ≡ 1000000
-IsNumberOrMillion (Some text) budget = (read : Result ℕ (Unit {0})) × ParsesUnsigned 64 10 text read × (budget ≡ result_unwrap_or read 1000000)
+-- the number that a text is, and another where there is none below 2^64
+abbrev pub IsNumberOr : ℕ → Option Text → ℕ → Type 0
+IsNumberOr other None number = number ≡ other
+IsNumberOr other (Some text) number = (read : Result ℕ (Unit {0})) × ParsesUnsigned 64 10 text read × (number ≡ result_unwrap_or read other)
 
--- the number after `--budget`
+-- the number after `--budget`, or 1,000,000
 abbrev pub IsBudget : List Row → ℕ → Type 0
-IsBudget found budget = IsNumberOrMillion (one_of (codes "budget") found) budget
+IsBudget found budget = IsNumberOr 1000000 (one_of (codes "budget") found) budget
+
+-- the number after `--around`, or 16
+abbrev pub IsAround : List Row → ℕ → Type 0
+IsAround found around = IsNumberOr 16 (one_of (codes "around") found) around
 
 -- the number that a text is, where there is one below 2^64
 abbrev pub IsNumberOrNone : Option Text → Option ℕ → Type 0
@@ -45,6 +49,7 @@ IsNamed name (Watch options) = bytes_eq name (codes "watch") ≡ true
 abbrev pub HasOptions : List Row → Task → Type 0
 HasOptions found (Explain options) =
     (options.witness ≡ has_word found (codes "witness") (codes "true")) × IsBudget found options.budget × IsUntil found options.until
+    × IsAround found options.around × (option_map (λ s. s.now) options.html ≡ first_of (codes "html") found)
 HasOptions found (Watch options) = (options.keep_going ≡ has_word found (codes "keep-going") (codes "true")) × IsBudget found options.budget
 
 -- the arguments name this task with these options: those of what `clap` finds in them

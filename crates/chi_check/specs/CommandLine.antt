@@ -26,9 +26,19 @@ is_word = value_parser.Unsigned 0 (2 ^ 64 - 1)
 abbrev pub budget_rule : Rule
 budget_rule = option_rule (codes "budget") is_word (codes "1000000" ∷ [])
 
--- the task `explain`: its witness may be asked for, its time is a whole number below 2^64, and it has a budget
+-- how many operations are shown is a whole number below 2^64, and 16 by default
+abbrev pub around_rule : Rule
+around_rule = option_rule (codes "around") is_word (codes "16" ∷ [])
+
+-- the file of a page is any text
+abbrev pub html_rule : Rule
+html_rule = record (new_rule (codes "html")) { long = Some (codes "html"); value_names = 1 }
+
+-- the task `explain`: its witness may be asked for, its time and how many operations are shown are whole numbers below 2^64, and
+-- it has a file and a budget
 abbrev pub explain_app : App
-explain_app = with_rule (with_rule (with_rule (new_app (codes "explain")) (switch_rule (codes "witness"))) (option_rule (codes "until") is_word [])) budget_rule
+explain_app =
+    with_rule (with_rule (with_rule (with_rule (with_rule (new_app (codes "explain")) (switch_rule (codes "witness"))) (option_rule (codes "until") is_word [])) around_rule) html_rule) budget_rule
 
 -- the task `watch`: it has a budget, and may be asked to keep going
 abbrev pub watch_app : App

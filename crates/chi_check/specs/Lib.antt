@@ -2,5 +2,6 @@ pub mod Check
 pub mod CheckStatus
 pub mod Chosen
 pub mod CommandLine
+pub mod Pages
 pub mod ProgramOutcome
 pub mod Watch

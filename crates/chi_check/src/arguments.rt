@@ -9,6 +9,7 @@ ghost use Rattle.chi_check.specs.ProgramOutcome.{Ends, ProgramOutcome, TaskOutco
 use crate::check::check;
 use crate::command::{Task, task_of};
 use crate::fault::{CheckFault, status_of};
+use crate::pages::Pages;
 use crate::progress_line::ShownProgress;
 use crate::watch::watch;
 use chi_script::WriteFault;
@@ -21,36 +22,38 @@ use std::io::{Read, Write};
 pub(crate) const REFUSED: u8 = 2;
 
 // Does a task with its input.
-fn do_task<R: Read, W: Write, P: ShownProgress>(
+fn do_task<R: Read, W: Write, P: ShownProgress, G: Pages>(
     alloc: Global,
-    task: &Task,
+    task: &Task<'_>,
     from: &mut R,
     to: &mut W,
     progress: &mut P,
+    pages: &mut G,
 ) -> Result<u8, CheckFault>
     ensures outcome { IfSome (R.remaining from.old) (λ input. TaskOutcome task.now input (W.contents to.old) (W.contents to.new) result) }
     ensures unanswered { KeepsUnanswered (W.contents to.old) (W.contents to.new) result }
     ensures status { IfOk result IsAnswerStatus }
 {
     match task {
-        Task::Explain(options) => check(alloc, from, to, options, progress),
+        Task::Explain(options) => check(alloc, from, to, options, progress, pages),
         Task::Watch(options) => watch(alloc, from, to, options, progress),
     }
 }
 
 // Does a task with its input, and flushes what was written. A fault of the flush is one of the writer.
-fn run_task<R: Read, W: Write, P: ShownProgress>(
+fn run_task<R: Read, W: Write, P: ShownProgress, G: Pages>(
     alloc: Global,
-    task: &Task,
+    task: &Task<'_>,
     from: &mut R,
     to: &mut W,
     progress: &mut P,
+    pages: &mut G,
 ) -> Result<u8, CheckFault>
     ensures outcome { IfSome (R.remaining from.old) (λ input. TaskOutcome task.now input (W.contents to.old) (W.contents to.new) result) }
     ensures unanswered { KeepsUnanswered (W.contents to.old) (W.contents to.new) result }
     ensures status { IfOk result IsAnswerStatus }
 {
-    let status = do_task(alloc, task, from, to, progress)?;
+    let status = do_task(alloc, task, from, to, progress, pages)?;
     match to.flush() {
         Ok(()) => Ok(status),
         Err(_) => Err(CheckFault::Write(WriteFault::Failed)),
@@ -66,18 +69,19 @@ pub(crate) fn report_fault<E: Write>(fault: &CheckFault, errors: &mut E) -> u8
 }
 
 // Does a task with its input, and reports its fault.
-fn end_task<R: Read, W: Write, E: Write, P: ShownProgress>(
+fn end_task<R: Read, W: Write, E: Write, P: ShownProgress, G: Pages>(
     alloc: Global,
-    task: &Task,
+    task: &Task<'_>,
     from: &mut R,
     to: &mut W,
     errors: &mut E,
     progress: &mut P,
+    pages: &mut G,
 ) -> u8
     ensures ends { Ends task.now (R.remaining from.old) (W.contents to.old) (W.contents to.new) result }
     ensures status { IsStatus result }
 {
-    match run_task(alloc, task, from, to, progress) {
+    match run_task(alloc, task, from, to, progress, pages) {
         Ok(status) => status,
         Err(fault) => report_fault(&fault, errors),
     }
@@ -102,25 +106,26 @@ fn report_arguments<W: Write, E: Write>(error: &Error, to: &mut W, errors: &mut 
 }
 
 /// The program: reads the arguments after its name, does the task that they name with what `from` gives, and writes the
-/// answer to `to`. A fault is reported to `errors`, whose own faults are ignored, and `progress` is told how far the search is. The
-/// answer is the status to end with.
+/// answer to `to`. A fault is reported to `errors`, whose own faults are ignored, `progress` is told how far the search is, and `pages`
+/// puts the page of a trace. The answer is the status to end with.
 ///
 /// ```
-/// let status = run_arguments(alloc, &arguments, &mut input, &mut output, &mut errors, &mut progress);
+/// let status = run_arguments(alloc, &arguments, &mut input, &mut output, &mut errors, &mut progress, &mut pages);
 /// ```
-pub fn run_arguments<R: Read, W: Write, E: Write, P: ShownProgress>(
+pub fn run_arguments<R: Read, W: Write, E: Write, P: ShownProgress, G: Pages>(
     alloc: Global,
     arguments: &[String],
     from: &mut R,
     to: &mut W,
     errors: &mut E,
     progress: &mut P,
+    pages: &mut G,
 ) -> u8
     ensures outcome { ProgramOutcome (map string_bytes arguments.now) (R.remaining from.old) (W.contents to.old) (W.contents to.new) result }
     ensures status { IsStatus result }
 {
     match task_of(alloc, arguments) {
-        Ok(task) => end_task(alloc, &task, from, to, errors, progress),
+        Ok(task) => end_task(alloc, &task, from, to, errors, progress, pages),
         Err(error) => report_arguments(&error, to, errors),
     }
 }

@@ -1,15 +1,23 @@
 //! From a trace's bytes to an answer's bytes.
 
-ghost use Rattle.std.specs.Prelude.{◌≡◌, ◌≤◌, length, IfErr, IfOk, IfSome};
-ghost use Rattle.chi_check.specs.Check.{IsAnswered, IsReadFault, KeepsUnanswered, LookedForStatus, Outcome, judged, most_bytes};
+ghost use Rattle.std.specs.Prelude.{◌≡◌, ◌≤◌, length, IfErr, IfOk, IfSome, IsTrue};
+ghost use Rattle.chi_verdict.specs.Blames.{IsBlame};
+ghost use Rattle.chi_answer.specs.Answers.{IfUndecided, IsAnswer, IsUnexplained};
+ghost use Rattle.chi_check.specs.Check.{IsAnswered, IsReadFault, IsRightOf, KeepsUnanswered, LookedForStatus, Outcome, judged, most_bytes};
+ghost use Rattle.chi_answer.specs.Texts.{IsText};
 ghost use Rattle.chi_check.specs.CheckStatus.{IsAnswerStatus, answer_status};
+ghost use Rattle.chi_check.specs.Pages.{IsPage, IsPut};
 
 use crate::fault::CheckFault;
 use crate::options::CheckOptions;
+use crate::page::{blamed_page_asked, page_asked};
+use crate::pages::Pages;
 use crate::progress_line::ShownProgress;
 use chi_answer::{Answer, answer_of, answer_text};
+use chi_excerpt::{failure_of, failure_text};
 use chi_reading::{Recorded, read_trace};
 use chi_script::{InputFault, read_input, write_bytes};
+use chi_verdict::Blame;
 use std::alloc::{AllocError, Global};
 use std::io::{Read, Write};
 
@@ -27,10 +35,7 @@ fn answer_status(answer: &Answer) -> u8
             granule: _,
             words: _,
         } => 1,
-        Answer::Undecided {
-            granule: _,
-            states: _,
-        } => 6,
+        Answer::Undecided(_) => 6,
     }
 }
 
@@ -58,55 +63,143 @@ fn judged(alloc: Global, recorded: Recorded, until: Option<u64>) -> Result<Recor
     }
 }
 
-// The status and the text of the answer of a trace.
+/// The status of an answer, what is written of it, and the page of the trace, where one is asked for.
+#[derive(Debug, Drop)]
+struct Report {
+    status: u8,
+    text: Vec<u8>,
+    page: Vec<u8>,
+}
+
+// What is reported of where a trace that no order explains stops being explained.
+fn blamed_report(
+    alloc: Global,
+    recorded: &Recorded,
+    blame: Blame,
+    options: &CheckOptions<'_>,
+) -> Result<Report, AllocError>
+    requires unexplained { IsUnexplained recorded.now }
+    requires blame { IsBlame recorded.now.trace blame }
+    ensures right { IfOk result (λ report. IsRightOf options.now recorded.now 1 report.text.items) }
+    ensures status { IfOk result (λ report. report.status ≡ 1) }
+    ensures page { IfOk result (λ report. IfSome options.now.html (λ _. IsPage recorded.now report.page.items)) }
+{
+    let failure = failure_of(alloc, recorded, blame, options.budget)?;
+    let text = failure_text(alloc, recorded, &failure, options.around as usize)?;
+    let page = blamed_page_asked(alloc, recorded, &failure.blame, options)?;
+    Ok(Report {
+        status: 1,
+        text,
+        page,
+    })
+}
+
+// What is reported of an answer that blames no operation.
+fn usual_report(
+    alloc: Global,
+    recorded: &Recorded,
+    answer: &Answer,
+    options: &CheckOptions<'_>,
+) -> Result<Report, AllocError>
+    requires { IsAnswer recorded.now answer.now }
+    ensures text { IfOk result (λ report. IsText options.now.witness recorded.now answer.now report.text.items) }
+    ensures status { IfOk result (λ report. report.status ≡ answer_status answer.now) }
+    ensures page { IfOk result (λ report. IfSome options.now.html (λ _. IsPage recorded.now report.page.items)) }
+{
+    let text = answer_text(alloc, recorded, answer, options.witness)?;
+    let page = page_asked(alloc, recorded, options)?;
+    Ok(Report {
+        status: answer_status(answer),
+        text,
+        page,
+    })
+}
+
+// What is reported of an answer.
+fn report_of(
+    alloc: Global,
+    recorded: &Recorded,
+    answer: Answer,
+    options: &CheckOptions<'_>,
+) -> Result<Report, AllocError>
+    requires right { IsAnswer recorded.now answer }
+    requires undecided { IfUndecided answer (λ doubt. doubt.states ≡ options.now.budget) }
+    ensures right { IfOk result (λ report. IsRightOf options.now recorded.now report.status report.text.items) }
+    ensures status { IfOk result (λ report. report.status ≡ answer_status answer) }
+    ensures page { IfOk result (λ report. IfSome options.now.html (λ _. IsPage recorded.now report.page.items)) }
+{
+    match answer {
+        Answer::Blamed(blame) => blamed_report(alloc, recorded, blame, options),
+        other => usual_report(alloc, recorded, &other, options),
+    }
+}
+
+// What is reported of a trace.
 fn answered<P: ShownProgress>(
     alloc: Global,
     recorded: Recorded,
-    options: &CheckOptions,
+    options: &CheckOptions<'_>,
     progress: &mut P,
-) -> Result<(u8, Vec<u8>), AllocError>
-    ensures answered { IfOk result (λ r. IsAnswered options.now recorded r.0 r.1.items) }
-    ensures spent { IfOk result (λ r. LookedForStatus P.looked progress.old progress.new options.now.budget r.0) }
+) -> Result<Report, AllocError>
+    ensures answered { IfOk result (λ report. IsAnswered options.now recorded report.status report.text.items) }
+    ensures page { IfOk result (λ report. IfSome options.now.html (λ _. IsPage (judged options.now.until recorded) report.page.items)) }
+    ensures spent { IfOk result (λ report. LookedForStatus P.looked progress.old progress.new options.now.budget report.status) }
 {
     let part = judged(alloc, recorded, options.until)?;
     let found = answer_of(alloc, &part, options.budget, progress);
     progress.clear();
     let answer = found?;
-    let text = answer_text(alloc, &part, &answer, options.witness)?;
-    Ok((answer_status(&answer), text))
+    let report = report_of(alloc, &part, answer, options)?;
+    Ok(report)
+}
+
+// Puts a page where one is asked for, and answers whether it could.
+fn put_page<G: Pages>(pages: &mut G, path: Option<&str>, page: &[u8]) -> bool
+    ensures { IsTrue result → IfSome path.entry (λ p. G.has_put pages.new p.now page.now) }
+{
+    match path {
+        Some(path) => pages.put(path, page),
+        None => true,
+    }
 }
 
 /// Reads a trace, and writes whether what was observed can be explained. The answer is a status: 0 where it can, 1 where
 /// it cannot, 6 where that is undecided within the budget.
 ///
 /// Nothing is written unless the whole trace was read and its answer found. After a fault of the writer a prefix of the
-/// answer has been written. `progress` is told how far the search is, and cleared before the answer is written.
+/// answer has been written. Where a page of the trace is asked for, it is made whole and put before the answer is written.
+/// `progress` is told how far the search is, and cleared before anything is written.
 ///
 /// ```
-/// let status = check(alloc, &mut trace.as_bytes(), &mut answer, &options, &mut progress)?; // explained
+/// let status = check(alloc, &mut trace.as_bytes(), &mut answer, &options, &mut progress, &mut pages)?; // explained
 /// ```
-pub fn check<R: Read, W: Write, P: ShownProgress>(
+pub fn check<R: Read, W: Write, P: ShownProgress, G: Pages>(
     alloc: Global,
     from: &mut R,
     to: &mut W,
-    options: &CheckOptions,
+    options: &CheckOptions<'_>,
     progress: &mut P,
+    pages: &mut G,
 ) -> Result<u8, CheckFault>
     ensures outcome { IfSome (R.remaining from.old) (λ input. Outcome options.now input (W.contents to.old) (W.contents to.new) result) }
     ensures unanswered { KeepsUnanswered (W.contents to.old) (W.contents to.new) result }
     ensures status { IfOk result (λ status. IsAnswerStatus status) }
     ensures spent { IfOk result (λ status. LookedForStatus P.looked progress.old progress.new options.now.budget status) }
+    ensures page { IfOk result (λ _. IfSome (R.remaining from.old) (λ input. IsPut G.has_put options.now input pages.new)) }
 {
     let input = read_bytes(alloc, from)?;
     let recorded = match read_trace(alloc, &input) {
         Ok(recorded) => recorded,
         Err(fault) => return Err(CheckFault::Trace(fault)),
     };
-    let Ok((status, text)) = answered(alloc, recorded, options, progress) else {
+    let Ok(report) = answered(alloc, recorded, options, progress) else {
         return Err(CheckFault::Memory);
     };
-    match write_bytes(to, &text) {
-        Ok(()) => Ok(status),
+    if !put_page(pages, options.html, &report.page) {
+        return Err(CheckFault::Page);
+    }
+    match write_bytes(to, &report.text) {
+        Ok(()) => Ok(report.status),
         Err(fault) => Err(CheckFault::Write(fault)),
     }
 }

@@ -4,10 +4,11 @@ ghost use Rattle.std.specs.Prelude.{◌≡◌, ◌-◌, ◌^◌, [], false, code
 ghost use Rattle.clap.specs.Matches.{found_of};
 ghost use Rattle.clap.specs.Simple.{app_of};
 ghost use Rattle.clap.specs.Values.{kind_of};
-ghost use Rattle.clap.specs.Walk.{rows_of, rule_of};
+ghost use Rattle.clap.specs.Walk.{first_of, rows_of, rule_of};
+ghost use Rattle.std.specs.Option.{option_map};
 ghost use Rattle.clap.specs.declared.builder.value_parser.ValueParser.TheVariants as value_parser;
-ghost use Rattle.chi_check.specs.Chosen.{Chooses, HasOptions, IsBudget, IsNamed, IsNamedFirst, IsUntil, has_word};
-ghost use Rattle.chi_check.specs.CommandLine.{IsArgumentsFault, IsTaken, budget_rule, explain_app, option_rule, program_app, switch_rule, watch_app};
+ghost use Rattle.chi_check.specs.Chosen.{Chooses, HasOptions, IsAround, IsBudget, IsNamed, IsNamedFirst, IsUntil, has_word};
+ghost use Rattle.chi_check.specs.CommandLine.{IsArgumentsFault, IsTaken, around_rule, budget_rule, html_rule, explain_app, option_rule, program_app, switch_rule, watch_app};
 
 use crate::options::CheckOptions;
 use chi_watch_text::WatchOptions;
@@ -17,8 +18,8 @@ use std::alloc::Global;
 
 /// What is done with the input: it is a trace to be explained, or it tells events to be watched.
 #[derive(Clone, Copy)]
-pub enum Task {
-    Explain(CheckOptions),
+pub enum Task<'a> {
+    Explain(CheckOptions<'a>),
     Watch(WatchOptions),
 }
 
@@ -53,6 +54,9 @@ const WATCH_ABOUT: &str =
 // How many states of each granule are looked at where no number is given.
 const BUDGET: u64 = 1_000_000;
 
+// How many operations are shown before the one that is blamed where no number is given.
+const AROUND: u64 = 16;
+
 // The option that takes the number of states.
 fn budget_option<'a>(alloc: Global) -> Arg<'a>
     ensures rule { rule_of result ≡ budget_rule }
@@ -64,6 +68,19 @@ fn budget_option<'a>(alloc: Global) -> Arg<'a>
         .value_parser(value_parser!(u64))
         .default_value("1000000")
         .help("States of each granule that are looked at for an answer")
+}
+
+// The option that takes the number of operations that are shown.
+fn around_option<'a>(alloc: Global) -> Arg<'a>
+    ensures rule { rule_of result ≡ around_rule }
+    ensures local { result.global ≡ false }
+{
+    Arg::new(alloc, "around")
+        .long("around")
+        .value_name("N")
+        .value_parser(value_parser!(u64))
+        .default_value("16")
+        .help("Operations of the granule that are shown before the one blamed")
 }
 
 // The option that takes a time.
@@ -89,6 +106,17 @@ fn witness_option<'a>(alloc: Global) -> Arg<'a>
         .help("Writes the operations in the order found, and the memory after them")
 }
 
+// The option that takes a file.
+fn html_option<'a>(alloc: Global) -> Arg<'a>
+    ensures rule { rule_of result ≡ html_rule }
+    ensures local { result.global ≡ false }
+{
+    Arg::new(alloc, "html")
+        .long("html")
+        .value_name("FILE")
+        .help("Makes this file a page that shows the trace in a browser")
+}
+
 // The option that asks for more than the first granule.
 fn keep_going_option<'a>(alloc: Global) -> Arg<'a>
     ensures rule { rule_of result ≡ switch_rule (codes "keep-going") }
@@ -110,6 +138,8 @@ fn explain_command<'a>(alloc: Global) -> Result<Command<'a>, Error>
             .about(EXPLAIN_ABOUT)
             .arg(witness_option(alloc))?
             .arg(until_option(alloc))?
+            .arg(around_option(alloc))?
+            .arg(html_option(alloc))?
             .arg(budget_option(alloc))?,
     )
 }
@@ -161,6 +191,13 @@ fn chosen_budget(chosen: &ArgMatches<'_>) -> u64
     chosen.get_one::<u64>("budget").unwrap_or(BUDGET)
 }
 
+// How many operations are shown before the one that is blamed.
+fn chosen_around(chosen: &ArgMatches<'_>) -> u64
+    ensures { IsAround (rows_of (found_of chosen.now)) result }
+{
+    chosen.get_one::<u64>("around").unwrap_or(AROUND)
+}
+
 // The time up to which is judged, where one was given.
 fn chosen_time(chosen: &ArgMatches<'_>) -> Option<u64>
     ensures { IsUntil (rows_of (found_of chosen.now)) result }
@@ -168,16 +205,27 @@ fn chosen_time(chosen: &ArgMatches<'_>) -> Option<u64>
     chosen.get_one::<u64>("until")
 }
 
+// The file that is to be the page of the trace, where one was given.
+fn chosen_file<'a>(chosen: &ArgMatches<'a>) -> Option<&'a str>
+    ensures { option_map (λ s. s.now) result ≡ first_of (codes "html") (rows_of (found_of chosen.now)) }
+{
+    chosen.get_str("html")
+}
+
 // The options that `explain` was given, or that stand in for them.
-fn explain_options(chosen: &ArgMatches<'_>) -> CheckOptions
+fn explain_options<'a>(chosen: &ArgMatches<'a>) -> CheckOptions<'a>
     ensures witness { result.witness ≡ has_word (rows_of (found_of chosen.now)) (codes "witness") (codes "true") }
     ensures budget { IsBudget (rows_of (found_of chosen.now)) result.budget }
     ensures until { IsUntil (rows_of (found_of chosen.now)) result.until }
+    ensures around { IsAround (rows_of (found_of chosen.now)) result.around }
+    ensures html { option_map (λ s. s.now) result.html ≡ first_of (codes "html") (rows_of (found_of chosen.now)) }
 {
     CheckOptions {
         witness: has_word(chosen, "witness", "true"),
         budget: chosen_budget(chosen),
         until: chosen_time(chosen),
+        around: chosen_around(chosen),
+        html: chosen_file(chosen),
     }
 }
 
@@ -193,7 +241,7 @@ fn watch_options(chosen: &ArgMatches<'_>) -> WatchOptions
 }
 
 // The task of this name, with its options.
-fn chosen_task(name: &str, chosen: &ArgMatches<'_>) -> Task
+fn chosen_task<'a>(name: &str, chosen: &ArgMatches<'a>) -> Task<'a>
     ensures named { IsNamed name.now result }
     ensures options { HasOptions (rows_of (found_of chosen.now)) result }
 {
@@ -212,7 +260,7 @@ fn chosen_task(name: &str, chosen: &ArgMatches<'_>) -> Task
 /// ```
 /// let task = task_of(alloc, &arguments)?; // explain --witness --budget 1000 --until 4711
 /// ```
-pub fn task_of(alloc: Global, arguments: &[String]) -> Result<Task, Error>
+pub fn task_of(alloc: Global, arguments: &[String]) -> Result<Task<'_>, Error>
     ensures chosen { IfOk result (λ task. Chooses (map string_bytes arguments.now) task) }
     ensures first { IfOk result (λ task. IsNamedFirst (map string_bytes arguments.now) task) }
     ensures taken { IfOk result (λ _. IsTaken (map string_bytes arguments.now)) }

@@ -15,6 +15,7 @@ use thiserror::Error;
 /// - `Memory`: no memory for the input, for the search or for the answer.
 /// - `Trace`: the trace was refused.
 /// - `Events`: a line of events was refused, or not read. Up to here nothing is written.
+/// - `Page`: the page of the trace was not written whole. Up to here nothing else is written.
 /// - `Write`: the answer was not written whole.
 #[derive(Debug, Drop, Error)]
 pub enum CheckFault {
@@ -28,6 +29,8 @@ pub enum CheckFault {
     Trace(TraceFault),
     #[error(transparent)]
     Events(LinesFault),
+    #[error("page could not be written")]
+    Page,
     #[error(transparent)]
     Write(WriteFault),
 }
@@ -48,6 +51,7 @@ pub fn status_of(fault: &CheckFault) -> u8
         CheckFault::Events(LinesFault::Read) => 5,
         CheckFault::Events(LinesFault::Memory) => 4,
         CheckFault::Events(_) => 3,
+        CheckFault::Page => 5,
         CheckFault::Write(_) => 5,
     }
 }

@@ -9,5 +9,5 @@ returns-clause-spent g c =
     record {
       count = spent.count;
       more = λ n known. c.clear.ensures (n + spent.count) (spent.more n known);
-      undecided = λ is. spent_where_undecided c.in_ok-answer.answer c.args.options.now.budget spent.count c.in_ok-answer.ensures.undecided spent.undecided (sym c.answer_status.ensures ∙ is);
+      undecided = λ is. spent_where_undecided c.in_ok-answer.answer c.args.options.now.budget spent.count c.in_ok-answer.ensures.undecided spent.undecided (sym c.in_ok-report.ensures.status ∙ is);
     }

@@ -4,10 +4,10 @@ use Rattle.chi_check.proofs.check.check.Goals as goal
 
 pub returns-in-Ok-write_bytes-clause-outcome : goal.returns-in-Ok-write_bytes-clause-outcome
 returns-in-Ok-write_bytes-clause-outcome g c =
-    written c.args.options.now _ _ _ c.in_ok-input.input.items c.in-Ok.recorded c.in-Ok-answered.status c.in-Ok-answered.text.items c.in_ok-input.ensures.bytes
-    c.in_ok-input.ensures.within (rw c.deref.ensures.value at c.in-Ok.ensures.ok) c.in-Ok-answered.ensures.answered (rw c.deref-2.ensures.value at c.in-Ok-write_bytes.ensures)
+    written c.args.options.now _ _ _ c.in_ok-input.input.items c.in-Ok.recorded c.in-Ok-answered.report.status c.in-Ok-answered.report.text.items c.in_ok-input.ensures.bytes
+    c.in_ok-input.ensures.within (rw c.deref.ensures.value at c.in-Ok.ensures.ok) c.in-Ok-answered.ensures.answered (rw c.deref-3.ensures.value at c.in-Ok-write_bytes.ensures)
 
 pub returns-clause-outcome : goal.returns-clause-outcome
 returns-clause-outcome g c =
-    cut c.args.options.now _ _ _ c.in_ok-input.input.items c.in-Ok.recorded c.in-Ok-answered.status c.in-Ok-answered.text.items c.in-Err-write_bytes.fault c.in_ok-input.ensures.bytes
-    c.in_ok-input.ensures.within (rw c.deref.ensures.value at c.in-Ok.ensures.ok) c.in-Ok-answered.ensures.answered (rw c.deref-2.ensures.value at c.in-Err-write_bytes.ensures)
+    cut c.args.options.now _ _ _ c.in_ok-input.input.items c.in-Ok.recorded c.in-Ok-answered.report.status c.in-Ok-answered.report.text.items c.in-Err-write_bytes.fault c.in_ok-input.ensures.bytes
+    c.in_ok-input.ensures.within (rw c.deref.ensures.value at c.in-Ok.ensures.ok) c.in-Ok-answered.ensures.answered (rw c.deref-3.ensures.value at c.in-Err-write_bytes.ensures)

@@ -5,4 +5,4 @@ use Rattle.chi_check.proofs.ChosenLemmas.{number_found}
 use Rattle.chi_check.proofs.command.chosen_budget.Goals as goal
 
 pub returns : goal.returns
-returns c = rw c.unwrap_or.ensures (number_found (found_of c.args.chosen.now) (codes "budget") c.get_one.result c.get_one.ensures.none c.get_one.ensures.value)
+returns c = rw c.unwrap_or.ensures (number_found 1000000 (found_of c.args.chosen.now) (codes "budget") c.get_one.result c.get_one.ensures.none c.get_one.ensures.value)

@@ -1,0 +1,65 @@
+//! The page of a trace.
+
+ghost use Rattle.std.specs.Prelude.{IfOk, IfSome};
+ghost use Rattle.chi_check.specs.Pages.{IsPage};
+
+use crate::options::CheckOptions;
+use chi_granules::{all_granules, granules_around};
+use chi_page::add_page;
+use chi_reading::Recorded;
+use chi_verdict::Blame;
+use std::alloc::{AllocError, Global};
+
+// The page of a trace that stops being explained.
+fn blamed_page(
+    alloc: Global,
+    recorded: &Recorded,
+    blame: &Blame,
+    budget: u64,
+) -> Result<Vec<u8>, AllocError>
+    ensures { IfOk result (λ page. IsPage recorded.now page.items) }
+{
+    let granules = granules_around(alloc, recorded, blame, budget)?;
+    let mut page = Vec::new(alloc);
+    add_page(&mut page, recorded, &granules, Some(blame))?;
+    Ok(page)
+}
+
+// The page of another trace.
+fn usual_page(alloc: Global, recorded: &Recorded, budget: u64) -> Result<Vec<u8>, AllocError>
+    ensures { IfOk result (λ page. IsPage recorded.now page.items) }
+{
+    let granules = all_granules(alloc, recorded, budget)?;
+    let mut page = Vec::new(alloc);
+    add_page(&mut page, recorded, &granules, None)?;
+    Ok(page)
+}
+
+/// The page of a trace, where one is asked for, and nothing where none is.
+pub(crate) fn page_asked(
+    alloc: Global,
+    recorded: &Recorded,
+    options: &CheckOptions<'_>,
+) -> Result<Vec<u8>, AllocError>
+    ensures { IfOk result (λ page. IfSome options.now.html (λ _. IsPage recorded.now page.items)) }
+{
+    match options.html {
+        Some(_) => usual_page(alloc, recorded, options.budget),
+        None => Ok(Vec::new(alloc)),
+    }
+}
+
+/// The same of a trace that stops being explained.
+pub(crate) fn blamed_page_asked(
+    alloc: Global,
+    recorded: &Recorded,
+    blame: &Blame,
+    options: &CheckOptions<'_>,
+) -> Result<Vec<u8>, AllocError>
+    ensures { IfOk result (λ page. IfSome options.now.html (λ _. IsPage recorded.now page.items)) }
+{
+    match options.html {
+        Some(_) => blamed_page(alloc, recorded, blame, options.budget),
+        None => Ok(Vec::new(alloc)),
+    }
+}
