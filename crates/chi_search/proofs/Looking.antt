@@ -1,6 +1,6 @@
 -- no state more, and states after states
-use Rattle.std.proofs.Common.{◌≡◌, ℕ, ◌+◌, ◌-◌, ◌<◌, ◌≤◌, subst, arith}
-use Rattle.chi_search.specs.Looks.{LookedMore}
+use Rattle.std.proofs.Common.{◌≡◌, ℕ, ◌+◌, ◌-◌, ◌<◌, ◌≤◌, refl, subst, arith}
+use Rattle.chi_search.specs.Looks.{LookedAtLeast, LookedMore, LookedSome}
 
 -- none more
 pub none_more : {P : Type 0} (looked : P → ℕ → Type 0) (p : P) (k : ℕ) → k ≡ 0 → LookedMore looked p p k
@@ -21,3 +21,30 @@ pub spent_after : {P : Type 0} (looked : P → ℕ → Type 0) (old middle new :
     → LookedMore looked old middle (budget - left) → LookedMore looked middle new (left - less) → LookedMore looked old new (budget - less)
 spent_after looked old middle new budget left less under fewer =
     more_after looked old middle new (budget - left) (left - less) (budget - less) (omega (arith, under, fewer))
+
+-- searches one after another
+module _ {P : Type 0} (looked : P → ℕ → Type 0) where
+  -- none
+  pub looked_none : (p : P) → LookedSome looked p p
+  looked_none p = (0, none_more looked p 0 refl)
+
+  module _ (old middle new : P) where
+    -- some, and then others
+    pub some_after : LookedSome looked old middle → LookedSome looked middle new → LookedSome looked old new
+    some_after first then = (first.0 + then.0, more_after looked old middle new first.0 then.0 (first.0 + then.0) refl first.1 then.1)
+
+    -- some, and then at least so many
+    pub at_least_after : (budget : ℕ) → LookedSome looked old middle → LookedAtLeast looked middle new budget → LookedAtLeast looked old new budget
+    at_least_after budget first then = (
+      first.0 + then.0,
+      let whole = then.1 in omega (arith, whole),
+      more_after looked old middle new first.0 then.0 (first.0 + then.0) refl first.1 then.2,
+    )
+
+    -- at least so many, and then others
+    pub at_least_before : (budget : ℕ) → LookedAtLeast looked old middle budget → LookedSome looked middle new → LookedAtLeast looked old new budget
+    at_least_before budget first then = (
+      first.0 + then.0,
+      let whole = first.1 in omega (arith, whole),
+      more_after looked old middle new first.0 then.0 (first.0 + then.0) refl first.2 then.1,
+    )

@@ -63,6 +63,21 @@ dropping ops final p x ready below absent c = (
         let one : (is_left (length ops) p p.first && is_answered (at ops p.first)) ≡ true = ap (λ b. b && is_answered (at ops p.first)) (ready.left below) ∙ is in
         absurd (omega (arith, due, ap one_if one, absent))
 
+-- an order goes on by the operation with which it begins, where that can come next
+pub by_first : (ops : List Observed) (final : Option ℕ) (p : Position) (i : ℕ) (y : List ℕ) → CanCome ops p i → Finishes ops (is_left (length ops) p) p.word final (i ∷ y)
+    → ByTaking ops final p i
+by_first ops final p i y comes c =
+    let fits = first_fits ops (is_left (length ops) p) p.word final i y c in (
+      comes,
+      fits.0,
+      fits.1,
+      λ q takes. (
+        y,
+        subst (λ w. Finishes ops (is_left (length ops) q) w final y) (sym takes.word)
+            (peel ops (is_left (length ops) p) (is_left (length ops) q) p.word final i y (parts (is_left (length ops) p) (is_left (length ops) q) i comes.0 (left_settles (length ops) p i q takes.left)) c),
+      ),
+    )
+
 pub goes_on : (ops : List Observed) (final : Option ℕ) (p : Position) (x : List ℕ) → AreSorted ops → IsReady (length ops) p → p.first < length ops
     → Finishes ops (is_left (length ops) p) p.word final x → ((i : ℕ) × ByTaking ops final p i) ⊎ ByDropping ops final p
 unfolding times_in
@@ -83,20 +98,7 @@ goes_on ops final p (i ∷ y) sorted ready below c = by_times (times_in (i ∷ y
     by_times : (n : ℕ) → times_in (i ∷ y) p.first ≡ n → ((i : ℕ) × ByTaking ops final p i) ⊎ ByDropping ops final p
     by_times zero none = inr (dropping ops final p (i ∷ y) ready below none c)
     by_times (suc n) some =
-        let fits = first_fits ops (is_left (length ops) p) p.word final i y c in
-        inl (
-          i,
-          (
-            (left, early (i == p.first) refl (omega (arith, some))),
-            fits.0,
-            fits.1,
-            λ q takes. (
-              y,
-              subst (λ w. Finishes ops (is_left (length ops) q) w final y) (sym takes.word)
-                  (peel ops (is_left (length ops) p) (is_left (length ops) q) p.word final i y (parts (is_left (length ops) p) (is_left (length ops) q) i left (left_settles (length ops) p i q takes.left)) c),
-            ),
-          ),
-        )
+        inl (i, by_first ops final p i y (left, early (i == p.first) refl (omega (arith, some))) c)
 
 -- an operation that changes nothing may come first wherever it can
 pub from_idle : (ops : List Observed) (final : Option ℕ) (p q : Position) (i : ℕ) → p.word < 2 ^ 64 → CanCome ops p i → IsIdle (at ops i) → Takes ops p i q

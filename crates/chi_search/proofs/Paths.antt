@@ -7,6 +7,8 @@ use Rattle.chi_trace.specs.Explains.{at}
 use Rattle.chi_trace.specs.Granules.{Finishes, Fits}
 use Rattle.chi_search.specs.declared.path.Step.{Step}
 use Rattle.chi_search.specs.declared.states.States.{States}
+use Rattle.chi_search.specs.Commuting.{GoesFirst}
+use Rattle.chi_search.specs.Equal.{GoesOnBefore}
 use Rattle.chi_search.specs.Moves.{ByTaking, CanCome, IsIdle, Takes}
 use Rattle.chi_search.specs.Paths.{AllDead, AreEarliest, AreTried, AreTriedBefore, IsDead, Moves, Walks, after_op, taken}
 use Rattle.chi_search.specs.Positions.{IsReady, Position, is_left, position_of}
@@ -110,3 +112,19 @@ all_late ops times k end earliest late i from below = let least : slice_index ti
 pub idle_dead : (ops : List Observed) (last : Option ℕ) (dead : States) (p q : Position) (i : ℕ) → p.word < 2 ^ 64 → CanCome ops p i → IsIdle (at ops i) → Takes ops p i q
     → Has dead q → AllDead ops last dead → IsDead ops last p
 idle_dead ops last dead p q i below comes idle takes has all ends = all q has (from_idle ops last p q i below comes idle takes ends)
+
+-- where an operation by which an order goes on, if any does, leads to a state of the set
+pub first_dead : (ops : List Observed) (last : Option ℕ) (dead : States) (p q : Position) (i : ℕ) → GoesFirst ops p i → Takes ops p i q → Has dead q
+    → AllDead ops last dead → IsDead ops last p
+first_dead ops last dead p q i first takes has all ends = let taking = first last ends in all q has (taking.3 q takes)
+
+-- and where it does not fit
+pub first_refused : (ops : List Observed) (last : Option ℕ) (p : Position) (i : ℕ) → GoesFirst ops p i
+    → (CanCome ops p i → Fits (at ops i) p.word → ⊥) → IsDead ops last p
+first_refused ops last p i first refused ends = let taking = first last ends in refused taking.0 taking.1
+
+-- an operation where an order goes on by one before it too, which was tried
+pub equal_more : (ops : List Observed) (last : Option ℕ) (dead : States) (p : Position) (k : ℕ) → Tried ops last dead p k → GoesOnBefore ops p k
+    → Tried ops last dead p (k + 1)
+equal_more ops last dead p k tried equal all =
+    below_more (λ i. ByTaking ops last p i → ⊥) k (tried all) (λ taking. tried all equal.0 equal.1 (equal.2 last taking))

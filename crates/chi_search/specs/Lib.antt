@@ -1,8 +1,12 @@
 pub mod Choices
+pub mod Commuting
+pub mod Effects
+pub mod Equal
 pub mod Found
 pub mod Frontiers
 pub mod Layers
 pub mod Looks
+pub mod Makers
 pub mod Moves
 pub mod Paths
 pub mod Positions

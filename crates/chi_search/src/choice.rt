@@ -4,16 +4,24 @@ ghost use Rattle.std.specs.Prelude.{◌≡◌, ℕ, ◌^◌, ◌<◌, ◌≤◌,
 ghost use Rattle.chi_trace.specs.Explains.{at};
 ghost use Rattle.chi_trace.specs.Granules.{Fits};
 ghost use Rattle.chi_search.specs.Choices.{IfDead, IfEnded, IfStep, IfTried};
+ghost use Rattle.chi_search.specs.Effects.{AreEffects};
 ghost use Rattle.chi_search.specs.Moves.{CanCome, Drops, IsIdle, Takes};
 ghost use Rattle.chi_search.specs.Paths.{AllDead, AreEarliest, AreTried, IsDead, Moves};
 ghost use Rattle.chi_search.specs.Positions.{IsReady, position_of};
 ghost use Rattle.chi_search.specs.Searchable.{AreSorted, AreWithin};
 
+use crate::commuting::commuting_next;
+use crate::effect::Effect;
+use crate::equal::has_equal_before;
+use crate::makers::lacks_maker;
 use crate::state::{State, is_left, settle};
 use crate::states::{States, has};
 use crate::step::{stays, step};
 use chi_trace::Observed;
 use std::alloc::AllocError;
+
+/// How many operations are looked at for makers at a state.
+const LOOKED_AT: usize = 64;
 
 /// What can be done at a state: nothing, since none is left and the word is the observed one; a step, by an operation that
 /// is taken, or without one where the first is left out, with the place before which all operations were tried; or nothing,
@@ -98,9 +106,11 @@ pub(crate) fn leave_out(
 }
 
 /// What can be done at a state, from which `next` is the next one, where the operations before the place `tried` were tried.
-/// `earliest` has the earliest start from each place on, and `dead` is a set of states from which no order goes on.
+/// `earliest` has the earliest start from each place on, and `dead` is a set of states from which no order goes on. `effects` has
+/// what is known of each operation, or is empty: then only the rule is used that takes what changes nothing.
 pub(crate) fn choose(
     ops: &[Observed],
+    effects: &[Effect],
     earliest: &[u64],
     last: Option<u64>,
     dead: &States,
@@ -110,6 +120,7 @@ pub(crate) fn choose(
 ) -> Result<Choice, AllocError>
     requires sorted { AreSorted ops.now }
     requires within { AreWithin ops.now }
+    requires known { AreEffects ops.now effects.now }
     requires earliest { AreEarliest ops.now earliest.now }
     requires ready { IsReady (length ops.now) (position_of state.now) }
     requires tried { AreTried ops.now last (position_of state.now) tried }
@@ -125,6 +136,7 @@ pub(crate) fn choose(
             _ => Ok(Choice::Ended),
         };
     }
+    let with_rules = !effects.is_empty();
     if tried <= state.first {
         if let Some(place) = idle_next(ops, earliest, state) {
             if take(ops, state, place, next)? {
@@ -137,11 +149,27 @@ pub(crate) fn choose(
                 });
             }
         }
+        if lacks_maker(ops, effects, earliest, last, state, LOOKED_AT) {
+            return Ok(Choice::Dead);
+        }
+        // Where some order goes on, one goes on by this operation.
+        if let Some(place) = commuting_next(ops, earliest, state, with_rules) {
+            if take(ops, state, place, next)? && !has(dead, next) {
+                return Ok(Choice::Step {
+                    op: Some(place),
+                    tried,
+                });
+            }
+            return Ok(Choice::Dead);
+        }
     }
     let end = ops[state.first].end;
     let mut place = tried;
     while place < ops.len() && earliest[place] <= end {
-        if take(ops, state, place, next)? && !has(dead, next) {
+        if take(ops, state, place, next)?
+            && !has(dead, next)
+            && !has_equal_before(ops, state, place, with_rules)
+        {
             return Ok(Choice::Step {
                 op: Some(place),
                 tried: place,

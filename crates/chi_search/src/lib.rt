@@ -3,9 +3,13 @@
 
 mod chains;
 mod choice;
+mod commuting;
 mod earliest;
+mod effect;
+mod equal;
 mod frontier;
 mod layer;
+mod makers;
 mod narrow;
 mod order;
 mod passing;

@@ -7,8 +7,8 @@ ghost use Rattle.chi_search.specs.Moves.{IsIdle};
 use chi_lanes::{Reply, apply};
 use chi_trace::Observed;
 
-// Whether two replies are the same.
-fn is_same(reply: Reply, other: Reply) -> bool
+/// Whether two replies are the same.
+pub(crate) fn is_same(reply: Reply, other: Reply) -> bool
     ensures { IsTrue result ↔ (reply ≡ other) }
 {
     match (reply, other) {

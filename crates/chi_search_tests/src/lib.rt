@@ -2,9 +2,15 @@
 #![tactic(auto)]
 
 #[cfg(test)]
+mod commuting_tests;
+#[cfg(test)]
 mod comparison;
 #[cfg(test)]
+mod equal_tests;
+#[cfg(test)]
 mod frontier_tests;
+#[cfg(test)]
+mod maker_tests;
 #[cfg(test)]
 mod many_tests;
 #[cfg(test)]

@@ -69,6 +69,33 @@ pub(crate) fn done(times: (u64, u64), opcode: u8, word: u64) -> Result<Observed,
     })
 }
 
+/// An operation with a reply without data, on one byte of the granule (0 to 7), with that byte of a word.
+pub(crate) fn done_at(
+    times: (u64, u64),
+    opcode: u8,
+    byte: u64,
+    word: u64,
+) -> Result<Observed, Fail> {
+    let byte = byte % 8;
+    let request = Request {
+        src: 1,
+        txn: 0,
+        opcode,
+        size: 0,
+        addr: LAST + byte,
+        endian: false,
+        be: 0x100 << byte,
+        lanes: packet(word),
+    };
+    Ok(Observed {
+        start: times.0,
+        end: times.1,
+        src: 1,
+        access: decode(&request, &Region::new(LAST - 56, 8)?)?,
+        reply: Some(Reply::Comp),
+    })
+}
+
 /// The order that is found from the word 0 on. In its place stands the number 999 alone where there is none, 998 where the
 /// budget was spent, and 997 where the operations cannot be searched.
 pub(crate) fn order(

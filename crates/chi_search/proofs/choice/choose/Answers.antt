@@ -6,9 +6,9 @@ use Rattle.chi_trace.specs.Explains.{at, nothing}
 use Rattle.chi_search.specs.Paths.{Moves}
 use Rattle.chi_search.specs.Positions.{position_of}
 use Rattle.chi_search.proofs.Moves.{at_end}
-use Rattle.chi_search.proofs.Paths.{all_late, dead_more, idle_dead, refused_more, tried_all}
+use Rattle.chi_search.proofs.Paths.{all_late, dead_more, equal_more, first_dead, first_refused, idle_dead, refused_more, tried_all}
 use Rattle.chi_search.proofs.choice.choose.Goals as goal
-use Rattle.chi_search.proofs.choice.choose.Goals.{else-branch-2-via-else-branch-2, else-branch-2-via-then-branch-2+else-not-has, else-branch-3-via-else-branch-3, else-branch-3-via-then-branch-3+else-not-has-2, else-loop-place-test, then-loop-place-test+else-earliest-place}
+use Rattle.chi_search.proofs.choice.choose.Goals.{else-branch-2-via-else-branch-2, else-branch-2-via-then-branch-2+else-not-has, else-branch-3-via-else-branch-3, else-branch-3-via-then-branch-3+else-not-has-2, else-branch-3-via-then-branch-3+then-not-has-2+else-not-has_equal_before, else-branch-4-via-else-branch-4, else-branch-4-via-then-branch-4+else-not-has-3, else-loop-place-test, then-loop-place-test+else-earliest-place}
 
 pub returns-in-Some-clause-dead : goal.returns-in-Some-clause-dead
 returns-in-Some-clause-dead c all (x, ends) =
@@ -28,24 +28,42 @@ unfolding Moves
 returns-then-branch-clause-moves c =
     (c.requires.ready, c.in_ok-take.ensures.comes c.if-branch.true, c.in_ok-take.ensures.takes c.if-branch.true, c.in_ok-take.ensures.leaves c.if-branch.true)
 
+pub returns-in-Some-commuting_next-clause-dead : goal.returns-in-Some-commuting_next-clause-dead
+returns-in-Some-commuting_next-clause-dead c = elim c.else-branch-2.branch [
+  | else-branch-2-via-then-branch-2+else-not-has w ↦
+      first_dead c.args.ops.now c.args.last c.args.dead.now (position_of c.args.state.now) (position_of c.take-in-Some-commuting_next.new.next) c.in-Some-commuting_next.place
+      c.in-Some-commuting_next.ensures.first (c.in_ok-take-2.ensures.takes w.if-branch-2.true) (w.has-then-branch-2.ensures w.if-not-has.false)
+  | else-branch-2-via-else-branch-2 w ↦ λ _.
+      first_refused c.args.ops.now c.args.last (position_of c.args.state.now) c.in-Some-commuting_next.place c.in-Some-commuting_next.ensures.first
+      (c.in_ok-take-2.ensures.refused w.if-branch-2.false)
+]
+
 pub returns-then-not-has-clause-moves : goal.returns-then-not-has-clause-moves
 unfolding Moves
 returns-then-not-has-clause-moves c =
     (c.requires.ready, c.in_ok-take-2.ensures.comes c.if-branch-2.true, c.in_ok-take-2.ensures.takes c.if-branch-2.true, c.in_ok-take-2.ensures.leaves c.if-branch-2.true)
 
+pub returns-then-not-has_equal_before-clause-moves : goal.returns-then-not-has_equal_before-clause-moves
+unfolding Moves
+returns-then-not-has_equal_before-clause-moves c =
+    (c.requires.ready, c.in_ok-take-3.ensures.comes c.if-branch-3.true, c.in_ok-take-3.ensures.takes c.if-branch-3.true, c.in_ok-take-3.ensures.leaves c.if-branch-3.true)
+
 pub loop-place-preserved : goal.loop-place-preserved
-loop-place-preserved c = elim c.else-branch-2.branch [
-  | else-branch-2-via-then-branch-2+else-not-has w ↦
+loop-place-preserved c = elim c.else-branch-3.branch [
+  | else-branch-3-via-then-branch-3+then-not-has-2+else-not-has_equal_before w ↦
+      equal_more c.args.ops.now c.args.last c.args.dead.now (position_of c.args.state.now) c.loop-place.place c.loop-place.invariant
+      (w.has_equal_before.ensures w.if-not-has_equal_before.false)
+  | else-branch-3-via-then-branch-3+else-not-has-2 w ↦
       dead_more c.args.ops.now c.args.last c.args.dead.now (position_of c.args.state.now) (position_of c.take-in-loop-place.new.next) c.loop-place.place c.loop-place.invariant
-      (c.in_ok-take-2.ensures.takes w.if-branch-2.true) (w.has-then-branch-2.ensures w.if-not-has.false)
-  | else-branch-2-via-else-branch-2 w ↦
+      (c.in_ok-take-3.ensures.takes w.if-branch-3.true) (w.has-then-branch-3.ensures w.if-not-has-2.false)
+  | else-branch-3-via-else-branch-3 w ↦
       refused_more c.args.ops.now c.args.last c.args.dead.now (position_of c.args.state.now) c.loop-place.place c.loop-place.invariant
-      (c.in_ok-take-2.ensures.refused w.if-branch-2.false)
+      (c.in_ok-take-3.ensures.refused w.if-branch-3.false)
 ]
 
-pub returns-then-not-has-2-clause-moves : goal.returns-then-not-has-2-clause-moves
+pub returns-then-not-has-3-clause-moves : goal.returns-then-not-has-3-clause-moves
 unfolding Moves
-returns-then-not-has-2-clause-moves c = (c.requires.ready, omega arith, c.in_ok-leave_out.ensures.drops c.if-branch-3.true)
+returns-then-not-has-3-clause-moves c = (c.requires.ready, omega arith, c.in_ok-leave_out.ensures.drops c.if-branch-4.true)
 
 pub returns-clause-dead : goal.returns-clause-dead
 returns-clause-dead c =
@@ -58,8 +76,8 @@ returns-clause-dead c =
           (all_late c.args.ops.now c.args.earliest.now c.loop-place.place (get_or c.args.ops.now c.args.state.now.first c.index-ops-state.result).end c.requires.earliest w.if-earliest-place.false)
       | else-loop-place-test w ↦ λ i from inside. absurd (omega (arith, from, inside, w.loop-place-test.false))
     ])
-    (λ all dropping. elim c.else-branch-3.branch [
-      | else-branch-3-via-then-branch-3+else-not-has-2 w ↦
-          all (position_of c.leave_out.new.next) (w.has-then-branch-3.ensures w.if-not-has-2.false) (dropping.1 (position_of c.leave_out.new.next) (c.in_ok-leave_out.ensures.drops w.if-branch-3.true))
-      | else-branch-3-via-else-branch-3 w ↦ c.in_ok-leave_out.ensures.answered w.if-branch-3.false dropping.0
+    (λ all dropping. elim c.else-branch-4.branch [
+      | else-branch-4-via-then-branch-4+else-not-has-3 w ↦
+          all (position_of c.leave_out.new.next) (w.has-then-branch-4.ensures w.if-not-has-3.false) (dropping.1 (position_of c.leave_out.new.next) (c.in_ok-leave_out.ensures.drops w.if-branch-4.true))
+      | else-branch-4-via-else-branch-4 w ↦ c.in_ok-leave_out.ensures.answered w.if-branch-4.false dropping.0
     ])

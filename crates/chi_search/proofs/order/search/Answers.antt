@@ -12,7 +12,7 @@ use Rattle.chi_search.proofs.Looking.{none_more, one_more}
 use Rattle.chi_search.proofs.Moves.{ended}
 use Rattle.chi_search.proofs.Paths.{moves_ready, none_tried, tried_back, tried_on, walks_back, walks_end, walks_on}
 use Rattle.chi_search.proofs.Start.{at_start, from_start, more_dead, none_dead, ready_at_start}
-use Rattle.chi_search.proofs.order.order_of.Goals as goal
+use Rattle.chi_search.proofs.order.search.Goals as goal
 
 pub loop-budget-init : goal.loop-budget-init
 unfolding Walks
@@ -34,7 +34,7 @@ returns-in-Ended-clause-order g c =
     let whole = walks_end c.args.ops.now c.args.last (start c.args.word) (position_of c.loop-budget.state) c.loop-budget.path.items [] c.requires.sorted
     c.loop-budget.invariant.walks (ended c.args.ops.now c.args.last (position_of c.loop-budget.state) is.0 is.1) in
     subst (Finishes c.args.ops.now (is_place c.args.ops.now) c.args.word c.args.last)
-    (append-nil (taken c.loop-budget.path.items) ∙ sym (rw c.deref-in-Ended.ensures.value at c.in_ok-order-in-Ended.ensures))
+    (append-nil (taken c.loop-budget.path.items) ∙ sym (rw c.deref.ensures.value at c.in_ok-order-in-Ended.ensures))
     (from_start c.args.ops.now c.args.word c.args.last (taken c.loop-budget.path.items ++ []) whole)
 
 pub loop-budget-preserved-in-Step : goal.loop-budget-preserved-in-Step

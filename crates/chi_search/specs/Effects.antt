@@ -1,0 +1,44 @@
+-- what is known of operations before any order of them is searched
+use Rattle.std.specs.Prelude.{◌≡◌, ℕ, ◌+◌, ◌/◌, ◌^◌, ◌<◌, ◌≤◌, List, length, slice_index_or}
+use Rattle.std.specs.Int.{bit_at}
+use Rattle.chi_fields.specs.Access.{Access}
+use Rattle.chi_fields.specs.declared.kind.Kind.{Kind}
+use Rattle.chi_fields.specs.declared.kind.Kind.TheVariants.{Read, Swap, Write}
+use Rattle.chi_lanes.specs.Memory.{granule_start}
+use Rattle.chi_trace.specs.declared.observed.Observed.{Observed}
+use Rattle.chi_trace.specs.Explains.{at}
+use Rattle.chi_trace.specs.Granules.{Fits, next}
+use Rattle.chi_search.specs.declared.effect.Effect.{Effect}
+
+-- the words have the same bits where those of the mask are 1
+abbrev pub Agree : ℕ → ℕ → ℕ → Type 0
+Agree mask v w = (k : ℕ) → bit_at mask k ≡ 1 → bit_at v k ≡ bit_at w k
+
+-- and where those of the mask are 0
+abbrev pub AgreeOutside : ℕ → ℕ → ℕ → Type 0
+AgreeOutside mask v w = (k : ℕ) → k < 64 → bit_at mask k ≡ 0 → bit_at v k ≡ bit_at w k
+
+-- bit k of the granule's word is one of a byte of the operand
+abbrev pub IsInOperand : Access → ℕ → Type 0
+IsInOperand o k = (o.addr ≤ granule_start o.addr + k / 8) × (granule_start o.addr + k / 8 < o.addr + o.len)
+
+-- wherever the operation fits it finds these bits, changes no others than these, and leaves these
+pub record HasEffect (op : Observed) (e : Effect) : Type 0 where
+  pub finds : (w : ℕ) → w < 2 ^ 64 → Fits op w → Agree e.found_mask e.found w
+  pub keeps : (w : ℕ) → w < 2 ^ 64 → Fits op w → AgreeOutside e.changed_mask (next op w) w
+  pub leaves : (w : ℕ) → w < 2 ^ 64 → Fits op w → Agree e.left_mask e.left (next op w)
+
+-- each byte stays, or is written whatever it was
+abbrev pub IsBlind : Kind → Type 0
+IsBlind Read = Unit {0}
+IsBlind Write = Unit {0}
+IsBlind Swap = Unit {0}
+IsBlind _ = ⊥
+
+-- what stands at a place past the end of a list of effects
+abbrev pub no_effect : Effect
+no_effect = record { found = 0; found_mask = 0; changed_mask = 0; left = 0; left_mask = 0 }
+
+-- each is that of the operation at its place
+abbrev pub AreEffects : List Observed → List Effect → Type 0
+AreEffects ops effects = (i : ℕ) → i < length effects → HasEffect (at ops i) (slice_index_or effects i no_effect)

@@ -1,0 +1,82 @@
+//! Operations that do the same, of which one need be tried.
+
+ghost use Rattle.std.specs.Prelude.{◌≡◌, ◌<◌, IsTrue, length};
+ghost use Rattle.chi_search.specs.Equal.{AreEqual, GoesOnBefore};
+ghost use Rattle.chi_search.specs.Positions.{IsReady, position_of};
+ghost use Rattle.chi_search.specs.Searchable.{AreSorted};
+
+use crate::state::{State, is_left};
+use crate::step::is_same;
+use chi_fields::Access;
+use chi_lanes::Reply;
+use chi_trace::Observed;
+
+/// Whether two operands are the same bytes, in the same byte order.
+pub(crate) fn is_same_operand(access: &Access, other: &Access) -> bool
+    ensures { IsTrue result → (access.now.addr ≡ other.now.addr) × (access.now.len ≡ other.now.len) × (access.now.endian ≡ other.now.endian) }
+{
+    access.addr() == other.addr()
+        && access.len() == other.len()
+        && access.endian() == other.endian()
+}
+
+// Whether two accesses do the same with the same data.
+fn is_same_action(access: &Access, other: &Access) -> bool
+    ensures { IsTrue result → (access.now.kind ≡ other.now.kind) × (access.now.enables ≡ other.now.enables) × (access.now.lanes ≡ other.now.lanes) }
+{
+    access.kind() == other.kind()
+        && access.enables() == other.enables()
+        && access.lanes() == other.lanes()
+}
+
+// Whether two accesses are the same.
+fn is_same_access(access: &Access, other: &Access) -> bool
+    ensures { IsTrue result → access.now ≡ other.now }
+{
+    is_same_operand(access, other) && is_same_action(access, other)
+}
+
+// Whether two replies, which may not have been seen, are the same.
+fn is_same_seen(reply: Option<Reply>, other: Option<Reply>) -> bool
+    ensures { IsTrue result → reply ≡ other }
+{
+    match (reply, other) {
+        (Some(reply), Some(other)) => is_same(reply, other),
+        (None, None) => true,
+        _ => false,
+    }
+}
+
+/// Whether two operations do the same and were answered the same.
+pub(crate) fn are_equal(op: &Observed, other: &Observed) -> bool
+    ensures { IsTrue result → AreEqual op.now other.now }
+{
+    is_same_access(&op.access, &other.access) && is_same_seen(op.reply, other.reply)
+}
+
+/// Whether an equal operation that can come next as well stands before the place, where it is asked for.
+pub(crate) fn has_equal_before(
+    ops: &[Observed],
+    state: &State,
+    place: usize,
+    is_asked: bool,
+) -> bool
+    requires sorted { AreSorted ops.now }
+    requires ready { IsReady (length ops.now) (position_of state.now) }
+    requires first { state.now.first < length ops.now }
+    requires place { place < length ops.now }
+    ensures { IsTrue result → GoesOnBefore ops.now (position_of state.now) place }
+{
+    if !is_asked {
+        return false;
+    }
+    let end = ops[state.first].end;
+    let op = &ops[place];
+    for before in state.first..place {
+        let other = &ops[before];
+        if other.start <= end && are_equal(op, other) && is_left(state, ops.len(), before) {
+            return true;
+        }
+    }
+    false
+}
