@@ -1,12 +1,9 @@
 -- the states that were looked at on the way to an answer
 use Rattle.std.proofs.Common.{◌≡◌, ℕ, ◌+◌, ◌≤◌, ◌⊎◌, inl, inr, Result, Ok, Err, IfOk, refl, arith}
 use Rattle.chi_doubt.specs.Doubts.{IsAsFar}
-use Rattle.chi_doubt.specs.Looks.{LookedAtLeast}
-use Rattle.chi_doubt.proofs.Looking.{at_least_after}
-use Rattle.chi_search.specs.Looks.{LookedMore}
-use Rattle.chi_search.proofs.Looking.{more_after}
+use Rattle.chi_search.specs.Looks.{LookedAtLeast, LookedMore, LookedSome}
+use Rattle.chi_search.proofs.Looking.{at_least_after, more_after, some_after}
 use Rattle.chi_verdict.specs.Traces.{TraceValue}
-use Rattle.chi_verdict.proofs.Spent.{LookedSome, some_after}
 use Rattle.chi_answer.specs.declared.answer.Answer.{Answer}
 use Rattle.chi_answer.specs.declared.answer.Answer.TheVariants.{Explained, Blamed, Unexplained, Undecided}
 use Rattle.chi_answer.specs.Answers.{IfUndecided, LookedForAnswer}

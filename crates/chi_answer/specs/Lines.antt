@@ -21,6 +21,15 @@ seen_text (Some reply) = reply_text reply
 unfoldable pub operation_text : Asked → Option Reply → List ℕ
 operation_text a reply = request_text (request_in a) ++ (seen_text reply ++ codes "\n")
 
+-- whether it was answered
+abbrev pub answered_text : Option Reply → List ℕ
+answered_text None = codes "no reply"
+answered_text (Some reply) = codes "answered"
+
+-- the line of an operation whose data are told elsewhere
+unfoldable pub told_text : Asked → Option Reply → List ℕ
+told_text a reply = request_text (request_in a) ++ (answered_text reply ++ codes "\n")
+
 -- the request at a place of the trace, the places counted from 0
 abbrev pub asked_at : RecordedValue → ℕ → Asked
 asked_at r i = slice_index_or r.requests i no_request
@@ -48,7 +57,7 @@ until_text end = if end == 2 ^ 64 - 1 then codes " on: " else codes " to " ++ de
 
 -- an operation that was open, with its times
 unfoldable pub open_line : Asked → Observed → List ℕ
-open_line a op = codes "  open from " ++ decimal op.start ++ until_text op.end ++ operation_text a op.reply
+open_line a op = codes "  open from " ++ decimal op.start ++ until_text op.end ++ told_text a op.reply
 
 -- the one at a place of the trace
 abbrev pub open_at : RecordedValue → ℕ → List ℕ
@@ -56,7 +65,7 @@ open_at r i = open_line (asked_at r i) (at r.trace.operations i)
 
 -- the operation that ended at the time up to which they cannot be explained
 unfoldable pub blamed_line : ℕ → Asked → Observed → List ℕ
-blamed_line time a op = codes "at " ++ decimal time ++ codes ": " ++ operation_text a op.reply
+blamed_line time a op = codes "at " ++ decimal time ++ codes ": " ++ told_text a op.reply
 
 -- the one at a place of the trace
 abbrev pub blamed_at : RecordedValue → ℕ → ℕ → List ℕ

@@ -3,7 +3,7 @@
 ghost use Rattle.std.specs.Prelude.{◌≡◌, ◌++◌, ◌<◌, All, OnOk, flat_map, length};
 ghost use Rattle.chi_answer.specs.Lines.{blamed_at, blamed_line, end_line, explained_line, open_at, open_line, until_text};
 
-use crate::lines::add_operation;
+use crate::lines::add_told;
 use crate::part::{Part, add_parts};
 use chi_reading::{Asked, Recorded};
 use chi_trace::Observed;
@@ -12,7 +12,7 @@ use std::alloc::AllocError;
 /// Adds the line of an operation that was answered at a time up to which its granule's operations cannot be explained.
 ///
 /// ```
-/// add_blamed(&mut text, 40, &asked, &op)?; // at 40: 2 1 30 AtomicLoad.ADD 3 0000000000001008 comp
+/// add_blamed(&mut text, 40, &asked, &op)?; // at 40: 2 1 30 AtomicLoad.ADD 3 0000000000001008 answered
 /// ```
 pub fn add_blamed(
     to: &mut Vec<u8>,
@@ -26,7 +26,7 @@ pub fn add_blamed(
         to,
         &[Part::Text("at "), Part::Number(time), Part::Text(": ")],
     )?;
-    add_operation(to, asked, op.reply)
+    add_told(to, asked, op.reply)
 }
 
 /// The line of the operation at a place of the trace that was answered at the time.
@@ -59,14 +59,14 @@ fn add_until(to: &mut Vec<u8>, end: u64) -> Result<(), AllocError>
 /// Adds the line of an operation that was open, with its times.
 ///
 /// ```
-/// add_open(&mut text, &asked, &op)?; //   open from 30 to 40: 2 1 30 AtomicLoad.ADD 3 0000000000001008 comp
+/// add_open(&mut text, &asked, &op)?; //   open from 30 to 40: 2 1 30 AtomicLoad.ADD 3 0000000000001008 answered
 /// ```
 pub fn add_open(to: &mut Vec<u8>, asked: &Asked, op: &Observed) -> Result<(), AllocError>
     ensures { OnOk result (to.new.items ≡ to.old.items ++ open_line asked.now op.now) }
 {
     add_parts(to, &[Part::Text("  open from "), Part::Number(op.start)])?;
     add_until(to, op.end)?;
-    add_operation(to, asked, op.reply)
+    add_told(to, asked, op.reply)
 }
 
 /// The line of the operation at a place of the trace, which was open.

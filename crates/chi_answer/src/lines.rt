@@ -2,7 +2,7 @@
 
 ghost use Rattle.std.specs.Prelude.{◌≡◌, ◌++◌, OnOk, flat_map};
 ghost use Rattle.chi_script.specs.Transcript.{request_text};
-ghost use Rattle.chi_answer.specs.Lines.{granule_line, more_line, operation_text, request_in, seen_text, undecided_line, word_line, word_lines};
+ghost use Rattle.chi_answer.specs.Lines.{answered_text, granule_line, more_line, operation_text, request_in, seen_text, told_text, undecided_line, word_line, word_lines};
 
 use crate::part::{Part, add_parts};
 use chi_fields::op_name;
@@ -56,6 +56,29 @@ pub(crate) fn add_operation(
 {
     add_request(to, asked)?;
     add_reply(to, reply)?;
+    add_parts(to, &[Part::Text("\n")])
+}
+
+/// Whether it was answered.
+fn add_answered(to: &mut Vec<u8>, reply: Option<Reply>) -> Result<(), AllocError>
+    ensures { OnOk result (to.new.items ≡ to.old.items ++ answered_text reply) }
+{
+    match reply {
+        Some(_) => add_parts(to, &[Part::Text("answered")]),
+        None => add_parts(to, &[Part::Text("no reply")]),
+    }
+}
+
+/// The line of an operation whose data are told elsewhere: its request, and whether it was answered.
+pub(crate) fn add_told(
+    to: &mut Vec<u8>,
+    asked: &Asked,
+    reply: Option<Reply>,
+) -> Result<(), AllocError>
+    ensures { OnOk result (to.new.items ≡ to.old.items ++ told_text asked.now reply) }
+{
+    add_request(to, asked)?;
+    add_answered(to, reply)?;
     add_parts(to, &[Part::Text("\n")])
 }
 

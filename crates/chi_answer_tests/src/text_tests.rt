@@ -37,11 +37,10 @@ const FOUR_WRITES: &str = r#"{"requests": [
 fn lost_update_beside_an_open_write(rt: HostRuntime) -> Result<(), Fail> {
     let found = text(rt.alloc(), LOST_UPDATE, 1000, false)?;
     let wanted = "not explained: granule 0000000000001000
-at 40: 2 7 30 AtomicLoad.ADD 3 0000000000001000 data 00000000000000000000000000000000
+at 40: 2 7 30 AtomicLoad.ADD 3 0000000000001000 answered
 ";
     assert_same(&rt, found.starts_with(wanted), true);
-    let open =
-        "  open from 30 to 40: 2 7 30 AtomicLoad.ADD 3 0000000000001000 data 00000000000000000000000000000000
+    let open = "  open from 30 to 40: 2 7 30 AtomicLoad.ADD 3 0000000000001000 answered
   open from 35 on: 3 8 1c WriteNoSnpPtl 3 0000000000001000 no reply
   explained up to 39 (operations: ";
     assert_same(&rt, found.contains(open), true);

@@ -11,8 +11,8 @@ use Rattle.chi_trace.specs.declared.observed.Observed.{Observed}
 use Rattle.chi_trace.specs.Chosen.{is_in}
 use Rattle.chi_trace.specs.Explains.{is_answered}
 use Rattle.chi_doubt.specs.Explained.{AreAnsweredBeside, AreAnsweredBy, CannotBe, EndsBy, IsExplainedTo}
-use Rattle.chi_doubt.specs.Looks.{LookedAtLeast, LookedSome}
-use Rattle.chi_doubt.proofs.Looking.{at_least_after, at_least_before}
+use Rattle.chi_search.specs.Looks.{LookedAtLeast, LookedSome}
+use Rattle.chi_search.proofs.Looking.{at_least_after, at_least_before}
 
 -- its reply was seen, or it was not
 pub answered_is : (op : Observed) (b : Bool) → is_some op.reply ≡ b → is_answered op ≡ b

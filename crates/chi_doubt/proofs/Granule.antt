@@ -1,7 +1,7 @@
 -- a granule's operations, and what had happened of them by a time
 use Rattle.std.proofs.Common.{◌≡◌, ℕ, ◌≤◌, nat_le, Bool, true, false, cond, List, [], ◌∷◌, All, filter, map, None, refl, ap, subst, ◌∙◌}
 use Rattle.std.specs.Prelude.{IsPermutation}
-use Rattle.std.proofs.lemmas.List.Elements.{All-cons, All-filter, All-map, All-nil, All-weaker}
+use Rattle.std.proofs.lemmas.List.Elements.{All-cons, All-filter, All-nil}
 use Rattle.chi_trace.specs.declared.observed.Observed.{Observed}
 use Rattle.chi_trace.specs.Chosen.{is_in}
 use Rattle.chi_trace.specs.Cuts.{cut, has_started, known}
@@ -23,43 +23,13 @@ unfolding IsTrace
 all_observed [] is = All-nil IsObserved
 all_observed (op ∷ ops) is = All-cons IsObserved op ops is.0 (all_observed ops is.2)
 
--- a reply that is not known changes nothing else of an operation
-known_start : (time : ℕ) (op : Observed) → (known time op).start ≡ op.start
-known_start time op = by_test (nat_le op.end time)
-  where
-    by_test : (b : Bool) → (cond b op (record op { reply = None })).start ≡ op.start
-    by_test true = refl
-    by_test false = refl
-
+-- its granule does not depend on what is known of it
 known_own : (g time : ℕ) (op : Observed) → is_in g (known time op) ≡ is_in g op
 known_own g time op = by_test (nat_le op.end time)
   where
     by_test : (b : Bool) → is_in g (cond b op (record op { reply = None })) ≡ is_in g op
     by_test true = refl
     by_test false = refl
-
-known_observed : (time : ℕ) (op : Observed) → IsObserved op → IsObserved (known time op)
-known_observed time op is = by_test (nat_le op.end time)
-  where
-    by_test : (b : Bool) → IsObserved (cond b op (record op { reply = None }))
-    by_test true = is
-    by_test false = record { lawful = is.lawful; within = is.within; lasting = is.lasting }
-
--- so what had happened by a time is a trace
-pub IsTrace-cut : (time : ℕ) (ops : List Observed) → IsTrace ops → IsTrace (cut time ops)
-unfolding IsTrace
-IsTrace-cut time [] is = tt
-IsTrace-cut time (op ∷ ops) is = by_test (has_started time op) (IsTrace-cut time ops is.2)
-  where
-    no_earlier : All (λ later. (known time op).start ≤ later.start) (cut time ops)
-    no_earlier = All-map (λ later. (known time op).start ≤ later.start) (known time) (filter (has_started time) ops)
-        (All-weaker (λ later. op.start ≤ later.start) (λ later. (known time op).start ≤ (known time later).start)
-        (λ later le. rw (known_start time op, known_start time later) le)
-        (filter (has_started time) ops) (All-filter (has_started time) (λ later. op.start ≤ later.start) ops is.1))
-
-    by_test : (b : Bool) → IsTrace (cut time ops) → IsTrace (map (known time) (cond b (op ∷ filter (has_started time) ops) (filter (has_started time) ops)))
-    by_test true rest = (known_observed time op is.0, no_earlier, rest)
-    by_test false rest = rest
 
 -- a granule's operations by a time are those of the granule that had happened by it
 cut-filter : (g time : ℕ) (ops : List Observed) → cut time (filter (is_in g) ops) ≡ filter (is_in g) (cut time ops)

@@ -1,4 +1,3 @@
 mod Answering
 mod Counting
-mod Granule
-pub mod Looking
+pub mod Granule

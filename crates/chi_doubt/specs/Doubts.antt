@@ -6,7 +6,7 @@ use Rattle.chi_verdict.specs.Traces.{TraceValue}
 use Rattle.chi_verdict.specs.Words.{word_told}
 use Rattle.chi_doubt.specs.declared.doubt.Doubt.{Doubt}
 use Rattle.chi_doubt.specs.Explained.{AreAnsweredBeside, AreAnsweredBy, IsExplainedTo}
-use Rattle.chi_doubt.specs.Looks.{LookedAtLeast}
+use Rattle.chi_search.specs.Looks.{LookedAtLeast}
 use Rattle.chi_doubt.specs.Open.{most_open}
 
 -- some order explains the granule's operations up to a time, from its word at the opening on

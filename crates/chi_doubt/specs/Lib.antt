@@ -1,4 +1,3 @@
 pub mod Doubts
 pub mod Explained
-pub mod Looks
 pub mod Open

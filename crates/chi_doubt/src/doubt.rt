@@ -2,7 +2,7 @@
 
 ghost use Rattle.std.specs.Prelude.{◌≡◌, IfOk};
 ghost use Rattle.chi_doubt.specs.Doubts.{IsAsFar, IsDoubt};
-ghost use Rattle.chi_doubt.specs.Looks.{LookedSome};
+ghost use Rattle.chi_search.specs.Looks.{LookedSome};
 
 use crate::explained::latest_explained;
 use crate::open::most_at_once;

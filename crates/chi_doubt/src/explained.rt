@@ -5,7 +5,7 @@ ghost use Rattle.std.specs.List.{Contains};
 ghost use Rattle.std.specs.List.Sorted.{IsNonDecreasing};
 ghost use Rattle.chi_trace.specs.Explains.{IsTrace, is_answered};
 ghost use Rattle.chi_doubt.specs.Explained.{AreAnsweredBeside, AreAnsweredBy, CanBe, CannotBe};
-ghost use Rattle.chi_doubt.specs.Looks.{LookedAtLeast, LookedSome};
+ghost use Rattle.chi_search.specs.Looks.{LookedAtLeast, LookedSome};
 
 use crate::known::is_explained;
 use chi_search::Progress;

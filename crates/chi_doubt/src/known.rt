@@ -5,7 +5,7 @@ ghost use Rattle.chi_search.specs.Searchable.{AreSorted, AreWithin};
 ghost use Rattle.chi_trace.specs.Cuts.{cut};
 ghost use Rattle.chi_trace.specs.Explains.{IsTrace};
 ghost use Rattle.chi_doubt.specs.Explained.{CanBe, CannotBe};
-ghost use Rattle.chi_doubt.specs.Looks.{LookedAtLeast, LookedSome};
+ghost use Rattle.chi_search.specs.Looks.{LookedAtLeast, LookedSome};
 
 use chi_search::{Found, Progress, order_of};
 use chi_trace::Observed;

@@ -2,7 +2,7 @@ mod Added
 mod Ahead
 mod Answered
 mod Blamed
-mod Cuts
+pub mod Cuts
 mod Entries
 pub mod Filling
 mod Gained

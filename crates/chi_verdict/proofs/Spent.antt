@@ -3,20 +3,11 @@ use Rattle.std.proofs.Common.{◌≡◌, ℕ, ◌+◌, ◌-◌, ◌≤◌, ◌�
 use Rattle.chi_search.specs.declared.words.Words.{Words}
 use Rattle.chi_search.specs.declared.words.Words.TheVariants.{Each, Unknown}
 use Rattle.chi_search.specs.Found.{IfUnknown}
-use Rattle.chi_search.specs.Looks.{LookedMore}
+use Rattle.chi_search.specs.Looks.{LookedMore, LookedSome}
 use Rattle.chi_search.proofs.Looking.{more_after}
 use Rattle.chi_verdict.specs.declared.first.First.{First}
 use Rattle.chi_verdict.specs.declared.first.First.TheVariants.{Never, At, Undecided}
 use Rattle.chi_verdict.specs.Blames.{LookedForFirst}
-
--- some states were looked at
-abbrev pub LookedSome : {P : Type 0} → (P → ℕ → Type 0) → P → P → Type 0
-LookedSome looked old new = (k : ℕ) × LookedMore looked old new k
-
--- some, and then others
-pub some_after : {P : Type 0} (looked : P → ℕ → Type 0) (old middle new : P)
-    → LookedSome looked old middle → LookedSome looked middle new → LookedSome looked old new
-some_after looked old middle new first then = (first.0 + then.0, more_after looked old middle new first.0 then.0 (first.0 + then.0) refl first.1 then.1)
 
 -- no fewer than the budget where a granule was not decided
 abbrev pub LookedFor : {P : Type 0} → (P → ℕ → Type 0) → P → P → ℕ → Option ℕ → Type 0

@@ -5,4 +5,4 @@ use Rattle.chi_answer.proofs.blame_lines.add_blamed.Goals as goal
 
 pub returns : goal.returns
 unfolding blamed_line
-returns c = simp append_assoc (simp (c.in_ok-add_parts.ensures, append_assoc, append-nil) at c.add_operation.ensures)
+returns c = simp append_assoc (simp (c.in_ok-add_parts.ensures, append_assoc, append-nil) at c.add_told.ensures)

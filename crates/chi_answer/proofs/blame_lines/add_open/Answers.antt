@@ -1,6 +1,6 @@
 -- the times, and the operation
 use Rattle.std.proofs.Common.{◌≡◌, ℕ, List, ◌++◌, OnOk, append_assoc, append-nil, codes, decimal, ap, subst, ◌∙◌}
-use Rattle.chi_answer.specs.Lines.{open_line, operation_text, until_text}
+use Rattle.chi_answer.specs.Lines.{open_line, told_text, until_text}
 use Rattle.chi_answer.proofs.blame_lines.add_open.Goals as goal
 
 -- one text after the other
@@ -12,8 +12,8 @@ unfolding open_line
 returns c =
     let op = c.args.op.now in
     let first = codes "  open from " ++ decimal op.start in
-    let last = operation_text c.args.asked.now op.reply in
+    let last = told_text c.args.asked.now op.reply in
     let parts : c.add_parts.new.to.items ≡ c.args.to.now.items ++ first = simp append-nil at c.in_ok-add_parts.ensures in
     let until : c.add_until.new.to.items ≡ (c.args.to.now.items ++ first) ++ until_text op.end = c.in_ok-add_until.ensures ∙ ap (λ (l : List ℕ). l ++ until_text op.end) parts in
-    subst (λ (l : List ℕ). OnOk c.add_operation.result (c.add_operation.new.to.items ≡ l)) (ap (λ (l : List ℕ). l ++ last) until ∙ joined c.args.to.now.items first (until_text op.end) last)
-    c.add_operation.ensures
+    subst (λ (l : List ℕ). OnOk c.add_told.result (c.add_told.new.to.items ≡ l)) (ap (λ (l : List ℕ). l ++ last) until ∙ joined c.args.to.now.items first (until_text op.end) last)
+    c.add_told.ensures

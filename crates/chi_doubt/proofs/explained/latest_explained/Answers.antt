@@ -2,9 +2,9 @@
 use Rattle.std.proofs.Common.{◌≡◌, ℕ, ◌+◌, ◌-◌, ◌/◌, ◌<◌, ◌≤◌, ◌⊎◌, Some, length, slice_index, ap, subst, ◌∙◌, arith}
 use Rattle.std.proofs.lemmas.List.{get_or_default}
 use Rattle.chi_doubt.specs.Explained.{CannotBe}
-use Rattle.chi_doubt.specs.Looks.{LookedAtLeast}
+use Rattle.chi_search.specs.Looks.{LookedAtLeast}
 use Rattle.chi_doubt.proofs.Answering.{far, tried_after, tried_next}
-use Rattle.chi_doubt.proofs.Looking.{some_after}
+use Rattle.chi_search.proofs.Looking.{some_after}
 use Rattle.chi_doubt.proofs.explained.latest_explained.Goals as goal
 
 pub loop-low-preserved-then-branch : goal.loop-low-preserved-then-branch

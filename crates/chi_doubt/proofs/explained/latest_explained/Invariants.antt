@@ -1,7 +1,7 @@
 -- the time that was found is the end before the low one, and from the high one on the ends were tried
 use Rattle.std.proofs.Common.{◌≡◌, ◌⊎◌, ℕ, ◌+◌, ◌-◌, ◌≤◌, length, slice_index, IfSome, Some}
 use Rattle.chi_doubt.specs.Explained.{CanBe, CannotBe}
-use Rattle.chi_doubt.specs.Looks.{LookedAtLeast, LookedSome}
+use Rattle.chi_search.specs.Looks.{LookedAtLeast, LookedSome}
 use Rattle.chi_doubt.proofs.explained.latest_explained.Given as goal
 
 abbrev pub invariant-loop-low : goal.invariant-loop-low

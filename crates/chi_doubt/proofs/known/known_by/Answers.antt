@@ -4,7 +4,8 @@ use Rattle.std.proofs.lemmas.List.Sorted.{All-permutation, IsNonDecreasingBy-fro
 use Rattle.chi_trace.specs.declared.observed.Observed.{Observed}
 use Rattle.chi_trace.specs.Cuts.{cut}
 use Rattle.chi_trace.specs.Explains.{IsObserved, nothing}
-use Rattle.chi_doubt.proofs.Granule.{IsTrace-cut, all_observed}
+use Rattle.chi_verdict.proofs.Cuts.{IsTrace-cut}
+use Rattle.chi_doubt.proofs.Granule.{all_observed}
 use Rattle.chi_doubt.proofs.known.known_by.Goals as goal
 
 pub returns-clause-sorted : goal.returns-clause-sorted

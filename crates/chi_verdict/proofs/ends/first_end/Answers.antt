@@ -3,9 +3,8 @@ use Rattle.std.proofs.Common.{◌+◌, ◌-◌, ◌/◌, ◌<◌, None, length, 
 use Rattle.std.proofs.lemmas.List.{get_or_default}
 use Rattle.chi_trace.specs.Cuts.{cut}
 use Rattle.chi_trace.specs.Granules.{ExplainsGranule}
-use Rattle.chi_search.proofs.Looking.{none_more}
+use Rattle.chi_search.proofs.Looking.{none_more, some_after}
 use Rattle.chi_verdict.specs.declared.grouping.Placed.{Placed}
-use Rattle.chi_verdict.proofs.Spent.{some_after}
 use Rattle.chi_verdict.proofs.ends.first_end.Goals as goal
 
 pub loop-low-preserved-then-branch : goal.loop-low-preserved-then-branch

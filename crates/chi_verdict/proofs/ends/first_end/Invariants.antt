@@ -3,7 +3,7 @@ use Rattle.std.proofs.Common.{ℕ, ◌-◌, ◌<◌, List, None, length, slice_i
 use Rattle.chi_trace.specs.Cuts.{cut}
 use Rattle.chi_trace.specs.Granules.{ExplainsGranule}
 use Rattle.chi_verdict.specs.declared.grouping.Placed.{Placed}
-use Rattle.chi_verdict.proofs.Spent.{LookedSome}
+use Rattle.chi_search.specs.Looks.{LookedSome}
 use Rattle.chi_verdict.proofs.ends.first_end.Given as goal
 
 abbrev pub invariant-loop-low : goal.invariant-loop-low
