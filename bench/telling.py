@@ -6,8 +6,8 @@ from orders import MOST, Operation, first_unexplained, is_explained, known_by, w
 
 
 def operation_line(it):
-    """An operation as a transcript has it."""
-    request, reply = it.request, {None: "no reply", "comp": "comp"}.get(it.reply) or f"data {it.reply.lower()}"
+    """An operation and whether it was answered."""
+    request, reply = it.request, "no reply" if it.reply is None else "answered"
     name = f"{request['op']:02x} {name_of(request['op'])}"
     return f"{request['src']} {request['txn']} {name} {request['size']} {request['addr']:016x} {reply}"
 

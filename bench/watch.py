@@ -4,7 +4,8 @@
 Each history is told as events (histories.py). What has to be answered on them, with and without --keep-going, is found by
 trying every order (telling.py, orders.py): which granules are not explained, by which line, and where each stops being so.
 `chicheck explain` has to give the same verdict on the same operations, and of each such granule by itself it has to say the
-same. A history that the program disagrees on is shown. CHICHECK names the program."""
+same and to show the same operations; each of these has to have the line that told its request. A history that the program
+disagrees on is shown. CHICHECK names the program."""
 
 import collections
 import json
@@ -27,6 +28,10 @@ COUNT, SEED = [int(it) for it in sys.argv[1:]] + [20000, 1][len(sys.argv) - 1 :]
 SHOWN = 3
 # The status where an event is refused.
 REFUSED = 3
+# How the lines of a granule's last operations begin, and what stands in one of them.
+LAST = "  the last operations of the granule"
+ROW = re.compile(r"  (?:  |> )(?:request|line) +(\d+) \|([ =#]*)\|(  +(\d+) .* requester (\d+) txn (\d+))")
+LEGAL = "    legal would be: "
 
 
 def lines_of(events):
@@ -68,6 +73,30 @@ def is_same_part(found, wanted):
     return found[1] == wanted[1] and len(found[0]) == min(16, wanted[1]) and found[0] <= wanted[0]
 
 
+def without_rows(lines):
+    """Lines without those of a granule's last operations."""
+    return [it for it in lines if not (it.startswith((LAST, LEGAL)) or ROW.fullmatch(it))]
+
+
+def rows_of(lines):
+    """The rows among lines, but for their numbers and for which of them is blamed, in the order of their texts."""
+    rows = filter(None, map(ROW.fullmatch, lines))
+    return sorted(it[2].replace("#", "=") + it[3] for it in rows) + [it for it in lines if it.startswith(LAST)]
+
+
+def rows_by_granule(answer):
+    """The rows of each granule that is not explained."""
+    parts = answer.split("not explained: granule ")[1:]
+    return {int(it[:16], 16): rows_of(it.splitlines()) for it in parts}
+
+
+def is_told_there(row, events):
+    """Whether the line whose number a row has told its request."""
+    line, _, _, start, src, txn = row.groups()
+    event = events[int(line) - 1]
+    return event["event"] == "request" and (event["time"], event["src"], event["txn"]) == (int(start), int(src), int(txn))
+
+
 def stop_of(lines):
     """The lines of where a granule stops being explained, whichever operation of that time is named, however many an order of
     them has, and in whichever order those stand that were open."""
@@ -78,7 +107,7 @@ def stop_of(lines):
 
 def is_same_stop(answer, granule, lines):
     """Whether explain says of the granule by itself what watch said of it."""
-    first, *found = answer[1].split("  the last operations of the granule")[0].splitlines()
+    first, *found = answer[1].split(LAST)[0].splitlines()
     return answer[0] == 1 and first == f"not explained: granule {granule:016x}" and is_same(stop_of(found), stop_of(lines))
 
 
@@ -99,12 +128,18 @@ def disagreements(events):
     for words, keeps_going in [("watch", False), ("watch --keep-going", True)]:
         watched, answer = Watched(events, keeps_going), run(words, lines_of(events))
         status, wanted = watched.answer()
-        if answer[0] != status or not is_same(answer[1].splitlines(), wanted.splitlines()):
+        lines = answer[1].splitlines()
+        if answer[0] != status or not is_same(without_rows(lines), wanted.splitlines()):
             found.append((words, answer, watched.answer()))
+        if not all(is_told_there(it, events) for it in filter(None, map(ROW.fullmatch, lines))):
+            found.append((f"rows of {words}", answer, "the lines of their requests"))
+    rows = rows_by_granule(answer[1])
     for granule, lines in watched.stops.items():
         answer = run("explain", json.dumps(watched.traces[granule]))
         if not is_same_stop(answer, granule, lines):
             found.append((f"explain of {granule:016x}", answer, lines))
+        if rows_of(answer[1].splitlines()) != rows.get(granule):
+            found.append((f"rows of explain of {granule:016x}", answer, rows.get(granule)))
     told = Told()
     for event in events:
         told.take(event)

@@ -1,7 +1,7 @@
 -- operations that are kept: one more, and fewer
-use Rattle.std.proofs.Common.{◌≡◌, ℕ, ◌+◌, ◌-◌, ◌<◌, ◌≤◌, ◌↔◌, Bool, true, false, List, [], ◌∷◌, ◌++◌, All, IsTrue, get_or, get_or-drop, length, length-drop, take, drop, append_assoc, append-nil, refl, sym, ap, subst, ◌∙◌, arith, true≢false}
+use Rattle.std.proofs.Common.{◌≡◌, ℕ, ◌+◌, ◌-◌, ◌<◌, ◌≤◌, ◌↔◌, Bool, true, false, List, [], ◌∷◌, ◌++◌, All, IsTrue, get_or, get_or-drop, length, length-drop, take, drop, append_assoc, append-nil, refl, sym, ap, ap₂, subst, ◌∙◌, arith, true≢false}
 use Rattle.std.specs.List.{Contains}
-use Rattle.std.proofs.lemmas.List.{drop-map, get_or_default, map-append, take-append-drop}
+use Rattle.std.proofs.lemmas.List.{drop-map, get_or_default, map-append, take-append-drop, take-map}
 use Rattle.std.proofs.lemmas.List.Elements.{All-append, All-cons, All-drop, All-nil, All-push, All-take, All-weaker}
 use Rattle.chi_trace.specs.declared.observed.Observed.{Observed}
 use Rattle.chi_trace.specs.Cuts.{cut}
@@ -11,7 +11,9 @@ use Rattle.chi_search.specs.Layers.{SomeLeads}
 use Rattle.chi_search.proofs.Telling.{sorted_after, sorted_one}
 use Rattle.chi_recent.specs.declared.traced.Traced.{Traced}
 use Rattle.chi_recent.specs.Recent.{CanBeKept, EndedBefore, EndedWithin, IsNextHorizon, Keeps, LiesWithin, RecentValue, operations}
+use Rattle.chi_recent.specs.Shown.{EndsNoLater, last_of}
 use Rattle.chi_recent.proofs.Cutting.{EndedBy, cut-append, cut_later, cut_whole}
+use Rattle.chi_recent.proofs.Last.{last_more, operations_last, pairs_append, pairs_by_end, pairs_take}
 
 -- an operation that starts later had not happened
 cut_more : (time : ℕ) (told : List Observed) (op : Observed) → time < op.start → cut time (told ++ op ∷ []) ≡ cut time told
@@ -19,21 +21,30 @@ cut_more time told op later =
     cut-append time told (op ∷ []) ∙ (ap (λ (l : List Observed). cut time told ++ l)
     (cut_later time (op ∷ []) (All-cons (λ (o : Observed). time < o.start) op [] later (All-nil (λ (o : Observed). time < o.start)))) ∙ append-nil (cut time told))
 
+-- those that had ended, those that are known, and those that start later
+pub cut_parts : (time since : ℕ) (earlier ops later : List Observed) → since ≤ time + 1 → All (EndedBefore since) earlier → All (λ op. time < op.start) later
+    → cut time (earlier ++ (ops ++ later)) ≡ earlier ++ cut time ops
+cut_parts time since earlier ops later le ended late =
+    cut-append time earlier (ops ++ later)
+    ∙ (ap (λ (l : List Observed). l ++ cut time (ops ++ later)) whole
+    ∙ ap (λ (l : List Observed). earlier ++ l) (cut-append time ops later
+    ∙ (ap (λ (l : List Observed). cut time ops ++ l) (cut_later time later late) ∙ append-nil (cut time ops))))
+  where
+    whole : cut time earlier ≡ earlier
+    whole = cut_whole time earlier (All-weaker (EndedBefore since) (EndedBy time) (λ op e. (e.0, omega (arith, e.1, le))) earlier ended)
+
 module _ (words : List ℕ) (told : List Observed) (now : ℕ) (r : RecentValue) (k : Keeps words told now r) where
+  -- those that are left out start after the time
+  pub late_after : (time : ℕ) → (IsTrue r.is_stopped → time < r.horizon) → All (λ op. time < op.start) k.later
+  late_after time before = by_test r.is_stopped refl
+    where
+      by_test : (b : Bool) → r.is_stopped ≡ b → All (λ op. time < op.start) k.later
+      by_test true stopped = All-weaker (λ (op : Observed). r.horizon ≤ op.start) (λ (op : Observed). time < op.start) (λ op late. omega (arith, late, before stopped)) k.later k.late
+      by_test false goes = subst (All (λ (op : Observed). time < op.start)) (sym (k.goes_on goes)) (All-nil (λ (op : Observed). time < op.start))
+
   -- up to a time at which none is left out, and each earlier one had ended
   pub cut_kept : (time : ℕ) → r.since ≤ time + 1 → (IsTrue r.is_stopped → time < r.horizon) → cut time told ≡ k.earlier ++ cut time (operations r.kept)
-  cut_kept time since before =
-      ap (cut time) k.parts ∙ (cut-append time k.earlier (operations r.kept ++ k.later)
-      ∙ (ap (λ (l : List Observed). l ++ cut time (operations r.kept ++ k.later)) whole
-      ∙ ap (λ (l : List Observed). k.earlier ++ l) (cut-append time (operations r.kept) k.later
-      ∙ (ap (λ (l : List Observed). cut time (operations r.kept) ++ l) (left_out r.is_stopped refl) ∙ append-nil (cut time (operations r.kept))))))
-    where
-      whole : cut time k.earlier ≡ k.earlier
-      whole = cut_whole time k.earlier (All-weaker (EndedBefore r.since) (EndedBy time) (λ op e. (e.0, omega (arith, e.1, since))) k.earlier k.ended)
-
-      left_out : (b : Bool) → r.is_stopped ≡ b → cut time k.later ≡ []
-      left_out true stopped = cut_later time k.later (All-weaker (λ (op : Observed). r.horizon ≤ op.start) (λ (op : Observed). time < op.start) (λ op late. omega (arith, late, before stopped)) k.later k.late)
-      left_out false goes = ap (cut time) (k.goes_on goes)
+  cut_kept time since before = ap (cut time) k.parts ∙ cut_parts time r.since k.earlier (operations r.kept) k.later since k.ended (late_after time before)
 
   -- the words after what was known by the time before a horizon are those that what was told can leave by then
   pub words_at : (horizon : ℕ) → r.is_stopped ≡ false → r.horizon < horizon → (each : List ℕ)
@@ -50,6 +61,8 @@ module _ (words : List ℕ) (told : List Observed) (now : ℕ) (r : RecentValue)
     later = k.later;
     parts = k.parts;
     follows = k.follows;
+    left = k.left;
+    in_order = k.in_order;
     ended = k.ended;
     next = k.next;
     within = k.within;
@@ -84,6 +97,8 @@ module _ (words : List ℕ) (told : List Observed) (now : ℕ) (r : RecentValue)
       parts = ap (λ (l : List Observed). l ++ t.op ∷ []) (told_kept goes) ∙ (append_assoc k.earlier (operations r.kept) (t.op ∷ [])
           ∙ ap (λ (l : List Observed). k.earlier ++ l) (sym more ∙ sym (append-nil (operations (r.kept ++ t ∷ [])))));
       follows = k.follows;
+      left = k.left;
+      in_order = k.in_order;
       ended = k.ended;
       next = subst (MayBeTold r.before) (sym more) (record {
         sorted = sorted_after (operations r.kept) (t.op ∷ []) now k.next.sorted (sorted_one t.op can.lasting)
@@ -116,6 +131,8 @@ module _ (words : List ℕ) (told : List Observed) (now : ℕ) (r : RecentValue)
       parts = ap (λ (l : List Observed). l ++ t.op ∷ []) k.parts ∙ (append_assoc k.earlier (operations r.kept ++ k.later) (t.op ∷ [])
           ∙ ap (λ (l : List Observed). k.earlier ++ l) (append_assoc (operations r.kept) k.later (t.op ∷ [])));
       follows = k.follows;
+      left = k.left;
+      in_order = k.in_order;
       ended = k.ended;
       next = k.next;
       within = k.within;
@@ -140,6 +157,8 @@ module _ (words : List ℕ) (told : List Observed) (now : ℕ) (r : RecentValue)
     later = [];
     parts = told_kept goes ∙ ap (λ (l : List Observed). k.earlier ++ l) (sym (append-nil (operations r.kept)));
     follows = k.follows;
+    left = k.left;
+    in_order = k.in_order;
     ended = k.ended;
     next = k.next;
     within = k.within;
@@ -155,16 +174,23 @@ module _ (words : List ℕ) (told : List Observed) (now : ℕ) (r : RecentValue)
   }
 
   -- those that ended before a horizon are left to the search before the others
-  pub keeps_fewer : (horizon count : ℕ) (before : FrontierValue) → IsNextHorizon words told now r horizon
+  pub keeps_fewer : (horizon count : ℕ) (before : FrontierValue) (left : List Traced) → left ≡ last_of 16 (r.left ++ take count r.kept) → IsNextHorizon words told now r horizon
       → All (λ op. op.end < horizon) (take count (operations r.kept)) → (count < length (operations r.kept) → horizon ≤ (at (operations r.kept) count).end)
       → Follows words (k.earlier ++ take count (operations r.kept)) before → MayBeTold before (drop count (operations r.kept)) → before.horizon ≤ horizon → before.latest ≤ now
-      → Keeps words told now (record { before = before; kept = drop count r.kept; since = horizon; horizon = horizon; is_stopped = r.is_stopped })
-  keeps_fewer horizon count before is ended first follows next horizon_by latest_by = record {
+      → Keeps words told now (record { before = before; left = left; kept = drop count r.kept; since = horizon; horizon = horizon; is_stopped = r.is_stopped })
+  keeps_fewer horizon count before left left_is is ended first follows next horizon_by latest_by = record {
     earlier = k.earlier ++ take count ops;
     later = [];
     parts = told_kept is.goes_on ∙ (ap (λ (l : List Observed). k.earlier ++ l) (sym (take-append-drop count ops)) ∙ (sym (append_assoc k.earlier (take count ops) (drop count ops))
         ∙ ap (λ (l : List Observed). (k.earlier ++ take count ops) ++ l) (sym rest ∙ sym (append-nil (operations (drop count r.kept))))));
     follows = follows;
+    left = ap operations left_is ∙ (operations_last 16 (r.left ++ take count r.kept)
+        ∙ (ap (last_of 16) (map-append (λ (t : Traced). t.op) r.left (take count r.kept)
+        ∙ ap₂ (λ (a b : List Observed). a ++ b) k.left (sym (take-map (λ (t : Traced). t.op) count r.kept)))
+        ∙ last_more 16 k.earlier (take count ops)));
+    in_order = pairs_append k.earlier (take count ops) k.in_order (pairs_take count ops (pairs_by_end ops k.next.sorted.0))
+        (All-weaker (EndedBefore r.since) (λ (op : Observed). All (EndsNoLater op) (take count ops))
+        (λ op e. All-take (EndsNoLater op) count ops (All-weaker (EndedWithin r.since now) (EndsNoLater op) (λ other from. omega (arith, e.1, from.0)) ops k.ends)) k.earlier k.ended);
     ended = All-append (EndedBefore horizon) k.earlier (take count ops)
         (All-weaker (EndedBefore r.since) (EndedBefore horizon) (λ op e. (e.0, omega (arith, e.1, k.since_by, is.later))) k.earlier k.ended)
         (λ i d below. (All-take (λ (op : Observed). op.start ≤ op.end) count ops k.next.sorted.1 i d below, ended i d below));

@@ -1,7 +1,9 @@
+pub mod Answered
+pub mod Before
 pub mod Cutting
 pub mod Keeping
+pub mod Last
 pub mod Leading
 pub mod Lists
-pub mod Looked
 pub mod More
 pub mod Reached

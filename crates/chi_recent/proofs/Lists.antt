@@ -56,28 +56,15 @@ module _ {X : Type 0} (p : X → Bool) where
       IsPermutation-keeps xs (KeepsSame xs) (IsPermutation-refl (filter p xs))
       (λ l i j first second same. chain xs l (swap l i j) same (swapped l i j first second))
 
--- what holds of each that passes
-module _ {X : Type 0} (p : X → Bool) (P : X → Type 0) where
-  abbrev IfPasses : X → Type 0
-  IfPasses x = p x ≡ true → P x
-
-  pub passed : (xs : List X) → All P (filter p xs) → All IfPasses xs
-  passed [] all = All-nil IfPasses
-  passed (x ∷ xs) all = by_test (p x) refl all (passed xs)
-    where
-      by_test : (b : Bool) → p x ≡ b → All P (cond b (x ∷ filter p xs) (filter p xs)) → (All P (filter p xs) → All IfPasses xs) → All IfPasses (x ∷ xs)
-      by_test true is every rest = All-cons IfPasses x xs (λ passes. All-head P x (filter p xs) every) (rest (All-tail P x (filter p xs) every))
-      by_test false is every rest = All-cons IfPasses x xs (λ passes. absurd (true≢false (sym passes ∙ is))) (rest every)
-
--- an element that passes is kept
-pub Contains-filter : {X : Type 0} (p : X → Bool) (xs : List X) (x : X) → Contains xs x → p x ≡ true → Contains (filter p xs) x
-Contains-filter p xs x there passes =
-    All-contains (λ y. p y ≡ true → Contains (filter p xs) y) xs x (passed p (Contains (filter p xs)) xs (All-contains_itself (filter p xs))) there passes
-
 -- where none passes none is kept
 pub filter_none : {X : Type 0} (p : X → Bool) (xs : List X) → All (λ x. p x ≡ false) xs → filter p xs ≡ []
 filter_none p [] all = refl
 filter_none p (x ∷ xs) all = rw (All-head (λ y. p y ≡ false) x xs all) (filter_none p xs (All-tail (λ y. p y ≡ false) x xs all))
+
+-- where each passes all are kept
+pub filter_each : {X : Type 0} (p : X → Bool) (xs : List X) → All (λ x. p x ≡ true) xs → filter p xs ≡ xs
+filter_each p [] all = refl
+filter_each p (x ∷ xs) all = rw (All-head (λ y. p y ≡ true) x xs all) (ap (λ l. x ∷ l) (filter_each p xs (All-tail (λ y. p y ≡ true) x xs all)))
 
 -- two tests one after the other
 pub filter_both : {X : Type 0} (p q : X → Bool) (xs : List X) → filter (λ x. p x && q x) xs ≡ filter q (filter p xs)

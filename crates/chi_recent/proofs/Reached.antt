@@ -4,7 +4,7 @@ use Rattle.std.specs.Prelude.{IsPermutation}
 use Rattle.std.specs.List.{Contains}
 use Rattle.std.proofs.lemmas.Bool.{and_from, and_parts, cases_lt, le-leb, lt-leb}
 use Rattle.std.proofs.lemmas.List.{get_or-map, get_or-take, get_or_default, length-map, length-take-le}
-use Rattle.std.proofs.lemmas.List.Elements.{All-append, All-contains, All-map, All-nil, All-weaker, filter-append}
+use Rattle.std.proofs.lemmas.List.Elements.{All-append, All-contains, All-nil, All-weaker, filter-append}
 use Rattle.std.proofs.lemmas.List.Sorted.{All-permutation, Contains-permutation, IsPermutation-map, IsPermutation-sym, IsPermutation-trans}
 use Rattle.chi_trace.specs.declared.observed.Observed.{Observed}
 use Rattle.chi_trace.specs.Chosen.{GranulesTold, is_in}
@@ -20,9 +20,10 @@ use Rattle.chi_recent.specs.Reaches.{CanLeave, IsRecentOf, is_open_at}
 use Rattle.chi_recent.specs.Recent.{EndedBefore, EndedWithin, Keeps, RecentValue, operations}
 use Rattle.chi_recent.specs.Searches.{AreSeen, AreWordsBy, IsExplained, IsSeen, IsUnexplained, is_during, is_traced_during}
 use Rattle.chi_recent.proofs.Cutting.{EndedBy, cut_whole}
-use Rattle.chi_recent.proofs.Keeping.{cut_kept}
+use Rattle.chi_recent.proofs.Keeping.{cut_kept, late_after}
 use Rattle.chi_recent.proofs.Leading.{explained_from, leads_from, leaves_from, leaves_some, moved_cut}
-use Rattle.chi_recent.proofs.Lists.{Contains-filter, IsPermutation-filter, filter_both, filter_map_comes, filter_none, passed}
+use Rattle.chi_search.proofs.Sets.{Contains-filter, passed}
+use Rattle.chi_recent.proofs.Lists.{IsPermutation-filter, filter_both, filter_map_comes, filter_none}
 
 -- what holds at each place
 by_place : (P : Observed → Type 0) (ops : List Observed) → ((i : ℕ) → i < length ops → P (at ops i)) → All P ops
@@ -77,14 +78,6 @@ module _ (law : GranulesTold) (trace : List Observed) (g w : ℕ) (r : RecentVal
   all_parts : (P : Observed → Type 0) → All P k.earlier → All P ops → All P k.later → All P is.told
   all_parts P first middle last = subst (All P) (sym k.parts) (All-append P k.earlier (ops ++ k.later) first (All-append P ops k.later middle last))
 
-  -- those that are left out start after the time
-  later_starts : (time : ℕ) → (IsTrue r.is_stopped → time < r.horizon) → All (λ op. time < op.start) k.later
-  later_starts time before = by_test r.is_stopped refl
-    where
-      by_test : (b : Bool) → r.is_stopped ≡ b → All (λ op. time < op.start) k.later
-      by_test true stopped = All-weaker (λ (op : Observed). r.horizon ≤ op.start) (λ (op : Observed). time < op.start) (λ op late. omega (arith, late, before stopped)) k.later k.late
-      by_test false goes = subst (All (λ (op : Observed). time < op.start)) (sym (k.goes_on goes)) (All-nil (λ (op : Observed). time < op.start))
-
   -- none is answered between two times
   goes_on : (early late : ℕ) → early ≤ late → IsSeen r early → IsSeen r late → All (λ op. is_answered op ≡ true → early < op.end → late < op.end) ops
       → IsExplained early trace g w → IsExplained late trace g w
@@ -98,7 +91,7 @@ module _ (law : GranulesTold) (trace : List Observed) (g w : ℕ) (r : RecentVal
       all = all_parts Lasts
           (All-weaker (EndedBefore r.since) Lasts (λ op e long seen after. absurd (omega (arith, e.1, after, first.since))) k.earlier k.ended)
           (All-weaker (λ (op : Observed). is_answered op ≡ true → early < op.end → late < op.end) Lasts (λ op n long seen after. n seen after) ops none)
-          (All-weaker (λ (op : Observed). late < op.start) Lasts (λ op n long seen after. omega (arith, n, long)) k.later (later_starts late second.before))
+          (All-weaker (λ (op : Observed). late < op.start) Lasts (λ op n long seen after. omega (arith, n, long)) k.later (late_after (w ∷ []) is.told is.now r k late second.before))
 
   -- none is answered by a time
   pub begins : (time : ℕ) → IsSeen r time → All (λ op. is_answered op ≡ true → time < op.end) ops → IsExplained time trace g w
@@ -111,7 +104,7 @@ module _ (law : GranulesTold) (trace : List Observed) (g w : ℕ) (r : RecentVal
       all zero_since = all_parts Lasts
           (All-weaker (EndedBefore r.since) Lasts (λ op e long answered. absurd (omega (arith, e.1, zero_since))) k.earlier k.ended)
           (All-weaker (λ (op : Observed). is_answered op ≡ true → time < op.end) Lasts (λ op n long answered. n answered) ops none)
-          (All-weaker (λ (op : Observed). time < op.start) Lasts (λ op n long answered. omega (arith, n, long)) k.later (later_starts time seen.before))
+          (All-weaker (λ (op : Observed). time < op.start) Lasts (λ op n long answered. omega (arith, n, long)) k.later (late_after (w ∷ []) is.told is.now r k time seen.before))
 
       some_before : 0 < r.since → IsExplained time trace g w
       some_before some =
@@ -233,7 +226,7 @@ module _ (law : GranulesTold) (trace : List Observed) (g w : ℕ) (r : RecentVal
 
     -- one of them was answered then
     pub some_answered : (IsExplained (at ops place).end trace g w → ⊥) → ((earlier : ℕ) → earlier + 1 ≡ (at ops place).end → IsExplained earlier trace g w)
-        → All (λ traced. is_answered traced.op ≡ true → traced.op.end ≡ (at ops place).end → ⊥) r.kept → ⊥
+        → All (λ op. is_answered op ≡ true → op.end ≡ (at ops place).end → ⊥) ops → ⊥
     some_answered unexplained before none = unexplained (⊎_elim some_time no_time (cases_lt 0 time))
       where
         time : ℕ
@@ -242,21 +235,18 @@ module _ (law : GranulesTold) (trace : List Observed) (g w : ℕ) (r : RecentVal
         here : IsSeen r time
         here = end_seen (place + 1) place seen (omega arith) within
 
-        none_then : All (λ op. is_answered op ≡ true → op.end ≡ time → ⊥) ops
-        none_then = All-map (λ (op : Observed). is_answered op ≡ true → op.end ≡ time → ⊥) (λ (t : Traced). t.op) r.kept none
-
         apart : (n : ℕ) → time ≤ n → (n ≡ time → ⊥) → time < n
         apart n le differs = ⊎_elim (λ less. less) (λ more. absurd (differs (omega (arith, le, more)))) (cases_lt time n)
 
         no_time : time ≤ 0 → IsExplained time trace g w
         no_time zero_time = begins time here
             (All-weaker (λ (op : Observed). is_answered op ≡ true → op.end ≡ time → ⊥) (λ (op : Observed). is_answered op ≡ true → time < op.end)
-            (λ op n answered. apart op.end (omega (arith, zero_time)) (n answered)) ops none_then)
+            (λ op n answered. apart op.end (omega (arith, zero_time)) (n answered)) ops none)
 
         some_time : 0 < time → IsExplained time trace g w
         some_time some = goes_on (time - 1) time (omega arith) (earlier_seen (time - 1) (omega (arith, some))) here
             (All-weaker (λ (op : Observed). is_answered op ≡ true → op.end ≡ time → ⊥) (λ (op : Observed). is_answered op ≡ true → time - 1 < op.end → time < op.end)
-            (λ op n answered after. apart op.end (omega (arith, after)) (n answered)) ops none_then)
+            (λ op n answered after. apart op.end (omega (arith, after)) (n answered)) ops none)
             (before (time - 1) (omega (arith, some)))
 
     -- those that are kept are all that were open then
@@ -294,7 +284,7 @@ module _ (law : GranulesTold) (trace : List Observed) (g w : ℕ) (r : RecentVal
 
         none_later : filter (is_during time) k.later ≡ []
         none_later = filter_none (is_during time) k.later
-            (All-weaker (λ (op : Observed). time < op.start) (λ (op : Observed). is_during time op ≡ false) to_come k.later (later_starts time here.before))
+            (All-weaker (λ (op : Observed). time < op.start) (λ (op : Observed). is_during time op ≡ false) to_come k.later (late_after (w ∷ []) is.told is.now r k time here.before))
 
         same : filter (is_during time) is.told ≡ operations (filter (is_traced_during time) r.kept)
         same =
@@ -343,9 +333,10 @@ words_of_all law r before more each same ops_is found goes trace g w is v =
 -- what is said of the place of an operation up to whose end no order explains them
 pub record StopsAt (r : RecentValue) (trace : List Observed) (g w : ℕ) (kept : List Traced) (ops : List Observed) (place time : ℕ) : Type 0 where
   pub seen : (earlier : ℕ) → earlier + 1 ≡ time → IsSeen r earlier
+  pub seen_then : IsSeen r time
   pub here : IsExplained time trace g w → ⊥
   pub before : ((i : ℕ) → i + 1 ≡ place → IsExplained (at ops i).end trace g w) → (earlier : ℕ) → earlier + 1 ≡ time → IsExplained earlier trace g w
-  pub answered : ((earlier : ℕ) → earlier + 1 ≡ time → IsExplained earlier trace g w) → All (λ traced. is_answered traced.op ≡ true → traced.op.end ≡ time → ⊥) kept → ⊥
+  pub answered : ((earlier : ℕ) → earlier + 1 ≡ time → IsExplained earlier trace g w) → All (λ op. is_answered op ≡ true → op.end ≡ time → ⊥) ops → ⊥
   pub overlapping : (during : List Traced) → IsPermutation (filter (is_traced_during time) kept) during → IsPermutation (filter (is_open_at g time) trace) (operations during)
   pub has : (during : List Traced) → IsPermutation (filter (is_traced_during time) kept) during → (t : Traced) → Contains kept t → t.op.end ≡ time → Contains during t
 
@@ -363,6 +354,7 @@ stops_at law r more kept place d ops_is kept_is within seen unexplained trace g 
     stated : Stated (operations r.kept)
     stated inside are none = record {
       seen = earlier_seen law trace g w r is place inside are;
+      seen_then = end_seen law trace g w r is (place + 1) place are (omega arith) inside;
       here = none;
       before = λ first. explained_before law trace g w r is place inside are first none;
       answered = some_answered law trace g w r is place inside are none;

@@ -1,4 +1,5 @@
 pub mod Recent
+pub mod Shown
+pub mod Legal
 pub mod Reaches
-pub mod Looks
 pub mod Searches

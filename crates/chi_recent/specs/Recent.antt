@@ -1,19 +1,23 @@
 -- the operations of one granule that are kept, to say where they stop being explained
 use Rattle.std.specs.Prelude.{◌≡◌, ℕ, ◌+◌, ◌^◌, ◌<◌, ◌≤◌, Bool, false, List, [], ◌++◌, All, IsTrue, map}
+use Rattle.std.specs.List.{AllPairs}
 use Rattle.chi_search.specs.Frontiers.{Follows, FrontierValue, MayBeTold}
 use Rattle.chi_search.specs.Layers.{SomeLeads}
 use Rattle.chi_trace.specs.Cuts.{cut}
 use Rattle.chi_trace.specs.declared.observed.Observed.{Observed}
 use Rattle.chi_recent.specs.declared.traced.Traced.{Traced}
+use Rattle.chi_recent.specs.Shown.{EndsNoLater, last_of}
 
 -- the operations without their requests
 abbrev pub operations : List Traced → List Observed
 operations kept = map (λ t. t.op) kept
 
--- The search over the operations before those that are kept, and these. None that is kept ended before `since`, and none that is
--- told later starts before the horizon. Where they are known not to be explained up to the time before it, it has stopped.
+-- The search over the operations before those that are kept, the last of the operations that were left to it, and those that are
+-- kept. None that is kept ended before `since`, and none that is told later starts before the horizon. Where they are known not
+-- to be explained up to the time before it, it has stopped.
 pub record RecentValue : Type 0 where
   pub before : FrontierValue
+  pub left : List Traced
   pub kept : List Traced
   pub since : ℕ
   pub horizon : ℕ
@@ -31,14 +35,16 @@ EndedBefore time op = (op.start ≤ op.end) × (op.end < time)
 abbrev pub EndedWithin : ℕ → ℕ → Observed → Type 0
 EndedWithin since now op = (since ≤ op.end) × (op.end ≤ now)
 
--- Of the operations that were told in the order of their ends, none later than now, the search follows the earlier ones, and the
--- next are kept. Those after them are left out, once it has stopped. Up to the time before the first end that may be kept some
--- order explains what was told; where it has stopped, none does up to the time before the horizon.
+-- Of the operations that were told in the order of their ends, none later than now, the search follows the earlier ones, of which
+-- the last 16 are known, and the next are kept. Those after them are left out, once it has stopped. Up to the time before the first
+-- end that may be kept some order explains what was told; where it has stopped, none does up to the time before the horizon.
 pub record Keeps (words : List ℕ) (told : List Observed) (now : ℕ) (r : RecentValue) : Type 0 where
   pub earlier : List Observed
   pub later : List Observed
   pub parts : told ≡ earlier ++ (operations r.kept ++ later)
   pub follows : Follows words earlier r.before
+  pub left : operations r.left ≡ last_of 16 earlier
+  pub in_order : AllPairs EndsNoLater earlier
   pub ended : All (EndedBefore r.since) earlier
   pub next : MayBeTold r.before (operations r.kept)
   pub within : All LiesWithin (operations r.kept)

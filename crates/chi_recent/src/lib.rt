@@ -1,10 +1,12 @@
 //! The operations of one granule that ended last, and how far they can be explained.
 #![tactic(auto)]
 
+mod legal;
 mod reach;
 mod reaching;
 mod recent;
 mod search;
+mod shown;
 mod traced;
 
 pub use reach::{Reach, Stop};

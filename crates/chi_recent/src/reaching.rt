@@ -1,53 +1,24 @@
 //! How far the operations that are kept can be explained.
 
-ghost use Rattle.std.specs.Prelude.{◌≡◌, ℕ, ◌+◌, ◌-◌, ◌<◌, ◌≤◌, ◌⊎◌, ◌↔◌, List, All, None, true, false, length, IfOk, IfSome, IsTrue, IsPermutation};
-ghost use Rattle.std.specs.List.{Contains, filter};
+ghost use Rattle.std.specs.Prelude.{◌≡◌, ℕ, ◌+◌, ◌-◌, ◌<◌, ◌≤◌, ◌⊎◌, ◌↔◌, List, None, true, false, length, IfOk, IfSome, IsTrue};
+ghost use Rattle.std.specs.List.{Contains};
 ghost use Rattle.chi_search.specs.Found.{IfUnknown, IfWords};
-ghost use Rattle.chi_search.specs.Looks.{LookedMore};
-ghost use Rattle.chi_trace.specs.Explains.{at, is_answered};
+ghost use Rattle.chi_search.specs.Looks.{LookedAtLeast, LookedMore, LookedSome};
+ghost use Rattle.chi_trace.specs.Explains.{at};
 ghost use Rattle.chi_trace.specs.declared.observed.Observed.{Observed};
-ghost use Rattle.chi_recent.specs.Looks.{LookedAtLeast, LookedSome};
 ghost use Rattle.chi_recent.specs.Reaches.{AreLast, CanLeave, IfStops, IfUndecided, IfWhole, IsRecentOf, IsStop};
 ghost use Rattle.chi_recent.specs.Recent.{operations};
-ghost use Rattle.chi_recent.specs.Searches.{AreSeen, AreWordsBy, IsExplained, IsSeen, IsUnexplained, is_traced_during};
+ghost use Rattle.chi_recent.specs.Searches.{AreSeen, AreWordsBy, IsExplained, IsSeen, IsUnexplained};
 
+use crate::legal::legal_replies;
 use crate::reach::{Reach, Stop};
 use crate::recent::{Recent, ended_before, operations};
 use crate::search::{words_after, words_by};
-use crate::traced::Traced;
+use crate::shown::{answered_at, before_at, open_at};
 use chi_search::{Progress, Words};
 use chi_trace::Observed;
 use chi_trace::laws::granules_told;
 use std::alloc::{AllocError, Global};
-
-/// The first operation that was answered at a time.
-fn answered_at(kept: &[Traced], time: u64) -> Option<Traced>
-    ensures there { IfSome result (λ traced. Contains kept.now traced) }
-    ensures ends { IfSome result (λ traced. traced.op.end ≡ time) }
-    ensures answered { IfSome result (λ traced. is_answered traced.op ≡ true) }
-    ensures none { result ≡ None → All (λ traced. is_answered traced.op ≡ true → traced.op.end ≡ time → ⊥) kept.now }
-{
-    for traced in kept {
-        if traced.op.end == time && traced.op.reply.is_some() {
-            return Some(*traced);
-        }
-    }
-    None
-}
-
-/// Those that had started by a time and had not ended before, in the order of their starts.
-fn open_at(alloc: Global, kept: &[Traced], time: u64) -> Result<Vec<Traced>, AllocError>
-    ensures { IfOk result (λ during. IsPermutation (filter (is_traced_during time) kept.now) during.items) }
-{
-    let mut during = Vec::new(alloc);
-    for traced in kept {
-        if traced.op.start <= time && time <= traced.op.end {
-            during.push(*traced)?;
-        }
-    }
-    during.sort_by_key(|traced| traced.op.start)?;
-    Ok(during)
-}
 
 impl Recent {
     /// Each word that all of them can leave, where the search has not stopped.
@@ -192,14 +163,17 @@ impl Recent {
         let Some(words) = self.words_before(alloc, ops, time, budget, progress)? else {
             return Ok(Reach::Undecided);
         };
-        let Some(op) = answered_at(&self.kept, time) else {
+        let Some(blamed) = answered_at(ops, time) else {
             return Ok(Reach::Undecided);
         };
+        let legal = legal_replies(alloc, &self.before, ops, time, blamed, &words, budget)?;
         Ok(Reach::Stops(Stop {
             time,
-            op,
+            op: self.kept[blamed],
             overlapping: open_at(alloc, &self.kept, time)?,
             words,
+            before: before_at(alloc, &self.left, &self.kept, time, blamed)?,
+            legal,
         }))
     }
 

@@ -3,10 +3,11 @@
 ghost use Rattle.std.specs.Prelude.{◌≡◌, ◌+◌, ◌≤◌, ◌<◌, ◌⊎◌, ℕ, [], ◌∷◌, ◌++◌, false, List, All, IfOk, length, take};
 ghost use Rattle.chi_trace.specs.Explains.{at};
 ghost use Rattle.chi_trace.specs.declared.observed.Observed.{Observed};
-ghost use Rattle.chi_recent.specs.Looks.{LookedSome};
+ghost use Rattle.chi_search.specs.Looks.{LookedSome};
 ghost use Rattle.chi_recent.specs.Recent.{CanBeKept, IsNextHorizon, Keeps, operations};
 
 use crate::search::{told_after, words_by};
+use crate::shown::last_with;
 use crate::traced::Traced;
 use chi_search::{Frontier, Progress, Words};
 use chi_trace::Observed;
@@ -14,7 +15,8 @@ use std::alloc::{AllocError, Global};
 use std::marker::Model;
 
 /// The operations of one granule that ended last, and the search over those before them. They are told in the order of their
-/// ends, and are kept until it is sure that what came before can be explained.
+/// ends, and are kept until it is sure that what came before can be explained. The last of those before them are kept to be
+/// shown.
 ///
 /// Source: profile.
 ///
@@ -29,6 +31,7 @@ use std::marker::Model;
 #[derive(Drop)]
 pub struct Recent {
     pub(crate) before: Frontier,
+    pub(crate) left: Vec<Traced>,
     pub(crate) kept: Vec<Traced>,
     pub(crate) since: u64,
     pub(crate) horizon: u64,
@@ -41,7 +44,7 @@ impl Model for Recent {
 
     ghost Value = { RecentValue };
 
-    ghost view = { λ r. record { before = r.before; kept = r.kept.items; since = r.since; horizon = r.horizon; is_stopped = r.is_stopped } };
+    ghost view = { λ r. record { before = r.before; left = r.left.items; kept = r.kept.items; since = r.since; horizon = r.horizon; is_stopped = r.is_stopped } };
 }
 
 /// How many operations it keeps at least before it looks whether it may keep fewer.
@@ -100,6 +103,7 @@ impl Recent {
     {
         let count = ended_before(ops, horizon);
         let kept = Vec::from_slice(alloc, &self.kept[count..])?;
+        let last = last_with(alloc, &self.left, &self.kept[..count])?;
         let least = least_start(&ops[count..], horizon);
         let Some(after) = told_after(alloc, &self.before, &ops[..count])? else {
             return Ok(());
@@ -107,6 +111,7 @@ impl Recent {
         let mut left = budget;
         if let Some(before) = after.advanced(alloc, least, &mut left, progress)? {
             self.before = before;
+            self.left = last;
             self.kept = kept;
             self.since = horizon;
             self.horizon = horizon;
@@ -154,6 +159,7 @@ impl Recent {
     {
         Ok(Recent {
             before: Frontier::new(alloc, &[word])?,
+            left: Vec::new(alloc),
             kept: Vec::new(alloc),
             since: 0,
             horizon: 0,

@@ -5,11 +5,10 @@ ghost use Rattle.std.specs.List.{Contains};
 ghost use Rattle.chi_search.specs.Found.{IfUnknown, IfWords};
 ghost use Rattle.chi_search.specs.Frontiers.{Follows, MayBeTold};
 ghost use Rattle.chi_search.specs.Layers.{SomeLeads};
-ghost use Rattle.chi_search.specs.Looks.{LookedMore};
+ghost use Rattle.chi_search.specs.Looks.{LookedMore, LookedSome};
 ghost use Rattle.chi_trace.specs.Cuts.{cut};
 ghost use Rattle.chi_trace.specs.Explains.{at};
 ghost use Rattle.chi_trace.specs.declared.observed.Observed.{Observed};
-ghost use Rattle.chi_recent.specs.Looks.{LookedSome};
 ghost use Rattle.chi_recent.specs.Recent.{LiesWithin};
 
 use chi_search::{Frontier, Progress, Words};

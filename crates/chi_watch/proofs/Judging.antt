@@ -11,12 +11,11 @@ use Rattle.std.proofs.lemmas.Map.Views.{Contains-from_lookup}
 use Rattle.std.proofs.lemmas.List.Elements.{All-contains, All-head, All-nil, All-push, All-tail, All-weaker, Contains-append_left, Contains-push}
 use Rattle.chi_search.specs.Frontiers.{Follows}
 use Rattle.chi_search.specs.Layers.{SomeLeads}
-use Rattle.chi_search.specs.Looks.{LookedMore}
+use Rattle.chi_search.specs.Looks.{LookedMore, LookedSome}
 use Rattle.chi_trace.specs.declared.observed.Observed.{Observed}
 use Rattle.chi_watch.specs.Endings.{IsExplainable, IsInexplicableAt, IsListed}
 use Rattle.chi_watch.specs.Followed.{IfExplained, IfUndecided, IfUnexplained, IsWord}
 use Rattle.chi_watch.specs.Listing.{IsListedAs}
-use Rattle.chi_recent.specs.Looks.{LookedSome}
 use Rattle.chi_watch.specs.declared.listing.Listed.{Listed}
 use Rattle.chi_watch.specs.declared.followed.Followed.{Followed}
 use Rattle.chi_watch.specs.declared.followed.Standing.{Standing}

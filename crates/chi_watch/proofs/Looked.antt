@@ -1,9 +1,8 @@
 -- the states that were looked at by one search after another
 use Rattle.std.proofs.Common.{ℕ, ◌++◌, ◌∷◌, List, [], All, arith}
 use Rattle.std.proofs.lemmas.List.Elements.{All-nil, All-push, All-weaker}
-use Rattle.chi_search.specs.Looks.{LookedMore}
-use Rattle.chi_recent.specs.Looks.{LookedAtLeast, LookedSome}
-use Rattle.chi_recent.proofs.Looked.{at_least_after, at_least_before, looked_none, some_after}
+use Rattle.chi_search.specs.Looks.{LookedAtLeast, LookedMore, LookedSome}
+use Rattle.chi_search.proofs.Looking.{at_least_after, at_least_before, looked_none, some_after}
 
 module _ {P : Type 0} (looked : P → ℕ → Type 0) where
   -- some, and at least so many for each granule that is not decided

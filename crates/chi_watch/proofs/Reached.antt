@@ -6,8 +6,8 @@ use Rattle.chi_events.specs.EventLaws.{OperationsAreTold}
 use Rattle.chi_events.specs.Operations.{operations}
 use Rattle.chi_events.specs.Outstanding.{IsOpen}
 use Rattle.chi_events.specs.declared.event.Event.{Event}
-use Rattle.chi_recent.specs.Looks.{LookedAtLeast, LookedSome}
-use Rattle.chi_recent.proofs.Looked.{at_least_after, at_least_before}
+use Rattle.chi_search.specs.Looks.{LookedAtLeast, LookedSome}
+use Rattle.chi_search.proofs.Looking.{at_least_after, at_least_before}
 use Rattle.chi_recent.specs.Reaches.{AreLast, IfStops, IfUndecided, IfWhole, IsRecentOf, IsStop}
 use Rattle.chi_recent.specs.Recent.{RecentValue}
 use Rattle.chi_recent.specs.declared.reach.Reach.{Reach}

@@ -5,6 +5,7 @@ pub mod Counts
 pub mod Endings
 pub mod Faults
 pub mod Listing
+pub mod Numbers
 pub mod Quiet
 pub mod Reaching
 pub mod Requests

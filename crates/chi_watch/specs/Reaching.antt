@@ -2,7 +2,7 @@
 use Rattle.std.specs.Prelude.{◌≡◌, ℕ, List, Option, IfSome, map}
 use Rattle.chi_events.specs.declared.event.Event.{Event}
 use Rattle.chi_events.specs.Operations.{operations}
-use Rattle.chi_recent.specs.Looks.{LookedAtLeast}
+use Rattle.chi_search.specs.Looks.{LookedAtLeast}
 use Rattle.chi_recent.specs.Reaches.{AreLast, IfUndecided, IsRecentOf, IsStop}
 use Rattle.chi_recent.specs.Recent.{RecentValue}
 use Rattle.chi_recent.specs.declared.reach.Reach.{Reach}

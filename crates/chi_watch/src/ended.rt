@@ -1,10 +1,10 @@
 //! The operation that ended by an event, if one did.
 
-ghost use Rattle.std.specs.Prelude.{◌≡◌, IfOk, IfSome, IsTrue, is_some, option_map};
+ghost use Rattle.std.specs.Prelude.{◌≡◌, IfOk, IfSome, IsTrue, Some, is_some, option_map};
 ghost use Rattle.std.specs.BTreeMap.{get};
 ghost use Rattle.std.specs.Ordering.{nat_cmp};
 ghost use Rattle.chi_watch.specs.Changes.{IsClosedBy};
-ghost use Rattle.chi_recent.specs.Looks.{LookedSome};
+ghost use Rattle.chi_search.specs.Looks.{LookedSome};
 
 use crate::followed::Followed;
 use crate::granules::close;
@@ -17,13 +17,15 @@ use chi_trace::Observed;
 use std::alloc::{AllocError, Global};
 use std::collections::BTreeMap;
 
-/// The operation that ended, if one did, with the request that the event is about.
-pub(crate) fn traced(about: Option<Asked>, ended: Option<Observed>) -> Option<Traced>
+/// The operation that ended, if one did, with the request that the event is about, which the event with this number told.
+pub(crate) fn traced(number: u64, about: Option<Asked>, ended: Option<Observed>) -> Option<Traced>
     requires { IfSome ended (λ op. IsTrue (is_some about)) }
-    ensures { option_map (λ t. t.op) result ≡ ended }
+    ensures op { option_map (λ t. t.op) result ≡ ended }
+    ensures asked { IfSome result (λ t. Some t.asked ≡ about) }
+    ensures number { IfSome result (λ t. t.number ≡ number) }
 {
     match (about, ended) {
-        (Some(asked), Some(op)) => Some(Traced { asked, op }),
+        (Some(asked), Some(op)) => Some(Traced { number, asked, op }),
         _ => None,
     }
 }

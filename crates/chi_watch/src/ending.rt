@@ -5,7 +5,7 @@ ghost use Rattle.std.specs.BTreeMap.{get};
 ghost use Rattle.std.specs.Ordering.{nat_cmp};
 ghost use Rattle.chi_events.specs.Outstanding.{open_operation};
 ghost use Rattle.chi_events.specs.declared.event.Event.{Event};
-ghost use Rattle.chi_recent.specs.Looks.{LookedAtLeast, LookedSome};
+ghost use Rattle.chi_search.specs.Looks.{LookedAtLeast, LookedSome};
 ghost use Rattle.chi_recent.specs.Reaches.{IfUndecided};
 ghost use Rattle.chi_trace.specs.Chosen.{is_in};
 ghost use Rattle.chi_watch.specs.Endings.{AreToldTo, CanClose, IsListed};
@@ -17,6 +17,7 @@ ghost use Rattle.chi_watch.specs.Watches.{HasTaken};
 use crate::followed::Followed;
 use crate::granules::close;
 use crate::listing::judge_all;
+use crate::numbers::Numbers;
 use crate::reaching::reach_of;
 use crate::watch::Watch;
 use chi_events::Open;
@@ -49,6 +50,7 @@ fn close_open<P: Progress>(
     alloc: Global,
     granules: &mut BTreeMap<u64, Followed>,
     requests: &[Open],
+    numbers: &Numbers,
     budget: u64,
     progress: &mut P,
 ) -> Result<(), AllocError>
@@ -58,6 +60,7 @@ fn close_open<P: Progress>(
     for request in requests {
         if let Some(op) = request.operation() {
             let traced = Traced {
+                number: numbers.number_of(request.id),
                 asked: request.asked,
                 op,
             };
@@ -142,7 +145,14 @@ impl Watch {
         granules_explain();
         let mut granules = self.granules;
         let requests = self.outstanding.requests();
-        close_open(alloc, &mut granules, requests, budget, progress)?;
+        close_open(
+            alloc,
+            &mut granules,
+            requests,
+            &self.numbers,
+            budget,
+            progress,
+        )?;
         let listed = judge_all(alloc, &granules, budget, progress)?;
         let unexplained = each_found_at_end(
             alloc,

@@ -5,10 +5,9 @@ ghost use Rattle.std.specs.List.{Contains};
 ghost use Rattle.chi_trace.specs.declared.observed.Observed.{Observed};
 ghost use Rattle.chi_search.specs.Frontiers.{CanBeTold, Follows};
 ghost use Rattle.chi_search.specs.Layers.{SomeLeads};
-ghost use Rattle.chi_search.specs.Looks.{LookedMore};
+ghost use Rattle.chi_search.specs.Looks.{LookedMore, LookedSome};
 ghost use Rattle.chi_watch.specs.Changes.{CanEnd, IsTold, IsUntouched};
 ghost use Rattle.chi_watch.specs.Followed.{IfExplained, IfUndecided, IfUnexplained, IsMovedOn, IsWord};
-ghost use Rattle.chi_recent.specs.Looks.{LookedSome};
 
 use chi_recent::{Recent, Traced};
 use chi_search::{Frontier, Progress, Words};

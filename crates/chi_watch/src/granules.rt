@@ -5,7 +5,7 @@ ghost use Rattle.std.specs.BTreeMap.{get};
 ghost use Rattle.std.specs.Ordering.{nat_cmp};
 ghost use Rattle.chi_trace.specs.Granules.{granule_of};
 ghost use Rattle.chi_watch.specs.Changes.{HasOneMore, IsMarked, IsTouched, IsTouchedAndMarked};
-ghost use Rattle.chi_recent.specs.Looks.{LookedSome};
+ghost use Rattle.chi_search.specs.Looks.{LookedSome};
 ghost use Rattle.chi_watch.specs.declared.followed.Followed.{Followed};
 
 use crate::followed::{Followed, tell, untouched};

@@ -9,6 +9,7 @@ mod followed;
 mod granules;
 mod listing;
 mod noting;
+mod numbers;
 mod quiet;
 mod reaching;
 mod watch;

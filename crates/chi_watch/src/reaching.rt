@@ -3,7 +3,7 @@
 ghost use Rattle.std.specs.Prelude.{◌≡◌, ◌==◌, false, List, IfOk};
 ghost use Rattle.std.specs.List.{list_any};
 ghost use Rattle.chi_events.specs.declared.event.Event.{Event};
-ghost use Rattle.chi_recent.specs.Looks.{LookedAtLeast, LookedSome};
+ghost use Rattle.chi_search.specs.Looks.{LookedAtLeast, LookedSome};
 ghost use Rattle.chi_recent.specs.Reaches.{IfUndecided};
 ghost use Rattle.chi_watch.specs.Reaching.{IsOfSomeTrace, IsReach, ReachesBy};
 ghost use Rattle.chi_watch.specs.Requests.{granule_asked};

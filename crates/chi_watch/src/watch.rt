@@ -6,7 +6,7 @@ ghost use Rattle.chi_events.specs.declared.event.Event.{Event};
 ghost use Rattle.chi_watch.specs.Changes.{HasLength};
 ghost use Rattle.chi_watch.specs.Endings.{IsExplainable};
 ghost use Rattle.chi_watch.specs.Judged.{is_known};
-ghost use Rattle.chi_recent.specs.Looks.{LookedAtLeast, LookedSome};
+ghost use Rattle.chi_search.specs.Looks.{LookedAtLeast, LookedSome};
 ghost use Rattle.chi_watch.specs.Quiet.{BecomesQuiet, CanBeExplained, granule_about};
 ghost use Rattle.chi_watch.specs.Requests.{granule_asked};
 ghost use Rattle.chi_watch.specs.Watches.{HasTaken, IsFound, IsUnexplained, fault_of, granule as granule_of, granule_fault, has_last};
@@ -15,6 +15,7 @@ use crate::ended::{close_ended, traced};
 use crate::fault::WatchFault;
 use crate::followed::{Followed, Standing, judge};
 use crate::noting::note;
+use crate::numbers::Numbers;
 use crate::quiet::{has_length, is_open};
 use chi_events::laws::operations_are_told;
 use chi_events::{Event, EventKind, Outstanding};
@@ -42,6 +43,7 @@ pub struct Watch {
     pub(crate) outstanding: Outstanding,
     pub(crate) granules: BTreeMap<u64, Followed>,
     pub(crate) ended: u64,
+    pub(crate) numbers: Numbers,
 }
 
 impl Model for Watch {
@@ -75,6 +77,7 @@ impl Watch {
             outstanding: Outstanding::new(alloc),
             granules: BTreeMap::new(alloc),
             ended: 0,
+            numbers: Numbers::new(alloc),
         }
     }
 
@@ -204,17 +207,19 @@ impl Watch {
         ensures looked { IfOk result (λ _. LookedSome P.looked progress.old progress.new) }
     {
         self.admits(&event.kind)?;
+        let number = self.numbers.number_about(&event.kind);
         let about = self.outstanding.about(event);
         let ended = self.outstanding.take(event)?;
         close_ended(
             alloc,
             &mut self.granules,
             self.outstanding.requests(),
-            &traced(about, ended),
+            &traced(number, about, ended),
             budget,
             progress,
         )?;
         note(alloc, &mut self.granules, &event.kind)?;
+        self.numbers.count(&event.kind, ended.is_some())?;
         self.ended = one_more(self.ended, &ended);
         Ok(())
     }

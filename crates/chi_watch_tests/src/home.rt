@@ -1,6 +1,6 @@
 //! Events of a home, and a watch that takes them.
 
-use chi_events::{Completion, Event, EventKind, Requested};
+use chi_events::{Completion, Event, EventKind, Packet, Requested};
 use chi_lanes::Reply;
 use chi_reading::Asked;
 use chi_recent::Reach;
@@ -38,6 +38,20 @@ fn request(id: u64, opcode: u8, addr: u64, be: u16, value: u8, has_data: bool) -
 /// A WriteNoSnpPtl of eight bytes at 4096.
 pub(crate) fn write(id: u64, value: u8) -> EventKind {
     request(id, 0x1c, 4096, 0xff, value, true)
+}
+
+/// The same without its data.
+pub(crate) fn write_without_data(id: u64) -> EventKind {
+    request(id, 0x1c, 4096, 0, 0, false)
+}
+
+/// Its data.
+pub(crate) fn data(id: u64, value: u8) -> EventKind {
+    EventKind::Data(Packet {
+        id,
+        be: 0xff,
+        lanes: lanes(value),
+    })
 }
 
 /// A ReadNoSnp of eight bytes at 4096.

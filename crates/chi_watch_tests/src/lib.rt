@@ -14,4 +14,6 @@ mod home;
 #[cfg(test)]
 mod reach_tests;
 #[cfg(test)]
+mod rows_tests;
+#[cfg(test)]
 mod watch_tests;

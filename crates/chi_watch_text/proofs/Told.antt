@@ -9,8 +9,8 @@ use Rattle.std.specs.Io.BufRead.{drop_through, take_through}
 use Rattle.chi_event_text.specs.EventText.{event_text}
 use Rattle.chi_events.specs.declared.event.Event.{Event}
 use Rattle.chi_watch.specs.declared.ending.Ending.{Ending}
-use Rattle.chi_recent.specs.Looks.{LookedAtLeast, LookedSome}
-use Rattle.chi_recent.proofs.Looked.{at_least_after, at_least_before, looked_none, some_after}
+use Rattle.chi_search.specs.Looks.{LookedAtLeast, LookedSome}
+use Rattle.chi_search.proofs.Looking.{at_least_after, at_least_before, looked_none, some_after}
 use Rattle.chi_recent.specs.declared.reach.Reach.{Reach}
 use Rattle.chi_watch.proofs.Reached.{undecided_weaker}
 use Rattle.chi_watch.specs.Reaching.{IsFoundAtEnd}

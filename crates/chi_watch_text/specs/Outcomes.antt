@@ -4,7 +4,7 @@ use Rattle.std.specs.List.{AllPairs, Contains}
 use Rattle.std.specs.Io.BufRead.{take_through}
 use Rattle.chi_event_text.specs.EventText.{event_text}
 use Rattle.chi_events.specs.declared.event.Event.{Event}
-use Rattle.chi_recent.specs.Looks.{LookedAtLeast}
+use Rattle.chi_search.specs.Looks.{LookedAtLeast}
 use Rattle.chi_recent.specs.Reaches.{IfUndecided}
 use Rattle.chi_recent.specs.declared.reach.Reach.{Reach}
 use Rattle.chi_watch.specs.Counts.{AreCounted, unjudged}

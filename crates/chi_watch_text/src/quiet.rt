@@ -2,7 +2,7 @@
 
 ghost use Rattle.std.specs.Prelude.{◌≡◌, ◌==◌, ◌≢◌, [], true, false, All, not, filter, IfOk};
 ghost use Rattle.std.specs.List.{AllPairs};
-ghost use Rattle.chi_recent.specs.Looks.{LookedSome};
+ghost use Rattle.chi_search.specs.Looks.{LookedSome};
 ghost use Rattle.chi_watch_text.specs.Found.{with_quiet};
 ghost use Rattle.chi_watch_text.specs.Outcomes.{AreUnreached, IsSettled, IsStillFound};
 

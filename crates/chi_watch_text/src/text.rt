@@ -10,11 +10,11 @@ use chi_watch::{Counts, Ending, FoundAtEnd};
 use std::alloc::{AllocError, Global};
 
 /// The lines of a granule that was found.
-fn add_found(to: &mut Vec<u8>, found: &Found) -> Result<(), AllocError>
+fn add_found(alloc: Global, to: &mut Vec<u8>, found: &Found) -> Result<(), AllocError>
     ensures { OnOk result (to.new.items ≡ to.old.items ++ found_text found.now) }
 {
     add_granule(to, found.granule)?;
-    add_reach(to, None, &found.reach)?;
+    add_reach(alloc, to, None, &found.reach)?;
     add_parts(
         to,
         &[
@@ -26,29 +26,35 @@ fn add_found(to: &mut Vec<u8>, found: &Found) -> Result<(), AllocError>
 }
 
 /// The lines of a granule that no order explains at the end, where it was not found before.
-fn add_at_end(to: &mut Vec<u8>, found: &[Found], it: &FoundAtEnd) -> Result<(), AllocError>
+fn add_at_end(
+    alloc: Global,
+    to: &mut Vec<u8>,
+    found: &[Found],
+    it: &FoundAtEnd,
+) -> Result<(), AllocError>
     ensures { OnOk result (to.new.items ≡ to.old.items ++ end_text found.now it.now) }
 {
     if is_found(found, it.granule) {
         return Ok(());
     }
     add_granule(to, it.granule)?;
-    add_reach(to, it.last, &it.reach)?;
+    add_reach(alloc, to, it.last, &it.reach)?;
     add_parts(to, &[Part::Text("  at the end\n")])
 }
 
 /// The lines of granules that were found.
-fn add_all_found(to: &mut Vec<u8>, found: &[Found]) -> Result<(), AllocError>
+fn add_all_found(alloc: Global, to: &mut Vec<u8>, found: &[Found]) -> Result<(), AllocError>
     ensures { OnOk result (to.new.items ≡ to.old.items ++ flat_map found_text found.now) }
 {
     for it in found {
-        add_found(to, it)?;
+        add_found(alloc, to, it)?;
     }
     Ok(())
 }
 
 /// The lines of granules that no order explains at the end.
 fn add_all_at_end(
+    alloc: Global,
     to: &mut Vec<u8>,
     found: &[Found],
     unexplained: &[FoundAtEnd],
@@ -56,7 +62,7 @@ fn add_all_at_end(
     ensures { OnOk result (to.new.items ≡ to.old.items ++ flat_map (end_text found.now) unexplained.now) }
 {
     for it in unexplained {
-        add_at_end(to, found, it)?;
+        add_at_end(alloc, to, found, it)?;
     }
     Ok(())
 }
@@ -73,6 +79,7 @@ fn add_all_undecided(to: &mut Vec<u8>, undecided: &[u64], budget: u64) -> Result
 
 /// What is said at the end.
 fn add_ending(
+    alloc: Global,
     to: &mut Vec<u8>,
     found: &[Found],
     ending: &Option<Ending>,
@@ -83,19 +90,24 @@ fn add_ending(
     let Some(ending) = ending else {
         return Ok(());
     };
-    add_all_at_end(to, found, &ending.unexplained)?;
+    add_all_at_end(alloc, to, found, &ending.unexplained)?;
     add_all_undecided(to, &ending.undecided, budget)
 }
 
 /// The answer: that all is explained, or each granule that is not.
-fn add_answer(to: &mut Vec<u8>, watched: &Watched, budget: u64) -> Result<(), AllocError>
+fn add_answer(
+    alloc: Global,
+    to: &mut Vec<u8>,
+    watched: &Watched,
+    budget: u64,
+) -> Result<(), AllocError>
     ensures { OnOk result (to.new.items ≡ to.old.items ++ answer_text budget watched.now) }
 {
     match watched.verdict() {
         WatchVerdict::Explained => add_parts(to, &[Part::Text("explained\n")]),
         WatchVerdict::Unexplained | WatchVerdict::Undecided => {
-            add_all_found(to, &watched.found)?;
-            add_ending(to, &watched.found, &watched.ending, budget)
+            add_all_found(alloc, to, &watched.found)?;
+            add_ending(alloc, to, &watched.found, &watched.ending, budget)
         }
     }
 }
@@ -129,7 +141,7 @@ pub fn watched_text(alloc: Global, watched: &Watched, budget: u64) -> Result<Vec
     ensures { IfOk result (λ text. text.items ≡ watched_text budget watched.now) }
 {
     let mut text = Vec::new(alloc);
-    add_answer(&mut text, watched, budget)?;
+    add_answer(alloc, &mut text, watched, budget)?;
     add_counts(&mut text, &watched.counts, watched.unjudged)?;
     Ok(text)
 }

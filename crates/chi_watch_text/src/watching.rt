@@ -2,7 +2,7 @@
 
 ghost use Rattle.std.specs.Prelude.{◌≡◌, ◌≢◌, ◌<◌, ◌⊎◌, ℕ, [], List, All, None, true, false, IfErr, IfOk, IfSome, length};
 ghost use Rattle.chi_events.specs.declared.event.Event.{Event};
-ghost use Rattle.chi_recent.specs.Looks.{LookedSome};
+ghost use Rattle.chi_search.specs.Looks.{LookedSome};
 ghost use Rattle.chi_watch.specs.Watches.{HasTaken};
 ghost use Rattle.chi_watch_text.specs.Outcomes.{IsEventFault, IsOutcome, IsTold, IsUnreached, ReachedBy, SaysAtEnd, TakesEvent, WentBy};
 

@@ -49,10 +49,14 @@ fn where_it_stops_at_a_line(rt: HostRuntime) -> Result<(), Fail> {
         &rt,
         text.as_str(),
         "not explained: granule 0000000000001000
-at 4: 0 2 04 ReadNoSnp 3 0000000000001000 data 00000000000000000000000000000000
+at 4: 0 2 04 ReadNoSnp 3 0000000000001000 answered
   the granule can hold 0500000000000000
-  open from 3 to 4: 0 2 04 ReadNoSnp 3 0000000000001000 data 00000000000000000000000000000000
+  open from 3 to 4: 0 2 04 ReadNoSnp 3 0000000000001000 answered
   explained up to 3
+  the last operations of the granule, from time 1 to 4:
+    line 1 |==============                          |  1 to 2  WriteNoSnpPtl  +0 L8  sent 0500000000000000  comp  requester 0 txn 1
+  > line 3 |                          ##############|  3 to 4  ReadNoSnp      +0 L8  returned 0000000000000000  requester 0 txn 2
+    legal would be:  returned 0500000000000000
   at line 4
   operations that ended: 2
   requests outstanding: 0
@@ -71,16 +75,23 @@ fn where_it_keeps_going(rt: HostRuntime) -> Result<(), Fail> {
         &rt,
         text.as_str(),
         "not explained: granule 0000000000001000
-at 4: 0 2 04 ReadNoSnp 3 0000000000001000 data 00000000000000000000000000000000
+at 4: 0 2 04 ReadNoSnp 3 0000000000001000 answered
   the granule can hold 0500000000000000
-  open from 3 to 4: 0 2 04 ReadNoSnp 3 0000000000001000 data 00000000000000000000000000000000
+  open from 3 to 4: 0 2 04 ReadNoSnp 3 0000000000001000 answered
   explained up to 3
+  the last operations of the granule, from time 1 to 4:
+    line 1 |==============                          |  1 to 2  WriteNoSnpPtl  +0 L8  sent 0500000000000000  comp  requester 0 txn 1
+  > line 3 |                          ##############|  3 to 4  ReadNoSnp      +0 L8  returned 0000000000000000  requester 0 txn 2
+    legal would be:  returned 0500000000000000
   at line 4
 not explained: granule 0000000000001008
-at 6: 0 3 04 ReadNoSnp 3 0000000000001008 data 00000000000000000900000000000000
+at 6: 0 3 04 ReadNoSnp 3 0000000000001008 answered
   the granule can hold 0000000000000000
-  open from 5 to 6: 0 3 04 ReadNoSnp 3 0000000000001008 data 00000000000000000900000000000000
+  open from 5 to 6: 0 3 04 ReadNoSnp 3 0000000000001008 answered
   explained up to 5
+  the last operations of the granule, from time 5 to 6:
+  > line 5 |########################################|  5 to 6  ReadNoSnp  +0 L8  returned 0900000000000000  requester 0 txn 3
+    legal would be:  returned 0000000000000000
   at line 6
 not explained: granule 0000000000001010
 at the end: 0800000000000000

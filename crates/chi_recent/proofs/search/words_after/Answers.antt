@@ -7,8 +7,7 @@ use Rattle.chi_search.specs.declared.words.Words.{Words}
 use Rattle.chi_search.specs.Found.{IfWords}
 use Rattle.chi_search.specs.Frontiers.{Follows, FrontierValue}
 use Rattle.chi_search.specs.Layers.{SomeLeads}
-use Rattle.chi_search.specs.Looks.{LookedMore}
-use Rattle.chi_recent.specs.Looks.{LookedSome}
+use Rattle.chi_search.specs.Looks.{LookedMore, LookedSome}
 use Rattle.chi_recent.proofs.More.{words_imply}
 use Rattle.chi_recent.proofs.search.words_after.Goals as goal
 

@@ -5,8 +5,8 @@ use Rattle.std.specs.Ordering.{nat_cmp}
 use Rattle.std.proofs.lemmas.List.Elements.{All-get_or}
 use Rattle.chi_watch.specs.Changes.{HasOneMore}
 use Rattle.chi_watch.specs.Endings.{AreToldTo, CanClose}
-use Rattle.chi_recent.specs.Looks.{LookedSome}
-use Rattle.chi_recent.proofs.Looked.{looked_none, some_after}
+use Rattle.chi_search.specs.Looks.{LookedSome}
+use Rattle.chi_search.proofs.Looking.{looked_none, some_after}
 use Rattle.chi_watch.proofs.Opened.{all_close_on, told_one}
 use Rattle.chi_watch.proofs.ToldAtTheEnd.{told_as, told_next, told_none}
 use Rattle.chi_watch.proofs.ending.close_open.Goals as goal

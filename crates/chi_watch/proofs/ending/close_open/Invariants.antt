@@ -3,7 +3,7 @@ use Rattle.std.proofs.Common.{ℕ, All, take}
 use Rattle.std.specs.BTreeMap.{get}
 use Rattle.std.specs.Ordering.{nat_cmp}
 use Rattle.chi_watch.specs.Endings.{AreToldTo, CanClose}
-use Rattle.chi_recent.specs.Looks.{LookedSome}
+use Rattle.chi_search.specs.Looks.{LookedSome}
 use Rattle.chi_watch.proofs.ToldAtTheEnd.{own_open}
 use Rattle.chi_watch.proofs.ending.close_open.Given as goal
 

@@ -4,7 +4,7 @@ use Rattle.std.specs.BTreeMap.{get}
 use Rattle.std.specs.Ordering.{nat_cmp}
 use Rattle.std.proofs.lemmas.List.{map-append, take_more}
 use Rattle.std.proofs.lemmas.List.Elements.{All-nil, All-push, All-weaker}
-use Rattle.chi_recent.proofs.Looked.{looked_none, some_after}
+use Rattle.chi_search.proofs.Looking.{looked_none, some_after}
 use Rattle.chi_watch.specs.Reaching.{IsFoundIn, IsUnreachedIn, granules_of}
 use Rattle.chi_watch.specs.declared.ending.FoundAtEnd.{FoundAtEnd}
 use Rattle.chi_watch.proofs.Reached.{unreached_after, unreached_then}

@@ -2,7 +2,7 @@
 use Rattle.std.proofs.Common.{◌≡◌, All, take}
 use Rattle.std.specs.BTreeMap.{get}
 use Rattle.std.specs.Ordering.{nat_cmp}
-use Rattle.chi_recent.specs.Looks.{LookedSome}
+use Rattle.chi_search.specs.Looks.{LookedSome}
 use Rattle.chi_watch.specs.Reaching.{IsFoundIn, IsUnreachedIn, granules_of}
 use Rattle.chi_watch.proofs.ending.each_found_at_end.Given as goal
 

@@ -1,7 +1,7 @@
 -- The search that was moved on follows one operation more, which is kept with the last of them.
 use Rattle.std.proofs.Common.{◌≡◌, ◌≤◌, ◌⊎◌, ap, arith, inl, inr, subst, sym, ◌∙◌}
 use Rattle.chi_recent.specs.Recent.{Keeps}
-use Rattle.chi_recent.proofs.Looked.{some_after}
+use Rattle.chi_search.proofs.Looking.{some_after}
 use Rattle.chi_watch.proofs.followed.tell.Goals as goal
 
 pub returns-in_ok-add-2-clause-told : goal.returns-in_ok-add-2-clause-told

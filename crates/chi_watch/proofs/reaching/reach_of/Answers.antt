@@ -1,7 +1,7 @@
 -- what is said of the operations that are kept, whichever trace they are of
 use Rattle.std.proofs.Common.{List, ℕ, IfOk, Result, Ok, Err}
 use Rattle.std.proofs.lemmas.Result.{IfOk-weaker}
-use Rattle.chi_recent.specs.Looks.{LookedAtLeast}
+use Rattle.chi_search.specs.Looks.{LookedAtLeast}
 use Rattle.chi_recent.specs.Reaches.{IfStops, IfUndecided, IfWhole, AreLast, IsRecentOf, IsStop}
 use Rattle.chi_recent.specs.Recent.{RecentValue}
 use Rattle.chi_recent.specs.declared.reach.Reach.{Reach}

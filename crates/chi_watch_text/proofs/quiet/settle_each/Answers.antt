@@ -1,6 +1,6 @@
 -- one granule more is looked at
 use Rattle.std.proofs.Common.{refl}
-use Rattle.chi_recent.proofs.Looked.{looked_none, some_after}
+use Rattle.chi_search.proofs.Looking.{looked_none, some_after}
 use Rattle.chi_watch_text.proofs.Told.{once_more, still_first, still_more, unreached_more, unreached_same}
 use Rattle.chi_watch_text.proofs.quiet.settle_each.Goals as goal
 

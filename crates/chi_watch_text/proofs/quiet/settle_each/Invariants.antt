@@ -1,7 +1,7 @@
 -- what is found so far
 use Rattle.std.proofs.Common.{◌≢◌, All}
 use Rattle.std.specs.List.{AllPairs}
-use Rattle.chi_recent.specs.Looks.{LookedSome}
+use Rattle.chi_search.specs.Looks.{LookedSome}
 use Rattle.chi_watch_text.specs.Outcomes.{AreUnreached, IsStillFound}
 use Rattle.chi_watch_text.proofs.quiet.settle_each.Given as goal
 

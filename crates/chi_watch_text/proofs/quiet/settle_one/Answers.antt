@@ -2,7 +2,7 @@
 use Rattle.std.proofs.Common.{◌⊎◌, All, inl, inr, refl, sym, subst, ◌∙◌}
 use Rattle.std.specs.List.{Contains}
 use Rattle.std.proofs.lemmas.List.Elements.{All-contains_itself, All-push, All-weaker}
-use Rattle.chi_recent.proofs.Looked.{at_least_after, some_after}
+use Rattle.chi_search.proofs.Looking.{at_least_after, some_after}
 use Rattle.chi_watch.proofs.Reached.{undecided_weaker}
 use Rattle.chi_watch_text.specs.Outcomes.{IsUnreached}
 use Rattle.chi_watch_text.specs.declared.watched.Found.{Found}

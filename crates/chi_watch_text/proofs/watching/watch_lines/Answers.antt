@@ -1,7 +1,7 @@
 -- line after line is taken
 use Rattle.std.proofs.Common.{ℕ, ◌-◌, ◌++◌, ◌∷◌, [], All, IfSome, Option, Result, length, ap, subst, sym, arith}
 use Rattle.std.proofs.lemmas.List.Elements.{All-nil}
-use Rattle.chi_recent.proofs.Looked.{looked_none, some_after}
+use Rattle.chi_search.proofs.Looking.{looked_none, some_after}
 use Rattle.chi_events.specs.declared.event.Event.{Event}
 use Rattle.chi_watch.specs.declared.ending.Ending.{Ending}
 use Rattle.chi_watch.specs.declared.ending.FoundAtEnd.{FoundAtEnd}

@@ -3,7 +3,7 @@
 use Rattle.std.proofs.Common.{◌≡◌, ◌≢◌, ◌-◌, List, [], All, false}
 use Rattle.std.specs.List.{AllPairs}
 use Rattle.chi_events.specs.declared.event.Event.{Event}
-use Rattle.chi_recent.specs.Looks.{LookedSome}
+use Rattle.chi_search.specs.Looks.{LookedSome}
 use Rattle.chi_watch.specs.Watches.{HasTaken}
 use Rattle.chi_watch_text.specs.Outcomes.{HasTakenLines, IsUnreached}
 use Rattle.chi_watch_text.specs.declared.watched.Found.{Found}

@@ -3,10 +3,9 @@ use Rattle.std.proofs.Common.{◌≡◌, ℕ, ◌+◌, ◌-◌, ◌/◌, ◌<◌
 use Rattle.std.proofs.lemmas.List.{get_or_default}
 use Rattle.chi_trace.specs.Explains.{at, nothing}
 use Rattle.chi_trace.specs.declared.observed.Observed.{Observed}
-use Rattle.chi_verdict.proofs.Spent.{some_after}
-use Rattle.chi_recent.specs.Looks.{LookedAtLeast}
+use Rattle.chi_search.proofs.Looking.{at_least_after, at_least_before, some_after}
+use Rattle.chi_search.specs.Looks.{LookedAtLeast}
 use Rattle.chi_recent.specs.Searches.{IsExplained, IsSeen}
-use Rattle.chi_recent.proofs.Looked.{at_least_after, at_least_before}
 use Rattle.chi_recent.proofs.Reached.{place_seen}
 use Rattle.chi_recent.proofs.recent.Recent.first_place.Goals as goal
 

@@ -2,7 +2,7 @@
 use Rattle.std.proofs.Common.{◌≡◌, ℕ, ◌+◌, ◌-◌, ◌<◌, ◌≤◌, ◌⊎◌, List}
 use Rattle.chi_trace.specs.Explains.{at}
 use Rattle.chi_trace.specs.declared.observed.Observed.{Observed}
-use Rattle.chi_recent.specs.Looks.{LookedAtLeast, LookedSome}
+use Rattle.chi_search.specs.Looks.{LookedAtLeast, LookedSome}
 use Rattle.chi_recent.specs.Reaches.{IsRecentOf}
 use Rattle.chi_recent.specs.Searches.{IsExplained, IsUnexplained}
 use Rattle.chi_recent.proofs.recent.Recent.first_place.Given as goal

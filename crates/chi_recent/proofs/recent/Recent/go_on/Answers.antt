@@ -1,5 +1,5 @@
 -- the search before the others takes those that ended before the horizon
-use Rattle.std.proofs.Common.{◌≡◌, ℕ, ◌-◌, ◌<◌, ◌≤◌, ◌⊎◌, List, ◌++◌, All, IfSome, Option, drop, length, length-drop, take, inl, inr, sym, ap, subst, ◌∙◌, arith}
+use Rattle.std.proofs.Common.{◌≡◌, ℕ, ◌-◌, ◌<◌, ◌≤◌, ◌⊎◌, List, ◌++◌, All, IfSome, Option, drop, length, length-drop, take, inl, inr, sym, ap, ap₂, subst, ◌∙◌, arith}
 use Rattle.std.proofs.lemmas.List.{take-append-drop, take_all}
 use Rattle.std.proofs.lemmas.List.Elements.{All-take, All-weaker}
 use Rattle.chi_trace.specs.declared.observed.Observed.{Observed}
@@ -7,6 +7,7 @@ use Rattle.chi_trace.specs.Explains.{at}
 use Rattle.chi_search.specs.Frontiers.{Follows, FrontierValue, MayBeTold}
 use Rattle.chi_recent.specs.declared.traced.Traced.{Traced}
 use Rattle.chi_recent.specs.Recent.{EndedWithin, IsNextHorizon, Keeps, RecentValue, operations}
+use Rattle.chi_recent.specs.Shown.{last_of}
 use Rattle.chi_recent.proofs.Keeping.{keeps_fewer}
 use Rattle.chi_recent.proofs.recent.Recent.go_on.Goals as goal
 
@@ -32,7 +33,7 @@ may_on f next least rest horizon latest starts may = record {
 pub returns-in-Some-2-clause-keeps : goal.returns-in-Some-2-clause-keeps
 returns-in-Some-2-clause-keeps g c words told now is keeps =
     let s = c.self.inside in
-    let r : RecentValue = record { before = s.before; kept = s.kept.items; since = s.since; horizon = s.horizon; is_stopped = s.is_stopped } in
+    let r : RecentValue = record { before = s.before; left = s.left.items; kept = s.kept.items; since = s.since; horizon = s.horizon; is_stopped = s.is_stopped } in
     let k : Keeps words told now r = subst (Keeps words told now) (sym c.self.view_is) keeps in
     let later : IsNextHorizon words told now r c.args.horizon = subst (λ v. IsNextHorizon words told now v c.args.horizon) (sym c.self.view_is) is in
     let count = c.ended_before-count.result in
@@ -66,8 +67,10 @@ returns-in-Some-2-clause-keeps g c words told now is keeps =
     ] in
     let kept : c.in_ok-kept.kept.items ≡ drop count s.kept.items =
     c.in_ok-kept.ensures.items ∙ (rest_is count c.deref.result.now ∙ ap (drop count) c.deref.ensures.value) in
-    subst (λ (l : List Traced). Keeps words told now (record { before = before; kept = l; since = c.args.horizon; horizon = c.args.horizon; is_stopped = s.is_stopped })) (sym kept)
-    (keeps_fewer words told now r k c.args.horizon count before later
+    let left : c.in_ok-last.last.items ≡ last_of 16 (s.left.items ++ take count s.kept.items) =
+    c.in_ok-last.ensures ∙ ap₂ (λ (a b : List Traced). last_of 16 (a ++ take count b)) c.deref-2.ensures.value c.deref-3.ensures.value in
+    subst (λ (l : List Traced). Keeps words told now (record { before = before; left = c.in_ok-last.last.items; kept = l; since = c.args.horizon; horizon = c.args.horizon; is_stopped = s.is_stopped })) (sym kept)
+    (keeps_fewer words told now r k c.args.horizon count before c.in_ok-last.last.items left later
     (subst (λ (l : List Observed). All (λ op. op.end < c.args.horizon) (take count l)) same c.ended_before-count.ensures.before)
     (subst (λ (l : List Observed). count < length l → c.args.horizon ≤ (at l count).end) same c.ended_before-count.ensures.first)
     (subst (λ (l : List Observed). Follows words (k.earlier ++ take count l) before) same follows)

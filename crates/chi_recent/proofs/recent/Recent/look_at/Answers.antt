@@ -9,10 +9,10 @@ use Rattle.chi_search.specs.declared.words.Words.{Words}
 use Rattle.chi_search.specs.Found.{IfWords}
 use Rattle.chi_search.specs.Frontiers.{Follows, FrontierValue}
 use Rattle.chi_search.specs.Layers.{SomeLeads}
-use Rattle.chi_recent.specs.Looks.{LookedSome}
+use Rattle.chi_search.specs.Looks.{LookedSome}
 use Rattle.chi_recent.specs.Recent.{IsNextHorizon, Keeps, RecentValue, operations}
 use Rattle.chi_recent.proofs.Keeping.{keeps_none, words_at}
-use Rattle.chi_recent.proofs.Looked.{some_after}
+use Rattle.chi_search.proofs.Looking.{some_after}
 use Rattle.chi_recent.proofs.recent.Recent.look_at.Goals as goal
 
 -- the words are those that are left by the time before a horizon
@@ -29,7 +29,7 @@ some_word (w ∷ each) some = Contains-get_or (w ∷ each) 0 0 (omega arith)
 pub returns-then-is_empty-clause-keeps : goal.returns-then-is_empty-clause-keeps
 returns-then-is_empty-clause-keeps g c words told now past keeps =
     let s = c.self.inside in
-    let r : RecentValue = record { before = s.before; kept = s.kept.items; since = s.since; horizon = s.horizon; is_stopped = s.is_stopped } in
+    let r : RecentValue = record { before = s.before; left = s.left.items; kept = s.kept.items; since = s.since; horizon = s.horizon; is_stopped = s.is_stopped } in
     let k : Keeps words told now r = subst (Keeps words told now) (sym c.self.view_is) keeps in
     let each = c.in-Each.words.items in
     let known = c.deref-2.ensures.value ∙ (c.in_ok-ops.ensures ∙ ap operations c.deref.ensures.value) in
@@ -44,7 +44,7 @@ returns-then-is_empty-clause-keeps g c words told now past keeps =
 pub returns-clause-keeps : goal.returns-clause-keeps
 returns-clause-keeps g c =
     let s = c.self.inside in
-    let r : RecentValue = record { before = s.before; kept = s.kept.items; since = s.since; horizon = s.horizon; is_stopped = s.is_stopped } in
+    let r : RecentValue = record { before = s.before; left = s.left.items; kept = s.kept.items; since = s.since; horizon = s.horizon; is_stopped = s.is_stopped } in
     let each = c.in-Each.words.items in
     let known = c.deref-2.ensures.value ∙ (c.in_ok-ops.ensures ∙ ap operations c.deref.ensures.value) in
     let found : AreLeft s.before c.args.horizon (operations s.kept.items) each =

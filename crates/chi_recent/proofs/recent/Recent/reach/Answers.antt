@@ -7,11 +7,10 @@ use Rattle.chi_search.specs.Found.{IfUnknown, IfWords}
 use Rattle.chi_search.specs.Looks.{LookedMore}
 use Rattle.chi_trace.specs.Explains.{at}
 use Rattle.chi_trace.specs.declared.observed.Observed.{Observed}
-use Rattle.chi_verdict.proofs.Spent.{some_after}
+use Rattle.chi_search.proofs.Looking.{at_least_after, some_after}
 use Rattle.chi_recent.specs.Reaches.{CanLeave, IsRecentOf}
 use Rattle.chi_recent.specs.Recent.{RecentValue, operations}
 use Rattle.chi_recent.specs.Searches.{IsExplained}
-use Rattle.chi_recent.proofs.Looked.{at_least_after}
 use Rattle.chi_recent.proofs.More.{ok_implies, ok_undecided_implies}
 use Rattle.chi_recent.proofs.Reached.{last_before, last_of_all}
 use Rattle.chi_recent.proofs.recent.Recent.reach.Goals as goal

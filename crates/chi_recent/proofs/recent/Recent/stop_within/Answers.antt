@@ -1,7 +1,6 @@
 -- there is an operation, and what was looked at in one search after another
 use Rattle.std.proofs.Common.{⊎_elim, arith}
-use Rattle.chi_verdict.proofs.Spent.{some_after}
-use Rattle.chi_recent.proofs.Looked.{at_least_after, at_least_before}
+use Rattle.chi_search.proofs.Looking.{at_least_after, at_least_before, some_after}
 use Rattle.chi_recent.proofs.More.{ok_implies, ok_undecided_implies}
 use Rattle.chi_recent.proofs.recent.Recent.stop_within.Goals as goal
 

@@ -1,7 +1,7 @@
 -- A granule whose search goes on to a word can be explained.
 use Rattle.std.proofs.Common.{◌⊎◌, IfSome, Option, arith, inl, inr, subst}
 use Rattle.chi_watch.specs.Endings.{IsExplainable}
-use Rattle.chi_recent.specs.Looks.{LookedAtLeast}
+use Rattle.chi_search.specs.Looks.{LookedAtLeast}
 use Rattle.chi_watch.specs.Watches.{WatchValue, granule}
 use Rattle.chi_watch.specs.declared.followed.Followed.{Followed}
 use Rattle.chi_watch.proofs.Judging.{said_explained, said_undecided}

@@ -6,7 +6,7 @@ use Rattle.chi_events.specs.Outstanding.{IsOpen}
 use Rattle.chi_events.specs.declared.event.Event.{Event}
 use Rattle.chi_watch.specs.Endings.{IsExplainable}
 use Rattle.chi_watch.specs.Judged.{is_known}
-use Rattle.chi_recent.specs.Looks.{LookedAtLeast}
+use Rattle.chi_search.specs.Looks.{LookedAtLeast}
 use Rattle.chi_watch.specs.Quiet.{CanBeExplained}
 use Rattle.chi_watch.specs.Requests.{granule_asked}
 use Rattle.chi_watch.specs.Watches.{HasTaken, IsFound, IsUnexplained, WatchValue, granule}

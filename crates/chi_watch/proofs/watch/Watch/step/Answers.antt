@@ -23,7 +23,7 @@ returns-clause-taken g c events (ended, is) =
     ltb-false e.time w.outstanding.time (none_of (nat_lt e.time w.outstanding.time) event_fault.TimeFalls (kind_fault w.outstanding.requests e.kind) c.in_ok-ended.ensures.taken) in
     let closed : IsClosedBy c.in_ok-ended.ended c.take.new.self.requests (get nat_cmp c.self.inside.granules) (get nat_cmp c.close_ended.new.granules) =
     subst (λ (requests : List Open). IsClosedBy c.in_ok-ended.ended requests (get nat_cmp c.self.inside.granules) (get nat_cmp c.close_ended.new.granules)) c.requests.ensures.requests
-    (subst (λ (op : Option Observed). IsClosedBy op c.requests.result.now (get nat_cmp c.self.inside.granules) (get nat_cmp c.close_ended.new.granules)) c.traced.ensures
+    (subst (λ (op : Option Observed). IsClosedBy op c.requests.result.now (get nat_cmp c.self.inside.granules) (get nat_cmp c.close_ended.new.granules)) c.traced.ensures.op
     c.in_ok-close_ended.ensures.closed) in (
       ended ++ option_to_list c.in_ok-ended.ended,
       taken events ended w e c.take.new.self c.in_ok-ended.ended (get nat_cmp c.close_ended.new.granules) c.note.new.granules.entries c.one_more-self-inside.result fits c.in_ok-ended.ensures.time later c.in_ok-ended.ensures.requests

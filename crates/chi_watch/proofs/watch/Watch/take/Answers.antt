@@ -2,10 +2,10 @@
 use Rattle.std.proofs.Common.{◌≡◌, ℕ, ◌==◌, ◌⊎◌, ◌++◌, ◌∷◌, [], false, true, inl, inr, Some, sym, subst, ◌∙◌}
 use Rattle.std.specs.List.{list_any}
 use Rattle.chi_watch.specs.Judged.{is_known}
-use Rattle.chi_recent.specs.Looks.{LookedAtLeast}
+use Rattle.chi_search.specs.Looks.{LookedAtLeast}
 use Rattle.chi_watch.specs.Quiet.{CanBeExplained, granule_about}
 use Rattle.chi_watch.specs.Requests.{granule_asked}
-use Rattle.chi_recent.proofs.Looked.{at_least_after, some_after}
+use Rattle.chi_search.proofs.Looking.{at_least_after, some_after}
 use Rattle.chi_watch.proofs.watch.Watch.take.Goals as goal
 
 pub returns-then-branch-clause-unexplained : goal.returns-then-branch-clause-unexplained
