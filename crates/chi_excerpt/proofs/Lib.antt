@@ -1,4 +1,6 @@
 mod Enabled
 mod Ended
 pub mod Failures
+mod Found
 mod Latest
+mod Traced

@@ -2,12 +2,15 @@
 
 ghost use Rattle.std.specs.Prelude.{◌≡◌, IfOk};
 ghost use Rattle.chi_verdict.specs.Blames.{IsBlame};
+ghost use Rattle.chi_search.specs.Looks.{LookedSome};
 ghost use Rattle.chi_excerpt.specs.Failures.{IsFailure, first_or};
+ghost use Rattle.chi_excerpt.specs.Suspects.{AreAll};
 
 use crate::legal::legal_replies;
 use crate::suspects::suspects;
 use chi_lanes::Reply;
 use chi_reading::Recorded;
+use chi_search::Progress;
 use chi_verdict::Blame;
 use std::alloc::{AllocError, Global};
 
@@ -36,26 +39,37 @@ fn first_or(places: &[usize], other: usize) -> usize
     }
 }
 
-/// What can be said of where a trace stops being explained, looking at no more than `budget` states at a time. Which suspects and
-/// which answers are found is not promised, only that each is one.
+/// What can be said of where a trace stops being explained, looking at no more than `budget` states at a time. Which of the
+/// answers that would have been right are found is not promised, only that each is one.
 ///
 /// ```
-/// let failure = failure_of(alloc, &recorded, blame, 1_000_000)?;
+/// let failure = failure_of(alloc, &recorded, blame, 1_000_000, &mut NoProgress)?;
 /// ```
-pub fn failure_of(
+pub fn failure_of<P: Progress>(
     alloc: Global,
     recorded: &Recorded,
     blame: Blame,
     budget: u64,
+    progress: &mut P,
 ) -> Result<Failure, AllocError>
     requires { IsBlame recorded.now.trace blame }
     ensures failure { IfOk result (λ failure. IsFailure recorded.now failure) }
+    ensures all { IfOk result (λ failure. AreAll P.looked progress.old progress.new budget recorded.now.trace blame.granule blame.time failure.suspects.items) }
+    ensures looked { IfOk result (λ _. LookedSome P.looked progress.old progress.new) }
     ensures same { IfOk result (λ failure. failure.blame ≡ record blame { op = failure.blame.op }) }
 {
     let trace = recorded.trace();
-    let suspects = suspects(alloc, trace, blame.granule, blame.time, budget)?;
+    let suspects = suspects(alloc, trace, blame.granule, blame.time, budget, progress)?;
     let op = first_or(&suspects, blame.op);
-    let legal = legal_replies(alloc, trace, blame.granule, blame.time, op, budget)?;
+    let legal = legal_replies(
+        alloc,
+        trace,
+        blame.granule,
+        blame.time,
+        op,
+        budget,
+        progress,
+    )?;
     let blame = Blame { op, ..blame };
     Ok(Failure {
         blame,

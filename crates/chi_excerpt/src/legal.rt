@@ -1,12 +1,13 @@
 //! Which answers of an operation would have been right.
 
 ghost use Rattle.std.specs.Prelude.{◌≤◌, ◌<◌, length, IfOk};
+ghost use Rattle.chi_search.specs.Looks.{LookedSome};
 ghost use Rattle.chi_excerpt.specs.Suspects.{AreLegal};
 
 use crate::replies::{granule_with, is_explained_with};
 use chi_fields::Access;
 use chi_lanes::{Reply, apply};
-use chi_search::{NoProgress, Words};
+use chi_search::{Progress, Words};
 use chi_verdict::{Trace, words_held};
 use std::alloc::{AllocError, Global};
 
@@ -49,15 +50,17 @@ fn add_answers(replies: &mut Vec<Reply>, access: &Access, words: &[u64]) -> Resu
 }
 
 /// Answers that are worth trying: those at the words that the granule can hold at these times.
-fn answers_at(
+fn answers_at<P: Progress>(
     alloc: Global,
     trace: &Trace,
     granule: u64,
     times: &[u64],
     place: usize,
     budget: u64,
+    progress: &mut P,
 ) -> Result<Vec<Reply>, AllocError>
     requires { place < length trace.now.operations }
+    ensures { IfOk result (λ _. LookedSome P.looked progress.old progress.new) }
 {
     let access = trace.operations()[place].access;
     let mut replies = Vec::new(alloc);
@@ -66,7 +69,7 @@ fn answers_at(
         let Some(part) = granule_with(alloc, trace, granule, *time, place, None)? else {
             return Ok(replies);
         };
-        if let Words::Each(words) = words_held(alloc, &part, granule, &mut left, &mut NoProgress)? {
+        if let Words::Each(words) = words_held(alloc, &part, granule, &mut left, progress)? {
             add_answers(&mut replies, &access, &words)?;
         }
     }
@@ -75,21 +78,32 @@ fn answers_at(
 
 /// Answers of the operation at a place with which the granule's operations up to a time are seen to be explained, within so many
 /// states each.
-pub(crate) fn legal_replies(
+pub(crate) fn legal_replies<P: Progress>(
     alloc: Global,
     trace: &Trace,
     granule: u64,
     time: u64,
     place: usize,
     budget: u64,
+    progress: &mut P,
 ) -> Result<Vec<Reply>, AllocError>
     requires { place < length trace.now.operations }
-    ensures { IfOk result (λ legal. AreLegal trace.now granule time place legal.items) }
+    ensures legal { IfOk result (λ legal. AreLegal trace.now granule time place legal.items) }
+    ensures looked { IfOk result (λ _. LookedSome P.looked progress.old progress.new) }
 {
     let times = times_before(alloc, trace, granule, time, place)?;
     let mut legal = Vec::new(alloc);
-    for reply in &answers_at(alloc, trace, granule, &times, place, budget)? {
-        if is_explained_with(alloc, trace, granule, time, place, Some(*reply), budget)? {
+    for reply in &answers_at(alloc, trace, granule, &times, place, budget, progress)? {
+        if is_explained_with(
+            alloc,
+            trace,
+            granule,
+            time,
+            place,
+            Some(*reply),
+            budget,
+            progress,
+        )? {
             legal.push(*reply)?;
         }
     }

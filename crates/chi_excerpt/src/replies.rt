@@ -1,12 +1,13 @@
 //! Whether a granule's operations can be explained once one of them has another reply.
 
-ghost use Rattle.std.specs.Prelude.{◌≡◌, ◌<◌, length, IfOk, IfSome, IsTrue};
+ghost use Rattle.std.specs.Prelude.{◌≡◌, ◌≢◌, ◌<◌, ◌⊎◌, false, length, IfOk, IfSome, IsTrue, None};
 ghost use Rattle.std.specs.List.{filter};
 ghost use Rattle.chi_trace.specs.Chosen.{is_in};
+ghost use Rattle.chi_search.specs.Looks.{LookedAtLeast, LookedSome};
 ghost use Rattle.chi_excerpt.specs.Replies.{IsExplainedWith, granule_with};
 
 use chi_lanes::Reply;
-use chi_search::NoProgress;
+use chi_search::Progress;
 use chi_trace::Observed;
 use chi_verdict::{GranuleWord, GranuleWords, Trace, Verdict, cut, explain};
 use std::alloc::{AllocError, Global};
@@ -21,8 +22,7 @@ fn in_granule(alloc: Global, ops: &[Observed], granule: u64) -> Result<Vec<Obser
         .collect(alloc)
 }
 
-/// What had happened in a granule by a time, of which the operation at a place has this reply, or none that was seen. There is
-/// none where that is no trace.
+/// What had happened in a granule by a time, of which the operation at a place has this reply, or none that was seen.
 pub(crate) fn granule_with(
     alloc: Global,
     trace: &Trace,
@@ -32,7 +32,8 @@ pub(crate) fn granule_with(
     reply: Option<Reply>,
 ) -> Result<Option<Trace>, AllocError>
     requires { place < length trace.now.operations }
-    ensures { IfOk result (λ found. IfSome found (λ part. part ≡ granule_with trace.now granule time place reply)) }
+    ensures part { IfOk result (λ found. IfSome found (λ part. part ≡ granule_with trace.now granule time place reply)) }
+    ensures some { IfOk result (λ found. found ≢ None) }
 {
     let mut ops = Vec::from_slice(alloc, trace.operations())?;
     ops[place].reply = reply;
@@ -48,8 +49,8 @@ pub(crate) fn granule_with(
 }
 
 /// Whether what had happened in a granule by a time is seen to be explained, where the operation at a place has this reply, or
-/// none that was seen.
-pub(crate) fn is_explained_with(
+/// none that was seen, within so many states.
+pub(crate) fn is_explained_with<P: Progress>(
     alloc: Global,
     trace: &Trace,
     granule: u64,
@@ -57,16 +58,23 @@ pub(crate) fn is_explained_with(
     place: usize,
     reply: Option<Reply>,
     budget: u64,
+    progress: &mut P,
 ) -> Result<bool, AllocError>
     requires { place < length trace.now.operations }
-    ensures { IfOk result (λ is. IsTrue is → IsExplainedWith trace.now granule time place reply) }
+    ensures explained { IfOk result (λ is. IsTrue is → IsExplainedWith trace.now granule time place reply) }
+    ensures unexplained { IfOk result (λ is. is ≡ false → (IsExplainedWith trace.now granule time place reply → ⊥) ⊎ LookedAtLeast P.looked progress.old progress.new budget) }
+    ensures looked { IfOk result (λ _. LookedSome P.looked progress.old progress.new) }
 {
     let Some(part) = granule_with(alloc, trace, granule, time, place, reply)? else {
         return Ok(false);
     };
     let none = GranuleWords::none(alloc);
-    match explain(alloc, &part, &none, budget, &mut NoProgress)? {
+    match explain(alloc, &part, &none, budget, progress)? {
         Verdict::Explained(_) => Ok(true),
-        _ => Ok(false),
+        Verdict::Unexplained { granule: _ } => Ok(false),
+        Verdict::Undecided {
+            granule: _,
+            states: _,
+        } => Ok(false),
     }
 }

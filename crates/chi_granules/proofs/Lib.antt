@@ -1,3 +1,4 @@
 mod First
+mod Numbers
 mod Own
 pub mod Shown

@@ -1,7 +1,9 @@
 -- what is found of the granules of a trace
-use Rattle.std.specs.Prelude.{◌≡◌, ℕ, ◌==◌, ◌&&◌, nat_lt, List, [], length, slice_index, ◌⊎◌}
+use Rattle.std.specs.Prelude.{◌≡◌, ℕ, ◌==◌, ◌&&◌, nat_lt, List, [], All, length, map, slice_index, ◌⊎◌}
+use Rattle.std.specs.List.{Contains}
 use Rattle.chi_history.specs.History.{one_if}
 use Rattle.chi_trace.specs.Explains.{times_in}
+use Rattle.chi_trace.specs.Granules.{granule_of}
 use Rattle.chi_verdict.specs.declared.first.Blame.{Blame}
 use Rattle.chi_verdict.specs.Traces.{IsExplainedIn}
 use Rattle.chi_reading.specs.TraceText.{RecordedValue}
@@ -33,6 +35,15 @@ pub record IsBlamed (r : RecordedValue) (blame : Blame) (d : Drawn) : Type 0 whe
 -- what is shown of a granule of a trace that stops being explained
 abbrev pub IsShown : RecordedValue → Blame → Drawn → Type 0
 IsShown r blame d = IsBlamed r blame d ⊎ IsJudged r d
+
+-- the number of each granule that has an operation, or of which a word was observed at the end, is among them
+pub record HasGranules (r : RecordedValue) (numbers : List ℕ) : Type 0 where
+  pub operations : All (λ op. Contains numbers (granule_of op)) r.trace.operations
+  pub finals : All (λ told. Contains numbers told.granule) r.finals
+
+-- what is shown is of each of them
+abbrev pub AreAll : RecordedValue → List Drawn → Type 0
+AreAll r drawn = HasGranules r (map (λ d. d.granule) drawn)
 
 -- A, where a granule was not decided
 abbrev pub IfUndecided : Drawn → Type 0 → Type 0

@@ -1,7 +1,7 @@
 //! What is found of all granules of a trace.
 
-ghost use Rattle.std.specs.Prelude.{All, IfOk};
-ghost use Rattle.chi_granules.specs.Judged.{IsJudged, IsShown};
+ghost use Rattle.std.specs.Prelude.{◌≡◌, ◌==◌, All, IfOk, filter, map, not};
+ghost use Rattle.chi_granules.specs.Judged.{AreAll, HasGranules, IsJudged, IsShown};
 
 use crate::listing::judged_granules;
 use crate::places::granules_of;
@@ -13,7 +13,9 @@ use chi_verdict::Blame;
 use std::alloc::{AllocError, Global};
 
 /// The numbers of the granules of which there is an operation, or of which a word was observed at the end.
-fn numbers(alloc: Global, recorded: &Recorded) -> Result<Vec<u64>, AllocError> {
+fn numbers(alloc: Global, recorded: &Recorded) -> Result<Vec<u64>, AllocError>
+    ensures { IfOk result (λ numbers. HasGranules recorded.now numbers.items) }
+{
     let mut numbers = granules_of(alloc, recorded.trace().operations())?;
     for told in recorded.finals().as_slice() {
         numbers.push(told.granule)?;
@@ -35,14 +37,17 @@ pub fn all_granules(
     recorded: &Recorded,
     budget: u64,
 ) -> Result<Vec<Drawn>, AllocError>
-    ensures { IfOk result (λ drawn. All (IsJudged recorded.now) drawn.items) }
+    ensures judged { IfOk result (λ drawn. All (IsJudged recorded.now) drawn.items) }
+    ensures each { IfOk result (λ drawn. AreAll recorded.now drawn.items) }
 {
     let numbers = numbers(alloc, recorded)?;
     judged_granules(alloc, recorded, &numbers, budget, &mut NoProgress)
 }
 
 /// These numbers without one.
-fn without(alloc: Global, numbers: &[u64], number: u64) -> Result<Vec<u64>, AllocError> {
+fn without(alloc: Global, numbers: &[u64], number: u64) -> Result<Vec<u64>, AllocError>
+    ensures { IfOk result (λ others. others.items ≡ filter (λ other. not (other == number)) numbers.now) }
+{
     numbers
         .iter()
         .copied()
@@ -64,7 +69,8 @@ pub fn granules_around(
     blame: &Blame,
     budget: u64,
 ) -> Result<Vec<Drawn>, AllocError>
-    ensures { IfOk result (λ drawn. All (IsShown recorded.now blame.now) drawn.items) }
+    ensures shown { IfOk result (λ drawn. All (IsShown recorded.now blame.now) drawn.items) }
+    ensures each { IfOk result (λ drawn. AreAll recorded.now drawn.items) }
 {
     let others = without(alloc, &numbers(alloc, recorded)?, blame.granule)?;
     let mut drawn = judged_granules(alloc, recorded, &others, budget, &mut NoProgress)?;
