@@ -9,8 +9,10 @@ use Rattle.chi_answer.specs.Answers.{IfUndecided, IsUnexplained}
 use Rattle.chi_excerpt.specs.declared.failure.Failure.{Failure}
 use Rattle.chi_excerpt.specs.Failures.{IsFailure, IsFailureText}
 use Rattle.chi_reading.specs.TraceText.{IsOf, RecordedValue, TextValue, trace_text}
-use Rattle.chi_check.specs.Check.{Answers, IsAnswered, IsRightOf, Outcome, most_bytes}
+use Rattle.chi_check.specs.Check.{Answers, IsRight, Outcome, judged, most_bytes}
 use Rattle.chi_check.specs.CheckStatus.{answer_status}
+use Rattle.chi_check.specs.Limits.{IsWithin}
+use Rattle.chi_check.specs.Pages.{IsPage, IsPageAsked, IsPut, IsReported}
 use Rattle.chi_check.specs.declared.fault.CheckFault.TheVariants.{Write}
 use Rattle.chi_check.specs.declared.options.CheckOptions.{CheckOptions}
 
@@ -18,37 +20,54 @@ use Rattle.chi_check.specs.declared.options.CheckOptions.{CheckOptions}
 abbrev pub IsRead : List ℕ → RecordedValue → Type 0
 IsRead input r = (t : TextValue) × (trace_text input ≡ Ok t) × IsOf t r
 
--- the answer that stands behind a status and a text
-answers : (options : CheckOptions) (input : List ℕ) (r : RecordedValue) (status : ℕ) (text : List ℕ) → length input ≤ most_bytes → IsRead input r
-    → (a : IsAnswered options r status text) → Answers options input a.0 text
-answers options input r status text within read a = record { within = within; value = read.0; read = read.1; recorded = r; is = read.2; right = a.1 }
+-- the answer that stands behind a report
+answers : (options : CheckOptions) (input : List ℕ) (r : RecordedValue) (status : ℕ) (text page : List ℕ) → length input ≤ most_bytes → IsRead input r
+    → (a : IsReported options (judged options.until r) status text page) → Answers options input a.0 text
+answers options input r status text page within read a = record { within = within; value = read.0; read = read.1; recorded = r; is = read.2; right = a.1 }
 
 -- the whole text was written
-pub written : (options : CheckOptions) (remaining old new : Option (List ℕ)) (input : List ℕ) (r : RecordedValue) (status : ℕ) (text : List ℕ)
-    → IfSome remaining (λ bytes. input ≡ bytes) → length input ≤ most_bytes → IsRead input r → IsAnswered options r status text → Appends old new text
+pub written : (options : CheckOptions) (remaining old new : Option (List ℕ)) (input : List ℕ) (r : RecordedValue) (status : ℕ) (text page : List ℕ)
+    → IfSome remaining (λ bytes. input ≡ bytes) → length input ≤ most_bytes → IsRead input r → IsReported options (judged options.until r) status text page → Appends old new text
     → IfSome remaining (λ bytes. Outcome options bytes old new (Ok status))
-written options None old new input r status text same within read a appends = tt
-written options (Some bytes) old new input r status text same within read a appends =
-    subst (λ (l : List ℕ). Outcome options l old new (Ok status)) same (a.0, text, answers options input r status text within read a, a.2, appends)
+written options None old new input r status text page same within read a appends = tt
+written options (Some bytes) old new input r status text page same within read a appends =
+    subst (λ (l : List ℕ). Outcome options l old new (Ok status)) same (a.0, text, answers options input r status text page within read a, a.2, appends)
 
 -- the writer failed
-pub cut : (options : CheckOptions) (remaining old new : Option (List ℕ)) (input : List ℕ) (r : RecordedValue) (status : ℕ) (text : List ℕ) (fault : WriteFault)
-    → IfSome remaining (λ bytes. input ≡ bytes) → length input ≤ most_bytes → IsRead input r → IsAnswered options r status text → AppendsFront old new text
+pub cut : (options : CheckOptions) (remaining old new : Option (List ℕ)) (input : List ℕ) (r : RecordedValue) (status : ℕ) (text page : List ℕ) (fault : WriteFault)
+    → IfSome remaining (λ bytes. input ≡ bytes) → length input ≤ most_bytes → IsRead input r → IsReported options (judged options.until r) status text page → AppendsFront old new text
     → IfSome remaining (λ bytes. Outcome options bytes old new (Err (Write fault)))
-cut options None old new input r status text fault same within read a front = tt
-cut options (Some bytes) old new input r status text fault same within read a front =
-    subst (λ (l : List ℕ). Outcome options l old new (Err (Write fault))) same (a.0, text, answers options input r status text within read a, front)
+cut options None old new input r status text page fault same within read a front = tt
+cut options (Some bytes) old new input r status text page fault same within read a front =
+    subst (λ (l : List ℕ). Outcome options l old new (Err (Write fault))) same (a.0, text, answers options input r status text page within read a, front)
 
--- the status of a trace that is not decided tells that the budget was spent
-pub spent_where_undecided : (answer : Answer) (budget count : ℕ) → IfUndecided answer (λ doubt. doubt.states ≡ budget) → IfUndecided answer (λ doubt. doubt.states ≤ count)
-    → answer_status answer ≡ 6 → budget ≤ count
-spent_where_undecided (Explained order) budget count is_budget spent is = cc
-spent_where_undecided (Blamed blame) budget count is_budget spent is = cc
-spent_where_undecided (Unexplained granule words) budget count is_budget spent is = cc
-spent_where_undecided (Undecided doubt) budget count is_budget spent is = omega (arith, is_budget, spent)
+-- what follows of two that hold where there is some
+both_some : {X : Type 0} (A B C : X → Type 0) (found : Option X) → IfSome found A → IfSome found B → ((x : X) → A x → B x → C x) → IfSome found C
+both_some A B C None a b both = tt
+both_some A B C (Some x) a b both = both x a b
 
--- where a trace stops being explained, the text of the failure is the one of a right answer
-pub blamed_right : (options : CheckOptions) (r : RecordedValue) (failure : Failure) (text : List ℕ) → IsUnexplained r → IsFailure r failure → IsFailureText r options.around failure text
-    → IsRightOf options r 1 text
-blamed_right options r failure text unexplained is text_is =
-    (Blamed failure.blame, record { right = (unexplained, is.blame); undecided = tt; text_is = (failure, is, refl, text_is) }, refl)
+-- the page of the answer was put
+module _ {P : Type 0} (has_put : P → List ℕ → List ℕ → Type 0) where
+  pub put : (options : CheckOptions) (remaining old new : Option (List ℕ)) (input : List ℕ) (r : RecordedValue) (status : ℕ) (text page : List ℕ) (pages : P)
+      → IfSome remaining (λ bytes. input ≡ bytes) → length input ≤ most_bytes → IsRead input r → IsReported options (judged options.until r) status text page → Appends old new text
+      → IfSome options.html (λ path. has_put pages path.now page) → IfSome remaining (λ bytes. IsPut has_put options bytes old new status pages)
+  unfolding answers
+  put options None old new input r status text page pages same within read a appends was_put = tt
+  put options (Some bytes) old new input r status text page pages same within read a appends was_put =
+      subst (λ (l : List ℕ). IsPut has_put options l old new status pages) same
+      (both_some (λ _. IsPage _ _ page) (λ path. has_put pages path.now page) _ options.html a.3 was_put
+      (λ path is_page has. (a.0, text, page, record { answers = answers options input r status text page within read a; page_is = is_page }, a.2, appends, has)))
+
+-- the status of a trace that is not decided tells that as many states were looked at as may be
+pub spent_where_undecided : (options : CheckOptions) (answer : Answer) (count : ℕ) → IfUndecided answer (λ doubt. IsWithin options doubt.states)
+    → IfUndecided answer (λ doubt. doubt.states ≤ count) → answer_status answer ≡ 6 → (states : ℕ) × IsWithin options states × (states ≤ count)
+spent_where_undecided options (Explained order) count within spent is = cc
+spent_where_undecided options (Blamed blame) count within spent is = cc
+spent_where_undecided options (Unexplained granule words) count within spent is = cc
+spent_where_undecided options (Undecided doubt) count within spent is = (doubt.states, within, spent)
+
+-- where a trace stops being explained, the text of the failure is the one of a right answer, and so is its page
+pub blamed_right : (options : CheckOptions) (r : RecordedValue) (failure : Failure) (text page : List ℕ) → IsUnexplained r → IsFailure r failure → IsFailureText r options.around failure text
+    → IsPageAsked options r (Blamed failure.blame) page → IsReported options r 1 text page
+blamed_right options r failure text page unexplained is text_is page_is =
+    (Blamed failure.blame, record { right = (unexplained, is.blame); undecided = tt; text_is = (failure, is, refl, text_is) }, refl, page_is)

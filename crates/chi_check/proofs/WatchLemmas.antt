@@ -4,7 +4,7 @@ use Rattle.std.specs.Io.KnownBytes.{Appends, Keeps}
 use Rattle.std.proofs.lemmas.List.Elements.{All-head}
 use Rattle.chi_script.specs.WriterBytes.{AppendsFront}
 use Rattle.chi_script.specs.declared.device.WriteFault.{WriteFault}
-use Rattle.chi_recent.specs.Looks.{LookedAtLeast}
+use Rattle.chi_search.specs.Looks.{LookedAtLeast}
 use Rattle.chi_watch.specs.declared.ending.Ending.{Ending}
 use Rattle.chi_watch.specs.declared.ending.FoundAtEnd.{FoundAtEnd}
 use Rattle.chi_watch_text.specs.Found.{ending_verdict, found_verdict, listed_verdict, verdict_of}

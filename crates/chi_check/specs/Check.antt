@@ -12,6 +12,7 @@ use Rattle.chi_answer.specs.Texts.{IsText}
 use Rattle.chi_excerpt.specs.declared.failure.Failure.{Failure}
 use Rattle.chi_excerpt.specs.Failures.{IsFailure, IsFailureText}
 use Rattle.chi_check.specs.CheckStatus.{answer_status}
+use Rattle.chi_check.specs.Limits.{IsWithin}
 use Rattle.chi_check.specs.declared.fault.CheckFault.{CheckFault}
 use Rattle.chi_check.specs.declared.fault.CheckFault.TheVariants.{Read, TooLong, Memory, Trace, Events, Page, Write}
 use Rattle.chi_check.specs.declared.options.CheckOptions.{CheckOptions}
@@ -34,15 +35,11 @@ IsWritten options r (Blamed blame) text =
 IsWritten options r (Unexplained granule words) text = IsText options.witness r (Unexplained granule words) text
 IsWritten options r (Undecided doubt) text = IsText options.witness r (Undecided doubt) text
 
--- the answer is a right one of the trace, undecided only where it names the budget, and this is what is written of it
+-- the answer is a right one of the trace, undecided only after as many states as may be looked at, and this is what is written of it
 pub record IsRight (options : CheckOptions) (r : RecordedValue) (answer : Answer) (text : List ℕ) : Type 0 where
   pub right : IsAnswer r answer
-  pub undecided : IfUndecided answer (λ doubt. doubt.states ≡ options.budget)
+  pub undecided : IfUndecided answer (λ doubt. IsWithin options doubt.states)
   pub text_is : IsWritten options r answer text
-
--- some answer is right, and this is its status and what is written of it
-abbrev pub IsRightOf : CheckOptions → RecordedValue → ℕ → List ℕ → Type 0
-IsRightOf options r status text = (answer : Answer) × IsRight options r answer text × (status ≡ answer_status answer)
 
 -- the input is a trace, this is a right answer of it, and this its text
 pub record Answers (options : CheckOptions) (input : List ℕ) (answer : Answer) (text : List ℕ) : Type 0 where
@@ -78,12 +75,8 @@ IsReadFault input TooLong = IfSome input (λ bytes. most_bytes < length bytes)
 IsReadFault input Memory = Unit {0}
 IsReadFault input fault = ⊥
 
--- the status and the text are those of a right answer of the trace
-abbrev pub IsAnswered : CheckOptions → RecordedValue → ℕ → List ℕ → Type 0
-IsAnswered options r status text = IsRightOf options (judged options.until r) status text
-
--- so many states were looked at on the way to the status: no fewer than the budget where it is that of an undecided trace
-pub record LookedForStatus {P : Type 0} (looked : P → ℕ → Type 0) (old new : P) (budget status : ℕ) : Type 0 where
+-- so many states were looked at on the way to the status: no fewer than may be where it is that of an undecided trace
+pub record LookedForStatus {P : Type 0} (looked : P → ℕ → Type 0) (old new : P) (options : CheckOptions) (status : ℕ) : Type 0 where
   pub count : ℕ
   pub more : LookedMore looked old new count
-  pub undecided : status ≡ 6 → budget ≤ count
+  pub undecided : status ≡ 6 → (states : ℕ) × IsWithin options states × (states ≤ count)

@@ -8,7 +8,9 @@ use Rattle.clap.specs.Walk.{Row, Text, first_of, one_of}
 use Rattle.clap.specs.Simple.{subcommand_of}
 use Rattle.chi_check.specs.declared.command.Task.{Task}
 use Rattle.chi_check.specs.declared.command.Task.TheVariants.{Explain, Watch}
+use Rattle.chi_watch_text.specs.declared.options.WatchOptions.{WatchOptions}
 use Rattle.chi_check.specs.CommandLine.{program_app}
+use Rattle.chi_check.specs.declared.options.CheckOptions.{CheckOptions}
 
 -- what was found has this word as the value of an option
 abbrev pub has_word : List Row → Text → Text → Bool
@@ -19,22 +21,10 @@ abbrev pub IsNumberOr : ℕ → Option Text → ℕ → Type 0
 IsNumberOr other None number = number ≡ other
 IsNumberOr other (Some text) number = (read : Result ℕ (Unit {0})) × ParsesUnsigned 64 10 text read × (number ≡ result_unwrap_or read other)
 
--- the number after `--budget`, or 1,000,000
-abbrev pub IsBudget : List Row → ℕ → Type 0
-IsBudget found budget = IsNumberOr 1000000 (one_of (codes "budget") found) budget
-
--- the number after `--around`, or 16
-abbrev pub IsAround : List Row → ℕ → Type 0
-IsAround found around = IsNumberOr 16 (one_of (codes "around") found) around
-
 -- the number that a text is, where there is one below 2^64
 abbrev pub IsNumberOrNone : Option Text → Option ℕ → Type 0
 IsNumberOrNone None time = time ≡ None
 IsNumberOrNone (Some text) time = (read : Result ℕ (Unit {0})) × ParsesUnsigned 64 10 text read × (time ≡ result_ok read)
-
--- the number after `--until`, where it is there
-abbrev pub IsUntil : List Row → Option ℕ → Type 0
-IsUntil found time = IsNumberOrNone (one_of (codes "until") found) time
 
 -- in these arguments `clap` finds the subcommand of this name, and this of its options, by use or by default
 abbrev pub Finds : List Text → Text → List Row → Type 0
@@ -45,12 +35,25 @@ abbrev pub IsNamed : Text → Task → Type 0
 IsNamed name (Explain options) = bytes_eq name (codes "watch") ≡ false
 IsNamed name (Watch options) = bytes_eq name (codes "watch") ≡ true
 
+-- the options of `explain` are those that were found
+pub record HasExplainOptions (found : List Row) (options : CheckOptions) : Type 0 where
+  pub witness : options.witness ≡ has_word found (codes "witness") (codes "true")
+  pub budget : IsNumberOr 1000000 (one_of (codes "budget") found) options.budget
+  pub seconds : IsNumberOrNone (one_of (codes "seconds") found) options.seconds
+  pub memory : IsNumberOrNone (one_of (codes "memory") found) options.memory
+  pub until : IsNumberOrNone (one_of (codes "until") found) options.until
+  pub around : IsNumberOr 16 (one_of (codes "around") found) options.around
+  pub html : option_map (λ s. s.now) options.html ≡ first_of (codes "html") found
+
+-- and so are those of `watch`
+pub record HasWatchOptions (found : List Row) (options : WatchOptions) : Type 0 where
+  pub keep_going : options.keep_going ≡ has_word found (codes "keep-going") (codes "true")
+  pub budget : IsNumberOr 1000000 (one_of (codes "budget") found) options.budget
+
 -- the task has the options that were found
 abbrev pub HasOptions : List Row → Task → Type 0
-HasOptions found (Explain options) =
-    (options.witness ≡ has_word found (codes "witness") (codes "true")) × IsBudget found options.budget × IsUntil found options.until
-    × IsAround found options.around × (option_map (λ s. s.now) options.html ≡ first_of (codes "html") found)
-HasOptions found (Watch options) = (options.keep_going ≡ has_word found (codes "keep-going") (codes "true")) × IsBudget found options.budget
+HasOptions found (Explain options) = HasExplainOptions found options
+HasOptions found (Watch options) = HasWatchOptions found options
 
 -- the arguments name this task with these options: those of what `clap` finds in them
 abbrev pub Chooses : List Text → Task → Type 0

@@ -34,11 +34,16 @@ around_rule = option_rule (codes "around") is_word (codes "16" ∷ [])
 abbrev pub html_rule : Rule
 html_rule = record (new_rule (codes "html")) { long = Some (codes "html"); value_names = 1 }
 
--- the task `explain`: its witness may be asked for, its time and how many operations are shown are whole numbers below 2^64, and
--- it has a file and a budget
+-- an option that takes a whole number below 2^64, and has none by default
+abbrev pub number_rule : Text → Rule
+number_rule name = option_rule name is_word []
+
+-- the task `explain`: its witness may be asked for, its limits, its time and how many operations are shown are whole numbers below
+-- 2^64, and it has a file and a budget
 abbrev pub explain_app : App
 explain_app =
-    with_rule (with_rule (with_rule (with_rule (with_rule (new_app (codes "explain")) (switch_rule (codes "witness"))) (option_rule (codes "until") is_word [])) around_rule) html_rule) budget_rule
+    with_rule (with_rule (with_rule (with_rule (with_rule (with_rule (with_rule (new_app (codes "explain")) (switch_rule (codes "witness"))) (number_rule (codes "until"))) around_rule) html_rule) budget_rule)
+    (number_rule (codes "seconds"))) (number_rule (codes "memory"))
 
 -- the task `watch`: it has a budget, and may be asked to keep going
 abbrev pub watch_app : App

@@ -9,6 +9,7 @@ ghost use Rattle.chi_check.specs.ProgramOutcome.{Ends, ProgramOutcome, TaskOutco
 use crate::check::check;
 use crate::command::{Task, task_of};
 use crate::fault::{CheckFault, status_of};
+use crate::meter::Meter;
 use crate::pages::Pages;
 use crate::progress_line::ShownProgress;
 use crate::watch::watch;
@@ -22,38 +23,38 @@ use std::io::{Read, Write};
 pub(crate) const REFUSED: u8 = 2;
 
 // Does a task with its input.
-fn do_task<R: Read, W: Write, P: ShownProgress, G: Pages>(
+fn do_task<R: Read, W: Write, P: ShownProgress, G: Pages + Meter>(
     alloc: Global,
     task: &Task<'_>,
     from: &mut R,
     to: &mut W,
     progress: &mut P,
-    pages: &mut G,
+    machine: &mut G,
 ) -> Result<u8, CheckFault>
     ensures outcome { IfSome (R.remaining from.old) (λ input. TaskOutcome task.now input (W.contents to.old) (W.contents to.new) result) }
     ensures unanswered { KeepsUnanswered (W.contents to.old) (W.contents to.new) result }
     ensures status { IfOk result IsAnswerStatus }
 {
     match task {
-        Task::Explain(options) => check(alloc, from, to, options, progress, pages),
+        Task::Explain(options) => check(alloc, from, to, options, progress, machine),
         Task::Watch(options) => watch(alloc, from, to, options, progress),
     }
 }
 
 // Does a task with its input, and flushes what was written. A fault of the flush is one of the writer.
-fn run_task<R: Read, W: Write, P: ShownProgress, G: Pages>(
+fn run_task<R: Read, W: Write, P: ShownProgress, G: Pages + Meter>(
     alloc: Global,
     task: &Task<'_>,
     from: &mut R,
     to: &mut W,
     progress: &mut P,
-    pages: &mut G,
+    machine: &mut G,
 ) -> Result<u8, CheckFault>
     ensures outcome { IfSome (R.remaining from.old) (λ input. TaskOutcome task.now input (W.contents to.old) (W.contents to.new) result) }
     ensures unanswered { KeepsUnanswered (W.contents to.old) (W.contents to.new) result }
     ensures status { IfOk result IsAnswerStatus }
 {
-    let status = do_task(alloc, task, from, to, progress, pages)?;
+    let status = do_task(alloc, task, from, to, progress, machine)?;
     match to.flush() {
         Ok(()) => Ok(status),
         Err(_) => Err(CheckFault::Write(WriteFault::Failed)),
@@ -69,19 +70,19 @@ pub(crate) fn report_fault<E: Write>(fault: &CheckFault, errors: &mut E) -> u8
 }
 
 // Does a task with its input, and reports its fault.
-fn end_task<R: Read, W: Write, E: Write, P: ShownProgress, G: Pages>(
+fn end_task<R: Read, W: Write, E: Write, P: ShownProgress, G: Pages + Meter>(
     alloc: Global,
     task: &Task<'_>,
     from: &mut R,
     to: &mut W,
     errors: &mut E,
     progress: &mut P,
-    pages: &mut G,
+    machine: &mut G,
 ) -> u8
     ensures ends { Ends task.now (R.remaining from.old) (W.contents to.old) (W.contents to.new) result }
     ensures status { IsStatus result }
 {
-    match run_task(alloc, task, from, to, progress, pages) {
+    match run_task(alloc, task, from, to, progress, machine) {
         Ok(status) => status,
         Err(fault) => report_fault(&fault, errors),
     }
@@ -106,26 +107,26 @@ fn report_arguments<W: Write, E: Write>(error: &Error, to: &mut W, errors: &mut 
 }
 
 /// The program: reads the arguments after its name, does the task that they name with what `from` gives, and writes the
-/// answer to `to`. A fault is reported to `errors`, whose own faults are ignored, `progress` is told how far the search is, and `pages`
-/// puts the page of a trace. The answer is the status to end with.
+/// answer to `to`. A fault is reported to `errors`, whose own faults are ignored, `progress` is told how far the search is, and `machine`
+/// puts the page of a trace and tells how much was used. The answer is the status to end with.
 ///
 /// ```
-/// let status = run_arguments(alloc, &arguments, &mut input, &mut output, &mut errors, &mut progress, &mut pages);
+/// let status = run_arguments(alloc, &arguments, &mut input, &mut output, &mut errors, &mut progress, &mut machine);
 /// ```
-pub fn run_arguments<R: Read, W: Write, E: Write, P: ShownProgress, G: Pages>(
+pub fn run_arguments<R: Read, W: Write, E: Write, P: ShownProgress, G: Pages + Meter>(
     alloc: Global,
     arguments: &[String],
     from: &mut R,
     to: &mut W,
     errors: &mut E,
     progress: &mut P,
-    pages: &mut G,
+    machine: &mut G,
 ) -> u8
     ensures outcome { ProgramOutcome (map string_bytes arguments.now) (R.remaining from.old) (W.contents to.old) (W.contents to.new) result }
     ensures status { IsStatus result }
 {
     match task_of(alloc, arguments) {
-        Ok(task) => end_task(alloc, &task, from, to, errors, progress, pages),
+        Ok(task) => end_task(alloc, &task, from, to, errors, progress, machine),
         Err(error) => report_arguments(&error, to, errors),
     }
 }

@@ -1,22 +1,27 @@
 //! From a trace's bytes to an answer's bytes.
 
-ghost use Rattle.std.specs.Prelude.{◌≡◌, ◌≤◌, length, IfErr, IfOk, IfSome, IsTrue};
+ghost use Rattle.std.specs.Prelude.{◌≡◌, ◌≤◌, length, IfErr, IfOk, IfSome, IsTrue, None};
 ghost use Rattle.chi_verdict.specs.Blames.{IsBlame};
 ghost use Rattle.chi_answer.specs.Answers.{IfUndecided, IsAnswer, IsUnexplained};
-ghost use Rattle.chi_check.specs.Check.{IsAnswered, IsReadFault, IsRightOf, KeepsUnanswered, LookedForStatus, Outcome, judged, most_bytes};
 ghost use Rattle.chi_answer.specs.Texts.{IsText};
+ghost use Rattle.chi_check.specs.Check.{IsReadFault, KeepsUnanswered, LookedForStatus, Outcome, judged, most_bytes};
+ghost use Rattle.chi_check.specs.Limits.{IsWithin};
+ghost use Rattle.chi_search.specs.Looks.{LookedSome};
 ghost use Rattle.chi_check.specs.CheckStatus.{IsAnswerStatus, answer_status};
-ghost use Rattle.chi_check.specs.Pages.{IsPage, IsPut};
+ghost use Rattle.chi_check.specs.Pages.{IsPage, IsPut, IsReported};
 
 use crate::fault::CheckFault;
+use crate::meter::Meter;
 use crate::options::CheckOptions;
 use crate::page::{blamed_page_asked, page_asked};
 use crate::pages::Pages;
 use crate::progress_line::ShownProgress;
-use chi_answer::{Answer, answer_of, answer_text};
+use crate::search::{Searched, search};
+use chi_answer::{Answer, answer_text};
 use chi_excerpt::{failure_of, failure_text};
 use chi_reading::{Recorded, read_trace};
 use chi_script::{InputFault, read_input, write_bytes};
+use chi_search::Progress;
 use chi_verdict::Blame;
 use std::alloc::{AllocError, Global};
 use std::io::{Read, Write};
@@ -72,21 +77,23 @@ struct Report {
 }
 
 // What is reported of where a trace that no order explains stops being explained.
-fn blamed_report(
+fn blamed_report<P: Progress>(
     alloc: Global,
     recorded: &Recorded,
     blame: Blame,
     options: &CheckOptions<'_>,
+    budget: u64,
+    progress: &mut P,
 ) -> Result<Report, AllocError>
     requires unexplained { IsUnexplained recorded.now }
     requires blame { IsBlame recorded.now.trace blame }
-    ensures right { IfOk result (λ report. IsRightOf options.now recorded.now 1 report.text.items) }
+    ensures reported { IfOk result (λ report. IsReported options.now recorded.now report.status report.text.items report.page.items) }
     ensures status { IfOk result (λ report. report.status ≡ 1) }
-    ensures page { IfOk result (λ report. IfSome options.now.html (λ _. IsPage recorded.now report.page.items)) }
+    ensures looked { IfOk result (λ _. LookedSome P.looked progress.old progress.new) }
 {
-    let failure = failure_of(alloc, recorded, blame, options.budget)?;
+    let failure = failure_of(alloc, recorded, blame, budget, progress)?;
     let text = failure_text(alloc, recorded, &failure, options.around as usize)?;
-    let page = blamed_page_asked(alloc, recorded, &failure.blame, options)?;
+    let page = blamed_page_asked(alloc, recorded, &failure.blame, options, budget)?;
     Ok(Report {
         status: 1,
         text,
@@ -100,14 +107,15 @@ fn usual_report(
     recorded: &Recorded,
     answer: &Answer,
     options: &CheckOptions<'_>,
+    budget: u64,
 ) -> Result<Report, AllocError>
     requires { IsAnswer recorded.now answer.now }
     ensures text { IfOk result (λ report. IsText options.now.witness recorded.now answer.now report.text.items) }
     ensures status { IfOk result (λ report. report.status ≡ answer_status answer.now) }
-    ensures page { IfOk result (λ report. IfSome options.now.html (λ _. IsPage recorded.now report.page.items)) }
+    ensures page { IfOk result (λ report. IfSome options.now.html (λ _. IsPage recorded.now None report.page.items)) }
 {
     let text = answer_text(alloc, recorded, answer, options.witness)?;
-    let page = page_asked(alloc, recorded, options)?;
+    let page = page_asked(alloc, recorded, options, budget)?;
     Ok(Report {
         status: answer_status(answer),
         text,
@@ -116,40 +124,57 @@ fn usual_report(
 }
 
 // What is reported of an answer.
-fn report_of(
+fn report_of<P: Progress>(
     alloc: Global,
     recorded: &Recorded,
-    answer: Answer,
+    searched: Searched,
     options: &CheckOptions<'_>,
+    progress: &mut P,
 ) -> Result<Report, AllocError>
-    requires right { IsAnswer recorded.now answer }
-    requires undecided { IfUndecided answer (λ doubt. doubt.states ≡ options.now.budget) }
-    ensures right { IfOk result (λ report. IsRightOf options.now recorded.now report.status report.text.items) }
-    ensures status { IfOk result (λ report. report.status ≡ answer_status answer) }
-    ensures page { IfOk result (λ report. IfSome options.now.html (λ _. IsPage recorded.now report.page.items)) }
+    requires right { IsAnswer recorded.now searched.answer }
+    requires undecided { IfUndecided searched.answer (λ doubt. IsWithin options.now doubt.states) }
+    ensures reported { IfOk result (λ report. IsReported options.now recorded.now report.status report.text.items report.page.items) }
+    ensures status { IfOk result (λ report. report.status ≡ answer_status searched.answer) }
+    ensures looked { IfOk result (λ _. LookedSome P.looked progress.old progress.new) }
 {
-    match answer {
-        Answer::Blamed(blame) => blamed_report(alloc, recorded, blame, options),
-        other => usual_report(alloc, recorded, &other, options),
+    let budget = searched.budget;
+    match searched.answer {
+        Answer::Blamed(blame) => blamed_report(alloc, recorded, blame, options, budget, progress),
+        other => usual_report(alloc, recorded, &other, options, budget),
     }
 }
 
 // What is reported of a trace.
-fn answered<P: ShownProgress>(
+fn answered<P: ShownProgress, M: Meter>(
+    alloc: Global,
+    recorded: &Recorded,
+    options: &CheckOptions<'_>,
+    progress: &mut P,
+    meter: &M,
+) -> Result<Report, AllocError>
+    ensures reported { IfOk result (λ report. IsReported options.now recorded.now report.status report.text.items report.page.items) }
+    ensures spent { IfOk result (λ report. LookedForStatus P.looked progress.old progress.new options.now report.status) }
+{
+    let searched = search(alloc, recorded, options, progress, meter)?;
+    let report = report_of(alloc, recorded, searched, options, progress)?;
+    Ok(report)
+}
+
+// What is reported of what is judged of a trace, once what is shown of the progress is taken back.
+fn reported<P: ShownProgress, M: Meter>(
     alloc: Global,
     recorded: Recorded,
     options: &CheckOptions<'_>,
     progress: &mut P,
+    meter: &M,
 ) -> Result<Report, AllocError>
-    ensures answered { IfOk result (λ report. IsAnswered options.now recorded report.status report.text.items) }
-    ensures page { IfOk result (λ report. IfSome options.now.html (λ _. IsPage (judged options.now.until recorded) report.page.items)) }
-    ensures spent { IfOk result (λ report. LookedForStatus P.looked progress.old progress.new options.now.budget report.status) }
+    ensures reported { IfOk result (λ report. IsReported options.now (judged options.now.until recorded) report.status report.text.items report.page.items) }
+    ensures spent { IfOk result (λ report. LookedForStatus P.looked progress.old progress.new options.now report.status) }
 {
     let part = judged(alloc, recorded, options.until)?;
-    let found = answer_of(alloc, &part, options.budget, progress);
+    let found = answered(alloc, &part, options, progress, meter);
     progress.clear();
-    let answer = found?;
-    let report = report_of(alloc, &part, answer, options)?;
+    let report = found?;
     Ok(report)
 }
 
@@ -168,34 +193,35 @@ fn put_page<G: Pages>(pages: &mut G, path: Option<&str>, page: &[u8]) -> bool
 ///
 /// Nothing is written unless the whole trace was read and its answer found. After a fault of the writer a prefix of the
 /// answer has been written. Where a page of the trace is asked for, it is made whole and put before the answer is written.
-/// `progress` is told how far the search is, and cleared before anything is written.
+/// `progress` is told how far the search is, and cleared before anything is written. `machine` puts the page, and tells how much of
+/// its time and memory was used.
 ///
 /// ```
-/// let status = check(alloc, &mut trace.as_bytes(), &mut answer, &options, &mut progress, &mut pages)?; // explained
+/// let status = check(alloc, &mut trace.as_bytes(), &mut answer, &options, &mut progress, &mut machine)?; // explained
 /// ```
-pub fn check<R: Read, W: Write, P: ShownProgress, G: Pages>(
+pub fn check<R: Read, W: Write, P: ShownProgress, G: Pages + Meter>(
     alloc: Global,
     from: &mut R,
     to: &mut W,
     options: &CheckOptions<'_>,
     progress: &mut P,
-    pages: &mut G,
+    machine: &mut G,
 ) -> Result<u8, CheckFault>
     ensures outcome { IfSome (R.remaining from.old) (λ input. Outcome options.now input (W.contents to.old) (W.contents to.new) result) }
     ensures unanswered { KeepsUnanswered (W.contents to.old) (W.contents to.new) result }
     ensures status { IfOk result (λ status. IsAnswerStatus status) }
-    ensures spent { IfOk result (λ status. LookedForStatus P.looked progress.old progress.new options.now.budget status) }
-    ensures page { IfOk result (λ _. IfSome (R.remaining from.old) (λ input. IsPut G.has_put options.now input pages.new)) }
+    ensures spent { IfOk result (λ status. LookedForStatus P.looked progress.old progress.new options.now status) }
+    ensures page { IfOk result (λ status. IfSome (R.remaining from.old) (λ input. IsPut G.has_put options.now input (W.contents to.old) (W.contents to.new) status machine.new)) }
 {
     let input = read_bytes(alloc, from)?;
     let recorded = match read_trace(alloc, &input) {
         Ok(recorded) => recorded,
         Err(fault) => return Err(CheckFault::Trace(fault)),
     };
-    let Ok(report) = answered(alloc, recorded, options, progress) else {
+    let Ok(report) = reported(alloc, recorded, options, progress, machine) else {
         return Err(CheckFault::Memory);
     };
-    if !put_page(pages, options.html, &report.page) {
+    if !put_page(machine, options.html, &report.page) {
         return Err(CheckFault::Page);
     }
     match write_bytes(to, &report.text) {

@@ -1,14 +1,13 @@
 //! The command line.
 
-ghost use Rattle.std.specs.Prelude.{◌≡◌, ◌-◌, ◌^◌, [], false, codes, map, string_bytes, IfErr, IfOk};
+ghost use Rattle.std.specs.Prelude.{◌≡◌, [], false, codes, map, string_bytes, IfErr, IfOk};
 ghost use Rattle.clap.specs.Matches.{found_of};
 ghost use Rattle.clap.specs.Simple.{app_of};
 ghost use Rattle.clap.specs.Values.{kind_of};
-ghost use Rattle.clap.specs.Walk.{first_of, rows_of, rule_of};
+ghost use Rattle.clap.specs.Walk.{first_of, one_of, rows_of, rule_of};
 ghost use Rattle.std.specs.Option.{option_map};
-ghost use Rattle.clap.specs.declared.builder.value_parser.ValueParser.TheVariants as value_parser;
-ghost use Rattle.chi_check.specs.Chosen.{Chooses, HasOptions, IsAround, IsBudget, IsNamed, IsNamedFirst, IsUntil, has_word};
-ghost use Rattle.chi_check.specs.CommandLine.{IsArgumentsFault, IsTaken, around_rule, budget_rule, html_rule, explain_app, option_rule, program_app, switch_rule, watch_app};
+ghost use Rattle.chi_check.specs.Chosen.{Chooses, HasOptions, IsNamed, IsNamedFirst, IsNumberOr, IsNumberOrNone, has_word};
+ghost use Rattle.chi_check.specs.CommandLine.{IsArgumentsFault, IsTaken, around_rule, budget_rule, explain_app, html_rule, is_word, option_rule, program_app, switch_rule, watch_app};
 
 use crate::options::CheckOptions;
 use chi_watch_text::WatchOptions;
@@ -51,23 +50,42 @@ const EXPLAIN_ABOUT: &str = "Looks for an order of the operations that is a lega
 const WATCH_ABOUT: &str =
     "Judges events as they come, and stops at the first that cannot be explained";
 
+const UNTIL: &str = "Judges what had happened by time T, and no words at the end";
+
+const SECONDS: &str = "Begins no larger search that may go on for longer than S seconds";
+
+const MEMORY: &str = "Begins no larger search that may take more than BYTES of memory";
+
 // How many states of each granule are looked at where no number is given.
 const BUDGET: u64 = 1_000_000;
 
 // How many operations are shown before the one that is blamed where no number is given.
 const AROUND: u64 = 16;
 
+// An option that takes a whole number.
+fn number_option<'a>(alloc: Global, name: &'a str, value: &'a str, help: &'a str) -> Arg<'a>
+    ensures rule { rule_of result ≡ option_rule name.now is_word [] }
+    ensures local { result.global ≡ false }
+{
+    Arg::new(alloc, name)
+        .long(name)
+        .value_name(value)
+        .value_parser(value_parser!(u64))
+        .help(help)
+}
+
 // The option that takes the number of states.
 fn budget_option<'a>(alloc: Global) -> Arg<'a>
     ensures rule { rule_of result ≡ budget_rule }
     ensures local { result.global ≡ false }
 {
-    Arg::new(alloc, "budget")
-        .long("budget")
-        .value_name("N")
-        .value_parser(value_parser!(u64))
-        .default_value("1000000")
-        .help("States of each granule that are looked at for an answer")
+    number_option(
+        alloc,
+        "budget",
+        "N",
+        "States of each granule that are looked at for an answer",
+    )
+    .default_value("1000000")
 }
 
 // The option that takes the number of operations that are shown.
@@ -75,24 +93,13 @@ fn around_option<'a>(alloc: Global) -> Arg<'a>
     ensures rule { rule_of result ≡ around_rule }
     ensures local { result.global ≡ false }
 {
-    Arg::new(alloc, "around")
-        .long("around")
-        .value_name("N")
-        .value_parser(value_parser!(u64))
-        .default_value("16")
-        .help("Operations of the granule that are shown before the one blamed")
-}
-
-// The option that takes a time.
-fn until_option<'a>(alloc: Global) -> Arg<'a>
-    ensures rule { rule_of result ≡ option_rule (codes "until") (value_parser.Unsigned 0 (2 ^ 64 - 1)) [] }
-    ensures local { result.global ≡ false }
-{
-    Arg::new(alloc, "until")
-        .long("until")
-        .value_name("T")
-        .value_parser(value_parser!(u64))
-        .help("Judges what had happened by time T, and no words at the end")
+    number_option(
+        alloc,
+        "around",
+        "N",
+        "Operations of the granule that are shown before the one blamed",
+    )
+    .default_value("16")
 }
 
 // The option that asks for the order found.
@@ -137,10 +144,12 @@ fn explain_command<'a>(alloc: Global) -> Result<Command<'a>, Error>
         Command::new(alloc, "explain")
             .about(EXPLAIN_ABOUT)
             .arg(witness_option(alloc))?
-            .arg(until_option(alloc))?
+            .arg(number_option(alloc, "until", "T", UNTIL))?
             .arg(around_option(alloc))?
             .arg(html_option(alloc))?
-            .arg(budget_option(alloc))?,
+            .arg(budget_option(alloc))?
+            .arg(number_option(alloc, "seconds", "S", SECONDS))?
+            .arg(number_option(alloc, "memory", "BYTES", MEMORY))?,
     )
 }
 
@@ -184,25 +193,18 @@ fn has_word(chosen: &ArgMatches<'_>, option: &str, word: &str) -> bool
     }
 }
 
-// How many states of each granule are looked at.
-fn chosen_budget(chosen: &ArgMatches<'_>) -> u64
-    ensures { IsBudget (rows_of (found_of chosen.now)) result }
+// The number that an option was given, or another where it was given none.
+fn number_or(chosen: &ArgMatches<'_>, option: &str, other: u64) -> u64
+    ensures { IsNumberOr other (one_of option.now (rows_of (found_of chosen.now))) result }
 {
-    chosen.get_one::<u64>("budget").unwrap_or(BUDGET)
+    chosen.get_one::<u64>(option).unwrap_or(other)
 }
 
-// How many operations are shown before the one that is blamed.
-fn chosen_around(chosen: &ArgMatches<'_>) -> u64
-    ensures { IsAround (rows_of (found_of chosen.now)) result }
+// The number that an option was given, where it was.
+fn number_given(chosen: &ArgMatches<'_>, option: &str) -> Option<u64>
+    ensures { IsNumberOrNone (one_of option.now (rows_of (found_of chosen.now))) result }
 {
-    chosen.get_one::<u64>("around").unwrap_or(AROUND)
-}
-
-// The time up to which is judged, where one was given.
-fn chosen_time(chosen: &ArgMatches<'_>) -> Option<u64>
-    ensures { IsUntil (rows_of (found_of chosen.now)) result }
-{
-    chosen.get_one::<u64>("until")
+    chosen.get_one::<u64>(option)
 }
 
 // The file that is to be the page of the trace, where one was given.
@@ -215,27 +217,31 @@ fn chosen_file<'a>(chosen: &ArgMatches<'a>) -> Option<&'a str>
 // The options that `explain` was given, or that stand in for them.
 fn explain_options<'a>(chosen: &ArgMatches<'a>) -> CheckOptions<'a>
     ensures witness { result.witness ≡ has_word (rows_of (found_of chosen.now)) (codes "witness") (codes "true") }
-    ensures budget { IsBudget (rows_of (found_of chosen.now)) result.budget }
-    ensures until { IsUntil (rows_of (found_of chosen.now)) result.until }
-    ensures around { IsAround (rows_of (found_of chosen.now)) result.around }
+    ensures budget { IsNumberOr 1000000 (one_of (codes "budget") (rows_of (found_of chosen.now))) result.budget }
+    ensures seconds { IsNumberOrNone (one_of (codes "seconds") (rows_of (found_of chosen.now))) result.seconds }
+    ensures memory { IsNumberOrNone (one_of (codes "memory") (rows_of (found_of chosen.now))) result.memory }
+    ensures until { IsNumberOrNone (one_of (codes "until") (rows_of (found_of chosen.now))) result.until }
+    ensures around { IsNumberOr 16 (one_of (codes "around") (rows_of (found_of chosen.now))) result.around }
     ensures html { option_map (λ s. s.now) result.html ≡ first_of (codes "html") (rows_of (found_of chosen.now)) }
 {
     CheckOptions {
         witness: has_word(chosen, "witness", "true"),
-        budget: chosen_budget(chosen),
-        until: chosen_time(chosen),
-        around: chosen_around(chosen),
+        budget: number_or(chosen, "budget", BUDGET),
+        seconds: number_given(chosen, "seconds"),
+        memory: number_given(chosen, "memory"),
+        until: number_given(chosen, "until"),
+        around: number_or(chosen, "around", AROUND),
         html: chosen_file(chosen),
     }
 }
 
 // The options that `watch` was given, or that stand in for them.
 fn watch_options(chosen: &ArgMatches<'_>) -> WatchOptions
-    ensures budget { IsBudget (rows_of (found_of chosen.now)) result.budget }
+    ensures budget { IsNumberOr 1000000 (one_of (codes "budget") (rows_of (found_of chosen.now))) result.budget }
     ensures keep_going { result.keep_going ≡ has_word (rows_of (found_of chosen.now)) (codes "keep-going") (codes "true") }
 {
     WatchOptions {
-        budget: chosen_budget(chosen),
+        budget: number_or(chosen, "budget", BUDGET),
         keep_going: has_word(chosen, "keep-going", "true"),
     }
 }

@@ -5,17 +5,20 @@ mod arguments;
 mod check;
 mod command;
 mod fault;
+mod machine;
+mod meter;
 mod options;
 mod page;
 mod pages;
 mod progress_line;
+mod search;
 mod watch;
 
 ghost use Rattle.std.specs.Prelude.{◌≡◌, ◌⊎◌};
 
 use crate::arguments::{REFUSED, report_fault, run_arguments};
 use crate::fault::CheckFault;
-use crate::pages::PageFiles;
+use crate::machine::Machine;
 use crate::progress_line::ProgressLine;
 use std::env::{self, Env};
 use std::io::{self, Write};
@@ -46,7 +49,7 @@ fn report_no_arguments<E: Write>(fault: &io::Error, errors: &mut E) -> u8
 fn main(rt: HostRuntime) -> ExitCode {
     let mut errors = rt.stderr();
     let mut progress = ProgressLine::new(&rt, rt.stderr());
-    let mut pages = PageFiles::new(&rt);
+    let mut machine = Machine::new(&rt);
     let status = match arguments_after_name(&rt) {
         Ok(arguments) => {
             let mut from = rt.reader();
@@ -58,7 +61,7 @@ fn main(rt: HostRuntime) -> ExitCode {
                 &mut to,
                 &mut errors,
                 &mut progress,
-                &mut pages,
+                &mut machine,
             )
         }
         Err(fault) => report_no_arguments(&fault, &mut errors),

@@ -1,6 +1,6 @@
 //! The page of a trace.
 
-ghost use Rattle.std.specs.Prelude.{IfOk, IfSome};
+ghost use Rattle.std.specs.Prelude.{IfOk, IfSome, None, Some};
 ghost use Rattle.chi_check.specs.Pages.{IsPage};
 
 use crate::options::CheckOptions;
@@ -17,7 +17,7 @@ fn blamed_page(
     blame: &Blame,
     budget: u64,
 ) -> Result<Vec<u8>, AllocError>
-    ensures { IfOk result (λ page. IsPage recorded.now page.items) }
+    ensures { IfOk result (λ page. IsPage recorded.now (Some blame.now) page.items) }
 {
     let granules = granules_around(alloc, recorded, blame, budget)?;
     let mut page = Vec::new(alloc);
@@ -27,7 +27,7 @@ fn blamed_page(
 
 // The page of another trace.
 fn usual_page(alloc: Global, recorded: &Recorded, budget: u64) -> Result<Vec<u8>, AllocError>
-    ensures { IfOk result (λ page. IsPage recorded.now page.items) }
+    ensures { IfOk result (λ page. IsPage recorded.now None page.items) }
 {
     let granules = all_granules(alloc, recorded, budget)?;
     let mut page = Vec::new(alloc);
@@ -40,11 +40,12 @@ pub(crate) fn page_asked(
     alloc: Global,
     recorded: &Recorded,
     options: &CheckOptions<'_>,
+    budget: u64,
 ) -> Result<Vec<u8>, AllocError>
-    ensures { IfOk result (λ page. IfSome options.now.html (λ _. IsPage recorded.now page.items)) }
+    ensures { IfOk result (λ page. IfSome options.now.html (λ _. IsPage recorded.now None page.items)) }
 {
     match options.html {
-        Some(_) => usual_page(alloc, recorded, options.budget),
+        Some(_) => usual_page(alloc, recorded, budget),
         None => Ok(Vec::new(alloc)),
     }
 }
@@ -55,11 +56,12 @@ pub(crate) fn blamed_page_asked(
     recorded: &Recorded,
     blame: &Blame,
     options: &CheckOptions<'_>,
+    budget: u64,
 ) -> Result<Vec<u8>, AllocError>
-    ensures { IfOk result (λ page. IfSome options.now.html (λ _. IsPage recorded.now page.items)) }
+    ensures { IfOk result (λ page. IfSome options.now.html (λ _. IsPage recorded.now (Some blame.now) page.items)) }
 {
     match options.html {
-        Some(_) => blamed_page(alloc, recorded, blame, options.budget),
+        Some(_) => blamed_page(alloc, recorded, blame, budget),
         None => Ok(Vec::new(alloc)),
     }
 }

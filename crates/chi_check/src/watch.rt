@@ -1,7 +1,7 @@
 //! From the lines of events to an answer's bytes.
 
 ghost use Rattle.std.specs.Prelude.{◌≡◌, IfOk, IfSome};
-ghost use Rattle.chi_recent.specs.Looks.{LookedAtLeast};
+ghost use Rattle.chi_search.specs.Looks.{LookedAtLeast};
 ghost use Rattle.chi_watch_text.specs.Outcomes.{IsOutcome, WentBy};
 ghost use Rattle.chi_check.specs.Check.{KeepsUnanswered};
 ghost use Rattle.chi_check.specs.CheckStatus.{IsAnswerStatus};

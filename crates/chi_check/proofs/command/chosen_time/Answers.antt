@@ -1,8 +1,0 @@
--- The time is the one that was found, where one was.
-use Rattle.std.proofs.Common.{codes}
-use Rattle.clap.specs.Matches.{found_of}
-use Rattle.chi_check.proofs.ChosenLemmas.{number_or_none}
-use Rattle.chi_check.proofs.command.chosen_time.Goals as goal
-
-pub returns : goal.returns
-returns c = number_or_none (found_of c.args.chosen.now) (codes "until") c.get_one.result c.get_one.ensures.none c.get_one.ensures.value
