@@ -40,7 +40,7 @@ outside_as Compare o m y lawful outside = by_test (same_bytes (old o m) (sent o.
     by_test false = refl
 
 -- the reply is of the old bytes
-answer_as_old : (kind : Kind) (o : Access) (m k : Memory) → old o m ≡ old o k → answer_as kind o m ≡ answer_as kind o k
+pub answer_as_old : (kind : Kind) (o : Access) (m k : Memory) → old o m ≡ old o k → answer_as kind o m ≡ answer_as kind o k
 answer_as_old Read o m k same = ap (λ bs. CompData (in_lanes (lane_of o.addr) bs)) same
 answer_as_old Write o m k same = refl
 answer_as_old (Store op) o m k same = refl

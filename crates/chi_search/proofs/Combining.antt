@@ -1,16 +1,15 @@
 -- of two values that are combined with the old bytes one after the other, either may come first
-use Rattle.std.proofs.Common.{◌≡◌, ℕ, zero, suc, ◌+◌, ◌-◌, ◌*◌, ◌%◌, ◌^◌, ◌<◌, ◌≤◌, max, Bool, List, [], ◌∷◌, length, nat_lt, int_lt, refl, sym, ap, ap₂, ◌∙◌, arith, inl, inr, pow-suc, mul-le-mul_right, le_of_suc-le-suc}
+use Rattle.std.proofs.Common.{◌≡◌, ℕ, zero, suc, ◌+◌, ◌-◌, ◌*◌, ◌%◌, ◌^◌, ◌<◌, ◌≤◌, max, Bool, List, [], ◌∷◌, length, nat_lt, int_lt, refl, sym, ap, ap₂, ◌∙◌, arith}
 use Rattle.std.specs.Int.{bit_at}
-use Rattle.std.proofs.lemmas.Bool.{cases_lt}
-use Rattle.std.proofs.lemmas.Nat.Bits.{bit_at-lt, bit_at_cat_high, bit_at_cat_low}
+use Rattle.std.proofs.lemmas.Nat.Bits.{bit_at-lt}
 use Rattle.std.proofs.Math.Nat.{mod-add-mod, mod-mod, mul_right_comm}
 use Rattle.chi_fields.specs.declared.kind.Op.{Op}
 use Rattle.chi_fields.specs.declared.kind.Op.TheVariants.{Add, Clr, Eor, Set, SMax, SMin, UMax, UMin}
 use Rattle.chi_lanes.specs.Bytes.{AreBytes, bytes, num, snum}
 use Rattle.chi_lanes.specs.Combination.{bitwise, combine, from_bits}
-use Rattle.chi_lanes.proofs.BitwiseLemmas.{cleared_bit}
 use Rattle.chi_lanes.proofs.ReversedBytes.{length-bytes, num-bytes}
 use Rattle.chi_search.proofs.Picking.{greatest, least, same_num, same_turned, signed_by, turned}
+use Rattle.chi_search.proofs.Spelled.{MakesBits, MakesBits-clr, MakesBits-eor, MakesBits-set, spelled_bit}
 
 -- sums, cut to so many bytes
 added : (m o s t : ℕ) → ((o + s) % m % m + t) % m ≡ (o + s + t) % m
@@ -28,31 +27,7 @@ adds endian old s t =
     let turned : num endian old + num endian s + num endian t ≡ num endian old + num endian t + num endian s = omega arith in
     add_once endian old s t ∙ ap (λ n. bytes endian (length old) (n % 256 ^ length old)) turned ∙ sym (add_once endian old t s)
 
--- the bits of a number that is told by its bits
-spelled_below : (k : ℕ) (f : ℕ → ℕ) → ((j : ℕ) → f j < 2) → from_bits k f < 2 ^ k
-unfolding from_bits
-spelled_below zero f is = omega arith
-spelled_below (suc k) f is =
-    let here : f k * 2 ^ k ≤ 1 * 2 ^ k = mul-le-mul_right (2 ^ k) (le_of_suc-le-suc (is k)) in
-    let below : from_bits k f < 2 ^ k = spelled_below k f is in
-    rw (pow-suc 2 k) (omega (arith, here, below))
-
-spelled_bit : (k : ℕ) (f : ℕ → ℕ) → ((j : ℕ) → f j < 2) → (j : ℕ) → j < k → bit_at (from_bits k f) j ≡ f j
-unfolding from_bits
-spelled_bit zero f is j below = absurd (omega (arith, below))
-spelled_bit (suc k) f is j below = elim (cases_lt j k) [
-  | inl low ↦ bit_at_cat_low (f k) k (from_bits k f) j low ∙ spelled_bit k f is j low
-  | inr high ↦
-      let same : j ≡ k = omega (arith, below, high) in
-      let none : j - k ≡ 0 = omega (arith, same) in
-      bit_at_cat_high (f k) k (from_bits k f) j (spelled_below k f is) high ∙ ap (bit_at (f k)) none ∙ lowest (f k) (is k) ∙ ap f (sym same)
-]
-  where
-    lowest : (n : ℕ) → n < 2 → bit_at n 0 ≡ n
-    lowest zero fits = refl
-    lowest (suc zero) fits = refl
-    lowest (suc (suc n)) fits = absurd (omega (arith, fits))
-
+-- the same bits spell the same number
 spelled_same : (k : ℕ) (f g : ℕ → ℕ) → ((j : ℕ) → j < k → f j ≡ g j) → from_bits k f ≡ from_bits k g
 unfolding from_bits
 spelled_same zero f g same = refl
@@ -61,7 +36,7 @@ spelled_same (suc k) f g same =
 
 -- an operation on bits that makes a bit, and takes its second operands in either order
 record Commutes (f : ℕ → ℕ → ℕ) : Type 0 where
-  bit : (a b : ℕ) → a < 2 → b < 2 → f a b < 2
+  bit : MakesBits f
   either : (a b c : ℕ) → a < 2 → b < 2 → c < 2 → f (f a b) c ≡ f (f a c) b
 
 byte_twice : (f : ℕ → ℕ → ℕ) → Commutes f → (x y z : ℕ)
@@ -88,15 +63,15 @@ bits f is (x ∷ old) (y ∷ s) (z ∷ t) = ap₂ (λ b bs. b ∷ bs) (byte_eith
 
 clears : Commutes (λ x y. x * (1 - y))
 clears = record {
-  bit = λ a b p q. rw (← cleared_bit a b p q) (omega (arith, p));
+  bit = MakesBits-clr;
   either = λ a b c _ _ _. mul_right_comm a (1 - b) (1 - c);
 }
 
 turns : Commutes (λ x y. (x + y) % 2)
-turns = record { bit = λ a b p q. omega arith; either = λ a b c p q r. omega (arith, p, q, r) }
+turns = record { bit = MakesBits-eor; either = λ a b c p q r. omega (arith, p, q, r) }
 
 sets : Commutes (λ x y. max x y)
-sets = record { bit = λ a b p q. omega (arith, p, q); either = λ a b c p q r. omega (arith, p, q, r) }
+sets = record { bit = MakesBits-set; either = λ a b c p q r. omega (arith, p, q, r) }
 
 pub combines : (op : Op) (endian : Bool) (old s t : List ℕ) → AreBytes old → AreBytes s → AreBytes t → length s ≡ length old → length t ≡ length old
     → 1 ≤ length old

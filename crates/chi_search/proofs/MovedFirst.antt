@@ -12,7 +12,7 @@ use Rattle.chi_search.specs.Moves.{ByTaking, CanCome, Ends}
 use Rattle.chi_search.specs.Positions.{Position, is_left}
 use Rattle.chi_search.specs.Searchable.{AreSorted}
 use Rattle.chi_search.proofs.Moves.{by_first, first_ends}
-use Rattle.chi_search.proofs.Orders.{without}
+use Rattle.chi_search.proofs.Covers.{without}
 
 -- the operation can be moved before each other one of an order that starts by its end
 abbrev pub MovesBeforeEach : List Observed → ℕ → List ℕ → Type 0

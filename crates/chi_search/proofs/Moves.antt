@@ -4,14 +4,15 @@ use Rattle.std.proofs.lemmas.Bool.{and_left, and_parts, cases_lt}
 use Rattle.std.proofs.lemmas.Bool.Decides.{nat_tests}
 use Rattle.chi_history.specs.History.{one_if}
 use Rattle.chi_trace.specs.declared.observed.Observed.{Observed}
-use Rattle.chi_trace.specs.Explains.{IsInTime, at, is_answered, nothing, times_in}
+use Rattle.chi_trace.specs.Explains.{IsInTime, at, nothing, times_in}
 use Rattle.chi_trace.specs.Granules.{Finishes, Play, last_word}
-use Rattle.chi_trace.proofs.Places.{passes}
+use Rattle.chi_trace.proofs.Places.{of_member, passes}
 use Rattle.chi_search.specs.Moves.{ByTaking, CanCome, Drops, Ends, IsIdle, Takes}
 use Rattle.chi_search.specs.Positions.{IsReady, Position, is_left}
 use Rattle.chi_search.specs.Searchable.{AreSorted}
 use Rattle.chi_search.proofs.Settling.{left_is, left_settles}
-use Rattle.chi_search.proofs.Orders.{cons, first_early, first_fits, first_left, idle_first, no_reply, parts, peel, settled_without, without, without_one}
+use Rattle.chi_search.proofs.Covers.{parts, without}
+use Rattle.chi_search.proofs.Orders.{absent, cons, covers_of, first_fits, first_left, idle_first, peel, settled_without, without_one}
 
 -- the first operation ends first
 pub first_ends : (ops : List Observed) (p : Position) (i : ℕ) → AreSorted ops → is_left (length ops) p i ≡ true → (at ops p.first).end ≤ (at ops i).end
@@ -46,22 +47,15 @@ ByDropping ops final p = ((at ops p.first).reply ≡ None) × ((q : Position) �
 
 dropping : (ops : List Observed) (final : Option ℕ) (p : Position) (x : List ℕ) → IsReady (length ops) p → p.first < length ops → times_in x p.first ≡ 0
     → Finishes ops (is_left (length ops) p) p.word final x → ByDropping ops final p
-dropping ops final p x ready below absent c = (
-  no_reply (at ops p.first) (silent (is_answered (at ops p.first)) refl),
+dropping ops final p x ready below none c = (
+  absent ops (is_left (length ops) p) p.first x (ready.left below) none (covers_of ops (is_left (length ops) p) p.word final x c),
   λ q drops. (
     x,
     subst (λ w. Finishes ops (is_left (length ops) q) w final x) (sym drops.word)
         (settled_without ops (is_left (length ops) p) (is_left (length ops) q) p.word final p.first x
-        (parts (is_left (length ops) p) (is_left (length ops) q) p.first (ready.left below) (left_settles (length ops) p p.first q drops.left)) absent c),
+        (parts (is_left (length ops) p) (is_left (length ops) q) p.first (ready.left below) (left_settles (length ops) p p.first q drops.left)) none c),
   ),
 )
-  where
-    silent : (b : Bool) → is_answered (at ops p.first) ≡ b → is_answered (at ops p.first) ≡ false
-    silent false is = is
-    silent true is =
-        let due : one_if (is_left (length ops) p p.first && is_answered (at ops p.first)) ≤ times_in x p.first = c.done p.first in
-        let one : (is_left (length ops) p p.first && is_answered (at ops p.first)) ≡ true = ap (λ b. b && is_answered (at ops p.first)) (ready.left below) ∙ is in
-        absurd (omega (arith, due, ap one_if one, absent))
 
 -- an order goes on by the operation with which it begins, where that can come next
 pub by_first : (ops : List Observed) (final : Option ℕ) (p : Position) (i : ℕ) (y : List ℕ) → CanCome ops p i → Finishes ops (is_left (length ops) p) p.word final (i ∷ y)
@@ -78,6 +72,20 @@ by_first ops final p i y comes c =
       ),
     )
 
+-- an operation that comes first starts no later than the first that is left ends, where that stands in the order
+pub begins_early : (ops : List Observed) (p : Position) (i : ℕ) (y : List ℕ) → AreSorted ops → is_left (length ops) p i ≡ true → IsInTime ops (i ∷ y)
+    → 0 < times_in (i ∷ y) p.first → (at ops i).start ≤ (at ops p.first).end
+unfolding times_in IsInTime
+begins_early ops p i y sorted left times some = by_test (i == p.first) refl
+  where
+    by_test : (b : Bool) → (i == p.first) ≡ b → (at ops i).start ≤ (at ops p.first).end
+    by_test true same =
+        let lasts : (at ops i).start ≤ (at ops i).end = sorted.1 i nothing (left_is (length ops) p i left).0 in
+        subst (λ k. (at ops i).start ≤ (at ops k).end) (eqb-true i p.first same) lasts
+    by_test false other =
+        let later : 0 < times_in y p.first = omega (arith, some, ap one_if other) in
+        of_member (λ k. (at ops i).start ≤ (at ops k).end) y p.first times.0 later
+
 pub goes_on : (ops : List Observed) (final : Option ℕ) (p : Position) (x : List ℕ) → AreSorted ops → IsReady (length ops) p → p.first < length ops
     → Finishes ops (is_left (length ops) p) p.word final x → ((i : ℕ) × ByTaking ops final p i) ⊎ ByDropping ops final p
 unfolding times_in
@@ -87,18 +95,10 @@ goes_on ops final p (i ∷ y) sorted ready below c = by_times (times_in (i ∷ y
     left : is_left (length ops) p i ≡ true
     left = first_left ops (is_left (length ops) p) p.word final i y c
 
-    early : (b : Bool) → (i == p.first) ≡ b → 0 < times_in (i ∷ y) p.first → (at ops i).start ≤ (at ops p.first).end
-    early true same some =
-        let lasts : (at ops i).start ≤ (at ops i).end = sorted.1 i nothing (left_is (length ops) p i left).0 in
-        subst (λ k. (at ops i).start ≤ (at ops k).end) (eqb-true i p.first same) lasts
-    early false other some =
-        let later : 0 < times_in y p.first = omega (arith, some, ap one_if other) in
-        first_early ops (is_left (length ops) p) p.word final i p.first y c later
-
     by_times : (n : ℕ) → times_in (i ∷ y) p.first ≡ n → ((i : ℕ) × ByTaking ops final p i) ⊎ ByDropping ops final p
     by_times zero none = inr (dropping ops final p (i ∷ y) ready below none c)
     by_times (suc n) some =
-        inl (i, by_first ops final p i y (left, early (i == p.first) refl (omega (arith, some))) c)
+        inl (i, by_first ops final p i y (left, begins_early ops p i y sorted left c.times (omega (arith, some))) c)
 
 -- an operation that changes nothing may come first wherever it can
 pub from_idle : (ops : List Observed) (final : Option ℕ) (p q : Position) (i : ℕ) → p.word < 2 ^ 64 → CanCome ops p i → IsIdle (at ops i) → Takes ops p i q

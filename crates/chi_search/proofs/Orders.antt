@@ -1,35 +1,16 @@
 -- orders that finish what a test leaves, with one operation first, and without one
-use Rattle.std.proofs.Common.{◌≡◌, ℕ, ◌+◌, ◌^◌, ◌<◌, ◌≤◌, ◌==◌, Bool, true, false, not, cond, List, [], ◌∷◌, All, filter, Option, None, Some, IfSome, refl, sym, ap, subst, ◌∙◌, arith, eqb-true, eq-eqb, ne_eqb, true≢false, ◌&&◌}
-use Rattle.std.proofs.lemmas.Bool.{eqb-false}
+use Rattle.std.proofs.Common.{◌≡◌, ℕ, ◌+◌, ◌^◌, ◌<◌, ◌≤◌, ◌==◌, Bool, true, false, not, cond, List, [], ◌∷◌, All, Option, None, Some, IfSome, refl, sym, ap, subst, ◌∙◌, arith, eqb-true, true≢false, ◌&&◌}
 use Rattle.chi_history.specs.History.{one_if}
 use Rattle.chi_lanes.specs.declared.reply.Reply.{Reply}
 use Rattle.chi_trace.specs.declared.observed.Observed.{Observed}
 use Rattle.chi_trace.specs.Explains.{IsInTime, at, is_answered, times_in}
 use Rattle.chi_trace.specs.Granules.{Finishes, Fits, Play, last_word, next}
-use Rattle.chi_trace.proofs.Orders.{IsInTime-filter, times_in-filter}
-use Rattle.chi_trace.proofs.Places.{of_member}
+use Rattle.chi_trace.proofs.Orders.{IsInTime-filter}
 use Rattle.chi_search.specs.Moves.{IsIdle}
+use Rattle.chi_search.proofs.Covers.{Covers, Parts, covers_first, covers_rest, covers_settled, covers_without, without}
 
--- the operations that are left are e and those of the second test
-abbrev pub Parts : (ℕ → Bool) → ℕ → (ℕ → Bool) → Type 0
-Parts l e rest = (i : ℕ) → one_if (l i) ≡ one_if (e == i) + one_if (rest i)
-
-pub parts : (l rest : ℕ → Bool) (e : ℕ) → l e ≡ true → ((i : ℕ) → rest i ≡ (l i && not (i == e))) → Parts l e rest
-parts l rest e is settles i = by_test (i == e) refl (settles i)
-  where
-    by_test : (b : Bool) → (i == e) ≡ b → rest i ≡ (l i && not b) → one_if (l i) ≡ one_if (e == i) + one_if (rest i)
-    by_test true same r =
-        let there : l i ≡ true = ap l (eqb-true i e same) ∙ is in
-        let self : (e == i) ≡ true = eq-eqb e i (sym (eqb-true i e same)) in
-        let none : rest i ≡ false = r ∙ ap (λ b. b && false) there in
-        omega (arith, ap one_if there, ap one_if self, ap one_if none)
-    by_test false other r =
-        let differ : (e == i) ≡ false = ne_eqb e i (λ same. eqb-false i e other (sym same)) in
-        omega (arith, ap one_if differ, ap one_if (r ∙ kept (l i)))
-      where
-        kept : (b : Bool) → (b && true) ≡ b
-        kept true = refl
-        kept false = refl
+pub covers_of : (ts : List Observed) (l : ℕ → Bool) (w : ℕ) (f : Option ℕ) (x : List ℕ) → Finishes ts l w f x → Covers ts l x
+covers_of ts l w f x c = record { done = c.done; once = c.once }
 
 -- two tests that say the same
 pub stays : (ts : List Observed) (l r : ℕ → Bool) (w : ℕ) (f : Option ℕ) (x : List ℕ) → ((i : ℕ) → l i ≡ r i) → Finishes ts l w f x → Finishes ts r w f x
@@ -62,54 +43,41 @@ cons ts l rest w f e x takes fits below early c = record {
 -- what comes first fits, and the rest finishes what is left after it
 pub peel : (ts : List Observed) (l rest : ℕ → Bool) (w : ℕ) (f : Option ℕ) (e : ℕ) (y : List ℕ) → Parts l e rest → Finishes ts l w f (e ∷ y)
     → Finishes ts rest (next (at ts e) w) f y
-unfolding times_in IsInTime Play last_word
-peel ts l rest w f e y takes c = record {
-  done = λ i. least i (l i) (rest i) (is_answered (at ts i)) (takes i) (c.done i);
-  once = λ i. let whole : one_if (e == i) + times_in y i ≤ one_if (l i) = c.once i in omega (arith, takes i);
-  times = c.times.1;
-  plays = c.plays.2;
-  ending = c.ending;
-}
-  where
-    least : (i : ℕ) (a b d : Bool) → one_if a ≡ one_if (e == i) + one_if b → one_if (a && d) ≤ one_if (e == i) + times_in y i → one_if (b && d) ≤ times_in y i
-    least i true true d whole h = omega (arith, whole, h)
-    least i true false d whole h = omega arith
-    least i false true d whole h = absurd (omega (arith, whole))
-    least i false false d whole h = omega arith
+unfolding IsInTime Play last_word
+peel ts l rest w f e y takes c =
+    let covers = covers_rest ts l rest e y takes (covers_of ts l w f (e ∷ y) c) in
+    record { done = covers.done; once = covers.once; times = c.times.1; plays = c.plays.2; ending = c.ending }
 
 -- what comes first is left, and fits
 pub first_left : (ts : List Observed) (l : ℕ → Bool) (w : ℕ) (f : Option ℕ) (e : ℕ) (y : List ℕ) → Finishes ts l w f (e ∷ y) → l e ≡ true
-unfolding times_in
-first_left ts l w f e y c = by_test (l e) refl
-  where
-    by_test : (b : Bool) → l e ≡ b → l e ≡ true
-    by_test true is = is
-    by_test false is =
-        let same : (e == e) ≡ true = eq-eqb e e refl in
-        let whole : one_if (e == e) + times_in y e ≤ one_if (l e) = c.once e in
-        absurd (omega (arith, ap one_if same, ap one_if is))
+first_left ts l w f e y c = covers_first ts l e y (covers_of ts l w f (e ∷ y) c)
 
 pub first_fits : (ts : List Observed) (l : ℕ → Bool) (w : ℕ) (f : Option ℕ) (e : ℕ) (y : List ℕ) → Finishes ts l w f (e ∷ y)
     → Fits (at ts e) w × (next (at ts e) w < 2 ^ 64)
 unfolding Play
 first_fits ts l w f e y c = (c.plays.0, c.plays.1)
 
--- it starts no later than one that stands after it ends
-pub first_early : (ts : List Observed) (l : ℕ → Bool) (w : ℕ) (f : Option ℕ) (e j : ℕ) (y : List ℕ) → Finishes ts l w f (e ∷ y) → 0 < times_in y j
-    → (at ts e).start ≤ (at ts j).end
-unfolding IsInTime
-first_early ts l w f e j y c some = of_member (λ k. (at ts e).start ≤ (at ts k).end) y j c.times.0 some
-
 -- a reply that was not seen
 pub unanswered : (op : Observed) → op.reply ≡ None → is_answered op ≡ false
 unanswered op none = rw none refl
 
-pub no_reply : (op : Observed) → is_answered op ≡ false → op.reply ≡ None
+no_reply : (op : Observed) → is_answered op ≡ false → op.reply ≡ None
 no_reply op is = by_reply op.reply refl
   where
     by_reply : (r : Option Reply) → op.reply ≡ r → op.reply ≡ None
     by_reply None none = none
     by_reply (Some reply) some = absurd (true≢false (sym (rw some refl) ∙ is))
+
+-- of an operation that is left and does not stand in the order no reply was seen
+pub absent : (ts : List Observed) (l : ℕ → Bool) (e : ℕ) (x : List ℕ) → l e ≡ true → times_in x e ≡ 0 → Covers ts l x → (at ts e).reply ≡ None
+absent ts l e x left none c = no_reply (at ts e) (silent (is_answered (at ts e)) refl)
+  where
+    silent : (b : Bool) → is_answered (at ts e) ≡ b → is_answered (at ts e) ≡ false
+    silent false is = is
+    silent true is =
+        let due : one_if (l e && is_answered (at ts e)) ≤ times_in x e = c.done e in
+        let one : (l e && is_answered (at ts e)) ≡ true = ap (λ b. b && is_answered (at ts e)) left ∙ is in
+        absurd (omega (arith, due, ap one_if one, none))
 
 -- one whose reply was not seen may stand in no order
 pub without_one : (ts : List Observed) (l rest : ℕ → Bool) (w : ℕ) (f : Option ℕ) (e : ℕ) (x : List ℕ) → Parts l e rest → (at ts e).reply ≡ None
@@ -137,26 +105,9 @@ without_one ts l rest w f e x takes none c = record {
 
 pub settled_without : (ts : List Observed) (l rest : ℕ → Bool) (w : ℕ) (f : Option ℕ) (e : ℕ) (x : List ℕ) → Parts l e rest → times_in x e ≡ 0
     → Finishes ts l w f x → Finishes ts rest w f x
-settled_without ts l rest w f e x takes none c = record {
-  done = λ i. done (e == i) (l i) (rest i) (is_answered (at ts i)) (times_in x i) (takes i) (c.done i);
-  once = λ i. once i (e == i) refl (takes i) (c.once i);
-  times = c.times;
-  plays = c.plays;
-  ending = c.ending;
-}
-  where
-    done : (b a r d : Bool) (n : ℕ) → one_if a ≡ one_if b + one_if r → one_if (a && d) ≤ n → one_if (r && d) ≤ n
-    done b true true d n whole h = h
-    done b true false d n whole h = omega arith
-    done b false true d n whole h = absurd (omega (arith, whole))
-    done b false false d n whole h = omega arith
-
-    once : (i : ℕ) (b : Bool) → (e == i) ≡ b → one_if (l i) ≡ one_if b + one_if (rest i) → times_in x i ≤ one_if (l i) → times_in x i ≤ one_if (rest i)
-    once i true same whole h = let zero : times_in x i ≡ 0 = ap (times_in x) (sym (eqb-true e i same)) ∙ none in omega arith
-    once i false other whole h = omega (arith, whole, h)
-
-abbrev pub without : ℕ → List ℕ → List ℕ
-without e x = filter (λ j. not (j == e)) x
+settled_without ts l rest w f e x takes none c =
+    let covers = covers_settled ts l rest e x takes none (covers_of ts l w f x c) in
+    record { done = covers.done; once = covers.once; times = c.times; plays = c.plays; ending = c.ending }
 
 -- without an operation that changes nothing the others find the same words
 pub Play-without : (ts : List Observed) (e : ℕ) → IsIdle (at ts e) → (x : List ℕ) (w : ℕ) → w < 2 ^ 64 → Play ts w x
@@ -182,32 +133,11 @@ pub idle_first : (ts : List Observed) (l rest : ℕ → Bool) (w : ℕ) (f : Opt
     → Finishes ts l w f x → Finishes ts rest w f (without e x)
 idle_first ts l rest w f e x takes idle below c =
     let played = Play-without ts e idle x w below c.plays in
+    let covers = covers_without ts l rest e x takes (covers_of ts l w f x c) in
     record {
-      done = λ i. rw (times_in-filter (λ j. not (j == e)) x i) (least i (i == e) refl (l i) (rest i) (is_answered (at ts i)) (takes i) (c.done i));
-      once = λ i. rw (times_in-filter (λ j. not (j == e)) x i) (most i (i == e) refl);
+      done = covers.done;
+      once = covers.once;
       times = IsInTime-filter ts (λ j. not (j == e)) x c.times;
       plays = played.0;
       ending = subst (λ v. IfSome f (λ z. v ≡ z)) (sym played.1) c.ending;
     }
-  where
-    at_most_one : (b : Bool) → one_if b ≤ 1
-    at_most_one true = omega arith
-    at_most_one false = omega arith
-
-    least : (i : ℕ) (b : Bool) → (i == e) ≡ b → (a r d : Bool) → one_if a ≡ one_if (e == i) + one_if r → one_if (a && d) ≤ times_in x i
-        → one_if (r && d) ≤ cond (not b) (times_in x i) 0
-    least i true is a true d whole h =
-        let same : (e == i) ≡ true = eq-eqb e i (sym (eqb-true i e is)) in
-        absurd (omega (arith, at_most_one a, ap one_if same, whole))
-    least i true is a false d whole h = omega arith
-    least i false is true true d whole h = h
-    least i false is false true d whole h = absurd (omega (arith, whole))
-    least i false is a false d whole h = omega arith
-
-    most : (i : ℕ) (b : Bool) → (i == e) ≡ b → cond (not b) (times_in x i) 0 ≤ one_if (rest i)
-    most i true is = omega arith
-    most i false is =
-        let differ : (e == i) ≡ false = ne_eqb e i (λ same. eqb-false i e is (sym same)) in
-        let whole : one_if (l i) ≡ one_if (e == i) + one_if (rest i) = takes i in
-        let least : times_in x i ≤ one_if (l i) = c.once i in
-        omega (arith, ap one_if differ)

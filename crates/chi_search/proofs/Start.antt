@@ -45,12 +45,19 @@ pub at_start : (ops : List Observed) (w : ℕ) (final : Option ℕ) (x : List �
 at_start ops w final x c = stays ops (is_place ops) (is_left (length ops) (start w)) w final x (λ i. sym (left_at_start (length ops) w i)) c
 
 -- the empty set, and one state more
+pub none_of : (P : Position → Type 0) (states : States) → positions states ≡ [] → (p : Position) → Has states p → P p
+none_of P states none p (x, below, same) = absurd (omega (arith, below, ap length none))
+
+pub more_of : (P : Position → Type 0) (old new : States) (s : Position) → ((p : Position) → Has new p ↔ (Has old p ⊎ (p ≡ s)))
+    → ((p : Position) → Has old p → P p) → P s → (p : Position) → Has new p → P p
+more_of P old new s more all one p has = elim ((more p).0 has) [
+  | inl before ↦ all p before
+  | inr same ↦ subst P (sym same) one
+]
+
 pub none_dead : (ops : List Observed) (last : Option ℕ) (states : States) → positions states ≡ [] → AllDead ops last states
-none_dead ops last states none p (x, below, same) = absurd (omega (arith, below, ap length none))
+none_dead ops last = none_of (IsDead ops last)
 
 pub more_dead : (ops : List Observed) (last : Option ℕ) (old new : States) (s : Position) → ((p : Position) → Has new p ↔ (Has old p ⊎ (p ≡ s)))
     → AllDead ops last old → IsDead ops last s → AllDead ops last new
-more_dead ops last old new s more all dead p has = elim ((more p).0 has) [
-  | inl before ↦ all p before
-  | inr same ↦ subst (IsDead ops last) (sym same) dead
-]
+more_dead ops last = more_of (IsDead ops last)

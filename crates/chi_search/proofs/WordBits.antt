@@ -1,13 +1,15 @@
 -- the bits of a word in the bytes of a memory, and words that agree where a mask says
-use Rattle.std.proofs.Common.{◌≡◌, ℕ, ◌+◌, ◌-◌, ◌*◌, ◌/◌, ◌%◌, ◌^◌, ◌<◌, ◌≤◌, min, ◌⊎◌, ◌↔◌, bit_and, bit_xor, refl, sym, ap, ◌∙◌, arith, inl, inr, slice_index}
+use Rattle.std.proofs.Common.{◌≡◌, ℕ, ◌+◌, ◌-◌, ◌*◌, ◌/◌, ◌%◌, ◌^◌, ◌<◌, ◌≤◌, min, ◌⊎◌, ◌↔◌, bit_and, bit_xor, refl, sym, ap, ◌∙◌, arith, inl, inr, List, slice_index, slice_range}
 use Rattle.std.specs.Int.{bit_at}
 use Rattle.std.proofs.lemmas.Bool.{cases_lt}
 use Rattle.std.proofs.lemmas.Nat.{pow-add, pow_pos, shr_split}
 use Rattle.std.proofs.lemmas.Nat.Bits.{bit_at-lt, bit_at-zero, bit_at_and, bit_at_cat_low, bit_at_mask_above, bit_at_mask_below, bit_at_mask_inside, bit_at_xor, same_from_bits}
+use Rattle.chi_lanes.specs.Bytes.{little_bytes}
 use Rattle.chi_lanes.specs.Memory.{Memory, IsMemory, word_at}
 use Rattle.chi_lanes.proofs.Digits.{pow_bytes}
 use Rattle.chi_lanes.proofs.MaskedBytes.{slice_index-little_bytes}
 use Rattle.chi_lanes.proofs.MemoryLemmas.{get_or-bytes_from, little_bytes-word_at}
+use Rattle.chi_lanes.proofs.Runs.{slice_index-slice_range}
 use Rattle.chi_search.specs.Effects.{Agree}
 use Rattle.chi_search.proofs.Bits.{shifted_down}
 
@@ -29,6 +31,16 @@ bit_of_word m is start k below =
     ∙ ap (λ bs. slice_index bs (k / 8)) (little_bytes-word_at m is start)
     ∙ get_or-bytes_from m start 8 (k / 8) inside in
     ap (bit_at (word_at m start)) (sym place) ∙ sym (byte_bit (word_at m start) (k / 8) (k % 8) (omega arith)) ∙ ap (λ b. bit_at b (k % 8)) byte
+
+-- a bit of a word that was read from eight lanes
+pub bit_of_lanes : (lanes : List ℕ) (first n k : ℕ) → little_bytes 8 n ≡ slice_range lanes first (first + 8) → k < 64
+    → bit_at n k ≡ bit_at (slice_index lanes (first + k / 8)) (k % 8)
+bit_of_lanes lanes first n k bytes below =
+    let inside : k / 8 < 8 = omega arith in
+    let place : 8 * (k / 8) + k % 8 ≡ k = omega arith in
+    let byte : n / 256 ^ (k / 8) % 256 ≡ slice_index lanes (first + k / 8) =
+    sym (slice_index-little_bytes 8 n (k / 8) inside) ∙ ap (λ bs. slice_index bs (k / 8)) bytes ∙ slice_index-slice_range lanes first 8 (k / 8) inside in
+    ap (bit_at n) (sym place) ∙ sym (byte_bit n (k / 8) (k % 8) (omega arith)) ∙ ap (λ b. bit_at b (k % 8)) byte
 
 -- the bits of a run of bytes
 pub mask_bit : (lane len k : ℕ) → (bit_at ((256 ^ len - 1) * 256 ^ lane) k ≡ 1) ↔ ((8 * lane ≤ k) × (k < 8 * (lane + len)))

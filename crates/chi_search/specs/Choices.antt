@@ -5,20 +5,20 @@ use Rattle.chi_search.specs.declared.choice.Choice.TheVariants.{Ended, Step, Dea
 
 abbrev pub IfEnded : Choice → Type 0 → Type 0
 IfEnded Ended A = A
-IfEnded (Step op tried) A = Unit {0}
+IfEnded (Step op tried is_only) A = Unit {0}
 IfEnded Dead A = Unit {0}
 
 abbrev pub IfStep : Choice → (Option ℕ → Type 0) → Type 0
 IfStep Ended P = Unit {0}
-IfStep (Step op tried) P = P op
+IfStep (Step op tried is_only) P = P op
 IfStep Dead P = Unit {0}
 
 abbrev pub IfTried : Choice → (ℕ → Type 0) → Type 0
 IfTried Ended P = Unit {0}
-IfTried (Step op tried) P = P tried
+IfTried (Step op tried is_only) P = P tried
 IfTried Dead P = Unit {0}
 
 abbrev pub IfDead : Choice → Type 0 → Type 0
 IfDead Ended A = Unit {0}
-IfDead (Step op tried) A = Unit {0}
+IfDead (Step op tried is_only) A = Unit {0}
 IfDead Dead A = A

@@ -8,7 +8,10 @@ pub mod Layers
 pub mod Looks
 pub mod Makers
 pub mod Moves
+pub mod Outcomes
+pub mod Parts
 pub mod Paths
 pub mod Positions
 pub mod Searchable
 pub mod StateSets
+pub mod Within

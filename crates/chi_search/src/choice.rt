@@ -24,12 +24,16 @@ use std::alloc::AllocError;
 const LOOKED_AT: usize = 64;
 
 /// What can be done at a state: nothing, since none is left and the word is the observed one; a step, by an operation that
-/// is taken, or without one where the first is left out, with the place before which all operations were tried; or nothing,
-/// since no order goes on from here.
+/// is taken, or without one where the first is left out, with the place before which all operations were tried, and whether no other
+/// need be tried; or nothing, since no order goes on from here.
 #[derive(Clone, Copy)]
 pub(crate) enum Choice {
     Ended,
-    Step { op: Option<usize>, tried: usize },
+    Step {
+        op: Option<usize>,
+        tried: usize,
+        is_only: bool,
+    },
     Dead,
 }
 
@@ -137,6 +141,9 @@ pub(crate) fn choose(
         };
     }
     let with_rules = !effects.is_empty();
+    // That the word is one of 64 bits is known here once it is read.
+    let _word = state.word;
+    let end = ops[state.first].end;
     if tried <= state.first {
         if let Some(place) = idle_next(ops, earliest, state) {
             if take(ops, state, place, next)? {
@@ -146,10 +153,20 @@ pub(crate) fn choose(
                 return Ok(Choice::Step {
                     op: Some(place),
                     tried,
+                    is_only: true,
                 });
             }
         }
-        if lacks_maker(ops, effects, earliest, last, state, LOOKED_AT) {
+        if lacks_maker(
+            ops,
+            effects,
+            earliest,
+            last,
+            state,
+            u64::MAX,
+            end,
+            LOOKED_AT,
+        ) {
             return Ok(Choice::Dead);
         }
         // Where some order goes on, one goes on by this operation.
@@ -158,12 +175,12 @@ pub(crate) fn choose(
                 return Ok(Choice::Step {
                     op: Some(place),
                     tried,
+                    is_only: true,
                 });
             }
             return Ok(Choice::Dead);
         }
     }
-    let end = ops[state.first].end;
     let mut place = tried;
     while place < ops.len() && earliest[place] <= end {
         if take(ops, state, place, next)?
@@ -173,6 +190,7 @@ pub(crate) fn choose(
             return Ok(Choice::Step {
                 op: Some(place),
                 tried: place,
+                is_only: false,
             });
         }
         place += 1;
@@ -181,6 +199,7 @@ pub(crate) fn choose(
         return Ok(Choice::Step {
             op: None,
             tried: place,
+            is_only: false,
         });
     }
     Ok(Choice::Dead)

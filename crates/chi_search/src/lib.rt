@@ -1,6 +1,7 @@
 //! The search of one granule: an order that explains its operations, and the words that they can leave.
 #![tactic(auto)]
 
+mod absorbing;
 mod chains;
 mod choice;
 mod commuting;
@@ -12,6 +13,9 @@ mod layer;
 mod makers;
 mod narrow;
 mod order;
+mod outcomes;
+mod part;
+mod parts;
 mod passing;
 mod path;
 mod progress;

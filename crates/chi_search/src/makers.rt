@@ -5,9 +5,10 @@ ghost use Rattle.chi_trace.specs.declared.observed.Observed.{Observed};
 ghost use Rattle.chi_trace.specs.Explains.{at, is_answered};
 ghost use Rattle.chi_search.specs.Effects.{Agree, AreEffects, HasEffect};
 ghost use Rattle.chi_search.specs.Makers.{CannotMake, IsOutOfReach, MakesNone, MayPrecede, NoneMakes};
-ghost use Rattle.chi_search.specs.Paths.{AreEarliest, IsDead};
+ghost use Rattle.chi_search.specs.Paths.{AreEarliest};
 ghost use Rattle.chi_search.specs.Positions;
 ghost use Rattle.chi_search.specs.Positions.{position_of};
+ghost use Rattle.chi_search.specs.Within.{IsDeadWithin};
 
 use crate::effect::Effect;
 use crate::state::{State, is_left};
@@ -150,8 +151,7 @@ fn is_out_of_reach(
     requires each { length ops.now ≤ length effects.now }
     requires earliest { AreEarliest ops.now earliest.now }
     requires other { IfSome other (λ after. after < length ops.now) }
-    ensures reach { IsTrue result → IsOutOfReach ops.now (position_of state.now) other word mask }
-    ensures fits { state.now.word < 2 ^ 64 }
+    ensures { IsTrue result → IsOutOfReach ops.now (position_of state.now) other word mask }
 {
     let differing = word ^ state.word;
     if differing & mask == 0 {
@@ -178,31 +178,34 @@ fn must_find(ops: &[Observed], state: &State, place: usize) -> bool
     ops[place].reply.is_some() && is_left(state, ops.len(), place)
 }
 
-/// Whether an operation that is left must find, or the end must have, what nothing that is left can leave. So many operations
-/// from the first on are looked at.
+/// Whether in the bits of the mask an operation that is left must find, or the end must have, what nothing that is left can
+/// leave. So many operations from the first on are looked at, and of these the ones that start by this time.
 pub(crate) fn lacks_maker(
     ops: &[Observed],
     effects: &[Effect],
     earliest: &[u64],
     last: Option<u64>,
     state: &State,
+    mask: u64,
+    time: u64,
     count: usize,
 ) -> bool
     requires known { AreEffects ops.now effects.now }
     requires earliest { AreEarliest ops.now earliest.now }
-    ensures { IsTrue result → IsDead ops.now last (position_of state.now) }
+    ensures { IsTrue result → IsDeadWithin mask ops.now last (position_of state.now) }
 {
     if effects.len() < ops.len() {
         return false;
     }
     if let Some(seen) = last
-        && is_out_of_reach(ops, effects, earliest, state, None, seen, u64::MAX)
+        && is_out_of_reach(ops, effects, earliest, state, None, seen, mask)
     {
         return true;
     }
     let mut place = state.first;
-    while place < ops.len() && place - state.first < count {
-        if must_find(ops, state, place)
+    while place < ops.len() && earliest[place] <= time && place - state.first < count {
+        if ops[place].start <= time
+            && must_find(ops, state, place)
             && is_out_of_reach(
                 ops,
                 effects,
@@ -210,7 +213,7 @@ pub(crate) fn lacks_maker(
                 state,
                 Some(place),
                 effects[place].found,
-                effects[place].found_mask,
+                effects[place].found_mask & mask,
             )
         {
             return true;

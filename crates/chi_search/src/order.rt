@@ -1,22 +1,27 @@
 //! An order of the operations of one granule.
 
-ghost use Rattle.std.specs.Prelude.{◌≡◌, ℕ, ◌-◌, ◌≤◌, ◌⊎◌, List, IfOk};
+ghost use Rattle.std.specs.Prelude.{◌≡◌, ℕ, ◌-◌, ◌≤◌, ◌⊎◌, All, List, IfOk, IfSome, OnOk, length};
 ghost use Rattle.chi_trace.specs.Explains.{is_place};
 ghost use Rattle.chi_trace.specs.Granules.{Finishes};
 ghost use Rattle.chi_search.specs.Effects.{AreEffects};
 ghost use Rattle.chi_search.specs.Found.{IfNothing, IfOrder, IfUndecided};
 ghost use Rattle.chi_search.specs.Looks.{LookedMore};
-ghost use Rattle.chi_search.specs.Paths.{AreEarliest};
+ghost use Rattle.chi_search.specs.Choices.{IfDead, IfEnded, IfStep, IfTried};
+ghost use Rattle.chi_search.specs.Parts.{IsPartOf};
+ghost use Rattle.chi_search.specs.Paths.{AllDead, AreEarliest, AreTried, IsDead, Moves};
+ghost use Rattle.chi_search.specs.Positions.{IsReady, position_of};
 ghost use Rattle.chi_search.specs.Searchable.{AreSorted, AreWithin};
 
 use crate::choice::{Choice, choose};
 use crate::earliest::earliest_starts;
 use crate::effect::{Effect, effects_of};
 use crate::makers::lacks_maker;
+use crate::part::Part;
+use crate::parts::{has_dead_part, parts_of};
 use crate::path::{Step, taken};
 use crate::progress::Progress;
-use crate::state::first_state;
-use crate::states::{add, no_states};
+use crate::state::{State, first_state};
+use crate::states::{States, add, no_states};
 use chi_trace::Observed;
 use std::alloc::{AllocError, Global};
 
@@ -30,18 +35,62 @@ pub enum Found {
 }
 
 /// How many states for each operation are looked at without the rules that take time at each.
-const PLAIN_STATES: u64 = 4;
+const PLAIN_STATES: u64 = 8;
 
 /// How many operations are looked at for makers before the search.
 const LOOKED_AT: usize = 1000;
 
+// What can be done at a state, as `choose` says it. A state that is new is asked of the parts of its word first, where there are
+// some.
+fn decide<P: Progress>(
+    alloc: Global,
+    ops: &[Observed],
+    effects: &[Effect],
+    earliest: &[u64],
+    last: Option<u64>,
+    dead: &States,
+    parts: &mut [Part],
+    state: &State,
+    tried: usize,
+    is_new: bool,
+    next: &mut State,
+    budget: &mut u64,
+    progress: &mut P,
+) -> Result<Choice, AllocError>
+    requires sorted { AreSorted ops.now }
+    requires within { AreWithin ops.now }
+    requires known { AreEffects ops.now effects.now }
+    requires earliest { AreEarliest ops.now earliest.now }
+    requires ready { IsReady (length ops.now) (position_of state.now) }
+    requires tried { AreTried ops.now last (position_of state.now) tried }
+    requires parts { All (IsPartOf ops.now last) parts.now }
+    ensures ended { IfOk result (λ choice. IfEnded choice ((length ops.now ≤ state.now.first) × IfSome last (λ seen. state.now.word ≡ seen))) }
+    ensures moves { IfOk result (λ choice. IfStep choice (λ op. Moves ops.now (position_of state.now) op (position_of next.new))) }
+    ensures ready { IfOk result (λ choice. IfStep choice (λ op. IsReady (length ops.now) (position_of next.new))) }
+    ensures tried { IfOk result (λ choice. IfTried choice (λ place. AllDead ops.now last dead.now → AreTried ops.now last (position_of state.now) place)) }
+    ensures dead { IfOk result (λ choice. IfDead choice (AllDead ops.now last dead.now → IsDead ops.now last (position_of state.now))) }
+    ensures parts { OnOk result (All (IsPartOf ops.now last) parts.new) }
+    ensures spends { IfOk result (λ choice. (budget.new ≤ budget.old) × LookedMore P.looked progress.old progress.new (budget.old - budget.new)) }
+{
+    if is_new
+        && effects.len() >= ops.len()
+        && has_dead_part(
+            alloc, ops, effects, earliest, last, parts, state, budget, progress,
+        )?
+    {
+        return Ok(Choice::Dead);
+    }
+    choose(ops, effects, earliest, last, dead, state, tried, next)
+}
+
 // Searches as `order_of` does, from the start on. `effects` has what is known of each operation, or is empty: then it goes
-// without the rules that take time at each state.
+// without the rules that take time at each state. `parts` are those of the word that are asked, or none.
 fn search<P: Progress>(
     alloc: Global,
     ops: &[Observed],
     effects: &[Effect],
     earliest: &[u64],
+    parts: &mut [Part],
     word: u64,
     last: Option<u64>,
     budget: &mut u64,
@@ -51,6 +100,7 @@ fn search<P: Progress>(
     requires within { AreWithin ops.now }
     requires known { AreEffects ops.now effects.now }
     requires earliest { AreEarliest ops.now earliest.now }
+    requires parts { All (IsPartOf ops.now last) parts.now }
     ensures order { IfOk result (λ found. IfOrder found (λ order. Finishes ops.now (is_place ops.now) word last order)) }
     ensures nothing { IfOk result (λ found. IfNothing found ((order : List ℕ) → Finishes ops.now (is_place ops.now) word last order → ⊥)) }
     ensures undecided { IfOk result (λ found. IfUndecided found (budget.new ≡ 0)) }
@@ -61,15 +111,24 @@ fn search<P: Progress>(
     let mut state = first_state(alloc, word);
     let mut next = first_state(alloc, word);
     let mut tried = 0;
+    let mut is_new = true;
     while *budget > 0 {
-        match choose(
-            ops, effects, earliest, last, &dead, &state, tried, &mut next,
+        match decide(
+            alloc, ops, effects, earliest, last, &dead, parts, &state, tried, is_new, &mut next,
+            budget, progress,
         )? {
             Choice::Ended => {
                 let order = taken(alloc, &path)?;
                 return Ok(Found::Order(order));
             }
-            Choice::Step { op, tried: place } => {
+            Choice::Step {
+                op,
+                tried: place,
+                is_only,
+            } => {
+                if *budget == 0 {
+                    return Ok(Found::Undecided);
+                }
                 *budget -= 1;
                 progress.look();
                 path.push(Step {
@@ -79,10 +138,12 @@ fn search<P: Progress>(
                 })?;
                 state = next;
                 tried = state.first;
+                is_new = !is_only;
                 next = first_state(alloc, word);
             }
             Choice::Dead => {
                 add(alloc, &mut dead, &state)?;
+                is_new = false;
                 match path.pop() {
                     Some(step) => {
                         state = step.from;
@@ -129,18 +190,40 @@ pub fn order_of<P: Progress>(
     let earliest = earliest_starts(alloc, ops)?;
     let effects = effects_of(alloc, ops)?;
     let first = first_state(alloc, word);
-    if lacks_maker(ops, &effects, &earliest, last, &first, LOOKED_AT) {
+    if lacks_maker(
+        ops,
+        &effects,
+        &earliest,
+        last,
+        &first,
+        u64::MAX,
+        u64::MAX,
+        LOOKED_AT,
+    ) {
         return Ok(Found::Nothing);
     }
     // Most operations have an order that a plain search finds at once.
     let plain = (ops.len() as u64).saturating_mul(PLAIN_STATES).min(*budget);
     let mut left = plain;
-    let found = search(alloc, ops, &[], &earliest, word, last, &mut left, progress)?;
+    let found = search(
+        alloc,
+        ops,
+        &[],
+        &earliest,
+        &mut [],
+        word,
+        last,
+        &mut left,
+        progress,
+    )?;
     *budget -= plain - left;
     match found {
-        Found::Undecided => search(
-            alloc, ops, &effects, &earliest, word, last, budget, progress,
-        ),
+        Found::Undecided => {
+            let mut parts = parts_of(alloc, ops, last)?;
+            search(
+                alloc, ops, &effects, &earliest, &mut parts, word, last, budget, progress,
+            )
+        }
         _ => Ok(found),
     }
 }

@@ -50,7 +50,7 @@ fn bytes_apart(rt: HostRuntime) -> Result<(), Fail> {
     let right = bytes_and_read(rt.alloc(), 0x0807_0605_0403_0201)?;
     let mut budget = 1000;
     let found = order(rt.alloc(), &right, None, &mut budget)?;
-    let mut few = 100;
+    let mut few = 200;
     let nothing = order(rt.alloc(), &wrong, None, &mut few)?;
     assert_same(
         &rt,
@@ -80,7 +80,7 @@ fn parts_and_read(alloc: Global, read: u64) -> Result<Vec<Observed>, Fail> {
 fn writes_that_agree(rt: HostRuntime) -> Result<(), Fail> {
     let wrong = parts_and_read(rt.alloc(), 0x0706_0504_0302_0000)?;
     let right = parts_and_read(rt.alloc(), 0x0706_0504_0302_0100)?;
-    let mut few = 100;
+    let mut few = 200;
     let mut budget = 100;
     let found = order(rt.alloc(), &right, None, &mut budget)?;
     let nothing = order(rt.alloc(), &wrong, None, &mut few)?;

@@ -20,6 +20,8 @@ mod operations;
 #[cfg(test)]
 mod order_tests;
 #[cfg(test)]
+mod part_tests;
+#[cfg(test)]
 mod progress_tests;
 #[cfg(test)]
 mod words_tests;

@@ -7,6 +7,7 @@ use Rattle.chi_search.specs.Paths.{Moves}
 use Rattle.chi_search.specs.Positions.{position_of}
 use Rattle.chi_search.proofs.Moves.{at_end}
 use Rattle.chi_search.proofs.Paths.{all_late, dead_more, equal_more, first_dead, first_refused, idle_dead, refused_more, tried_all}
+use Rattle.chi_search.proofs.Within.{dead_within}
 use Rattle.chi_search.proofs.choice.choose.Goals as goal
 use Rattle.chi_search.proofs.choice.choose.Goals.{else-branch-2-via-else-branch-2, else-branch-2-via-then-branch-2+else-not-has, else-branch-3-via-else-branch-3, else-branch-3-via-then-branch-3+else-not-has-2, else-branch-3-via-then-branch-3+then-not-has-2+else-not-has_equal_before, else-branch-4-via-else-branch-4, else-branch-4-via-then-branch-4+else-not-has-3, else-loop-place-test, then-loop-place-test+else-earliest-place}
 
@@ -27,6 +28,10 @@ pub returns-then-branch-clause-moves : goal.returns-then-branch-clause-moves
 unfolding Moves
 returns-then-branch-clause-moves c =
     (c.requires.ready, c.in_ok-take.ensures.comes c.if-branch.true, c.in_ok-take.ensures.takes c.if-branch.true, c.in_ok-take.ensures.leaves c.if-branch.true)
+
+pub returns-then-lacks_maker-clause-dead : goal.returns-then-lacks_maker-clause-dead
+returns-then-lacks_maker-clause-dead c _ =
+    dead_within _ c.args.ops.now c.args.last (position_of c.args.state.now) (omega arith) (c.lacks_maker.ensures c.if-lacks_maker.true)
 
 pub returns-in-Some-commuting_next-clause-dead : goal.returns-in-Some-commuting_next-clause-dead
 returns-in-Some-commuting_next-clause-dead c = elim c.else-branch-2.branch [

@@ -1,21 +1,20 @@
 -- the end lacks a maker, or an operation that was answered does
 use Rattle.std.proofs.Common.{ℕ, ◌<◌, Option, length, sym, subst, arith, slice_index_or}
 use Rattle.chi_search.specs.Effects.{no_effect}
-use Rattle.chi_search.specs.Paths.{IsDead}
 use Rattle.chi_search.specs.Positions.{position_of}
+use Rattle.chi_search.specs.Within.{IsDeadWithin}
 use Rattle.chi_search.proofs.Reach.{end_out_of_reach, out_of_reach}
 use Rattle.chi_search.proofs.makers.lacks_maker.Goals as goal
 
 pub returns : goal.returns
 returns c _ =
-    subst (λ (last : Option ℕ). IsDead c.args.ops.now last (position_of c.args.state.now)) (sym c.in-Some.is)
-    (end_out_of_reach c.args.ops.now c.in-Some.seen (position_of c.args.state.now) _ c.is_out_of_reach.ensures.fits
-    (c.is_out_of_reach.ensures.reach c.if-is_out_of_reach.true))
+    subst (λ (last : Option ℕ). IsDeadWithin c.args.mask c.args.ops.now last (position_of c.args.state.now)) (sym c.in-Some.is)
+    (end_out_of_reach c.args.mask c.args.ops.now c.in-Some.seen (position_of c.args.state.now) (c.is_out_of_reach.ensures c.if-is_out_of_reach.true))
 
 pub returns-then-is_out_of_reach-2 : goal.returns-then-is_out_of_reach-2
 returns-then-is_out_of_reach-2 c _ =
     let below : c.loop-place.place < length c.args.effects.now = omega arith in
-    out_of_reach c.args.ops.now c.args.last (position_of c.args.state.now) c.loop-place.place
+    out_of_reach c.args.mask c.args.ops.now c.args.last (position_of c.args.state.now) c.loop-place.place
     (slice_index_or c.args.effects.now c.loop-place.place no_effect)
     (c.requires.known c.loop-place.place below) (c.must_find.ensures.left c.if-must_find.true) (c.must_find.ensures.answered c.if-must_find.true)
-    c.is_out_of_reach-then-must_find.ensures.fits (c.is_out_of_reach-then-must_find.ensures.reach c.if-is_out_of_reach-2.true)
+    (c.is_out_of_reach-then-must_find.ensures c.if-is_out_of_reach-2.true)

@@ -8,7 +8,7 @@ use Rattle.chi_search.specs.declared.path.Step.{Step}
 use Rattle.chi_search.specs.Choices.{IfDead, IfEnded, IfStep, IfTried}
 use Rattle.chi_search.specs.Paths.{AllDead, AreTried, AreTriedBefore, IsDead, Moves, Walks, taken}
 use Rattle.chi_search.specs.Positions.{IsReady, Position, position_of, start}
-use Rattle.chi_search.proofs.Looking.{none_more, one_more}
+use Rattle.chi_search.proofs.Looking.{none_more, one_more, spent_after}
 use Rattle.chi_search.proofs.Moves.{ended}
 use Rattle.chi_search.proofs.Paths.{moves_ready, none_tried, tried_back, tried_on, walks_back, walks_end, walks_on}
 use Rattle.chi_search.proofs.Start.{at_start, from_start, more_dead, none_dead, ready_at_start}
@@ -23,6 +23,7 @@ loop-budget-init g c = record {
   dead = none_dead c.args.ops.now c.args.last c.no_states-dead.result c.no_states-dead.ensures;
   tried = λ i before. absurd (omega (arith, before));
   before = subst (AreTriedBefore c.args.ops.now c.args.last) (sym c.new-path.ensures.items) (All-nil _);
+  parts = c.requires.parts;
   left = omega arith;
   looked = none_more g.P.Progress.looked c.args.progress.now (c.args.budget.now - c.args.budget.now) (omega arith);
 }
@@ -30,7 +31,7 @@ loop-budget-init g c = record {
 pub returns-in-Ended-clause-order : goal.returns-in-Ended-clause-order
 returns-in-Ended-clause-order g c =
     let is = subst (λ (choice : Choice). IfEnded choice ((length c.args.ops.now ≤ c.loop-budget.state.first) × IfSome c.args.last (λ seen. c.loop-budget.state.word ≡ seen)))
-    c.in-Ended.is c.in_ok-choose.ensures.ended in
+    c.in-Ended.is c.in_ok-decide.ensures.ended in
     let whole = walks_end c.args.ops.now c.args.last (start c.args.word) (position_of c.loop-budget.state) c.loop-budget.path.items [] c.requires.sorted
     c.loop-budget.invariant.walks (ended c.args.ops.now c.args.last (position_of c.loop-budget.state) is.0 is.1) in
     subst (Finishes c.args.ops.now (is_place c.args.ops.now) c.args.word c.args.last)
@@ -39,23 +40,27 @@ returns-in-Ended-clause-order g c =
 
 pub loop-budget-preserved-in-Step : goal.loop-budget-preserved-in-Step
 loop-budget-preserved-in-Step g c =
-    let moves = subst (λ (choice : Choice). IfStep choice (λ op. Moves c.args.ops.now (position_of c.loop-budget.state) op (position_of c.choose.new.next)))
-    c.in-Step.is c.in_ok-choose.ensures.moves in
+    let moves = subst (λ (choice : Choice). IfStep choice (λ op. Moves c.args.ops.now (position_of c.loop-budget.state) op (position_of c.decide.new.next)))
+    c.in-Step.is c.in_ok-decide.ensures.moves in
     let tried = subst (λ (choice : Choice). IfTried choice (λ place. AllDead c.args.ops.now c.args.last c.loop-budget.dead
-    → AreTried c.args.ops.now c.args.last (position_of c.loop-budget.state) place)) c.in-Step.is c.in_ok-choose.ensures.tried in
+    → AreTried c.args.ops.now c.args.last (position_of c.loop-budget.state) place)) c.in-Step.is c.in_ok-decide.ensures.tried in
+    let less : c.decide.new.budget ≤ c.args.budget.now = omega (arith, c.in_ok-decide.ensures.spends.0, c.loop-budget.invariant.left) in
+    let before_look = spent_after g.P.Progress.looked c.args.progress.now c.loop-budget.progress c.decide.new.progress c.args.budget.now c.loop-budget.budget c.decide.new.budget
+    c.loop-budget.invariant.left c.in_ok-decide.ensures.spends.0 c.loop-budget.invariant.looked c.in_ok-decide.ensures.spends.1 in
     record {
-      walks = subst (λ (path : List Step). Walks c.args.ops.now (start c.args.word) path (position_of c.choose.new.next)) (sym c.in_ok-push-in-Step.ensures.items)
-          (walks_on c.args.ops.now (start c.args.word) (position_of c.choose.new.next) c.loop-budget.path.items (record { from = c.loop-budget.state; op = c.in-Step.op; tried = c.in-Step.place })
+      walks = subst (λ (path : List Step). Walks c.args.ops.now (start c.args.word) path (position_of c.decide.new.next)) (sym c.in_ok-push-in-Step.ensures.items)
+          (walks_on c.args.ops.now (start c.args.word) (position_of c.decide.new.next) c.loop-budget.path.items (record { from = c.loop-budget.state; op = c.in-Step.op; tried = c.in-Step.place })
           c.loop-budget.invariant.walks moves);
-      ready = subst (λ (choice : Choice). IfStep choice (λ op. IsReady (length c.args.ops.now) (position_of c.choose.new.next))) c.in-Step.is c.in_ok-choose.ensures.ready;
+      ready = subst (λ (choice : Choice). IfStep choice (λ op. IsReady (length c.args.ops.now) (position_of c.decide.new.next))) c.in-Step.is c.in_ok-decide.ensures.ready;
       dead = c.loop-budget.invariant.dead;
-      tried = none_tried c.args.ops.now c.args.last (position_of c.choose.new.next);
+      tried = none_tried c.args.ops.now c.args.last (position_of c.decide.new.next);
       before = subst (AreTriedBefore c.args.ops.now c.args.last) (sym c.in_ok-push-in-Step.ensures.items)
           (tried_on c.args.ops.now c.args.last c.loop-budget.path.items (record { from = c.loop-budget.state; op = c.in-Step.op; tried = c.in-Step.place })
           c.loop-budget.invariant.before (tried c.loop-budget.invariant.dead));
-      left = omega arith;
-      looked = one_more g.P.Progress.looked c.args.progress.now c.loop-budget.progress c.look.new.self c.args.budget.now c.loop-budget.budget c.loop-budget.invariant.left
-          c.loop-budget-test.true c.loop-budget.invariant.looked c.look.ensures;
+      parts = c.in_ok-decide.ensures.parts;
+      left = omega (arith, less);
+      looked = one_more g.P.Progress.looked c.args.progress.now c.decide.new.progress c.look.new.self c.args.budget.now c.decide.new.budget less
+          (omega arith) before_look c.look.ensures;
     }
 
 pub loop-budget-preserved : goal.loop-budget-preserved
@@ -63,7 +68,7 @@ loop-budget-preserved g c =
     let back = walks_back c.args.ops.now (start c.args.word) (position_of c.loop-budget.state) c.pop.new.self.items c.in-Some.step
     (subst (λ (path : List Step). Walks c.args.ops.now (start c.args.word) path (position_of c.loop-budget.state)) c.in-Some.ensures.items c.loop-budget.invariant.walks) in
     let dead = subst (λ (choice : Choice). IfDead choice (AllDead c.args.ops.now c.args.last c.loop-budget.dead → IsDead c.args.ops.now c.args.last (position_of c.loop-budget.state)))
-    c.in-Dead.is c.in_ok-choose.ensures.dead in
+    c.in-Dead.is c.in_ok-decide.ensures.dead in
     let before = tried_back c.args.ops.now c.args.last c.pop.new.self.items c.in-Some.step
     (subst (AreTriedBefore c.args.ops.now c.args.last) c.in-Some.ensures.items c.loop-budget.invariant.before) in
     record {
@@ -73,8 +78,10 @@ loop-budget-preserved g c =
           (dead c.loop-budget.invariant.dead);
       tried = before.1;
       before = before.0;
-      left = c.loop-budget.invariant.left;
-      looked = c.loop-budget.invariant.looked;
+      parts = c.in_ok-decide.ensures.parts;
+      left = omega (arith, c.in_ok-decide.ensures.spends.0, c.loop-budget.invariant.left);
+      looked = spent_after g.P.Progress.looked c.args.progress.now c.loop-budget.progress c.decide.new.progress c.args.budget.now c.loop-budget.budget c.decide.new.budget
+          c.loop-budget.invariant.left c.in_ok-decide.ensures.spends.0 c.loop-budget.invariant.looked c.in_ok-decide.ensures.spends.1;
     }
 
 pub returns-in-None-clause-nothing : goal.returns-in-None-clause-nothing
@@ -85,5 +92,5 @@ returns-in-None-clause-nothing g c order finishes =
     let here : start c.args.word ≡ position_of c.loop-budget.state =
     subst (λ (path : List Step). Walks c.args.ops.now (start c.args.word) path (position_of c.loop-budget.state)) empty c.loop-budget.invariant.walks in
     let dead = subst (λ (choice : Choice). IfDead choice (AllDead c.args.ops.now c.args.last c.loop-budget.dead → IsDead c.args.ops.now c.args.last (position_of c.loop-budget.state)))
-    c.in-Dead.is c.in_ok-choose.ensures.dead in
+    c.in-Dead.is c.in_ok-decide.ensures.dead in
     subst (IsDead c.args.ops.now c.args.last) (sym here) (dead c.loop-budget.invariant.dead) (order, at_start c.args.ops.now c.args.word c.args.last order finishes)

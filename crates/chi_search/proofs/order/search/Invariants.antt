@@ -1,6 +1,7 @@
--- the path leads from the start to the state, which is ready, the states of the set are dead, operations before `tried` were tried, and what the budget lost was looked at
-use Rattle.std.proofs.Common.{◌+◌, ◌-◌, ◌*◌, ◌≤◌, length}
+-- the path leads from the start to the state, which is ready, the states of the set are dead, operations before `tried` were tried, the parts are parts, and what the budget lost was looked at
+use Rattle.std.proofs.Common.{◌+◌, ◌-◌, ◌*◌, ◌≤◌, All, length}
 use Rattle.chi_search.specs.Looks.{LookedMore}
+use Rattle.chi_search.specs.Parts.{IsPartOf}
 use Rattle.chi_search.specs.Paths.{AllDead, AreTried, AreTriedBefore, Walks}
 use Rattle.chi_search.specs.Positions.{IsReady, position_of, start}
 use Rattle.chi_search.proofs.order.search.Given as goal
@@ -12,6 +13,7 @@ invariant-loop-budget g l = record {
   dead : AllDead l.ops l.fn.last l.dead;
   tried : AreTried l.ops l.fn.last (position_of l.state) l.tried;
   before : AreTriedBefore l.ops l.fn.last l.path.items;
+  parts : All (IsPartOf l.ops l.fn.last) l.parts;
   left : l.budget ≤ l.initial.budget;
   looked : LookedMore g.P.Progress.looked l.initial.progress l.progress (l.initial.budget - l.budget);
 }

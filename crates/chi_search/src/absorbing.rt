@@ -1,0 +1,82 @@
+//! Operations that keep the bits of a mask, and find those that are there: they are settled before all others.
+
+ghost use Rattle.std.specs.Prelude.{◌≡◌, ◌<◌, ◌≤◌, IfSome, IsTrue, OnOk, length, true};
+ghost use Rattle.chi_trace.specs.declared.observed.Observed.{Observed};
+ghost use Rattle.chi_trace.specs.Explains.{at};
+ghost use Rattle.chi_search.specs.Effects.{AreEffects, HasEffect};
+ghost use Rattle.chi_search.specs.Paths.{AreEarliest};
+ghost use Rattle.chi_search.specs.Positions;
+ghost use Rattle.chi_search.specs.Positions.{IsReady, position_of};
+ghost use Rattle.chi_search.specs.Within.{GoesOnWithin, KeepsWithin};
+
+use crate::effect::Effect;
+use crate::state::{State, is_left, settle};
+use chi_trace::Observed;
+use std::alloc::AllocError;
+use std::mem;
+
+// Whether the operation keeps the bits of the mask, and finds those of the word there.
+fn is_kept(effect: &Effect, mask: u64, word: u64) -> bool
+    ensures { IsTrue result → (op : Observed) → HasEffect op effect.now → KeepsWithin mask op }
+{
+    effect.changed_mask & mask == 0 && (effect.found ^ word) & (effect.found_mask & mask) == 0
+}
+
+// The place of such an operation that can come next, if there is one.
+fn kept_next(
+    ops: &[Observed],
+    effects: &[Effect],
+    earliest: &[u64],
+    mask: u64,
+    state: &State,
+) -> Option<usize>
+    requires known { AreEffects ops.now effects.now }
+    requires each { length ops.now ≤ length effects.now }
+    requires earliest { AreEarliest ops.now earliest.now }
+    ensures left { IfSome result (λ place. Positions.is_left (length ops.now) (position_of state.now) place ≡ true) }
+    ensures keeps { IfSome result (λ place. KeepsWithin mask (at ops.now place)) }
+{
+    if state.first >= ops.len() {
+        return None;
+    }
+    let end = ops[state.first].end;
+    let mut place = state.first;
+    while place < ops.len() && earliest[place] <= end {
+        if ops[place].start <= end
+            && is_kept(&effects[place], mask, state.word)
+            && is_left(state, ops.len(), place)
+        {
+            return Some(place);
+        }
+        place += 1;
+    }
+    None
+}
+
+/// Settles all such operations that can come, one after the other. `spare` is written over.
+pub(crate) fn absorb(
+    ops: &[Observed],
+    effects: &[Effect],
+    earliest: &[u64],
+    mask: u64,
+    state: &mut State,
+    spare: &mut State,
+) -> Result<(), AllocError>
+    requires known { AreEffects ops.now effects.now }
+    requires each { length ops.now ≤ length effects.now }
+    requires earliest { AreEarliest ops.now earliest.now }
+    requires ready { IsReady (length ops.now) (position_of state.now) }
+    ensures ready { OnOk result (IsReady (length ops.now) (position_of state.new)) }
+    ensures goes_on { OnOk result (GoesOnWithin mask ops.now (position_of state.old) (position_of state.new)) }
+{
+    for _ in 0..ops.len() {
+        match kept_next(ops, effects, earliest, mask, state) {
+            Some(place) => {
+                settle(state, ops.len(), place, state.word, spare)?;
+                mem::swap(state, spare);
+            }
+            None => return Ok(()),
+        }
+    }
+    Ok(())
+}

@@ -1,0 +1,36 @@
+//! Tests of searches that end since two bytes of the word have no order by themselves.
+
+use crate::comparison::assert_same;
+use crate::operations::{READ, STORE_ADD, WRITE, done_at, order, told};
+use chi_trace::Observed;
+use std::alloc::Global;
+use std::test::Fail;
+
+// Of each byte of the granule but one a write of 5 and an addition of 1 that are open at once, and a read after them.
+fn writes_and_additions(alloc: Global, read: u64) -> Result<Vec<Observed>, Fail> {
+    let mut ops = Vec::new(alloc);
+    for byte in 0..7 {
+        ops.push(done_at((0, 10), WRITE, byte, 0x0505_0505_0505_0505)?)?;
+        ops.push(done_at((0, 10), STORE_ADD, byte, 0x0101_0101_0101_0101)?)?;
+    }
+    ops.push(told((11, 20), READ, 0, read)?)?;
+    Ok(ops)
+}
+
+#[test]
+fn byte_that_no_order_leaves(rt: HostRuntime) -> Result<(), Fail> {
+    let wrong = writes_and_additions(rt.alloc(), 0x0006_0606_0606_0607)?;
+    let mut budget = 200;
+    let nothing = order(rt.alloc(), &wrong, None, &mut budget)?;
+    assert_same(&rt, nothing.first().copied(), Some(999));
+    Ok(())
+}
+
+#[test]
+fn bytes_that_an_order_leaves(rt: HostRuntime) -> Result<(), Fail> {
+    let right = writes_and_additions(rt.alloc(), 0x0006_0506_0506_0506)?;
+    let mut budget = 1000;
+    let found = order(rt.alloc(), &right, None, &mut budget)?;
+    assert_same(&rt, (found.len(), found.last().copied()), (15, Some(14)));
+    Ok(())
+}
