@@ -2,7 +2,7 @@
 
 use crate::region::breaking::Way;
 use crate::region::kinds::Kinds;
-use crate::region::large::large;
+use crate::region::large::{Load, large};
 use crate::region::small::small;
 use crate::region::trace::{Granule, Trace as Executed};
 use crate::trace::{Observed, Trace};
@@ -75,9 +75,10 @@ pub fn large_trace(
     kinds: Kinds,
     granules: u16,
     way: Way,
+    load: Load,
     unseen: u64,
 ) -> Trace {
-    let large = large(random, kinds, granules, way).trace;
+    let large = large(random, kinds, granules, way, load).trace;
     Trace {
         opening: words(&large.opening),
         finals: words(large.finals.as_deref().unwrap_or_default()),

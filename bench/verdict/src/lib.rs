@@ -2,6 +2,7 @@
 //! to be timed beside.
 
 pub mod chance;
+pub mod effect;
 pub mod form;
 pub mod meaning;
 pub mod region;

@@ -1,8 +1,10 @@
-//! The search in plain Rust, by the same design: the operations of a granule in the order of their ends, depth first over which
-//! of them were settled and the word that they left, with a memo of the states from which no order goes on.
+//! The search in plain Rust, by the same design and the same rules: the operations of a granule in the order of their ends, depth
+//! first over which of them were settled and the word that they left, with a memo of the states from which no order goes on.
 
+use crate::effect::{Effect, effect, outcomes};
 use crate::region::execution::execute_bytes;
 use crate::trace::{Observed, Trace};
+use plain::request::Kind;
 use std::collections::{BTreeMap, HashSet};
 use std::hash::{BuildHasherDefault, Hasher};
 
@@ -129,17 +131,63 @@ impl Dead {
 
 /// A step has the operation that was taken, unless the first was left out, the place before which all operations were tried,
 /// and the state after it.
+/// `Only` is a step beside which no other need be tried.
 enum Choice {
     Ended,
     Step(Option<usize>, usize, State),
+    Only(usize, State),
     Dead,
 }
 
+/// A step of a path: the state from which it was made, the operation, and the place before which all were tried.
+type Step = (State, Option<usize>, usize);
+
+/// Two bytes of the word, with states from which no order goes on there, and states from which one does.
+struct Part {
+    mask: u64,
+    dead: Dead,
+    alive: Dead,
+}
+
+/// `effects` is empty where the rules are not asked.
 struct Search<'a> {
     ops: &'a [Observed],
+    effects: Vec<Effect>,
     earliest: Vec<u64>,
     last: Option<u64>,
     dead: Dead,
+    left: u64,
+}
+
+/// How many states for each operation are looked at without the rules.
+const PLAIN_STATES: u64 = 8;
+
+/// How many operations are looked at for makers at a state, and before the search.
+const LOOKED_AT: [usize; 2] = [64, 1000];
+
+/// Whether two operations do the same but for their times.
+fn are_equal(a: &Observed, b: &Observed) -> bool {
+    let (x, y) = (&a.access, &b.access);
+    x.kind == y.kind
+        && (x.addr, x.len, x.endian, x.enables, x.lanes)
+            == (y.addr, y.len, y.endian, y.enables, y.lanes)
+        && a.reply == b.reply
+}
+
+/// Whether one can come right before the other wherever it can come right after it.
+fn moves_before(a: &Observed, b: &Observed) -> bool {
+    let (x, y) = (&a.access, &b.access);
+    if x.addr + u64::from(x.len) <= y.addr || y.addr + u64::from(y.len) <= x.addr {
+        return true;
+    }
+    match (x.kind, y.kind) {
+        (Kind::Store(op), Kind::Store(other)) => {
+            op == other && (x.addr, x.len, x.endian) == (y.addr, y.len, y.endian)
+        }
+        (Kind::Write, Kind::Write) => (0..16)
+            .all(|lane| (x.enables & y.enables) >> lane & 1 == 0 || x.lanes[lane] == y.lanes[lane]),
+        _ => false,
+    }
 }
 
 impl Search<'_> {
@@ -166,6 +214,172 @@ impl Search<'_> {
         })
     }
 
+    fn is_left(&self, state: &State, place: usize) -> bool {
+        place >= state.first && !state.is_settled(place)
+    }
+
+    /// Whether an operation that is left, and may stand before the other one, may make these bits.
+    fn has_maker(&self, state: &State, other: Option<usize>, word: u64, mask: u64) -> bool {
+        let end = other.map_or(u64::MAX, |other| self.ops[other].end);
+        let makes = |place: usize| {
+            let it = &self.effects[place];
+            Some(place) != other
+                && self.ops[place].start <= end
+                && it.changed & mask != 0
+                && (it.left ^ word) & it.left_mask & mask == 0
+                && self.is_left(state, place)
+        };
+        let near = other.unwrap_or(self.ops.len());
+        (state.first..near).rev().any(makes)
+            || (near..self.ops.len())
+                .take_while(|place| self.earliest[*place] <= end)
+                .any(makes)
+    }
+
+    fn is_out_of_reach(&self, state: &State, other: Option<usize>, word: u64, mask: u64) -> bool {
+        let differing = (word ^ state.word) & mask;
+        differing != 0
+            && (!self.has_maker(state, other, word, mask)
+                || (0..8)
+                    .map(|byte| mask & (0xff << (8 * byte)))
+                    .any(|part| differing & part != 0 && !self.has_maker(state, other, word, part)))
+    }
+
+    /// Whether, in the bits of the mask, an operation must find, or the end must have, what nothing can leave.
+    fn lacks_maker(&self, state: &State, mask: u64, time: u64, count: usize) -> bool {
+        if self
+            .last
+            .is_some_and(|seen| self.is_out_of_reach(state, None, seen, mask))
+        {
+            return true;
+        }
+        (state.first..self.ops.len().min(state.first + count))
+            .take_while(|place| self.earliest[*place] <= time)
+            .filter(|place| {
+                let op = &self.ops[*place];
+                op.start <= time && op.reply.is_some() && self.is_left(state, *place)
+            })
+            .any(|place| {
+                let it = &self.effects[place];
+                self.is_out_of_reach(state, Some(place), it.found, it.found_mask & mask)
+            })
+    }
+
+    /// An operation that can be moved before all others.
+    fn commuting_next(&self, state: &State) -> Option<usize> {
+        self.places(state, state.first).find(|place| {
+            let op = &self.ops[*place];
+            op.reply.is_some()
+                && (state.first..self.ops.len())
+                    .take_while(|other| self.earliest[*other] <= op.end)
+                    .all(|other| {
+                        other == *place
+                            || self.ops[other].start > op.end
+                            || !self.is_left(state, other)
+                            || moves_before(op, &self.ops[other])
+                    })
+        })
+    }
+
+    fn has_equal_before(&self, state: &State, place: usize) -> bool {
+        self.places(state, state.first)
+            .take_while(|before| *before < place)
+            .any(|before| are_equal(&self.ops[before], &self.ops[place]))
+    }
+
+    /// Settles the operations that can come, keep the bits of the mask, and find those that are there.
+    fn absorb(&self, mask: u64, mut state: State) -> State {
+        loop {
+            if state.first >= self.ops.len() {
+                return state;
+            }
+            let kept = self.places(&state, state.first).find(|place| {
+                let it = &self.effects[*place];
+                it.changed & mask == 0 && (it.found ^ state.word) & it.found_mask & mask == 0
+            });
+            match kept {
+                Some(place) => state = state.settled(place, state.word),
+                None => return state,
+            }
+        }
+    }
+
+    /// What can be done at a state in a part.
+    fn choose_within(&self, part: &Part, state: &State, tried: usize) -> Choice {
+        if part.alive.has(state) {
+            return Choice::Ended;
+        }
+        if state.first >= self.ops.len() {
+            let differs = self
+                .last
+                .is_some_and(|last| (last ^ state.word) & part.mask != 0);
+            return if differs { Choice::Dead } else { Choice::Ended };
+        }
+        let end = self.ops[state.first].end;
+        if tried <= state.first && self.lacks_maker(state, part.mask, end, LOOKED_AT[0]) {
+            return Choice::Dead;
+        }
+        for place in self.places(state, tried) {
+            let op = &self.ops[place];
+            let Some(words) = outcomes(op, &self.effects[place], part.mask, state.word) else {
+                return Choice::Ended;
+            };
+            for word in words.into_iter().flatten() {
+                let next = self.absorb(part.mask, state.settled(place, word));
+                if !part.dead.has(&next) {
+                    return Choice::Step(Some(place), place, next);
+                }
+            }
+        }
+        if self.ops[state.first].reply.is_none() {
+            let next = self.absorb(part.mask, state.settled(state.first, state.word));
+            if !part.dead.has(&next) {
+                return Choice::Step(None, self.ops.len(), next);
+            }
+        }
+        Choice::Dead
+    }
+
+    /// Whether no order goes on from a state in a part.
+    fn lacks_order(&mut self, part: &mut Part, from: &State) -> bool {
+        let mut state = self.absorb(part.mask, from.clone());
+        if part.dead.has(&state) {
+            return true;
+        }
+        let mut path: Vec<Step> = Vec::new();
+        let mut tried = state.first;
+        while self.left > 0 {
+            match self.choose_within(part, &state, tried) {
+                Choice::Ended => {
+                    path.iter().for_each(|step| part.alive.add(&step.0));
+                    return false;
+                }
+                Choice::Step(op, place, next) => {
+                    self.left -= 1;
+                    tried = next.first;
+                    path.push((std::mem::replace(&mut state, next), op, place));
+                }
+                Choice::Only(..) => unreachable!("a part has no such step"),
+                Choice::Dead => {
+                    part.dead.add(&state);
+                    match path.pop() {
+                        Some((before, _, place)) => (state, tried) = (before, place),
+                        None => return true,
+                    }
+                }
+            }
+        }
+        false
+    }
+
+    fn only(&self, next: State, place: usize) -> Choice {
+        if self.dead.has(&next) {
+            Choice::Dead
+        } else {
+            Choice::Only(place, next)
+        }
+    }
+
     /// What can be done at a state, of which the operations before a place were tried.
     fn choose(&self, state: &State, tried: usize) -> Choice {
         if state.first >= self.ops.len() {
@@ -176,20 +390,26 @@ impl Search<'_> {
                 Choice::Dead
             };
         }
-        if tried <= state.first
-            && let Some(place) = self.idle_next(state)
-        {
-            let next = state.settled(place, state.word);
-            return if self.dead.has(&next) {
-                Choice::Dead
-            } else {
-                Choice::Step(Some(place), tried, next)
-            };
+        let with_rules = !self.effects.is_empty();
+        if tried <= state.first {
+            if let Some(place) = self.idle_next(state) {
+                return self.only(state.settled(place, state.word), place);
+            }
+            let end = self.ops[state.first].end;
+            if with_rules && self.lacks_maker(state, u64::MAX, end, LOOKED_AT[0]) {
+                return Choice::Dead;
+            }
+            if with_rules && let Some(place) = self.commuting_next(state) {
+                return match self.after(state, place) {
+                    Some(after) => self.only(state.settled(place, after), place),
+                    None => Choice::Dead,
+                };
+            }
         }
         for place in self.places(state, tried) {
             if let Some(after) = self.after(state, place) {
                 let next = state.settled(place, after);
-                if !self.dead.has(&next) {
+                if !self.dead.has(&next) && !(with_rules && self.has_equal_before(state, place)) {
                     return Choice::Step(Some(place), place, next);
                 }
             }
@@ -202,6 +422,54 @@ impl Search<'_> {
         }
         Choice::Dead
     }
+}
+
+/// Searches from a word on: an order, `None` within where there is none, and without where the budget was spent.
+fn search(search: &mut Search, parts: &mut [Part], word: u64) -> Option<Option<Vec<usize>>> {
+    let mut state = State {
+        word,
+        ..State::default()
+    };
+    let mut path: Vec<Step> = Vec::new();
+    let mut tried = 0;
+    let mut is_new = true;
+    while search.left > 0 {
+        let is_dead = is_new
+            && parts
+                .iter_mut()
+                .any(|part| search.lacks_order(part, &state));
+        let choice = if is_dead {
+            Choice::Dead
+        } else {
+            search.choose(&state, tried)
+        };
+        let (op, place, next) = match choice {
+            Choice::Ended => {
+                return Some(Some(path.into_iter().filter_map(|step| step.1).collect()));
+            }
+            Choice::Step(op, place, next) => {
+                is_new = true;
+                (op, place, next)
+            }
+            Choice::Only(place, next) => {
+                is_new = false;
+                (Some(place), tried, next)
+            }
+            Choice::Dead => {
+                search.dead.add(&state);
+                is_new = false;
+                match path.pop() {
+                    Some((before, _, place)) => (state, tried) = (before, place),
+                    None => return Some(None),
+                }
+                continue;
+            }
+        };
+        search.left = search.left.saturating_sub(1);
+        tried = next.first;
+        path.push((std::mem::replace(&mut state, next), op, place));
+    }
+    None
 }
 
 /// An order of a granule's operations, which stand by their ends; `None` within where there is none, and without where the budget
@@ -218,39 +486,40 @@ fn order_of(
         least = least.min(ops[place].start);
         earliest[place] = least;
     }
-    let mut search = Search {
+    let effects: Vec<Effect> = ops.iter().map(effect).collect();
+    let plain = budget.min(ops.len() as u64 * PLAIN_STATES);
+    let mut it = Search {
         ops,
+        effects,
         earliest,
         last,
         dead: Dead::default(),
+        left: plain,
     };
-    let mut state = State {
+    let start = State {
         word,
         ..State::default()
     };
-    let mut path: Vec<(State, Option<usize>, usize)> = Vec::new();
-    let mut tried = 0;
-    let mut left = budget;
-    while left > 0 {
-        match search.choose(&state, tried) {
-            Choice::Ended => {
-                return Some(Some(path.into_iter().filter_map(|step| step.1).collect()));
-            }
-            Choice::Step(op, place, next) => {
-                left -= 1;
-                tried = next.first;
-                path.push((std::mem::replace(&mut state, next), op, place));
-            }
-            Choice::Dead => {
-                search.dead.add(&state);
-                match path.pop() {
-                    Some((before, _, place)) => (state, tried) = (before, place),
-                    None => return Some(None),
-                }
-            }
-        }
+    if it.lacks_maker(&start, u64::MAX, u64::MAX, LOOKED_AT[1]) {
+        return Some(None);
     }
-    None
+    let effects = std::mem::take(&mut it.effects);
+    if let Some(found) = search(&mut it, &mut [], word) {
+        return Some(found);
+    }
+    it.effects = effects;
+    it.dead = Dead::default();
+    it.left = budget - plain;
+    let short = ops.iter().filter(|op| op.access.len <= 2).count();
+    let parts = if short >= ops.len() / 4 { 4 } else { 0 };
+    let mut parts: Vec<Part> = (0..parts)
+        .map(|place| Part {
+            mask: 0xffff << (16 * place),
+            dead: Dead::default(),
+            alive: Dead::default(),
+        })
+        .collect();
+    search(&mut it, &mut parts, word)
 }
 
 /// Decides whether the trace can be explained, over at most so many states of each granule.

@@ -13,8 +13,15 @@ use verdict::chance::large_trace;
 use verdict::form::write_traces;
 use verdict::region::breaking::Way;
 use verdict::region::kinds::Kinds;
+use verdict::region::large::Load;
 use verdict::told::run;
 use verdict::trace::Trace;
+
+const LOAD: Load = Load {
+    requesters: 8,
+    operations: 500,
+    lengths: 20,
+};
 
 /// Each row has so many traces intact, and as many broken.
 const TRACES: usize = 6;
@@ -60,7 +67,16 @@ fn time_all(programs: [&str; 2], rounds: usize, seed: u64) -> io::Result<bool> {
         for (granules, unseen) in [(1, u64::MAX), (4, u64::MAX), (512, u64::MAX), (512, 20)] {
             let ways = [Way::Intact, Way::LostUpdate, Way::TurnedBits];
             let traces: Vec<Trace> = (0..TRACES)
-                .map(|it| large_trace(&mut random, kinds, granules, ways[it % ways.len()], unseen))
+                .map(|it| {
+                    large_trace(
+                        &mut random,
+                        kinds,
+                        granules,
+                        ways[it % ways.len()],
+                        LOAD,
+                        unseen,
+                    )
+                })
                 .collect();
             let Some(([first, second], undecided)) = row(programs, &traces, rounds)? else {
                 println!("they disagree");

@@ -20,6 +20,21 @@ pub enum Kinds {
     /// Reads, writes, swaps, compares, AtomicStore and AtomicLoad of each operation, as often as one another, of
     /// 1, 2, 4 or 8 bytes in both byte orders.
     Every,
+    /// Requests that meet in one granule, in both byte orders. Half of their bytes are 0, 1, 0x80 or 0xff.
+    Hot(Hot),
+}
+
+/// What the requests of a hot granule are.
+#[derive(Clone, Copy, PartialEq, Eq)]
+pub enum Hot {
+    /// Of every kind, as often as one another, of 1, 2, 4 or 8 bytes.
+    Mixed,
+    /// Of every kind, of 8 bytes.
+    Words,
+    /// Nine AtomicStore in ten, the others reads, of 1, 2, 4 or 8 bytes.
+    Stores,
+    /// Nine writes in ten, the others reads, of 1, 2, 4 or 8 bytes.
+    Writes,
 }
 
 impl Kinds {
@@ -32,7 +47,10 @@ impl Kinds {
                 number if number < 60 + stores => STORE,
                 _ => LOAD,
             },
-            Kinds::Every => match random.below(6) {
+            Kinds::Hot(Hot::Stores) if random.below(10) > 0 => STORE + random.below(8),
+            Kinds::Hot(Hot::Writes) if random.below(10) > 0 => WRITE,
+            Kinds::Hot(Hot::Stores | Hot::Writes) => READ,
+            Kinds::Every | Kinds::Hot(_) => match random.below(6) {
                 0 => READ,
                 1 => WRITE,
                 2 => SWAP,
@@ -53,6 +71,10 @@ impl Kinds {
                 6 => [0x7f, 0x80, 0xff][random.below(3) as usize],
                 _ => random.next() as u8,
             }),
+            Kinds::Hot(_) => std::array::from_fn(|_| match random.below(8) {
+                it @ 0..4 => [0, 1, 0x80, 0xff][it as usize],
+                _ => random.next() as u8,
+            }),
         }
     }
 
@@ -60,8 +82,8 @@ impl Kinds {
     pub fn request(self, random: &mut Random, place: &Place, src: u8) -> Request {
         let opcode = self.opcode(random);
         let power = match self {
-            Kinds::Whole { .. } => 3,
-            Kinds::Every => random.below(4),
+            Kinds::Whole { .. } | Kinds::Hot(Hot::Words) => 3,
+            Kinds::Every | Kinds::Hot(_) => random.below(4),
         };
         let fields = of_opcode(random, place, opcode, power);
         let mut lanes = [0; 16];
@@ -73,7 +95,7 @@ impl Kinds {
             opcode: opcode as u8,
             size: fields.size as u8,
             addr: fields.addr,
-            endian: matches!(self, Kinds::Every) && random.below(2) == 1,
+            endian: !matches!(self, Kinds::Whole { .. }) && random.below(2) == 1,
             be: fields.be as u16,
             lanes,
         }
