@@ -1,6 +1,7 @@
 -- operations that work bit by bit: each bit that they leave depends on that bit alone
 use Rattle.std.proofs.Common.{◌≡◌, ℕ, ◌+◌, ◌-◌, ◌*◌, ◌%◌, ◌^◌, ◌<◌, max, ◌⊎◌, sym, ap, ◌∙◌, arith, inl, inr}
 use Rattle.std.specs.Int.{bit_at}
+use Rattle.std.proofs.lemmas.Nat.Bits.{bit_at-lt}
 use Rattle.chi_fields.specs.declared.kind.Kind.{Kind}
 use Rattle.chi_fields.specs.declared.kind.Kind.TheVariants.{Read, Write, Store, Load, Swap, Compare}
 use Rattle.chi_fields.specs.declared.kind.Op.TheVariants.{Clr, Eor, Set}
@@ -11,7 +12,7 @@ use Rattle.chi_lanes.specs.Packet.{sent}
 use Rattle.chi_lanes.proofs.AfterLemmas.{length-sent}
 use Rattle.chi_trace.specs.declared.observed.Observed.{Observed}
 use Rattle.chi_trace.specs.Granules.{next}
-use Rattle.chi_search.specs.Effects.{IsBitwise, IsBlind}
+use Rattle.chi_search.specs.Effects.{IsBitwise, IsBlind, IsEor}
 use Rattle.chi_search.proofs.Spelled.{MakesBits, MakesBits-clr, MakesBits-eor, MakesBits-set}
 use Rattle.chi_search.proofs.Told.{bit_after, bit_here, byte_of, here}
 use Rattle.chi_search.proofs.Written.{StaysOrIs, blind_byte, enabled_whole, made, made_bit, sent_byte, written_whole}
@@ -55,6 +56,35 @@ bitwise_bit op lawful is v w k v_below w_below within same =
     ∙ same_after op.access.kind op.access (here op v) (here op w) (byte_of op k) (k % 8) lawful is (omega arith)
     (sym (bit_here op v k v_below within) ∙ same ∙ bit_here op w k w_below within)
     ∙ sym (bit_after op w k lawful within)
+
+-- of the bit that an exclusive or makes it makes the one that was there
+back_made : (o : Access) (m n : Memory) (x j : ℕ) → IsLawful o → j < 8 → bit_at (n x) j ≡ bit_at (made (λ a b. (a + b) % 2) o m x) j
+    → bit_at (made (λ a b. (a + b) % 2) o n x) j ≡ bit_at (m x) j
+back_made o m n x j lawful below same = elim (made_bit (λ a b. (a + b) % 2) MakesBits-eor o x j lawful below) [
+  | inl stays ↦ ap (λ b. bit_at b j) (stays n) ∙ same ∙ ap (λ b. bit_at b j) (stays m)
+  | inr is_made ↦
+      is_made n
+      ∙ ap (λ b. (b + bit_at (sent_byte o x) j) % 2) (same ∙ is_made m)
+      ∙ twice (bit_at (m x) j) (bit_at (sent_byte o x) j) (bit_at-lt (m x) j) (bit_at-lt (sent_byte o x) j)
+]
+  where
+    twice : (a b : ℕ) → a < 2 → b < 2 → ((a + b) % 2 + b) % 2 ≡ a
+    twice a b p q = omega (arith, p, q)
+
+back_after : (kind : Kind) (o : Access) (m n : Memory) (x j : ℕ) → IsLawful o → IsEor kind → j < 8 → bit_at (n x) j ≡ bit_at (after_as kind o m x) j
+    → bit_at (after_as kind o n x) j ≡ bit_at (m x) j
+back_after (Store Eor) o m n x j lawful is below same = back_made o m n x j lawful below same
+back_after (Load Eor) o m n x j lawful is below same = back_made o m n x j lawful below same
+back_after _ o m n x j lawful is below same = absurd is
+
+-- of a word with a bit that an exclusive or leaves it leaves the bit that was there
+pub back_bit : (op : Observed) → IsLawful op.access → IsEor op.access.kind → (v w k : ℕ) → v < 2 ^ 64 → w < 2 ^ 64 → k < 64
+    → bit_at v k ≡ bit_at (next op w) k → bit_at (next op v) k ≡ bit_at w k
+back_bit op lawful is v w k v_below w_below within same =
+    bit_after op v k lawful within
+    ∙ back_after op.access.kind op.access (here op w) (here op v) (byte_of op k) (k % 8) lawful is (omega arith)
+    (sym (bit_here op v k v_below within) ∙ same ∙ bit_after op w k lawful within)
+    ∙ sym (bit_here op w k w_below within)
 
 -- each bit of a word stays, or is written whatever it was
 pub blind_bit : (op : Observed) → IsLawful op.access → IsBlind op.access.kind → (k : ℕ) → k < 64

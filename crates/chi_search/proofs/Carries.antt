@@ -1,5 +1,5 @@
 -- the digits of a sum to base 256, and the carries into them
-use Rattle.std.proofs.Common.{◌≡◌, ℕ, zero, suc, ◌+◌, ◌-◌, ◌/◌, ◌%◌, ◌^◌, ◌<◌, ◌≤◌, ◌⊎◌, refl, sym, ap, ◌∙◌, arith, inl, inr, add-zero, add-suc, pow-suc, div-one}
+use Rattle.std.proofs.Common.{◌≡◌, ℕ, zero, suc, ◌+◌, ◌-◌, ◌/◌, ◌%◌, ◌^◌, ◌<◌, ◌≤◌, ◌⊎◌, refl, sym, ap, subst, ◌∙◌, arith, inl, inr, zero-add, add-zero, add-suc, pow-suc, div-one}
 use Rattle.std.proofs.lemmas.Bool.{cases_lt}
 use Rattle.std.proofs.Math.Nat.{div-div-eq-div-mul, pow-zero}
 
@@ -88,3 +88,29 @@ adds_like n low high s a zeros most = elim (cases_lt 0 (carry n s a)) [
       let same : carry n s a ≡ carry low s a = omega (arith, none, carry_none low s a zeros) in
       inl (λ i above digits. same_digit n low s a i same above digits)
 ]
+
+-- a digit of two numbers whose lower digits are the same, and whose sums have the same digit
+same_back : (n m s i : ℕ) → ((d : ℕ) → d < i → digit n d ≡ digit m d) → digit (n + s) i ≡ digit (m + s) i → digit n i ≡ digit m i
+unfolding carry
+same_back n m s i lower same =
+    let carried : carry n s i ≡ carry m s i =
+    subst (λ e. carry n s e ≡ carry m s e) (zero-add i) (carry_same n m s 0 i refl (λ e _ under. lower e (omega (arith, under)))) in
+    let sums : (digit n i + digit s i + carry n s i) % 256 ≡ (digit m i + digit s i + carry m s i) % 256 =
+    sym (digit_of_sum n s i) ∙ same ∙ digit_of_sum m s i in
+    omega (arith, sums, carried)
+
+-- two numbers have the same digits where each digit is the same, or that of their sums is
+pub back_digit : (n m s i : ℕ) → ((d : ℕ) → d < i → (digit n d ≡ digit m d) ⊎ (digit (n + s) d ≡ digit (m + s) d)) → (d : ℕ) → d < i
+    → digit n d ≡ digit m d
+back_digit n m s zero same d below = absurd (omega (arith, below))
+back_digit n m s (suc i) same d below =
+    let lower : (e : ℕ) → e < i → digit n e ≡ digit m e = back_digit n m s i (λ e under. same e (omega (arith, under))) in
+    elim (cases_lt d i) [
+      | inl under ↦ lower d under
+      | inr last ↦
+          let at : d ≡ i = omega (arith, below, last) in
+          subst (λ e. digit n e ≡ digit m e) (sym at) (elim (same i (omega arith)) [
+            | inl here ↦ here
+            | inr sums ↦ same_back n m s i lower sums
+          ])
+    ]

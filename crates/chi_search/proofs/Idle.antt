@@ -1,14 +1,15 @@
 -- an operation that answered the old data and left one word as it is leaves each word as it is that it fits
-use Rattle.std.proofs.Common.{◌≡◌, ℕ, ◌+◌, ◌^◌, ◌<◌, List, Some, ap, ◌∙◌, arith, inl, inr}
+use Rattle.std.proofs.Common.{◌≡◌, ℕ, ◌+◌, ◌-◌, ◌^◌, ◌<◌, List, Some, ap, ◌∙◌, arith, inl, inr}
 use Rattle.std.specs.Int.{bit_at}
 use Rattle.std.proofs.lemmas.Bool.{cases_lt}
-use Rattle.std.proofs.lemmas.Nat.Bits.{same_from_bits_below}
+use Rattle.std.proofs.lemmas.Nat.Bits.{bit_at_ones, same_from_bits_below}
 use Rattle.chi_fields.specs.Access.{IsLawful}
 use Rattle.chi_lanes.specs.declared.reply.Reply.TheVariants.{CompData}
 use Rattle.chi_trace.specs.declared.observed.Observed.{Observed}
 use Rattle.chi_trace.specs.Granules.{Fits, next}
 use Rattle.chi_trace.proofs.Steps.{next-below}
 use Rattle.chi_search.specs.Moves.{IsIdle}
+use Rattle.chi_search.specs.Within.{KeepsWithin}
 use Rattle.chi_search.proofs.Told.{byte_of, kept_outside, same_found, same_left}
 
 pub idle_data : (op : Observed) (w : ℕ) (bs : List ℕ) → IsLawful op.access → w < 2 ^ 64 → op.reply ≡ Some (CompData bs) → Fits op w → next op w ≡ w
@@ -25,3 +26,8 @@ idle_data op w bs lawful below held fits stays v v_below v_fits = same_from_bits
         | inr past ↦ kept_outside op lawful v k v_below within (λ inside. absurd (omega (arith, past, inside.1)))
       ]
     ]
+
+-- so does one that keeps all bits of a word
+pub idle_kept : (op : Observed) → IsLawful op.access → KeepsWithin (2 ^ 64 - 1) op → IsIdle op
+idle_kept op lawful keeps w below fits =
+    same_from_bits_below 64 (next op w) w (next-below op w lawful) below (λ k within. keeps w below fits k (bit_at_ones 64 k within))

@@ -18,7 +18,7 @@ use Rattle.chi_search.proofs.Told.{in_word, kept_outside}
 use Rattle.chi_search.proofs.WordBits.{agree_to}
 
 -- a bit that is out of a mask, of which none is in it
-out_of : (m n k : ℕ) → n < 2 ^ 64 → k < 64 → bit_and m (bit_not w64 n) ≡ 0 → bit_at m k ≡ 1 → bit_at n k ≡ 1
+pub out_of : (m n k : ℕ) → n < 2 ^ 64 → k < 64 → bit_and m (bit_not w64 n) ≡ 0 → bit_at m k ≡ 1 → bit_at n k ≡ 1
 out_of m n k below within none one =
     let both : min (bit_at m k) (bit_at (bit_not w64 n) k) ≡ 0 = sym (bit_at_and m (bit_not w64 n) k) ∙ ap (λ b. bit_at b k) none ∙ bit_at-zero k in
     omega (arith, both, one, bit_at_not w64 n k below within, bit_at-lt n k)

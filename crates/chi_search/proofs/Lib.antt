@@ -18,7 +18,6 @@ pub mod Layers
 pub mod Leaving
 pub mod LikeStores
 pub mod Looking
-pub mod Making
 pub mod MovedBack
 pub mod MovedFirst
 pub mod Moves
@@ -29,6 +28,8 @@ pub mod Paths
 pub mod Picked
 pub mod Picking
 pub mod Reach
+pub mod Runs
+pub mod SameSums
 pub mod Sets
 pub mod Settling
 pub mod Spelled
@@ -36,6 +37,7 @@ pub mod Start
 pub mod Sums
 pub mod Telling
 pub mod Told
+pub mod Wanting
 pub mod Within
 pub mod WithinMoves
 pub mod WordBits

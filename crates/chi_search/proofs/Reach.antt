@@ -8,10 +8,10 @@ use Rattle.chi_trace.specs.Explains.{at, is_answered}
 use Rattle.chi_trace.specs.Granules.{next}
 use Rattle.chi_search.specs.declared.effect.Effect.{Effect}
 use Rattle.chi_search.specs.Effects.{Agree, HasEffect}
-use Rattle.chi_search.specs.Makers.{IsOutOfReach, MakesNone, NoneMakes}
+use Rattle.chi_search.specs.Makers.{IsOutOfReach, IsPart, MakesNone}
 use Rattle.chi_search.specs.Positions.{Position, is_left}
 use Rattle.chi_search.specs.Within.{IsDeadWithin, KeepsWithin}
-use Rattle.chi_search.proofs.Making.{dead_at_end, dead_found}
+use Rattle.chi_search.proofs.Runs.{dead_at_end, dead_found, only_before}
 use Rattle.chi_search.proofs.WordBits.{agree_to}
 
 -- a bit that is 1 is one of the word
@@ -50,32 +50,25 @@ contrary op e word mask has some w w_below fits agree = elim (has.leaves w w_bel
         leaves k (omega (arith, both, bit_at-lt e.left_mask k, bit_at-lt mask k))
         ∙ sym (agree k (omega (arith, both, bit_at-lt e.left_mask k, bit_at-lt mask k)))
 
--- some bits of the mask are out of reach
-pub some_bytes : (ops : List Observed) (p : Position) (other : Option ℕ) (word mask bytes : ℕ)
-    → (bit_and (bit_xor word p.word) (bit_and mask bytes) ≡ 0 → ⊥)
-    → NoneMakes ops p other (Agree (bit_and mask bytes) word) → IsOutOfReach ops p other word mask
-some_bytes ops p other word mask bytes some unmade = record {
-  part = bit_and mask bytes;
-  within = λ k one. omega (arith, sym (bit_at_and mask bytes k) ∙ one, bit_at-lt mask k);
-  differs = λ agree. some (agree_to word p.word (bit_and mask bytes) agree);
-  unmade = unmade;
-}
-
 -- the bits of two masks are bits of each
 pub part_of : (m n k : ℕ) → bit_at (bit_and m n) k ≡ 1 → (bit_at m k ≡ 1) × (bit_at n k ≡ 1)
 part_of m n k one =
     let both : min (bit_at m k) (bit_at n k) ≡ 1 = sym (bit_at_and m n k) ∙ one in
     (omega (arith, both, bit_at-lt m k, bit_at-lt n k), omega (arith, both, bit_at-lt m k, bit_at-lt n k))
 
+-- the bits of both masks are bits of the second
+pub both : (m n : ℕ) → IsPart (bit_and m n) n
+both m n k one = (part_of m n k one).1
+
 -- a state is dead in the bits of a mask where what an operation must find there is out of reach
 pub out_of_reach : (mask : ℕ) (ops : List Observed) (last : Option ℕ) (p : Position) (y : ℕ) (e : Effect) → HasEffect (at ops y) e
     → is_left (length ops) p y ≡ true
-    → is_answered (at ops y) ≡ true → IsOutOfReach ops p (Some y) e.found (bit_and e.found_mask mask) → IsDeadWithin mask ops last p
+    → is_answered (at ops y) ≡ true → IsOutOfReach mask ops p (only_before (Some y)) e.found (bit_and e.found_mask mask) → IsDeadWithin mask ops last p
 out_of_reach mask ops last p y e has left answered out =
     dead_found mask out.part e.found ops last p y (λ k one. (part_of e.found_mask mask k (out.within k one)).1) left answered
-    (λ w w_below fits k one. has.finds w w_below fits k (part_of e.found_mask mask k (out.within k one)).0) out.differs out.unmade
+    (λ w w_below fits k one. has.finds w w_below fits k (part_of e.found_mask mask k (out.within k one)).0) out.unmade
 
 -- or the word at the end
-pub end_out_of_reach : (mask : ℕ) (ops : List Observed) (seen : ℕ) (p : Position) → IsOutOfReach ops p None seen mask
+pub end_out_of_reach : (mask : ℕ) (ops : List Observed) (seen : ℕ) (p : Position) → IsOutOfReach mask ops p (only_before None) seen mask
     → IsDeadWithin mask ops (Some seen) p
-end_out_of_reach mask ops seen p out = dead_at_end mask out.part seen ops p out.within out.differs out.unmade
+end_out_of_reach mask ops seen p out = dead_at_end mask out.part seen ops p out.within out.unmade

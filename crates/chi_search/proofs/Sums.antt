@@ -31,16 +31,16 @@ abbrev pub run : ℕ → ℕ → ℕ
 run lane len = (256 ^ len - 1) * 256 ^ lane
 
 -- where a digit of a number stands among its bytes
-abbrev place : Bool → ℕ → ℕ → ℕ
+abbrev pub place : Bool → ℕ → ℕ → ℕ
 place endian len d = cond endian (len - 1 - d) d
 
 -- it is one of the bytes
-place_below : (endian : Bool) (len d : ℕ) → d < len → place endian len d < len
+pub place_below : (endian : Bool) (len d : ℕ) → d < len → place endian len d < len
 place_below true len d below = omega (arith, below)
 place_below false len d below = below
 
 -- and stands where that digit does
-place_place : (endian : Bool) (len d : ℕ) → d < len → place endian len (place endian len d) ≡ d
+pub place_place : (endian : Bool) (len d : ℕ) → d < len → place endian len (place endian len d) ≡ d
 place_place true len d below = omega (arith, below)
 place_place false len d below = refl
 
@@ -61,7 +61,7 @@ bytes-mod true len n = ap reverse (little_bytes-mod len n)
 bytes-mod false len n = little_bytes-mod len n
 
 -- a digit of the number that the operand's bytes spell
-digit_of_operand : (endian : Bool) (m : Memory) (addr len d : ℕ) → IsMemory m → d < len
+pub digit_of_operand : (endian : Bool) (m : Memory) (addr len d : ℕ) → IsMemory m → d < len
     → digit (num endian (bytes_from m addr len)) d ≡ m (addr + place endian len d)
 digit_of_operand endian m addr len d is below =
     let back : bytes endian len (num endian (bytes_from m addr len)) ≡ bytes_from m addr len =
@@ -72,7 +72,7 @@ digit_of_operand endian m addr len d is below =
     ∙ get_or-bytes_from m addr len (place endian len d) (place_below endian len d below)
 
 -- a byte of a sum
-byte_of_sum : (endian : Bool) (m : Memory) (addr len : ℕ) (bs : List ℕ) (d : ℕ) → d < len
+pub byte_of_sum : (endian : Bool) (m : Memory) (addr len : ℕ) (bs : List ℕ) (d : ℕ) → d < len
     → with_bytes m addr (combine Add endian (bytes_from m addr len) bs) (addr + place endian len d)
     ≡ digit (num endian (bytes_from m addr len) + num endian bs) d
 byte_of_sum endian m addr len bs d below =
@@ -97,7 +97,7 @@ byte_of_sum endian m addr len bs d below =
     spelled = bytes-mod endian (length (bytes_from m addr len)) sum ∙ ap (λ l. bytes endian l sum) (length-bytes_from m addr len)
 
 -- what a sum leaves
-sum_after : (kind : Kind) (o : Access) (m : Memory) → IsSum kind
+pub sum_after : (kind : Kind) (o : Access) (m : Memory) → IsSum kind
     → after_as kind o m ≡ with_bytes m o.addr (combine Add o.endian (old o m) (sent_by o))
 sum_after (Store Add) o m sum = refl
 sum_after (Load Add) o m sum = refl
@@ -136,7 +136,7 @@ between false first size lane len i d below inside above under =
     (omega (arith, below, inside.0, inside.1, above, under), omega (arith, below, inside.0, inside.1, above, under))
 
 -- a bit of a word's byte
-bit_of_byte : (op : Observed) (v j i : ℕ) → v < 2 ^ 64 → j < 8 → i < 8
+pub bit_of_byte : (op : Observed) (v j i : ℕ) → v < 2 ^ 64 → j < 8 → i < 8
     → bit_at v (8 * j + i) ≡ bit_at (here op v (granule_start op.access.addr + j)) i
 bit_of_byte op v j i below inside bit =
     let byte : (8 * j + i) / 8 ≡ j = omega (arith, bit) in
@@ -145,7 +145,7 @@ bit_of_byte op v j i below inside bit =
     ∙ ap₂ (λ y z. bit_at (here op v (granule_start op.access.addr + y)) z) byte rest
 
 -- no bit of the mask is 1 out of the run
-run_zero : (lane len k : ℕ) → (k < 8 * lane) ⊎ (8 * (lane + len) ≤ k) → bit_at (run lane len) k ≡ 0
+pub run_zero : (lane len k : ℕ) → (k < 8 * lane) ⊎ (8 * (lane + len) ≤ k) → bit_at (run lane len) k ≡ 0
 run_zero lane len k outside = elim (cases_lt 0 (bit_at (run lane len) k)) [
   | inl some ↦
       let one : bit_at (run lane len) k ≡ 1 = omega (arith, some, bit_at-lt (run lane len) k) in
@@ -158,7 +158,7 @@ run_zero lane len k outside = elim (cases_lt 0 (bit_at (run lane len) k)) [
 ]
 
 -- a bit of a byte out of the run
-outside_bit : (lane len j i : ℕ) → i < 8 → (j < lane) ⊎ (lane + len ≤ j) → (8 * j + i < 8 * lane) ⊎ (8 * (lane + len) ≤ 8 * j + i)
+pub outside_bit : (lane len j i : ℕ) → i < 8 → (j < lane) ⊎ (lane + len ≤ j) → (8 * j + i < 8 * lane) ⊎ (8 * (lane + len) ≤ 8 * j + i)
 outside_bit lane len j i bit (inl below) = inl (omega (arith, bit, below))
 outside_bit lane len j i bit (inr above) = inr (omega (arith, bit, above))
 
@@ -185,7 +185,7 @@ agreed op lane len v w room v_below w_below agree j inside =
     ∙ bit_of_byte op v j i v_below within bit)
 
 -- a digit of the operand's number is a byte of the granule
-digit_here : (op : Observed) (v d : ℕ) → IsPlaced op.access.addr op.access.len → d < op.access.len
+pub digit_here : (op : Observed) (v d : ℕ) → IsPlaced op.access.addr op.access.len → d < op.access.len
     → digit (number op.access (here op v)) d
     ≡ here op v (granule_start op.access.addr + (op.access.addr % 8 + place op.access.endian op.access.len d))
 digit_here op v d placing below =

@@ -60,6 +60,12 @@ IsSum (Store Add) = Unit {0}
 IsSum (Load Add) = Unit {0}
 IsSum _ = ⊥
 
+-- it makes the exclusive or
+abbrev pub IsEor : Kind → Type 0
+IsEor (Store Eor) = Unit {0}
+IsEor (Load Eor) = Unit {0}
+IsEor _ = ⊥
+
 -- the greater or the lesser of two numbers is kept
 abbrev pub IsPickOp : Op → Type 0
 IsPickOp SMax = Unit {0}

@@ -4,6 +4,7 @@ ghost use Rattle.std.specs.Prelude.{◌≡◌, ◌<◌, ◌≤◌, IfSome, IsTru
 ghost use Rattle.chi_trace.specs.declared.observed.Observed.{Observed};
 ghost use Rattle.chi_trace.specs.Explains.{at};
 ghost use Rattle.chi_search.specs.Effects.{AreEffects, HasEffect};
+ghost use Rattle.chi_search.specs.Moves.{IsIdle};
 ghost use Rattle.chi_search.specs.Paths.{AreEarliest};
 ghost use Rattle.chi_search.specs.Positions;
 ghost use Rattle.chi_search.specs.Positions.{IsReady, position_of};
@@ -22,7 +23,19 @@ fn is_kept(effect: &Effect, mask: u64, word: u64) -> bool
     effect.changed_mask & mask == 0 && (effect.found ^ word) & (effect.found_mask & mask) == 0
 }
 
-// The place of such an operation that can come next, if there is one.
+/// Whether the operation at a place is known to change nothing, and finds the word as it is. `effects` has what is known of each
+/// operation, or is empty.
+pub(crate) fn keeps_word(ops: &[Observed], effects: &[Effect], place: usize, word: u64) -> bool
+    requires known { AreEffects ops.now effects.now }
+    requires place { place < length ops.now }
+    ensures { IsTrue result → IsIdle (at ops.now place) }
+{
+    // What is true of each access is known here once it is read.
+    let _addr = ops[place].access.addr();
+    place < effects.len() && is_kept(&effects[place], u64::MAX, word)
+}
+
+// The place of an operation that keeps the bits of the mask and can come next, if there is one.
 fn kept_next(
     ops: &[Observed],
     effects: &[Effect],

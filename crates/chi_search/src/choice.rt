@@ -10,10 +10,11 @@ ghost use Rattle.chi_search.specs.Paths.{AllDead, AreEarliest, AreTried, IsDead,
 ghost use Rattle.chi_search.specs.Positions.{IsReady, position_of};
 ghost use Rattle.chi_search.specs.Searchable.{AreSorted, AreWithin};
 
+use crate::absorbing::keeps_word;
 use crate::commuting::commuting_next;
 use crate::effect::Effect;
 use crate::equal::has_equal_before;
-use crate::makers::lacks_maker;
+use crate::makers::{FOLLOWED, lacks_maker};
 use crate::state::{State, is_left, settle};
 use crate::states::{States, has};
 use crate::step::{stays, step};
@@ -68,9 +69,16 @@ pub(crate) fn take(
     }
 }
 
-/// The place of an operation that can come next and is seen to change nothing, if there is one.
-pub(crate) fn idle_next(ops: &[Observed], earliest: &[u64], state: &State) -> Option<usize>
+/// The place of an operation that can come next and is seen to change nothing, if there is one. `effects` has what is known of
+/// each operation, or is empty.
+pub(crate) fn idle_next(
+    ops: &[Observed],
+    effects: &[Effect],
+    earliest: &[u64],
+    state: &State,
+) -> Option<usize>
     requires within { AreWithin ops.now }
+    requires known { AreEffects ops.now effects.now }
     requires earliest { AreEarliest ops.now earliest.now }
     requires first { state.now.first < length ops.now }
     ensures place { IfSome result (λ place. place < length ops.now) }
@@ -80,7 +88,10 @@ pub(crate) fn idle_next(ops: &[Observed], earliest: &[u64], state: &State) -> Op
     let mut place = state.first;
     while place < ops.len() && earliest[place] <= end {
         let op = &ops[place];
-        if op.start <= end && is_left(state, ops.len(), place) && stays(op, state.word) {
+        if op.start <= end
+            && is_left(state, ops.len(), place)
+            && (stays(op, state.word) || keeps_word(ops, effects, place, state.word))
+        {
             return Some(place);
         }
         place += 1;
@@ -145,7 +156,7 @@ pub(crate) fn choose(
     let _word = state.word;
     let end = ops[state.first].end;
     if tried <= state.first {
-        if let Some(place) = idle_next(ops, earliest, state) {
+        if let Some(place) = idle_next(ops, effects, earliest, state) {
             if take(ops, state, place, next)? {
                 if has(dead, next) {
                     return Ok(Choice::Dead);
@@ -166,6 +177,7 @@ pub(crate) fn choose(
             u64::MAX,
             end,
             LOOKED_AT,
+            FOLLOWED,
         ) {
             return Ok(Choice::Dead);
         }

@@ -48,7 +48,7 @@ fn add_moves(
     ensures ends { OnOk result ((more : List Observed) → ComeAfter ops.now (at ops.now state.now.first).end more → (v : ℕ) → SomeEnds (ops.now ++ more) states.new v ↔ (SomeEnds (ops.now ++ more) states.old v ⊎ Ends (ops.now ++ more) (Some v) (position_of state.now))) }
     ensures ready { OnOk result (AreReady ops.now states.old → AreReady ops.now states.new) }
 {
-    if let Some(place) = idle_next(ops, earliest, state) {
+    if let Some(place) = idle_next(ops, &[], earliest, state) {
         if take(ops, state, place, next)? {
             return add_new(alloc, states, next);
         }

@@ -11,6 +11,7 @@ mod equal;
 mod frontier;
 mod layer;
 mod makers;
+mod making;
 mod narrow;
 mod order;
 mod outcomes;
@@ -24,6 +25,7 @@ mod settled;
 mod state;
 mod states;
 mod step;
+mod wanted;
 mod wide;
 mod words;
 

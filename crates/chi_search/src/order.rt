@@ -199,6 +199,7 @@ pub fn order_of<P: Progress>(
         u64::MAX,
         u64::MAX,
         LOOKED_AT,
+        0,
     ) {
         return Ok(Found::Nothing);
     }

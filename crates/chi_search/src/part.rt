@@ -18,7 +18,7 @@ ghost use Rattle.chi_search.specs.Within.{AllDeadWithin, AreTriedWithin, ByDropp
 use crate::absorbing::absorb;
 use crate::choice::Choice;
 use crate::effect::Effect;
-use crate::makers::lacks_maker;
+use crate::makers::{FOLLOWED, lacks_maker};
 use crate::outcomes::{Outcomes, outcomes_of};
 use crate::path::Step;
 use crate::progress::Progress;
@@ -226,7 +226,7 @@ fn choose_within(
     let end = ops[state.first].end;
     if tried <= state.first
         && lacks_maker(
-            ops, effects, earliest, last, state, part.mask, end, LOOKED_AT,
+            ops, effects, earliest, last, state, part.mask, end, LOOKED_AT, FOLLOWED,
         )
     {
         return Ok(Choice::Dead);

@@ -24,4 +24,6 @@ mod part_tests;
 #[cfg(test)]
 mod progress_tests;
 #[cfg(test)]
+mod run_tests;
+#[cfg(test)]
 mod words_tests;

@@ -13,6 +13,8 @@ pub(crate) const WRITE: u8 = 0x1c;
 
 pub(crate) const STORE_ADD: u8 = 0x28;
 
+pub(crate) const STORE_EOR: u8 = 0x2a;
+
 pub(crate) const ADD: u8 = 0x30;
 
 pub(crate) const SWAP: u8 = 0x38;

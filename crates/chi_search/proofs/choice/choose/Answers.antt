@@ -1,5 +1,5 @@
 -- a step is a move, and a state without one is dead
-use Rattle.std.proofs.Common.{◌≡◌, ℕ, ◌<◌, ◌≤◌, IfSome, Option, get_or, length, sym, subst, ◌∙◌, arith}
+use Rattle.std.proofs.Common.{◌≡◌, ℕ, ◌<◌, ◌≤◌, IfSome, Option, get_or, length, refl, sym, subst, ◌∙◌, arith}
 use Rattle.std.proofs.lemmas.List.{get_or_read}
 use Rattle.chi_trace.specs.declared.observed.Observed.{Observed}
 use Rattle.chi_trace.specs.Explains.{at, nothing}
@@ -28,6 +28,9 @@ pub returns-then-branch-clause-moves : goal.returns-then-branch-clause-moves
 unfolding Moves
 returns-then-branch-clause-moves c =
     (c.requires.ready, c.in_ok-take.ensures.comes c.if-branch.true, c.in_ok-take.ensures.takes c.if-branch.true, c.in_ok-take.ensures.leaves c.if-branch.true)
+
+pub lacks_maker-requires-clause-run : goal.lacks_maker-requires-clause-run
+lacks_maker-requires-clause-run c = record { lane = 0; len = 8; some = omega arith; room = omega arith; number = refl }
 
 pub returns-then-lacks_maker-clause-dead : goal.returns-then-lacks_maker-clause-dead
 returns-then-lacks_maker-clause-dead c _ =

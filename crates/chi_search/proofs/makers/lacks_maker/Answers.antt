@@ -3,7 +3,7 @@ use Rattle.std.proofs.Common.{ℕ, ◌<◌, Option, length, sym, subst, arith, s
 use Rattle.chi_search.specs.Effects.{no_effect}
 use Rattle.chi_search.specs.Positions.{position_of}
 use Rattle.chi_search.specs.Within.{IsDeadWithin}
-use Rattle.chi_search.proofs.Reach.{end_out_of_reach, out_of_reach}
+use Rattle.chi_search.proofs.Reach.{both, end_out_of_reach, out_of_reach}
 use Rattle.chi_search.proofs.makers.lacks_maker.Goals as goal
 
 pub returns : goal.returns
@@ -18,3 +18,7 @@ returns-then-is_out_of_reach-2 c _ =
     (slice_index_or c.args.effects.now c.loop-place.place no_effect)
     (c.requires.known c.loop-place.place below) (c.must_find.ensures.left c.if-must_find.true) (c.must_find.ensures.answered c.if-must_find.true)
     (c.is_out_of_reach-then-must_find.ensures c.if-is_out_of_reach-2.true)
+
+pub is_out_of_reach-requires-then-must_find-clause-bits : goal.is_out_of_reach-requires-then-must_find-clause-bits
+is_out_of_reach-requires-then-must_find-clause-bits c =
+    both (slice_index_or c.args.effects.now c.loop-place.place no_effect).found_mask c.args.mask
