@@ -74,6 +74,47 @@ pub fn effect(op: &Observed) -> Effect {
     }
 }
 
+/// Those bits of one word, or of the other one, that are 1 in `bits`.
+pub struct Wanted {
+    pub words: [u64; 2],
+    pub bits: u64,
+}
+
+/// The word of which a sum leaves the operand of another word in the mask, with the bits of `rest` out of the mask.
+fn difference(op: &Observed, word: u64, mask: u64, rest: u64) -> Option<u64> {
+    let turned = op.after(!((word & mask) | (rest & !mask)))?;
+    Some((!turned & mask) | (rest & !mask))
+}
+
+/// What the operation finds in the bits of the mask, that of a run of bytes, where it leaves these bits of the word.
+pub fn wanted(op: &Observed, effect: &Effect, word: u64, bits: u64, mask: u64) -> Wanted {
+    let operand = operand(op);
+    let by_kind = match op.access.kind {
+        _ if effect.found_mask != 0 => None,
+        Kind::Store(Op::Eor) | Kind::Load(Op::Eor) => op.after(word).map(|found| [found, found]),
+        Kind::Store(Op::Add) | Kind::Load(Op::Add) if operand & mask & !bits == 0 => {
+            let differences = [0, u64::MAX].map(|rest| difference(op, word, mask, rest));
+            match differences {
+                [Some(low), Some(high)] => {
+                    Some([low, high].map(|found| (found & operand) | (word & !operand)))
+                }
+                _ => None,
+            }
+        }
+        _ => None,
+    };
+    by_kind.map_or_else(
+        || {
+            let found = (effect.found & effect.found_mask) | (word & !effect.found_mask);
+            Wanted {
+                words: [found, found],
+                bits: (effect.found_mask & mask) | (bits & !effect.changed),
+            }
+        },
+        |words| Wanted { words, bits },
+    )
+}
+
 /// What the operation may leave of a word of which the bits of the mask are known, where that is two words at most.
 pub fn outcomes(op: &Observed, effect: &Effect, mask: u64, word: u64) -> Option<[Option<u64>; 2]> {
     if operand(op) & !mask == 0 {

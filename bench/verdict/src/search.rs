@@ -1,7 +1,7 @@
 //! The search in plain Rust, by the same design and the same rules: the operations of a granule in the order of their ends, depth
 //! first over which of them were settled and the word that they left, with a memo of the states from which no order goes on.
 
-use crate::effect::{Effect, effect, outcomes};
+use crate::effect::{Effect, effect, outcomes, wanted as wanted_of};
 use crate::region::execution::execute_bytes;
 use crate::trace::{Observed, Trace};
 use plain::request::Kind;
@@ -165,6 +165,14 @@ const PLAIN_STATES: u64 = 8;
 /// How many operations are looked at for makers at a state, and before the search.
 const LOOKED_AT: [usize; 2] = [64, 1000];
 
+/// The operations before which a run has to stand, the next one first.
+type Later = [Option<usize>; 4];
+
+const NONE_LATER: Later = [None; 4];
+
+/// How many operations a run is followed back beyond the last one, at a state.
+const FOLLOWED: usize = 3;
+
 /// Whether two operations do the same but for their times.
 fn are_equal(a: &Observed, b: &Observed) -> bool {
     let (x, y) = (&a.access, &b.access);
@@ -209,8 +217,11 @@ impl Search<'_> {
     /// An operation that can come next and is seen to change nothing.
     fn idle_next(&self, state: &State) -> Option<usize> {
         self.places(state, state.first).find(|place| {
-            self.ops[*place].reply.flatten().is_some()
-                && self.after(state, *place) == Some(state.word)
+            let is_told = self.ops[*place].reply.flatten().is_some();
+            is_told && self.after(state, *place) == Some(state.word)
+                || self.effects.get(*place).is_some_and(|it| {
+                    it.changed == 0 && (it.found ^ state.word) & it.found_mask == 0
+                })
         })
     }
 
@@ -218,38 +229,68 @@ impl Search<'_> {
         place >= state.first && !state.is_settled(place)
     }
 
-    /// Whether an operation that is left, and may stand before the other one, may make these bits.
-    fn has_maker(&self, state: &State, other: Option<usize>, word: u64, mask: u64) -> bool {
-        let end = other.map_or(u64::MAX, |other| self.ops[other].end);
-        let makes = |place: usize| {
+    /// Whether a run that stands before those that come later, the next one first, may lead to these bits of the word, as far as
+    /// is seen from so many of its last operations.
+    fn has_maker(
+        &self,
+        state: &State,
+        later: Later,
+        wanted: (u64, u64),
+        mask: u64,
+        depth: usize,
+    ) -> bool {
+        let (word, bits) = wanted;
+        if (word ^ state.word) & bits == 0 {
+            return true;
+        }
+        let bound = later[0].map_or(self.ops.len(), |next| {
+            let end = self.ops[next].end;
+            (next..self.ops.len())
+                .find(|place| self.earliest[*place] > end)
+                .unwrap_or(self.ops.len())
+        });
+        (state.first..bound).rev().any(|place| {
             let it = &self.effects[place];
-            Some(place) != other
-                && self.ops[place].start <= end
-                && it.changed & mask != 0
-                && (it.left ^ word) & it.left_mask & mask == 0
+            let op = &self.ops[place];
+            let may_precede = |after: usize| after != place && op.start <= self.ops[after].end;
+            later.iter().all(|after| after.is_none_or(may_precede))
+                && it.changed & bits != 0
+                && (it.left ^ word) & it.left_mask & bits == 0
                 && self.is_left(state, place)
-        };
-        let near = other.unwrap_or(self.ops.len());
-        (state.first..near).rev().any(makes)
-            || (near..self.ops.len())
-                .take_while(|place| self.earliest[*place] <= end)
-                .any(makes)
+                && (depth == 0 || {
+                    let before = [Some(place), later[0], later[1], later[2]];
+                    let wanted = wanted_of(op, it, word, bits, mask);
+                    let [one, other] = wanted.words;
+                    let is_made =
+                        |word| self.has_maker(state, before, (word, wanted.bits), mask, depth - 1);
+                    is_made(one) || (other != one && is_made(other))
+                })
+        })
     }
 
-    fn is_out_of_reach(&self, state: &State, other: Option<usize>, word: u64, mask: u64) -> bool {
-        let differing = (word ^ state.word) & mask;
+    fn is_out_of_reach(
+        &self,
+        state: &State,
+        later: Later,
+        wanted: (u64, u64),
+        mask: u64,
+        depth: usize,
+    ) -> bool {
+        let (word, bits) = wanted;
+        let differing = (word ^ state.word) & bits;
         differing != 0
-            && (!self.has_maker(state, other, word, mask)
-                || (0..8)
-                    .map(|byte| mask & (0xff << (8 * byte)))
-                    .any(|part| differing & part != 0 && !self.has_maker(state, other, word, part)))
+            && (!self.has_maker(state, later, wanted, mask, depth)
+                || (0..8).map(|byte| bits & (0xff << (8 * byte))).any(|part| {
+                    differing & part != 0
+                        && !self.has_maker(state, later, (word, part), mask, depth)
+                }))
     }
 
     /// Whether, in the bits of the mask, an operation must find, or the end must have, what nothing can leave.
-    fn lacks_maker(&self, state: &State, mask: u64, time: u64, count: usize) -> bool {
+    fn lacks_maker(&self, state: &State, mask: u64, time: u64, count: usize, depth: usize) -> bool {
         if self
             .last
-            .is_some_and(|seen| self.is_out_of_reach(state, None, seen, mask))
+            .is_some_and(|seen| self.is_out_of_reach(state, NONE_LATER, (seen, mask), mask, depth))
         {
             return true;
         }
@@ -261,7 +302,8 @@ impl Search<'_> {
             })
             .any(|place| {
                 let it = &self.effects[place];
-                self.is_out_of_reach(state, Some(place), it.found, it.found_mask & mask)
+                let wanted = (it.found, it.found_mask & mask);
+                self.is_out_of_reach(state, [Some(place), None, None, None], wanted, mask, depth)
             })
     }
 
@@ -316,7 +358,7 @@ impl Search<'_> {
             return if differs { Choice::Dead } else { Choice::Ended };
         }
         let end = self.ops[state.first].end;
-        if tried <= state.first && self.lacks_maker(state, part.mask, end, LOOKED_AT[0]) {
+        if tried <= state.first && self.lacks_maker(state, part.mask, end, LOOKED_AT[0], FOLLOWED) {
             return Choice::Dead;
         }
         for place in self.places(state, tried) {
@@ -396,7 +438,7 @@ impl Search<'_> {
                 return self.only(state.settled(place, state.word), place);
             }
             let end = self.ops[state.first].end;
-            if with_rules && self.lacks_maker(state, u64::MAX, end, LOOKED_AT[0]) {
+            if with_rules && self.lacks_maker(state, u64::MAX, end, LOOKED_AT[0], FOLLOWED) {
                 return Choice::Dead;
             }
             if with_rules && let Some(place) = self.commuting_next(state) {
@@ -500,7 +542,7 @@ fn order_of(
         word,
         ..State::default()
     };
-    if it.lacks_maker(&start, u64::MAX, u64::MAX, LOOKED_AT[1]) {
+    if it.lacks_maker(&start, u64::MAX, u64::MAX, LOOKED_AT[1], 0) {
         return Some(None);
     }
     let effects = std::mem::take(&mut it.effects);
