@@ -18,7 +18,8 @@ help:
 	@echo "make soak [SECONDS=N]      four workers race at the lock-free store for so many seconds, 10 if not said, while chicheck watches"
 	@echo "make lib                   out/libchi_c.a and out/libchi.so, for C, C++, SystemVerilog and Python"
 	@echo "make dv                    the benches in SystemVerilog, in Verilator: the calls, and a monitor whose events chicheck watches"
-	@echo "make install PREFIX=DIR    put the programs chihome and chicheck into DIR/bin, and the libraries, header, package and module below DIR;"
+	@echo "make install PREFIX=DIR    put the programs chihome and chicheck into DIR/bin, and the libraries, header, package, module, man pages"
+	@echo "                           and completions below DIR;"
 	@echo "                           with DESTDIR=ROOT too, all of it below ROOT"
 	@echo "make bench                 the speed of chihome and of the lock-free store, beside plain Rust"
 	@echo "make bench-c               the speed of the calls for C, beside plain C and by DPI"
@@ -76,6 +77,10 @@ install: build checker lib
 	install -D -m 644 include/chi.h "$(DESTDIR)$(PREFIX)/include/chi.h"
 	install -d "$(DESTDIR)$(PREFIX)/share/chi"
 	install -m 644 dv/chi_pkg.sv dv/chi_monitor.sv dv/chi_dv.c python/chi.py "$(DESTDIR)$(PREFIX)/share/chi"
+	install -d "$(DESTDIR)$(PREFIX)/share/man/man1" "$(DESTDIR)$(PREFIX)/share/bash-completion/completions" "$(DESTDIR)$(PREFIX)/lib/pkgconfig"
+	install -m 644 man/*.1 "$(DESTDIR)$(PREFIX)/share/man/man1"
+	install -m 644 completions/* "$(DESTDIR)$(PREFIX)/share/bash-completion/completions"
+	sed "s,@PREFIX@,$(PREFIX),; s,@VERSION@,$$(cat VERSION)," c/chi.pc.in > "$(DESTDIR)$(PREFIX)/lib/pkgconfig/chi.pc"
 
 bench: build
 	bench/run.sh $(PROGRAM) run --store book
