@@ -3,10 +3,12 @@ PREFIX ?= /usr/local
 PROGRAM := crates/chi_home/out/chi_home
 CHECKER := crates/chi_check/out/chi_check
 SOAK := crates/chi_soak/out/chi_soak
+VERSION := $(shell cat VERSION)
+DIST := out/dist/chi-$(VERSION)
 SCRIPT ?= examples/fetch_add.json
 SECONDS ?= 10
 
-.PHONY: help try build checker run soak test page-test edits lib dv install bench bench-c bench-explain corpus
+.PHONY: help try build checker run soak test page-test edits lib dv install dist bench bench-c bench-explain corpus
 
 help:
 	@echo "make try [SCRIPT=FILE]     build chihome with no proof, and show a script and the transcript of chihome run"
@@ -21,6 +23,7 @@ help:
 	@echo "make install PREFIX=DIR    put the programs chihome and chicheck into DIR/bin, and the libraries, header, package, module, man pages"
 	@echo "                           and completions below DIR;"
 	@echo "                           with DESTDIR=ROOT too, all of it below ROOT"
+	@echo "make dist                  out/dist/chi-$(VERSION).tar.gz: all that, with the pages and the examples, for machines without the kit"
 	@echo "make bench                 the speed of chihome and of the lock-free store, beside plain Rust"
 	@echo "make bench-c               the speed of the calls for C, beside plain C and by DPI"
 	@echo "make bench-explain         the checker of traces beside every order of 100,000 small ones, and its speed beside plain Rust"
@@ -80,7 +83,16 @@ install: build checker lib
 	install -d "$(DESTDIR)$(PREFIX)/share/man/man1" "$(DESTDIR)$(PREFIX)/share/bash-completion/completions" "$(DESTDIR)$(PREFIX)/lib/pkgconfig"
 	install -m 644 man/*.1 "$(DESTDIR)$(PREFIX)/share/man/man1"
 	install -m 644 completions/* "$(DESTDIR)$(PREFIX)/share/bash-completion/completions"
-	sed "s,@PREFIX@,$(PREFIX),; s,@VERSION@,$$(cat VERSION)," c/chi.pc.in > "$(DESTDIR)$(PREFIX)/lib/pkgconfig/chi.pc"
+	sed "s,@VERSION@,$(VERSION)," c/chi.pc.in > "$(DESTDIR)$(PREFIX)/lib/pkgconfig/chi.pc"
+
+# The folder needs nothing of the kit: .ci/c tries it with no rt on the path.
+dist: build checker lib
+	rm -rf "$(DIST)"
+	$(MAKE) -s -o build -o checker -o lib install DESTDIR= PREFIX="$(CURDIR)/$(DIST)"
+	install -d "$(DIST)/c"
+	cp -r README.md CHANGELOG.md SECURITY.md docs examples "$(DIST)"
+	cp c/fetch_add.c "$(DIST)/c"
+	tar -C out/dist -czf "$(DIST).tar.gz" "$(notdir $(DIST))"
 
 bench: build
 	bench/run.sh $(PROGRAM) run --store book

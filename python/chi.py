@@ -15,9 +15,11 @@ _ROOM = 20
 
 
 def _load():
-    """libchi.so as CHI_LIBRARY names it, as it was built beside this module, or as the system finds it."""
-    built = pathlib.Path(__file__).resolve().parent.parent / "out" / "libchi.so"
-    return ctypes.CDLL(os.environ.get("CHI_LIBRARY") or (str(built) if built.exists() else "libchi.so"))
+    """libchi.so as CHI_LIBRARY names it, as it was built or installed beside this module, or as the system finds it."""
+    folders = pathlib.Path(__file__).resolve().parents
+    beside = [folders[1] / "out" / "libchi.so", folders[2] / "lib" / "libchi.so"]
+    found = [str(it) for it in beside if it.exists()]
+    return ctypes.CDLL(os.environ.get("CHI_LIBRARY") or (found or ["libchi.so"])[0])
 
 
 _library = _load()
