@@ -21,7 +21,10 @@ fn evens(alloc: Global, count: u64, store: u8, read: u64) -> Result<Vec<Observed
 fn found(alloc: Global, ops: &[Observed]) -> Result<(Option<usize>, usize), Fail> {
     let mut budget = 1000;
     let order = order(alloc, ops, None, &mut budget)?;
-    Ok((order.first().copied().filter(|place| *place > 900), order.len()))
+    Ok((
+        order.first().copied().filter(|place| *place > 900),
+        order.len(),
+    ))
 }
 
 #[test]
