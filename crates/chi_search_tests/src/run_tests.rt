@@ -6,10 +6,10 @@ use chi_trace::Observed;
 use std::alloc::Global;
 use std::test::Fail;
 
-// So many writes of even numbers and an AtomicStore of 2, all open at once, and a read of this number.
-fn evens(alloc: Global, count: u64, store: u8, read: u64) -> Result<Vec<Observed>, Fail> {
+// Writes of 22 even numbers and an AtomicStore of 2, all open at once, and a read of this number.
+fn evens(alloc: Global, store: u8, read: u64) -> Result<Vec<Observed>, Fail> {
     let mut ops = Vec::new(alloc);
-    for number in 1..count + 1 {
+    for number in 1..23 {
         ops.push(done((0, 20), WRITE, (number << 56) | (2 * number))?)?;
     }
     ops.push(done((0, 20), store, 2)?)?;
@@ -29,8 +29,8 @@ fn found(alloc: Global, ops: &[Observed]) -> Result<(Option<usize>, usize), Fail
 
 #[test]
 fn odd_number_of_even_ones(rt: HostRuntime) -> Result<(), Fail> {
-    let sum = evens(rt.alloc(), 22, STORE_ADD, 77)?;
-    let turned = evens(rt.alloc(), 22, STORE_EOR, 77)?;
+    let sum = evens(rt.alloc(), STORE_ADD, 77)?;
+    let turned = evens(rt.alloc(), STORE_EOR, 77)?;
     let nothing = (Some(999), 1);
     let both = (found(rt.alloc(), &sum)?, found(rt.alloc(), &turned)?);
     assert_same(&rt, both, (nothing, nothing));
@@ -39,8 +39,8 @@ fn odd_number_of_even_ones(rt: HostRuntime) -> Result<(), Fail> {
 
 #[test]
 fn number_that_one_makes(rt: HostRuntime) -> Result<(), Fail> {
-    let sum = evens(rt.alloc(), 22, STORE_ADD, (3 << 56) | 8)?;
-    let turned = evens(rt.alloc(), 22, STORE_EOR, (3 << 56) | 4)?;
+    let sum = evens(rt.alloc(), STORE_ADD, (3 << 56) | 8)?;
+    let turned = evens(rt.alloc(), STORE_EOR, (3 << 56) | 4)?;
     let both = (found(rt.alloc(), &sum)?, found(rt.alloc(), &turned)?);
     assert_same(&rt, both, ((None, 24), (None, 24)));
     Ok(())
