@@ -25,7 +25,7 @@ build() { # folder, top module, files and flags
     exit 1
   }
 }
-build out/dv tb -CFLAGS "-I$PWD/include" dv/chi_pkg.sv dv/home_node.sv dv/tb.sv "$PWD/dv/chi_dv.c" "$PWD/out/libchi_c.a"
+build out/dv tb -CFLAGS "-I$PWD/include" dv/chi_pkg.sv dv/chi_stimulus.sv dv/home_node.sv dv/tb.sv "$PWD/dv/chi_dv.c" "$PWD/out/libchi_c.a"
 $limited out/dv/Vtb +rows=c/rows.txt
 for bug in 1 2 3; do
   if found=$($limited out/dv/Vtb "+bug=$bug" 2>&1); then
@@ -57,7 +57,7 @@ mistakes=("" "a lost update" "a stale read" "byte enables ignored" "a compare th
   "no sign in SMAX" "a retried request that took effect" "a response for another TxnID")
 for kind in 128 256 512 point; do
   if [ $kind = point ]; then flags="-GSeesPoint=1'b1"; else flags="-GDataWidth=$kind"; fi
-  build out/dv_channels_$kind chi_channels_tb $flags dv/chi_home_node.sv dv/chi_monitor.sv dv/chi_channels_tb.sv
+  build out/dv_channels_$kind chi_channels_tb $flags dv/chi_stimulus.sv dv/chi_home_node.sv dv/chi_monitor.sv dv/chi_channels_tb.sv
   for seed in $(seq "$seeds"); do
     for more in "" +errors; do
       watch $kind "+seed=$seed" $more
