@@ -27,7 +27,7 @@ help:
 	@echo "make bench                 the speed of chihome and of the lock-free store, beside plain Rust"
 	@echo "make bench-c               the speed of the calls for C, beside plain C and by DPI"
 	@echo "make bench-explain         the checker of traces beside every order of 100,000 small ones, and its speed beside plain Rust"
-	@echo "make corpus [SEED=N]       chihome on 10,000 scripts by chance, half of them broken, beside plain Rust"
+	@echo "make corpus [SEED=N]       chihome on 10,000 scripts by chance, half of them broken, and on 100 of chihome generate, beside plain Rust"
 
 # Where a command fails, what it said is shown; it leaves no file behind.
 quiet = log=$$(mktemp) && trap "rm -f $$log" EXIT && trap "exit 130" INT TERM && { $(1); } > $$log 2>&1 || { cat $$log; exit 1; }
@@ -116,3 +116,4 @@ bench-explain: checker
 
 corpus: build
 	bench/build.sh && cd bench && out/release/corpus ../$(PROGRAM) 10000 $(SEED)
+	bench/stimulus.sh $(PROGRAM)

@@ -1,5 +1,5 @@
 -- what the program reads of what `clap` found
-use Rattle.std.proofs.Common.{ap, ap₂, sym, ◌≡◌, ◌∙◌, ℕ, true, false, List, refl, Option, Some, None, Result, Ok, Err}
+use Rattle.std.proofs.Common.{ap, ap₂, subst, sym, ◌≡◌, ◌∙◌, ℕ, true, false, List, refl, Option, Some, None, Result, Ok, Err}
 use Rattle.std.specs.Option.{option_map, option_map_or, unwrap_or}
 use Rattle.std.specs.Str.{bytes_eq}
 use Rattle.std.specs.Str.Parse.{ExplainsUnsignedError, HasUnsignedDigitsIfOk, ParsesUnsigned}
@@ -15,7 +15,8 @@ use Rattle.clap.specs.declared.parser.matches.SubCommand.{SubCommand}
 use Rattle.clap.specs.declared.parser.matches.ArgMatches.{ArgMatches}
 use Rattle.clap.specs.declared.parser.matches.ArgMatches.TheViews.{out-ArgMatches, out-SubCommand}
 use Rattle.clap.proofs.WalkLemmas.{both, byte_read, first_value-rows, one_text-rows}
-use Rattle.chi_home.specs.Chosen.{has_word}
+use Rattle.chi_home.specs.Found.{has_word}
+use Rattle.chi_home.specs.Generating.{IsNumberOr}
 
 -- the value of an option is looked at, or there is none
 pub word_found : (found : Found) (option word text : Text) → Some text ≡ first_value found option → bytes_eq text word ≡ has_word (rows_of found) option word
@@ -41,6 +42,25 @@ number_found found option number none value =
 
     go : (o : Option Text) → one_text found option ≡ o → unwrap_or number 0 ≡ option_map_or byte_or_zero o 0
     go None is = ap (λ n. unwrap_or n 0) (none is)
+    go (Some text) is = read text number (value text is)
+
+-- what `u64::from_str` gives
+abbrev ReadsNumber : Text → Result ℕ ParseIntError → Type 0
+ReadsNumber text r = ParsesUnsigned 64 10 text r × ExplainsUnsignedError 10 text r × HasUnsignedDigitsIfOk text r
+
+-- the whole number of an option, or another where it has none
+pub number_or_other : (other : ℕ) (found : Found) (option : Text) (number : Option ℕ) → (one_text found option ≡ None → number ≡ None)
+    → ((text : Text) → one_text found option ≡ Some text → ReadsOne ReadsNumber text number)
+    → IsNumberOr other (one_of option (rows_of found)) (unwrap_or number other)
+number_or_other other found option number none value =
+    subst (λ text. IsNumberOr other text (unwrap_or number other)) (one_text-rows found option) (go (one_text found option) refl)
+  where
+    read : (text : Text) (n : Option ℕ) → ReadsOne ReadsNumber text n → IsNumberOr other (Some text) (unwrap_or n other)
+    read text (Some n) h = (Ok n, h.0, refl)
+    read text None h = (Err tt, h.1.0, refl)
+
+    go : (o : Option Text) → one_text found option ≡ o → IsNumberOr other o (unwrap_or number other)
+    go None is = ap (λ n. unwrap_or n other) (none is)
     go (Some text) is = read text number (value text is)
 
 -- a subcommand of this name, with these options

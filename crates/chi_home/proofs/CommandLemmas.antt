@@ -10,8 +10,12 @@ use Rattle.clap.specs.declared.error.kind.ErrorKind.TheVariants as error_kind
 use Rattle.clap.specs.declared.builder.value_parser.ValueParser.TheVariants as value_parser
 use Rattle.clap.proofs.OnLiterals.{clap_on_literals}
 use Rattle.clap.proofs.WalkLemmas.{walk_stopped}
-use Rattle.chi_home.specs.Chosen.{BeginsWith, IsNamedFirst, task_named}
-use Rattle.chi_home.specs.CommandLine.{IsProgram, IsRaceApp, IsTaskApp, IsArgumentsFault, bare_app, option_rule}
+use Rattle.chi_home.specs.Chosen.{BeginsWith, HasOptions, IsNamed, IsNamedFirst, IsScript, IsWork, is_generate, task_named}
+use Rattle.chi_home.specs.declared.command.Asked.{Asked}
+use Rattle.chi_home.specs.declared.command.Asked.TheVariants.{Work, Script}
+use Rattle.chi_home.specs.declared.command.Task.{Task}
+use Rattle.chi_home.specs.declared.command.Task.TheVariants.{Run, Race}
+use Rattle.chi_home.specs.CommandLine.{IsProgram, IsRaceApp, IsTaskApp, IsArgumentsFault, bare_app, generate_app, option_rule}
 
 -- the third of a row of tests fails
 pub third_fails : (a b c d : Bool) → (a && (b && (not c && d))) ≡ true → c ≡ false
@@ -34,9 +38,9 @@ policies_of words = option_rule (codes "policy") (value_parser.Names words) (cod
 abbrev workers_of : Bor (List (Bor Text)) → Rule
 workers_of words = option_rule (codes "workers") (value_parser.Names words) (codes "2")
 
--- the tasks of both names
+-- the three tasks
 both : App → App → App
-both run race = with_subcommand (with_subcommand bare_app run.top) race.top
+both run race = with_subcommand (with_subcommand (with_subcommand bare_app run.top) race.top) generate_app.top
 
 -- the program, whose options take these words
 program_of : Bor (List (Bor Text)) → Bor (List (Bor Text)) → Bor (List (Bor Text)) → Bor (List (Bor Text)) → Bor (List (Bor Text)) → App
@@ -64,6 +68,12 @@ run_whatever v w x y z rest =
     let app = built (program_of v w x y z) in
     ap (λ (end : Walk). option_map (λ p. p.0) (entered app end.stopped)) (sym (walk_stopped app.top.rules (names_of app) (walk_from nothing_held) (codes "run") [] rest))
 
+generate_whatever : (v w x y z : Bor (List (Bor Text))) (rest : List Text) → name_found (program_of v w x y z) (codes "generate" ∷ rest) ≡ Some (codes "generate")
+unfolding clap_on_literals name_found program_of both task_of
+generate_whatever v w x y z rest =
+    let app = built (program_of v w x y z) in
+    ap (λ (end : Walk). option_map (λ p. p.0) (entered app end.stopped)) (sym (walk_stopped app.top.rules (names_of app) (walk_from nothing_held) (codes "generate") [] rest))
+
 task_is : (name : Text) (app : App) → (t : IsTaskApp name app) → app ≡ task_of name (stores_of t.2.0) (policies_of t.3.0)
 unfolding task_of
 task_is name app t = t.4 ∙ ap₂ (task_of name) t.2.2 t.3.2
@@ -80,18 +90,30 @@ program_is app p = p.4 ∙ ap₂ both (task_is (codes "run") p.0 p.2) (race_is p
 pub program_is_simple : (app : App) → IsProgram app → is_simple_and_free app ≡ true
 program_is_simple app p = ap is_simple_and_free (program_is app p) ∙ simple_whatever p.2.2.0 p.2.3.0 p.3.2.2.0 p.3.2.3.0 p.3.3.0
 
+-- each name is that of its own task alone
+work_named : (name word : Text) (wanted : Task) (found : List Row) (asked : Asked) → is_generate word ≡ false → task_named word ≡ wanted
+    → IsNamed name asked → HasOptions found name asked → name ≡ word → IsWork wanted asked
+work_named name word wanted found (Work task options) other task_is named has is = has.0 ∙ (ap task_named is ∙ task_is)
+work_named name word wanted found (Script options) other task_is named has is = cc (sym named ∙ (ap is_generate is ∙ other))
+
+script_named : (name word : Text) (asked : Asked) → is_generate word ≡ true → IsNamed name asked → name ≡ word → IsScript asked
+script_named name word (Work task options) generate named is = cc (sym named ∙ (ap is_generate is ∙ generate))
+script_named name word (Script options) generate named is = tt
+
 -- a subcommand that is the first argument is the one that is found
-module _ (app : App) (arguments : List Text) (name : Text) (found : List Row) (p : IsProgram app) (is : subcommand_of app arguments ≡ Some (name, found)) where
+module _ (app : App) (arguments : List Text) (name : Text) (found : List Row) (asked : Asked) (p : IsProgram app)
+    (is : subcommand_of app arguments ≡ Some (name, found)) (named : IsNamed name asked) (has : HasOptions found name asked) where
   begins_with : (word : Text) → (begins : BeginsWith arguments word)
       → name_found (program_of p.2.2.0 p.2.3.0 p.3.2.2.0 p.3.2.3.0 p.3.3.0) (word ∷ begins.0) ≡ Some word → name ≡ word
   unfolding name_found
   begins_with word begins first =
       ap (λ n. unwrap_or n name) (ap (option_map (λ p. p.0)) (sym is) ∙ (ap₂ name_found (program_is app p) begins.1 ∙ first))
 
-  pub named_first : IsNamedFirst arguments (task_named name)
+  pub named_first : IsNamedFirst arguments asked
   named_first = (
-    λ race. ap task_named (begins_with (codes "race") race (raced_whatever p.2.2.0 p.2.3.0 p.3.2.2.0 p.3.2.3.0 p.3.3.0 race.0)),
-    λ run. ap task_named (begins_with (codes "run") run (run_whatever p.2.2.0 p.2.3.0 p.3.2.2.0 p.3.2.3.0 p.3.3.0 run.0)),
+    λ race. work_named name (codes "race") Race found asked refl refl named has (begins_with (codes "race") race (raced_whatever p.2.2.0 p.2.3.0 p.3.2.2.0 p.3.2.3.0 p.3.3.0 race.0)),
+    λ run. work_named name (codes "run") Run found asked refl refl named has (begins_with (codes "run") run (run_whatever p.2.2.0 p.2.3.0 p.3.2.2.0 p.3.2.3.0 p.3.3.0 run.0)),
+    λ generate. script_named name (codes "generate") asked refl named (begins_with (codes "generate") generate (generate_whatever p.2.2.0 p.2.3.0 p.3.2.2.0 p.3.2.3.0 p.3.3.0 generate.0)),
   )
 
 -- what `clap` refuses

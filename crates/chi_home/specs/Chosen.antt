@@ -1,8 +1,8 @@
 -- which task and which options the arguments name
-use Rattle.std.specs.Prelude.{◌≡◌, ℕ, ◌∷◌, ◌&&◌, Bool, false, nat_le, if◌then◌else◌, List, Some, codes}
+use Rattle.std.specs.Prelude.{◌≡◌, ℕ, ◌∷◌, ◌&&◌, Bool, true, false, nat_le, if◌then◌else◌, List, Some, codes}
 use Rattle.std.specs.Option.{option_map_or}
 use Rattle.std.specs.Str.{bytes_eq}
-use Rattle.clap.specs.Walk.{Row, Text, byte_or_zero, first_of, one_of}
+use Rattle.clap.specs.Walk.{Row, Text, byte_or_zero, one_of}
 use Rattle.clap.specs.Simple.{App, subcommand_of}
 use Rattle.chi_requester.specs.declared.policy.Policy.{Policy}
 use Rattle.chi_requester.specs.declared.policy.Policy.TheVariants.{Resend, Return}
@@ -11,17 +11,18 @@ use Rattle.chi_engine.specs.declared.options.StoreKind.{StoreKind}
 use Rattle.chi_engine.specs.declared.options.StoreKind.TheVariants.{Lock, Book}
 use Rattle.chi_engine.specs.declared.options.Workers.{Workers}
 use Rattle.chi_engine.specs.declared.options.Workers.TheVariants.{Two, Four}
+use Rattle.chi_bookstore.specs.BookFaults.{IsAttemptCount}
+use Rattle.chi_home.specs.Generating.{HasGenerateOptions}
+use Rattle.chi_home.specs.declared.command.Asked.{Asked}
+use Rattle.chi_home.specs.declared.command.Asked.TheVariants.{Work, Script}
 use Rattle.chi_home.specs.declared.command.Task.{Task}
 use Rattle.chi_home.specs.declared.command.Task.TheVariants.{Run, Race}
 use Rattle.chi_home.specs.CommandLine.{IsProgram}
+use Rattle.chi_home.specs.Found.{has_word}
 
 -- the task of a subcommand's name
 abbrev pub task_named : Text → Task
 task_named name = if bytes_eq name (codes "race") then Race else Run
-
--- what was found has this word as the value of an option
-abbrev pub has_word : List Row → Text → Text → Bool
-has_word found option word = option_map_or (λ text. bytes_eq text word) (first_of option found) false
 
 -- `--store lock`, or any other word
 abbrev pub store_of : List Row → StoreKind
@@ -57,15 +58,44 @@ options_of_task task found =
 abbrev pub Finds : List Text → Text → List Row → Type 0
 Finds arguments name found = (app : App) × IsProgram app × (subcommand_of app arguments ≡ Some (name, found))
 
--- the arguments name this task with these options: those of what `clap` finds in them
-abbrev pub Chooses : List Text → Task → Options → Type 0
-Chooses arguments task options =
-    (name : Text) × (found : List Row) × Finds arguments name found × (task ≡ task_named name) × (options ≡ options_of_task task found)
+-- the name is that of the task that makes a script
+abbrev pub is_generate : Text → Bool
+is_generate name = bytes_eq name (codes "generate")
+
+-- the name `generate` asks for a script, and any other for work
+abbrev pub IsNamed : Text → Asked → Type 0
+IsNamed name (Work task options) = is_generate name ≡ false
+IsNamed name (Script options) = is_generate name ≡ true
+
+-- what is asked for has the options that were found
+abbrev pub HasOptions : List Row → Text → Asked → Type 0
+HasOptions found name (Work task options) = (task ≡ task_named name) × (options ≡ options_of_task task found)
+HasOptions found name (Script options) = HasGenerateOptions found options
+
+-- the arguments ask for this, with these options: those of what `clap` finds in them
+abbrev pub IsChosen : List Text → Asked → Type 0
+IsChosen arguments asked = (name : Text) × (found : List Row) × Finds arguments name found × IsNamed name asked × HasOptions found name asked
+
+-- a request of the work is tried 1 to 16 times
+abbrev pub HasAttempts : Asked → Type 0
+HasAttempts (Work task options) = IsAttemptCount options.attempts
+HasAttempts (Script options) = Unit {0}
 
 abbrev pub BeginsWith : List Text → Text → Type 0
 BeginsWith arguments word = (rest : List Text) × (arguments ≡ word ∷ rest)
 
+-- it is this task that is asked for
+abbrev pub IsWork : Task → Asked → Type 0
+IsWork wanted (Work task options) = task ≡ wanted
+IsWork wanted (Script options) = ⊥
+
+-- it is a script that is asked for
+abbrev pub IsScript : Asked → Type 0
+IsScript (Work task options) = ⊥
+IsScript (Script options) = Unit {0}
+
 -- a first argument that is a task's name names the task
-abbrev pub IsNamedFirst : List Text → Task → Type 0
-IsNamedFirst arguments task =
-    (BeginsWith arguments (codes "race") → task ≡ Race) × (BeginsWith arguments (codes "run") → task ≡ Run)
+abbrev pub IsNamedFirst : List Text → Asked → Type 0
+IsNamedFirst arguments asked =
+    (BeginsWith arguments (codes "race") → IsWork Race asked) × (BeginsWith arguments (codes "run") → IsWork Run asked)
+    × (BeginsWith arguments (codes "generate") → IsScript asked)

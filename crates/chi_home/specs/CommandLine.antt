@@ -1,5 +1,5 @@
 -- the command line of the program, as `clap` reads it
-use Rattle.std.specs.Prelude.{◌≡◌, pos, true, List, [], ◌∷◌, ◌⊎◌, Some, codes}
+use Rattle.std.specs.Prelude.{◌≡◌, ◌-◌, ◌^◌, pos, true, List, [], ◌∷◌, ◌⊎◌, Some, codes}
 use Rattle.std.specs.Borrow.{Bor}
 use Rattle.clap.specs.Walk.{Rule, Text, texts}
 use Rattle.clap.specs.Simple.{App, new_app, new_rule, on_top, with_rule, with_subcommand}
@@ -7,6 +7,7 @@ use Rattle.clap.specs.Kinds.{IsAmong}
 use Rattle.clap.specs.Faults.{fault_of}
 use Rattle.clap.specs.declared.error.kind.ErrorKind.{ErrorKind}
 use Rattle.clap.specs.declared.error.kind.ErrorKind.TheVariants as error_kind
+use Rattle.clap.specs.declared.builder.action.ArgAction.TheVariants.{SetTrue}
 use Rattle.clap.specs.declared.builder.value_parser.ValueParser.{ValueParser}
 use Rattle.clap.specs.declared.builder.value_parser.ValueParser.TheVariants as value_parser
 
@@ -35,15 +36,35 @@ IsRaceApp app =
     (task : App) × (workers : Rule) × IsTaskApp (codes "race") task
     × IsChoice (codes "workers") (codes "2" ∷ codes "4" ∷ []) (codes "2") workers × (app ≡ with_rule task workers)
 
+-- an option that takes a whole number below 2^64, and its default
+abbrev pub number_rule : Text → Text → Rule
+number_rule name default = option_rule name (value_parser.Unsigned 0 (2 ^ 64 - 1)) default
+
+-- an image may be asked for
+abbrev pub image_rule : Rule
+image_rule = record (new_rule (codes "image")) { long = Some (codes "image"); action = Some SetTrue }
+
+-- the weights are any text
+abbrev pub mix_rule : Rule
+mix_rule = record (new_rule (codes "mix")) { long = Some (codes "mix"); value_names = 1; defaults = codes "read=1,write=1,store=2,load=3,swap=1,compare=1" ∷ [] }
+
+-- the task `generate`: its numbers, its image and its mix
+abbrev pub generate_app : App
+generate_app =
+    with_rule (with_rule (with_rule (with_rule (with_rule (with_rule (with_rule (with_rule (with_rule (new_app (codes "generate"))
+    (number_rule (codes "requests") (codes "1000"))) (number_rule (codes "seed") (codes "1"))) (number_rule (codes "base") (codes "4096")))
+    (number_rule (codes "granules") (codes "8"))) image_rule) (number_rule (codes "requesters") (codes "4")))
+    (number_rule (codes "refused") (codes "0"))) (number_rule (codes "hot") (codes "0"))) mix_rule
+
 -- the program: it wants a task, has a version, and its name is not among its arguments
 abbrev pub bare_app : App
 bare_app = on_top (λ s. record s { no_binary_name = true; has_version = true; subcommand_required = true }) (new_app (codes "chihome"))
 
--- with its tasks `run` and `race`
+-- with its tasks `run`, `race` and `generate`
 abbrev pub IsProgram : App → Type 0
 IsProgram app =
     (run : App) × (race : App) × IsTaskApp (codes "run") run × IsRaceApp race
-    × (app ≡ with_subcommand (with_subcommand bare_app run.top) race.top)
+    × (app ≡ with_subcommand (with_subcommand (with_subcommand bare_app run.top) race.top) generate_app.top)
 
 -- why the arguments name no task: there is no memory, or `clap` finds this fault in them or is asked for help
 abbrev pub IsArgumentsFault : List Text → ErrorKind → Type 0

@@ -4,12 +4,17 @@ use Rattle.clap.specs.declared.error.kind.ErrorKind.{ErrorKind}
 use Rattle.clap.specs.Walk.{Text}
 use Rattle.chi_bookstore.specs.BookFaults.{IsAttemptCount}
 use Rattle.chi_history.specs.declared.opening.OpenFault.TheVariants as open_fault
+use Rattle.chi_home.specs.Generating.{WritesScript, generate_status}
+use Rattle.chi_home.specs.declared.generation.GenerateFault.{GenerateFault}
+use Rattle.chi_home.specs.declared.generation.GenerateOptions.{GenerateOptions}
+use Rattle.chi_home.specs.declared.command.Asked.{Asked}
+use Rattle.chi_home.specs.declared.command.Asked.TheVariants.{Work, Script}
 use Rattle.chi_home.specs.declared.command.Task.{Task}
 use Rattle.chi_home.specs.declared.command.Task.TheVariants.{Run, Race}
 use Rattle.chi_engine.specs.declared.fault.EngineFault.{EngineFault}
 use Rattle.chi_engine.specs.declared.fault.EngineFault.TheVariants.{Open}
 use Rattle.chi_engine.specs.declared.options.Options.{Options}
-use Rattle.chi_home.specs.Chosen.{Chooses}
+use Rattle.chi_home.specs.Chosen.{IsChosen}
 use Rattle.chi_home.specs.CommandLine.{IsTaken, IsArgumentsFault}
 use Rattle.chi_engine.specs.Engine.{KeepsUnexecuted, ReportsOpening}
 use Rattle.chi_engine.specs.RaceTranscript.{RaceOutcome}
@@ -43,7 +48,7 @@ IsUnrefused result = Unit {0}
 -- outcome of this status, which is never that the store was refused for its requesters or for its tries.
 abbrev pub DoesTask : List Text → Option (List ℕ) → Option (List ℕ) → Option (List ℕ) → ℕ → Type 0
 DoesTask arguments input old new status =
-    IsTaken arguments × (task : Task) × (options : Options) × Chooses arguments task options
+    IsTaken arguments × (task : Task) × (options : Options) × IsChosen arguments (Work task options)
     × (result : Result (Unit {0}) EngineFault)
     × IsAttemptCount options.attempts × IsUnrefused result × KeepsUnexecuted old new result
     × IfSome input (λ bytes. TaskOutcome task options bytes old new result) × (status ≡ end_status result)
@@ -54,6 +59,27 @@ abbrev pub ReportsArguments : List Text → Option (List ℕ) → Option (List �
 ReportsArguments arguments old new status =
     (kind : ErrorKind) × IsArgumentsFault arguments kind × IsStatusOfArguments kind status × KeepsButForHelp kind old new
 
+-- 0 where a script was made, else the status of the fault
+abbrev pub made_status : Result (Unit {0}) GenerateFault → ℕ
+made_status (Ok done) = 0
+made_status (Err fault) = generate_status fault
+
+-- What came of making a script: a script that the options ask for was written, or nothing but a part of one.
+abbrev pub Makes : GenerateOptions → Option (List ℕ) → Option (List ℕ) → ℕ → Type 0
+Makes options old new status =
+    (result : Result (Unit {0}) GenerateFault) × WritesScript options old new result × (status ≡ made_status result)
+
+-- what came of what was asked for
+abbrev pub EndsAsked : Asked → Option (List ℕ) → Option (List ℕ) → Option (List ℕ) → ℕ → Type 0
+EndsAsked (Work task options) input old new status = Ends task options input old new status
+EndsAsked (Script options) input old new status = Makes options old new status
+
+-- The arguments ask for a script with these options: `clap` finds no fault in them.
+abbrev pub MakesScript : List Text → Option (List ℕ) → Option (List ℕ) → ℕ → Type 0
+MakesScript arguments old new status =
+    IsTaken arguments × (options : GenerateOptions) × IsChosen arguments (Script options) × Makes options old new status
+
 -- what the program does with its arguments
 abbrev pub ProgramOutcome : List Text → Option (List ℕ) → Option (List ℕ) → Option (List ℕ) → ℕ → Type 0
-ProgramOutcome arguments input old new status = ReportsArguments arguments old new status ⊎ DoesTask arguments input old new status
+ProgramOutcome arguments input old new status =
+    ReportsArguments arguments old new status ⊎ (DoesTask arguments input old new status ⊎ MakesScript arguments old new status)

@@ -5,14 +5,16 @@ ghost use Rattle.clap.specs.Values.{kind_of};
 ghost use Rattle.chi_engine.specs.Engine.{KeepsUnexecuted, ReportsOpening};
 ghost use Rattle.chi_engine.specs.FaultStatus.{status_of};
 ghost use Rattle.chi_home.specs.ProgramStatus.{IsStatus, IsStatusOfArguments, KeepsButForHelp};
-ghost use Rattle.chi_home.specs.Task.{Ends, ProgramOutcome, TaskOutcome};
+ghost use Rattle.chi_home.specs.Task.{Ends, EndsAsked, Makes, ProgramOutcome, TaskOutcome};
 
-use crate::command::{Task, options_of};
+use crate::command::{Asked, Task, asked_of};
+use crate::generation::{GenerateOptions, generate, generate_status};
 use chi_engine::{EngineFault, Options, engine_race, engine_run, status_of};
 use chi_history::NoGate;
 use chi_script::WriteFault;
 use clap::Error;
 use clap::error::ErrorKind;
+use std::alloc::Global;
 use std::io::{Read, Write};
 use std::sync::Wait;
 use std::thread::Threads;
@@ -68,6 +70,42 @@ fn end_task<T: AllocGlobal + Threads + Wait + Sync, R: Read, W: Write, E: Write>
     }
 }
 
+// Makes a script, and reports why that was not done. The status is 0 where it was.
+fn end_generate<W: Write, E: Write>(
+    alloc: Global,
+    options: &GenerateOptions<'_>,
+    to: &mut W,
+    errors: &mut E,
+) -> u8
+    ensures makes { Makes options.now (W.contents to.old) (W.contents to.new) result }
+    ensures status { IsStatus result }
+{
+    match generate(alloc, options, to) {
+        Ok(()) => 0,
+        Err(fault) => {
+            let _written = writeln!(errors, "chihome: {fault}");
+            generate_status(&fault)
+        }
+    }
+}
+
+// Does what is asked for, and reports its fault. The status is 0 where it was done.
+fn end_asked<T: AllocGlobal + Threads + Wait + Sync, R: Read, W: Write, E: Write>(
+    rt: &T,
+    asked: Asked<'_>,
+    from: &mut R,
+    to: &mut W,
+    errors: &mut E,
+) -> u8
+    ensures ends { EndsAsked asked.entry (R.remaining from.old) (W.contents to.old) (W.contents to.new) result }
+    ensures status { IsStatus result }
+{
+    match asked {
+        Asked::Work(task, options) => end_task(rt, task, &options, from, to, errors),
+        Asked::Script(options) => end_generate(rt.alloc(), &options, to, errors),
+    }
+}
+
 // Reports what `clap` answers to the arguments: help to `to`, and a refusal to `errors`.
 fn report_arguments<W: Write, E: Write>(error: &Error, to: &mut W, errors: &mut E) -> u8
     ensures status { IsStatusOfArguments (kind_of error.now) result }
@@ -87,7 +125,7 @@ fn report_arguments<W: Write, E: Write>(error: &Error, to: &mut W, errors: &mut 
 }
 
 /// The program: reads the arguments after its name, does the task that they name with a script from `from`, and
-/// writes the transcript to `to`. A fault is reported to `errors`, whose own faults are ignored. The answer is the
+/// writes the transcript to `to`, or makes a script and writes that. A fault is reported to `errors`, whose own faults are ignored. The answer is the
 /// status to end with.
 ///
 /// ```
@@ -103,8 +141,8 @@ pub fn run_words<T: AllocGlobal + Threads + Wait + Sync, R: Read, W: Write, E: W
     ensures outcome { ProgramOutcome (map string_bytes arguments.now) (R.remaining from.old) (W.contents to.old) (W.contents to.new) result }
     ensures status { IsStatus result }
 {
-    match options_of(rt.alloc(), arguments) {
-        Ok((task, options)) => end_task(rt, task, &options, from, to, errors),
+    match asked_of(rt.alloc(), arguments) {
+        Ok(asked) => end_asked(rt, asked, from, to, errors),
         Err(error) => report_arguments(&error, to, errors),
     }
 }

@@ -6,10 +6,11 @@ ghost use Rattle.clap.specs.Simple.{app_of};
 ghost use Rattle.clap.specs.Values.{kind_of};
 ghost use Rattle.clap.specs.Walk.{rows_of, rule_of};
 ghost use Rattle.clap.specs.declared.builder.value_parser.ValueParser.TheVariants as value_parser;
-ghost use Rattle.chi_bookstore.specs.BookFaults.{IsAttemptCount};
-ghost use Rattle.chi_home.specs.Chosen.{Chooses, IsNamedFirst, attempts_of, has_word, options_of_task, policy_of, store_of, task_named, workers_of};
+ghost use Rattle.chi_home.specs.Chosen.{HasAttempts, HasOptions, IsChosen, IsNamed, IsNamedFirst, attempts_of, options_of_task, policy_of, store_of, task_named, workers_of};
+ghost use Rattle.chi_home.specs.Found.{has_word};
 ghost use Rattle.chi_home.specs.CommandLine.{IsProgram, IsRaceApp, IsTaken, IsTaskApp, IsArgumentsFault, option_rule};
 
+use crate::generation::{GenerateOptions, generate_command, generate_options};
 use chi_bookstore::MOST_ATTEMPTS;
 use chi_engine::{Options, StoreKind, Workers};
 use chi_requester::Policy;
@@ -23,6 +24,13 @@ use std::alloc::Global;
 pub enum Task {
     Run,
     Race,
+}
+
+/// What the arguments ask for: that a script is executed, or that one is made.
+#[derive(Clone, Copy)]
+pub enum Asked<'a> {
+    Work(Task, Options),
+    Script(GenerateOptions<'a>),
 }
 
 // What `--version` prints after the program's name.
@@ -142,12 +150,13 @@ fn whole_command<'a>(alloc: Global) -> Result<Command<'a>, Error>
             .after_help(MORE)
             .subcommand_required(true)
             .subcommand(task_command(alloc, "run", RUN_ABOUT)?)?
-            .subcommand(race_command(alloc)?)?,
+            .subcommand(race_command(alloc)?)?
+            .subcommand(generate_command(alloc)?)?,
     )
 }
 
 // The value of an option is this word.
-fn has_word(chosen: &ArgMatches<'_>, option: &str, word: &str) -> bool
+pub(crate) fn has_word(chosen: &ArgMatches<'_>, option: &str, word: &str) -> bool
     ensures { result ≡ has_word (rows_of (found_of chosen.now)) option.now word.now }
 {
     match chosen.get_str(option) {
@@ -228,19 +237,33 @@ fn chosen_task(name: &str) -> Task
     }
 }
 
-/// Reads the arguments after the program's name: `run` or `race`, and its options.
+// What the subcommand of this name asks for, with its options.
+fn chosen_asked<'a>(name: &str, chosen: &ArgMatches<'a>) -> Asked<'a>
+    ensures named { IsNamed name.now result }
+    ensures options { HasOptions (rows_of (found_of chosen.now)) name.now result }
+    ensures attempts { HasAttempts result }
+{
+    if name == "generate" {
+        Asked::Script(generate_options(chosen))
+    } else {
+        let task = chosen_task(name);
+        Asked::Work(task, chosen_options(task, chosen))
+    }
+}
+
+/// Reads the arguments after the program's name: `run`, `race` or `generate`, and its options.
 ///
 /// Which arguments are refused, and as what, and which task and options the others name, `clap`'s definitions say of
 /// the program's command line. That `clap` refuses a value that an option does not have no contract says;
 /// `.ci/program` shows it.
 ///
 /// ```
-/// let (task, options) = options_of(alloc, &arguments)?; // race --store lock --policy return
+/// let asked = asked_of(alloc, &arguments)?; // race --store lock --policy return
 /// ```
-pub fn options_of(alloc: Global, arguments: &[String]) -> Result<(Task, Options), Error>
-    ensures chosen { IfOk result (λ r. Chooses (map string_bytes arguments.now) r.0 r.1) }
-    ensures first { IfOk result (λ r. IsNamedFirst (map string_bytes arguments.now) r.0) }
-    ensures attempts { IfOk result (λ r. IsAttemptCount r.1.attempts) }
+pub fn asked_of(alloc: Global, arguments: &[String]) -> Result<Asked<'_>, Error>
+    ensures chosen { IfOk result (λ asked. IsChosen (map string_bytes arguments.now) asked) }
+    ensures first { IfOk result (λ asked. IsNamedFirst (map string_bytes arguments.now) asked) }
+    ensures attempts { IfOk result HasAttempts }
     ensures taken { IfOk result (λ _. IsTaken (map string_bytes arguments.now)) }
     ensures refused { IfErr result (λ error. IsArgumentsFault (map string_bytes arguments.now) (kind_of error)) }
 {
@@ -248,6 +271,5 @@ pub fn options_of(alloc: Global, arguments: &[String]) -> Result<(Task, Options)
     let Some((name, chosen)) = matches.subcommand() else {
         unreachable!()
     };
-    let task = chosen_task(name);
-    Ok((task, chosen_options(task, chosen)))
+    Ok(chosen_asked(name, chosen))
 }

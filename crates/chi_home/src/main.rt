@@ -3,6 +3,7 @@
 
 mod arguments;
 mod command;
+mod generation;
 
 ghost use Rattle.std.specs.Prelude.{◌≡◌, ◌⊎◌};
 

@@ -1,21 +1,9 @@
--- The task and its options are those that the arguments name, and the rest is what came of the task.
-use Rattle.std.proofs.Common.{inr}
-use Rattle.chi_home.proofs.TaskLemmas.{unrefused}
+-- What comes of the arguments is what came of what they ask for.
+use Rattle.std.proofs.Common.{inr, map, string_bytes}
+use Rattle.chi_home.proofs.TaskLemmas.{came_of}
 use Rattle.chi_home.proofs.arguments.run_words.Goals as goal
 
 pub returns-in-Ok-clause-outcome : goal.returns-in-Ok-clause-outcome
 returns-in-Ok-clause-outcome g c =
-    let ends = c.end_task.ensures.ends in
-    let count = c.in-Ok.ensures.attempts in
-    inr (
-      c.in-Ok.ensures.taken,
-      c.in-Ok.task,
-      c.in-Ok.options,
-      c.in-Ok.ensures.chosen,
-      ends.0,
-      count,
-      unrefused c.in-Ok.options ends.0 count ends.1,
-      ends.2,
-      ends.3,
-      ends.4,
-    )
+    let chosen = c.in-Ok.ensures in
+    inr (came_of (map string_bytes c.args.arguments.now) c.in-Ok.asked _ _ _ _ chosen.taken chosen.chosen chosen.attempts c.end_asked.ensures.ends)

@@ -1,5 +1,5 @@
 -- The program has both tasks.
-use Rattle.std.proofs.Common.{ap, ◌≡◌, ◌∙◌, true}
+use Rattle.std.proofs.Common.{ap, ap₂, ◌≡◌, ◌∙◌, true}
 use Rattle.clap.specs.Simple.{App, Shape, app_of, app_of_fields, on_top, with_rule, with_subcommand}
 use Rattle.chi_home.specs.CommandLine.{bare_app}
 use Rattle.chi_home.proofs.CommandLemmas.{third_fails}
@@ -22,8 +22,11 @@ returns-clause-app c =
       race,
       c.in_ok-task_command.ensures.app,
       raced,
-      c.in_ok-subcommand-2.ensures.shape (third_fails _ _ _ _ (ap (λ (a : App). a.top.is_plain) (raced.4 ∙ ap (λ (task : App). with_rule task raced.1) raced.2.4)))
+      c.in_ok-subcommand-3.ensures.shape (third_fails _ _ _ _ (ap (λ (a : App). a.top.is_plain) c.in_ok-generate_command.ensures.app))
+          ∙ ap₂ (λ (a : App) (g : App). with_subcommand a g.top)
+          (c.in_ok-subcommand-2.ensures.shape (third_fails _ _ _ _ (ap (λ (a : App). a.top.is_plain) (raced.4 ∙ ap (λ (task : App). with_rule task raced.1) raced.2.4)))
           ∙ ap (λ (a : App). with_subcommand a race.top)
           (c.in_ok-subcommand.ensures.shape (third_fails _ _ _ _ (ap (λ (a : App). a.top.is_plain) c.in_ok-task_command.ensures.app.4))
-          ∙ ap (λ (a : App). with_subcommand a run.top) bare),
+          ∙ ap (λ (a : App). with_subcommand a run.top) bare))
+          c.in_ok-generate_command.ensures.app,
     )

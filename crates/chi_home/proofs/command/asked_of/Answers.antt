@@ -7,7 +7,7 @@ use Rattle.clap.specs.Simple.{app_of}
 use Rattle.clap.specs.Walk.{rows_of}
 use Rattle.chi_home.proofs.ChosenLemmas.{subcommand_found}
 use Rattle.chi_home.proofs.CommandLemmas.{program_is_simple, arguments_fault, named_first}
-use Rattle.chi_home.proofs.command.options_of.Goals as goal
+use Rattle.chi_home.proofs.command.asked_of.Goals as goal
 
 pub returns-in_err-matches-clause-refused : goal.returns-in_err-matches-clause-refused
 returns-in_err-matches-clause-refused c =
@@ -30,7 +30,7 @@ returns-clause-chosen c =
     let found = rows_of (found_of c.in-Some.chosen.now) in
     let finds = subcommand_found app (map string_bytes c.args.arguments.now) c.in_ok-matches.matches name found (program_is_simple app program)
     c.in_ok-matches.ensures.matches c.in-Some.ensures.name c.in-Some.ensures.rows in
-    (name, found, (app, program, finds), c.chosen_task-task.ensures, c.chosen_options.ensures)
+    (name, found, (app, program, finds), c.chosen_asked.ensures.named, c.chosen_asked.ensures.options)
 
 pub returns-clause-first : goal.returns-clause-first
 returns-clause-first c =
@@ -40,4 +40,4 @@ returns-clause-first c =
     let found = rows_of (found_of c.in-Some.chosen.now) in
     let finds = subcommand_found app (map string_bytes c.args.arguments.now) c.in_ok-matches.matches name found (program_is_simple app program)
     c.in_ok-matches.ensures.matches c.in-Some.ensures.name c.in-Some.ensures.rows in
-    rw c.chosen_task-task.ensures (named_first app (map string_bytes c.args.arguments.now) name found program finds)
+    named_first app (map string_bytes c.args.arguments.now) name found _ program finds c.chosen_asked.ensures.named c.chosen_asked.ensures.options

@@ -1,0 +1,6 @@
+pub mod Kept
+pub mod Left
+pub mod Lists
+pub mod Numbered
+pub mod Sums
+pub mod Traced

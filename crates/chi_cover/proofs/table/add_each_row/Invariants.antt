@@ -1,0 +1,8 @@
+-- the text so far
+use Rattle.std.proofs.Common.{◌≡◌, ◌++◌, flat_map, take}
+use Rattle.chi_cover.specs.Counts.{count_in}
+use Rattle.chi_cover.specs.Texts.{traffic_row}
+use Rattle.chi_cover.proofs.table.add_each_row.Given as goal
+
+abbrev pub invariant-loop-bin : goal.invariant-loop-bin
+invariant-loop-bin l = l.to.items ≡ l.initial.to.items ++ flat_map (traffic_row (count_in l.covered)) (take l.bin-index l.bins)

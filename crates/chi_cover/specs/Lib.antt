@@ -1,0 +1,9 @@
+pub mod Added
+pub mod Bins
+pub mod Counts
+pub mod Numbers
+pub mod Open
+pub mod Operations
+pub mod Part
+pub mod Texts
+pub mod Traffic

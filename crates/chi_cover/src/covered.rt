@@ -1,0 +1,132 @@
+//! A table of coverage: how many operations each bin has counted.
+
+ghost use Rattle.std.specs.Prelude.{◌≡◌, ◌≤◌, IfOk, OnErr, OnOk, count_by, length, nat_lt};
+ghost use Rattle.chi_trace.specs.Explains.{IsTrace};
+ghost use Rattle.chi_cover.specs.Bins.{all_bins};
+ghost use Rattle.chi_cover.specs.Counts.{IsAdded, count_in, covered_of, percent_of};
+
+use crate::bin::Bin;
+use crate::measured::add_operations;
+use crate::number::number;
+use chi_trace::Observed;
+use std::alloc::{AllocError, Global};
+use std::marker::Model;
+
+/// How many bins there are.
+const BINS: usize = 1338;
+
+/// How many of these counts are above 0.
+fn above_zero(counts: &[u64]) -> usize
+    ensures { result ≡ count_by (nat_lt 0) counts.now }
+{
+    counts.iter().filter(|count| **count > 0).count()
+}
+
+/// How many operations each bin has counted, of the traces that were added. 2^64 - 1 stands for that many and more.
+#[derive(Debug, Drop)]
+pub struct Covered {
+    counts: Vec<u64>,
+}
+
+impl Model for Covered {
+    ghost use Rattle.std.specs.Prelude.{◌≡◌, ℕ, List, length};
+
+    ghost Value = { List ℕ };
+
+    // The count of each bin stands at its number.
+    ghost view = { λ c. c.counts.items };
+
+    ghost invariant = { λ c. length c.counts.items ≡ 1338 };
+}
+
+impl Covered {
+    /// A table in which no bin has counted an operation.
+    ///
+    /// Source: profile.
+    ///
+    /// ```
+    /// let mut covered = Covered::new(alloc)?;
+    /// ```
+    pub fn new(alloc: Global) -> Result<Covered, AllocError>
+        ensures { IfOk result (λ covered. (bin : Bin) → count_in covered bin ≡ 0) }
+    {
+        Ok(Covered {
+            counts: vec![in alloc; 0; BINS]?,
+        })
+    }
+
+    /// Adds the operations of a trace: each bin counts those that it is of. Where memory is refused, none is added.
+    ///
+    /// Source: profile.
+    ///
+    /// ```
+    /// covered.add(alloc, recorded.trace().operations())?;
+    /// ```
+    pub fn add(&mut self, alloc: Global, ops: &[Observed]) -> Result<(), AllocError>
+        requires { IsTrace ops.now }
+        ensures ok { OnOk result (IsAdded ops.now self.old self.new) }
+        ensures err { OnErr result (self.new ≡ self.old) }
+    {
+        let mut counts = Vec::from_slice(alloc, &self.counts)?;
+        add_operations(alloc, &mut counts, ops)?;
+        self.counts = counts;
+        Ok(())
+    }
+
+    /// How many operations a bin has counted.
+    ///
+    /// Source: profile.
+    ///
+    /// ```
+    /// let additions = covered.count(Bin::Wrapped { len: 4 });
+    /// ```
+    #[tactic(auto, unfolding(crate::specs::Counts::count_in))]
+    pub fn count(&self, bin: Bin) -> u64
+        ensures { result ≡ count_in self.now bin }
+    {
+        match self.counts.get(number(bin)) {
+            Some(count) => *count,
+            None => 0,
+        }
+    }
+
+    /// How many bins have counted an operation.
+    ///
+    /// Source: profile.
+    ///
+    /// ```
+    /// let is_whole = covered.covered() == Covered::bins();
+    /// ```
+    pub fn covered(&self) -> usize
+        ensures value { result ≡ covered_of (count_in self.now) all_bins }
+        ensures most { result ≤ 1338 }
+    {
+        above_zero(&self.counts)
+    }
+
+    /// How many bins there are.
+    ///
+    /// Source: profile.
+    ///
+    /// ```
+    /// let missing = Covered::bins() - covered.covered();
+    /// ```
+    pub fn bins() -> usize
+        ensures { result ≡ length all_bins }
+    {
+        BINS
+    }
+
+    /// How many of a hundred bins have counted an operation, rounded down.
+    ///
+    /// Source: profile.
+    ///
+    /// ```
+    /// let is_enough = covered.percent() >= 90;
+    /// ```
+    pub fn percent(&self) -> usize
+        ensures { result ≡ percent_of (count_in self.now) }
+    {
+        self.covered() * 100 / BINS
+    }
+}

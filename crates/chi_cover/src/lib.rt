@@ -1,0 +1,23 @@
+//! What the operations of a trace covered: functional coverage, counted by definition, and its table as a text.
+#![tactic(auto)]
+
+mod adding;
+mod bin;
+mod covered;
+mod group;
+mod lines;
+mod measured;
+mod names;
+mod number;
+mod open;
+mod operand;
+mod operation;
+mod part;
+mod rows;
+mod table;
+mod traffic;
+mod traffic_group;
+
+pub use bin::{Bin, Depth, Enabled, Transaction};
+pub use covered::Covered;
+pub use table::add_table;

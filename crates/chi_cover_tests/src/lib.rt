@@ -1,0 +1,15 @@
+//! Tests of tables of coverage.
+#![tactic(auto)]
+
+#[cfg(test)]
+mod comparison;
+#[cfg(test)]
+mod many_tests;
+#[cfg(test)]
+mod operation_tests;
+#[cfg(test)]
+mod operations;
+#[cfg(test)]
+mod table_tests;
+#[cfg(test)]
+mod traffic_tests;

@@ -1,0 +1,95 @@
+//! Operations as a trace has them, for tests.
+
+use chi_cover::Covered;
+use chi_fields::{Access, Region, Request, decode};
+use chi_lanes::Reply;
+use chi_trace::Observed;
+use chi_verdict::{GranuleWords, Trace};
+use std::alloc::Global;
+use std::test::Fail;
+
+/// The access of a request in a region of 64 granules at 0x1000.
+fn access(
+    opcode: u8,
+    size: u8,
+    addr: u64,
+    endian: bool,
+    be: u16,
+    lanes: [u8; 16],
+) -> Result<Access, Fail> {
+    let Ok(region) = Region::new(0x1000, 64) else {
+        return Err(Fail::new("the region is refused"));
+    };
+    let request = Request {
+        src: 0,
+        txn: 0,
+        opcode,
+        size,
+        addr,
+        endian,
+        be,
+        lanes,
+    };
+    match decode(&request, &region) {
+        Ok(access) => Ok(access),
+        Err(_) => Err(Fail::new("a request is refused")),
+    }
+}
+
+/// A request of requester 1 from time 0 to 9.
+pub(crate) fn observed(
+    opcode: u8,
+    size: u8,
+    addr: u64,
+    endian: bool,
+    be: u16,
+    lanes: [u8; 16],
+    reply: Option<Reply>,
+) -> Result<Observed, Fail> {
+    Ok(Observed {
+        start: 0,
+        end: 9,
+        src: 1,
+        access: access(opcode, size, addr, endian, be, lanes)?,
+        reply,
+    })
+}
+
+/// The operation of a requester from one time to another.
+pub(crate) fn of_requester(op: Observed, src: u16, start: u64, end: u64) -> Observed {
+    Observed {
+        start,
+        end,
+        src,
+        ..op
+    }
+}
+
+/// 16 lanes, of which those from `first` on are these bytes and the others are 0.
+pub(crate) fn lanes(first: usize, bytes: &[u8]) -> [u8; 16] {
+    let mut lanes = [0; 16];
+    for (lane, byte) in bytes.iter().enumerate() {
+        if first < 16 && lane < 16 - first {
+            lanes[first + lane] = *byte;
+        }
+    }
+    lanes
+}
+
+/// Adds a trace of these operations.
+pub(crate) fn add(alloc: Global, covered: &mut Covered, ops: &[Observed]) -> Result<(), Fail> {
+    match Trace::new(GranuleWords::none(alloc), Vec::from_slice(alloc, ops)?) {
+        Some(trace) => {
+            covered.add(alloc, trace.operations())?;
+            Ok(())
+        }
+        None => Err(Fail::new("these operations are no trace")),
+    }
+}
+
+/// What was covered by a trace of these operations.
+pub(crate) fn covered_by(alloc: Global, ops: &[Observed]) -> Result<Covered, Fail> {
+    let mut covered = Covered::new(alloc)?;
+    add(alloc, &mut covered, ops)?;
+    Ok(covered)
+}

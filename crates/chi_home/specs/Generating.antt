@@ -1,0 +1,60 @@
+-- the task `generate`: what its options ask for, and what it writes
+use Rattle.std.specs.Prelude.{◌≡◌, ℕ, List, Option, Some, None, Result, Ok, Err, codes}
+use Rattle.std.specs.Io.KnownBytes.{Appends, Keeps}
+use Rattle.std.specs.Result.{result_unwrap_or}
+use Rattle.std.specs.Str.Parse.{ParsesUnsigned}
+use Rattle.clap.specs.Walk.{Row, Text, one_of}
+use Rattle.chi_fields.specs.Extent.{region_of}
+use Rattle.chi_script.specs.Script.{ScriptValue, script}
+use Rattle.chi_stimulus.specs.Generated.{IsGenerated}
+use Rattle.chi_stimulus.specs.declared.stimulus.Stimulus.{Stimulus}
+use Rattle.chi_home.specs.Found.{has_word}
+use Rattle.chi_home.specs.declared.generation.GenerateOptions.{GenerateOptions}
+use Rattle.chi_home.specs.declared.generation.GenerateFault.{GenerateFault}
+use Rattle.chi_home.specs.declared.generation.GenerateFault.TheVariants.{Number, Region, Mix, Memory, Write}
+
+-- the number that a text is, and another where there is none below 2^64
+abbrev pub IsNumberOr : ℕ → Option Text → ℕ → Type 0
+IsNumberOr other None number = number ≡ other
+IsNumberOr other (Some text) number = (read : Result ℕ (Unit {0})) × ParsesUnsigned 64 10 text read × (number ≡ result_unwrap_or read other)
+
+-- the options are those that were found
+pub record HasGenerateOptions (found : List Row) (options : GenerateOptions) : Type 0 where
+  pub requests : IsNumberOr 1000 (one_of (codes "requests") found) options.requests
+  pub seed : IsNumberOr 1 (one_of (codes "seed") found) options.seed
+  pub base : IsNumberOr 4096 (one_of (codes "base") found) options.base
+  pub granules : IsNumberOr 8 (one_of (codes "granules") found) options.granules
+  pub image : options.image ≡ has_word found (codes "image") (codes "true")
+  pub requesters : IsNumberOr 4 (one_of (codes "requesters") found) options.requesters
+  pub refused : IsNumberOr 0 (one_of (codes "refused") found) options.refused
+  pub hot : IsNumberOr 0 (one_of (codes "hot") found) options.hot
+
+-- the options ask for this script
+pub record AsksFor (options : GenerateOptions) (s : Stimulus) : Type 0 where
+  pub requests : s.requests ≡ options.requests
+  pub seed : s.seed ≡ options.seed
+  pub region : region_of options.base options.granules ≡ Ok s.region
+  pub image : s.image ≡ options.image
+  pub requesters : s.requesters ≡ options.requesters
+  pub refused : s.refused ≡ options.refused
+  pub hot : s.hot ≡ options.hot
+
+-- what was written is the text of a script that the options ask for
+pub record IsAskedFor (options : GenerateOptions) (text : List ℕ) : Type 0 where
+  pub stimulus : Stimulus
+  pub value : ScriptValue
+  pub asked : AsksFor options stimulus
+  pub read : script text 7 ≡ Ok value
+  pub generated : IsGenerated stimulus value
+
+-- after Ok the text of a script was written, and after a fault that is not the writer's nothing
+abbrev pub WritesScript : GenerateOptions → Option (List ℕ) → Option (List ℕ) → Result (Unit {0}) GenerateFault → Type 0
+WritesScript options old new (Ok done) = (text : List ℕ) × IsAskedFor options text × Appends old new text
+WritesScript options old new (Err (Write fault)) = Unit {0}
+WritesScript options old new (Err fault) = Keeps old new
+
+-- the status of a fault: 2 where the options are refused, 4 out of memory, 5 where the script was not written
+abbrev pub generate_status : GenerateFault → ℕ
+generate_status Memory = 4
+generate_status (Write fault) = 5
+generate_status fault = 2

@@ -1,0 +1,254 @@
+//! The task `generate`: its options, and what it writes.
+
+ghost use Rattle.std.specs.Prelude.{◌≡◌, false, IfErr, IfOk};
+ghost use Rattle.clap.specs.Matches.{found_of};
+ghost use Rattle.clap.specs.Simple.{app_of};
+ghost use Rattle.clap.specs.Values.{kind_of};
+ghost use Rattle.clap.specs.Walk.{one_of, rows_of, rule_of};
+ghost use Rattle.chi_home.specs.CommandLine.{generate_app, image_rule, mix_rule, number_rule};
+ghost use Rattle.chi_home.specs.Generating.{AsksFor, HasGenerateOptions, IsNumberOr, WritesScript, generate_status};
+
+use crate::command::has_word;
+use chi_fields::{Region, RegionFault, region_fault_name};
+use chi_script::{WriteFault, write_bytes};
+use chi_stimulus::{Mix, MixFault, Stimulus, generated_script};
+use clap::error::ErrorKind;
+use clap::{Arg, ArgAction, ArgMatches, Command, Error, value_parser};
+use std::alloc::{AllocError, Global};
+use std::io::Write;
+use thiserror::Error;
+
+/// What a script by chance is to be, as the command line says it.
+#[derive(Clone, Copy, Debug)]
+pub struct GenerateOptions<'a> {
+    pub requests: u64,
+    pub seed: u64,
+    pub base: u64,
+    pub granules: u64,
+    pub image: bool,
+    pub requesters: u64,
+    pub refused: u64,
+    pub hot: u64,
+    pub mix: &'a str,
+}
+
+/// Why no script was written.
+///
+/// - `Number`: a number is greater than its option takes.
+/// - `Region`: `Region::new` refuses the base and the number of granules.
+/// - `Mix`: the weights are not read.
+/// - `Memory`: a growth was refused.
+/// - `Write`: the script was not written whole.
+#[derive(Clone, Copy, Debug, PartialEq, Eq, Error)]
+pub enum GenerateFault {
+    #[error("a number is greater than its option takes")]
+    Number,
+    #[error("region is refused: {}", region_fault_name(*.0))]
+    Region(RegionFault),
+    #[error("{}", .0)]
+    Mix(MixFault),
+    #[error("no memory")]
+    Memory,
+    #[error("{}", .0)]
+    Write(WriteFault),
+}
+
+impl From<AllocError> for GenerateFault {
+    fn from(_refused: AllocError) -> GenerateFault
+        ensures { result ≡ GenerateFault.Memory }
+    {
+        GenerateFault::Memory
+    }
+}
+
+/// The status that the program ends with for a fault.
+pub(crate) fn generate_status(fault: &GenerateFault) -> u8
+    ensures { result ≡ generate_status fault.now }
+{
+    match fault {
+        GenerateFault::Number | GenerateFault::Region(_) | GenerateFault::Mix(_) => 2,
+        GenerateFault::Memory => 4,
+        GenerateFault::Write(_) => 5,
+    }
+}
+
+// What the task is for, in one line.
+const GENERATE_ABOUT: &str = "Writes a script of requests by chance";
+
+// The weights where none are given.
+const MIX: &str = "read=1,write=1,store=2,load=3,swap=1,compare=1";
+
+// An option that takes a whole number, and what stands in for it.
+fn number_option<'a>(alloc: Global, name: &'a str, default: &'a str, help: &'a str) -> Arg<'a>
+    ensures rule { rule_of result ≡ number_rule name.entry.now default.entry.now }
+    ensures local { result.global ≡ false }
+{
+    Arg::new(alloc, name)
+        .long(name)
+        .value_name("N")
+        .value_parser(value_parser!(u64))
+        .default_value(default)
+        .help(help)
+}
+
+// The option that asks for an image.
+fn image_option<'a>(alloc: Global) -> Arg<'a>
+    ensures rule { rule_of result ≡ image_rule }
+    ensures local { result.global ≡ false }
+{
+    Arg::new(alloc, "image")
+        .long("image")
+        .action(ArgAction::SetTrue)
+        .help("The memory opens with bytes by chance, and else with zeros")
+}
+
+// The option that takes the weights.
+fn mix_option<'a>(alloc: Global) -> Arg<'a>
+    ensures rule { rule_of result ≡ mix_rule }
+    ensures local { result.global ≡ false }
+{
+    Arg::new(alloc, "mix")
+        .long("mix")
+        .value_name("KIND=WEIGHT,..")
+        .default_value(MIX)
+        .help("How often read, write, store, load, swap and compare are drawn; others never")
+}
+
+/// The task `generate`.
+pub(crate) fn generate_command<'a>(alloc: Global) -> Result<Command<'a>, Error>
+    ensures app { IfOk result (λ command. app_of command ≡ generate_app) }
+    ensures memory { IfErr result (λ error. kind_of error ≡ ErrorKind.OutOfMemory) }
+{
+    Ok(
+        Command::new(alloc, "generate")
+            .about(GENERATE_ABOUT)
+            .arg(number_option(
+                alloc,
+                "requests",
+                "1000",
+                "How many requests it has, up to 4096",
+            ))?
+            .arg(number_option(
+                alloc,
+                "seed",
+                "1",
+                "What all is drawn from: the same seed makes the same script",
+            ))?
+            .arg(number_option(
+                alloc,
+                "base",
+                "4096",
+                "The address of the first granule, a multiple of 64",
+            ))?
+            .arg(number_option(
+                alloc,
+                "granules",
+                "8",
+                "How many granules the memory has, 1 to 512",
+            ))?
+            .arg(image_option(alloc))?
+            .arg(number_option(
+                alloc,
+                "requesters",
+                "4",
+                "How many requesters send, 1 to 8: the numbers from 0 on",
+            ))?
+            .arg(number_option(
+                alloc,
+                "refused",
+                "0",
+                "How many of a hundred requests are refused, for each reason in turn",
+            ))?
+            .arg(number_option(
+                alloc,
+                "hot",
+                "0",
+                "How many of a hundred are of the first granule, before the others are of any",
+            ))?
+            .arg(mix_option(alloc))?,
+    )
+}
+
+// The number that an option was given, or another where it was given none.
+fn number_or(chosen: &ArgMatches<'_>, option: &str, other: u64) -> u64
+    ensures { IsNumberOr other (one_of option.now (rows_of (found_of chosen.now))) result }
+{
+    chosen.get_one::<u64>(option).unwrap_or(other)
+}
+
+/// The options that `generate` was given, or that stand in for them.
+pub(crate) fn generate_options<'a>(chosen: &ArgMatches<'a>) -> GenerateOptions<'a>
+    ensures { HasGenerateOptions (rows_of (found_of chosen.now)) result }
+{
+    GenerateOptions {
+        requests: number_or(chosen, "requests", 1000),
+        seed: number_or(chosen, "seed", 1),
+        base: number_or(chosen, "base", 4096),
+        granules: number_or(chosen, "granules", 8),
+        image: has_word(chosen, "image", "true"),
+        requesters: number_or(chosen, "requesters", 4),
+        refused: number_or(chosen, "refused", 0),
+        hot: number_or(chosen, "hot", 0),
+        mix: chosen.get_str("mix").unwrap_or(MIX),
+    }
+}
+
+// A number of an option that takes no more than these.
+fn at_most(number: u64, most: u16) -> Result<u16, GenerateFault>
+    ensures { IfOk result (λ it. it ≡ number) }
+{
+    match u16::try_from(number) {
+        Ok(number) if number <= most => Ok(number),
+        _ => Err(GenerateFault::Number),
+    }
+}
+
+// A percentage, or another small number.
+fn at_most_byte(number: u64, most: u8) -> Result<u8, GenerateFault>
+    ensures { IfOk result (λ it. it ≡ number) }
+{
+    match u8::try_from(number) {
+        Ok(number) if number <= most => Ok(number),
+        _ => Err(GenerateFault::Number),
+    }
+}
+
+// What the options ask for.
+fn stimulus_of(options: &GenerateOptions<'_>) -> Result<Stimulus, GenerateFault>
+    ensures { IfOk result (λ stimulus. AsksFor options.now stimulus) }
+{
+    let requests = at_most(options.requests, 4096)?;
+    let granules = at_most(options.granules, u16::MAX)?;
+    let requesters = at_most_byte(options.requesters, 8)?;
+    let refused = at_most_byte(options.refused, 100)?;
+    let hot = at_most_byte(options.hot, 100)?;
+    let region = Region::new(options.base, granules).map_err(GenerateFault::Region)?;
+    let mix = Mix::named(options.mix).map_err(GenerateFault::Mix)?;
+    Ok(Stimulus {
+        requests,
+        seed: options.seed,
+        region,
+        image: options.image,
+        requesters,
+        refused,
+        hot,
+        mix,
+    })
+}
+
+/// Writes the script that the options ask for, and flushes it.
+pub(crate) fn generate<W: Write>(
+    alloc: Global,
+    options: &GenerateOptions<'_>,
+    to: &mut W,
+) -> Result<(), GenerateFault>
+    ensures { WritesScript options.now (W.contents to.old) (W.contents to.new) result }
+{
+    let stimulus = stimulus_of(options)?;
+    let text = generated_script(alloc, &stimulus)?;
+    write_bytes(to, text.as_str().as_bytes()).map_err(GenerateFault::Write)?;
+    match to.flush() {
+        Ok(()) => Ok(()),
+        Err(_) => Err(GenerateFault::Write(WriteFault::Failed)),
+    }
+}

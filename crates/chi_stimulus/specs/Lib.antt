@@ -1,0 +1,5 @@
+pub mod Plan
+pub mod Object
+pub mod Generated
+pub mod Operand
+pub mod Weights
