@@ -1,6 +1,7 @@
 #!/usr/bin/env bash
 # What chihome makes of its own scripts by chance, beside the plain Rust program: stimulus.sh PROGRAM [SEEDS]
-# Of each seed, 100 if not said, a script of 4,096 requests: every other one opens with an image, and in every third some are refused.
+# Of each seed, 100 if not said, a script of 4,096 requests on a memory of zeros (the plain program reads no image); in two of three
+# some are refused.
 set -eu
 program=$(realpath "$1")
 seeds=${2:-100}
@@ -9,7 +10,6 @@ cd "$(dirname "$0")"
 out=out/release
 for ((seed = 1; seed <= seeds; seed++)); do
   words=(--requests 4096 --seed "$seed" --granules $((1 + seed % 64)) --hot $((seed % 4 * 25)))
-  [ $((seed % 2)) = 0 ] || words+=(--image)
   [ $((seed % 3)) = 0 ] || words+=(--refused 10)
   timeout -k 5 60 "$program" generate "${words[@]}" > out/stimulus.json
   timeout -k 5 60 "$program" run < out/stimulus.json > out/transcript
