@@ -54,7 +54,12 @@ pub(crate) fn bits(access: &Access) -> u32
     ensures some { 8 ≤ result }
     ensures most { result ≤ 64 }
 {
-    8 << power(access)
+    match power(access) {
+        0 => 8,
+        1 => 16,
+        2 => 32,
+        _ => 64,
+    }
 }
 
 /// The number of an operand in a data packet, from a lane on.
