@@ -10,10 +10,10 @@ use Rattle.clap.specs.declared.error.kind.ErrorKind.{ErrorKind}
 use Rattle.clap.specs.declared.error.kind.ErrorKind.TheVariants as error_kind
 use Rattle.clap.proofs.OnLiterals.{clap_on_literals}
 use Rattle.clap.proofs.WalkLemmas.{walk_stopped}
-use Rattle.chi_check.specs.Chosen.{BeginsWith, Finds, IsExplain, IsNamed, IsNamedFirst, IsWatch}
+use Rattle.chi_check.specs.Chosen.{BeginsWith, Finds, IsCover, IsExplain, IsNamed, IsNamedFirst, IsWatch}
 use Rattle.chi_check.specs.CommandLine.{IsArgumentsFault, IsTaken, program_app}
 use Rattle.chi_check.specs.declared.command.Task.{Task}
-use Rattle.chi_check.specs.declared.command.Task.TheVariants.{Explain, Watch}
+use Rattle.chi_check.specs.declared.command.Task.TheVariants.{Explain, Watch, Cover}
 
 -- the third of a row of tests fails
 pub third_fails : (a b c d : Bool) → (a && (b && (not c && d))) ≡ true → c ≡ false
@@ -47,16 +47,33 @@ watch_met rest =
     let app = built program_app in
     ap (λ (end : Walk). option_map (λ p. p.0) (entered app end.stopped)) (sym (walk_stopped app.top.rules (names_of app) (walk_from nothing_held) (codes "watch") [] rest))
 
+cover_met : (rest : List Text) → name_found (codes "cover" ∷ rest) ≡ Some (codes "cover")
+unfolding clap_on_literals name_found
+cover_met rest =
+    let app = built program_app in
+    ap (λ (end : Walk). option_map (λ p. p.0) (entered app end.stopped)) (sym (walk_stopped app.top.rules (names_of app) (walk_from nothing_held) (codes "cover") [] rest))
+
 -- each name is that of its own task alone
 explain_named : (name : Text) (task : Task) → IsNamed name task → name ≡ codes "explain" → IsExplain task
 explain_named name (Explain options) named is = tt
 explain_named name (Watch options) named is =
     let other : false ≡ true = sym (ap (λ n. bytes_eq n (codes "watch")) is) ∙ named in cc
+explain_named name (Cover options) named is =
+    let other : false ≡ true = sym (ap (λ n. bytes_eq n (codes "cover")) is) ∙ named in cc
 
 watch_named : (name : Text) (task : Task) → IsNamed name task → name ≡ codes "watch" → IsWatch task
 watch_named name (Explain options) named is =
-    let other : true ≡ false = sym (ap (λ n. bytes_eq n (codes "watch")) is) ∙ named in cc
+    let other : true ≡ false = sym (ap (λ n. bytes_eq n (codes "watch")) is) ∙ named.0 in cc
 watch_named name (Watch options) named is = tt
+watch_named name (Cover options) named is =
+    let other : false ≡ true = sym (ap (λ n. bytes_eq n (codes "cover")) is) ∙ named in cc
+
+cover_named : (name : Text) (task : Task) → IsNamed name task → name ≡ codes "cover" → IsCover task
+cover_named name (Explain options) named is =
+    let other : true ≡ false = sym (ap (λ n. bytes_eq n (codes "cover")) is) ∙ named.1 in cc
+cover_named name (Watch options) named is =
+    let other : false ≡ true = sym (ap (λ n. bytes_eq n (codes "watch")) is) ∙ named in cc
+cover_named name (Cover options) named is = tt
 
 -- a subcommand that is the first argument is the one that is found
 module _ (arguments : List Text) (name : Text) (found : List Row) (task : Task) (is : Finds arguments name found) (named : IsNamed name task) where
@@ -69,6 +86,7 @@ module _ (arguments : List Text) (name : Text) (found : List Row) (task : Task) 
   named_first = (
     λ explain. explain_named name task named (begins_with (codes "explain") explain (explain_met explain.0)),
     λ watch. watch_named name task named (begins_with (codes "watch") watch (watch_met watch.0)),
+    λ cover. cover_named name task named (begins_with (codes "cover") cover (cover_met cover.0)),
   )
 
 -- what `clap` refuses

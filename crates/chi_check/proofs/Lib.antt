@@ -1,5 +1,6 @@
 pub mod CheckLemmas
 pub mod ChosenLemmas
 pub mod CommandLemmas
+mod CoverLemmas
 mod SearchLemmas
 mod WatchLemmas

@@ -13,10 +13,12 @@ use Rattle.chi_watch_text.specs.Texts.{watched_text}
 use Rattle.chi_watch_text.specs.declared.options.WatchOptions.{WatchOptions}
 use Rattle.chi_watch_text.specs.declared.watched.Found.{Found}
 use Rattle.chi_watch_text.specs.declared.watched.Watched.{Watched}
+use Rattle.chi_cover.specs.Counts.{count_in}
+use Rattle.chi_cover.specs.Texts.{table_text}
 use Rattle.chi_check.specs.ProgramOutcome.{TaskOutcome}
 use Rattle.chi_check.specs.Watch.{WatchOutcome, verdict_status}
 use Rattle.chi_check.specs.declared.command.Task.{Task}
-use Rattle.chi_check.specs.declared.command.Task.TheVariants.{Explain, Watch}
+use Rattle.chi_check.specs.declared.command.Task.TheVariants.{Explain, Watch, Cover}
 use Rattle.chi_check.specs.declared.fault.CheckFault.TheVariants.{Write}
 
 -- the whole text was written
@@ -70,6 +72,8 @@ flushed task None old mid new status outcome keeps = tt
 flushed (Explain options) (Some input) old mid new status (answer, text, answers, status_is, appends) keeps = (answer, text, answers, status_is, appends_kept old mid new text appends keeps)
 flushed (Watch options) (Some input) old mid new status (watched, is, status_is, appends) keeps =
     (watched, is, status_is, appends_kept old mid new (watched_text options.budget watched) appends keeps)
+flushed (Cover options) (Some input) old mid new status (counts, is, status_is, appends) keeps =
+    (counts, is, status_is, appends_kept old mid new (table_text (count_in counts)) appends keeps)
 
 pub flush_failed : (task : Task) (remaining old mid new : Option (List ℕ)) (status : ℕ) (fault : WriteFault) → IfSome remaining (λ input. TaskOutcome task input old mid (Ok status)) → Keeps mid new
     → IfSome remaining (λ input. TaskOutcome task input old new (Err (Write fault)))
@@ -78,3 +82,5 @@ flush_failed (Explain options) (Some input) old mid new status fault (answer, te
     (answer, text, answers, whole_front old new text (appends_kept old mid new text appends keeps))
 flush_failed (Watch options) (Some input) old mid new status fault (watched, is, status_is, appends) keeps =
     (watched, is, whole_front old new (watched_text options.budget watched) (appends_kept old mid new (watched_text options.budget watched) appends keeps))
+flush_failed (Cover options) (Some input) old mid new status fault (counts, is, status_is, appends) keeps =
+    (counts, is, whole_front old new (table_text (count_in counts)) (appends_kept old mid new (table_text (count_in counts)) appends keeps))

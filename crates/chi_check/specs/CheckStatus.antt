@@ -44,7 +44,7 @@ answer_status (Undecided doubt) = 6
 abbrev pub IsAnswerStatus : ℕ → Type 0
 IsAnswerStatus n = (n ≡ 0) ⊎ ((n ≡ 1) ⊎ (n ≡ 6))
 
--- 0 explained, 1 not explained, 2 arguments refused, 3 to 5 for the faults, 6 undecided
+-- 0 explained or covered as required, 1 not explained or covered less, 2 arguments refused, 3 to 5 for the faults, 6 undecided
 abbrev pub IsStatus : ℕ → Type 0
 IsStatus n = n ≤ 6
 

@@ -7,10 +7,11 @@ use Rattle.std.specs.Str.Parse.{ParsesUnsigned}
 use Rattle.clap.specs.Walk.{Row, Text, first_of, one_of}
 use Rattle.clap.specs.Simple.{subcommand_of}
 use Rattle.chi_check.specs.declared.command.Task.{Task}
-use Rattle.chi_check.specs.declared.command.Task.TheVariants.{Explain, Watch}
+use Rattle.chi_check.specs.declared.command.Task.TheVariants.{Explain, Watch, Cover}
 use Rattle.chi_watch_text.specs.declared.options.WatchOptions.{WatchOptions}
 use Rattle.chi_check.specs.CommandLine.{program_app}
 use Rattle.chi_check.specs.declared.options.CheckOptions.{CheckOptions}
+use Rattle.chi_check.specs.declared.options.CoverOptions.{CoverOptions}
 
 -- what was found has this word as the value of an option
 abbrev pub has_word : List Row → Text → Text → Bool
@@ -30,10 +31,11 @@ IsNumberOrNone (Some text) time = (read : Result ℕ (Unit {0})) × ParsesUnsign
 abbrev pub Finds : List Text → Text → List Row → Type 0
 Finds arguments name found = subcommand_of program_app arguments ≡ Some (name, found)
 
--- the name `watch` is that of the watch, and any other that of the explaining
+-- the name `watch` is that of the watch, `cover` that of the count, and any other that of the explaining
 abbrev pub IsNamed : Text → Task → Type 0
-IsNamed name (Explain options) = bytes_eq name (codes "watch") ≡ false
+IsNamed name (Explain options) = (bytes_eq name (codes "watch") ≡ false) × (bytes_eq name (codes "cover") ≡ false)
 IsNamed name (Watch options) = bytes_eq name (codes "watch") ≡ true
+IsNamed name (Cover options) = bytes_eq name (codes "cover") ≡ true
 
 -- the options of `explain` are those that were found
 pub record HasExplainOptions (found : List Row) (options : CheckOptions) : Type 0 where
@@ -50,10 +52,15 @@ pub record HasWatchOptions (found : List Row) (options : WatchOptions) : Type 0 
   pub keep_going : options.keep_going ≡ has_word found (codes "keep-going") (codes "true")
   pub budget : IsNumberOr 1000000 (one_of (codes "budget") found) options.budget
 
+-- and those of `cover`
+abbrev pub HasCoverOptions : List Row → CoverOptions → Type 0
+HasCoverOptions found options = IsNumberOr 0 (one_of (codes "require") found) options.require
+
 -- the task has the options that were found
 abbrev pub HasOptions : List Row → Task → Type 0
 HasOptions found (Explain options) = HasExplainOptions found options
 HasOptions found (Watch options) = HasWatchOptions found options
+HasOptions found (Cover options) = HasCoverOptions found options
 
 -- the arguments name this task with these options: those of what `clap` finds in them
 abbrev pub Chooses : List Text → Task → Type 0
@@ -67,12 +74,21 @@ BeginsWith arguments word = (rest : List Text) × (arguments ≡ word ∷ rest)
 abbrev pub IsExplain : Task → Type 0
 IsExplain (Explain options) = Unit {0}
 IsExplain (Watch options) = ⊥
+IsExplain (Cover options) = ⊥
 
 -- the task is `watch`, whatever its options
 abbrev pub IsWatch : Task → Type 0
 IsWatch (Explain options) = ⊥
 IsWatch (Watch options) = Unit {0}
+IsWatch (Cover options) = ⊥
+
+-- the task is `cover`, whatever its options
+abbrev pub IsCover : Task → Type 0
+IsCover (Explain options) = ⊥
+IsCover (Watch options) = ⊥
+IsCover (Cover options) = Unit {0}
 
 -- a first argument that is a task's name names the task
 abbrev pub IsNamedFirst : List Text → Task → Type 0
-IsNamedFirst arguments task = (BeginsWith arguments (codes "explain") → IsExplain task) × (BeginsWith arguments (codes "watch") → IsWatch task)
+IsNamedFirst arguments task =
+    (BeginsWith arguments (codes "explain") → IsExplain task) × (BeginsWith arguments (codes "watch") → IsWatch task) × (BeginsWith arguments (codes "cover") → IsCover task)

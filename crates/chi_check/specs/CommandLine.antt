@@ -49,13 +49,21 @@ explain_app =
 abbrev pub watch_app : App
 watch_app = with_rule (with_rule (new_app (codes "watch")) budget_rule) (switch_rule (codes "keep-going"))
 
+-- how many of a hundred bins have to have counted an operation is a whole number below 2^64, and 0 by default
+abbrev pub require_rule : Rule
+require_rule = option_rule (codes "require") is_word (codes "0" ∷ [])
+
+-- the task `cover`: it has that number
+abbrev pub cover_app : App
+cover_app = with_rule (new_app (codes "cover")) require_rule
+
 -- the program: it wants a task, has a version, and its name is not among its arguments
 abbrev pub bare_app : App
 bare_app = on_top (λ s. record s { no_binary_name = true; has_version = true; subcommand_required = true }) (new_app (codes "chicheck"))
 
--- with its tasks `explain` and `watch`
+-- with its tasks `explain`, `watch` and `cover`
 abbrev pub program_app : App
-program_app = with_subcommand (with_subcommand bare_app explain_app.top) watch_app.top
+program_app = with_subcommand (with_subcommand (with_subcommand bare_app explain_app.top) watch_app.top) cover_app.top
 
 -- why the arguments name no task: there is no memory, or `clap` finds this fault in them or is asked for help
 abbrev pub IsArgumentsFault : List Text → ErrorKind → Type 0

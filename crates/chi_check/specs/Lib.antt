@@ -2,6 +2,7 @@ pub mod Check
 pub mod CheckStatus
 pub mod Chosen
 pub mod CommandLine
+pub mod Cover
 pub mod Limits
 pub mod Pages
 pub mod ProgramOutcome

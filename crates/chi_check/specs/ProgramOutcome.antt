@@ -6,15 +6,17 @@ use Rattle.chi_check.specs.Check.{KeepsUnanswered, Outcome}
 use Rattle.chi_check.specs.CheckStatus.{IsAnswerStatus, IsStatusOfArguments, KeepsButForHelp, status_of}
 use Rattle.chi_check.specs.Chosen.{Chooses}
 use Rattle.chi_check.specs.CommandLine.{IsArgumentsFault, IsTaken}
+use Rattle.chi_check.specs.Cover.{CoverOutcome}
 use Rattle.chi_check.specs.declared.fault.CheckFault.{CheckFault}
 use Rattle.chi_check.specs.declared.command.Task.{Task}
-use Rattle.chi_check.specs.declared.command.Task.TheVariants.{Explain, Watch}
+use Rattle.chi_check.specs.declared.command.Task.TheVariants.{Explain, Watch, Cover}
 use Rattle.chi_check.specs.Watch.{WatchOutcome}
 
 -- what a task made of its input, and what it wrote
 abbrev pub TaskOutcome : Task → List ℕ → Option (List ℕ) → Option (List ℕ) → Result ℕ CheckFault → Type 0
 TaskOutcome (Explain options) input old new result = Outcome options input old new result
 TaskOutcome (Watch options) input old new result = WatchOutcome options input old new result
+TaskOutcome (Cover options) input old new result = CoverOutcome options input old new result
 
 -- the status of the answer, else that of the fault
 abbrev pub end_status : Result ℕ CheckFault → ℕ

@@ -8,6 +8,7 @@ ghost use Rattle.chi_check.specs.ProgramOutcome.{Ends, ProgramOutcome, TaskOutco
 
 use crate::check::check;
 use crate::command::{Task, task_of};
+use crate::cover::cover;
 use crate::fault::{CheckFault, status_of};
 use crate::meter::Meter;
 use crate::pages::Pages;
@@ -38,6 +39,7 @@ fn do_task<R: Read, W: Write, P: ShownProgress, G: Pages + Meter>(
     match task {
         Task::Explain(options) => check(alloc, from, to, options, progress, machine),
         Task::Watch(options) => watch(alloc, from, to, options, progress),
+        Task::Cover(options) => cover(alloc, from, to, options),
     }
 }
 

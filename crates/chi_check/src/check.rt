@@ -44,8 +44,8 @@ fn answer_status(answer: &Answer) -> u8
     }
 }
 
-// Reads the whole input.
-fn read_bytes<R: Read>(alloc: Global, from: &mut R) -> Result<Vec<u8>, CheckFault>
+/// Reads the whole input.
+pub(crate) fn read_bytes<R: Read>(alloc: Global, from: &mut R) -> Result<Vec<u8>, CheckFault>
     ensures within { IfOk result (λ input. length input.items ≤ most_bytes) }
     ensures bytes { IfOk result (λ input. IfSome (R.remaining from.old) (λ bytes. input.items ≡ bytes)) }
     ensures fault { IfErr result (IsReadFault (R.remaining from.old)) }

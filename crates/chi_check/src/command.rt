@@ -7,19 +7,20 @@ ghost use Rattle.clap.specs.Values.{kind_of};
 ghost use Rattle.clap.specs.Walk.{first_of, one_of, rows_of, rule_of};
 ghost use Rattle.std.specs.Option.{option_map};
 ghost use Rattle.chi_check.specs.Chosen.{Chooses, HasOptions, IsNamed, IsNamedFirst, IsNumberOr, IsNumberOrNone, has_word};
-ghost use Rattle.chi_check.specs.CommandLine.{IsArgumentsFault, IsTaken, around_rule, budget_rule, explain_app, html_rule, is_word, option_rule, program_app, switch_rule, watch_app};
+ghost use Rattle.chi_check.specs.CommandLine.{IsArgumentsFault, IsTaken, around_rule, budget_rule, cover_app, explain_app, html_rule, is_word, option_rule, program_app, require_rule, switch_rule, watch_app};
 
-use crate::options::CheckOptions;
+use crate::options::{CheckOptions, CoverOptions};
 use chi_watch_text::WatchOptions;
 use clap::error::ErrorKind;
 use clap::{Arg, ArgAction, ArgMatches, Command, Error, value_parser};
 use std::alloc::Global;
 
-/// What is done with the input: it is a trace to be explained, or it tells events to be watched.
+/// What is done with the input: it is a trace to be explained or to be counted, or it tells events to be watched.
 #[derive(Clone, Copy)]
 pub enum Task<'a> {
     Explain(CheckOptions<'a>),
     Watch(WatchOptions),
+    Cover(CoverOptions),
 }
 
 // What `--version` prints after the program's name.
@@ -42,13 +43,17 @@ with where, or `undecided`.
 Events on standard input are one JSON object a line: requests, their data and their replies, as
 a monitor tells them. `watch` reads them as they come (docs/EVENTS.md).
 
-Statuses: 0 explained; 1 not explained; 2 command line refused; 3 trace or event refused; 4 no
-memory; 5 a read or a write failed; 6 undecided.";
+`cover` writes a table of how many operations of a trace each bin counted (docs/COVERAGE.md).
+
+Statuses: 0 explained, or covered as required; 1 not explained, or covered less; 2 command line
+refused; 3 trace or event refused; 4 no memory; 5 a read or a write failed; 6 undecided.";
 
 const EXPLAIN_ABOUT: &str = "Looks for an order of the operations that is a legal history";
 
 const WATCH_ABOUT: &str =
     "Judges events as they come, and stops at the first that cannot be explained";
+
+const COVER_ABOUT: &str = "Counts what the operations of a trace covered";
 
 const UNTIL: &str = "Judges what had happened by time T, and no words at the end";
 
@@ -61,6 +66,9 @@ const BUDGET: u64 = 1_000_000;
 
 // How many operations are shown before the one that is blamed where no number is given.
 const AROUND: u64 = 16;
+
+// How many of a hundred bins have to have counted an operation where no number is given.
+const REQUIRE: u64 = 0;
 
 // An option that takes a whole number.
 fn number_option<'a>(alloc: Global, name: &'a str, value: &'a str, help: &'a str) -> Arg<'a>
@@ -100,6 +108,20 @@ fn around_option<'a>(alloc: Global) -> Arg<'a>
         "Operations of the granule that are shown before the one blamed",
     )
     .default_value("16")
+}
+
+// The option that takes how many of a hundred bins have to have counted an operation.
+fn require_option<'a>(alloc: Global) -> Arg<'a>
+    ensures rule { rule_of result ≡ require_rule }
+    ensures local { result.global ≡ false }
+{
+    number_option(
+        alloc,
+        "require",
+        "PERCENT",
+        "Status 1 where fewer of a hundred bins have counted an operation",
+    )
+    .default_value("0")
 }
 
 // The option that asks for the order found.
@@ -166,6 +188,18 @@ fn watch_command<'a>(alloc: Global) -> Result<Command<'a>, Error>
     )
 }
 
+// The task `cover`.
+fn cover_command<'a>(alloc: Global) -> Result<Command<'a>, Error>
+    ensures app { IfOk result (λ command. app_of command ≡ cover_app) }
+    ensures memory { IfErr result (λ error. kind_of error ≡ ErrorKind.OutOfMemory) }
+{
+    Ok(
+        Command::new(alloc, "cover")
+            .about(COVER_ABOUT)
+            .arg(require_option(alloc))?,
+    )
+}
+
 fn whole_command<'a>(alloc: Global) -> Result<Command<'a>, Error>
     ensures app { IfOk result (λ command. app_of command ≡ program_app) }
     ensures memory { IfErr result (λ error. kind_of error ≡ ErrorKind.OutOfMemory) }
@@ -179,7 +213,8 @@ fn whole_command<'a>(alloc: Global) -> Result<Command<'a>, Error>
             .after_help(MORE)
             .subcommand_required(true)
             .subcommand(explain_command(alloc)?)?
-            .subcommand(watch_command(alloc)?)?,
+            .subcommand(watch_command(alloc)?)?
+            .subcommand(cover_command(alloc)?)?,
     )
 }
 
@@ -246,6 +281,15 @@ fn watch_options(chosen: &ArgMatches<'_>) -> WatchOptions
     }
 }
 
+// The options that `cover` was given, or that stand in for them.
+fn cover_options(chosen: &ArgMatches<'_>) -> CoverOptions
+    ensures require { IsNumberOr 0 (one_of (codes "require") (rows_of (found_of chosen.now))) result.require }
+{
+    CoverOptions {
+        require: number_or(chosen, "require", REQUIRE),
+    }
+}
+
 // The task of this name, with its options.
 fn chosen_task<'a>(name: &str, chosen: &ArgMatches<'a>) -> Task<'a>
     ensures named { IsNamed name.now result }
@@ -253,12 +297,14 @@ fn chosen_task<'a>(name: &str, chosen: &ArgMatches<'a>) -> Task<'a>
 {
     if name == "watch" {
         Task::Watch(watch_options(chosen))
+    } else if name == "cover" {
+        Task::Cover(cover_options(chosen))
     } else {
         Task::Explain(explain_options(chosen))
     }
 }
 
-/// Reads the arguments after the program's name: `explain` or `watch`, and its options.
+/// Reads the arguments after the program's name: `explain`, `watch` or `cover`, and its options.
 ///
 /// Which arguments are refused, and as what, and which task and options the others name, `clap`'s definitions say of the
 /// program's command line. That `clap` refuses a budget or a time that is no number no contract says; `.ci/checker` shows it.

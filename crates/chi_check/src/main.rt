@@ -1,9 +1,11 @@
-//! chicheck: whether what was observed at a home node can be explained, from a trace or from events on standard input.
+//! chicheck: whether what was observed at a home node can be explained, from a trace or from events on standard input, and what the
+//! operations of a trace covered.
 #![tactic(auto)]
 
 mod arguments;
 mod check;
 mod command;
+mod cover;
 mod fault;
 mod machine;
 mod meter;

@@ -1,4 +1,4 @@
-//! What a check may be told.
+//! What a check and a count may be told.
 
 /// How a trace is checked. With `witness` the operations of a trace that is explained are written in the order found.
 /// `budget` is how many states of each granule are looked at for an answer. With `seconds` or `memory` fewer are: no larger
@@ -16,4 +16,12 @@ pub struct CheckOptions<'a> {
     pub until: Option<u64>,
     pub around: u64,
     pub html: Option<&'a str>,
+}
+
+/// How a trace is counted: `require` is how many of a hundred bins have to have counted an operation.
+///
+/// Source: profile.
+#[derive(Clone, Copy, Debug)]
+pub struct CoverOptions {
+    pub require: u64,
 }

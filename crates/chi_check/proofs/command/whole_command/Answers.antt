@@ -1,7 +1,7 @@
--- The program has both tasks.
+-- The program has its three tasks.
 use Rattle.std.proofs.Common.{ap, ◌≡◌, ◌∙◌, true}
 use Rattle.clap.specs.Simple.{App, Shape, app_of, app_of_fields, on_top, with_subcommand}
-use Rattle.chi_check.specs.CommandLine.{bare_app, explain_app}
+use Rattle.chi_check.specs.CommandLine.{bare_app, explain_app, watch_app}
 use Rattle.chi_check.proofs.CommandLemmas.{third_fails}
 use Rattle.chi_check.proofs.command.whole_command.Goals as goal
 
@@ -18,6 +18,10 @@ returns-clause-app c =
     let explained : app_of c.in_ok-subcommand.field-0 ≡ with_subcommand bare_app explain_app.top =
     c.in_ok-subcommand.ensures.shape (third_fails _ _ _ _ (ap (λ (a : App). a.top.is_plain) c.in_ok-explain_command.ensures.app))
     ∙ (ap (λ (a : App). with_subcommand a (app_of c.in_ok-explain_command.field-0).top) bare ∙ ap (λ (a : App). with_subcommand bare_app a.top) c.in_ok-explain_command.ensures.app) in
+    let watched : app_of c.in_ok-subcommand-2.field-0 ≡ with_subcommand (with_subcommand bare_app explain_app.top) watch_app.top =
     c.in_ok-subcommand-2.ensures.shape (third_fails _ _ _ _ (ap (λ (a : App). a.top.is_plain) c.in_ok-watch_command.ensures.app))
     ∙ (ap (λ (a : App). with_subcommand a (app_of c.in_ok-watch_command.field-0).top) explained
-    ∙ ap (λ (a : App). with_subcommand (with_subcommand bare_app explain_app.top) a.top) c.in_ok-watch_command.ensures.app)
+    ∙ ap (λ (a : App). with_subcommand (with_subcommand bare_app explain_app.top) a.top) c.in_ok-watch_command.ensures.app) in
+    c.in_ok-subcommand-3.ensures.shape (third_fails _ _ _ _ (ap (λ (a : App). a.top.is_plain) c.in_ok-cover_command.ensures.app))
+    ∙ (ap (λ (a : App). with_subcommand a (app_of c.in_ok-cover_command.field-0).top) watched
+    ∙ ap (λ (a : App). with_subcommand (with_subcommand (with_subcommand bare_app explain_app.top) watch_app.top) a.top) c.in_ok-cover_command.ensures.app)
