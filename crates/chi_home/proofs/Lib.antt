@@ -1,3 +1,4 @@
 pub mod ChosenLemmas
 pub mod CommandLemmas
 pub mod TaskLemmas
+pub mod Written

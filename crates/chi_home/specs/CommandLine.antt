@@ -44,9 +44,13 @@ number_rule name default = option_rule name (value_parser.Unsigned 0 (2 ^ 64 - 1
 abbrev pub image_rule : Rule
 image_rule = record (new_rule (codes "image")) { long = Some (codes "image"); action = Some SetTrue }
 
+-- the weights where none are given
+abbrev pub default_mix : Text
+default_mix = codes "read=1,write=1,store=2,load=3,swap=1,compare=1"
+
 -- the weights are any text
 abbrev pub mix_rule : Rule
-mix_rule = record (new_rule (codes "mix")) { long = Some (codes "mix"); value_names = 1; defaults = codes "read=1,write=1,store=2,load=3,swap=1,compare=1" ∷ [] }
+mix_rule = record (new_rule (codes "mix")) { long = Some (codes "mix"); value_names = 1; defaults = default_mix ∷ [] }
 
 -- the task `generate`: its numbers, its image and its mix
 abbrev pub generate_app : App

@@ -1,13 +1,15 @@
 -- the task `generate`: what its options ask for, and what it writes
-use Rattle.std.specs.Prelude.{◌≡◌, ℕ, List, Option, Some, None, Result, Ok, Err, codes}
+use Rattle.std.specs.Prelude.{◌≡◌, ℕ, List, Option, Some, None, unwrap_or, Result, Ok, Err, codes}
 use Rattle.std.specs.Io.KnownBytes.{Appends, Keeps}
 use Rattle.std.specs.Result.{result_unwrap_or}
 use Rattle.std.specs.Str.Parse.{ParsesUnsigned}
-use Rattle.clap.specs.Walk.{Row, Text, one_of}
+use Rattle.clap.specs.Walk.{Row, Text, first_of, one_of}
 use Rattle.chi_fields.specs.Extent.{region_of}
 use Rattle.chi_script.specs.Script.{ScriptValue, script}
+use Rattle.chi_script.specs.WriterBytes.{AppendsFront}
 use Rattle.chi_stimulus.specs.Generated.{IsGenerated}
 use Rattle.chi_stimulus.specs.declared.stimulus.Stimulus.{Stimulus}
+use Rattle.chi_home.specs.CommandLine.{default_mix}
 use Rattle.chi_home.specs.Found.{has_word}
 use Rattle.chi_home.specs.declared.generation.GenerateOptions.{GenerateOptions}
 use Rattle.chi_home.specs.declared.generation.GenerateFault.{GenerateFault}
@@ -28,6 +30,7 @@ pub record HasGenerateOptions (found : List Row) (options : GenerateOptions) : T
   pub requesters : IsNumberOr 4 (one_of (codes "requesters") found) options.requesters
   pub refused : IsNumberOr 0 (one_of (codes "refused") found) options.refused
   pub hot : IsNumberOr 0 (one_of (codes "hot") found) options.hot
+  pub mix : options.mix.now ≡ unwrap_or (first_of (codes "mix") found) default_mix
 
 -- the options ask for this script
 pub record AsksFor (options : GenerateOptions) (s : Stimulus) : Type 0 where
@@ -47,11 +50,17 @@ pub record IsAskedFor (options : GenerateOptions) (text : List ℕ) : Type 0 whe
   pub read : script text 7 ≡ Ok value
   pub generated : IsGenerated stimulus value
 
--- after Ok the text of a script was written, and after a fault that is not the writer's nothing
+-- after Ok the text of a script was written, after a fault of the writer a beginning of one, and after another nothing
 abbrev pub WritesScript : GenerateOptions → Option (List ℕ) → Option (List ℕ) → Result (Unit {0}) GenerateFault → Type 0
 WritesScript options old new (Ok done) = (text : List ℕ) × IsAskedFor options text × Appends old new text
-WritesScript options old new (Err (Write fault)) = Unit {0}
+WritesScript options old new (Err (Write fault)) = (text : List ℕ) × IsAskedFor options text × AppendsFront old new text
 WritesScript options old new (Err fault) = Keeps old new
+
+-- the options are refused
+abbrev pub IsRefused : GenerateFault → Type 0
+IsRefused Memory = ⊥
+IsRefused (Write fault) = ⊥
+IsRefused fault = Unit {0}
 
 -- the status of a fault: 2 where the options are refused, 4 out of memory, 5 where the script was not written
 abbrev pub generate_status : GenerateFault → ℕ

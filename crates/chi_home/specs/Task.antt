@@ -64,7 +64,7 @@ abbrev pub made_status : Result (Unit {0}) GenerateFault → ℕ
 made_status (Ok done) = 0
 made_status (Err fault) = generate_status fault
 
--- What came of making a script: a script that the options ask for was written, or nothing but a part of one.
+-- What came of making a script: one that the options ask for was written, a beginning of one, or nothing.
 abbrev pub Makes : GenerateOptions → Option (List ℕ) → Option (List ℕ) → ℕ → Type 0
 Makes options old new status =
     (result : Result (Unit {0}) GenerateFault) × WritesScript options old new result × (status ≡ made_status result)

@@ -1,12 +1,12 @@
 //! The task `generate`: its options, and what it writes.
 
-ghost use Rattle.std.specs.Prelude.{◌≡◌, false, IfErr, IfOk};
+ghost use Rattle.std.specs.Prelude.{◌≡◌, false, codes, unwrap_or, IfErr, IfOk};
 ghost use Rattle.clap.specs.Matches.{found_of};
 ghost use Rattle.clap.specs.Simple.{app_of};
 ghost use Rattle.clap.specs.Values.{kind_of};
-ghost use Rattle.clap.specs.Walk.{one_of, rows_of, rule_of};
-ghost use Rattle.chi_home.specs.CommandLine.{generate_app, image_rule, mix_rule, number_rule};
-ghost use Rattle.chi_home.specs.Generating.{AsksFor, HasGenerateOptions, IsNumberOr, WritesScript, generate_status};
+ghost use Rattle.clap.specs.Walk.{first_of, one_of, rows_of, rule_of};
+ghost use Rattle.chi_home.specs.CommandLine.{default_mix, generate_app, image_rule, mix_rule, number_rule};
+ghost use Rattle.chi_home.specs.Generating.{AsksFor, HasGenerateOptions, IsNumberOr, IsRefused, WritesScript, generate_status};
 
 use crate::command::has_word;
 use chi_fields::{Region, RegionFault, region_fault_name};
@@ -14,7 +14,7 @@ use chi_script::{WriteFault, write_bytes};
 use chi_stimulus::{Mix, MixFault, Stimulus, generated_script};
 use clap::error::ErrorKind;
 use clap::{Arg, ArgAction, ArgMatches, Command, Error, value_parser};
-use std::alloc::{AllocError, Global};
+use std::alloc::Global;
 use std::io::Write;
 use thiserror::Error;
 
@@ -51,14 +51,6 @@ pub enum GenerateFault {
     Memory,
     #[error("{}", .0)]
     Write(WriteFault),
-}
-
-impl From<AllocError> for GenerateFault {
-    fn from(_refused: AllocError) -> GenerateFault
-        ensures { result ≡ GenerateFault.Memory }
-    {
-        GenerateFault::Memory
-    }
 }
 
 /// The status that the program ends with for a fault.
@@ -176,6 +168,16 @@ fn number_or(chosen: &ArgMatches<'_>, option: &str, other: u64) -> u64
     chosen.get_one::<u64>(option).unwrap_or(other)
 }
 
+// The weights that were given, or those that stand in for them.
+fn chosen_mix<'a>(chosen: &ArgMatches<'a>) -> &'a str
+    ensures { result.now ≡ unwrap_or (first_of (codes "mix") (rows_of (found_of chosen.now))) default_mix }
+{
+    match chosen.get_str("mix") {
+        Some(text) => text,
+        None => MIX,
+    }
+}
+
 /// The options that `generate` was given, or that stand in for them.
 pub(crate) fn generate_options<'a>(chosen: &ArgMatches<'a>) -> GenerateOptions<'a>
     ensures { HasGenerateOptions (rows_of (found_of chosen.now)) result }
@@ -189,13 +191,14 @@ pub(crate) fn generate_options<'a>(chosen: &ArgMatches<'a>) -> GenerateOptions<'
         requesters: number_or(chosen, "requesters", 4),
         refused: number_or(chosen, "refused", 0),
         hot: number_or(chosen, "hot", 0),
-        mix: chosen.get_str("mix").unwrap_or(MIX),
+        mix: chosen_mix(chosen),
     }
 }
 
 // A number of an option that takes no more than these.
 fn at_most(number: u64, most: u16) -> Result<u16, GenerateFault>
-    ensures { IfOk result (λ it. it ≡ number) }
+    ensures ok { IfOk result (λ it. it ≡ number) }
+    ensures fault { IfErr result (λ fault. fault ≡ GenerateFault.Number) }
 {
     match u16::try_from(number) {
         Ok(number) if number <= most => Ok(number),
@@ -205,7 +208,8 @@ fn at_most(number: u64, most: u16) -> Result<u16, GenerateFault>
 
 // A percentage, or another small number.
 fn at_most_byte(number: u64, most: u8) -> Result<u8, GenerateFault>
-    ensures { IfOk result (λ it. it ≡ number) }
+    ensures ok { IfOk result (λ it. it ≡ number) }
+    ensures fault { IfErr result (λ fault. fault ≡ GenerateFault.Number) }
 {
     match u8::try_from(number) {
         Ok(number) if number <= most => Ok(number),
@@ -215,7 +219,8 @@ fn at_most_byte(number: u64, most: u8) -> Result<u8, GenerateFault>
 
 // What the options ask for.
 fn stimulus_of(options: &GenerateOptions<'_>) -> Result<Stimulus, GenerateFault>
-    ensures { IfOk result (λ stimulus. AsksFor options.now stimulus) }
+    ensures ok { IfOk result (λ stimulus. AsksFor options.now stimulus) }
+    ensures fault { IfErr result IsRefused }
 {
     let requests = at_most(options.requests, 4096)?;
     let granules = at_most(options.granules, u16::MAX)?;
@@ -237,6 +242,7 @@ fn stimulus_of(options: &GenerateOptions<'_>) -> Result<Stimulus, GenerateFault>
 }
 
 /// Writes the script that the options ask for, and flushes it.
+#[tactic(auto, using(crate::proofs::Written::flushed_front, crate::proofs::Written::refused_keeps))]
 pub(crate) fn generate<W: Write>(
     alloc: Global,
     options: &GenerateOptions<'_>,
@@ -244,8 +250,13 @@ pub(crate) fn generate<W: Write>(
 ) -> Result<(), GenerateFault>
     ensures { WritesScript options.now (W.contents to.old) (W.contents to.new) result }
 {
-    let stimulus = stimulus_of(options)?;
-    let text = generated_script(alloc, &stimulus)?;
+    let stimulus = match stimulus_of(options) {
+        Ok(stimulus) => stimulus,
+        Err(fault) => return Err(fault),
+    };
+    let Ok(text) = generated_script(alloc, &stimulus) else {
+        return Err(GenerateFault::Memory);
+    };
     write_bytes(to, text.as_str().as_bytes()).map_err(GenerateFault::Write)?;
     match to.flush() {
         Ok(()) => Ok(()),

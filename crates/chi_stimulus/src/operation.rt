@@ -1,6 +1,6 @@
 //! The operations of a kind, one after another: each opcode, byte order, length and place in a granule.
 
-ghost use Rattle.std.specs.Prelude.{◌≡◌, ◌<◌, ◌≤◌};
+ghost use Rattle.std.specs.Prelude.{◌<◌, ◌≤◌};
 
 use rand::RngExt;
 use rand_core::Rng;

@@ -1,7 +1,6 @@
 //! Which requests of a script are refused, and why.
 
-ghost use Rattle.std.specs.Prelude.{◌≡◌, ◌<◌, ◌≤◌};
-ghost use Rattle.chi_fields.specs.Extent.{IsRegion};
+ghost use Rattle.std.specs.Prelude.{◌≡◌, ◌≤◌};
 ghost use Rattle.chi_stimulus.specs.Plan.{numbered_refusal, refusal_at, refusal_of};
 
 use chi_fields::laws::region_is_lawful;

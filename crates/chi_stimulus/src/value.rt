@@ -1,6 +1,6 @@
 //! Values by chance, many of them at an edge of signed or unsigned order or of carry.
 
-ghost use Rattle.std.specs.Prelude.{◌≡◌, ◌<◌, ◌≤◌};
+ghost use Rattle.std.specs.Prelude.{◌≤◌};
 
 use rand::RngExt;
 use rand_core::Rng;
