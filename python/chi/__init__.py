@@ -12,13 +12,15 @@ import os
 import pathlib
 
 _ROOM = 20
+# Seen from this folder: itself, out/ of the repository, and lib/ of the prefix where this is share/chi/python/chi.
+_FOLDERS = [".", "../../out", "../../../../lib"]
 
 
 def _load():
-    """libchi.so as CHI_LIBRARY names it, as it was built or installed beside this module, or as the system finds it."""
-    folders = pathlib.Path(__file__).resolve().parents
-    beside = [folders[1] / "out" / "libchi.so", folders[2] / "lib" / "libchi.so"]
-    found = [str(it) for it in beside if it.exists()]
+    """libchi.so as CHI_LIBRARY names it, as the first of these folders has it, or as the system finds it."""
+    here = pathlib.Path(__file__).resolve().parent
+    places = [here / folder / "libchi.so" for folder in _FOLDERS]
+    found = [str(it) for it in places if it.exists()]
     return ctypes.CDLL(os.environ.get("CHI_LIBRARY") or (found or ["libchi.so"])[0])
 
 
