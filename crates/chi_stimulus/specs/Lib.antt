@@ -3,3 +3,4 @@ pub mod Object
 pub mod Generated
 pub mod Operand
 pub mod Weights
+pub mod Named

@@ -1,6 +1,9 @@
 //! How often each kind of request is drawn.
 
-ghost use Rattle.std.specs.Prelude.{◌<◌, IfOk, IfSome};
+ghost use Rattle.std.specs.Prelude.{◌≡◌, ◌<◌, ◌≤◌, IfOk, IfSome};
+ghost use Rattle.std.specs.List.{position};
+ghost use Rattle.std.specs.Str.{bytes_eq};
+ghost use Rattle.chi_stimulus.specs.Named.{entry_of, kinds, mix_of};
 ghost use Rattle.chi_stimulus.specs.Weights.{HasSmallWeights};
 
 use rand_core::Rng;
@@ -25,30 +28,52 @@ pub struct Mix {
     weights: [u16; 6],
 }
 
+/// An entry KIND=WEIGHT: the place of its kind in `KINDS`, and its weight.
+struct Entry {
+    kind: usize,
+    weight: u16,
+}
+
 /// The place of a kind in `KINDS`.
 fn kind_named(name: &str) -> Option<usize>
-    ensures { IfSome result (λ kind. kind < 6) }
+    ensures kind { result ≡ position (bytes_eq name.now) kinds }
+    ensures within { IfSome result (λ kind. kind < 6) }
 {
-    KINDS.iter().position(|kind| *kind == name)
+    KINDS.iter().position(|kind| name == *kind)
+}
+
+/// The entry that a part of a text is.
+fn entry_in(part: &str) -> Option<Entry>
+    ensures entry { result ≡ entry_of part.now }
+    ensures kind { IfSome result (λ entry. entry.kind < 6) }
+    ensures weight { IfSome result (λ entry. entry.weight ≤ 1000) }
+{
+    let (name, weight) = part.split_once('=')?;
+    let kind = kind_named(name)?;
+    let weight: u16 = weight.parse().ok()?;
+    if weight > MOST_WEIGHT {
+        return None;
+    }
+    Some(Entry { kind, weight })
 }
 
 impl Mix {
-    /// The weights that a text names, as `load=3,store=2`. A kind that is not named is not drawn.
+    /// The weights that a text names, as `load=3,store=2`. An entry is KIND=WEIGHT, with a weight of 0 to 1000 that may
+    /// follow a `+`. Of a kind the last entry counts; one that is not named is not drawn. The text is refused where a part
+    /// between commas is no entry, or where all weights are 0.
+    ///
+    /// Source: profile.
     ///
     /// ```
     /// let locks = Mix::named("compare=4,swap=1,read=1")?;
     /// ```
     pub fn named(text: &str) -> Result<Mix, MixFault>
-        ensures { IfOk result HasSmallWeights }
+        ensures named { result ≡ mix_of text.now }
+        ensures small { IfOk result HasSmallWeights }
     {
         let mut weights = [0; 6];
-        'entries: for entry in text.split(',') {
-            let (name, weight) = entry.split_once('=').ok_or(MixFault)?;
-            let weight: u16 = weight.parse().map_err(|_| MixFault)?;
-            if weight > MOST_WEIGHT {
-                return Err(MixFault);
-            }
-            let kind = kind_named(name).ok_or(MixFault)?;
+        'entries: for part in text.split(',') {
+            let Entry { kind, weight } = entry_in(part).ok_or(MixFault)?;
             weights[kind] = weight;
         }
         if weights == [0; 6] {
