@@ -14,7 +14,7 @@ help:
 	@echo "make try [SCRIPT=FILE]     build chihome with no proof, and show a script and the transcript of chihome run"
 	@echo "make run [SCRIPT=FILE]     the same, once chihome is proved"
 	@echo "make test                  the gate: every proof from nothing, the edits that must fail, tests, runs and what the documents show"
-	@echo "make page-test [PICTURE=F] the page of a trace, opened in Chromium: its bars, packets, keys and mouse, and how soon it opens"
+	@echo "make page-test [PICTURE=F] the pages of a trace and of a coverage, opened in Chromium: what they show, keys and mouse, and how soon they open"
 	@echo "make edits [CRATES=..]     the edits outside the gate, of some crates or of all: the prover must refuse each"
 	@echo "make checker               chicheck, proved: the program that explains traces"
 	@echo "make soak [SECONDS=N]      four workers race at the lock-free store for so many seconds, 10 if not said, while chicheck watches"

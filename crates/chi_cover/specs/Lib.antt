@@ -4,6 +4,7 @@ pub mod Counts
 pub mod Numbers
 pub mod Open
 pub mod Operations
+pub mod Page
 pub mod Part
 pub mod Texts
 pub mod Traffic

@@ -1,4 +1,4 @@
-//! What the operations of a trace covered: functional coverage, counted by definition, and its table as a text.
+//! What the operations of a trace covered: functional coverage, counted by definition, and its table and page as texts.
 #![tactic(auto)]
 
 mod adding;
@@ -12,6 +12,9 @@ mod number;
 mod open;
 mod operand;
 mod operation;
+mod page;
+mod page_script;
+mod page_style;
 mod part;
 mod rows;
 mod table;
@@ -20,4 +23,5 @@ mod traffic_group;
 
 pub use bin::{Bin, Depth, Enabled, Transaction};
 pub use covered::Covered;
+pub use page::add_page;
 pub use table::add_table;

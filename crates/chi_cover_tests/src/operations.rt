@@ -76,6 +76,15 @@ pub(crate) fn lanes(first: usize, bytes: &[u8]) -> [u8; 16] {
     lanes
 }
 
+/// An AtomicLoad.ADD of two bytes at 0x1004 that found 0xffff, was sent 1 and left 0; and a write of two of four bytes there,
+/// by another requester, before the AtomicLoad had ended.
+pub(crate) fn small_trace() -> Result<[Observed; 2], Fail> {
+    let found = Reply::CompData(lanes(4, &[0xff, 0xff]));
+    let load = observed(0x30, 1, 0x1004, false, 0x30, lanes(4, &[1, 0]), Some(found))?;
+    let write = observed(0x1c, 2, 0x1004, true, 0x90, [0; 16], Some(Reply::Comp))?;
+    Ok([of_requester(load, 1, 0, 10), of_requester(write, 2, 5, 15)])
+}
+
 /// Adds a trace of these operations.
 pub(crate) fn add(alloc: Global, covered: &mut Covered, ops: &[Observed]) -> Result<(), Fail> {
     match Trace::new(GranuleWords::none(alloc), Vec::from_slice(alloc, ops)?) {

@@ -1,22 +1,11 @@
 //! The text of a table.
 
 use crate::comparison::assert_same;
-use crate::operations::{covered_by, lanes, observed, of_requester};
+use crate::operations::{covered_by, small_trace};
 use chi_cover::{Covered, add_table};
-use chi_lanes::Reply;
-use chi_trace::Observed;
 use std::alloc::Global;
 use std::process::Abort;
 use std::test::Fail;
-
-// An AtomicLoad.ADD of two bytes at 0x1004 that found 0xffff, was sent 1 and left 0; and a write of two of four bytes there,
-// by another requester, before the AtomicLoad had ended.
-fn small_trace() -> Result<[Observed; 2], Fail> {
-    let found = Reply::CompData(lanes(4, &[0xff, 0xff]));
-    let load = observed(0x30, 1, 0x1004, false, 0x30, lanes(4, &[1, 0]), Some(found))?;
-    let write = observed(0x1c, 2, 0x1004, true, 0x90, [0; 16], Some(Reply::Comp))?;
-    Ok([of_requester(load, 1, 0, 10), of_requester(write, 2, 5, 15)])
-}
 
 // The lines of a table that are wanted at these places, counted from 0; after the last line there is nothing.
 const WANTED: [(usize, &str); 30] = [

@@ -1,0 +1,7 @@
+-- the counts as they are promised
+use Rattle.chi_cover.specs.Page.{covered_json}
+use Rattle.chi_cover.proofs.page.add_covered.Goals as goal
+
+pub returns : goal.returns
+unfolding covered_json
+returns c = rw (c.covered.ensures.value, c.percent.ensures) at c.add_parts.ensures

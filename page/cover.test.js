@@ -1,0 +1,76 @@
+// Tests of where the bins of a coverage stand on its page: `node --test page`.
+"use strict";
+
+const assert = require("node:assert");
+const test = require("node:test");
+const { groupOf, headingOf, isMissing, isWhole, missingOf, placeOf, summaryOf, tableOf, textOf } = require("./cover.js");
+
+// A group of bins with these counts.
+function group(name, counts) {
+  return groupOf({ name, bins: Object.entries(counts) });
+}
+
+// The rows of a table: the heads of each, and the counts with the columns that each is wide.
+function rows(table) {
+  return table.rows.map((row) => [row.heads.join(" "), ...row.cells.map((cell) => `${cell.bin.count}/${cell.width}`)]);
+}
+
+test("the data's arrays are bins", () => {
+  assert.deepEqual(groupOf({ name: "compares", bins: [["a", "12"], ["b", "0"]] }), { name: "compares", bins: [{ name: "a", count: "12" }, { name: "b", count: "0" }] });
+});
+
+test("a bin of operations stands in the row of its kind, byte order and length, in the column of its lane", () => {
+  assert.deepEqual(placeOf("operations", "AtomicLoad.ADD, little-endian, 2 bytes, lane 4"), { row: ["AtomicLoad.ADD", "little-endian", "2 bytes"], column: "4", width: 2 });
+  assert.deepEqual(placeOf("operations", "ReadNoSnp, big-endian, 1 byte, lane 15"), { row: ["ReadNoSnp", "big-endian", "1 byte"], column: "15", width: 1 });
+});
+
+test("an overlap stands in the row of the later transaction, in the column of the earlier one", () => {
+  assert.deepEqual(placeOf("overlaps", "WriteNoSnpPtl while AtomicLoad was open"), { row: ["WriteNoSnpPtl"], column: "AtomicLoad", width: 1 });
+});
+
+test("each other bin has a row of its own", () => {
+  assert.deepEqual(placeOf("writes", "WriteNoSnpPtl, 2 bytes, byte enables: some"), { row: ["WriteNoSnpPtl, 2 bytes, byte enables: some"], column: "operations", width: 1 });
+  assert.deepEqual(placeOf("open at once", "open more than 8"), { row: ["open more than 8"], column: "operations", width: 1 });
+});
+
+test("the matrix of operations has 16 lanes, and each row fills them", () => {
+  const bins = [1, 2, 4, 8].flatMap((length) => {
+    const lanes = Array.from({ length: 16 / length }, (_, number) => number * length);
+    return lanes.map((lane) => [`AtomicSwap, big-endian, ${length} byte${length === 1 ? "" : "s"}, lane ${lane}`, String(lane)]);
+  });
+  const table = tableOf(groupOf({ name: "operations", bins }));
+  assert.deepEqual(table.columns, Array.from({ length: 16 }, (_, lane) => String(lane)));
+  assert.deepEqual(rows(table)[2], ["AtomicSwap big-endian 4 bytes", "0/4", "4/4", "8/4", "12/4"]);
+  for (const row of table.rows) assert.equal(row.cells.reduce((sum, cell) => sum + cell.width, 0), 16);
+  assert.deepEqual(table.rows.map((row) => row.cells.length), [16, 8, 4, 2]);
+});
+
+test("the matrix of overlaps has the later transactions as rows, though the bins come by the earlier one", () => {
+  const table = tableOf(group("overlaps", { "R while R was open": "1", "W while R was open": "2", "R while W was open": "3", "W while W was open": "0" }));
+  assert.deepEqual(table.columns, ["R", "W"]);
+  assert.deepEqual(rows(table), [["R", "1/1", "3/1"], ["W", "2/1", "0/1"]]);
+  assert.deepEqual(table.rows.map(isWhole), [true, false]);
+});
+
+test("a plain table has a row for each bin", () => {
+  const table = tableOf(group("requesters", { "an overlap with an earlier operation of the same requester": "0", "an overlap with an earlier operation of another requester": "9" }));
+  assert.deepEqual(table.heads, ["bin"]);
+  assert.deepEqual(rows(table).map((row) => row[1]), ["0/1", "9/1"]);
+});
+
+test("a count that is 0 is missing, and no other", () => {
+  const { bins } = group("open at once", { "open 1": "0", "open 2": "10", "open 3 to 4": "18446744073709551615" });
+  assert.deepEqual(bins.map(isMissing), [true, false, false]);
+  assert.deepEqual(missingOf(bins).map((bin) => bin.name), ["open 1"]);
+});
+
+test("headings and summary say how many bins are covered", () => {
+  assert.equal(headingOf(group("open at once", { "open 1": "0", "open 2": "10", "open 3 to 4": "1" })), "open at once: 2 of 3");
+  assert.equal(summaryOf({ covered: "1311", bins: "1338", percent: "97" }, 27), "1311 of 1338 bins are covered (97%), 27 are missing.");
+  assert.equal(summaryOf({ covered: "1337", bins: "1338", percent: "99" }, 1), "1337 of 1338 bins are covered (99%), 1 is missing.");
+});
+
+test("the greatest count stands for more", () => {
+  assert.equal(textOf("18446744073709551615"), "18446744073709551615 or more");
+  assert.equal(textOf("18446744073709551614"), "18446744073709551614");
+});
