@@ -1,9 +1,11 @@
 pub mod Added
 pub mod Bins
 pub mod Counts
+pub mod Executed
 pub mod Numbers
 pub mod Open
 pub mod Operations
 pub mod Part
+pub mod Refusals
 pub mod Texts
 pub mod Traffic

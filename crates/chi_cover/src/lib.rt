@@ -1,9 +1,10 @@
-//! What the operations of a trace covered: functional coverage, counted by definition, and its table as a text.
+//! What the operations of a trace or of a script covered: functional coverage, counted by definition, and its table as a text.
 #![tactic(auto)]
 
 mod adding;
 mod bin;
 mod covered;
+mod execution;
 mod group;
 mod lines;
 mod measured;
@@ -13,6 +14,7 @@ mod open;
 mod operand;
 mod operation;
 mod part;
+mod refusals;
 mod rows;
 mod table;
 mod traffic;
@@ -20,4 +22,6 @@ mod traffic_group;
 
 pub use bin::{Bin, Depth, Enabled, Transaction};
 pub use covered::Covered;
+pub use execution::executed;
+pub use refusals::add_refusals;
 pub use table::add_table;
