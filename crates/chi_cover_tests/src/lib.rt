@@ -10,6 +10,8 @@ mod operation_tests;
 #[cfg(test)]
 mod operations;
 #[cfg(test)]
+mod script_tests;
+#[cfg(test)]
 mod stimulus_tests;
 #[cfg(test)]
 mod table_tests;
