@@ -1,3 +1,5 @@
+pub mod Accepted
+pub mod Counted
 pub mod Kept
 pub mod Left
 pub mod Lists

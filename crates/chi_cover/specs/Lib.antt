@@ -1,10 +1,12 @@
 pub mod Added
 pub mod Bins
 pub mod Counts
+pub mod Executed
 pub mod Numbers
 pub mod Open
 pub mod Operations
 pub mod Page
 pub mod Part
+pub mod Refusals
 pub mod Texts
 pub mod Traffic

@@ -1,9 +1,10 @@
-//! What the operations of a trace covered: functional coverage, counted by definition, and its table and page as texts.
+//! What the operations of a trace or of a script covered: functional coverage, counted by definition, and its table and page as texts.
 #![tactic(auto)]
 
 mod adding;
 mod bin;
 mod covered;
+mod execution;
 mod group;
 mod lines;
 mod measured;
@@ -16,6 +17,7 @@ mod page;
 mod page_script;
 mod page_style;
 mod part;
+mod refusals;
 mod rows;
 mod table;
 mod traffic;
@@ -23,5 +25,7 @@ mod traffic_group;
 
 pub use bin::{Bin, Depth, Enabled, Transaction};
 pub use covered::Covered;
+pub use execution::executed;
 pub use page::add_page;
+pub use refusals::add_refusals;
 pub use table::add_table;

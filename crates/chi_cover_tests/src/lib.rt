@@ -12,6 +12,8 @@ mod operations;
 #[cfg(test)]
 mod page_tests;
 #[cfg(test)]
+mod script_tests;
+#[cfg(test)]
 mod stimulus_tests;
 #[cfg(test)]
 mod table_tests;

@@ -1,5 +1,5 @@
 -- what a script's work over a fresh home did
-use Rattle.std.proofs.Common.{◌≡◌, ℕ, ◌<◌, List, [], ◌++◌, length, slice_index, sym, ap, subst, ◌∙◌, append-nil, Result, Ok, Err, IfErr}
+use Rattle.std.proofs.Common.{◌≡◌, ℕ, ◌<◌, List, [], ◌++◌, length, slice_index, sym, ap, subst, ◌∙◌, append-nil, Result, Ok, Err, IfErr, OnOk}
 use Rattle.chi_fields.specs.declared.request.Request.{Request}
 use Rattle.chi_fields.specs.Extent.{Extent}
 use Rattle.chi_lanes.specs.Memory.{Memory, word}
@@ -42,7 +42,7 @@ lines_of o s qs held seen seen' lines lines' r fresh empty run =
 all_of : (executed left all : List Request) → executed ++ left ≡ all → left ≡ [] → executed ≡ all
 all_of executed left all parts none = sym (append-nil executed) ∙ (ap (λ (qs : List Request). executed ++ qs) (sym none) ∙ parts)
 
-pub told_all : (o : Opening) (s : ScriptValue) (qs : List Request) (held : Held) (seen seen' : List Entry) (lines lines' : List Line) (done : Unit {0})
+told_all : (o : Opening) (s : ScriptValue) (qs : List Request) (held : Held) (seen seen' : List Entry) (lines lines' : List Line) (done : Unit {0})
     → IsFresh o s held seen → lines ≡ [] → qs ≡ s.requests → IsSerialRun (Ok done) o qs seen seen' lines lines' → lines' ≡ serial s.region s.requests (start s)
 told_all o s qs held seen seen' lines lines' done fresh empty are run =
     lines_of o s qs held seen seen' lines lines' (Ok done) fresh empty run
@@ -68,27 +68,38 @@ end_all o s qs held seen seen' lines lines' done fresh are run =
     serial_end-entries' : end_from (opening_memory o) added ≡ serial_end o.region run.executed (end o seen)
     serial_end-entries' = ap (λ (m : Memory). end_from m added) first ∙ serial_end-entries o.region run.executed (end o seen)
 
--- the words of that memory
-pub shown_all : (o : Opening) (s : ScriptValue) (qs : List Request) (held : Held) (seen seen' seen'' : List Entry) (lines lines' : List Line) (done : Unit {0})
-    (words : List ℕ) → IsFresh o s held seen → qs ≡ s.requests → IsSerialRun (Ok done) o qs seen seen' lines lines' → seen'' ≡ seen' → length words ≡ s.region.granules
-    → ((g : ℕ) → g < o.region.granules → slice_index words g ≡ word (end o seen'') o.region g)
-    → words ≡ granule_words (serial_end s.region s.requests (start s)) s.region.base s.region.granules
-shown_all o s qs held seen seen' seen'' lines lines' done words fresh are run same count each =
-    words_are (serial_end s.region s.requests (start s)) s.region words count (λ g inside.
-    let P : Extent → Type 0 = λ region. g < region.granules in
-    each g (subst P (sym (region_is o s held seen fresh)) inside)
-    ∙ (ap (λ (h : List Entry). word (end o h) o.region g) same
-    ∙ (ap (λ (region : Extent). word (end o seen') region g) (region_is o s held seen fresh)
-    ∙ ap (λ (m : Memory). word m s.region g) (end_all o s qs held seen seen' lines lines' done fresh are run))))
+-- what the work did, however it ended: the lines of all requests, and the memory after them
+pub told_after : (r : Result (Unit {0}) WorkFault) (o : Opening) (s : ScriptValue) (qs : List Request) (held : Held) (seen seen' : List Entry) (lines lines' : List Line)
+    → IsFresh o s held seen → lines ≡ [] → qs ≡ s.requests → IsSerialRun r o qs seen seen' lines lines' → OnOk r (lines' ≡ serial s.region s.requests (start s))
+told_after (Ok done) o s qs held seen seen' lines lines' fresh empty are run = told_all o s qs held seen seen' lines lines' done fresh empty are run
+told_after (Err fault) o s qs held seen seen' lines lines' fresh empty are run = tt
 
--- after Memory some were not
+pub left_after : (r : Result (Unit {0}) WorkFault) (o : Opening) (s : ScriptValue) (qs : List Request) (held : Held) (seen seen' : List Entry) (lines lines' : List Line)
+    → IsFresh o s held seen → qs ≡ s.requests → IsSerialRun r o qs seen seen' lines lines' → OnOk r (end o seen' ≡ serial_end s.region s.requests (start s))
+left_after (Ok done) o s qs held seen seen' lines lines' fresh are run = end_all o s qs held seen seen' lines lines' done fresh are run
+left_after (Err fault) o s qs held seen seen' lines lines' fresh are run = tt
+
+-- after Memory some were not executed
 pub cut_after : (r : Result (Unit {0}) WorkFault) (o : Opening) (s : ScriptValue) (qs : List Request) (held : Held) (seen seen' : List Entry) (lines lines' : List Line)
-    (fault : WorkFault) → IsFresh o s held seen → lines ≡ [] → qs ≡ s.requests → IsSerialRun (Err fault) o qs seen seen' lines lines' → IfErr r (λ _. IsCut s lines')
-cut_after (Ok done) o s qs held seen seen' lines lines' fault fresh empty are run = tt
-cut_after (Err other) o s qs held seen seen' lines lines' fault fresh empty are run = record {
+    → IsFresh o s held seen → lines ≡ [] → qs ≡ s.requests → IsSerialRun r o qs seen seen' lines lines' → IfErr r (λ _. IsCut s lines')
+cut_after (Ok done) o s qs held seen seen' lines lines' fresh empty are run = tt
+cut_after (Err fault) o s qs held seen seen' lines lines' fresh empty are run = record {
   executed = run.executed;
   left = run.left;
   parts = run.parts ∙ are;
   some_left = run.are_left;
   told = lines_of o s qs held seen seen' lines lines' (Err fault) fresh empty run;
 }
+
+-- the words of the memory that a script leaves
+pub shown_after : (o : Opening) (s : ScriptValue) (held : Held) (seen seen' seen'' : List Entry) (words : List ℕ) → IsFresh o s held seen
+    → end o seen' ≡ serial_end s.region s.requests (start s) → seen'' ≡ seen' → length words ≡ s.region.granules
+    → ((g : ℕ) → g < o.region.granules → slice_index words g ≡ word (end o seen'') o.region g)
+    → words ≡ granule_words (serial_end s.region s.requests (start s)) s.region.base s.region.granules
+shown_after o s held seen seen' seen'' words fresh left same count each =
+    words_are (serial_end s.region s.requests (start s)) s.region words count (λ g inside.
+    let P : Extent → Type 0 = λ region. g < region.granules in
+    each g (subst P (sym (region_is o s held seen fresh)) inside)
+    ∙ (ap (λ (h : List Entry). word (end o h) o.region g) same
+    ∙ (ap (λ (region : Extent). word (end o seen') region g) (region_is o s held seen fresh)
+    ∙ ap (λ (m : Memory). word m s.region g) left)))

@@ -1,4 +1,5 @@
 pub mod Store
+pub mod Cover
 pub mod Engine
 pub mod Run
 pub mod RaceTranscript

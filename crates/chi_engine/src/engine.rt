@@ -1,10 +1,12 @@
-//! From a script's bytes to a transcript's bytes.
+//! From a script's bytes to a transcript's bytes, or to what it covered.
 
 ghost use Rattle.std.specs.Prelude.{◌≡◌, IfSome};
+ghost use Rattle.chi_engine.specs.Cover.{CoverOutcome, KeepsUnwritten};
 ghost use Rattle.chi_engine.specs.Engine.{KeepsUnexecuted, ReportsOpening};
 ghost use Rattle.chi_engine.specs.RaceTranscript.{RaceOutcome, most_racer};
 ghost use Rattle.chi_engine.specs.Run.{Outcome};
 
+use crate::cover::cover_script;
 use crate::fault::EngineFault;
 use crate::input::read_whole;
 use crate::options::{Options, Workers};
@@ -14,6 +16,9 @@ use chi_history::Gate;
 use std::io::{Read, Write};
 use std::sync::Wait;
 use std::thread::Threads;
+
+/// The greatest requester number of a script whose requests are executed in order.
+const MOST_SRC: u8 = 7;
 
 /// Reads a script, executes its requests in order on the memory that it opens with, and writes the transcript.
 ///
@@ -34,8 +39,33 @@ pub fn engine_run<T: AllocGlobal + Wait, R: Read, W: Write>(
     ensures opening { ReportsOpening options.now result }
     ensures unexecuted { KeepsUnexecuted (W.contents to.old) (W.contents to.new) result }
 {
-    let script = read_whole(rt.alloc(), from, 7)?;
+    let script = read_whole(rt.alloc(), from, MOST_SRC)?;
     run_script(rt, &script, to, options)
+}
+
+/// Reads a script, executes its requests in order as `engine_run` does, and writes what they covered in place of the transcript:
+/// the table of coverage of the requests that were completed, and then how many were refused for each reason.
+///
+/// It reads, opens and executes as `engine_run` does, with the same faults. Nothing is written unless the whole text was made:
+/// where there is no memory for the work, the counts or the text, nothing is. After a fault of the writer a prefix of the text
+/// has been written.
+///
+/// Source: profile.
+///
+/// ```
+/// engine_cover(rt, &mut script.as_bytes(), &mut table, &options)?;
+/// ```
+pub fn engine_cover<T: AllocGlobal + Wait, R: Read, W: Write>(
+    rt: &T,
+    from: &mut R,
+    to: &mut W,
+    options: &Options,
+) -> Result<(), EngineFault>
+    ensures outcome { IfSome (R.remaining from.old) (λ input. CoverOutcome options.now input (W.contents to.old) (W.contents to.new) result) }
+    ensures opening { ReportsOpening options.now result }
+    ensures unwritten { KeepsUnwritten (W.contents to.old) (W.contents to.new) result }
+{
+    cover_script(rt, &read_whole(rt.alloc(), from, MOST_SRC)?, to, options)
 }
 
 // The greatest requester number in a race.

@@ -1,6 +1,7 @@
-//! The engine: from a script's bytes to a transcript's bytes, over the store of the options.
+//! The engine: from a script's bytes to a transcript's bytes, or to what it covered, over the store of the options.
 #![tactic(auto)]
 
+mod cover;
 mod engine;
 mod fault;
 mod input;
@@ -9,7 +10,7 @@ mod race;
 mod run;
 mod store;
 
-pub use engine::{engine_race, engine_run};
+pub use engine::{engine_cover, engine_race, engine_run};
 pub use fault::{EngineFault, status_of};
 pub use input::MOST_BYTES;
 pub use options::{Options, StoreKind, Workers};

@@ -2,7 +2,7 @@
 
 ghost use Rattle.std.specs.Prelude.{◌≡◌, ◌+◌, [], length, IfErr, OnOk};
 ghost use Rattle.chi_history.specs.NumberSets.{AllFrom, below};
-ghost use Rattle.chi_history.specs.History.{opening_memory};
+ghost use Rattle.chi_history.specs.History.{end, opening_memory};
 ghost use Rattle.chi_history.specs.Lines.{serial, serial_end};
 ghost use Rattle.chi_engine.specs.Engine.{KeepsUnexecuted, ReportsOpening};
 ghost use Rattle.chi_engine.specs.Run.{IsCut, Runs, RunsBy, most_src};
@@ -17,6 +17,28 @@ use chi_requester::{Policy, WorkFault, run_serial};
 use chi_script::{Script, write_lines, write_transcript};
 use std::io::Write;
 use std::sync::Wait;
+
+// Executes the requests of a script in order: their lines.
+pub(crate) fn execute_all<H: Home, R: Wait>(
+    home: &H,
+    rt: &R,
+    seat: &mut H::Seat,
+    script: &Script,
+    policy: Policy,
+    lines: &mut Vec<Line>,
+) -> Result<(), WorkFault>
+    requires own { H.belongs home.now seat.old }
+    requires fresh { IsFresh (H.opening home.now) script.now (H.held seat.old) (H.seen seat.old) }
+    requires from { AllFrom (below (most_src + 1)) script.now.requests }
+    requires empty { lines.old.items ≡ [] }
+    ensures own { H.belongs home.now seat.new }
+    ensures held { H.held seat.new ≡ H.held seat.old }
+    ensures told { OnOk result (lines.new.items ≡ serial script.now.region script.now.requests (opening_memory (opening_of script.now))) }
+    ensures left { OnOk result (end (H.opening home.now) (H.seen seat.new) ≡ serial_end script.now.region script.now.requests (opening_memory (opening_of script.now))) }
+    ensures cut { IfErr result (λ _. IsCut script.now lines.new.items) }
+{
+    run_serial(home, rt, seat, script.requests(), policy, lines)
+}
 
 // Executes the requests of a script in order: their lines, and the words of the memory after them.
 fn work_all<H: Home, R: Wait>(
@@ -38,7 +60,7 @@ fn work_all<H: Home, R: Wait>(
         words.new ≡ granule_words last script.now.region.base script.now.region.granules) }
     ensures cut { IfErr result (λ _. IsCut script.now lines.new.items) }
 {
-    run_serial(home, rt, seat, script.requests(), policy, lines)?;
+    execute_all(home, rt, seat, script, policy, lines)?;
     home.snapshot(rt, seat, words);
     Ok(())
 }

@@ -8,6 +8,8 @@ mod attempt_tests;
 #[cfg(test)]
 mod comparison;
 #[cfg(test)]
+mod cover_tests;
+#[cfg(test)]
 mod device_tests;
 #[cfg(test)]
 mod devices;

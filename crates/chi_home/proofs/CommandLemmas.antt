@@ -1,5 +1,5 @@
 -- what the program's command line is to `clap`
-use Rattle.std.proofs.Common.{ap, ap₂, inl, inr, ◌⊎◌, codes, ◌≡◌, ◌∙◌, Bool, true, false, not, ◌&&◌, List, [], ◌∷◌, Option, Some, Bor, refl, sym, pos}
+use Rattle.std.proofs.Common.{ap, ap₂, inl, inr, ◌⊎◌, codes, ◌≡◌, ◌∙◌, Bool, true, false, not, ◌&&◌, cond, List, [], ◌∷◌, Option, Some, Bor, refl, sym, pos}
 use Rattle.std.specs.Option.{option_map, unwrap_or}
 use Rattle.clap.specs.Faults.{fault_of, is_simple_and_free}
 use Rattle.clap.specs.Kinds.{IsAmong}
@@ -10,12 +10,14 @@ use Rattle.clap.specs.declared.error.kind.ErrorKind.TheVariants as error_kind
 use Rattle.clap.specs.declared.builder.value_parser.ValueParser.TheVariants as value_parser
 use Rattle.clap.proofs.OnLiterals.{clap_on_literals}
 use Rattle.clap.proofs.WalkLemmas.{walk_stopped}
-use Rattle.chi_home.specs.Chosen.{BeginsWith, HasOptions, IsNamed, IsNamedFirst, IsScript, IsWork, is_generate, task_named}
+use Rattle.chi_home.specs.Chosen.{BeginsWith, HasOptions, IsNamed, IsNamedFirst, IsRun, IsScript, IsWork, is_generate, task_named}
+use Rattle.chi_home.specs.Found.{has_word}
 use Rattle.chi_home.specs.declared.command.Asked.{Asked}
 use Rattle.chi_home.specs.declared.command.Asked.TheVariants.{Work, Script}
 use Rattle.chi_home.specs.declared.command.Task.{Task}
-use Rattle.chi_home.specs.declared.command.Task.TheVariants.{Run, Race}
-use Rattle.chi_home.specs.CommandLine.{IsProgram, IsRaceApp, IsTaskApp, IsArgumentsFault, bare_app, generate_app, option_rule}
+use Rattle.chi_home.specs.declared.command.Task.TheVariants.{Run, Race, Cover}
+use Rattle.chi_engine.specs.declared.options.Options.{Options}
+use Rattle.chi_home.specs.CommandLine.{IsProgram, IsRaceApp, IsRunApp, IsTaskApp, IsArgumentsFault, bare_app, cover_rule, generate_app, option_rule}
 
 -- the third of a row of tests fails
 pub third_fails : (a b c d : Bool) → (a && (b && (not c && d))) ≡ true → c ≡ false
@@ -45,7 +47,7 @@ both run race = with_subcommand (with_subcommand (with_subcommand bare_app run.t
 -- the program, whose options take these words
 program_of : Bor (List (Bor Text)) → Bor (List (Bor Text)) → Bor (List (Bor Text)) → Bor (List (Bor Text)) → Bor (List (Bor Text)) → App
 program_of v w x y z =
-    both (task_of (codes "run") (stores_of v) (policies_of w)) (with_rule (task_of (codes "race") (stores_of x) (policies_of y)) (workers_of z))
+    both (with_rule (task_of (codes "run") (stores_of v) (policies_of w)) cover_rule) (with_rule (task_of (codes "race") (stores_of x) (policies_of y)) (workers_of z))
 
 simple_whatever : (v w x y z : Bor (List (Bor Text))) → is_simple_and_free (program_of v w x y z) ≡ true
 unfolding clap_on_literals program_of both task_of
@@ -78,23 +80,36 @@ task_is : (name : Text) (app : App) → (t : IsTaskApp name app) → app ≡ tas
 unfolding task_of
 task_is name app t = t.4 ∙ ap₂ (task_of name) t.2.2 t.3.2
 
+run_is : (app : App) → (t : IsRunApp app) → app ≡ with_rule (task_of (codes "run") (stores_of t.1.2.0) (policies_of t.1.3.0)) cover_rule
+run_is app t = t.2 ∙ ap (λ (task : App). with_rule task cover_rule) (task_is (codes "run") t.0 t.1)
+
 race_is : (app : App) → (t : IsRaceApp app) → app ≡ with_rule (task_of (codes "race") (stores_of t.2.2.0) (policies_of t.2.3.0)) (workers_of t.3.0)
 unfolding task_of
 race_is app t = t.4 ∙ ap₂ with_rule (task_is (codes "race") t.0 t.2) t.3.2
 
-program_is : (app : App) → (p : IsProgram app) → app ≡ program_of p.2.2.0 p.2.3.0 p.3.2.2.0 p.3.2.3.0 p.3.3.0
+program_is : (app : App) → (p : IsProgram app) → app ≡ program_of p.2.1.2.0 p.2.1.3.0 p.3.2.2.0 p.3.2.3.0 p.3.3.0
 unfolding program_of both
-program_is app p = p.4 ∙ ap₂ both (task_is (codes "run") p.0 p.2) (race_is p.1 p.3)
+program_is app p = p.4 ∙ ap₂ both (run_is p.0 p.2) (race_is p.1 p.3)
 
 -- `clap` says what it answers to any arguments
 pub program_is_simple : (app : App) → IsProgram app → is_simple_and_free app ≡ true
-program_is_simple app p = ap is_simple_and_free (program_is app p) ∙ simple_whatever p.2.2.0 p.2.3.0 p.3.2.2.0 p.3.2.3.0 p.3.3.0
+program_is_simple app p = ap is_simple_and_free (program_is app p) ∙ simple_whatever p.2.1.2.0 p.2.1.3.0 p.3.2.2.0 p.3.2.3.0 p.3.3.0
 
 -- each name is that of its own task alone
-work_named : (name word : Text) (wanted : Task) (found : List Row) (asked : Asked) → is_generate word ≡ false → task_named word ≡ wanted
-    → IsNamed name asked → HasOptions found name asked → name ≡ word → IsWork wanted asked
-work_named name word wanted found (Work task options) other task_is named has is = has.0 ∙ (ap task_named is ∙ task_is)
-work_named name word wanted found (Script options) other task_is named has is = cc (sym named ∙ (ap is_generate is ∙ other))
+race_named : (name : Text) (found : List Row) (asked : Asked) → IsNamed name asked → HasOptions found name asked → name ≡ codes "race" → IsWork Race asked
+race_named name found (Work task options) named has is = has.0 ∙ ap (λ n. task_named n found) is
+race_named name found (Script options) named has is = cc (sym named ∙ ap is_generate is)
+
+-- a run has its transcript, or what it covered
+run_named : (name : Text) (found : List Row) (asked : Asked) → IsNamed name asked → HasOptions found name asked → name ≡ codes "run" → IsRun asked
+run_named name found (Work task options) named has is = by_task task options (has_word found (codes "cover") (codes "true")) (has.0 ∙ ap (λ n. task_named n found) is)
+  where
+    by_task : (task : Task) (options : Options) (cover : Bool) → task ≡ cond cover Cover Run → IsRun (Work task options)
+    by_task Run options cover is = tt
+    by_task Race options true is = cc
+    by_task Race options false is = cc
+    by_task Cover options cover is = tt
+run_named name found (Script options) named has is = cc (sym named ∙ ap is_generate is)
 
 script_named : (name word : Text) (asked : Asked) → is_generate word ≡ true → IsNamed name asked → name ≡ word → IsScript asked
 script_named name word (Work task options) generate named is = cc (sym named ∙ (ap is_generate is ∙ generate))
@@ -104,16 +119,16 @@ script_named name word (Script options) generate named is = tt
 module _ (app : App) (arguments : List Text) (name : Text) (found : List Row) (asked : Asked) (p : IsProgram app)
     (is : subcommand_of app arguments ≡ Some (name, found)) (named : IsNamed name asked) (has : HasOptions found name asked) where
   begins_with : (word : Text) → (begins : BeginsWith arguments word)
-      → name_found (program_of p.2.2.0 p.2.3.0 p.3.2.2.0 p.3.2.3.0 p.3.3.0) (word ∷ begins.0) ≡ Some word → name ≡ word
+      → name_found (program_of p.2.1.2.0 p.2.1.3.0 p.3.2.2.0 p.3.2.3.0 p.3.3.0) (word ∷ begins.0) ≡ Some word → name ≡ word
   unfolding name_found
   begins_with word begins first =
       ap (λ n. unwrap_or n name) (ap (option_map (λ p. p.0)) (sym is) ∙ (ap₂ name_found (program_is app p) begins.1 ∙ first))
 
   pub named_first : IsNamedFirst arguments asked
   named_first = (
-    λ race. work_named name (codes "race") Race found asked refl refl named has (begins_with (codes "race") race (raced_whatever p.2.2.0 p.2.3.0 p.3.2.2.0 p.3.2.3.0 p.3.3.0 race.0)),
-    λ run. work_named name (codes "run") Run found asked refl refl named has (begins_with (codes "run") run (run_whatever p.2.2.0 p.2.3.0 p.3.2.2.0 p.3.2.3.0 p.3.3.0 run.0)),
-    λ generate. script_named name (codes "generate") asked refl named (begins_with (codes "generate") generate (generate_whatever p.2.2.0 p.2.3.0 p.3.2.2.0 p.3.2.3.0 p.3.3.0 generate.0)),
+    λ race. race_named name found asked named has (begins_with (codes "race") race (raced_whatever p.2.1.2.0 p.2.1.3.0 p.3.2.2.0 p.3.2.3.0 p.3.3.0 race.0)),
+    λ run. run_named name found asked named has (begins_with (codes "run") run (run_whatever p.2.1.2.0 p.2.1.3.0 p.3.2.2.0 p.3.2.3.0 p.3.3.0 run.0)),
+    λ generate. script_named name (codes "generate") asked refl named (begins_with (codes "generate") generate (generate_whatever p.2.1.2.0 p.2.1.3.0 p.3.2.2.0 p.3.2.3.0 p.3.3.0 generate.0)),
   )
 
 -- what `clap` refuses

@@ -16,13 +16,13 @@ use Rattle.chi_home.specs.Generating.{HasGenerateOptions}
 use Rattle.chi_home.specs.declared.command.Asked.{Asked}
 use Rattle.chi_home.specs.declared.command.Asked.TheVariants.{Work, Script}
 use Rattle.chi_home.specs.declared.command.Task.{Task}
-use Rattle.chi_home.specs.declared.command.Task.TheVariants.{Run, Race}
+use Rattle.chi_home.specs.declared.command.Task.TheVariants.{Run, Race, Cover}
 use Rattle.chi_home.specs.CommandLine.{IsProgram}
 use Rattle.chi_home.specs.Found.{has_word}
 
--- the task of a subcommand's name
-abbrev pub task_named : Text → Task
-task_named name = if bytes_eq name (codes "race") then Race else Run
+-- the task of a subcommand's name and of what was found: a run with `--cover` writes what it covered
+abbrev pub task_named : Text → List Row → Task
+task_named name found = if bytes_eq name (codes "race") then Race else if has_word found (codes "cover") (codes "true") then Cover else Run
 
 -- `--store lock`, or any other word
 abbrev pub store_of : List Row → StoreKind
@@ -48,6 +48,7 @@ attempts_of found = tries_or_four (option_map_or byte_or_zero (one_of (codes "at
 abbrev pub workers_for : Task → List Row → Workers
 workers_for Run found = Two
 workers_for Race found = workers_of found
+workers_for Cover found = Two
 
 -- the options of a task, as they were found
 abbrev pub options_of_task : Task → List Row → Options
@@ -69,7 +70,7 @@ IsNamed name (Script options) = is_generate name ≡ true
 
 -- what is asked for has the options that were found
 abbrev pub HasOptions : List Row → Text → Asked → Type 0
-HasOptions found name (Work task options) = (task ≡ task_named name) × (options ≡ options_of_task task found)
+HasOptions found name (Work task options) = (task ≡ task_named name found) × (options ≡ options_of_task task found)
 HasOptions found name (Script options) = HasGenerateOptions found options
 
 -- the arguments ask for this, with these options: those of what `clap` finds in them
@@ -89,6 +90,13 @@ abbrev pub IsWork : Task → Asked → Type 0
 IsWork wanted (Work task options) = task ≡ wanted
 IsWork wanted (Script options) = ⊥
 
+-- it is a run that is asked for, with its transcript or with what it covered
+abbrev pub IsRun : Asked → Type 0
+IsRun (Work Run options) = Unit {0}
+IsRun (Work Race options) = ⊥
+IsRun (Work Cover options) = Unit {0}
+IsRun (Script options) = ⊥
+
 -- it is a script that is asked for
 abbrev pub IsScript : Asked → Type 0
 IsScript (Work task options) = ⊥
@@ -97,5 +105,5 @@ IsScript (Script options) = Unit {0}
 -- a first argument that is a task's name names the task
 abbrev pub IsNamedFirst : List Text → Asked → Type 0
 IsNamedFirst arguments asked =
-    (BeginsWith arguments (codes "race") → IsWork Race asked) × (BeginsWith arguments (codes "run") → IsWork Run asked)
+    (BeginsWith arguments (codes "race") → IsWork Race asked) × (BeginsWith arguments (codes "run") → IsRun asked)
     × (BeginsWith arguments (codes "generate") → IsScript asked)

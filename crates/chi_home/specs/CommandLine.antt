@@ -36,13 +36,25 @@ IsRaceApp app =
     (task : App) × (workers : Rule) × IsTaskApp (codes "race") task
     × IsChoice (codes "workers") (codes "2" ∷ codes "4" ∷ []) (codes "2") workers × (app ≡ with_rule task workers)
 
+-- an option that is there or not
+abbrev pub switch_rule : Text → Rule
+switch_rule name = record (new_rule name) { long = Some name; action = Some SetTrue }
+
+-- a run may be asked for what its requests covered
+abbrev pub cover_rule : Rule
+cover_rule = switch_rule (codes "cover")
+
+-- the task of a run: it has that switch, too
+abbrev pub IsRunApp : App → Type 0
+IsRunApp app = (task : App) × IsTaskApp (codes "run") task × (app ≡ with_rule task cover_rule)
+
 -- an option that takes a whole number below 2^64, and its default
 abbrev pub number_rule : Text → Text → Rule
 number_rule name default = option_rule name (value_parser.Unsigned 0 (2 ^ 64 - 1)) default
 
 -- an image may be asked for
 abbrev pub image_rule : Rule
-image_rule = record (new_rule (codes "image")) { long = Some (codes "image"); action = Some SetTrue }
+image_rule = switch_rule (codes "image")
 
 -- the weights where none are given
 abbrev pub default_mix : Text
@@ -67,7 +79,7 @@ bare_app = on_top (λ s. record s { no_binary_name = true; has_version = true; s
 -- with its tasks `run`, `race` and `generate`
 abbrev pub IsProgram : App → Type 0
 IsProgram app =
-    (run : App) × (race : App) × IsTaskApp (codes "run") run × IsRaceApp race
+    (run : App) × (race : App) × IsRunApp run × IsRaceApp race
     × (app ≡ with_subcommand (with_subcommand (with_subcommand bare_app run.top) race.top) generate_app.top)
 
 -- why the arguments name no task: there is no memory, or `clap` finds this fault in them or is asked for help

@@ -13,7 +13,7 @@ use Rattle.chi_home.specs.CommandLine.{default_mix}
 use Rattle.chi_home.specs.Found.{has_word}
 use Rattle.chi_home.specs.declared.generation.GenerateOptions.{GenerateOptions}
 use Rattle.chi_home.specs.declared.generation.GenerateFault.{GenerateFault}
-use Rattle.chi_home.specs.declared.generation.GenerateFault.TheVariants.{Number, Region, Mix, Memory, Write}
+use Rattle.chi_home.specs.declared.generation.GenerateFault.TheVariants.{Memory, Write}
 
 -- the number that a text is, and another where there is none below 2^64
 abbrev pub IsNumberOr : ℕ → Option Text → ℕ → Type 0

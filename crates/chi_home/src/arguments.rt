@@ -9,7 +9,7 @@ ghost use Rattle.chi_home.specs.Task.{Ends, EndsAsked, Makes, ProgramOutcome, Ta
 
 use crate::command::{Asked, Task, asked_of};
 use crate::generation::{GenerateOptions, generate, generate_status};
-use chi_engine::{EngineFault, Options, engine_race, engine_run, status_of};
+use chi_engine::{EngineFault, Options, engine_cover, engine_race, engine_run, status_of};
 use chi_history::NoGate;
 use chi_script::WriteFault;
 use clap::Error;
@@ -21,6 +21,26 @@ use std::thread::Threads;
 
 /// The status where the command line is refused.
 pub(crate) const REFUSED: u8 = 2;
+
+// Does a task with a script.
+#[tactic(auto, using(crate::proofs::Written::unexecuted))]
+fn do_task<T: AllocGlobal + Threads + Wait + Sync, R: Read, W: Write>(
+    rt: &T,
+    task: Task,
+    options: &Options,
+    from: &mut R,
+    to: &mut W,
+) -> Result<(), EngineFault>
+    ensures outcome { IfSome (R.remaining from.old) (λ input. TaskOutcome task options.now input (W.contents to.old) (W.contents to.new) result) }
+    ensures opening { ReportsOpening options.now result }
+    ensures unexecuted { KeepsUnexecuted (W.contents to.old) (W.contents to.new) result }
+{
+    match task {
+        Task::Run => engine_run(rt, from, to, options),
+        Task::Race => engine_race(rt, from, to, options, NoGate, NoGate, NoGate, NoGate),
+        Task::Cover => engine_cover(rt, from, to, options),
+    }
+}
 
 // Does a task with a script, and flushes what was written. A fault of the flush is one of the writer.
 fn run_task<T: AllocGlobal + Threads + Wait + Sync, R: Read, W: Write>(
@@ -34,10 +54,7 @@ fn run_task<T: AllocGlobal + Threads + Wait + Sync, R: Read, W: Write>(
     ensures opening { ReportsOpening options.now result }
     ensures unexecuted { KeepsUnexecuted (W.contents to.old) (W.contents to.new) result }
 {
-    match task {
-        Task::Run => engine_run(rt, from, to, options)?,
-        Task::Race => engine_race(rt, from, to, options, NoGate, NoGate, NoGate, NoGate)?,
-    }
+    do_task(rt, task, options, from, to)?;
     match to.flush() {
         Ok(()) => Ok(()),
         Err(_) => Err(EngineFault::Write(WriteFault::Failed)),
@@ -125,7 +142,7 @@ fn report_arguments<W: Write, E: Write>(error: &Error, to: &mut W, errors: &mut 
 }
 
 /// The program: reads the arguments after its name, does the task that they name with a script from `from`, and
-/// writes the transcript to `to`, or makes a script and writes that. A fault is reported to `errors`, whose own faults are ignored. The answer is the
+/// writes the transcript to `to`, or what the script covered, or makes a script and writes that. A fault is reported to `errors`, whose own faults are ignored. The answer is the
 /// status to end with.
 ///
 /// ```

@@ -8,7 +8,7 @@ ghost use Rattle.clap.specs.Walk.{rows_of, rule_of};
 ghost use Rattle.clap.specs.declared.builder.value_parser.ValueParser.TheVariants as value_parser;
 ghost use Rattle.chi_home.specs.Chosen.{HasAttempts, HasOptions, IsChosen, IsNamed, IsNamedFirst, attempts_of, options_of_task, policy_of, store_of, task_named, workers_of};
 ghost use Rattle.chi_home.specs.Found.{has_word};
-ghost use Rattle.chi_home.specs.CommandLine.{IsProgram, IsRaceApp, IsTaken, IsTaskApp, IsArgumentsFault, option_rule};
+ghost use Rattle.chi_home.specs.CommandLine.{IsProgram, IsRaceApp, IsRunApp, IsTaken, IsTaskApp, IsArgumentsFault, cover_rule, option_rule};
 
 use crate::generation::{GenerateOptions, generate_command, generate_options};
 use chi_bookstore::MOST_ATTEMPTS;
@@ -16,14 +16,16 @@ use chi_engine::{Options, StoreKind, Workers};
 use chi_requester::Policy;
 use clap::builder::ValueParser;
 use clap::error::ErrorKind;
-use clap::{Arg, ArgMatches, Command, Error, value_parser};
+use clap::{Arg, ArgAction, ArgMatches, Command, Error, value_parser};
 use std::alloc::Global;
 
-/// What is done with a script: its requests are executed one after another, or raced.
+/// What is done with a script: its requests are executed one after another, or raced; or they are executed one after another for
+/// what they cover.
 #[derive(Clone, Copy)]
 pub enum Task {
     Run,
     Race,
+    Cover,
 }
 
 /// What the arguments ask for: that a script is executed, or that one is made.
@@ -121,6 +123,25 @@ fn task_command<'a>(alloc: Global, name: &'a str, about: &'a str) -> Result<Comm
     )
 }
 
+// The option that asks for what is covered.
+fn cover_option<'a>(alloc: Global) -> Arg<'a>
+    ensures rule { rule_of result ≡ cover_rule }
+    ensures local { result.global ≡ false }
+{
+    Arg::new(alloc, "cover")
+        .long("cover")
+        .action(ArgAction::SetTrue)
+        .help("Writes what the requests covered in place of the transcript")
+}
+
+// The task of a run, which may be asked for what is covered too.
+fn run_command<'a>(alloc: Global) -> Result<Command<'a>, Error>
+    ensures app { IfOk result (λ command. IsRunApp (app_of command)) }
+    ensures memory { IfErr result (λ error. kind_of error ≡ ErrorKind.OutOfMemory) }
+{
+    Ok(task_command(alloc, "run", RUN_ABOUT)?.arg(cover_option(alloc))?)
+}
+
 // The task of a race, which has its workers too.
 fn race_command<'a>(alloc: Global) -> Result<Command<'a>, Error>
     ensures app { IfOk result (λ command. IsRaceApp (app_of command)) }
@@ -149,7 +170,7 @@ fn whole_command<'a>(alloc: Global) -> Result<Command<'a>, Error>
             .version(VERSION)
             .after_help(MORE)
             .subcommand_required(true)
-            .subcommand(task_command(alloc, "run", RUN_ABOUT)?)?
+            .subcommand(run_command(alloc)?)?
             .subcommand(race_command(alloc)?)?
             .subcommand(generate_command(alloc)?)?,
     )
@@ -215,7 +236,7 @@ fn chosen_options(task: Task, chosen: &ArgMatches<'_>) -> Options
     ensures { result ≡ options_of_task task (rows_of (found_of chosen.now)) }
 {
     let workers = match task {
-        Task::Run => Workers::Two,
+        Task::Run | Task::Cover => Workers::Two,
         Task::Race => chosen_workers(chosen),
     };
     Options {
@@ -226,12 +247,14 @@ fn chosen_options(task: Task, chosen: &ArgMatches<'_>) -> Options
     }
 }
 
-// The task of this name.
-fn chosen_task(name: &str) -> Task
-    ensures { result ≡ task_named name.now }
+// The task of this name, with its options.
+fn chosen_task(name: &str, chosen: &ArgMatches<'_>) -> Task
+    ensures { result ≡ task_named name.now (rows_of (found_of chosen.now)) }
 {
     if name == "race" {
         Task::Race
+    } else if has_word(chosen, "cover", "true") {
+        Task::Cover
     } else {
         Task::Run
     }
@@ -246,7 +269,7 @@ fn chosen_asked<'a>(name: &str, chosen: &ArgMatches<'a>) -> Asked<'a>
     if name == "generate" {
         Asked::Script(generate_options(chosen))
     } else {
-        let task = chosen_task(name);
+        let task = chosen_task(name, chosen);
         Asked::Work(task, chosen_options(task, chosen))
     }
 }

@@ -1,0 +1,32 @@
+-- the operations of a script's lines, which were executed one after another
+use Rattle.std.specs.Prelude.{ℕ, List, Option, option_map, None, Some, IsOk}
+use Rattle.std.specs.List.{enumerate_from, filter_map}
+use Rattle.chi_fields.specs.Access.{Access}
+use Rattle.chi_fields.specs.Extent.{Extent}
+use Rattle.chi_fields.specs.Refusal.{access_of, decision}
+use Rattle.chi_fields.specs.declared.request.Request.{Request}
+use Rattle.chi_lanes.specs.declared.reply.Reply.{Reply}
+use Rattle.chi_history.specs.declared.line.Line.{Line}
+use Rattle.chi_history.specs.declared.line.Line.TheVariants.{Completed, Refused, Retried}
+use Rattle.chi_trace.specs.declared.observed.Observed.{Observed}
+
+-- what a completed request did, which starts and ends at a time
+abbrev pub done_at : ℕ → Request → Reply → Access → Observed
+done_at time q reply access = record { start = time; end = time; src = q.src; access = access; reply = Some reply }
+
+-- the operation of a line: only a completed request is one, and what it did is the access that it describes
+abbrev pub operation_at : ℕ → Line → Option Observed
+operation_at time (Completed q reply) = option_map (done_at time q reply) (access_of q)
+operation_at time (Refused q refusal) = None
+operation_at time (Retried q) = None
+
+-- The operations of lines that were executed one after another, each at the time that is its line's place, counted from 0: it
+-- has ended before the next one starts.
+abbrev pub executed : List Line → List Observed
+executed lines = filter_map (λ p. operation_at p.0 p.1) (enumerate_from 0 lines)
+
+-- a home of this region accepts the request of the line, if it was completed
+abbrev pub IsAcceptedIn : Extent → Line → Type 0
+IsAcceptedIn region (Completed q reply) = IsOk (decision q region)
+IsAcceptedIn region (Refused q refusal) = Unit {0}
+IsAcceptedIn region (Retried q) = Unit {0}
