@@ -1,2 +1,3 @@
+pub mod AllRead
 pub mod Told
 pub mod Rows

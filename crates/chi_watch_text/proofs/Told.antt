@@ -37,7 +37,7 @@ events_more [] (d ∷ events) line e are is = absurd are
 events_more (l ∷ lines) [] line e are is = absurd are
 events_more (l ∷ lines) (d ∷ events) line e (here, are) is = (here, events_more lines events line e are is)
 
-told_more : (text : List ℕ) (count : ℕ) (events : List Event) (rest : List ℕ) (e : Event) → AreTold text count events rest → 0 < length rest → event_text (take_through 10 rest) ≡ Ok e
+pub told_more : (text : List ℕ) (count : ℕ) (events : List Event) (rest : List ℕ) (e : Event) → AreTold text count events rest → 0 < length rest → event_text (take_through 10 rest) ≡ Ok e
     → AreTold text (count + 1) (events ++ e ∷ []) (drop_through 10 rest)
 told_more text count events rest e told some is = record {
   lines = told.lines ++ take_through 10 rest ∷ [];

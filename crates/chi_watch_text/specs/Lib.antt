@@ -1,5 +1,6 @@
 pub mod Found
 pub mod Lines
+pub mod Operations
 pub mod Outcomes
 pub mod ReachTexts
 pub mod RowTexts

@@ -1,8 +1,9 @@
-//! Events that are read line by line and watched, and the text of what is found.
+//! Events that are read line by line: the operations that they tell, or what a watch of them finds, and the text of that.
 #![tactic(auto)]
 
 mod fault;
 mod lines;
+mod operations;
 mod options;
 mod progress;
 mod quiet;
@@ -12,6 +13,7 @@ mod watched;
 mod watching;
 
 pub use fault::LinesFault;
+pub use operations::read_operations;
 pub use options::WatchOptions;
 pub use progress::WatchProgress;
 pub use text::watched_text;

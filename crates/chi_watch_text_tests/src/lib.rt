@@ -10,6 +10,8 @@ mod keep_going_tests;
 #[cfg(test)]
 mod line_tests;
 #[cfg(test)]
+mod operation_tests;
+#[cfg(test)]
 mod progress_tests;
 #[cfg(test)]
 mod reach_text_tests;

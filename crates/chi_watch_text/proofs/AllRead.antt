@@ -1,0 +1,126 @@
+-- one line more of events that are read as a trace
+use Rattle.std.proofs.Common.{◌≡◌, ℕ, ◌+◌, ◌<◌, List, [], ◌∷◌, ◌++◌, All, Option, None, Some, IfSome, append_assoc, filter_map, get_or, length, option_to_list, take, refl, sym, ap, subst, ◌∙◌}
+use Rattle.std.specs.List.{cons_option}
+use Rattle.std.specs.Io.BufRead.{drop_through, take_through}
+use Rattle.std.specs.List.Sorted.{IsNonDecreasingBy, IsPermutation}
+use Rattle.std.proofs.lemmas.List.{get_or_default, take_more}
+use Rattle.std.proofs.lemmas.List.Elements.{filter_map-append}
+use Rattle.std.proofs.lemmas.List.Sorted.{All-permutation, IsPermutation-trans}
+use Rattle.chi_trace.specs.declared.observed.Observed.{Observed}
+use Rattle.chi_trace.specs.Explains.{IsObserved, IsTrace, nothing}
+use Rattle.chi_verdict.proofs.Traced.{IsTrace-from_places, observed_below}
+use Rattle.chi_event_text.specs.EventText.{event_text}
+use Rattle.chi_events.specs.declared.event.Event.{Event}
+use Rattle.chi_events.specs.EventLaws.{OperationsAreTold}
+use Rattle.chi_events.specs.Operations.{operations}
+use Rattle.chi_events.specs.Outstanding.{OutstandingValue, Tells, open_operation}
+use Rattle.chi_events.specs.declared.outstanding.Open.{Open}
+use Rattle.chi_watch_text.specs.Lines.{AreEvents, AreLines, AreTold}
+use Rattle.chi_watch_text.specs.Operations.{AreInOrder, AreOperations, IsOperationsFault, IsTakingFault}
+use Rattle.chi_watch_text.specs.Reading.{IsRead, IsRefused}
+use Rattle.chi_watch_text.specs.declared.fault.LinesFault.{LinesFault}
+use Rattle.chi_watch_text.specs.declared.fault.LinesFault.TheVariants as fault
+use Rattle.chi_watch_text.proofs.Told.{told_more}
+
+-- the first lines of the text, so many of them, tell events by which these operations had ended, and the rest follows
+pub record AreRead (text : List ℕ) (count : ℕ) (ended : List Observed) (o : OutstandingValue) (rest : List ℕ) : Type 0 where
+  pub events : List Event
+  pub told : AreTold text count events rest
+  pub tells : Tells events ended o
+
+-- the same of a text that may not be known
+abbrev pub HasRead : Option (List ℕ) → ℕ → List Observed → OutstandingValue → Option (List ℕ) → Type 0
+HasRead None count ended o rest = Unit {0}
+HasRead (Some text) count ended o None = ⊥
+HasRead (Some text) count ended o (Some rest) = AreRead text count ended o rest
+
+-- nothing was read
+pub none_read : (start : Option (List ℕ)) (o : OutstandingValue) (ended : List Observed) → Tells [] [] o → ended ≡ [] → HasRead start 0 ended o start
+unfolding AreEvents AreLines
+none_read None o ended tells none = tt
+none_read (Some text) o ended tells none = record {
+  events = [];
+  told = record { lines = []; count_is = refl; are_lines = refl; are_events = tt };
+  tells = subst (λ (l : List Observed). Tells [] l o) (sym none) tells;
+}
+
+-- one event more
+pub read_more : (start now later : Option (List ℕ)) (count line : ℕ) (before after : List Observed) (old new : OutstandingValue) (e : Event) (ended : Option Observed)
+    → HasRead start count before old now → IfSome now (λ text. IsRead text (Some e) later)
+    → ((events : List Event) (past : List Observed) → Tells events past old → Tells (events ++ e ∷ []) (past ++ option_to_list ended) new)
+    → line ≡ count + 1 → after ≡ before ++ option_to_list ended → HasRead start line after new later
+read_more None now later count line before after old new e ended has next takes here is = tt
+read_more (Some text) None later count line before after old new e ended has next takes here is = absurd has
+read_more (Some text) (Some rest) later count line before after old new e ended has (some, tells, left) takes here is =
+    subst (HasRead (Some text) line after new) (sym left) (record {
+      events = has.events ++ e ∷ [];
+      told = subst (λ (n : ℕ). AreTold text n (has.events ++ e ∷ []) (drop_through 10 rest)) (sym here) (told_more text count has.events rest e has.told some tells);
+      tells = subst (λ (l : List Observed). Tells (has.events ++ e ∷ []) l new) (sym is) (takes has.events before has.tells);
+    })
+
+-- the text is at its end
+pub all_read : (start now later : Option (List ℕ)) (count : ℕ) (ended ops : List Observed) (o : OutstandingValue) → HasRead start count ended o now
+    → IfSome now (λ text. IsRead text None later) → ((events : List Event) → Tells events ended o → AreInOrder events ops) → IfSome start (λ text. AreOperations text ops)
+all_read None now later count ended ops o has end order = tt
+all_read (Some text) None later count ended ops o has end order = absurd has
+all_read (Some text) (Some rest) later count ended ops o has end order =
+    (has.events, count, subst (AreTold text count has.events) end has.told, order has.events has.tells)
+
+-- a line tells no event
+pub line_refused : (start now : Option (List ℕ)) (count number : ℕ) (ended : List Observed) (o : OutstandingValue) (f : LinesFault) → HasRead start count ended o now
+    → number ≡ count + 1 → IfSome now (λ text. IsRefused (take_through 10 text) number f) → IfSome start (λ text. IsOperationsFault text f)
+line_refused None now count number ended o f has here is = tt
+line_refused (Some text) None count number ended o f has here is = absurd has
+line_refused (Some text) (Some rest) count number ended o fault.Read has here is = tt
+line_refused (Some text) (Some rest) count number ended o (fault.Line n f) has here (same, refused) = (has.events, count, rest, has.told, sym (same ∙ here), refused)
+line_refused (Some text) (Some rest) count number ended o (fault.Event n f) has here is = absurd is
+line_refused (Some text) (Some rest) count number ended o fault.TooManyLines has here is = absurd is
+line_refused (Some text) (Some rest) count number ended o fault.Memory has here is = tt
+
+-- or one whose event cannot come next
+pub event_refused : (start now later : Option (List ℕ)) (count number : ℕ) (ended : List Observed) (o : OutstandingValue) (e : Event) (f : LinesFault)
+    → HasRead start count ended o now → number ≡ count + 1 → IfSome now (λ text. IsRead text (Some e) later) → IsTakingFault o e number f
+    → IfSome start (λ text. IsOperationsFault text f)
+event_refused None now later count number ended o e f has here read is = tt
+event_refused (Some text) None later count number ended o e f has here read is = absurd has
+event_refused (Some text) (Some rest) later count number ended o e fault.Read has here read is = absurd is
+event_refused (Some text) (Some rest) later count number ended o e (fault.Line n f) has here read is = absurd is
+event_refused (Some text) (Some rest) later count number ended o e (fault.Event n f) has here read (same, refused) =
+    (has.events, count, rest, has.told, sym (same ∙ here), (e, read.1, (ended, o, has.tells, refused)))
+event_refused (Some text) (Some rest) later count number ended o e fault.TooManyLines has here read is = absurd is
+event_refused (Some text) (Some rest) later count number ended o e fault.Memory has here read is = tt
+
+-- a fault that does not tell of the text
+pub no_memory : (start : Option (List ℕ)) → IfSome start (λ text. IsOperationsFault text fault.Memory)
+no_memory None = tt
+no_memory (Some text) = tt
+
+-- operations of a trace are one in every order of their starts
+sorted_trace : (told ops : List Observed) → IsTrace told → IsPermutation told ops → IsNonDecreasingBy (λ (op : Observed). op.start) ops → IsTrace ops
+sorted_trace told ops trace same up =
+    IsTrace-from_places ops (λ j under. All-permutation IsObserved told ops same observed j nothing under) (λ i j le under. up i j nothing le under)
+  where
+    observed : All IsObserved told
+    observed k d under = rw (get_or_default told k d nothing under) (observed_below told k trace under)
+
+-- those that had ended and those that are open, once they are sorted
+pub all_in_order : OperationsAreTold → (events : List Event) (ended all ops : List Observed) (o : OutstandingValue) → Tells events ended o
+    → all ≡ ended ++ filter_map open_operation o.requests → IsPermutation all ops → IsNonDecreasingBy (λ (op : Observed). op.start) ops → AreInOrder events ops
+all_in_order law events ended all ops o tells is moved up =
+    let same : IsPermutation (operations events) ops =
+    IsPermutation-trans (operations events) all ops (subst (IsPermutation (operations events)) (sym is) (law events ended o tells).1) moved in
+    record { trace = sorted_trace (operations events) ops (law events ended o tells).0 same up; same = same }
+
+-- the operation of one outstanding request more, where it has one
+pub open_more : (requests : List Open) (i : ℕ) (d : Open) (start before after : List Observed) → i < length requests → open_operation d ≡ open_operation (get_or requests i d)
+    → before ≡ start ++ filter_map open_operation (take i requests) → after ≡ before ++ option_to_list (open_operation d)
+    → after ≡ start ++ filter_map open_operation (take (i + 1) requests)
+open_more requests i d start before after below same was is =
+    let done = filter_map open_operation (take i requests) in
+    is ∙ (ap (λ l. l ++ option_to_list (open_operation d)) was ∙ (append_assoc start done (option_to_list (open_operation d))
+    ∙ ap (λ l. start ++ l) (ap (λ l. done ++ l) (ap option_to_list same ∙ one (open_operation (get_or requests i d)))
+    ∙ (sym (filter_map-append open_operation (take i requests) (get_or requests i d ∷ [])) ∙ ap (filter_map open_operation) (sym (take_more requests i d below))))))
+  where
+    one : (o : Option Observed) → option_to_list o ≡ cons_option o []
+    one None = refl
+    one (Some op) = refl

@@ -1,0 +1,92 @@
+//! Events that are read line by line, and the operations that they tell.
+
+ghost use Rattle.std.specs.Prelude.{◌≡◌, [], ◌∷◌, ◌++◌, List, Some, IfErr, IfOk, IfSome, OnOk, filter_map, option_to_list};
+ghost use Rattle.chi_trace.specs.declared.observed.Observed.{Observed};
+ghost use Rattle.chi_events.specs.declared.event.Event.{Event};
+ghost use Rattle.chi_events.specs.Outstanding.{Tells, open_operation};
+ghost use Rattle.chi_watch_text.specs.Operations.{AreInOrder, AreOperations, IsOperationsFault, IsTakingFault};
+
+use crate::fault::LinesFault;
+use crate::lines::next_event;
+use chi_events::laws::operations_are_told;
+use chi_events::{Event, EventFault, Open, Outstanding};
+use chi_trace::Observed;
+use chi_watch::WatchFault;
+use std::alloc::{AllocError, Global};
+use std::io::BufRead;
+
+/// Has the event of the line with this number come next: the operation that ended by it, if one did.
+fn take_event(
+    outstanding: &mut Outstanding,
+    event: &Event,
+    number: u64,
+) -> Result<Option<Observed>, LinesFault>
+    ensures tells { IfOk result (λ ended. (events : List Event) (past : List Observed) → Tells events past outstanding.old → Tells (events ++ event.now ∷ []) (past ++ option_to_list ended) outstanding.new) }
+    ensures fault { IfErr result (IsTakingFault outstanding.old event.now number) }
+{
+    match outstanding.take(event) {
+        Ok(ended) => Ok(ended),
+        Err(EventFault::Memory) => Err(LinesFault::Memory),
+        Err(fault) => Err(LinesFault::Event {
+            number,
+            fault: WatchFault::Event(fault),
+        }),
+    }
+}
+
+/// Adds an operation, where there is one.
+fn add_some(ops: &mut Vec<Observed>, op: Option<Observed>) -> Result<(), AllocError>
+    ensures { OnOk result (ops.new.items ≡ ops.old.items ++ option_to_list op) }
+{
+    if let Some(op) = op {
+        ops.push(op)?;
+    }
+    Ok(())
+}
+
+/// Adds the operations of requests that are outstanding and have their data.
+fn add_open(ops: &mut Vec<Observed>, requests: &[Open]) -> Result<(), AllocError>
+    ensures { OnOk result (ops.new.items ≡ ops.old.items ++ filter_map open_operation requests.now) }
+{
+    for request in requests {
+        add_some(ops, request.operation())?;
+    }
+    Ok(())
+}
+
+/// The operations that had ended and those that are still open, in the order of their starts.
+fn in_order(mut ops: Vec<Observed>, outstanding: &Outstanding) -> Result<Vec<Observed>, AllocError>
+    ensures { IfOk result (λ all. (events : List Event) → Tells events ops.items outstanding.now → AreInOrder events all.items) }
+{
+    operations_are_told();
+    add_open(&mut ops, outstanding.requests())?;
+    ops.sort_by_key(|op| op.start)?;
+    Ok(ops)
+}
+
+/// Reads events line by line: the operations that they tell, in the order of their starts. A request that was dropped, or whose
+/// data never came, is none; one that was outstanding at the end is open. Words are read, and nothing is said of them.
+///
+/// The last line needs no line feed. Operations that start at the same time stand in some order.
+///
+/// Source: profile.
+///
+/// ```
+/// let ops = read_operations(alloc, &mut reader)?;
+/// ```
+pub fn read_operations<R: BufRead>(alloc: Global, from: &mut R) -> Result<Vec<Observed>, LinesFault>
+    ensures told { IfSome (R.remaining from.old) (λ text. IfOk result (λ ops. AreOperations text ops.items)) }
+    ensures fault { IfSome (R.remaining from.old) (λ text. IfErr result (IsOperationsFault text)) }
+{
+    let mut outstanding = Outstanding::new(alloc);
+    let mut ops = Vec::new(alloc);
+    let mut line = Vec::new(alloc);
+    for number in 1..u64::MAX {
+        let Some(event) = next_event(alloc, from, &mut line, number)? else {
+            return Ok(in_order(ops, &outstanding)?);
+        };
+        let ended = take_event(&mut outstanding, &event, number)?;
+        add_some(&mut ops, ended)?;
+    }
+    Err(LinesFault::TooManyLines)
+}
