@@ -1,5 +1,5 @@
 -- what the program reads of what `clap` found
-use Rattle.std.proofs.Common.{ap, ap₂, subst, sym, ◌≡◌, ◌∙◌, ℕ, true, false, List, refl, Option, Some, None, Result, Ok, Err}
+use Rattle.std.proofs.Common.{ap, ap₂, subst, sym, ◌≡◌, ◌∙◌, ℕ, true, false, List, [], refl, Option, Some, None, Result, Ok, Err}
 use Rattle.std.specs.Option.{option_map, option_map_or, unwrap_or}
 use Rattle.std.specs.Str.{bytes_eq}
 use Rattle.std.specs.Str.Parse.{ExplainsUnsignedError, HasUnsignedDigitsIfOk, ParsesUnsigned}
@@ -7,14 +7,14 @@ use Rattle.std.specs.Prelude.{Box}
 use Rattle.std.specs.Box.{box_value}
 use Rattle.std.specs.declared.num.ParseIntError.{ParseIntError}
 use Rattle.clap.specs.Faults.{is_simple_and_free}
-use Rattle.clap.specs.Matches.{ReadsOne, first_value, one_text, subcommand_name_of}
+use Rattle.clap.specs.Matches.{ReadsOne, first_value, matched_of, one_text, raw_values, subcommand_name_of}
 use Rattle.clap.specs.Simple.{App, HasMatchesOf, subcommand_of, subcommand_rows, subcommand_rows_of}
-use Rattle.clap.specs.Walk.{Row, Text, one_of, rows_of}
+use Rattle.clap.specs.Walk.{Row, Text, all_of, one_of, rows_of}
 use Rattle.clap.specs.declared.parser.matches.Found.{Found}
 use Rattle.clap.specs.declared.parser.matches.SubCommand.{SubCommand}
 use Rattle.clap.specs.declared.parser.matches.ArgMatches.{ArgMatches}
 use Rattle.clap.specs.declared.parser.matches.ArgMatches.TheViews.{out-ArgMatches, out-SubCommand}
-use Rattle.clap.proofs.WalkLemmas.{both, first_value-rows, one_text-rows}
+use Rattle.clap.proofs.WalkLemmas.{both, first_value-rows, one_text-rows, raw_values-rows}
 use Rattle.chi_check.specs.Chosen.{Finds, IsNumberOr, IsNumberOrNone, has_word}
 use Rattle.chi_check.specs.CommandLine.{program_app}
 
@@ -24,6 +24,14 @@ word_found found option word text is = ap (λ value. option_map_or (λ t. bytes_
 
 pub no_word_found : (found : Found) (option word : Text) → None ≡ first_value found option → false ≡ has_word (rows_of found) option word
 no_word_found found option word is = ap (λ value. option_map_or (λ t. bytes_eq t word) value false) (is ∙ first_value-rows found option)
+
+-- the values of an option, where it has some
+pub values_found : (found : Found) (option : Text) (values : List Text) → Some values ≡ option_map raw_values (matched_of found option)
+    → values ≡ unwrap_or (all_of option (rows_of found)) []
+values_found found option values is = ap (λ o. unwrap_or o []) (is ∙ raw_values-rows found option)
+
+pub no_values_found : (found : Found) (option : Text) → None ≡ option_map raw_values (matched_of found option) → [] ≡ unwrap_or (all_of option (rows_of found)) []
+no_values_found found option is = ap (λ (o : Option (List Text)). unwrap_or o []) (is ∙ raw_values-rows found option)
 
 -- what `u64::from_str` gives
 abbrev ReadsNumber : Text → Result ℕ ParseIntError → Type 0

@@ -14,7 +14,7 @@ use Rattle.chi_excerpt.specs.Failures.{IsFailure, IsFailureText}
 use Rattle.chi_check.specs.CheckStatus.{answer_status}
 use Rattle.chi_check.specs.Limits.{IsWithin}
 use Rattle.chi_check.specs.declared.fault.CheckFault.{CheckFault}
-use Rattle.chi_check.specs.declared.fault.CheckFault.TheVariants.{Read, TooLong, Memory, Trace, Events, Page, Write}
+use Rattle.chi_check.specs.declared.fault.CheckFault.TheVariants.{Read, TooLong, Memory, Trace, Events, File, Page, Write}
 use Rattle.chi_check.specs.declared.options.CheckOptions.{CheckOptions}
 
 -- the greatest number of bytes of a trace
@@ -59,6 +59,7 @@ Outcome options input old new (Err TooLong) = most_bytes < length input
 Outcome options input old new (Err Memory) = Unit {0}
 Outcome options input old new (Err (Trace fault)) = fault ≢ trace_fault.Memory → trace_text input ≡ Err fault
 Outcome options input old new (Err (Events fault)) = ⊥
+Outcome options input old new (Err (File place fault)) = ⊥
 Outcome options input old new (Err Page) = Unit {0}
 Outcome options input old new (Err (Write fault)) = (answer : Answer) × (text : List ℕ) × Answers options input answer text × AppendsFront old new text
 

@@ -10,7 +10,9 @@ use Rattle.chi_reading.specs.declared.fault.TraceFault.TheVariants as trace_faul
 use Rattle.chi_watch_text.specs.declared.fault.LinesFault.{LinesFault}
 use Rattle.chi_watch_text.specs.declared.fault.LinesFault.TheVariants as lines_fault
 use Rattle.chi_check.specs.declared.fault.CheckFault.{CheckFault}
-use Rattle.chi_check.specs.declared.fault.CheckFault.TheVariants.{Read, TooLong, Memory, Trace, Events, Page, Write}
+use Rattle.chi_check.specs.declared.fault.CheckFault.TheVariants.{Read, TooLong, Memory, Trace, Events, File, Page, Write}
+use Rattle.chi_check.specs.declared.fault.SourceFault.{SourceFault}
+use Rattle.chi_check.specs.declared.fault.SourceFault.TheVariants as source_fault
 
 -- a trace that is refused, or for which there is no memory
 abbrev pub trace_status : TraceFault → ℕ
@@ -23,6 +25,14 @@ lines_status lines_fault.Read = 5
 lines_status lines_fault.Memory = 4
 lines_status _ = 3
 
+-- an input that was not counted
+abbrev pub source_status : SourceFault → ℕ
+source_status source_fault.Read = 5
+source_status source_fault.TooLong = 3
+source_status source_fault.Memory = 4
+source_status (source_fault.Trace fault) = trace_status fault
+source_status (source_fault.Events fault) = lines_status fault
+
 -- 3 where the trace or an event is refused, 4 out of memory, 5 where a device failed
 abbrev pub status_of : CheckFault → ℕ
 status_of Read = 5
@@ -30,6 +40,7 @@ status_of TooLong = 3
 status_of Memory = 4
 status_of (Trace fault) = trace_status fault
 status_of (Events fault) = lines_status fault
+status_of (File place fault) = source_status fault
 status_of Page = 5
 status_of (Write fault) = 5
 

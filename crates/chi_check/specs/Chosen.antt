@@ -1,15 +1,16 @@
 -- which task the arguments name, and with which options
-use Rattle.std.specs.Prelude.{◌≡◌, ℕ, Bool, true, false, ◌∷◌, List, Option, Some, None, Result, codes}
+use Rattle.std.specs.Prelude.{◌≡◌, ℕ, Bool, true, false, [], ◌∷◌, List, unwrap_or, Option, Some, None, Result, codes}
 use Rattle.std.specs.Option.{option_map, option_map_or}
 use Rattle.std.specs.Result.{result_ok, result_unwrap_or}
 use Rattle.std.specs.Str.{bytes_eq}
 use Rattle.std.specs.Str.Parse.{ParsesUnsigned}
-use Rattle.clap.specs.Walk.{Row, Text, first_of, one_of}
+use Rattle.clap.specs.Walk.{Row, Text, all_of, first_of, one_of}
 use Rattle.clap.specs.Simple.{subcommand_of}
 use Rattle.chi_check.specs.declared.command.Task.{Task}
 use Rattle.chi_check.specs.declared.command.Task.TheVariants.{Explain, Watch, Cover}
 use Rattle.chi_watch_text.specs.declared.options.WatchOptions.{WatchOptions}
 use Rattle.chi_check.specs.CommandLine.{program_app}
+use Rattle.chi_check.specs.Cover.{paths_of}
 use Rattle.chi_check.specs.declared.options.CheckOptions.{CheckOptions}
 use Rattle.chi_check.specs.declared.options.CoverOptions.{CoverOptions}
 
@@ -53,8 +54,11 @@ pub record HasWatchOptions (found : List Row) (options : WatchOptions) : Type 0 
   pub budget : IsNumberOr 1000000 (one_of (codes "budget") found) options.budget
 
 -- and those of `cover`
-abbrev pub HasCoverOptions : List Row → CoverOptions → Type 0
-HasCoverOptions found options = IsNumberOr 0 (one_of (codes "require") found) options.require
+pub record HasCoverOptions (found : List Row) (options : CoverOptions) : Type 0 where
+  pub require : IsNumberOr 0 (one_of (codes "require") found) options.require
+  pub events : options.events ≡ has_word found (codes "events") (codes "true")
+  pub html : option_map (λ s. s.now) options.html ≡ first_of (codes "html") found
+  pub files : paths_of options ≡ unwrap_or (all_of (codes "file") found) []
 
 -- the task has the options that were found
 abbrev pub HasOptions : List Row → Task → Type 0

@@ -4,7 +4,7 @@ use Rattle.clap.specs.Walk.{Rule, Text}
 use Rattle.clap.specs.Simple.{App, new_app, new_rule, on_top, with_rule, with_subcommand}
 use Rattle.clap.specs.Kinds.{IsAmong}
 use Rattle.clap.specs.Faults.{fault_of}
-use Rattle.clap.specs.declared.builder.action.ArgAction.TheVariants.{SetTrue}
+use Rattle.clap.specs.declared.builder.action.ArgAction.TheVariants.{Append, SetTrue}
 use Rattle.clap.specs.declared.builder.value_parser.ValueParser.{ValueParser}
 use Rattle.clap.specs.declared.builder.value_parser.ValueParser.TheVariants as value_parser
 use Rattle.clap.specs.declared.error.kind.ErrorKind.{ErrorKind}
@@ -53,9 +53,14 @@ watch_app = with_rule (with_rule (new_app (codes "watch")) budget_rule) (switch_
 abbrev pub require_rule : Rule
 require_rule = option_rule (codes "require") is_word (codes "0" ∷ [])
 
--- the task `cover`: it has that number
+-- the files that are counted are any texts, of which there may be none
+abbrev pub files_rule : Rule
+files_rule = record (new_rule (codes "file")) { value_names = 1; action = Some Append }
+
+-- the task `cover`: it has that number, its inputs may tell events, and it has a file of a page and files that are counted
 abbrev pub cover_app : App
-cover_app = with_rule (new_app (codes "cover")) require_rule
+cover_app =
+    with_rule (with_rule (with_rule (with_rule (new_app (codes "cover")) require_rule) (switch_rule (codes "events"))) html_rule) files_rule
 
 -- the program: it wants a task, has a version, and its name is not among its arguments
 abbrev pub bare_app : App

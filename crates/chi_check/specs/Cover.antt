@@ -1,45 +1,149 @@
--- what a count does: the table of what the operations of the trace that its input is covered
-use Rattle.std.specs.Prelude.{◌≡◌, ◌≢◌, ℕ, ◌<◌, ◌≤◌, List, Contains, length, min, Option, Result, Ok, Err}
+-- what a count does: the table of what the operations covered that its inputs tell
+use Rattle.std.specs.Prelude.{◌≡◌, ◌≢◌, ℕ, ◌<◌, ◌≤◌, Bool, true, false, List, [], ◌∷◌, Contains, length, map, min, slice_get, sum_by, Option, Some, IfSome, Result, Ok, Err}
 use Rattle.std.specs.Io.KnownBytes.{Appends}
 use Rattle.chi_script.specs.WriterBytes.{AppendsFront}
+use Rattle.chi_trace.specs.declared.observed.Observed.{Observed}
 use Rattle.chi_reading.specs.declared.fault.TraceFault.TheVariants as trace_fault
 use Rattle.chi_reading.specs.TraceText.{IsOf, RecordedValue, TextValue, trace_text}
+use Rattle.chi_watch_text.specs.Operations.{AreOperations, IsOperationsFault}
 use Rattle.chi_cover.specs.declared.bin.Bin.{Bin}
 use Rattle.chi_cover.specs.Bins.{all_bins}
-use Rattle.chi_cover.specs.Counts.{count_in, count_of, most, percent_of}
+use Rattle.chi_cover.specs.Counts.{IsAdded, count_in, count_of, most, percent_of}
+use Rattle.chi_cover.specs.Page.{cover_json, page_text}
 use Rattle.chi_cover.specs.Texts.{table_text}
 use Rattle.chi_check.specs.Check.{most_bytes}
 use Rattle.chi_check.specs.declared.fault.CheckFault.{CheckFault}
-use Rattle.chi_check.specs.declared.fault.CheckFault.TheVariants.{Read, TooLong, Memory, Trace, Events, Page, Write}
+use Rattle.chi_check.specs.declared.fault.CheckFault.TheVariants.{Read, TooLong, Memory, Trace, Events, File, Page, Write}
+use Rattle.chi_check.specs.declared.fault.SourceFault.{SourceFault}
+use Rattle.chi_check.specs.declared.fault.SourceFault.TheVariants as source_fault
 use Rattle.chi_check.specs.declared.options.CoverOptions.{CoverOptions}
 
--- each bin's count is how many operations of the trace it counts, and the greatest count stands for that many and more
-abbrev pub AreCounts : RecordedValue → List ℕ → Type 0
-AreCounts r counts = (bin : Bin) → Contains all_bins bin → count_in counts bin ≡ min (count_of r.trace.operations bin) most
+-- the paths that were named
+abbrev pub paths_of : CoverOptions → List (List ℕ)
+paths_of options = map (λ path. path.now) options.files.items
+
+-- the files of these paths hold these inputs
+unfoldable pub AreHeld : (List ℕ → List ℕ → Type 0) → List (List ℕ) → List (List ℕ) → Type 0
+AreHeld holds [] [] = Unit {0}
+AreHeld holds (path ∷ paths) (input ∷ inputs) = holds path input × AreHeld holds paths inputs
+AreHeld holds paths inputs = ⊥
+
+-- the inputs are what these files hold, and where none is named the standard input
+abbrev pub AreInputs : (List ℕ → List ℕ → Type 0) → List (List ℕ) → List ℕ → List (List ℕ) → Type 0
+AreInputs holds [] input inputs = inputs ≡ input ∷ []
+AreInputs holds (path ∷ paths) input inputs = AreHeld holds (path ∷ paths) inputs
+
+-- the input is a trace of these operations
+pub record IsTraceOf (input : List ℕ) (ops : List Observed) : Type 0 where
+  pub value : TextValue
+  pub read : trace_text input ≡ Ok value
+  pub recorded : RecordedValue
+  pub is : IsOf value recorded
+  pub operations : recorded.trace.operations ≡ ops
+
+-- the operations of an input: those that its events tell, or those of the trace that it is
+abbrev pub AreOf : Bool → List ℕ → List Observed → Type 0
+AreOf true input ops = AreOperations input ops
+AreOf false input ops = IsTraceOf input ops
+
+-- these are the operations of each input
+unfoldable pub AreOfEach : Bool → List (List ℕ) → List (List Observed) → Type 0
+AreOfEach events [] [] = Unit {0}
+AreOfEach events (input ∷ inputs) (ops ∷ traces) = (length input ≤ most_bytes) × AreOf events input ops × AreOfEach events inputs traces
+AreOfEach events inputs traces = ⊥
+
+-- each bin's count is how many operations of these traces it counts, and the greatest count stands for that many and more
+abbrev pub AreCounts : List (List Observed) → List ℕ → Type 0
+AreCounts traces counts = (bin : Bin) → Contains all_bins bin → count_in counts bin ≡ min (sum_by (λ ops. count_of ops bin) traces) most
+
+-- these are the counts of the operations of these inputs
+pub record AreCounted (events : Bool) (inputs : List (List ℕ)) (counts : List ℕ) : Type 0 where
+  pub traces : List (List Observed)
+  pub of : AreOfEach events inputs traces
+  pub are : AreCounts traces counts
 
 -- 1 where fewer of a hundred bins have counted an operation than have to, and else 0
 pub record IsCoverStatus (require percent status : ℕ) : Type 0 where
   pub below : percent < require → status ≡ 1
   pub reached : require ≤ percent → status ≡ 0
 
--- the input is a trace, and these are the counts of its operations
-pub record IsCounted (input counts : List ℕ) : Type 0 where
-  pub within : length input ≤ most_bytes
-  pub value : TextValue
-  pub read : trace_text input ≡ Ok value
-  pub recorded : RecordedValue
-  pub is : IsOf value recorded
-  pub counted : AreCounts recorded counts
+-- why an input, which is a trace or tells events, has no operations
+abbrev pub IsTraceFault : Bool → List ℕ → SourceFault → Type 0
+IsTraceFault events input source_fault.Read = ⊥
+IsTraceFault events input source_fault.TooLong = ⊥
+IsTraceFault events input source_fault.Memory = Unit {0}
+IsTraceFault events input (source_fault.Trace fault) = (events ≡ false) × (fault ≢ trace_fault.Memory → trace_text input ≡ Err fault)
+IsTraceFault events input (source_fault.Events fault) = (events ≡ true) × IsOperationsFault input fault
 
--- After Ok the table of the counts of the input's trace was written, and the status is 1 where fewer of a hundred bins have counted an
--- operation than have to. What each fault means, and what was written then: nothing but where the writer failed.
-abbrev pub CoverOutcome : CoverOptions → List ℕ → Option (List ℕ) → Option (List ℕ) → Result ℕ CheckFault → Type 0
-CoverOutcome options input old new (Ok status) =
-    (counts : List ℕ) × IsCounted input counts × IsCoverStatus options.require (percent_of (count_in counts)) status × Appends old new (table_text (count_in counts))
-CoverOutcome options input old new (Err Read) = Unit {0}
-CoverOutcome options input old new (Err TooLong) = most_bytes < length input
-CoverOutcome options input old new (Err Memory) = Unit {0}
-CoverOutcome options input old new (Err (Trace fault)) = fault ≢ trace_fault.Memory → trace_text input ≡ Err fault
-CoverOutcome options input old new (Err (Events fault)) = ⊥
-CoverOutcome options input old new (Err Page) = ⊥
-CoverOutcome options input old new (Err (Write fault)) = (counts : List ℕ) × IsCounted input counts × AppendsFront old new (table_text (count_in counts))
+-- why a file was not counted: it was not read, or what it holds has no operations
+abbrev pub IsFileFault : (List ℕ → List ℕ → Type 0) → Bool → List ℕ → SourceFault → Type 0
+IsFileFault holds events path source_fault.Read = Unit {0}
+IsFileFault holds events path source_fault.TooLong = Unit {0}
+IsFileFault holds events path source_fault.Memory = Unit {0}
+IsFileFault holds events path fault = (input : List ℕ) × holds path input × IsTraceFault events input fault
+
+-- each bin of the new counts has counted the operations of an input more
+abbrev pub Adds : Bool → List ℕ → List ℕ → List ℕ → Type 0
+Adds events input old new = (ops : List Observed) × AreOf events input ops × IsAdded ops old new
+
+-- the same of what the file of a path holds
+abbrev pub AddsFile : (List ℕ → List ℕ → Type 0) → Bool → List ℕ → List ℕ → List ℕ → Type 0
+AddsFile holds events path old new = (input : List ℕ) × holds path input × (length input ≤ most_bytes) × Adds events input old new
+
+-- these are the counts of what these files hold
+abbrev pub AreOfFiles : (List ℕ → List ℕ → Type 0) → Bool → List (List ℕ) → List ℕ → Type 0
+AreOfFiles holds events paths counts = (inputs : List (List ℕ)) × AreHeld holds paths inputs × AreCounted events inputs counts
+
+-- the inputs have these counts
+abbrev pub HasCounts : (List ℕ → List ℕ → Type 0) → CoverOptions → List ℕ → List ℕ → Type 0
+HasCounts holds options input counts =
+    (inputs : List (List ℕ)) × AreInputs holds (paths_of options) input inputs × AreCounted options.events inputs counts
+
+-- a fault of the standard input
+abbrev pub input_fault : SourceFault → CheckFault
+input_fault source_fault.Read = Read
+input_fault source_fault.TooLong = TooLong
+input_fault source_fault.Memory = Memory
+input_fault (source_fault.Trace fault) = Trace fault
+input_fault (source_fault.Events fault) = Events fault
+
+-- why the standard input was not counted
+abbrev pub IsInputFault : Bool → List ℕ → CheckFault → Type 0
+IsInputFault events input Read = Unit {0}
+IsInputFault events input TooLong = most_bytes < length input
+IsInputFault events input Memory = Unit {0}
+IsInputFault events input (Trace fault) = IsTraceFault events input (source_fault.Trace fault)
+IsInputFault events input (Events fault) = IsTraceFault events input (source_fault.Events fault)
+IsInputFault events input (File place fault) = ⊥
+IsInputFault events input Page = ⊥
+IsInputFault events input (Write fault) = ⊥
+
+-- why the files were not counted
+abbrev pub AreFilesFault : (List ℕ → List ℕ → Type 0) → Bool → List (List ℕ) → CheckFault → Type 0
+AreFilesFault holds events paths Memory = Unit {0}
+AreFilesFault holds events paths (File place fault) = (path : List ℕ) × (slice_get paths place ≡ Some path) × IsFileFault holds events path fault
+AreFilesFault holds events paths fault = ⊥
+
+-- why the inputs were not counted: the standard input, or the files where some are named
+abbrev pub AreInputsFault : (List ℕ → List ℕ → Type 0) → Bool → List (List ℕ) → List ℕ → CheckFault → Type 0
+AreInputsFault holds events [] input fault = IsInputFault events input fault
+AreInputsFault holds events (path ∷ paths) input fault = AreFilesFault holds events (path ∷ paths) fault
+
+-- After Ok the table of the counts was written, and the status is 1 where fewer of a hundred bins have counted an operation than have
+-- to. What each fault means, and what was written then: nothing but where the writer failed.
+abbrev pub CoverOutcome : (List ℕ → List ℕ → Type 0) → CoverOptions → List ℕ → Option (List ℕ) → Option (List ℕ) → Result ℕ CheckFault → Type 0
+CoverOutcome holds options input old new (Ok status) =
+    (counts : List ℕ) × HasCounts holds options input counts × IsCoverStatus options.require (percent_of (count_in counts)) status × Appends old new (table_text (count_in counts))
+CoverOutcome holds options input old new (Err Page) = Unit {0}
+CoverOutcome holds options input old new (Err (Write fault)) = (counts : List ℕ) × HasCounts holds options input counts × AppendsFront old new (table_text (count_in counts))
+CoverOutcome holds options input old new (Err fault) = AreInputsFault holds options.events (paths_of options) input fault
+
+-- the page of counts
+abbrev pub IsCoverPage : List ℕ → List ℕ → Type 0
+IsCoverPage counts page = (front : List ℕ) × (back : List ℕ) × (page ≡ page_text front (cover_json (count_in counts)) back)
+
+-- where one was asked for, the page of the counts whose table was written was put at the path
+abbrev pub IsCoverPut : {P : Type 0} → (List ℕ → List ℕ → Type 0) → (P → List ℕ → List ℕ → Type 0) → CoverOptions → List ℕ → Option (List ℕ) → Option (List ℕ) → P → Type 0
+IsCoverPut holds has_put options input old new pages =
+    IfSome options.html (λ path. (counts : List ℕ) × (page : List ℕ) × HasCounts holds options input counts × IsCoverPage counts page
+    × Appends old new (table_text (count_in counts)) × has_put pages path.now page)

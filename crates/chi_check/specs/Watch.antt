@@ -10,7 +10,7 @@ use Rattle.chi_watch_text.specs.declared.watched.Watched.{Watched}
 use Rattle.chi_watch_text.specs.declared.watched.WatchVerdict.{WatchVerdict}
 use Rattle.chi_watch_text.specs.declared.watched.WatchVerdict.TheVariants.{Explained, Unexplained, Undecided}
 use Rattle.chi_check.specs.declared.fault.CheckFault.{CheckFault}
-use Rattle.chi_check.specs.declared.fault.CheckFault.TheVariants.{Read, TooLong, Memory, Trace, Events, Page, Write}
+use Rattle.chi_check.specs.declared.fault.CheckFault.TheVariants.{Read, TooLong, Memory, Trace, Events, File, Page, Write}
 
 -- 0 where all is explained, 1 where a granule is not, 6 where that is undecided
 abbrev pub verdict_status : WatchVerdict → ℕ
@@ -29,4 +29,5 @@ WatchOutcome options input old new (Err (Write fault)) = (watched : Watched) × 
 WatchOutcome options input old new (Err Read) = ⊥
 WatchOutcome options input old new (Err TooLong) = ⊥
 WatchOutcome options input old new (Err (Trace fault)) = ⊥
+WatchOutcome options input old new (Err (File place fault)) = ⊥
 WatchOutcome options input old new (Err Page) = ⊥

@@ -13,6 +13,7 @@ use crate::fault::{CheckFault, status_of};
 use crate::meter::Meter;
 use crate::pages::Pages;
 use crate::progress_line::ShownProgress;
+use crate::sources::Sources;
 use crate::watch::watch;
 use chi_script::WriteFault;
 use clap::Error;
@@ -24,7 +25,7 @@ use std::io::{Read, Write};
 pub(crate) const REFUSED: u8 = 2;
 
 // Does a task with its input.
-fn do_task<R: Read, W: Write, P: ShownProgress, G: Pages + Meter>(
+fn do_task<R: Read, W: Write, P: ShownProgress, G: Pages + Sources + Meter>(
     alloc: Global,
     task: &Task<'_>,
     from: &mut R,
@@ -32,19 +33,19 @@ fn do_task<R: Read, W: Write, P: ShownProgress, G: Pages + Meter>(
     progress: &mut P,
     machine: &mut G,
 ) -> Result<u8, CheckFault>
-    ensures outcome { IfSome (R.remaining from.old) (λ input. TaskOutcome task.now input (W.contents to.old) (W.contents to.new) result) }
+    ensures outcome { IfSome (R.remaining from.old) (λ input. TaskOutcome (G.holds machine.old) task.now input (W.contents to.old) (W.contents to.new) result) }
     ensures unanswered { KeepsUnanswered (W.contents to.old) (W.contents to.new) result }
     ensures status { IfOk result IsAnswerStatus }
 {
     match task {
         Task::Explain(options) => check(alloc, from, to, options, progress, machine),
         Task::Watch(options) => watch(alloc, from, to, options, progress),
-        Task::Cover(options) => cover(alloc, from, to, options),
+        Task::Cover(options) => cover(alloc, from, to, options, machine),
     }
 }
 
 // Does a task with its input, and flushes what was written. A fault of the flush is one of the writer.
-fn run_task<R: Read, W: Write, P: ShownProgress, G: Pages + Meter>(
+fn run_task<R: Read, W: Write, P: ShownProgress, G: Pages + Sources + Meter>(
     alloc: Global,
     task: &Task<'_>,
     from: &mut R,
@@ -52,7 +53,7 @@ fn run_task<R: Read, W: Write, P: ShownProgress, G: Pages + Meter>(
     progress: &mut P,
     machine: &mut G,
 ) -> Result<u8, CheckFault>
-    ensures outcome { IfSome (R.remaining from.old) (λ input. TaskOutcome task.now input (W.contents to.old) (W.contents to.new) result) }
+    ensures outcome { IfSome (R.remaining from.old) (λ input. TaskOutcome (G.holds machine.old) task.now input (W.contents to.old) (W.contents to.new) result) }
     ensures unanswered { KeepsUnanswered (W.contents to.old) (W.contents to.new) result }
     ensures status { IfOk result IsAnswerStatus }
 {
@@ -71,8 +72,30 @@ pub(crate) fn report_fault<E: Write>(fault: &CheckFault, errors: &mut E) -> u8
     status_of(fault)
 }
 
+// The file that is at fault, where it is one of those that the task names.
+fn file_at_fault<'a>(task: &Task<'a>, fault: &CheckFault) -> Option<&'a str> {
+    match (task, fault) {
+        (Task::Cover(options), CheckFault::File { place, .. }) => options
+            .files
+            .get(*place)
+            .copied(),
+        _ => None,
+    }
+}
+
+// Reports why a task has no answer, and of which file. The status is that of the fault.
+fn report_task_fault<E: Write>(task: &Task<'_>, fault: &CheckFault, errors: &mut E) -> u8
+    ensures { result ≡ status_of fault.now }
+{
+    if let Some(path) = file_at_fault(task, fault) {
+        let _written = writeln!(errors, "chicheck: {path}: {fault}");
+        return status_of(fault);
+    }
+    report_fault(fault, errors)
+}
+
 // Does a task with its input, and reports its fault.
-fn end_task<R: Read, W: Write, E: Write, P: ShownProgress, G: Pages + Meter>(
+fn end_task<R: Read, W: Write, E: Write, P: ShownProgress, G: Pages + Sources + Meter>(
     alloc: Global,
     task: &Task<'_>,
     from: &mut R,
@@ -81,12 +104,12 @@ fn end_task<R: Read, W: Write, E: Write, P: ShownProgress, G: Pages + Meter>(
     progress: &mut P,
     machine: &mut G,
 ) -> u8
-    ensures ends { Ends task.now (R.remaining from.old) (W.contents to.old) (W.contents to.new) result }
+    ensures ends { Ends (G.holds machine.old) task.now (R.remaining from.old) (W.contents to.old) (W.contents to.new) result }
     ensures status { IsStatus result }
 {
     match run_task(alloc, task, from, to, progress, machine) {
         Ok(status) => status,
-        Err(fault) => report_fault(&fault, errors),
+        Err(fault) => report_task_fault(task, &fault, errors),
     }
 }
 
@@ -115,7 +138,7 @@ fn report_arguments<W: Write, E: Write>(error: &Error, to: &mut W, errors: &mut 
 /// ```
 /// let status = run_arguments(alloc, &arguments, &mut input, &mut output, &mut errors, &mut progress, &mut machine);
 /// ```
-pub fn run_arguments<R: Read, W: Write, E: Write, P: ShownProgress, G: Pages + Meter>(
+pub fn run_arguments<R: Read, W: Write, E: Write, P: ShownProgress, G: Pages + Sources + Meter>(
     alloc: Global,
     arguments: &[String],
     from: &mut R,
@@ -124,7 +147,7 @@ pub fn run_arguments<R: Read, W: Write, E: Write, P: ShownProgress, G: Pages + M
     progress: &mut P,
     machine: &mut G,
 ) -> u8
-    ensures outcome { ProgramOutcome (map string_bytes arguments.now) (R.remaining from.old) (W.contents to.old) (W.contents to.new) result }
+    ensures outcome { ProgramOutcome (G.holds machine.old) (map string_bytes arguments.now) (R.remaining from.old) (W.contents to.old) (W.contents to.new) result }
     ensures status { IsStatus result }
 {
     match task_of(alloc, arguments) {

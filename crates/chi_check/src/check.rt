@@ -178,8 +178,8 @@ fn reported<P: ShownProgress, M: Meter>(
     Ok(report)
 }
 
-// Puts a page where one is asked for, and answers whether it could.
-fn put_page<G: Pages>(pages: &mut G, path: Option<&str>, page: &[u8]) -> bool
+/// Puts a page where one is asked for, and answers whether it could.
+pub(crate) fn put_page<G: Pages>(pages: &mut G, path: Option<&str>, page: &[u8]) -> bool
     ensures { IsTrue result → IfSome path.entry (λ p. G.has_put pages.new p.now page.now) }
 {
     match path {

@@ -1,26 +1,26 @@
 //! The command line.
 
-ghost use Rattle.std.specs.Prelude.{◌≡◌, [], false, codes, map, string_bytes, IfErr, IfOk};
+ghost use Rattle.std.specs.Prelude.{◌≡◌, [], false, codes, map, string_bytes, unwrap_or, IfErr, IfOk};
 ghost use Rattle.clap.specs.Matches.{found_of};
 ghost use Rattle.clap.specs.Simple.{app_of};
 ghost use Rattle.clap.specs.Values.{kind_of};
-ghost use Rattle.clap.specs.Walk.{first_of, one_of, rows_of, rule_of};
+ghost use Rattle.clap.specs.Walk.{all_of, first_of, one_of, rows_of, rule_of};
 ghost use Rattle.std.specs.Option.{option_map};
-ghost use Rattle.chi_check.specs.Chosen.{Chooses, HasOptions, IsNamed, IsNamedFirst, IsNumberOr, IsNumberOrNone, has_word};
-ghost use Rattle.chi_check.specs.CommandLine.{IsArgumentsFault, IsTaken, around_rule, budget_rule, cover_app, explain_app, html_rule, is_word, option_rule, program_app, require_rule, switch_rule, watch_app};
+ghost use Rattle.chi_check.specs.Chosen.{Chooses, HasCoverOptions, HasOptions, IsNamed, IsNamedFirst, IsNumberOr, IsNumberOrNone, has_word};
+ghost use Rattle.chi_check.specs.CommandLine.{IsArgumentsFault, IsTaken, around_rule, budget_rule, cover_app, explain_app, files_rule, html_rule, is_word, option_rule, program_app, require_rule, switch_rule, watch_app};
 
 use crate::options::{CheckOptions, CoverOptions};
 use chi_watch_text::WatchOptions;
 use clap::error::ErrorKind;
 use clap::{Arg, ArgAction, ArgMatches, Command, Error, value_parser};
-use std::alloc::Global;
+use std::alloc::{AllocError, Global};
 
-/// What is done with the input: it is a trace to be explained or to be counted, or it tells events to be watched.
-#[derive(Clone, Copy)]
+/// What is done: a trace is explained, events are watched, or the operations of traces or of events are counted.
+#[derive(Drop)]
 pub enum Task<'a> {
     Explain(CheckOptions<'a>),
     Watch(WatchOptions),
-    Cover(CoverOptions),
+    Cover(CoverOptions<'a>),
 }
 
 // What `--version` prints after the program's name.
@@ -43,7 +43,8 @@ with where, or `undecided`.
 Events on standard input are one JSON object a line: requests, their data and their replies, as
 a monitor tells them. `watch` reads them as they come (docs/EVENTS.md).
 
-`cover` writes a table of how many operations of a trace each bin counted (docs/COVERAGE.md).
+`cover` writes a table of how many operations each bin counted, of a trace or of events on standard
+input, or of all the files that are named (docs/COVERAGE.md).
 
 Statuses: 0 explained, or covered as required; 1 not explained, or covered less; 2 command line
 refused; 3 trace or event refused; 4 no memory; 5 a read or a write failed; 6 undecided.";
@@ -53,7 +54,11 @@ const EXPLAIN_ABOUT: &str = "Looks for an order of the operations that is a lega
 const WATCH_ABOUT: &str =
     "Judges events as they come, and stops at the first that cannot be explained";
 
-const COVER_ABOUT: &str = "Counts what the operations of a trace covered";
+const COVER_ABOUT: &str = "Counts what the operations of traces or of events covered";
+
+const TRACE_PAGE: &str = "Makes this file a page that shows the trace in a browser";
+
+const COVER_PAGE: &str = "Makes this file a page that shows the counts in a browser";
 
 const UNTIL: &str = "Judges what had happened by time T, and no words at the end";
 
@@ -135,15 +140,37 @@ fn witness_option<'a>(alloc: Global) -> Arg<'a>
         .help("Writes the operations in the order found, and the memory after them")
 }
 
-// The option that takes a file.
-fn html_option<'a>(alloc: Global) -> Arg<'a>
+// The option that takes the file of a page.
+fn html_option<'a>(alloc: Global, help: &'a str) -> Arg<'a>
     ensures rule { rule_of result ≡ html_rule }
     ensures local { result.global ≡ false }
 {
     Arg::new(alloc, "html")
         .long("html")
         .value_name("FILE")
-        .help("Makes this file a page that shows the trace in a browser")
+        .help(help)
+}
+
+// The option that says that events are counted.
+fn events_option<'a>(alloc: Global) -> Arg<'a>
+    ensures rule { rule_of result ≡ switch_rule (codes "events") }
+    ensures local { result.global ≡ false }
+{
+    Arg::new(alloc, "events")
+        .long("events")
+        .action(ArgAction::SetTrue)
+        .help("Counts what events tell, a line each, and not traces")
+}
+
+// The files that are counted.
+fn files_argument<'a>(alloc: Global) -> Arg<'a>
+    ensures rule { rule_of result ≡ files_rule }
+    ensures local { result.global ≡ false }
+{
+    Arg::new(alloc, "file")
+        .value_name("FILE")
+        .action(ArgAction::Append)
+        .help("Counts what these files hold, all added up, and not the standard input")
 }
 
 // The option that asks for more than the first granule.
@@ -168,7 +195,7 @@ fn explain_command<'a>(alloc: Global) -> Result<Command<'a>, Error>
             .arg(witness_option(alloc))?
             .arg(number_option(alloc, "until", "T", UNTIL))?
             .arg(around_option(alloc))?
-            .arg(html_option(alloc))?
+            .arg(html_option(alloc, TRACE_PAGE))?
             .arg(budget_option(alloc))?
             .arg(number_option(alloc, "seconds", "S", SECONDS))?
             .arg(number_option(alloc, "memory", "BYTES", MEMORY))?,
@@ -196,7 +223,10 @@ fn cover_command<'a>(alloc: Global) -> Result<Command<'a>, Error>
     Ok(
         Command::new(alloc, "cover")
             .about(COVER_ABOUT)
-            .arg(require_option(alloc))?,
+            .arg(require_option(alloc))?
+            .arg(events_option(alloc))?
+            .arg(html_option(alloc, COVER_PAGE))?
+            .arg(files_argument(alloc))?,
     )
 }
 
@@ -242,7 +272,7 @@ fn number_given(chosen: &ArgMatches<'_>, option: &str) -> Option<u64>
     chosen.get_one::<u64>(option)
 }
 
-// The file that is to be the page of the trace, where one was given.
+// The file that is to be a page, where one was given.
 fn chosen_file<'a>(chosen: &ArgMatches<'a>) -> Option<&'a str>
     ensures { option_map (λ s. s.now) result ≡ first_of (codes "html") (rows_of (found_of chosen.now)) }
 {
@@ -281,27 +311,44 @@ fn watch_options(chosen: &ArgMatches<'_>) -> WatchOptions
     }
 }
 
-// The options that `cover` was given, or that stand in for them.
-fn cover_options(chosen: &ArgMatches<'_>) -> CoverOptions
-    ensures require { IsNumberOr 0 (one_of (codes "require") (rows_of (found_of chosen.now))) result.require }
+// The files that were named.
+fn chosen_files<'a>(alloc: Global, chosen: &ArgMatches<'a>) -> Result<Vec<&'a str>, AllocError>
+    ensures { IfOk result (λ files. map (λ path. path.now) files.items ≡ unwrap_or (all_of (codes "file") (rows_of (found_of chosen.now))) []) }
 {
-    CoverOptions {
-        require: number_or(chosen, "require", REQUIRE),
+    match chosen.get_strs("file") {
+        Some(files) => Vec::from_slice(alloc, files),
+        None => Ok(Vec::new(alloc)),
     }
 }
 
-// The task of this name, with its options.
-fn chosen_task<'a>(name: &str, chosen: &ArgMatches<'a>) -> Task<'a>
-    ensures named { IsNamed name.now result }
-    ensures options { HasOptions (rows_of (found_of chosen.now)) result }
+// The options that `cover` was given, or that stand in for them.
+fn cover_options<'a>(alloc: Global, chosen: &ArgMatches<'a>) -> Result<CoverOptions<'a>, AllocError>
+    ensures { IfOk result (HasCoverOptions (rows_of (found_of chosen.now))) }
 {
-    if name == "watch" {
+    Ok(CoverOptions {
+        require: number_or(chosen, "require", REQUIRE),
+        events: has_word(chosen, "events", "true"),
+        html: chosen_file(chosen),
+        files: chosen_files(alloc, chosen)?,
+    })
+}
+
+// The task of this name, with its options.
+fn chosen_task<'a>(
+    alloc: Global,
+    name: &str,
+    chosen: &ArgMatches<'a>,
+) -> Result<Task<'a>, AllocError>
+    ensures named { IfOk result (IsNamed name.now) }
+    ensures options { IfOk result (HasOptions (rows_of (found_of chosen.now))) }
+{
+    Ok(if name == "watch" {
         Task::Watch(watch_options(chosen))
     } else if name == "cover" {
-        Task::Cover(cover_options(chosen))
+        Task::Cover(cover_options(alloc, chosen)?)
     } else {
         Task::Explain(explain_options(chosen))
-    }
+    })
 }
 
 /// Reads the arguments after the program's name: `explain`, `watch` or `cover`, and its options.
@@ -322,5 +369,5 @@ pub fn task_of(alloc: Global, arguments: &[String]) -> Result<Task<'_>, Error>
     let Some((name, chosen)) = matches.subcommand() else {
         unreachable!()
     };
-    Ok(chosen_task(name, chosen))
+    Ok(chosen_task(alloc, name, chosen)?)
 }

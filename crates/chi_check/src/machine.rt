@@ -2,13 +2,17 @@
 
 ghost use Rattle.std.specs.Prelude.{⊤};
 
+use crate::check::MOST_BYTES;
 use crate::meter::{Meter, Used};
 use crate::pages::Pages;
+use crate::sources::Sources;
+use chi_script::{InputFault, read_input};
+use std::alloc::Global;
 use std::fs;
 use std::rt::Files;
 use std::time::{Clock, Instant};
 
-/// The machine. What a file holds once it was written no contract says, nor what the clock tells.
+/// The machine. What a file holds no contract says, nor what the clock tells.
 #[derive(Drop)]
 pub struct Machine<'a, T> {
     rt: &'a T,
@@ -51,5 +55,16 @@ impl<'a, T: Files> Pages for Machine<'a, T> {
 
     fn put(&mut self, path: &str, page: &[u8]) -> bool {
         fs::write(self.rt, path, page).is_ok()
+    }
+}
+
+impl<'a, T: Files> Sources for Machine<'a, T> {
+    ghost holds = { λ s path input. ⊤ };
+
+    fn read_file(&self, alloc: Global, path: &str) -> Result<Vec<u8>, InputFault> {
+        match fs::File::open(self.rt, path) {
+            Ok(mut file) => read_input(alloc, &mut file, MOST_BYTES),
+            Err(_) => Err(InputFault::Read),
+        }
     }
 }

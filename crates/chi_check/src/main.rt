@@ -1,5 +1,5 @@
 //! chicheck: whether what was observed at a home node can be explained, from a trace or from events on standard input, and what the
-//! operations of a trace covered.
+//! operations of traces or of events covered.
 #![tactic(auto)]
 
 mod arguments;
@@ -14,6 +14,7 @@ mod page;
 mod pages;
 mod progress_line;
 mod search;
+mod sources;
 mod watch;
 
 ghost use Rattle.std.specs.Prelude.{◌≡◌, ◌⊎◌};

@@ -18,10 +18,15 @@ pub struct CheckOptions<'a> {
     pub html: Option<&'a str>,
 }
 
-/// How a trace is counted: `require` is how many of a hundred bins have to have counted an operation.
+/// What is counted, and how. `require` is how many of a hundred bins have to have counted an operation. With `events` the inputs tell
+/// events, and are no traces. `files` are the paths of the inputs; where there is none it is the standard input. `html` is the path
+/// of a file that is to be the page of the counts.
 ///
 /// Source: profile.
-#[derive(Clone, Copy, Debug)]
-pub struct CoverOptions {
+#[derive(Debug, Drop)]
+pub struct CoverOptions<'a> {
     pub require: u64,
+    pub events: bool,
+    pub html: Option<&'a str>,
+    pub files: Vec<&'a str>,
 }

@@ -30,7 +30,7 @@ returns-clause-chosen c =
     let found = rows_of (found_of c.in-Some.chosen.now) in
     let finds = subcommand_found app (map string_bytes c.args.arguments.now) c.in_ok-matches.matches name found is (program_is_simple app is)
     c.in_ok-matches.ensures.matches c.in-Some.ensures.name c.in-Some.ensures.rows in
-    (name, found, finds, c.chosen_task.ensures.named, c.chosen_task.ensures.options)
+    (name, found, finds, c.in_ok-chosen_task.ensures.named, c.in_ok-chosen_task.ensures.options)
 
 pub returns-clause-first : goal.returns-clause-first
 returns-clause-first c =
@@ -41,4 +41,4 @@ returns-clause-first c =
     let found = rows_of (found_of c.in-Some.chosen.now) in
     let finds = subcommand_found app arguments c.in_ok-matches.matches name found is (program_is_simple app is) c.in_ok-matches.ensures.matches
     c.in-Some.ensures.name c.in-Some.ensures.rows in
-    named_first arguments name found c.chosen_task.result finds c.chosen_task.ensures.named
+    named_first arguments name found c.in_ok-chosen_task.field-0 finds c.in_ok-chosen_task.ensures.named
