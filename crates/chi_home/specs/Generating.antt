@@ -8,6 +8,7 @@ use Rattle.chi_fields.specs.Extent.{region_of}
 use Rattle.chi_script.specs.Script.{ScriptValue, script}
 use Rattle.chi_script.specs.WriterBytes.{AppendsFront}
 use Rattle.chi_stimulus.specs.Generated.{IsGenerated}
+use Rattle.chi_stimulus.specs.Named.{mix_of}
 use Rattle.chi_stimulus.specs.declared.stimulus.Stimulus.{Stimulus}
 use Rattle.chi_home.specs.CommandLine.{default_mix}
 use Rattle.chi_home.specs.Found.{has_word}
@@ -41,6 +42,7 @@ pub record AsksFor (options : GenerateOptions) (s : Stimulus) : Type 0 where
   pub requesters : s.requesters ≡ options.requesters
   pub refused : s.refused ≡ options.refused
   pub hot : s.hot ≡ options.hot
+  pub mix : mix_of options.mix.now ≡ Ok s.mix
 
 -- what was written is the text of a script that the options ask for
 pub record IsAskedFor (options : GenerateOptions) (text : List ℕ) : Type 0 where
