@@ -1,7 +1,8 @@
 #!/usr/bin/env bash
 # Runs the benches in Verilator. The one with the reference has to agree, and to find each of three planted mistakes. Those with
 # the monitor tell events: of flits by hand just those that were worked, and of a home node by chance events that chicheck watch
-# explains while they come, or that stop it and with it the simulation, where a mistake is planted. dv/run.sh [SEEDS [REQUESTS]]
+# explains while they come, or that stop it and with it the simulation, where a mistake is planted; and 100,000 requests of it cover
+# all traffic that they can. dv/run.sh [SEEDS [REQUESTS]]
 set -eu
 cd "$(dirname "$0")/.."
 seeds=${1:-16} requests=${2:-2000}
@@ -81,4 +82,11 @@ for kind in 128 256 512 point; do
   [ $watched = 0 ] && grep -q ' is open,' out/dv_said || fail "$kind: a request without an answer: $(cat out/dv_answer out/dv_said)"
   echo "$kind: where a request is not answered the events are $answer; the first that is open: $(grep -m 1 ' is open,' out/dv_said)"
 done
+
+# What the traffic of the bench covers: every bin but the one that a home of eight places cannot have.
+dv/events.sh out/dv_events.jsonl > out/dv_said 2>&1 || fail "the bench that writes events ends with a fault: $(cat out/dv_said)"
+$checker cover --events out/dv_events.jsonl > out/dv_cover || fail "chicheck cover ends with a fault"
+missing=$(grep -E '^missing: (open|an overlap|.* while )' out/dv_cover | grep -vx 'missing: open more than 8' || true)
+[ -z "$missing" ] || fail "of the traffic of 100,000 requests: $missing"
+echo "100,000 requests: $(grep -E '^(open at once|overlaps|requesters|covered): ' out/dv_cover | paste -sd ';')"
 echo "dv: PASS"
