@@ -1,5 +1,5 @@
 -- counts of inputs, one after the other, and what is written of them
-use Rattle.std.proofs.Common.{◌≡◌, ℕ, ◌+◌, ◌<◌, ◌≤◌, Bool, true, false, List, [], ◌∷◌, ◌++◌, get_or, length, map, min, take, Option, None, Some, Ok, Err, IfSome, ap, refl, sym, subst, ◌∙◌, arith}
+use Rattle.std.proofs.Common.{◌≡◌, ℕ, ◌+◌, ◌<◌, ◌≤◌, Bool, List, [], ◌∷◌, ◌++◌, get_or, length, map, min, take, Option, None, Some, Ok, Err, IfSome, ap, refl, sym, subst, ◌∙◌, arith}
 use Rattle.std.specs.Borrow.{Bor}
 use Rattle.std.specs.Option.{option_map}
 use Rattle.std.specs.Prelude.{sum_by}
@@ -11,10 +11,10 @@ use Rattle.chi_script.specs.WriterBytes.{AppendsFront}
 use Rattle.chi_script.specs.declared.device.WriteFault.{WriteFault}
 use Rattle.chi_trace.specs.declared.observed.Observed.{Observed}
 use Rattle.chi_cover.specs.declared.bin.Bin.{Bin}
-use Rattle.chi_cover.specs.Counts.{IsAdded, count_in, count_of, most, percent_of}
+use Rattle.chi_cover.specs.Counts.{count_in, count_of, most, percent_of}
 use Rattle.chi_cover.specs.Texts.{table_text}
 use Rattle.chi_check.specs.Check.{most_bytes}
-use Rattle.chi_check.specs.Cover.{Adds, AddsFile, AreCounted, AreCounts, AreFilesFault, AreHeld, AreInputs, AreInputsFault, AreOf, AreOfEach, AreOfFiles, CoverOutcome, HasCounts, IsFileFault, IsInputFault, IsTraceFault, input_fault, paths_of}
+use Rattle.chi_check.specs.Cover.{Adds, AddsFile, AreCounted, AreFilesFault, AreHeld, AreInputs, AreInputsFault, AreOf, AreOfEach, AreOfFiles, CoverOutcome, HasCounts, IsFileFault, IsInputFault, IsTraceFault, input_fault, paths_of}
 use Rattle.chi_check.specs.declared.fault.CheckFault.{CheckFault}
 use Rattle.chi_check.specs.declared.fault.CheckFault.TheVariants.{File, Page, Write}
 use Rattle.chi_check.specs.declared.fault.SourceFault.{SourceFault}

@@ -9,7 +9,6 @@ use Rattle.std.proofs.lemmas.List.Sorted.{All-permutation, IsPermutation-trans}
 use Rattle.chi_trace.specs.declared.observed.Observed.{Observed}
 use Rattle.chi_trace.specs.Explains.{IsObserved, IsTrace, nothing}
 use Rattle.chi_verdict.proofs.Traced.{IsTrace-from_places, observed_below}
-use Rattle.chi_event_text.specs.EventText.{event_text}
 use Rattle.chi_events.specs.declared.event.Event.{Event}
 use Rattle.chi_events.specs.EventLaws.{OperationsAreTold}
 use Rattle.chi_events.specs.Operations.{operations}

@@ -1,5 +1,5 @@
 -- one request more
-use Rattle.std.proofs.Common.{ap, rules, ◌∙◌, option_to_list, ◌++◌}
+use Rattle.std.proofs.Common.{ap, ◌∙◌, option_to_list, ◌++◌}
 use Rattle.chi_events.specs.Outstanding.{open_operation}
 use Rattle.chi_watch_text.proofs.AllRead.{open_more}
 use Rattle.chi_watch_text.proofs.operations.add_open.Goals as goal
