@@ -81,9 +81,11 @@ def faults_library(folder):
     return library
 
 
-def refuse_in_turn(case, preload, words, text):
-    """Refuses each block of memory in turn, and each from it on: the answer is as it was, or that there is no memory."""
+def refuse_in_turn(case, preload, words, text, *files):
+    """Refuses each block of memory in turn, and each from it on: the answer is as it was, or that there is no memory, for one of these
+    files where it is read."""
     right = run(CHECKER, words, text)
+    faults = [(4, b"", f"chicheck: {it}no memory\n".encode()) for it in ["", *(f"{file}: " for file in files)]]
     for on in ["0", "1"]:
         for block in range(1, 100000):
             met = f"{preload}.met"
@@ -92,7 +94,7 @@ def refuse_in_turn(case, preload, words, text):
                 told(f"{case}: the last block", found == right and block > 10)
                 break
             os.remove(met)
-            told(f"{case}: block {block} refused: {found}", found in (right, (4, b"", b"chicheck: no memory\n")))
+            told(f"{case}: block {block} refused: {found}", found in (right, *faults))
 
 
 def fail_in_turn(preload, words, text):
