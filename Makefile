@@ -15,7 +15,7 @@ help:
 	@echo "make run [SCRIPT=FILE]     the same, once chihome is proved"
 	@echo "make test                  the gate: every proof from nothing, the edits that must fail, tests, runs and what the documents show"
 	@echo "make page-test [PICTURE=F] the pages of a trace and of a coverage, opened in Chromium: what they show, keys and mouse, and how soon they open"
-	@echo "make edits [CRATES=..]     the edits outside the gate, of some crates or of all: the prover must refuse each"
+	@echo "make edits [CRATES=..]     all edits of some crates or of all, also those outside the gate: the prover must refuse each"
 	@echo "make checker               chicheck, proved: the program that explains traces"
 	@echo "make soak [SECONDS=N]      four workers race at the lock-free store for so many seconds, 10 if not said, while chicheck watches"
 	@echo "make lib                   out/libchi_c.a and out/libchi.so, for C, C++, SystemVerilog and Python"

@@ -1,4 +1,4 @@
-"""What rt has the prover do below this process: the processor time of each proof, of each crate's tests and of each edit."""
+"""What the gate has the prover do below this process: the processor time of each crate's proof, of its tests and of its edits."""
 
 import collections
 import glob
@@ -7,31 +7,8 @@ import threading
 
 TICKS = os.sysconf("SC_CLK_TCK")
 Process = collections.namedtuple("Process", "name parent seconds began")
-# kind is proof, tests or edit; edit is a file's name, and empty where the crate is checked as it is
-Work = collections.namedtuple("Work", "kind crate edit")
-
-
-def changed_by(edit, folder):
-    """Returns the files of a crate that an edit changes, as it leaves them, or raises ValueError where it fits no more."""
-    path, old, texts = "", None, {}
-    with open(edit, encoding="utf-8") as file:
-        lines = file.read().split("\n")
-    for line in lines:
-        if line.startswith("file: "):
-            path = line[len("file: ") :].strip()
-        elif line.startswith("old: "):
-            old = line[len("old: ") :]
-        elif line.startswith("new:"):
-            if path not in texts:
-                with open(f"{folder}/{path}", encoding="utf-8") as file:
-                    texts[path] = file.read()
-            count = texts[path].count(old) if old else 0
-            if count != 1:
-                raise ValueError(f"an 'old:' text stands {count} times in {path}, and not once")
-            texts[path], old = texts[path].replace(old, line[len("new:") :].removeprefix(" ")), None
-    if not texts:
-        raise ValueError("it has no 'old:' and 'new:' pair")
-    return texts
+# kind is proof, tests or edits
+Work = collections.namedtuple("Work", "kind crate")
 
 
 def processes():
@@ -50,22 +27,11 @@ def processes():
     return found
 
 
-def same(folder, texts):
-    """Returns whether each of these files stands so in the folder."""
-    for path, text in texts.items():
-        with open(f"{folder}/{path}", encoding="utf-8") as file:
-            if file.read() != text:
-                return False
-    return True
-
-
 class Watch(threading.Thread):
     """Looks twice a second at the provers below this process, until it is ended."""
 
-    def __init__(self, edits):
-        """Takes pairs of a crate's folder and an edit of it, by which an edited copy is known again."""
+    def __init__(self):
         super().__init__(daemon=True)
-        self.texts = [(os.path.basename(folder), edit, changed_by(edit, folder)) for folder, edit in edits]
         self.ended, self.works, self.spent = threading.Event(), {}, {}
 
     def run(self):
@@ -102,12 +68,10 @@ class Watch(threading.Thread):
             with open(f"/proc/{number}/cmdline", encoding="utf-8", errors="replace") as file:
                 words = file.read().split("\0")
             crate = words[words.index("--crate-name") + 1]
-            if not os.path.basename(folder).startswith("rt-edit-"):
-                return Work("tests" if "--test" in words else "proof", crate, "")
-            edits = [edit for name, edit, texts in self.texts if name == crate and same(folder, texts)]
-            return Work("edit", crate, os.path.basename(edits[0]) if edits else "")
         except (OSError, ValueError):
             return None
+        kind = "edits" if os.path.basename(folder).startswith("must-fail-") else "tests" if "--test" in words else "proof"
+        return Work(kind, crate)
 
     def seconds(self):
         """Returns the processor time of each piece of work."""

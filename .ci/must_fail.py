@@ -1,0 +1,157 @@
+"""Tries edits that the prover has to refuse: those of a crate that turn different functions are tried in one check.
+
+An edit is refused where the function that it turns is not proved, for a goal of its own: that a function which it calls is not
+proved does not count. In the same check each function that no edit turns has to be proved, but for those that call one that is
+not. An edit whose change lies in no one function is tried alone."""
+
+import os
+import re
+import shutil
+import subprocess
+import sys
+import tempfile
+import threading
+from concurrent.futures import ThreadPoolExecutor
+from typing import NamedTuple
+
+from edit import applied
+
+VERDICT = re.compile(r"^fn (\S+): (.*)$", re.M)
+CALLS = re.compile(r"(?:^|; |: )it calls `.*$")
+# A proof file that names what an edit took away: that says little of the contract.
+NAMES = re.compile(r"has no field|is not in scope|has no `|was not admitted")
+# A run of the prover that came to its verdict ends so.
+ENDED = re.compile(r"^(only=|logic=)")
+
+
+class Tried(NamedTuple):
+    edit: object
+    is_refused: bool
+    why: str
+
+
+def kit():
+    """Returns the kit's own module, which knows how the prover is called."""
+    folder = os.path.dirname(os.path.realpath(shutil.which("rt")))
+    if folder not in sys.path:
+        sys.path.append(folder)
+    import rtlib
+
+    return rtlib
+
+
+def own_reason(path, verdict, said):
+    """Returns why a function is not proved, beside what it calls, or nothing."""
+    reason = "" if verdict == "proved" else CALLS.sub("", verdict)
+    if reason != "not proved":
+        return "" if reason == "no proof" else reason
+    # a proof file was refused: that of the function, where it is not for what the edit took away
+    folder = "/".join(path.split("::")[-2:])
+    errors = re.findall(rf"^(?:\./)?proofs/(?:\S+/)?{re.escape(folder)}/\S+ error: .*$", said, re.M)
+    return next((it for it in errors if not NAMES.search(it)), "")
+
+
+def reasons_of(said):
+    """Returns why each function that is not proved is not, beside what it calls."""
+    found = {path: own_reason(path, verdict, said) for path, verdict in VERDICT.findall(said)}
+    return {path: why for path, why in found.items() if why}
+
+
+def is_function(path, function):
+    """Returns whether a path is that of a function which is told by the end of its path."""
+    return path == function or path.endswith(f"::{function}")
+
+
+def reason_of(edit, reasons):
+    """Returns why the function that an edit turns is not proved, or nothing; of an edit that turns none, why some function is not."""
+    return next((f"{path}: {why}" for path, why in reasons.items() if not edit.function or is_function(path, edit.function)), "")
+
+
+class Crate:
+    """A crate whose libraries are built, and the edits of it."""
+
+    def __init__(self, root, name, rtlib):
+        self.rtlib = rtlib
+        self.crate = next(it for it in rtlib.crates_below(root) if it.name == name)
+
+    def check(self, edits, kept):
+        """Checks a copy of the crate with these edits, over what is kept: what the prover says, and its status."""
+        words = [*self.crate.words(["--jobs", "1"], keeps=False), "--incremental", kept]
+        if all(it.function for it in edits):
+            for it in edits:
+                words += ["--only", it.function]
+        with tempfile.TemporaryDirectory(prefix="must-fail-") as room:
+            for part in ("src", "specs", "proofs"):
+                if os.path.isdir(f"{self.crate.folder}/{part}"):
+                    shutil.copytree(f"{self.crate.folder}/{part}", f"{room}/{part}")
+            for path, text in applied(edits, self.crate.folder).items():
+                with open(f"{room}/{path}", "w", encoding="utf-8") as file:
+                    file.write(text)
+            how = {"stdin": subprocess.DEVNULL, "stdout": subprocess.PIPE, "stderr": subprocess.STDOUT, "text": True, "errors": "replace"}
+            ran = subprocess.run(["nice", *self.rtlib.guarded(), self.rtlib.RATTLE, "check", *words], cwd=room, **how)
+        return ran.stdout, ran.returncode
+
+    def try_alone(self, edit, kept):
+        said, status = self.check([edit], kept)
+        lines, why = said.rstrip("\n").split("\n"), reason_of(edit, reasons_of(said))
+        if not ENDED.match(lines[-1]):
+            return Tried(edit, False, f"BAD EDIT: it did not reach the prover: {lines[0]}")
+        if status == 1 and why:
+            return Tried(edit, True, why)
+        return Tried(edit, False, f"NOT REFUSED for a goal of its own: {lines[0]}" if status else "NOT REFUSED: it is proved")
+
+    def try_together(self, edits, kept):
+        """Tries edits of different functions in one check. Returns those that are refused, and those to be tried once more."""
+        said, status = self.check(edits, kept)
+        reasons = reasons_of(said)
+        tried = [Tried(it, True, reason_of(it, reasons)) for it in edits]
+        others = [it for it in reasons if not any(is_function(it, edit.function) for edit in edits)]
+        if status != 1 or others:
+            return [], edits
+        return [it for it in tried if it.why], [it.edit for it in tried if not it.why]
+
+    def try_all(self, edits):
+        """Tries edits of the crate, and says of each whether it is refused."""
+        tried, left = [], [it for it in edits if it.function]
+        alone = [it for it in edits if not it.function]
+        with tempfile.TemporaryDirectory(prefix="must-fail-kept-") as kept:
+            while left:
+                turn = [*{it.function: it for it in reversed(left)}.values()]
+                refused, again = self.try_together(turn, kept) if len(turn) > 1 else ([], turn)
+                tried += refused
+                left = [it for it in left if it not in turn]
+                # one whose goals wait for those of another edit is tried without that one
+                left, alone = (left + again, alone) if refused else (left, alone + again)
+            tried += [self.try_alone(it, kept) for it in alone]
+        return sorted(tried, key=lambda it: it.edit.name)
+
+
+class Trials:
+    """The edits of a repository's crates, tried while rt ci runs: those of a crate as soon as that is proved."""
+
+    def __init__(self, root, edits):
+        self.root, self.edits, self.rtlib = root, edits, kit()
+        self.processors = len(os.sched_getaffinity(0))
+        self.lanes = threading.Semaphore(max(1, self.processors // 2))
+        self.pool, self.begun = ThreadPoolExecutor(self.processors), {}
+        # its first call sets a signal's handler, which only the main thread may
+        self.rtlib.guarded()
+
+    def begin(self, crate):
+        """Tries the edits of a crate, which is proved."""
+        if crate in self.edits:
+            self.begun[crate] = self.pool.submit(self.try_crate, crate)
+
+    def try_crate(self, crate):
+        with self.lanes:
+            return Crate(self.root, crate, self.rtlib).try_all(self.edits[crate])
+
+    def end(self):
+        """Waits for all edits, on all processors, and returns what became of them."""
+        for _ in range(self.processors - self.processors // 2):
+            self.lanes.release()
+        return [it for crate in sorted(self.edits) for it in self.begun[crate].result()]
+
+    def stop(self):
+        """Begins no further edits."""
+        self.pool.shutdown(wait=False, cancel_futures=True)
