@@ -1,4 +1,3 @@
-mod First
 mod Numbers
 mod Own
 pub mod Shown

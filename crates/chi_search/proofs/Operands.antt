@@ -10,11 +10,10 @@ use Rattle.chi_lanes.proofs.MemoryLemmas.{bytes_from-same}
 use Rattle.chi_lanes.proofs.Operands.{placed}
 use Rattle.chi_trace.specs.declared.observed.Observed.{Observed}
 use Rattle.chi_trace.specs.Granules.{Fits, next}
+use Rattle.chi_trace.proofs.Agree.{after_as_byte, answer_as_of_old}
 use Rattle.chi_trace.proofs.Steps.{IsMemory-with_word}
 use Rattle.chi_search.specs.Effects.{IsInOperand}
-use Rattle.chi_search.proofs.Apart.{answer_as_old}
 use Rattle.chi_search.proofs.Told.{bit_after, bit_here, byte_of, here, in_word}
-use Rattle.chi_search.proofs.Written.{after_same}
 
 -- a bit of a byte is one of the word
 bit_of_byte : (op : Observed) (w x j k : ℕ) → w < 2 ^ 64 → k < 64 → byte_of op k ≡ x → k % 8 ≡ j → bit_at (here op w x) j ≡ bit_at w k
@@ -53,7 +52,7 @@ pub same_fit : (op : Observed) → IsLawful op.access → (v w : ℕ) → v < 2 
 unfolding Fits
 same_fit op lawful v w v_below w_below same fits =
     IfSome_then op.reply fits
-    (λ reply is. is ∙ answer_as_old op.access.kind op.access (here op w) (here op v) (sym (same_old op lawful v w v_below w_below same)))
+    (λ reply is. is ∙ answer_as_of_old op.access.kind op.access (here op w) (here op v) (sym (same_old op lawful v w v_below w_below same)))
 
 -- and it leaves the same operand of both
 pub same_next : (op : Observed) → IsLawful op.access → (v w : ℕ) → v < 2 ^ 64 → w < 2 ^ 64
@@ -62,6 +61,6 @@ pub same_next : (op : Observed) → IsLawful op.access → (v w : ℕ) → v < 2
 same_next op lawful v w v_below w_below same k inside =
     let within : k < 64 = in_word op.access k lawful inside in
     bit_after op v k lawful within
-    ∙ ap (λ b. bit_at b (k % 8)) (after_same op.access.kind op.access (here op v) (here op w) (byte_of op k)
+    ∙ ap (λ b. bit_at b (k % 8)) (after_as_byte op.access.kind op.access (here op v) (here op w) (byte_of op k)
     (same_old op lawful v w v_below w_below same) (same_byte op lawful v w v_below w_below same (byte_of op k) inside.0 inside.1))
     ∙ sym (bit_after op w k lawful within)

@@ -15,10 +15,11 @@ use Rattle.chi_lanes.proofs.MemoryLemmas.{get_or-bytes_from, length-bytes_from}
 use Rattle.chi_lanes.proofs.Operands.{placed}
 use Rattle.chi_trace.specs.declared.observed.Observed.{Observed}
 use Rattle.chi_trace.specs.Granules.{Fits, next, with_word}
+use Rattle.chi_trace.proofs.Agree.{after_as_byte}
 use Rattle.chi_trace.proofs.Steps.{IsMemory-with_word, word_at-with_word}
 use Rattle.chi_search.specs.Effects.{IsInOperand}
 use Rattle.chi_search.proofs.WordBits.{bit_of_word}
-use Rattle.chi_search.proofs.Written.{IsOutside, after_outside, after_same}
+use Rattle.chi_search.proofs.Written.{IsOutside, after_outside}
 
 -- data in lanes are of one list of a length
 in_lanes-same : (l : ℕ) (xs ys : List ℕ) → length xs ≡ length ys → in_lanes l xs ≡ in_lanes l ys → xs ≡ ys
@@ -108,7 +109,7 @@ same_left op bs lawful held w v fits v_fits k inside =
     let within : k < 64 = in_word op.access k lawful inside in
     let same = olds op bs held w v fits v_fits in
     bit_after op w k lawful within
-    ∙ ap (λ b. bit_at b (k % 8)) (after_same op.access.kind op.access (here op w) (here op v) (byte_of op k) same
+    ∙ ap (λ b. bit_at b (k % 8)) (after_as_byte op.access.kind op.access (here op w) (here op v) (byte_of op k) same
     (old_byte op.access (here op w) (here op v) (byte_of op k) same inside.0 inside.1))
     ∙ sym (bit_after op v k lawful within)
 

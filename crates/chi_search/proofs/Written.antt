@@ -1,5 +1,5 @@
 -- the bytes that an operation leaves
-use Rattle.std.proofs.Common.{◌≡◌, ℕ, zero, suc, ◌+◌, ◌-◌, ◌*◌, ◌<◌, ◌≤◌, max, ◌⊎◌, Bool, true, false, cond, List, length, slice_index, refl, sym, ap, ◌∙◌, arith, true≢false, inl, inr}
+use Rattle.std.proofs.Common.{◌≡◌, ℕ, zero, suc, ◌+◌, ◌-◌, ◌*◌, ◌<◌, ◌≤◌, max, ◌⊎◌, Bool, true, false, cond, List, length, slice_index, refl, sym, ap, ◌∙◌, arith, inl, inr}
 use Rattle.std.specs.Int.{bit_at}
 use Rattle.std.proofs.lemmas.Bool.{cases_lt}
 use Rattle.std.proofs.lemmas.Nat.Bits.{bit_at-lt}
@@ -8,13 +8,12 @@ use Rattle.chi_fields.specs.declared.kind.Kind.TheVariants.{Read, Write, Store, 
 use Rattle.chi_fields.specs.declared.kind.Op.TheVariants.{Clr, Set}
 use Rattle.chi_fields.specs.Access.{IsLawful, Access, lane_of}
 use Rattle.chi_lanes.specs.After.{after_as, old, same_bytes}
-use Rattle.chi_lanes.specs.Combination.{bitwise, combine}
+use Rattle.chi_lanes.specs.Combination.{bitwise}
 use Rattle.chi_lanes.specs.Memory.{Memory, with_bytes, with_enabled}
 use Rattle.chi_lanes.specs.Packet.{sent, swp}
 use Rattle.chi_lanes.proofs.AfterLemmas.{length-combined, length-sent, length-swp}
 use Rattle.chi_lanes.proofs.BitwiseLemmas.{length-bitwise}
 use Rattle.chi_lanes.proofs.MemoryLemmas.{get_or-bytes_from, length-bytes_from, with_bytes-inside, with_bytes-outside, with_enabled-off, with_enabled-on, with_enabled-outside}
-use Rattle.chi_trace.proofs.Agree.{written_byte}
 use Rattle.chi_search.specs.Effects.{IsBlind}
 use Rattle.chi_search.proofs.Spelled.{MakesBits, MakesBits-clr, MakesBits-set, spelled_byte}
 
@@ -44,33 +43,6 @@ after_outside Compare o m x lawful outside = by_test (same_bytes (old o m) (sent
     by_test : (b : Bool) → cond b (with_bytes m o.addr swapped) m x ≡ m x
     by_test true = written_outside o m swapped x (length-swp o.lanes (lane_of o.addr) o.len lawful.packet lawful.part lane_below) outside
     by_test false = refl
-
-enabled_byte : (o : Access) (m k : Memory) (x : ℕ) → m x ≡ k x
-    → with_enabled o.lanes o.enables m o.addr o.len x ≡ with_enabled o.lanes o.enables k o.addr o.len x
-unfolding with_enabled
-enabled_byte o m k x byte = λ i. with_enabled o.lanes o.enables (λ _. byte i) o.addr o.len x
-
--- a byte that was the same in two memories, whose operands have the same bytes
-pub after_same : (kind : Kind) (o : Access) (m k : Memory) (x : ℕ) → old o m ≡ old o k → m x ≡ k x → after_as kind o m x ≡ after_as kind o k x
-after_same Read o m k x same byte = byte
-after_same Write o m k x same byte = enabled_byte o m k x byte
-after_same (Store op) o m k x same byte = written_byte m k o.addr _ _ x byte (ap (λ bs. combine op o.endian bs (sent o.lanes (lane_of o.addr) o.len)) same)
-after_same (Load op) o m k x same byte = written_byte m k o.addr _ _ x byte (ap (λ bs. combine op o.endian bs (sent o.lanes (lane_of o.addr) o.len)) same)
-after_same Swap o m k x same byte = written_byte m k o.addr _ _ x byte refl
-after_same Compare o m k x same byte =
-    by_test (same_bytes (old o m) compared) (same_bytes (old o k) compared) (ap (λ bs. same_bytes bs compared) same)
-  where
-    compared : List ℕ
-    compared = sent o.lanes (lane_of o.addr) o.len
-
-    swapped : List ℕ
-    swapped = swp o.lanes (lane_of o.addr) o.len
-
-    by_test : (b c : Bool) → b ≡ c → cond b (with_bytes m o.addr swapped) m x ≡ cond c (with_bytes k o.addr swapped) k x
-    by_test true true e = written_byte m k o.addr swapped swapped x byte refl
-    by_test true false e = absurd (true≢false e)
-    by_test false true e = absurd (true≢false (sym e))
-    by_test false false e = byte
 
 -- a byte stays in each memory, or is the same after each
 abbrev pub StaysOrIs : Kind → Access → ℕ → Type 0

@@ -42,7 +42,8 @@ within_granule o m k lawful same x above below =
 pub old_of_same : (o : Access) (m k : Memory) → IsLawful o → Same (granule_start o.addr) 8 m k → old o m ≡ old o k
 old_of_same o m k lawful same = bytes_from-same m k o.addr o.len (within_granule o m k lawful same)
 
-answer_as_of_old : (kind : Kind) (o : Access) (m k : Memory) → old o m ≡ old o k → answer_as kind o m ≡ answer_as kind o k
+-- the reply is of the old bytes
+pub answer_as_of_old : (kind : Kind) (o : Access) (m k : Memory) → old o m ≡ old o k → answer_as kind o m ≡ answer_as kind o k
 answer_as_of_old Read o m k same = ap (λ bs. CompData (in_lanes (lane_of o.addr) bs)) same
 answer_as_of_old Write o m k same = refl
 answer_as_of_old (Store op) o m k same = refl
@@ -64,8 +65,8 @@ enabled_byte : (lanes : List ℕ) (enables : ℕ) (m k : Memory) (addr n x : ℕ
 unfolding with_enabled
 enabled_byte lanes enables m k addr n x byte = λ i. with_enabled lanes enables (λ _. byte i) addr n x
 
--- a byte after the operation
-after_as_byte : (kind : Kind) (o : Access) (m k : Memory) (x : ℕ) → old o m ≡ old o k → m x ≡ k x → after_as kind o m x ≡ after_as kind o k x
+-- a byte after the operation, that was the same in both memories
+pub after_as_byte : (kind : Kind) (o : Access) (m k : Memory) (x : ℕ) → old o m ≡ old o k → m x ≡ k x → after_as kind o m x ≡ after_as kind o k x
 after_as_byte Read o m k x same byte = byte
 after_as_byte Write o m k x same byte = enabled_byte o.lanes o.enables m k o.addr o.len x byte
 after_as_byte (Store op) o m k x same byte =

@@ -5,6 +5,7 @@ mod Blamed
 pub mod Cuts
 mod Entries
 pub mod Filling
+pub mod FirstPlaces
 mod Gained
 mod HeldAlone
 mod InOrder

@@ -1,7 +1,7 @@
 -- a place that is the granule's, and one that is not
 use Rattle.std.proofs.Common.{ℕ, ◌==◌, slice_index, ap, ◌∙◌}
 use Rattle.std.proofs.lemmas.Bool.{eq-eqb, ne_eqb}
-use Rattle.chi_granules.proofs.First.{first_more, first_none, first_without}
+use Rattle.chi_verdict.proofs.FirstPlaces.{first_more, first_none, first_without}
 use Rattle.chi_granules.proofs.places.own_places.Goals as goal
 use Rattle.chi_granules.proofs.places.own_places.Goals.{then-granules-place+in_ok-push, else-granules-place}
 

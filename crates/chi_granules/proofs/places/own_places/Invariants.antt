@@ -1,6 +1,6 @@
 -- those of the first places that are the granule's
 use Rattle.std.proofs.Common.{◌==◌, slice_index}
-use Rattle.chi_granules.proofs.First.{HasFirst}
+use Rattle.chi_verdict.proofs.FirstPlaces.{HasFirst}
 use Rattle.chi_granules.proofs.places.own_places.Given as goal
 
 abbrev pub invariant-loop-place : goal.invariant-loop-place

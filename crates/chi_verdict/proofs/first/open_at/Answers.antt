@@ -4,7 +4,8 @@ use Rattle.std.proofs.lemmas.List.{get_or_read}
 use Rattle.chi_trace.specs.Explains.{at, nothing}
 use Rattle.chi_trace.specs.Granules.{granule_of}
 use Rattle.chi_verdict.specs.Blames.{is_open_at}
-use Rattle.chi_verdict.proofs.Open.{IsOpen, first_more, first_none, first_without, not_open, open_here}
+use Rattle.chi_verdict.proofs.FirstPlaces.{first_more, first_none, first_without}
+use Rattle.chi_verdict.proofs.Open.{IsOpen, not_open, open_here}
 use Rattle.chi_verdict.proofs.first.open_at.Goals as goal
 use Rattle.chi_verdict.proofs.first.open_at.Goals.{then-addr-granule+then-op-time+then-time-op+in_ok-push, else-addr-granule, else-addr-granule-via-then-addr-granule+then-op-time+else-time-op, else-addr-granule-via-then-addr-granule+else-op-time, else-addr-granule-via-else-addr-granule}
 
