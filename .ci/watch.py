@@ -1,4 +1,4 @@
-"""What the gate has the prover do below this process: the processor time of each crate's proof, of its tests and of its edits."""
+"""What the prover does below this process: the processor time of each crate's proof, of its tests and of its edits."""
 
 import collections
 import glob
@@ -28,10 +28,11 @@ def processes():
 
 
 class Watch(threading.Thread):
-    """Looks twice a second at the provers below this process, until it is ended."""
+    """Looks twice a second at the provers below this process that work on the crates of a folder, until it is ended."""
 
-    def __init__(self):
+    def __init__(self, room):
         super().__init__(daemon=True)
+        self.room = os.path.realpath(room)
         self.ended, self.works, self.spent = threading.Event(), {}, {}
 
     def run(self):
@@ -62,7 +63,7 @@ class Watch(threading.Thread):
         return top if number in found else None
 
     def work_of(self, number):
-        """Returns what a prover works on, or nothing where it proves nothing."""
+        """Returns what a prover works on, or nothing where it proves nothing of the folder."""
         try:
             folder = os.readlink(f"/proc/{number}/cwd")
             with open(f"/proc/{number}/cmdline", encoding="utf-8", errors="replace") as file:
@@ -70,8 +71,9 @@ class Watch(threading.Thread):
             crate = words[words.index("--crate-name") + 1]
         except (OSError, ValueError):
             return None
-        kind = "edits" if os.path.basename(folder).startswith("must-fail-") else "tests" if "--test" in words else "proof"
-        return Work(kind, crate)
+        if os.path.basename(folder).startswith("must-fail-"):
+            return Work("edits", crate)
+        return Work("tests" if "--test" in words else "proof", crate) if folder.startswith(f"{self.room}/") else None
 
     def seconds(self):
         """Returns the processor time of each piece of work."""
