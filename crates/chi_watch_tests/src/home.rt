@@ -3,7 +3,6 @@
 use chi_events::{Completion, Event, EventKind, Packet, Requested};
 use chi_lanes::Reply;
 use chi_reading::Asked;
-use chi_recent::Reach;
 use chi_search::NoProgress;
 use chi_verdict::GranuleWord;
 use chi_watch::{Ending, Watch, WatchFault};
@@ -149,25 +148,4 @@ pub(crate) fn granules_at_end(alloc: Global, ending: &Ending) -> Result<Vec<u64>
         .iter()
         .map(|it| it.granule)
         .collect(alloc)
-}
-
-/// How far operations can be explained: the time at which they stop, the request that was answered then, those that were open,
-/// by their starts, and the words that the granule can hold before.
-pub(crate) fn told_stop(
-    alloc: Global,
-    reach: &Reach,
-) -> Result<(u64, u8, Vec<u64>, Vec<u64>), Fail> {
-    match reach {
-        Reach::Stops(stop) => {
-            let starts = stop
-                .overlapping
-                .iter()
-                .map(|it| it.op.start)
-                .collect(alloc)?;
-            let mut words = Vec::from_slice(alloc, &stop.words)?;
-            words.sort()?;
-            Ok((stop.time, stop.op.asked.opcode, starts, words))
-        }
-        _ => Err(Fail::new("it does not stop")),
-    }
 }

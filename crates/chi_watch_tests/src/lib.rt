@@ -14,6 +14,6 @@ mod home;
 #[cfg(test)]
 mod reach_tests;
 #[cfg(test)]
-mod rows_tests;
+mod stop;
 #[cfg(test)]
 mod watch_tests;

@@ -1,55 +1,87 @@
-//! How far the operations of a granule that is found can be explained.
+//! How far the operations of a granule that is found can be explained, and which of them are shown.
 
 use crate::comparison::assert_same;
 use crate::home::{
-    GRANULE, add, answer, done, ending_of, error, next_word, read, take, take_all, told_stop, word,
-    write,
+    GRANULE, add, answer, data, done, ending_of, error, next_word, read, take, take_all, word,
+    write, write_without_data,
 };
+use crate::stop::{Stop, assert_stops, told_stop};
 use chi_events::EventKind;
 use chi_recent::Reach;
 use chi_search::NoProgress;
 use chi_watch::Watch;
+use std::alloc::Global;
 use std::test::Fail;
 
-// The write of 5 has ended at 2. The read that starts at 3 answers 0 at 4, and up to 3 only 5 can be there.
-#[test]
-fn a_lost_write(rt: HostRuntime) -> Result<(), Fail> {
-    let alloc = rt.alloc();
+// How far the granule can be explained after these events.
+fn reach_after(alloc: Global, kinds: &[EventKind]) -> Result<Reach, Fail> {
     let mut watch = Watch::new(alloc);
-    take_all(
-        alloc,
-        &mut watch,
-        &[write(1, 5), done(1), read(2), answer(2, 0)],
-    )?;
-    let reach = watch.reach(alloc, GRANULE, 1_000_000, &mut NoProgress)?;
-    let (time, opcode, starts, words) = told_stop(alloc, &reach)?;
-    assert_same(
-        &rt,
-        (time, opcode, starts.as_slice(), words.as_slice()),
-        (4, 0x04, [3].as_slice(), [5].as_slice()),
-    );
-    Ok(())
+    take_all(alloc, &mut watch, kinds)?;
+    Ok(watch.reach(alloc, GRANULE, 1_000_000, &mut NoProgress)?)
 }
 
-// Both of two AtomicLoads that overlap answer 0. The second starts at 2 and answers at 4; up to 3 the first has added its 1, and
-// the second, which was open, its 1 or not.
+// The write of 5, which event 1 tells, has ended at 2. The read that starts at 3 answers 0 at 4, and up to 3 only 5 can be there.
+#[test]
+fn a_lost_write(rt: HostRuntime) -> Result<(), Fail> {
+    let reach = reach_after(rt.alloc(), &[write(1, 5), done(1), read(2), answer(2, 0)])?;
+    let stop = Stop {
+        time: 4,
+        opcode: 0x04,
+        starts: &[3],
+        words: &[5],
+        blamed: 3,
+        before: &[1],
+        open: &[3],
+        legal: &[5],
+    };
+    assert_stops(&rt, rt.alloc(), &reach, stop)
+}
+
+// Both of two AtomicLoads that overlap answer 0. The second starts at 2 and answers at 4, where 1 would have been right; up to 3
+// the first has added its 1, and the second, which was open, its 1 or not.
 #[test]
 fn a_lost_addition(rt: HostRuntime) -> Result<(), Fail> {
-    let alloc = rt.alloc();
-    let mut watch = Watch::new(alloc);
-    take_all(
-        alloc,
-        &mut watch,
+    let reach = reach_after(
+        rt.alloc(),
         &[add(1, 1), add(2, 1), answer(1, 0), answer(2, 0)],
     )?;
-    let reach = watch.reach(alloc, GRANULE, 1_000_000, &mut NoProgress)?;
-    let (time, opcode, starts, words) = told_stop(alloc, &reach)?;
-    assert_same(
-        &rt,
-        (time, opcode, starts.as_slice(), words.as_slice()),
-        (4, 0x30, [2].as_slice(), [1, 2].as_slice()),
-    );
-    Ok(())
+    let stop = Stop {
+        time: 4,
+        opcode: 0x30,
+        starts: &[2],
+        words: &[1, 2],
+        blamed: 2,
+        before: &[1],
+        open: &[2],
+        legal: &[1],
+    };
+    assert_stops(&rt, rt.alloc(), &reach, stop)
+}
+
+// The first read is dropped, and the second has its number. The write's data come after its request, which is event 3.
+#[test]
+fn numbers_that_are_used_again(rt: HostRuntime) -> Result<(), Fail> {
+    let kinds = [
+        read(1),
+        EventKind::Dropped { id: 1 },
+        write_without_data(1),
+        data(1, 5),
+        done(1),
+        read(1),
+        answer(1, 7),
+    ];
+    let reach = reach_after(rt.alloc(), &kinds)?;
+    let stop = Stop {
+        time: 7,
+        opcode: 0x04,
+        starts: &[6],
+        words: &[5],
+        blamed: 6,
+        before: &[3],
+        open: &[6],
+        legal: &[5],
+    };
+    assert_stops(&rt, rt.alloc(), &reach, stop)
 }
 
 // At time 0 nothing is known before.
@@ -69,8 +101,9 @@ fn time_0(rt: HostRuntime) -> Result<(), Fail> {
     Ok(())
 }
 
-// Two hundred additions of 1 come one after the other. Then a read answers 7 while one more is open, and forty that are not seen to
-// answer follow: it is the read that is named.
+// Event 1 tells a word. Two hundred additions of 1 come one after the other, of which the last sixteen are told by the events 370,
+// 372 and so on to 400. The addition of event 402 is open while the read of event 403 answers 7 in place of 200 or 201. Forty
+// requests with numbers that were used before are not seen to answer after it: it is the read that is named.
 #[test]
 fn after_many(rt: HostRuntime) -> Result<(), Fail> {
     let alloc = rt.alloc();
@@ -94,13 +127,19 @@ fn after_many(rt: HostRuntime) -> Result<(), Fail> {
     }
     take(alloc, &mut watch, 500, answer(1000, 200))?;
     let reach = watch.reach(alloc, GRANULE, 1_000_000, &mut NoProgress)?;
-    let (stopped, opcode, starts, words) = told_stop(alloc, &reach)?;
-    assert_same(
-        &rt,
-        (stopped, opcode, starts.as_slice(), words.as_slice()),
-        (403, 0x04, [401, 402].as_slice(), [200, 201].as_slice()),
-    );
-    Ok(())
+    let stop = Stop {
+        time: 403,
+        opcode: 0x04,
+        starts: &[401, 402],
+        words: &[200, 201],
+        blamed: 403,
+        before: &[
+            370, 372, 374, 376, 378, 380, 382, 384, 386, 388, 390, 392, 394, 396, 398, 400,
+        ],
+        open: &[402, 403],
+        legal: &[200, 201],
+    };
+    assert_stops(&rt, alloc, &reach, stop)
 }
 
 // A granule that can be explained is so to its end, with the words that it can hold there; one of which nothing is told, or whose
@@ -132,7 +171,8 @@ fn explained_and_not_looked_at(rt: HostRuntime) -> Result<(), Fail> {
     Ok(())
 }
 
-// A read that answered 6 at 4 while a write of 5 is open to the end, and a word at the end that nobody wrote.
+// The read of event 3 answered 6 at 4, where 0 or 5 would have been right, while the write of event 2 is open to the end; and a
+// word at the end that nobody wrote.
 #[test]
 fn at_the_end(rt: HostRuntime) -> Result<(), Fail> {
     let alloc = rt.alloc();
@@ -146,26 +186,25 @@ fn at_the_end(rt: HostRuntime) -> Result<(), Fail> {
     let [first, second] = ending.unexplained.as_slice() else {
         return Err(Fail::new("there are not two granules"));
     };
-    let (time, opcode, starts, words) = told_stop(alloc, &first.reach)?;
-    assert_same(
-        &rt,
-        (
-            first.last,
-            time,
-            opcode,
-            starts.as_slice(),
-            words.as_slice(),
-        ),
-        (None, 4, 0x04, [2, 3].as_slice(), [0, 5].as_slice()),
-    );
+    let stop = Stop {
+        time: 4,
+        opcode: 0x04,
+        starts: &[2, 3],
+        words: &[0, 5],
+        blamed: 3,
+        before: &[],
+        open: &[2, 3],
+        legal: &[0, 5],
+    };
+    assert_stops(&rt, alloc, &first.reach, stop)?;
     let words = match &second.reach {
         Reach::Whole(words) => words.as_slice(),
         _ => &[],
     };
     assert_same(
         &rt,
-        (second.granule, second.last, words),
-        (GRANULE + 1, Some(3), [0].as_slice()),
+        (first.last, second.granule, second.last, words),
+        (None, GRANULE + 1, Some(3), [0].as_slice()),
     );
     Ok(())
 }
