@@ -31,3 +31,5 @@ mod race_tests;
 mod run_tests;
 #[cfg(test)]
 mod scripts;
+#[cfg(test)]
+mod seven_tests;

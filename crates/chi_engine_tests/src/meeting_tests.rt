@@ -1,4 +1,4 @@
-//! Gates that wait for all of them: two and four workers at once, by the engine and by call.
+//! Gates that wait for one another: two and four workers at once, by the engine and by call.
 
 ghost use Rattle.std.specs.Prelude.{◌≡◌, ◌≤◌};
 ghost use Rattle.chi_history.specs.NumberSets.{below};
@@ -22,13 +22,13 @@ use std::time::{Clock, Duration};
 
 // How many gates were paused for the first time, and how many of these saw all of them paused.
 #[derive(Drop)]
-struct Meeting {
+pub(crate) struct Meeting {
     paused: AtomicU64,
     met: AtomicU64,
 }
 
 impl Meeting {
-    fn new() -> Meeting {
+    pub(crate) fn new() -> Meeting {
         Meeting {
             paused: AtomicU64::new(0),
             met: AtomicU64::new(0),
@@ -36,7 +36,7 @@ impl Meeting {
     }
 
     // A gate of so many.
-    fn gate<'a, C: Clock>(&'a self, clock: &'a C, gates: u64) -> MeetingGate<'a, C> {
+    pub(crate) fn gate<'a, C: Clock>(&'a self, clock: &'a C, gates: u64) -> MeetingGate<'a, C> {
         MeetingGate {
             clock,
             meeting: self,
@@ -45,7 +45,7 @@ impl Meeting {
         }
     }
 
-    fn assert_met<T: Abort>(&self, rt: &T, gates: u64) {
+    pub(crate) fn assert_met<T: Abort>(&self, rt: &T, gates: u64) {
         assert_same(
             rt,
             ("gates that met", self.met.load(Ordering::SeqCst)),
@@ -57,7 +57,7 @@ impl Meeting {
 // A gate that at its first pause sleeps a millisecond a turn until all gates were paused, for ten thousand turns at
 // most. Its later pauses end at once.
 #[derive(Drop)]
-struct MeetingGate<'a, C> {
+pub(crate) struct MeetingGate<'a, C> {
     clock: &'a C,
     meeting: &'a Meeting,
     gates: u64,
@@ -123,7 +123,7 @@ fn gates_meet_of_four(rt: HostRuntime) -> Result<(), Fail> {
 }
 
 // An add of 1 to the first eight bytes.
-fn add(src: u8) -> Request
+pub(crate) fn add(src: u8) -> Request
     ensures { result.src ≡ src }
 {
     let mut lanes = [0; 16];

@@ -1,9 +1,9 @@
 -- sets of requester numbers, and families by number
-use Rattle.std.proofs.Common.{◌≡◌, ℕ, ◌≤◌, Bool, true, false, not, ◌&&◌, ◌||◌, ◌==◌, nat_lt, if◌then◌else◌, refl, sym, ap, subst, ◌∙◌, eqb-true, arith, true≢false}
+use Rattle.std.proofs.Common.{◌≡◌, ℕ, zero, suc, ◌<◌, ◌≤◌, Bool, true, false, not, ◌&&◌, ◌||◌, ◌==◌, nat_lt, if◌then◌else◌, refl, sym, ap, subst, ◌∙◌, eqb-true, eq-eqb, ◌≢◌, arith, true≢false}
 use Rattle.std.proofs.Math.Bool.{and-true, or-false}
-use Rattle.std.proofs.lemmas.Bool.{lt-ltb}
-use Rattle.chi_history.specs.NumberSets.{Held, below, nobody, only, union, without}
-use Rattle.chi_requester.specs.Race.{one_and_two, one_to_four}
+use Rattle.std.proofs.lemmas.Bool.{lt-ltb, or_left, or_right}
+use Rattle.chi_history.specs.NumberSets.{Held, below, only, union, without}
+use Rattle.chi_requester.specs.Team.{one_to, without_to}
 
 -- a number that is not in a set is none of the set's
 pub apart_from : (set : Held) (src r : ℕ) → set src ≡ false → set r ≡ true → only src r ≡ false
@@ -24,16 +24,44 @@ whole_split all kept off src whole has = (λ i r. by_test r (r == src) refl i) �
     by_test r true here = table (kept r) (off r) (ap kept (eqb-true r src here) ∙ has)
     by_test r false gone = rw (and-true (kept r), or-false (off r)) refl
 
--- these numbers taken out of those below n, and put together again
-pub whole_two : (n : ℕ) → 3 ≤ n → union (without 2 (without 1 (below n))) one_and_two ≡ below n
-whole_two n three =
-    let one = whole_split (below n) (below n) nobody 1 (λ i r. or-false (nat_lt r n) i) (lt-ltb 1 n (omega arith)) in
-    whole_split (below n) (without 1 (below n)) (only 1) 2 one (rw (lt-ltb 2 n (omega arith)) refl)
+-- a number above n is none of those up to n
+pub not_one_to : (n src : ℕ) → n < src → one_to n src ≡ false
+not_one_to zero src above = refl
+not_one_to (suc n) src above = rw (not_one_to n src (omega arith), eqb_above src (suc n) above) refl
+  where
+    eqb_above : (a b : ℕ) → b < a → (a == b) ≡ false
+    eqb_above a b more = grind arith
 
-pub whole_four : (n : ℕ) → 5 ≤ n → union (without 4 (without 3 (without 2 (without 1 (below n))))) one_to_four ≡ below n
-whole_four n five =
-    let three = whole_split (below n) _ one_and_two 3 (whole_two n (omega arith)) (rw (lt-ltb 3 n (omega arith)) refl) in
-    whole_split (below n) _ (union one_and_two (only 3)) 4 three (rw (lt-ltb 4 n (omega arith)) refl)
+-- 0 is none of the numbers from 1 on
+pub not_zero : (n : ℕ) → one_to n 0 ≡ false
+not_zero zero = refl
+not_zero (suc n) = rw (not_zero n) (grind arith)
+
+-- a number up to n is 0 or one of those from 1 to n
+pub one_to_within : (n src : ℕ) → src ≤ n → union (one_to n) (only 0) src ≡ true
+one_to_within zero src small = eq-eqb src 0 (omega arith)
+one_to_within (suc n) src small = by_test (one_to_within n src) (src == suc n) refl
+  where
+    by_test : (src ≤ n → one_to n src || (src == 0) ≡ true) → (b : Bool) → (src == suc n) ≡ b → (one_to n src || b) || (src == 0) ≡ true
+    by_test fewer true here = or_left (one_to n src || true) (src == 0) (or_right (one_to n src) true refl)
+    by_test fewer false off =
+        let other : src ≢ suc n = λ is. true≢false (sym (eq-eqb src (suc n) is) ∙ off) in
+        rw (or-false (one_to n src)) (fewer (omega arith))
+
+-- what is taken out of a set up to n leaves the other numbers
+pub kept_above : (n src : ℕ) (held : Held) → n < src → held src ≡ true → without_to n held src ≡ true
+kept_above zero src held above has = has
+kept_above (suc n) src held above has = rw (kept_above n src held (omega arith) has) (grind arith)
+
+pub kept_zero : (n : ℕ) (held : Held) → held 0 ≡ true → without_to n held 0 ≡ true
+kept_zero zero held has = has
+kept_zero (suc n) held has = rw (kept_zero n held has) (grind arith)
+
+-- the numbers up to n taken out of those below more, and put together again
+pub whole_to : (n more : ℕ) → n < more → union (without_to n (below more)) (one_to n) ≡ below more
+whole_to zero more room = λ i r. or-false (nat_lt r more) i
+whole_to (suc n) more room =
+    whole_split (below more) (without_to n (below more)) (one_to n) (suc n) (whole_to n more (omega arith)) (kept_above n (suc n) (below more) (omega arith) (lt-ltb (suc n) more room))
 
 -- a family with another value at one number
 abbrev pub put : {A : Type 0} → ℕ → A → (ℕ → A) → ℕ → A

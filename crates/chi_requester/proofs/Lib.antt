@@ -5,4 +5,5 @@ pub mod SerialLemmas
 pub mod RunLemmas
 pub mod FamilyLemmas
 pub mod TeamLemmas
+pub mod RacerLemmas
 pub mod RaceLemmas

@@ -1,8 +1,9 @@
 -- requesters who work at the same time, and 0 after them
-use Rattle.std.proofs.Common.{◌≡◌, ◌≢◌, ℕ, ◌+◌, ◌*◌, ◌≤◌, zero, suc, true, false, ◌||◌, List, [], ◌∷◌, ◌++◌, All, Result, Ok, Err, IsErr, refl, sym, ap, subst, ◌∙◌, arith, append_assoc, append-nil, true≢false}
+use Rattle.std.proofs.Common.{◌≡◌, ◌≢◌, ℕ, ◌+◌, ◌*◌, ◌≤◌, zero, suc, true, false, ◌||◌, List, [], ◌∷◌, ◌++◌, All, Result, Ok, Err, IsErr, refl, sym, ap, subst, ◌∙◌, arith, append_assoc, append-nil, eq-eqb, eqb-true, ◌==◌, length, true≢false}
 use Rattle.std.proofs.Math.Bool.{or-false}
 use Rattle.std.proofs.lemmas.Bool.{lt-ltb, or_left}
-use Rattle.std.proofs.lemmas.List.Elements.{All-append, All-cons, All-nil}
+use Rattle.std.proofs.lemmas.List.Elements.{All-append, All-cons, All-head, All-nil}
+use Rattle.std.proofs.lemmas.List.{nil_from_length}
 use Rattle.chi_fields.specs.declared.refusal.Refusal.{Refusal}
 use Rattle.chi_fields.specs.declared.request.Request.{Request}
 use Rattle.chi_fields.specs.Extent.{Extent}
@@ -21,12 +22,12 @@ use Rattle.chi_history.proofs.HistoryLemmas.{legal-back, legal-front, of-append,
 use Rattle.chi_requester.specs.declared.fault.WorkFault.{WorkFault}
 use Rattle.chi_requester.specs.declared.policy.Policy.{Policy}
 use Rattle.chi_requester.specs.Race.{IsOf, IsRaceRun, is_retry}
-use Rattle.chi_requester.specs.Team.{AreLeftBy, IsTeamRun}
+use Rattle.chi_requester.specs.Team.{AreLeftBy, IsTeamRun, one_to}
 use Rattle.chi_requester.specs.Reports.{Told, ToldOf}
 use Rattle.chi_requester.specs.Work.{IsShare, IsExecuted, IsWorkRun, Share, own_requests}
-use Rattle.chi_requester.proofs.FamilyLemmas.{apart_from, put, put_each, put_other, whole_split}
+use Rattle.chi_requester.proofs.FamilyLemmas.{apart_from, one_to_within, put, put_each, put_other, whole_split}
 use Rattle.chi_requester.proofs.SerialLemmas.{unpaid_alone}
-use Rattle.chi_requester.proofs.TeamLemmas.{left_more, left_still, racer_more}
+use Rattle.chi_requester.proofs.TeamLemmas.{left_more, left_still, racer_more, racer_none}
 use Rattle.chi_requester.proofs.ReportLemmas.{access_of-decided, retried-append, told_unpaid}
 use Rattle.chi_requester.proofs.WorkLemmas.{executed_none}
 
@@ -65,6 +66,10 @@ unretried region policy limit (q ∷ qs) lines told paid =
     piece (Ok a) accepted is =
         let done = told_unpaid region policy limit q a told.0 (access_of-decided region q a accepted) is (λ g. let s = split g in omega arith) in
         single (Completed q done.0) done.1 refl
+
+-- no request was executed
+abbrev pub idle_shares : List Request → ℕ → Share
+idle_shares all = λ r. record { done = []; left = own_requests all r; appended = [] }
 
 -- the requests of 0 were executed after those of the racers, by a seat that had taken theirs back
 pub race_run : {o : Opening} {policy : Policy} {limit : ℕ} {all : List Request} {kept racers held : Held} {start seen seen' : List Entry} {lines lines' lines'' : ℕ → List Line}
@@ -134,3 +139,42 @@ race_done {racers = racers} {u = u} {result = result} apart whole legal t same p
   where
     last : Share
     last = record { done = z.done; left = z.left; appended = z.appended }
+
+-- where nobody began, nothing is added to the history
+pub race_idle : (o : Opening) (policy : Policy) (limit : ℕ) (racers : Held) (all : List Request) (seen : List Entry) (lines : ℕ → List Line) (result : Result (Unit {0}) WorkFault)
+    → IsLegal o seen → AreLeftBy result (union racers (only 0)) (idle_shares all) → IsRaceRun result o policy limit racers all seen seen lines lines
+unfolding IsFreeOf IsOf of
+race_idle o policy limit racers all seen lines result legal left = record {
+  since = [];
+  grown = sym (append-nil seen);
+  share = idle_shares all;
+  shares = λ r is. record { parts = refl; kept = sym (append-nil (lines r)) };
+  are_left = left;
+  zero_waits = λ r is some. refl;
+  race = record {
+    legal = rw (append-nil seen) legal;
+    raced = [];
+    last = [];
+    parts = refl;
+    of_racers = tt;
+    of_zero = tt;
+    racer = λ r is. racer_none o policy limit r seen;
+    zero_mine = refl;
+    zero_told = (racer_none o policy limit 0 seen).told;
+    zero_unretried = All-nil (λ (line : Line). is_retry line ≡ false);
+  };
+}
+
+-- there was no request
+pub race_empty : (o : Opening) (policy : Policy) (limit : ℕ) (racers : Held) (all : List Request) (seen : List Entry) (lines : ℕ → List Line) (u : Unit {0})
+    → IsLegal o seen → (length all == 0) ≡ true → IsRaceRun (Ok u) o policy limit racers all seen seen lines lines
+race_empty o policy limit racers all seen lines u legal none =
+    race_idle o policy limit racers all seen lines (Ok u) legal (λ r is. ap (λ (qs : List Request). own_requests qs r) (nil_from_length all (eqb-true (length all) 0 none)))
+
+-- where nobody began, some request is left, since each is of a racer or of 0
+pub race_unstarted : (o : Opening) (policy : Policy) (limit n : ℕ) (all : List Request) (seen : List Entry) (lines : ℕ → List Line) (result : Result (Unit {0}) WorkFault)
+    → IsLegal o seen → IsErr result → (length all == 0) ≡ false → All (λ q. q.src ≤ n) all → IsRaceRun result o policy limit (one_to n) all seen seen lines lines
+race_unstarted o policy limit n [] seen lines result legal failed some known = absurd (true≢false some)
+race_unstarted o policy limit n (q ∷ qs) seen lines (Ok u) legal failed some known = cc
+race_unstarted o policy limit n (q ∷ qs) seen lines (Err fault) legal failed some known =
+    race_idle o policy limit (one_to n) (q ∷ qs) seen lines (Err fault) legal (q.src, one_to_within n q.src (All-head (λ (x : Request). x.src ≤ n) q qs known), rw (eq-eqb q.src q.src refl) (λ none. cc))

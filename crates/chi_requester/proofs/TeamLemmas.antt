@@ -16,10 +16,9 @@ use Rattle.chi_history.specs.HomeClauses.{Joins}
 use Rattle.chi_history.proofs.HistoryLemmas.{free-append, free-front, free-within, hits-append, of-append, of-free}
 use Rattle.chi_requester.specs.declared.fault.WorkFault.{WorkFault}
 use Rattle.chi_requester.specs.declared.policy.Policy.{Policy}
-use Rattle.chi_requester.specs.declared.team.WorkEnd.{WorkEnd}
-use Rattle.chi_requester.specs.declared.team.Worker.{Worker}
-use Rattle.chi_requester.specs.Team.{AreLeftBy, HasEnded, IsTeamRun}
-use Rattle.chi_requester.specs.Work.{AreLeft, IsRacer, IsShare, IsExecuted, Share}
+use Rattle.chi_requester.specs.Team.{AreLeftBy, IsTeamRun}
+use Rattle.chi_requester.specs.Reports.{Told}
+use Rattle.chi_requester.specs.Work.{AreLeft, IsRacer, IsShare, IsExecuted, IsWorkRun, Share}
 use Rattle.chi_requester.proofs.FamilyLemmas.{put, put_each, put_other}
 
 -- entries of which none is of a set hit alike whether it is left out or not
@@ -44,6 +43,15 @@ racer_alone {o = o} {src = src} {seen = seen} w free = record {
   mine = w.mine;
   told = w.told;
   paid = λ g. let same = hits_outside o (end o seen) (only 0) (only src) w.since g free in let own = w.paid g in omega arith;
+}
+
+-- a requester that did nothing
+pub racer_none : (o : Opening) (policy : Policy) (limit src : ℕ) (seen : List Entry) → IsRacer o policy limit src seen [] [] []
+unfolding Told of
+racer_none o policy limit src seen = record {
+  mine = refl;
+  told = refl;
+  paid = λ g. omega arith;
 }
 
 -- where some of a set are left, some are with one more number
@@ -75,33 +83,27 @@ team_none {kept = kept} {seen = seen} zero whole same = record {
   are_left = λ r is. refl;
 }
 
--- one more worker's seat is taken back
-pub team_back : {S G A : Type 0} {Belongs : S → Type 0} {held_of : S → Held} {seen_of : S → List Entry} {o : Opening} {policy : Policy} {limit : ℕ} {all : List Request}
-    {kept team held held' : Held} {start seen seen' : List Entry} {lines lines' : ℕ → List Line} {first result : Result (Unit {0}) WorkFault} {worker : Worker S G A} {work : WorkEnd S A}
-    → IsTeamRun first o policy limit all kept team held start seen lines lines' → HasEnded Belongs held_of seen_of o policy limit all worker work
-    → seen_of worker.seat ≡ start → worker.lines.items ≡ lines worker.src → work.lines.items ≡ lines' worker.src → team worker.src ≡ false
-    → held' ≡ union held (held_of work.seat) → Joins held seen (held_of work.seat) (seen_of work.seat) seen' → result ≡ result_and first work.outcome
-    → IsTeamRun result o policy limit all kept (union team (only worker.src)) held' start seen' lines lines'
-team_back {seen_of = seen_of} {o = o} {policy = policy} {limit = limit} {all = all} {kept = kept} {team = team} {held = held} {start = start} {seen' = seen'} {lines = lines} {lines' = lines'} {first = first} {worker = worker} {work = work}
-    t w start_is lines_is new_is apart held_is joined both = record {
+-- one more racer's seat is taken back
+pub team_back : {o : Opening} {policy : Policy} {limit : ℕ} {all : List Request} {kept team held held' own_held : Held} {start seen seen' own_seen : List Entry} {lines lines' : ℕ → List Line}
+    {first last result : Result (Unit {0}) WorkFault} (src : ℕ)
+    → IsTeamRun first o policy limit all kept team held start seen lines lines' → IsWorkRun last o policy limit (only src) src all start own_seen (lines src) (lines' src)
+    → team src ≡ false → own_held ≡ only src → held' ≡ union held own_held → Joins held seen own_held own_seen seen' → result ≡ result_and first last
+    → IsTeamRun result o policy limit all kept (union team (only src)) held' start seen' lines lines'
+team_back {o = o} {policy = policy} {limit = limit} {all = all} {kept = kept} {team = team} {held = held} {start = start} {seen' = seen'} {lines = lines} {lines' = lines'} {first = first} {last = last}
+    src t run apart alone held_is joined both = record {
       since = t.since ++ joined.more;
       grown = grown;
       zero_kept = t.zero_kept;
-      held_is = held_is ∙ (λ i. union (t.held_is i) (w.alone i)) ∙ (λ i r. or_assoc (kept r) (team r) (r == src) i);
+      held_is = held_is ∙ (λ i. union (t.held_is i) (alone i)) ∙ (λ i r. or_assoc (kept r) (team r) (r == src) i);
       free = free;
       share = put src new t.share;
-      shares = put_each (λ r x. IsShare all r (lines r) (lines' r) x) team src new t.share (record { parts = run.parts; kept = sym new_is ∙ (run.kept ∙ ap (λ xs. xs ++ run.appended) lines_is) }) t.shares;
+      shares = put_each (λ r x. IsShare all r (lines r) (lines' r) x) team src new t.share (record { parts = run.parts; kept = run.kept }) t.shares;
       racer = put_each (λ r x. IsRacer o policy limit r start (t.since ++ joined.more) x.done x.appended) team src new t.share racer (λ r is. racer_more (t.racer r is) joined.more
           (of-free held joined.more r (ap (λ (s : Held). s r) t.held_is ∙ or_right (kept r) (team r) is) joined.free));
       are_left = let P : Result (Unit {0}) WorkFault → Type 0 = λ x. AreLeftBy x (union team (only src)) (put src new t.share) in
-          subst P (sym both) (left_more first work.outcome team src new t.share apart t.are_left run.are_left);
+          subst P (sym both) (left_more first last team src new t.share apart t.are_left run.are_left);
     }
   where
-    open w use {executed as run}
-
-    src : ℕ
-    src = worker.src
-
     new : Share
     new = record { done = run.done; left = run.left; appended = run.appended }
 
@@ -112,11 +114,10 @@ team_back {seen_of = seen_of} {o = o} {policy = policy} {limit = limit} {all = a
     free = free-append kept t.since joined.more t.free (free-within held kept joined.more (λ r is. ap (λ (s : Held). s r) t.held_is ∙ or_left (kept r) (team r) is) joined.free)
 
     longer_by : t.since ++ joined.more ≡ run.executed.since ++ joined.other_more
-    longer_by = append_cancel_left start _ _ (sym grown ∙ (joined.other_grown ∙ (ap (λ h. h ++ joined.other_more) (run.executed.grown ∙ ap (λ h. h ++ run.executed.since) start_is)
-        ∙ append_assoc start run.executed.since joined.other_more)))
+    longer_by = append_cancel_left start _ _ (sym grown ∙ (joined.other_grown ∙ (ap (λ h. h ++ joined.other_more) run.executed.grown ∙ append_assoc start run.executed.since joined.other_more)))
 
     racer : IsRacer o policy limit src start (t.since ++ joined.more) run.done run.appended
     racer =
         let P : List Entry → Type 0 = λ h. IsFreeOf kept h in
         let zero_free = free-within kept (only 0) run.executed.since (λ r is. ap kept (eqb-true r 0 is) ∙ t.zero_kept) (free-front kept run.executed.since joined.other_more (subst P longer_by free)) in
-        rw (longer_by, ← start_is) (racer_more (racer_alone run.executed zero_free) joined.other_more (of-free _ joined.other_more src (ap (λ (s : Held). s src) w.alone ∙ eq-eqb src src refl) joined.other_free))
+        rw longer_by (racer_more (racer_alone run.executed zero_free) joined.other_more (of-free _ joined.other_more src (ap (λ (s : Held). s src) alone ∙ eq-eqb src src refl) joined.other_free))

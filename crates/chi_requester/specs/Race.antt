@@ -1,5 +1,5 @@
 -- what requesters who work at the same time, and 0 after them, add to the history
-use Rattle.std.specs.Prelude.{◌≡◌, ◌≢◌, ℕ, Bool, true, false, List, [], ◌∷◌, ◌++◌, slice_index_or, All, Result}
+use Rattle.std.specs.Prelude.{◌≡◌, ◌≢◌, ℕ, Bool, true, false, List, [], ◌∷◌, ◌++◌, slice_index_or, map, All, Result}
 use Rattle.chi_fields.specs.declared.request.Request.{Request}
 use Rattle.chi_history.specs.declared.entry.Entry.{Entry}
 use Rattle.chi_history.specs.declared.line.Line.{Line}
@@ -10,9 +10,10 @@ use Rattle.chi_history.specs.History.{IsLegal, of}
 use Rattle.chi_history.specs.Lines.{entries}
 use Rattle.chi_requester.specs.declared.fault.WorkFault.{WorkFault}
 use Rattle.chi_requester.specs.declared.policy.Policy.{Policy}
+use Rattle.chi_requester.specs.declared.race_of_any.Racer.{Racer}
 use Rattle.chi_requester.specs.declared.race_of_four.RaceFour.{RaceFour}
 use Rattle.chi_requester.specs.declared.race_of_two.Race.{Race}
-use Rattle.chi_requester.specs.Team.{AreLeftBy}
+use Rattle.chi_requester.specs.Team.{AreLeftBy, lines_in}
 use Rattle.chi_requester.specs.Reports.{Told}
 use Rattle.chi_requester.specs.Work.{IsRacer, IsShare, Share}
 
@@ -28,6 +29,10 @@ lines_of race = λ r. slice_index_or (race.zero.items ∷ race.one.items ∷ rac
 
 abbrev pub lines_of_four : {A : Type 0} → RaceFour A → ℕ → List Line
 lines_of_four race = λ r. slice_index_or (race.zero.items ∷ race.one.items ∷ race.two.items ∷ race.three.items ∷ race.four.items ∷ []) r []
+
+-- the lines of 0, and of each racer from 1 on
+abbrev pub lines_of_all : {S G A : Type 0} → List Line → List (Racer S G A) → ℕ → List Line
+lines_of_all zero racers = λ r. slice_index_or (zero ∷ map lines_in racers) r []
 
 -- each entry is of a number in the set
 unfoldable pub IsOf : Held → List Entry → Type 0

@@ -1,28 +1,58 @@
 -- requesters who work at the same time, each by a seat of its own
-use Rattle.std.specs.Prelude.{◌≡◌, ◌≢◌, ℕ, true, List, [], ◌++◌, Result, Ok, Err}
+use Rattle.std.specs.Prelude.{◌≡◌, ◌≢◌, ℕ, zero, suc, ◌<◌, true, List, [], ◌++◌, length, slice_index_or, IsSomeAnd, Result, Ok, Err}
 use Rattle.chi_fields.specs.declared.request.Request.{Request}
 use Rattle.chi_history.specs.declared.entry.Entry.{Entry}
 use Rattle.chi_history.specs.declared.line.Line.{Line}
 use Rattle.chi_history.specs.declared.opening.Opening.{Opening}
-use Rattle.chi_history.specs.NumberSets.{Held, only, union}
+use Rattle.chi_history.specs.NumberSets.{Held, nobody, only, union, without}
 use Rattle.chi_history.specs.History.{IsFreeOf}
 use Rattle.chi_requester.specs.declared.fault.WorkFault.{WorkFault}
 use Rattle.chi_requester.specs.declared.policy.Policy.{Policy}
-use Rattle.chi_requester.specs.declared.team.WorkEnd.{WorkEnd}
-use Rattle.chi_requester.specs.declared.team.Worker.{Worker}
+use Rattle.chi_requester.specs.declared.race_of_any.Racer.{Racer}
 use Rattle.chi_requester.specs.Work.{IsRacer, IsShare, IsWorkRun, Share}
 
--- the worker's seat comes from the home's opening, and holds its number alone
-pub record IsReady {S G A : Type 0} (Belongs : S → Type 0) (held : S → Held) (worker : Worker S G A) : Type 0 where
-  pub own : Belongs worker.seat
-  pub alone : held worker.seat ≡ only worker.src
+-- the numbers from 1 to n
+abbrev pub one_to : ℕ → Held
+one_to zero = nobody
+one_to (suc n) = union (one_to n) (only (suc n))
 
--- the worker executed its requests, and still holds its number alone
-pub record HasEnded {S G A : Type 0} (Belongs : S → Type 0) (held : S → Held) (seen : S → List Entry) (o : Opening) (policy : Policy) (limit : ℕ) (all : List Request)
-    (worker : Worker S G A) (work : WorkEnd S A) : Type 0 where
-  pub own : Belongs work.seat
-  pub alone : held work.seat ≡ only worker.src
-  pub executed : IsWorkRun work.outcome o policy limit (only worker.src) worker.src all (seen worker.seat) (seen work.seat) worker.lines.items work.lines.items
+-- the set after the numbers from 1 to n are taken out
+abbrev pub without_to : ℕ → Held → Held
+without_to zero held = held
+without_to (suc n) held = without (suc n) (without_to n held)
+
+abbrev pub lines_in : {S G A : Type 0} → Racer S G A → List Line
+lines_in racer = racer.lines.items
+
+-- the seat comes from the home's opening, and holds this number alone
+pub record IsOwn {S : Type 0} (Belongs : S → Type 0) (held : S → Held) (src : ℕ) (seat : S) : Type 0 where
+  pub own : Belongs seat
+  pub alone : held seat ≡ only src
+
+-- the racer has a seat for this number
+abbrev pub IsReady : {S G A : Type 0} → (S → Type 0) → (S → Held) → ℕ → Racer S G A → Type 0
+IsReady Belongs held src racer = IsSomeAnd racer.seat (IsOwn Belongs held src)
+
+-- the racer has a seat for this number, which has seen just this history
+abbrev pub IsSeated : {S G A : Type 0} → (S → Type 0) → (S → Held) → (S → List Entry) → List Entry → ℕ → Racer S G A → Type 0
+IsSeated Belongs held seen start src racer = IsSomeAnd racer.seat (λ seat. IsOwn Belongs held src seat × (seen seat ≡ start))
+
+-- the racer executed its requests by its seat, and has it still
+abbrev pub HasRaced : {S G A : Type 0} → (S → Type 0) → (S → Held) → (S → List Entry) → Opening → Policy → ℕ → List Request → List Entry → ℕ → List Line → Racer S G A → Type 0
+HasRaced Belongs held seen o policy limit all start src lines racer =
+    IsSomeAnd racer.seat (λ seat. IsOwn Belongs held src seat × IsWorkRun racer.outcome o policy limit (only src) src all start (seen seat) lines racer.lines.items)
+
+-- each racer, of which the first is 1, has a seat for its number
+abbrev pub AreReady : {S G A : Type 0} → (S → Type 0) → (S → Held) → List (Racer S G A) → Type 0
+AreReady {S = S} {G = G} {A = A} Belongs held racers = (i : ℕ) (d : Racer S G A) → i < length racers → IsReady Belongs held (suc i) (slice_index_or racers i d)
+
+abbrev pub AreSeated : {S G A : Type 0} → (S → Type 0) → (S → Held) → (S → List Entry) → List Entry → List (Racer S G A) → Type 0
+AreSeated {S = S} {G = G} {A = A} Belongs held seen start racers = (i : ℕ) (d : Racer S G A) → i < length racers → IsSeated Belongs held seen start (suc i) (slice_index_or racers i d)
+
+-- each racer executed its requests
+abbrev pub HaveRaced : {S G A : Type 0} → (S → Type 0) → (S → Held) → (S → List Entry) → Opening → Policy → ℕ → List Request → List Entry → (ℕ → List Line) → List (Racer S G A) → Type 0
+HaveRaced {S = S} {G = G} {A = A} Belongs held seen o policy limit all start lines racers =
+    (i : ℕ) (d : Racer S G A) → i < length racers → HasRaced Belongs held seen o policy limit all start (suc i) (lines (suc i)) (slice_index_or racers i d)
 
 -- the requests of the set that were not executed: none after Ok, and at least one after Memory
 abbrev pub AreLeftBy : Result (Unit {0}) WorkFault → Held → (ℕ → Share) → Type 0

@@ -2,16 +2,18 @@
 #![tactic(auto)]
 
 mod fault;
+mod mixed_gate;
 mod policy;
+mod race_of_any;
 mod race_of_four;
 mod race_of_two;
 mod requester_work;
 mod serial;
 mod single;
-mod team;
 
 pub use fault::WorkFault;
 pub use policy::Policy;
+pub use race_of_any::{Racer, race};
 pub use race_of_four::{RaceFour, race_four};
 pub use race_of_two::{Race, race_two};
 pub use requester_work::work;

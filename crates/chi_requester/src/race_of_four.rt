@@ -1,20 +1,19 @@
 //! Four requesters who work at the same time, and 0 after them.
 
 ghost use Rattle.std.specs.Prelude.{◌≡◌, ◌≤◌, [], All};
-ghost use Rattle.chi_history.specs.NumberSets.{below, without};
+ghost use Rattle.chi_history.specs.NumberSets.{below};
 ghost use Rattle.chi_requester.specs.Race.{IsRaceRun, lines_of_four, one_to_four};
-ghost use Rattle.chi_requester.specs.Team.{HasEnded, IsReady, IsTeamRun};
 
 use crate::fault::WorkFault;
+use crate::mixed_gate::MixedGate;
 use crate::policy::Policy;
-use crate::requester_work::work;
-use crate::team::{WorkEnd, Worker, work_both};
+use crate::race_of_any::{self, Racer};
 use chi_fields::Request;
 use chi_history::{Gate, Home, Line, NoGate};
 use std::alloc::Allocator;
+use std::mem;
 use std::sync::Wait;
 use std::thread::Threads;
-use std::{mem, thread};
 
 /// The lines of the requesters 1 to 4, who work at the same time, and of 0, who works after them.
 #[derive(Drop)]
@@ -45,121 +44,6 @@ impl<A: Allocator + Copy> RaceFour<A> {
     }
 }
 
-// Executes the requests of four at the same time.
-fn work_four<
-    H: Home + Sync,
-    R: Threads + Wait + Sync,
-    G1: Gate + Drop + Send,
-    G2: Gate + Drop + Send,
-    G3: Gate + Drop + Send,
-    G4: Gate + Drop + Send,
-    A: Allocator + Send,
->(
-    home: &H,
-    rt: &R,
-    one: Worker<H::Seat, G1, A>,
-    two: Worker<H::Seat, G2, A>,
-    three: Worker<H::Seat, G3, A>,
-    four: Worker<H::Seat, G4, A>,
-    requests: &[Request],
-    policy: Policy,
-) -> (
-    (WorkEnd<H::Seat, A>, WorkEnd<H::Seat, A>),
-    (WorkEnd<H::Seat, A>, WorkEnd<H::Seat, A>),
-)
-    requires one { IsReady (H.belongs home.now) H.held one }
-    requires two { IsReady (H.belongs home.now) H.held two }
-    requires three { IsReady (H.belongs home.now) H.held three }
-    requires four { IsReady (H.belongs home.now) H.held four }
-    ensures one { HasEnded (H.belongs home.now) H.held H.seen (H.opening home.now) policy (H.limit home.now) requests.now one result.0.0 }
-    ensures two { HasEnded (H.belongs home.now) H.held H.seen (H.opening home.now) policy (H.limit home.now) requests.now two result.0.1 }
-    ensures three { HasEnded (H.belongs home.now) H.held H.seen (H.opening home.now) policy (H.limit home.now) requests.now three result.1.0 }
-    ensures four { HasEnded (H.belongs home.now) H.held H.seen (H.opening home.now) policy (H.limit home.now) requests.now four result.1.1 }
-{
-    thread::join(
-        rt,
-        move ||
-            requires one { IsReady (H.belongs home.now) H.held one }
-            requires two { IsReady (H.belongs home.now) H.held two }
-        { work_both(home, rt, one, two, requests, policy) },
-        move ||
-            requires three { IsReady (H.belongs home.now) H.held three }
-            requires four { IsReady (H.belongs home.now) H.held four }
-        { work_both(home, rt, three, four, requests, policy) },
-    )
-}
-
-// Splits 1 to 4 off, executes their requests at the same time, and takes the seats back.
-fn race_quad<
-    H: Home + Sync,
-    R: Threads + Wait + Sync,
-    G1: Gate + Drop + Send,
-    G2: Gate + Drop + Send,
-    G3: Gate + Drop + Send,
-    G4: Gate + Drop + Send,
-    A: Allocator + Copy + Send,
->(
-    home: &H,
-    rt: &R,
-    seat: &mut H::Seat,
-    requests: &[Request],
-    policy: Policy,
-    gate1: G1,
-    gate2: G2,
-    gate3: G3,
-    gate4: G4,
-    race: &mut RaceFour<A>,
-) -> Result<(), WorkFault>
-    requires own { H.belongs home.now seat.old }
-    requires all { H.held seat.old ≡ below (H.opening home.now).requesters }
-    requires five { 5 ≤ (H.opening home.now).requesters }
-    ensures own { H.belongs home.now seat.new }
-    ensures held { H.held seat.new ≡ H.held seat.old }
-    ensures zero { race.new.zero.items ≡ race.old.zero.items }
-    ensures team { IsTeamRun result (H.opening home.now) policy (H.limit home.now) requests.now
-        (without 4 (without 3 (without 2 (without 1 (below (H.opening home.now).requesters))))) one_to_four (H.held seat.new)
-        (H.seen seat.old) (H.seen seat.new) (lines_of_four race.old) (lines_of_four race.new) }
-{
-    let alloc = *race.zero.allocator();
-    let one = Worker {
-        src: 1,
-        seat: home.split(rt, seat, 1),
-        gate: gate1,
-        lines: mem::replace(&mut race.one, Vec::new(alloc)),
-    };
-    let two = Worker {
-        src: 2,
-        seat: home.split(rt, seat, 2),
-        gate: gate2,
-        lines: mem::replace(&mut race.two, Vec::new(alloc)),
-    };
-    let three = Worker {
-        src: 3,
-        seat: home.split(rt, seat, 3),
-        gate: gate3,
-        lines: mem::replace(&mut race.three, Vec::new(alloc)),
-    };
-    let four = Worker {
-        src: 4,
-        seat: home.split(rt, seat, 4),
-        gate: gate4,
-        lines: mem::replace(&mut race.four, Vec::new(alloc)),
-    };
-    let ((one, two), (three, four)) = work_four(home, rt, one, two, three, four, requests, policy);
-    race.one = one.lines;
-    race.two = two.lines;
-    race.three = three.lines;
-    race.four = four.lines;
-    home.rejoin(rt, seat, one.seat);
-    home.rejoin(rt, seat, two.seat);
-    home.rejoin(rt, seat, three.seat);
-    home.rejoin(rt, seat, four.seat);
-    one.outcome
-        .and(two.outcome)
-        .and(three.outcome)
-        .and(four.outcome)
-}
-
 /// Executes the requests of 1 to 4 at the same time, each by a seat and a gate of its own, and then those of 0, by
 /// a seat that holds every number.
 ///
@@ -167,8 +51,9 @@ fn race_quad<
 /// the request. To 0 RetryAck never comes.
 ///
 /// Where a thread cannot be started, its requests are executed in the caller's. Where one of 1 to 4 stops by `Memory`,
-/// the others work to their end, the requests of 0 are not executed, and `Memory` is answered. The lines so far
-/// stay, and the seat holds every number again.
+/// the others work to their end, the requests of 0 are not executed, and `Memory` is answered. So it is, and no
+/// request is executed, where there is no memory for the four themselves. The lines so far stay, and the seat holds
+/// every number again.
 ///
 /// ```
 /// race_four(&home, rt, &mut seat, script.requests(), Policy::Return, NoGate, NoGate, NoGate, NoGate, &mut race)?;
@@ -202,17 +87,32 @@ pub fn race_four<
     ensures race { IsRaceRun result (H.opening home.now) policy (H.limit home.now) one_to_four requests.now
         (H.seen seat.old) (H.seen seat.new) (lines_of_four race.old) (lines_of_four race.new) }
 {
-    race_quad(
-        home, rt, seat, requests, policy, gate1, gate2, gate3, gate4, race,
-    )?;
-    work(
-        home,
-        rt,
-        seat,
-        0,
-        requests,
-        policy,
-        &mut NoGate,
-        &mut race.zero,
-    )
+    if requests.is_empty() {
+        return Ok(());
+    }
+    let alloc = *race.zero.allocator();
+    let mut team = Vec::with_capacity(alloc, 4)?;
+    team.push_reserved(Racer::new(
+        MixedGate::One(gate1),
+        mem::replace(&mut race.one, Vec::new(alloc)),
+    ));
+    team.push_reserved(Racer::new(
+        MixedGate::Two(gate2),
+        mem::replace(&mut race.two, Vec::new(alloc)),
+    ));
+    team.push_reserved(Racer::new(
+        MixedGate::Three(gate3),
+        mem::replace(&mut race.three, Vec::new(alloc)),
+    ));
+    team.push_reserved(Racer::new(
+        MixedGate::Four(gate4),
+        mem::replace(&mut race.four, Vec::new(alloc)),
+    ));
+    let racers = team.as_mut_slice();
+    let outcome = race_of_any::race(home, rt, seat, requests, policy, racers, &mut race.zero);
+    mem::swap(&mut race.one, &mut racers[0].lines);
+    mem::swap(&mut race.two, &mut racers[1].lines);
+    mem::swap(&mut race.three, &mut racers[2].lines);
+    mem::swap(&mut race.four, &mut racers[3].lines);
+    outcome
 }

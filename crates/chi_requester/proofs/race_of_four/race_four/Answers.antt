@@ -1,17 +1,44 @@
--- one of the four stopped, or the requests of 0 are executed after theirs
-use Rattle.std.proofs.Common.{refl}
-use Rattle.chi_requester.proofs.FamilyLemmas.{whole_four}
-use Rattle.chi_requester.proofs.RaceLemmas.{race_done, race_stopped}
+-- no request, no memory for the racers, or a race of the four
+use Rattle.std.proofs.Common.{◌≡◌, sym, ap, ◌∙◌, [], ◌∷◌, ◌++◌, length, get_or}
+use Rattle.chi_requester.proofs.RaceLemmas.{race_empty, race_unstarted}
+use Rattle.chi_requester.proofs.RacerLemmas.{get_or-fourth, get_or-second, get_or-third, lines_of_four_racers}
 use Rattle.chi_requester.proofs.race_of_four.race_four.Goals as goal
 
-pub returns-in_err-race_quad-clause-race : goal.returns-in_err-race_quad-clause-race
-returns-in_err-race_quad-clause-race g c =
+pub returns-then-is_empty-clause-race : goal.returns-then-is_empty-clause-race
+returns-then-is_empty-clause-race g c =
     let laws = g.met.H.Home g.world.𝓛 g.world.𝓜 g.world.𝓡 ((λ s x. x), (λ x. x), (λ x. x), λ x. x) in
-    race_stopped c.from_residual.result refl (whole_four _ c.requires.five) (laws.seen_is_legal c.args.home.now c.race_quad.new.seat c.race_quad.ensures.own)
-    c.from_residual.ensures.0 c.race_quad.ensures.zero c.in_err-race_quad.ensures.team
+    race_empty _ _ _ _ _ _ _ _ (laws.seen_is_legal c.args.home.now c.args.seat.now c.requires.own) (sym c.is_empty.ensures ∙ c.if-is_empty.true)
+
+pub returns-in_err-team-clause-race : goal.returns-in_err-team-clause-race
+returns-in_err-team-clause-race g c =
+    let laws = g.met.H.Home g.world.𝓛 g.world.𝓜 g.world.𝓡 ((λ s x. x), (λ x. x), (λ x. x), λ x. x) in
+    race_unstarted _ _ _ 4 _ _ _ _ (laws.seen_is_legal c.args.home.now c.args.seat.now c.requires.own) c.from_residual.ensures.0 (sym c.is_empty.ensures ∙ c.if-is_empty.false) c.requires.known
+
+pub race-outcome-requires-clause-known : goal.race-outcome-requires-clause-known
+race-outcome-requires-clause-known g c κs lives =
+    let first = c.push_reserved.ensures.items ∙ ap (λ xs. xs ++ c.new-2.result ∷ []) c.in_ok-team.ensures.items in
+    let second = c.push_reserved-2.ensures.items ∙ ap (λ xs. xs ++ c.new-4.result ∷ []) first in
+    let third = c.push_reserved-3.ensures.items ∙ ap (λ xs. xs ++ c.new-6.result ∷ []) second in
+    let racers = c.as_mut_slice-racers.ensures.value ∙ (c.push_reserved-4.ensures.items ∙ ap (λ xs. xs ++ c.new-8.result ∷ []) third) in
+    rw racers c.requires.known
 
 pub returns-clause-race : goal.returns-clause-race
 returns-clause-race g c =
-    let laws = g.met.H.Home g.world.𝓛 g.world.𝓜 g.world.𝓡 ((λ s x. x), (λ x. x), (λ x. x), λ x. x) in
-    race_done refl (whole_four _ c.requires.five) (laws.seen_is_legal c.args.home.now c.work.new.seat c.work.ensures.own)
-    c.in_ok-race_quad.ensures.team c.race_quad.ensures.zero (λ r. refl) c.work.ensures.executed
+    let x = c.new-2.result in
+    let first = c.push_reserved.ensures.items ∙ ap (λ xs. xs ++ x ∷ []) c.in_ok-team.ensures.items in
+    let second = c.push_reserved-2.ensures.items ∙ ap (λ xs. xs ++ c.new-4.result ∷ []) first in
+    let third = c.push_reserved-3.ensures.items ∙ ap (λ xs. xs ++ c.new-6.result ∷ []) second in
+    let racers = c.as_mut_slice-racers.ensures.value ∙ (c.push_reserved-4.ensures.items ∙ ap (λ xs. xs ++ c.new-8.result ∷ []) third) in
+    let one = ap (λ xs. (get_or xs 0 x).lines.items) racers ∙ ap (λ v. v.items) (c.new-2.ensures ∙ c.replace.ensures.value) in
+    let two = ap (λ xs. (get_or xs 1 x).lines.items) racers ∙ ap (λ v. v.items) (c.new-4.ensures ∙ c.replace-2.ensures.value) in
+    let three = ap (λ xs. (get_or xs 2 x).lines.items) racers ∙ ap (λ v. v.items) (c.new-6.ensures ∙ c.replace-3.ensures.value) in
+    let four = ap (λ xs. (get_or xs 3 x).lines.items) racers ∙ ap (λ v. v.items) (c.new-8.ensures ∙ c.replace-4.ensures.value) in
+    let long : length c.as_mut_slice-racers.result.now ≡ 4 = ap length racers in
+    let before = lines_of_four_racers c.args.race.now.zero.items _ _ _ _ c.as_mut_slice-racers.result.now x x x x long (sym one) (sym two) (sym three) (sym four) in
+    let ended = c.race-outcome.new.racers in
+    let new_one = ap (λ v. v.items) c.swap.ensures.x_after in
+    let new_two = ap (λ v. v.items) (c.swap-2.ensures.x_after ∙ ap (λ racer. racer.lines) (get_or-second ended _ _)) in
+    let new_three = ap (λ v. v.items) (c.swap-3.ensures.x_after ∙ ap (λ racer. racer.lines) (get_or-third ended _ _ _)) in
+    let new_four = ap (λ v. v.items) (c.swap-4.ensures.x_after ∙ ap (λ racer. racer.lines) (get_or-fourth ended _ _ _ _)) in
+    let after = lines_of_four_racers c.race-outcome.new.zero.items _ _ _ _ ended _ _ _ _ (c.race-outcome.auto.racers ∙ long) new_one new_two new_three new_four in
+    rw (long, before, after) at c.race-outcome.ensures.race
