@@ -1,12 +1,12 @@
 -- The files are all that were found.
-use Rattle.std.proofs.Common.{◌≡◌, ◌∙◌, List, Result, Ok, Err, Some, codes, ap, map, sym, IfOk}
+use Rattle.std.proofs.Common.{◌≡◌, ◌∙◌, List, Result, Ok, Err, codes, ap, map, sym, IfOk}
 use Rattle.std.specs.Borrow.{Bor}
 use Rattle.std.specs.Option.{option_map}
 use Rattle.std.specs.Prelude.{Vec}
 use Rattle.clap.specs.Matches.{found_of}
 use Rattle.clap.specs.Walk.{Text}
 use Rattle.chi_check.proofs.ChosenLemmas.{no_values_found, values_found}
-use Rattle.chi_check.proofs.command.chosen_files.Goals as goal
+use Rattle.chi_check.proofs.chosen.chosen_files.Goals as goal
 
 copied : {A E : Type 0} (r : Result (Vec (Bor Text) A) E) (files : List (Bor Text)) (paths : List Text) → IfOk r (λ v. v.items ≡ files) → map (λ path. path.now) files ≡ paths
     → IfOk r (λ v. map (λ path. path.now) v.items ≡ paths)

@@ -1,6 +1,6 @@
 -- file after file was counted, or one was not
 use Rattle.chi_check.proofs.CoverLemmas.{file_refused, next_file, no_file}
-use Rattle.chi_check.proofs.cover.files_covered.Goals as goal
+use Rattle.chi_check.proofs.inputs.files_covered.Goals as goal
 
 pub loop-place-init : goal.loop-place-init
 loop-place-init g c = no_file (g.S.Sources.holds c.args.sources.now) c.args.options.now.events c.in-Ok.covered c.in-Ok.ensures

@@ -1,6 +1,6 @@
 -- the standard input was counted, or was not
 use Rattle.chi_check.proofs.CoverLemmas.{input_counted, one_counted}
-use Rattle.chi_check.proofs.cover.input_covered.Goals as goal
+use Rattle.chi_check.proofs.inputs.input_covered.Goals as goal
 
 pub returns-in-Ok-add_input-clause-counts : goal.returns-in-Ok-add_input-clause-counts
 returns-in-Ok-add_input-clause-counts g c =
