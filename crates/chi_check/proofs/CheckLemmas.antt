@@ -1,5 +1,5 @@
 -- what is written of a trace that was read
-use Rattle.std.proofs.Common.{◌≡◌, ℕ, ◌≤◌, List, length, Option, None, Some, Ok, Err, IfSome, refl, subst, arith}
+use Rattle.std.proofs.Common.{◌≡◌, ℕ, ◌≤◌, List, length, Option, None, Some, Ok, Err, IfSome, refl, subst}
 use Rattle.std.specs.Io.KnownBytes.{Appends}
 use Rattle.chi_script.specs.WriterBytes.{AppendsFront}
 use Rattle.chi_script.specs.declared.device.WriteFault.{WriteFault}
@@ -9,7 +9,7 @@ use Rattle.chi_answer.specs.Answers.{IfUndecided, IsUnexplained}
 use Rattle.chi_excerpt.specs.declared.failure.Failure.{Failure}
 use Rattle.chi_excerpt.specs.Failures.{IsFailure, IsFailureText}
 use Rattle.chi_reading.specs.TraceText.{IsOf, RecordedValue, TextValue, trace_text}
-use Rattle.chi_check.specs.Check.{Answers, IsRight, Outcome, judged, most_bytes}
+use Rattle.chi_check.specs.Check.{Answers, Outcome, judged, most_bytes}
 use Rattle.chi_check.specs.CheckStatus.{answer_status}
 use Rattle.chi_check.specs.Limits.{IsWithin}
 use Rattle.chi_check.specs.Pages.{IsPage, IsPageAsked, IsPut, IsReported}

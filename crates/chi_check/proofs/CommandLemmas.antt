@@ -1,26 +1,23 @@
 -- what the program's command line is to `clap`
-use Rattle.std.proofs.Common.{◌≡◌, ◌⊎◌, ◌∙◌, Bool, true, false, not, ◌&&◌, List, [], ◌∷◌, Option, Some, codes, refl, ap, subst, sym}
+use Rattle.std.proofs.Common.{◌≡◌, ◌⊎◌, ◌∙◌, true, false, List, [], ◌∷◌, Option, Some, codes, refl, ap, subst, sym}
 use Rattle.std.specs.Option.{option_map, unwrap_or}
 use Rattle.std.specs.Str.{bytes_eq}
 use Rattle.clap.specs.Faults.{fault_of, is_simple_and_free}
 use Rattle.clap.specs.Kinds.{IsAmong}
-use Rattle.clap.specs.Simple.{App, built, entered, names_of, subcommand_of}
+use Rattle.clap.specs.Matches.{subcommand_name_of}
+use Rattle.clap.specs.Simple.{App, HasMatchesOf, built, entered, names_of, subcommand_of, subcommand_rows_of}
 use Rattle.clap.specs.Walk.{Row, Text, Walk, nothing_held, walk_from}
 use Rattle.clap.specs.declared.error.kind.ErrorKind.{ErrorKind}
 use Rattle.clap.specs.declared.error.kind.ErrorKind.TheVariants as error_kind
+use Rattle.clap.specs.declared.parser.matches.ArgMatches.{ArgMatches}
 use Rattle.clap.proofs.OnLiterals.{clap_on_literals}
 use Rattle.clap.proofs.WalkLemmas.{walk_stopped}
-use Rattle.chi_check.specs.Chosen.{BeginsWith, Finds, IsCover, IsExplain, IsNamed, IsNamedFirst, IsWatch}
+use Rattle.chi_check.specs.Chosen.{Finds, IsCover, IsExplain, IsNamed, IsNamedFirst, IsWatch}
 use Rattle.chi_check.specs.CommandLine.{IsArgumentsFault, IsTaken, program_app}
+use Rattle.chi_program.specs.Found.{BeginsWith}
+use Rattle.chi_program.proofs.CommandLemmas.{subcommand_found}
 use Rattle.chi_check.specs.declared.command.Task.{Task}
 use Rattle.chi_check.specs.declared.command.Task.TheVariants.{Explain, Watch, Cover}
-
--- the third of a row of tests fails
-pub third_fails : (a b c d : Bool) → (a && (b && (not c && d))) ≡ true → c ≡ false
-third_fails true true false d h = refl
-third_fails true true true d h = cc
-third_fails true false c d h = cc
-third_fails false b c d h = cc
 
 literals : is_simple_and_free program_app ≡ true
 unfolding clap_on_literals
@@ -29,6 +26,13 @@ literals = refl
 -- `clap` says what it answers to any arguments
 pub program_is_simple : (app : App) → app ≡ program_app → is_simple_and_free app ≡ true
 program_is_simple app is = ap is_simple_and_free is ∙ literals
+
+-- the subcommand that the arguments name, and its options
+pub finds : (app : App) (arguments : List Text) (matches : ArgMatches) (name : Text) (found : List Row) → app ≡ program_app
+    → HasMatchesOf app arguments matches → Some name ≡ subcommand_name_of matches → Some found ≡ option_map (λ p. p.1) (subcommand_rows_of matches)
+    → Finds arguments name found
+finds app arguments matches name found is has is_named rows =
+    sym (ap (λ (a : App). subcommand_of a arguments) is) ∙ subcommand_found app arguments matches name found (program_is_simple app is) has is_named rows
 
 -- the name of the subcommand that the arguments name
 name_found : List Text → Option Text

@@ -14,9 +14,9 @@ use Rattle.chi_cover.specs.declared.bin.Bin.{Bin}
 use Rattle.chi_cover.specs.Counts.{count_in, count_of, most, percent_of}
 use Rattle.chi_cover.specs.Texts.{table_text}
 use Rattle.chi_check.specs.Check.{most_bytes}
-use Rattle.chi_check.specs.Cover.{Adds, AddsFile, AreCounted, AreFilesFault, AreHeld, AreInputs, AreInputsFault, AreOf, AreOfEach, AreOfFiles, CoverOutcome, HasCounts, IsFileFault, IsInputFault, IsTraceFault, input_fault, paths_of}
+use Rattle.chi_check.specs.Cover.{Adds, AddsFile, AreCounted, AreFilesFault, AreHeld, AreInputs, AreInputsFault, AreOf, AreOfEach, AreOfFiles, CoverOutcome, HasCounts, IsFileFault, IsInputFault, IsTraceFault, paths_of}
 use Rattle.chi_check.specs.declared.fault.CheckFault.{CheckFault}
-use Rattle.chi_check.specs.declared.fault.CheckFault.TheVariants.{File, Page, Write}
+use Rattle.chi_check.specs.declared.fault.CheckFault.TheVariants.{Input, File, Page, Write}
 use Rattle.chi_check.specs.declared.fault.SourceFault.{SourceFault}
 use Rattle.chi_check.specs.declared.fault.SourceFault.TheVariants as source_fault
 use Rattle.chi_check.specs.declared.options.CoverOptions.{CoverOptions}
@@ -116,7 +116,7 @@ module _ (holds : List ℕ → List ℕ → Type 0) (events : Bool) where
 
 -- a fault of the standard input
 pub refused_input : (events : Bool) (remaining : Option (List ℕ)) (input : List ℕ) (fault : SourceFault) → IfSome remaining (λ bytes. input ≡ bytes) → IsTraceFault events input fault
-    → IfSome remaining (λ bytes. IsInputFault events bytes (input_fault fault))
+    → IfSome remaining (λ bytes. IsInputFault events bytes (Input fault))
 refused_input events None input fault same is = tt
 refused_input events (Some bytes) input source_fault.Read same is = absurd is
 refused_input events (Some bytes) input source_fault.TooLong same is = absurd is

@@ -14,7 +14,8 @@ use Rattle.chi_excerpt.specs.Failures.{IsFailure, IsFailureText}
 use Rattle.chi_check.specs.CheckStatus.{answer_status}
 use Rattle.chi_check.specs.Limits.{IsWithin}
 use Rattle.chi_check.specs.declared.fault.CheckFault.{CheckFault}
-use Rattle.chi_check.specs.declared.fault.CheckFault.TheVariants.{Read, TooLong, Memory, Trace, Events, File, Page, Write}
+use Rattle.chi_check.specs.declared.fault.CheckFault.TheVariants.{Input, File, Page, Write}
+use Rattle.chi_check.specs.declared.fault.SourceFault.TheVariants as source_fault
 use Rattle.chi_check.specs.declared.options.CheckOptions.{CheckOptions}
 
 -- the greatest number of bytes of a trace
@@ -54,11 +55,11 @@ pub record Answers (options : CheckOptions) (input : List ℕ) (answer : Answer)
 -- and what was written then: nothing but where the writer failed.
 abbrev pub Outcome : CheckOptions → List ℕ → Option (List ℕ) → Option (List ℕ) → Result ℕ CheckFault → Type 0
 Outcome options input old new (Ok status) = (answer : Answer) × (text : List ℕ) × Answers options input answer text × (status ≡ answer_status answer) × Appends old new text
-Outcome options input old new (Err Read) = Unit {0}
-Outcome options input old new (Err TooLong) = most_bytes < length input
-Outcome options input old new (Err Memory) = Unit {0}
-Outcome options input old new (Err (Trace fault)) = fault ≢ trace_fault.Memory → trace_text input ≡ Err fault
-Outcome options input old new (Err (Events fault)) = ⊥
+Outcome options input old new (Err (Input source_fault.Read)) = Unit {0}
+Outcome options input old new (Err (Input source_fault.TooLong)) = most_bytes < length input
+Outcome options input old new (Err (Input source_fault.Memory)) = Unit {0}
+Outcome options input old new (Err (Input (source_fault.Trace fault))) = fault ≢ trace_fault.Memory → trace_text input ≡ Err fault
+Outcome options input old new (Err (Input (source_fault.Events fault))) = ⊥
 Outcome options input old new (Err (File place fault)) = ⊥
 Outcome options input old new (Err Page) = Unit {0}
 Outcome options input old new (Err (Write fault)) = (answer : Answer) × (text : List ℕ) × Answers options input answer text × AppendsFront old new text
@@ -71,9 +72,9 @@ KeepsUnanswered old new (Err fault) = Keeps old new
 
 -- why an input was not read whole
 abbrev pub IsReadFault : Option (List ℕ) → CheckFault → Type 0
-IsReadFault input Read = Unit {0}
-IsReadFault input TooLong = IfSome input (λ bytes. most_bytes < length bytes)
-IsReadFault input Memory = Unit {0}
+IsReadFault input (Input source_fault.Read) = Unit {0}
+IsReadFault input (Input source_fault.TooLong) = IfSome input (λ bytes. most_bytes < length bytes)
+IsReadFault input (Input source_fault.Memory) = Unit {0}
 IsReadFault input fault = ⊥
 
 -- so many states were looked at on the way to the status: no fewer than may be where it is that of an undecided trace

@@ -1,8 +1,5 @@
 -- the statuses of answers and faults
-use Rattle.std.specs.Prelude.{◌≡◌, ℕ, ◌⊎◌, ◌≤◌, List, Option}
-use Rattle.std.specs.Io.KnownBytes.{Keeps}
-use Rattle.clap.specs.declared.error.kind.ErrorKind.{ErrorKind}
-use Rattle.clap.specs.declared.error.kind.ErrorKind.TheVariants as error_kind
+use Rattle.std.specs.Prelude.{◌≡◌, ℕ, ◌⊎◌, ◌≤◌}
 use Rattle.chi_answer.specs.declared.answer.Answer.{Answer}
 use Rattle.chi_answer.specs.declared.answer.Answer.TheVariants.{Explained, Blamed, Unexplained, Undecided}
 use Rattle.chi_reading.specs.declared.fault.TraceFault.{TraceFault}
@@ -10,7 +7,7 @@ use Rattle.chi_reading.specs.declared.fault.TraceFault.TheVariants as trace_faul
 use Rattle.chi_watch_text.specs.declared.fault.LinesFault.{LinesFault}
 use Rattle.chi_watch_text.specs.declared.fault.LinesFault.TheVariants as lines_fault
 use Rattle.chi_check.specs.declared.fault.CheckFault.{CheckFault}
-use Rattle.chi_check.specs.declared.fault.CheckFault.TheVariants.{Read, TooLong, Memory, Trace, Events, File, Page, Write}
+use Rattle.chi_check.specs.declared.fault.CheckFault.TheVariants.{Input, File, Page, Write}
 use Rattle.chi_check.specs.declared.fault.SourceFault.{SourceFault}
 use Rattle.chi_check.specs.declared.fault.SourceFault.TheVariants as source_fault
 
@@ -25,7 +22,7 @@ lines_status lines_fault.Read = 5
 lines_status lines_fault.Memory = 4
 lines_status _ = 3
 
--- an input that was not counted
+-- an input of which there is nothing to write
 abbrev pub source_status : SourceFault → ℕ
 source_status source_fault.Read = 5
 source_status source_fault.TooLong = 3
@@ -35,11 +32,7 @@ source_status (source_fault.Events fault) = lines_status fault
 
 -- 3 where the trace or an event is refused, 4 out of memory, 5 where a device failed
 abbrev pub status_of : CheckFault → ℕ
-status_of Read = 5
-status_of TooLong = 3
-status_of Memory = 4
-status_of (Trace fault) = trace_status fault
-status_of (Events fault) = lines_status fault
+status_of (Input fault) = source_status fault
 status_of (File place fault) = source_status fault
 status_of Page = 5
 status_of (Write fault) = 5
@@ -58,17 +51,3 @@ IsAnswerStatus n = (n ≡ 0) ⊎ ((n ≡ 1) ⊎ (n ≡ 6))
 -- 0 explained or covered as required, 1 not explained or covered less, 2 arguments refused, 3 to 5 for the faults, 6 undecided
 abbrev pub IsStatus : ℕ → Type 0
 IsStatus n = n ≤ 6
-
--- the status where the arguments name no task: 4 out of memory, 0 for the help, or 5 where it could not be written,
--- and 2 for arguments that are refused
-abbrev pub IsStatusOfArguments : ErrorKind → ℕ → Type 0
-IsStatusOfArguments error_kind.OutOfMemory n = n ≡ 4
-IsStatusOfArguments error_kind.DisplayHelp n = (n ≡ 0) ⊎ (n ≡ 5)
-IsStatusOfArguments error_kind.DisplayVersion n = (n ≡ 0) ⊎ (n ≡ 5)
-IsStatusOfArguments _ n = n ≡ 2
-
--- where the answer goes nothing but help is written
-abbrev pub KeepsButForHelp : ErrorKind → Option (List ℕ) → Option (List ℕ) → Type 0
-KeepsButForHelp error_kind.DisplayHelp old new = Unit {0}
-KeepsButForHelp error_kind.DisplayVersion old new = Unit {0}
-KeepsButForHelp _ old new = Keeps old new

@@ -1,9 +1,7 @@
 -- which task the arguments name, and with which options
-use Rattle.std.specs.Prelude.{◌≡◌, ℕ, Bool, true, false, [], ◌∷◌, List, unwrap_or, Option, Some, None, Result, codes}
-use Rattle.std.specs.Option.{option_map, option_map_or}
-use Rattle.std.specs.Result.{result_ok, result_unwrap_or}
+use Rattle.std.specs.Prelude.{◌≡◌, true, false, [], List, unwrap_or, Some, codes}
+use Rattle.std.specs.Option.{option_map}
 use Rattle.std.specs.Str.{bytes_eq}
-use Rattle.std.specs.Str.Parse.{ParsesUnsigned}
 use Rattle.clap.specs.Walk.{Row, Text, all_of, first_of, one_of}
 use Rattle.clap.specs.Simple.{subcommand_of}
 use Rattle.chi_check.specs.declared.command.Task.{Task}
@@ -13,20 +11,7 @@ use Rattle.chi_check.specs.CommandLine.{program_app}
 use Rattle.chi_check.specs.Cover.{paths_of}
 use Rattle.chi_check.specs.declared.options.CheckOptions.{CheckOptions}
 use Rattle.chi_check.specs.declared.options.CoverOptions.{CoverOptions}
-
--- what was found has this word as the value of an option
-abbrev pub has_word : List Row → Text → Text → Bool
-has_word found option word = option_map_or (λ text. bytes_eq text word) (first_of option found) false
-
--- the number that a text is, and another where there is none below 2^64
-abbrev pub IsNumberOr : ℕ → Option Text → ℕ → Type 0
-IsNumberOr other None number = number ≡ other
-IsNumberOr other (Some text) number = (read : Result ℕ (Unit {0})) × ParsesUnsigned 64 10 text read × (number ≡ result_unwrap_or read other)
-
--- the number that a text is, where there is one below 2^64
-abbrev pub IsNumberOrNone : Option Text → Option ℕ → Type 0
-IsNumberOrNone None time = time ≡ None
-IsNumberOrNone (Some text) time = (read : Result ℕ (Unit {0})) × ParsesUnsigned 64 10 text read × (time ≡ result_ok read)
+use Rattle.chi_program.specs.Found.{BeginsWith, IsNumberOr, IsNumberOrNone, has_word}
 
 -- in these arguments `clap` finds the subcommand of this name, and this of its options, by use or by default
 abbrev pub Finds : List Text → Text → List Row → Type 0
@@ -69,10 +54,6 @@ HasOptions found (Cover options) = HasCoverOptions found options
 -- the arguments name this task with these options: those of what `clap` finds in them
 abbrev pub Chooses : List Text → Task → Type 0
 Chooses arguments task = (name : Text) × (found : List Row) × Finds arguments name found × IsNamed name task × HasOptions found task
-
--- the first argument is this word
-abbrev pub BeginsWith : List Text → Text → Type 0
-BeginsWith arguments word = (rest : List Text) × (arguments ≡ word ∷ rest)
 
 -- the task is `explain`, whatever its options
 abbrev pub IsExplain : Task → Type 0

@@ -1,42 +1,25 @@
 -- the command line of the program, as `clap` reads it
-use Rattle.std.specs.Prelude.{◌≡◌, ◌-◌, ◌^◌, true, List, [], ◌∷◌, ◌⊎◌, Some, codes}
+use Rattle.std.specs.Prelude.{◌≡◌, List, [], ◌⊎◌, Some, codes}
 use Rattle.clap.specs.Walk.{Rule, Text}
-use Rattle.clap.specs.Simple.{App, new_app, new_rule, on_top, with_rule, with_subcommand}
+use Rattle.clap.specs.Simple.{App, new_app, new_rule, with_rule, with_subcommand}
 use Rattle.clap.specs.Kinds.{IsAmong}
 use Rattle.clap.specs.Faults.{fault_of}
-use Rattle.clap.specs.declared.builder.action.ArgAction.TheVariants.{Append, SetTrue}
-use Rattle.clap.specs.declared.builder.value_parser.ValueParser.{ValueParser}
-use Rattle.clap.specs.declared.builder.value_parser.ValueParser.TheVariants as value_parser
+use Rattle.clap.specs.declared.builder.action.ArgAction.TheVariants.{Append}
 use Rattle.clap.specs.declared.error.kind.ErrorKind.{ErrorKind}
 use Rattle.clap.specs.declared.error.kind.ErrorKind.TheVariants as error_kind
-
--- an option that takes a value, and its defaults
-abbrev pub option_rule : Text → ValueParser → List Text → Rule
-option_rule name values defaults = record (new_rule name) { long = Some name; value_names = 1; parser = Some values; defaults = defaults }
-
--- an option that is there or not
-abbrev pub switch_rule : Text → Rule
-switch_rule name = record (new_rule name) { long = Some name; action = Some SetTrue }
-
--- a whole number below 2^64
-abbrev pub is_word : ValueParser
-is_word = value_parser.Unsigned 0 (2 ^ 64 - 1)
+use Rattle.chi_program.specs.Rules.{bare_app, number_rule, number_rule_or, switch_rule, text_rule}
 
 -- the budget of both tasks is a whole number below 2^64, and 1,000,000 by default
 abbrev pub budget_rule : Rule
-budget_rule = option_rule (codes "budget") is_word (codes "1000000" ∷ [])
+budget_rule = number_rule_or (codes "budget") (codes "1000000")
 
 -- how many operations are shown is a whole number below 2^64, and 16 by default
 abbrev pub around_rule : Rule
-around_rule = option_rule (codes "around") is_word (codes "16" ∷ [])
+around_rule = number_rule_or (codes "around") (codes "16")
 
 -- the file of a page is any text
 abbrev pub html_rule : Rule
-html_rule = record (new_rule (codes "html")) { long = Some (codes "html"); value_names = 1 }
-
--- an option that takes a whole number below 2^64, and has none by default
-abbrev pub number_rule : Text → Rule
-number_rule name = option_rule name is_word []
+html_rule = text_rule (codes "html") []
 
 -- the task `explain`: its witness may be asked for, its limits, its time and how many operations are shown are whole numbers below
 -- 2^64, and it has a file and a budget
@@ -51,7 +34,7 @@ watch_app = with_rule (with_rule (new_app (codes "watch")) budget_rule) (switch_
 
 -- how many of a hundred bins have to have counted an operation is a whole number below 2^64, and 0 by default
 abbrev pub require_rule : Rule
-require_rule = option_rule (codes "require") is_word (codes "0" ∷ [])
+require_rule = number_rule_or (codes "require") (codes "0")
 
 -- the files that are counted are any texts, of which there may be none
 abbrev pub files_rule : Rule
@@ -62,13 +45,9 @@ abbrev pub cover_app : App
 cover_app =
     with_rule (with_rule (with_rule (with_rule (new_app (codes "cover")) require_rule) (switch_rule (codes "events"))) html_rule) files_rule
 
--- the program: it wants a task, has a version, and its name is not among its arguments
-abbrev pub bare_app : App
-bare_app = on_top (λ s. record s { no_binary_name = true; has_version = true; subcommand_required = true }) (new_app (codes "chicheck"))
-
--- with its tasks `explain`, `watch` and `cover`
+-- the program, with its tasks `explain`, `watch` and `cover`
 abbrev pub program_app : App
-program_app = with_subcommand (with_subcommand (with_subcommand bare_app explain_app.top) watch_app.top) cover_app.top
+program_app = with_subcommand (with_subcommand (with_subcommand (bare_app (codes "chicheck")) explain_app.top) watch_app.top) cover_app.top
 
 -- why the arguments name no task: there is no memory, or `clap` finds this fault in them or is asked for help
 abbrev pub IsArgumentsFault : List Text → ErrorKind → Type 0

@@ -13,7 +13,7 @@ use Rattle.chi_cover.specs.Page.{cover_json, page_text}
 use Rattle.chi_cover.specs.Texts.{table_text}
 use Rattle.chi_check.specs.Check.{most_bytes}
 use Rattle.chi_check.specs.declared.fault.CheckFault.{CheckFault}
-use Rattle.chi_check.specs.declared.fault.CheckFault.TheVariants.{Read, TooLong, Memory, Trace, Events, File, Page, Write}
+use Rattle.chi_check.specs.declared.fault.CheckFault.TheVariants.{Input, File, Page, Write}
 use Rattle.chi_check.specs.declared.fault.SourceFault.{SourceFault}
 use Rattle.chi_check.specs.declared.fault.SourceFault.TheVariants as source_fault
 use Rattle.chi_check.specs.declared.options.CoverOptions.{CoverOptions}
@@ -99,28 +99,20 @@ abbrev pub HasCounts : (List ℕ → List ℕ → Type 0) → CoverOptions → L
 HasCounts holds options input counts =
     (inputs : List (List ℕ)) × AreInputs holds (paths_of options) input inputs × AreCounted options.events inputs counts
 
--- a fault of the standard input
-abbrev pub input_fault : SourceFault → CheckFault
-input_fault source_fault.Read = Read
-input_fault source_fault.TooLong = TooLong
-input_fault source_fault.Memory = Memory
-input_fault (source_fault.Trace fault) = Trace fault
-input_fault (source_fault.Events fault) = Events fault
-
 -- why the standard input was not counted
 abbrev pub IsInputFault : Bool → List ℕ → CheckFault → Type 0
-IsInputFault events input Read = Unit {0}
-IsInputFault events input TooLong = most_bytes < length input
-IsInputFault events input Memory = Unit {0}
-IsInputFault events input (Trace fault) = IsTraceFault events input (source_fault.Trace fault)
-IsInputFault events input (Events fault) = IsTraceFault events input (source_fault.Events fault)
+IsInputFault events input (Input source_fault.Read) = Unit {0}
+IsInputFault events input (Input source_fault.TooLong) = most_bytes < length input
+IsInputFault events input (Input source_fault.Memory) = Unit {0}
+IsInputFault events input (Input (source_fault.Trace fault)) = IsTraceFault events input (source_fault.Trace fault)
+IsInputFault events input (Input (source_fault.Events fault)) = IsTraceFault events input (source_fault.Events fault)
 IsInputFault events input (File place fault) = ⊥
 IsInputFault events input Page = ⊥
 IsInputFault events input (Write fault) = ⊥
 
 -- why the files were not counted
 abbrev pub AreFilesFault : (List ℕ → List ℕ → Type 0) → Bool → List (List ℕ) → CheckFault → Type 0
-AreFilesFault holds events paths Memory = Unit {0}
+AreFilesFault holds events paths (Input source_fault.Memory) = Unit {0}
 AreFilesFault holds events paths (File place fault) = (path : List ℕ) × (slice_get paths place ≡ Some path) × IsFileFault holds events path fault
 AreFilesFault holds events paths fault = ⊥
 

@@ -1,9 +1,8 @@
 -- what the program does with its arguments
 use Rattle.std.specs.Prelude.{◌≡◌, ℕ, ◌⊎◌, List, Option, Result, Ok, Err, IfOk, IfSome}
-use Rattle.clap.specs.declared.error.kind.ErrorKind.{ErrorKind}
 use Rattle.clap.specs.Walk.{Text}
 use Rattle.chi_check.specs.Check.{KeepsUnanswered, Outcome}
-use Rattle.chi_check.specs.CheckStatus.{IsAnswerStatus, IsStatusOfArguments, KeepsButForHelp, status_of}
+use Rattle.chi_check.specs.CheckStatus.{IsAnswerStatus, status_of}
 use Rattle.chi_check.specs.Chosen.{Chooses}
 use Rattle.chi_check.specs.CommandLine.{IsArgumentsFault, IsTaken}
 use Rattle.chi_check.specs.Cover.{CoverOutcome}
@@ -11,6 +10,7 @@ use Rattle.chi_check.specs.declared.fault.CheckFault.{CheckFault}
 use Rattle.chi_check.specs.declared.command.Task.{Task}
 use Rattle.chi_check.specs.declared.command.Task.TheVariants.{Explain, Watch, Cover}
 use Rattle.chi_check.specs.Watch.{WatchOutcome}
+use Rattle.chi_program.specs.Answered.{ReportsArguments}
 
 -- what a task made of its input, or of what files hold, and what it wrote
 abbrev pub TaskOutcome : (List ℕ → List ℕ → Type 0) → Task → List ℕ → Option (List ℕ) → Option (List ℕ) → Result ℕ CheckFault → Type 0
@@ -34,12 +34,6 @@ Ends holds task input old new status =
 abbrev pub DoesTask : (List ℕ → List ℕ → Type 0) → List Text → Option (List ℕ) → Option (List ℕ) → Option (List ℕ) → ℕ → Type 0
 DoesTask holds arguments input old new status = IsTaken arguments × ((task : Task) × Chooses arguments task × Ends holds task input old new status)
 
--- The arguments name no task, for this kind of fault in them. The status is that of the kind, and where the answer goes
--- only help is written.
-abbrev pub ReportsArguments : List Text → Option (List ℕ) → Option (List ℕ) → ℕ → Type 0
-ReportsArguments arguments old new status =
-    (kind : ErrorKind) × IsArgumentsFault arguments kind × IsStatusOfArguments kind status × KeepsButForHelp kind old new
-
 -- what the program does with its arguments
 abbrev pub ProgramOutcome : (List ℕ → List ℕ → Type 0) → List Text → Option (List ℕ) → Option (List ℕ) → Option (List ℕ) → ℕ → Type 0
-ProgramOutcome holds arguments input old new status = ReportsArguments arguments old new status ⊎ DoesTask holds arguments input old new status
+ProgramOutcome holds arguments input old new status = ReportsArguments (IsArgumentsFault arguments) old new status ⊎ DoesTask holds arguments input old new status

@@ -10,7 +10,8 @@ use Rattle.chi_watch_text.specs.declared.watched.Watched.{Watched}
 use Rattle.chi_watch_text.specs.declared.watched.WatchVerdict.{WatchVerdict}
 use Rattle.chi_watch_text.specs.declared.watched.WatchVerdict.TheVariants.{Explained, Unexplained, Undecided}
 use Rattle.chi_check.specs.declared.fault.CheckFault.{CheckFault}
-use Rattle.chi_check.specs.declared.fault.CheckFault.TheVariants.{Read, TooLong, Memory, Trace, Events, File, Page, Write}
+use Rattle.chi_check.specs.declared.fault.CheckFault.TheVariants.{Input, File, Page, Write}
+use Rattle.chi_check.specs.declared.fault.SourceFault.TheVariants as source_fault
 
 -- 0 where all is explained, 1 where a granule is not, 6 where that is undecided
 abbrev pub verdict_status : WatchVerdict → ℕ
@@ -23,11 +24,11 @@ verdict_status Undecided = 6
 abbrev pub WatchOutcome : WatchOptions → List ℕ → Option (List ℕ) → Option (List ℕ) → Result ℕ CheckFault → Type 0
 WatchOutcome options input old new (Ok status) =
     (watched : Watched) × IsWatched input options.keep_going watched × (status ≡ verdict_status (verdict_of watched)) × Appends old new (watched_text options.budget watched)
-WatchOutcome options input old new (Err (Events fault)) = IsOutcome input options.keep_going (Err fault)
-WatchOutcome options input old new (Err Memory) = Unit {0}
+WatchOutcome options input old new (Err (Input (source_fault.Events fault))) = IsOutcome input options.keep_going (Err fault)
+WatchOutcome options input old new (Err (Input source_fault.Memory)) = Unit {0}
 WatchOutcome options input old new (Err (Write fault)) = (watched : Watched) × IsWatched input options.keep_going watched × AppendsFront old new (watched_text options.budget watched)
-WatchOutcome options input old new (Err Read) = ⊥
-WatchOutcome options input old new (Err TooLong) = ⊥
-WatchOutcome options input old new (Err (Trace fault)) = ⊥
+WatchOutcome options input old new (Err (Input source_fault.Read)) = ⊥
+WatchOutcome options input old new (Err (Input source_fault.TooLong)) = ⊥
+WatchOutcome options input old new (Err (Input (source_fault.Trace fault))) = ⊥
 WatchOutcome options input old new (Err (File place fault)) = ⊥
 WatchOutcome options input old new (Err Page) = ⊥

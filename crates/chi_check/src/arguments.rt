@@ -1,28 +1,23 @@
 //! The program on the arguments of its command line.
 
 ghost use Rattle.std.specs.Prelude.{◌≡◌, map, string_bytes, IfOk, IfSome};
-ghost use Rattle.clap.specs.Values.{kind_of};
 ghost use Rattle.chi_check.specs.Check.{KeepsUnanswered};
-ghost use Rattle.chi_check.specs.CheckStatus.{IsAnswerStatus, IsStatus, IsStatusOfArguments, KeepsButForHelp, status_of};
+ghost use Rattle.chi_check.specs.CheckStatus.{IsAnswerStatus, IsStatus, status_of};
 ghost use Rattle.chi_check.specs.ProgramOutcome.{Ends, ProgramOutcome, TaskOutcome};
 
 use crate::check::check;
-use crate::command::{Task, task_of};
+use crate::command::{PROGRAM, Task, task_of};
 use crate::cover::cover;
-use crate::fault::{CheckFault, status_of};
+use crate::fault::CheckFault;
 use crate::meter::Meter;
 use crate::pages::Pages;
 use crate::progress_line::ShownProgress;
 use crate::sources::Sources;
 use crate::watch::watch;
+use chi_program::{ProgramFault, report_arguments, report_fault};
 use chi_script::WriteFault;
-use clap::Error;
-use clap::error::ErrorKind;
 use std::alloc::Global;
 use std::io::{Read, Write};
-
-/// The status where the command line is refused.
-pub(crate) const REFUSED: u8 = 2;
 
 // Does a task with its input.
 fn do_task<R: Read, W: Write, P: ShownProgress, G: Pages + Sources + Meter>(
@@ -64,14 +59,6 @@ fn run_task<R: Read, W: Write, P: ShownProgress, G: Pages + Sources + Meter>(
     }
 }
 
-// Reports why there is no answer. The status is that of the fault.
-pub(crate) fn report_fault<E: Write>(fault: &CheckFault, errors: &mut E) -> u8
-    ensures { result ≡ status_of fault.now }
-{
-    let _written = writeln!(errors, "chicheck: {fault}");
-    status_of(fault)
-}
-
 // The file that is at fault, where it is one of those that the task names.
 fn file_at_fault<'a>(task: &Task<'a>, fault: &CheckFault) -> Option<&'a str> {
     match (task, fault) {
@@ -88,10 +75,10 @@ fn report_task_fault<E: Write>(task: &Task<'_>, fault: &CheckFault, errors: &mut
     ensures { result ≡ status_of fault.now }
 {
     if let Some(path) = file_at_fault(task, fault) {
-        let _written = writeln!(errors, "chicheck: {path}: {fault}");
-        return status_of(fault);
+        let _written = writeln!(errors, "{PROGRAM}: {path}: {fault}");
+        return fault.status();
     }
-    report_fault(fault, errors)
+    report_fault(PROGRAM, fault, errors)
 }
 
 // Does a task with its input, and reports its fault.
@@ -110,24 +97,6 @@ fn end_task<R: Read, W: Write, E: Write, P: ShownProgress, G: Pages + Sources + 
     match run_task(alloc, task, from, to, progress, machine) {
         Ok(status) => status,
         Err(fault) => report_task_fault(task, &fault, errors),
-    }
-}
-
-// Reports what `clap` answers to the arguments: help to `to`, and a refusal to `errors`.
-fn report_arguments<W: Write, E: Write>(error: &Error, to: &mut W, errors: &mut E) -> u8
-    ensures status { IsStatusOfArguments (kind_of error.now) result }
-    ensures kept { KeepsButForHelp (kind_of error.now) (W.contents to.old) (W.contents to.new) }
-{
-    if error.kind() == ErrorKind::OutOfMemory {
-        return report_fault(&CheckFault::Memory, errors);
-    }
-    if error.use_stderr() {
-        let _written = write!(errors, "{error}");
-        return REFUSED;
-    }
-    match write!(to, "{error}").and_then(|()| to.flush()) {
-        Ok(()) => 0,
-        Err(_) => report_fault(&CheckFault::Write(WriteFault::Failed), errors),
     }
 }
 
@@ -152,6 +121,6 @@ pub fn run_arguments<R: Read, W: Write, E: Write, P: ShownProgress, G: Pages + S
 {
     match task_of(alloc, arguments) {
         Ok(task) => end_task(alloc, &task, from, to, errors, progress, machine),
-        Err(error) => report_arguments(&error, to, errors),
+        Err(error) => report_arguments::<CheckFault, _, _>(PROGRAM, &error, to, errors),
     }
 }

@@ -10,7 +10,7 @@ ghost use Rattle.chi_search.specs.Looks.{LookedSome};
 ghost use Rattle.chi_check.specs.CheckStatus.{IsAnswerStatus, answer_status};
 ghost use Rattle.chi_check.specs.Pages.{IsPage, IsPut, IsReported};
 
-use crate::fault::CheckFault;
+use crate::fault::{CheckFault, SourceFault};
 use crate::meter::Meter;
 use crate::options::CheckOptions;
 use crate::page::{blamed_page_asked, page_asked};
@@ -52,9 +52,9 @@ pub(crate) fn read_bytes<R: Read>(alloc: Global, from: &mut R) -> Result<Vec<u8>
 {
     match read_input(alloc, from, MOST_BYTES) {
         Ok(input) => Ok(input),
-        Err(InputFault::Read) => Err(CheckFault::Read),
-        Err(InputFault::TooLong) => Err(CheckFault::TooLong),
-        Err(InputFault::Memory) => Err(CheckFault::Memory),
+        Err(InputFault::Read) => Err(CheckFault::Input(SourceFault::Read)),
+        Err(InputFault::TooLong) => Err(CheckFault::Input(SourceFault::TooLong)),
+        Err(InputFault::Memory) => Err(CheckFault::Input(SourceFault::Memory)),
     }
 }
 
@@ -216,10 +216,10 @@ pub fn check<R: Read, W: Write, P: ShownProgress, G: Pages + Meter>(
     let input = read_bytes(alloc, from)?;
     let recorded = match read_trace(alloc, &input) {
         Ok(recorded) => recorded,
-        Err(fault) => return Err(CheckFault::Trace(fault)),
+        Err(fault) => return Err(CheckFault::Input(SourceFault::Trace(fault))),
     };
     let Ok(report) = reported(alloc, recorded, options, progress, machine) else {
-        return Err(CheckFault::Memory);
+        return Err(CheckFault::Input(SourceFault::Memory));
     };
     if !put_page(machine, options.html, &report.page) {
         return Err(CheckFault::Page);

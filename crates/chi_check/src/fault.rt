@@ -3,12 +3,19 @@
 ghost use Rattle.std.specs.Prelude.{◌≡◌};
 ghost use Rattle.chi_check.specs.CheckStatus.{source_status, status_of};
 
+use chi_program::ProgramFault;
 use chi_reading::TraceFault;
 use chi_script::WriteFault;
 use chi_watch_text::LinesFault;
 use thiserror::Error;
 
-/// Why an input was not counted: it was not read, it is too long, there was no memory, or the trace or an event was refused.
+/// Why there is nothing to write of an input.
+///
+/// - `Read`: the reader answered a fault, which may also be that it was interrupted.
+/// - `TooLong`: the input has more than 536,870,912 bytes.
+/// - `Memory`: no memory for the input, for the search or for the answer.
+/// - `Trace`: the trace was refused.
+/// - `Events`: a line of events was refused, or not read.
 #[derive(Debug, Drop, Error)]
 pub enum SourceFault {
     #[error("input could not be read")]
@@ -25,26 +32,14 @@ pub enum SourceFault {
 
 /// Why no whole answer was written.
 ///
-/// - `Read`: the reader answered a fault, which may also be that it was interrupted.
-/// - `TooLong`: the input has more than 536,870,912 bytes.
-/// - `Memory`: no memory for the input, for the search or for the answer.
-/// - `Trace`: the trace was refused.
-/// - `Events`: a line of events was refused, or not read.
+/// - `Input`: there is nothing to write of the input, or of what the inputs hold together.
 /// - `File`: the file at this place among those that were named, counted from 0, was not counted. Up to here nothing is written.
 /// - `Page`: the page was not written whole. Up to here nothing else is written.
 /// - `Write`: the answer was not written whole.
 #[derive(Debug, Drop, Error)]
 pub enum CheckFault {
-    #[error("input could not be read")]
-    Read,
-    #[error("trace is over 536870912 bytes")]
-    TooLong,
-    #[error("no memory")]
-    Memory,
     #[error(transparent)]
-    Trace(TraceFault),
-    #[error(transparent)]
-    Events(LinesFault),
+    Input(SourceFault),
     #[error("{fault}")]
     File { place: usize, fault: SourceFault },
     #[error("page could not be written")]
@@ -69,24 +64,23 @@ fn source_status(fault: &SourceFault) -> u8
     }
 }
 
-/// The status that the program ends with on this fault: 3 where the trace or an event is refused, 4 out of memory, 5 where a
-/// device failed.
-///
-/// Source: profile.
-pub fn status_of(fault: &CheckFault) -> u8
-    ensures { result ≡ status_of fault.now }
-{
-    match fault {
-        CheckFault::Read => 5,
-        CheckFault::TooLong => 3,
-        CheckFault::Memory => 4,
-        CheckFault::Trace(TraceFault::Memory) => 4,
-        CheckFault::Trace(_) => 3,
-        CheckFault::Events(LinesFault::Read) => 5,
-        CheckFault::Events(LinesFault::Memory) => 4,
-        CheckFault::Events(_) => 3,
-        CheckFault::File { place: _, fault } => source_status(fault),
-        CheckFault::Page => 5,
-        CheckFault::Write(_) => 5,
+impl ProgramFault for CheckFault {
+    ghost status_of = { status_of };
+
+    fn status(&self) -> u8 {
+        match self {
+            CheckFault::Input(fault) => source_status(fault),
+            CheckFault::File { place: _, fault } => source_status(fault),
+            CheckFault::Page => 5,
+            CheckFault::Write(_) => 5,
+        }
+    }
+
+    fn no_memory() -> CheckFault {
+        CheckFault::Input(SourceFault::Memory)
+    }
+
+    fn unwritten() -> CheckFault {
+        CheckFault::Write(WriteFault::Failed)
     }
 }

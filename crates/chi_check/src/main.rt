@@ -4,9 +4,11 @@
 
 mod arguments;
 mod check;
+mod chosen;
 mod command;
 mod cover;
 mod fault;
+mod inputs;
 mod machine;
 mod meter;
 mod options;
@@ -17,37 +19,14 @@ mod search;
 mod sources;
 mod watch;
 
-ghost use Rattle.std.specs.Prelude.{◌≡◌, ◌⊎◌};
-
-use crate::arguments::{REFUSED, report_fault, run_arguments};
+use crate::arguments::run_arguments;
+use crate::command::PROGRAM;
 use crate::fault::CheckFault;
 use crate::machine::Machine;
 use crate::progress_line::ProgressLine;
-use std::env::{self, Env};
-use std::io::{self, Write};
+use chi_program::{arguments_after_name, report_no_arguments};
+use std::io;
 use std::process::ExitCode;
-
-// The arguments after the program's name.
-fn arguments_after_name<T: AllocGlobal + Env>(rt: &T) -> io::Result<Vec<String>> {
-    let mut arguments = Vec::new(rt.alloc());
-    for argument in env::args(rt)?.skip(1) {
-        arguments.push(argument)?;
-    }
-    Ok(arguments)
-}
-
-// Reports why the arguments cannot be had: out of memory, or an argument that is not text. The answer is the status.
-fn report_no_arguments<E: Write>(fault: &io::Error, errors: &mut E) -> u8
-    ensures { (result ≡ 4) ⊎ (result ≡ 2) }
-{
-    match fault.kind() {
-        io::ErrorKind::OutOfMemory => report_fault(&CheckFault::Memory, errors),
-        _ => {
-            let _written = writeln!(errors, "chicheck: {fault}");
-            REFUSED
-        }
-    }
-}
 
 fn main(rt: HostRuntime) -> ExitCode {
     let mut errors = rt.stderr();
@@ -67,7 +46,7 @@ fn main(rt: HostRuntime) -> ExitCode {
                 &mut machine,
             )
         }
-        Err(fault) => report_no_arguments(&fault, &mut errors),
+        Err(fault) => report_no_arguments::<CheckFault, _>(PROGRAM, &fault, &mut errors),
     };
     ExitCode::from(status)
 }

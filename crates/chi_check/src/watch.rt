@@ -7,7 +7,7 @@ ghost use Rattle.chi_check.specs.Check.{KeepsUnanswered};
 ghost use Rattle.chi_check.specs.CheckStatus.{IsAnswerStatus};
 ghost use Rattle.chi_check.specs.Watch.{WatchOutcome, verdict_status};
 
-use crate::fault::CheckFault;
+use crate::fault::{CheckFault, SourceFault};
 use crate::progress_line::ShownProgress;
 use chi_script::write_bytes;
 use chi_watch_text::{
@@ -70,10 +70,10 @@ pub fn watch<R: Read, W: Write, P: ShownProgress>(
     progress.clear();
     let watched = match found {
         Ok(watched) => watched,
-        Err(fault) => return Err(CheckFault::Events(fault)),
+        Err(fault) => return Err(CheckFault::Input(SourceFault::Events(fault))),
     };
     let Ok(text) = watched_text(alloc, &watched, options.budget) else {
-        return Err(CheckFault::Memory);
+        return Err(CheckFault::Input(SourceFault::Memory));
     };
     match write_bytes(to, &text) {
         Ok(()) => Ok(verdict_status(watched.verdict())),

@@ -1,5 +1,5 @@
 -- what the program's command line is to `clap`
-use Rattle.std.proofs.Common.{ap, ap₂, inl, inr, ◌⊎◌, codes, ◌≡◌, ◌∙◌, Bool, true, false, not, ◌&&◌, cond, List, [], ◌∷◌, Option, Some, Bor, refl, sym, pos}
+use Rattle.std.proofs.Common.{ap, ap₂, inl, inr, ◌⊎◌, codes, ◌≡◌, ◌∙◌, Bool, true, false, cond, List, [], ◌∷◌, Option, Some, Bor, refl, sym, pos}
 use Rattle.std.specs.Option.{option_map, unwrap_or}
 use Rattle.clap.specs.Faults.{fault_of, is_simple_and_free}
 use Rattle.clap.specs.Kinds.{IsAmong}
@@ -10,39 +10,33 @@ use Rattle.clap.specs.declared.error.kind.ErrorKind.TheVariants as error_kind
 use Rattle.clap.specs.declared.builder.value_parser.ValueParser.TheVariants as value_parser
 use Rattle.clap.proofs.OnLiterals.{clap_on_literals}
 use Rattle.clap.proofs.WalkLemmas.{walk_stopped}
-use Rattle.chi_home.specs.Chosen.{BeginsWith, HasOptions, IsNamed, IsNamedFirst, IsRun, IsScript, IsWork, is_generate, task_named}
-use Rattle.chi_home.specs.Found.{has_word}
+use Rattle.chi_home.specs.Chosen.{HasOptions, IsNamed, IsNamedFirst, IsRun, IsScript, IsWork, is_generate, task_named}
+use Rattle.chi_program.specs.Found.{BeginsWith, has_word}
+use Rattle.chi_program.specs.Rules.{bare_app, option_rule}
 use Rattle.chi_home.specs.declared.command.Asked.{Asked}
 use Rattle.chi_home.specs.declared.command.Asked.TheVariants.{Work, Script}
 use Rattle.chi_home.specs.declared.command.Task.{Task}
 use Rattle.chi_home.specs.declared.command.Task.TheVariants.{Run, Race, Cover}
 use Rattle.chi_engine.specs.declared.options.Options.{Options}
-use Rattle.chi_home.specs.CommandLine.{IsProgram, IsRaceApp, IsRunApp, IsTaskApp, IsArgumentsFault, bare_app, cover_rule, generate_app, option_rule}
-
--- the third of a row of tests fails
-pub third_fails : (a b c d : Bool) → (a && (b && (not c && d))) ≡ true → c ≡ false
-third_fails true true false d h = refl
-third_fails true true true d h = cc
-third_fails true false c d h = cc
-third_fails false b c d h = cc
+use Rattle.chi_home.specs.CommandLine.{IsProgram, IsRaceApp, IsRunApp, IsTaskApp, IsArgumentsFault, cover_rule, generate_app}
 
 -- a task with these two options
 task_of : Text → Rule → Rule → App
 task_of name store policy =
-    with_rule (with_rule (with_rule (new_app name) store) (option_rule (codes "attempts") (value_parser.Signed (pos 1) (pos 16)) (codes "4"))) policy
+    with_rule (with_rule (with_rule (new_app name) store) (option_rule (codes "attempts") (value_parser.Signed (pos 1) (pos 16)) (codes "4" ∷ []))) policy
 
 abbrev stores_of : Bor (List (Bor Text)) → Rule
-stores_of words = option_rule (codes "store") (value_parser.Names words) (codes "book")
+stores_of words = option_rule (codes "store") (value_parser.Names words) (codes "book" ∷ [])
 
 abbrev policies_of : Bor (List (Bor Text)) → Rule
-policies_of words = option_rule (codes "policy") (value_parser.Names words) (codes "resend")
+policies_of words = option_rule (codes "policy") (value_parser.Names words) (codes "resend" ∷ [])
 
 abbrev workers_of : Bor (List (Bor Text)) → Rule
-workers_of words = option_rule (codes "workers") (value_parser.Names words) (codes "2")
+workers_of words = option_rule (codes "workers") (value_parser.Names words) (codes "2" ∷ [])
 
 -- the three tasks
 both : App → App → App
-both run race = with_subcommand (with_subcommand (with_subcommand bare_app run.top) race.top) generate_app.top
+both run race = with_subcommand (with_subcommand (with_subcommand (bare_app (codes "chihome")) run.top) race.top) generate_app.top
 
 -- the program, whose options take these words
 program_of : Bor (List (Bor Text)) → Bor (List (Bor Text)) → Bor (List (Bor Text)) → Bor (List (Bor Text)) → Bor (List (Bor Text)) → App

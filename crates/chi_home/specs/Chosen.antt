@@ -1,5 +1,5 @@
 -- which task and which options the arguments name
-use Rattle.std.specs.Prelude.{◌≡◌, ℕ, ◌∷◌, ◌&&◌, Bool, true, false, nat_le, if◌then◌else◌, List, Some, codes}
+use Rattle.std.specs.Prelude.{◌≡◌, ℕ, ◌&&◌, Bool, true, false, nat_le, if◌then◌else◌, List, Some, codes}
 use Rattle.std.specs.Option.{option_map_or}
 use Rattle.std.specs.Str.{bytes_eq}
 use Rattle.clap.specs.Walk.{Row, Text, byte_or_zero, one_of}
@@ -18,7 +18,7 @@ use Rattle.chi_home.specs.declared.command.Asked.TheVariants.{Work, Script}
 use Rattle.chi_home.specs.declared.command.Task.{Task}
 use Rattle.chi_home.specs.declared.command.Task.TheVariants.{Run, Race, Cover}
 use Rattle.chi_home.specs.CommandLine.{IsProgram}
-use Rattle.chi_home.specs.Found.{has_word}
+use Rattle.chi_program.specs.Found.{BeginsWith, has_word}
 
 -- the task of a subcommand's name and of what was found: a run with `--cover` writes what it covered
 abbrev pub task_named : Text → List Row → Task
@@ -81,9 +81,6 @@ IsChosen arguments asked = (name : Text) × (found : List Row) × Finds argument
 abbrev pub HasAttempts : Asked → Type 0
 HasAttempts (Work task options) = IsAttemptCount options.attempts
 HasAttempts (Script options) = Unit {0}
-
-abbrev pub BeginsWith : List Text → Text → Type 0
-BeginsWith arguments word = (rest : List Text) × (arguments ≡ word ∷ rest)
 
 -- it is this task that is asked for
 abbrev pub IsWork : Task → Asked → Type 0

@@ -1,25 +1,19 @@
 -- the command line of the program, as `clap` reads it
-use Rattle.std.specs.Prelude.{◌≡◌, ◌-◌, ◌^◌, pos, true, List, [], ◌∷◌, ◌⊎◌, Some, codes}
+use Rattle.std.specs.Prelude.{◌≡◌, pos, List, [], ◌∷◌, ◌⊎◌, codes}
 use Rattle.std.specs.Borrow.{Bor}
 use Rattle.clap.specs.Walk.{Rule, Text, texts}
-use Rattle.clap.specs.Simple.{App, new_app, new_rule, on_top, with_rule, with_subcommand}
+use Rattle.clap.specs.Simple.{App, new_app, with_rule, with_subcommand}
 use Rattle.clap.specs.Kinds.{IsAmong}
 use Rattle.clap.specs.Faults.{fault_of}
 use Rattle.clap.specs.declared.error.kind.ErrorKind.{ErrorKind}
 use Rattle.clap.specs.declared.error.kind.ErrorKind.TheVariants as error_kind
-use Rattle.clap.specs.declared.builder.action.ArgAction.TheVariants.{SetTrue}
-use Rattle.clap.specs.declared.builder.value_parser.ValueParser.{ValueParser}
 use Rattle.clap.specs.declared.builder.value_parser.ValueParser.TheVariants as value_parser
-
--- an option that takes a value, and its default
-abbrev pub option_rule : Text → ValueParser → Text → Rule
-option_rule name values default =
-    record (new_rule name) { long = Some name; value_names = 1; parser = Some values; defaults = default ∷ [] }
+use Rattle.chi_program.specs.Rules.{bare_app, number_rule_or, option_rule, switch_rule, text_rule}
 
 -- an option that takes one of these words
 abbrev pub IsChoice : Text → List Text → Text → Rule → Type 0
 IsChoice name words default rule =
-    (values : Bor (List (Bor Text))) × (texts values.now ≡ words) × (rule ≡ option_rule name (value_parser.Names values) default)
+    (values : Bor (List (Bor Text))) × (texts values.now ≡ words) × (rule ≡ option_rule name (value_parser.Names values) (default ∷ []))
 
 -- a task of this name: its store is a lock or a book, its attempts are 1 to 16, its policy is to resend or to return
 abbrev pub IsTaskApp : Text → App → Type 0
@@ -28,17 +22,13 @@ IsTaskApp name app =
     × IsChoice (codes "store") (codes "lock" ∷ codes "book" ∷ []) (codes "book") store
     × IsChoice (codes "policy") (codes "resend" ∷ codes "return" ∷ []) (codes "resend") policy
     × (app ≡ with_rule (with_rule (with_rule (new_app name) store)
-    (option_rule (codes "attempts") (value_parser.Signed (pos 1) (pos 16)) (codes "4"))) policy)
+    (option_rule (codes "attempts") (value_parser.Signed (pos 1) (pos 16)) (codes "4" ∷ []))) policy)
 
 -- the task of a race: its workers are two or four, too
 abbrev pub IsRaceApp : App → Type 0
 IsRaceApp app =
     (task : App) × (workers : Rule) × IsTaskApp (codes "race") task
     × IsChoice (codes "workers") (codes "2" ∷ codes "4" ∷ []) (codes "2") workers × (app ≡ with_rule task workers)
-
--- an option that is there or not
-abbrev pub switch_rule : Text → Rule
-switch_rule name = record (new_rule name) { long = Some name; action = Some SetTrue }
 
 -- a run may be asked for what its requests covered
 abbrev pub cover_rule : Rule
@@ -47,10 +37,6 @@ cover_rule = switch_rule (codes "cover")
 -- the task of a run: it has that switch, too
 abbrev pub IsRunApp : App → Type 0
 IsRunApp app = (task : App) × IsTaskApp (codes "run") task × (app ≡ with_rule task cover_rule)
-
--- an option that takes a whole number below 2^64, and its default
-abbrev pub number_rule : Text → Text → Rule
-number_rule name default = option_rule name (value_parser.Unsigned 0 (2 ^ 64 - 1)) default
 
 -- an image may be asked for
 abbrev pub image_rule : Rule
@@ -62,25 +48,21 @@ default_mix = codes "read=1,write=1,store=2,load=3,swap=1,compare=1"
 
 -- the weights are any text
 abbrev pub mix_rule : Rule
-mix_rule = record (new_rule (codes "mix")) { long = Some (codes "mix"); value_names = 1; defaults = default_mix ∷ [] }
+mix_rule = text_rule (codes "mix") (default_mix ∷ [])
 
 -- the task `generate`: its numbers, its image and its mix
 abbrev pub generate_app : App
 generate_app =
     with_rule (with_rule (with_rule (with_rule (with_rule (with_rule (with_rule (with_rule (with_rule (new_app (codes "generate"))
-    (number_rule (codes "requests") (codes "1000"))) (number_rule (codes "seed") (codes "1"))) (number_rule (codes "base") (codes "4096")))
-    (number_rule (codes "granules") (codes "8"))) image_rule) (number_rule (codes "requesters") (codes "4")))
-    (number_rule (codes "refused") (codes "0"))) (number_rule (codes "hot") (codes "0"))) mix_rule
+    (number_rule_or (codes "requests") (codes "1000"))) (number_rule_or (codes "seed") (codes "1"))) (number_rule_or (codes "base") (codes "4096")))
+    (number_rule_or (codes "granules") (codes "8"))) image_rule) (number_rule_or (codes "requesters") (codes "4")))
+    (number_rule_or (codes "refused") (codes "0"))) (number_rule_or (codes "hot") (codes "0"))) mix_rule
 
--- the program: it wants a task, has a version, and its name is not among its arguments
-abbrev pub bare_app : App
-bare_app = on_top (λ s. record s { no_binary_name = true; has_version = true; subcommand_required = true }) (new_app (codes "chihome"))
-
--- with its tasks `run`, `race` and `generate`
+-- the program, with its tasks `run`, `race` and `generate`
 abbrev pub IsProgram : App → Type 0
 IsProgram app =
     (run : App) × (race : App) × IsRunApp run × IsRaceApp race
-    × (app ≡ with_subcommand (with_subcommand (with_subcommand bare_app run.top) race.top) generate_app.top)
+    × (app ≡ with_subcommand (with_subcommand (with_subcommand (bare_app (codes "chihome")) run.top) race.top) generate_app.top)
 
 -- why the arguments name no task: there is no memory, or `clap` finds this fault in them or is asked for help
 abbrev pub IsArgumentsFault : List Text → ErrorKind → Type 0

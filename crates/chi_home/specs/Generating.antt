@@ -1,25 +1,18 @@
 -- the task `generate`: what its options ask for, and what it writes
-use Rattle.std.specs.Prelude.{◌≡◌, ℕ, List, Option, Some, None, unwrap_or, Result, Ok, Err, codes}
+use Rattle.std.specs.Prelude.{◌≡◌, ℕ, List, Option, unwrap_or, Result, Ok, Err, codes}
 use Rattle.std.specs.Io.KnownBytes.{Appends, Keeps}
-use Rattle.std.specs.Result.{result_unwrap_or}
-use Rattle.std.specs.Str.Parse.{ParsesUnsigned}
-use Rattle.clap.specs.Walk.{Row, Text, first_of, one_of}
+use Rattle.clap.specs.Walk.{Row, first_of, one_of}
 use Rattle.chi_fields.specs.Extent.{region_of}
+use Rattle.chi_program.specs.Found.{IsNumberOr, has_word}
 use Rattle.chi_script.specs.Script.{ScriptValue, script}
 use Rattle.chi_script.specs.WriterBytes.{AppendsFront}
 use Rattle.chi_stimulus.specs.Generated.{IsGenerated}
 use Rattle.chi_stimulus.specs.Named.{mix_of}
 use Rattle.chi_stimulus.specs.declared.stimulus.Stimulus.{Stimulus}
 use Rattle.chi_home.specs.CommandLine.{default_mix}
-use Rattle.chi_home.specs.Found.{has_word}
 use Rattle.chi_home.specs.declared.generation.GenerateOptions.{GenerateOptions}
 use Rattle.chi_home.specs.declared.generation.GenerateFault.{GenerateFault}
 use Rattle.chi_home.specs.declared.generation.GenerateFault.TheVariants.{Memory, Write}
-
--- the number that a text is, and another where there is none below 2^64
-abbrev pub IsNumberOr : ℕ → Option Text → ℕ → Type 0
-IsNumberOr other None number = number ≡ other
-IsNumberOr other (Some text) number = (read : Result ℕ (Unit {0})) × ParsesUnsigned 64 10 text read × (number ≡ result_unwrap_or read other)
 
 -- the options are those that were found
 pub record HasGenerateOptions (found : List Row) (options : GenerateOptions) : Type 0 where

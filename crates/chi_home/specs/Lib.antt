@@ -1,6 +1,5 @@
 pub mod ProgramStatus
 pub mod CommandLine
-pub mod Found
 pub mod Generating
 pub mod Chosen
 pub mod Task

@@ -1,6 +1,5 @@
 -- what the program does with a script, by its task
 use Rattle.std.specs.Prelude.{◌≡◌, ℕ, ◌⊎◌, List, Option, Result, Ok, Err, IfSome}
-use Rattle.clap.specs.declared.error.kind.ErrorKind.{ErrorKind}
 use Rattle.clap.specs.Walk.{Text}
 use Rattle.chi_bookstore.specs.BookFaults.{IsAttemptCount}
 use Rattle.chi_history.specs.declared.opening.OpenFault.TheVariants as open_fault
@@ -21,7 +20,7 @@ use Rattle.chi_engine.specs.Engine.{KeepsUnexecuted, ReportsOpening}
 use Rattle.chi_engine.specs.RaceTranscript.{RaceOutcome}
 use Rattle.chi_engine.specs.Run.{Outcome}
 use Rattle.chi_engine.specs.FaultStatus.{status_of}
-use Rattle.chi_home.specs.ProgramStatus.{IsStatusOfArguments, KeepsButForHelp}
+use Rattle.chi_program.specs.Answered.{ReportsArguments}
 
 abbrev pub TaskOutcome : Task → Options → List ℕ → Option (List ℕ) → Option (List ℕ) → Result (Unit {0}) EngineFault → Type 0
 TaskOutcome Run options input old new result = Outcome options input old new result
@@ -55,12 +54,6 @@ DoesTask arguments input old new status =
     × IsAttemptCount options.attempts × IsUnrefused result × KeepsUnexecuted old new result
     × IfSome input (λ bytes. TaskOutcome task options bytes old new result) × (status ≡ end_status result)
 
--- The arguments name no task, for this kind of fault in them. The status is that of the kind, and where the transcript
--- goes only help is written.
-abbrev pub ReportsArguments : List Text → Option (List ℕ) → Option (List ℕ) → ℕ → Type 0
-ReportsArguments arguments old new status =
-    (kind : ErrorKind) × IsArgumentsFault arguments kind × IsStatusOfArguments kind status × KeepsButForHelp kind old new
-
 -- 0 where a script was made, else the status of the fault
 abbrev pub made_status : Result (Unit {0}) GenerateFault → ℕ
 made_status (Ok done) = 0
@@ -84,4 +77,4 @@ MakesScript arguments old new status =
 -- what the program does with its arguments
 abbrev pub ProgramOutcome : List Text → Option (List ℕ) → Option (List ℕ) → Option (List ℕ) → ℕ → Type 0
 ProgramOutcome arguments input old new status =
-    ReportsArguments arguments old new status ⊎ (DoesTask arguments input old new status ⊎ MakesScript arguments old new status)
+    ReportsArguments (IsArgumentsFault arguments) old new status ⊎ (DoesTask arguments input old new status ⊎ MakesScript arguments old new status)

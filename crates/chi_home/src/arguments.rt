@@ -1,26 +1,21 @@
 //! The program on the arguments of its command line.
 
-ghost use Rattle.std.specs.Prelude.{◌≡◌, map, string_bytes, IfSome};
-ghost use Rattle.clap.specs.Values.{kind_of};
+ghost use Rattle.std.specs.Prelude.{map, string_bytes, IfSome};
 ghost use Rattle.chi_engine.specs.Engine.{KeepsUnexecuted, ReportsOpening};
-ghost use Rattle.chi_engine.specs.FaultStatus.{status_of};
-ghost use Rattle.chi_home.specs.ProgramStatus.{IsStatus, IsStatusOfArguments, KeepsButForHelp};
+ghost use Rattle.chi_home.specs.ProgramStatus.{IsStatus};
 ghost use Rattle.chi_home.specs.Task.{Ends, EndsAsked, Makes, ProgramOutcome, TaskOutcome};
 
-use crate::command::{Asked, Task, asked_of};
-use crate::generation::{GenerateOptions, generate, generate_status};
-use chi_engine::{EngineFault, Options, engine_cover, engine_race, engine_run, status_of};
+use crate::command::{Asked, PROGRAM, Task, asked_of};
+use crate::fault::HomeFault;
+use crate::generation::{GenerateOptions, generate};
+use chi_engine::{EngineFault, Options, engine_cover, engine_race, engine_run};
 use chi_history::NoGate;
+use chi_program::{report_arguments, report_fault};
 use chi_script::WriteFault;
-use clap::Error;
-use clap::error::ErrorKind;
 use std::alloc::Global;
 use std::io::{Read, Write};
 use std::sync::Wait;
 use std::thread::Threads;
-
-/// The status where the command line is refused.
-pub(crate) const REFUSED: u8 = 2;
 
 // Does a task with a script.
 #[tactic(auto, using(crate::proofs::Written::unexecuted))]
@@ -61,14 +56,6 @@ fn run_task<T: AllocGlobal + Threads + Wait + Sync, R: Read, W: Write>(
     }
 }
 
-// Reports why the engine ended early. The status is that of the fault.
-pub(crate) fn report_fault<E: Write>(fault: &EngineFault, errors: &mut E) -> u8
-    ensures { result ≡ status_of fault.now }
-{
-    let _written = writeln!(errors, "chihome: {fault}");
-    status_of(fault)
-}
-
 // Does a task with a script, and reports its fault. The status is 0 where the task was done.
 fn end_task<T: AllocGlobal + Threads + Wait + Sync, R: Read, W: Write, E: Write>(
     rt: &T,
@@ -83,7 +70,7 @@ fn end_task<T: AllocGlobal + Threads + Wait + Sync, R: Read, W: Write, E: Write>
 {
     match run_task(rt, task, options, from, to) {
         Ok(()) => 0,
-        Err(fault) => report_fault(&fault, errors),
+        Err(fault) => report_fault(PROGRAM, &HomeFault::Engine(fault), errors),
     }
 }
 
@@ -99,10 +86,7 @@ fn end_generate<W: Write, E: Write>(
 {
     match generate(alloc, options, to) {
         Ok(()) => 0,
-        Err(fault) => {
-            let _written = writeln!(errors, "chihome: {fault}");
-            generate_status(&fault)
-        }
+        Err(fault) => report_fault(PROGRAM, &HomeFault::Generate(fault), errors),
     }
 }
 
@@ -120,24 +104,6 @@ fn end_asked<T: AllocGlobal + Threads + Wait + Sync, R: Read, W: Write, E: Write
     match asked {
         Asked::Work(task, options) => end_task(rt, task, &options, from, to, errors),
         Asked::Script(options) => end_generate(rt.alloc(), &options, to, errors),
-    }
-}
-
-// Reports what `clap` answers to the arguments: help to `to`, and a refusal to `errors`.
-fn report_arguments<W: Write, E: Write>(error: &Error, to: &mut W, errors: &mut E) -> u8
-    ensures status { IsStatusOfArguments (kind_of error.now) result }
-    ensures kept { KeepsButForHelp (kind_of error.now) (W.contents to.old) (W.contents to.new) }
-{
-    if error.kind() == ErrorKind::OutOfMemory {
-        return report_fault(&EngineFault::Memory, errors);
-    }
-    if error.use_stderr() {
-        let _written = write!(errors, "{error}");
-        return REFUSED;
-    }
-    match write!(to, "{error}").and_then(|()| to.flush()) {
-        Ok(()) => 0,
-        Err(_) => report_fault(&EngineFault::Write(WriteFault::Failed), errors),
     }
 }
 
@@ -160,6 +126,6 @@ pub fn run_words<T: AllocGlobal + Threads + Wait + Sync, R: Read, W: Write, E: W
 {
     match asked_of(rt.alloc(), arguments) {
         Ok(asked) => end_asked(rt, asked, from, to, errors),
-        Err(error) => report_arguments(&error, to, errors),
+        Err(error) => report_arguments::<HomeFault, _, _>(PROGRAM, &error, to, errors),
     }
 }

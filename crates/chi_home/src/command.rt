@@ -1,22 +1,22 @@
 //! The command line.
 
-ghost use Rattle.std.specs.Prelude.{◌≡◌, false, map, string_bytes, IfErr, IfOk};
+ghost use Rattle.std.specs.Prelude.{◌≡◌, map, string_bytes, IfErr, IfOk};
 ghost use Rattle.clap.specs.Matches.{found_of};
 ghost use Rattle.clap.specs.Simple.{app_of};
 ghost use Rattle.clap.specs.Values.{kind_of};
-ghost use Rattle.clap.specs.Walk.{rows_of, rule_of};
+ghost use Rattle.clap.specs.Walk.{rows_of};
 ghost use Rattle.clap.specs.declared.builder.value_parser.ValueParser.TheVariants as value_parser;
 ghost use Rattle.chi_home.specs.Chosen.{HasAttempts, HasOptions, IsChosen, IsNamed, IsNamedFirst, attempts_of, options_of_task, policy_of, store_of, task_named, workers_of};
-ghost use Rattle.chi_home.specs.Found.{has_word};
-ghost use Rattle.chi_home.specs.CommandLine.{IsProgram, IsRaceApp, IsRunApp, IsTaken, IsTaskApp, IsArgumentsFault, cover_rule, option_rule};
+ghost use Rattle.chi_home.specs.CommandLine.{IsProgram, IsRaceApp, IsRunApp, IsTaken, IsTaskApp, IsArgumentsFault};
 
 use crate::generation::{GenerateOptions, generate_command, generate_options};
 use chi_bookstore::MOST_ATTEMPTS;
 use chi_engine::{Options, StoreKind, Workers};
+use chi_program::{bare_command, has_word, is_switched, switch, value_option_or};
 use chi_requester::Policy;
 use clap::builder::ValueParser;
 use clap::error::ErrorKind;
-use clap::{Arg, ArgAction, ArgMatches, Command, Error, value_parser};
+use clap::{ArgMatches, Command, Error, value_parser};
 use std::alloc::Global;
 
 /// What is done with a script: its requests are executed one after another, or raced; or they are executed one after another for
@@ -34,6 +34,9 @@ pub enum Asked<'a> {
     Work(Task, Options),
     Script(GenerateOptions<'a>),
 }
+
+/// The program's name.
+pub(crate) const PROGRAM: &str = "chihome";
 
 // What `--version` prints after the program's name.
 const VERSION: &str = "0.1.0";
@@ -58,26 +61,6 @@ const RUN_ABOUT: &str = "Executes the requests in the order of the script, by on
 const RACE_ABOUT: &str =
     "Executes the requests of 1 and 2, or of 1 to 4, at the same time, each in order, and then those of 0";
 
-// An option of a task that takes a value.
-fn task_option<'a>(
-    alloc: Global,
-    name: &'a str,
-    value: &'a str,
-    parser: ValueParser<'a>,
-    default: &'a str,
-    help: &'a str,
-) -> Arg<'a>
-    ensures rule { rule_of result ≡ option_rule name.entry.now parser.entry default.entry.now }
-    ensures local { result.global ≡ false }
-{
-    Arg::new(alloc, name)
-        .long(name)
-        .value_name(value)
-        .value_parser(parser)
-        .default_value(default)
-        .help(help)
-}
-
 // One of these words.
 fn one_of<'a>(words: &'a [&'a str]) -> ValueParser<'a>
     ensures { result ≡ value_parser.Names words.entry }
@@ -90,7 +73,7 @@ fn task_command<'a>(alloc: Global, name: &'a str, about: &'a str) -> Result<Comm
     ensures app { IfOk result (λ command. IsTaskApp name.entry.now (app_of command)) }
     ensures memory { IfErr result (λ error. kind_of error ≡ ErrorKind.OutOfMemory) }
 {
-    let store = task_option(
+    let store = value_option_or(
         alloc,
         "store",
         "STORE",
@@ -98,7 +81,7 @@ fn task_command<'a>(alloc: Global, name: &'a str, about: &'a str) -> Result<Comm
         "book",
         "At most 8 granules under a lock, or a row of at most 512 without one",
     );
-    let attempts = task_option(
+    let attempts = value_option_or(
         alloc,
         "attempts",
         "N",
@@ -106,7 +89,7 @@ fn task_command<'a>(alloc: Global, name: &'a str, about: &'a str) -> Result<Comm
         "4",
         "Tries before RetryAck, 1 to 16; a store with a lock never answers it",
     );
-    let policy = task_option(
+    let policy = value_option_or(
         alloc,
         "policy",
         "POLICY",
@@ -123,23 +106,17 @@ fn task_command<'a>(alloc: Global, name: &'a str, about: &'a str) -> Result<Comm
     )
 }
 
-// The option that asks for what is covered.
-fn cover_option<'a>(alloc: Global) -> Arg<'a>
-    ensures rule { rule_of result ≡ cover_rule }
-    ensures local { result.global ≡ false }
-{
-    Arg::new(alloc, "cover")
-        .long("cover")
-        .action(ArgAction::SetTrue)
-        .help("Writes what the requests covered in place of the transcript")
-}
-
 // The task of a run, which may be asked for what is covered too.
 fn run_command<'a>(alloc: Global) -> Result<Command<'a>, Error>
     ensures app { IfOk result (λ command. IsRunApp (app_of command)) }
     ensures memory { IfErr result (λ error. kind_of error ≡ ErrorKind.OutOfMemory) }
 {
-    Ok(task_command(alloc, "run", RUN_ABOUT)?.arg(cover_option(alloc))?)
+    let cover = switch(
+        alloc,
+        "cover",
+        "Writes what the requests covered in place of the transcript",
+    );
+    Ok(task_command(alloc, "run", RUN_ABOUT)?.arg(cover)?)
 }
 
 // The task of a race, which has its workers too.
@@ -147,7 +124,7 @@ fn race_command<'a>(alloc: Global) -> Result<Command<'a>, Error>
     ensures app { IfOk result (λ command. IsRaceApp (app_of command)) }
     ensures memory { IfErr result (λ error. kind_of error ≡ ErrorKind.OutOfMemory) }
 {
-    let workers = task_option(
+    let workers = value_option_or(
         alloc,
         "workers",
         "WORKERS",
@@ -163,27 +140,11 @@ fn whole_command<'a>(alloc: Global) -> Result<Command<'a>, Error>
     ensures memory { IfErr result (λ error. kind_of error ≡ ErrorKind.OutOfMemory) }
 {
     Ok(
-        Command::new(alloc, "chihome")
-            .bin_name("chihome")?
-            .no_binary_name(true)
-            .about(ABOUT)
-            .version(VERSION)
-            .after_help(MORE)
-            .subcommand_required(true)
+        bare_command(alloc, PROGRAM, VERSION, ABOUT, MORE)?
             .subcommand(run_command(alloc)?)?
             .subcommand(race_command(alloc)?)?
             .subcommand(generate_command(alloc)?)?,
     )
-}
-
-// The value of an option is this word.
-pub(crate) fn has_word(chosen: &ArgMatches<'_>, option: &str, word: &str) -> bool
-    ensures { result ≡ has_word (rows_of (found_of chosen.now)) option.now word.now }
-{
-    match chosen.get_str(option) {
-        Some(text) => text == word,
-        None => false,
-    }
 }
 
 // The store that a subcommand was given.
@@ -253,7 +214,7 @@ fn chosen_task(name: &str, chosen: &ArgMatches<'_>) -> Task
 {
     if name == "race" {
         Task::Race
-    } else if has_word(chosen, "cover", "true") {
+    } else if is_switched(chosen, "cover") {
         Task::Cover
     } else {
         Task::Run

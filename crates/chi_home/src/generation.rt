@@ -4,16 +4,16 @@ ghost use Rattle.std.specs.Prelude.{◌≡◌, false, codes, unwrap_or, IfErr, I
 ghost use Rattle.clap.specs.Matches.{found_of};
 ghost use Rattle.clap.specs.Simple.{app_of};
 ghost use Rattle.clap.specs.Values.{kind_of};
-ghost use Rattle.clap.specs.Walk.{first_of, one_of, rows_of, rule_of};
-ghost use Rattle.chi_home.specs.CommandLine.{default_mix, generate_app, image_rule, mix_rule, number_rule};
-ghost use Rattle.chi_home.specs.Generating.{AsksFor, HasGenerateOptions, IsNumberOr, IsRefused, WritesScript, generate_status};
+ghost use Rattle.clap.specs.Walk.{first_of, rows_of, rule_of};
+ghost use Rattle.chi_home.specs.CommandLine.{default_mix, generate_app, mix_rule};
+ghost use Rattle.chi_home.specs.Generating.{AsksFor, HasGenerateOptions, IsRefused, WritesScript, generate_status};
 
-use crate::command::has_word;
 use chi_fields::{Region, RegionFault, region_fault_name};
+use chi_program::{is_switched, number_option_or, number_or, switch, text_option};
 use chi_script::{WriteFault, write_bytes};
 use chi_stimulus::{Mix, MixFault, Stimulus, generated_script};
 use clap::error::ErrorKind;
-use clap::{Arg, ArgAction, ArgMatches, Command, Error, value_parser};
+use clap::{Arg, ArgMatches, Command, Error};
 use std::alloc::Global;
 use std::io::Write;
 use thiserror::Error;
@@ -70,40 +70,18 @@ const GENERATE_ABOUT: &str = "Writes a script of requests by chance";
 // The weights where none are given.
 const MIX: &str = "read=1,write=1,store=2,load=3,swap=1,compare=1";
 
-// An option that takes a whole number, and what stands in for it.
-fn number_option<'a>(alloc: Global, name: &'a str, default: &'a str, help: &'a str) -> Arg<'a>
-    ensures rule { rule_of result ≡ number_rule name.entry.now default.entry.now }
-    ensures local { result.global ≡ false }
-{
-    Arg::new(alloc, name)
-        .long(name)
-        .value_name("N")
-        .value_parser(value_parser!(u64))
-        .default_value(default)
-        .help(help)
-}
-
-// The option that asks for an image.
-fn image_option<'a>(alloc: Global) -> Arg<'a>
-    ensures rule { rule_of result ≡ image_rule }
-    ensures local { result.global ≡ false }
-{
-    Arg::new(alloc, "image")
-        .long("image")
-        .action(ArgAction::SetTrue)
-        .help("The memory opens with bytes by chance, and else with zeros")
-}
-
 // The option that takes the weights.
 fn mix_option<'a>(alloc: Global) -> Arg<'a>
     ensures rule { rule_of result ≡ mix_rule }
     ensures local { result.global ≡ false }
 {
-    Arg::new(alloc, "mix")
-        .long("mix")
-        .value_name("KIND=WEIGHT,..")
-        .default_value(MIX)
-        .help("How often read, write, store, load, swap and compare are drawn; others never")
+    text_option(
+        alloc,
+        "mix",
+        "KIND=WEIGHT,..",
+        "How often read, write, store, load, swap and compare are drawn; others never",
+    )
+    .default_value(MIX)
 }
 
 /// The task `generate`.
@@ -114,58 +92,62 @@ pub(crate) fn generate_command<'a>(alloc: Global) -> Result<Command<'a>, Error>
     Ok(
         Command::new(alloc, "generate")
             .about(GENERATE_ABOUT)
-            .arg(number_option(
+            .arg(number_option_or(
                 alloc,
                 "requests",
+                "N",
                 "1000",
                 "How many requests it has, up to 4096",
             ))?
-            .arg(number_option(
+            .arg(number_option_or(
                 alloc,
                 "seed",
+                "N",
                 "1",
                 "What all is drawn from: the same seed makes the same script",
             ))?
-            .arg(number_option(
+            .arg(number_option_or(
                 alloc,
                 "base",
+                "N",
                 "4096",
                 "The address of the first granule, a multiple of 64",
             ))?
-            .arg(number_option(
+            .arg(number_option_or(
                 alloc,
                 "granules",
+                "N",
                 "8",
                 "How many granules the memory has, 1 to 512",
             ))?
-            .arg(image_option(alloc))?
-            .arg(number_option(
+            .arg(switch(
+                alloc,
+                "image",
+                "The memory opens with bytes by chance, and else with zeros",
+            ))?
+            .arg(number_option_or(
                 alloc,
                 "requesters",
+                "N",
                 "4",
                 "How many requesters send, 1 to 8: the numbers from 0 on",
             ))?
-            .arg(number_option(
+            .arg(number_option_or(
                 alloc,
                 "refused",
+                "N",
                 "0",
                 "How many of a hundred requests are refused, for each reason in turn",
             ))?
-            .arg(number_option(
+            .arg(number_option_or(
                 alloc,
                 "hot",
+                "N",
                 "0",
                 "How many of a hundred are of the first granule, before the others are of any",
             ))?
             .arg(mix_option(alloc))?,
     )
-}
-
-// The number that an option was given, or another where it was given none.
-fn number_or(chosen: &ArgMatches<'_>, option: &str, other: u64) -> u64
-    ensures { IsNumberOr other (one_of option.now (rows_of (found_of chosen.now))) result }
-{
-    chosen.get_one::<u64>(option).unwrap_or(other)
 }
 
 // The weights that were given, or those that stand in for them.
@@ -187,7 +169,7 @@ pub(crate) fn generate_options<'a>(chosen: &ArgMatches<'a>) -> GenerateOptions<'
         seed: number_or(chosen, "seed", 1),
         base: number_or(chosen, "base", 4096),
         granules: number_or(chosen, "granules", 8),
-        image: has_word(chosen, "image", "true"),
+        image: is_switched(chosen, "image"),
         requesters: number_or(chosen, "requesters", 4),
         refused: number_or(chosen, "refused", 0),
         hot: number_or(chosen, "hot", 0),

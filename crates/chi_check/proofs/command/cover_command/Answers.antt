@@ -7,10 +7,10 @@ pub returns-clause-app : goal.returns-clause-app
 returns-clause-app c =
     c.in_ok-arg-4.ensures.shape c.files_argument.ensures.local
     ∙ ap₂ with_rule
-    (c.in_ok-arg-3.ensures.shape c.html_option.ensures.local
+    (c.in_ok-arg-3.ensures.shape c.text_option.ensures.local
     ∙ ap₂ with_rule
-    (c.in_ok-arg-2.ensures.shape c.events_option.ensures.local
+    (c.in_ok-arg-2.ensures.shape c.switch.ensures.local
     ∙ ap₂ with_rule
-    (c.in_ok-arg.ensures.shape c.require_option.ensures.local ∙ ap₂ with_rule (ap app_of_fields c.about.ensures ∙ c.new.ensures.app) c.require_option.ensures.rule) c.events_option.ensures.rule)
-    c.html_option.ensures.rule)
+    (c.in_ok-arg.ensures.shape c.number_option_or.ensures.local ∙ ap₂ with_rule (ap app_of_fields c.about.ensures ∙ c.new.ensures.app) c.number_option_or.ensures.rule) c.switch.ensures.rule)
+    c.text_option.ensures.rule)
     c.files_argument.ensures.rule

@@ -11,15 +11,15 @@ returns-clause-app c =
     ∙ ap₂ with_rule
     (c.in_ok-arg-5.ensures.shape c.budget_option.ensures.local
     ∙ ap₂ with_rule
-    (c.in_ok-arg-4.ensures.shape c.html_option.ensures.local
+    (c.in_ok-arg-4.ensures.shape c.text_option.ensures.local
     ∙ ap₂ with_rule
-    (c.in_ok-arg-3.ensures.shape c.around_option.ensures.local
+    (c.in_ok-arg-3.ensures.shape c.number_option_or.ensures.local
     ∙ ap₂ with_rule
     (c.in_ok-arg-2.ensures.shape c.number_option.ensures.local
     ∙ ap₂ with_rule
-    (c.in_ok-arg.ensures.shape c.witness_option.ensures.local ∙ ap₂ with_rule (ap app_of_fields c.about.ensures ∙ c.new.ensures.app) c.witness_option.ensures.rule) c.number_option.ensures.rule)
-    c.around_option.ensures.rule)
-    c.html_option.ensures.rule)
+    (c.in_ok-arg.ensures.shape c.switch.ensures.local ∙ ap₂ with_rule (ap app_of_fields c.about.ensures ∙ c.new.ensures.app) c.switch.ensures.rule) c.number_option.ensures.rule)
+    c.number_option_or.ensures.rule)
+    c.text_option.ensures.rule)
     c.budget_option.ensures.rule)
     c.number_option-2.ensures.rule)
     c.number_option-3.ensures.rule

@@ -5,8 +5,7 @@ use Rattle.std.proofs.lemmas.Result.{err_from_is_err_and}
 use Rattle.clap.specs.Matches.{found_of}
 use Rattle.clap.specs.Simple.{app_of}
 use Rattle.clap.specs.Walk.{rows_of}
-use Rattle.chi_check.proofs.ChosenLemmas.{subcommand_found}
-use Rattle.chi_check.proofs.CommandLemmas.{arguments_fault, arguments_taken, named_first, program_is_simple}
+use Rattle.chi_check.proofs.CommandLemmas.{arguments_fault, arguments_taken, finds, named_first, program_is_simple}
 use Rattle.chi_check.proofs.command.task_of.Goals as goal
 
 pub returns-in_err-matches-clause-refused : goal.returns-in_err-matches-clause-refused
@@ -28,9 +27,8 @@ returns-clause-chosen c =
     let is = c.in_ok-whole_command.ensures.app in
     let name = c.in-Some.name.now in
     let found = rows_of (found_of c.in-Some.chosen.now) in
-    let finds = subcommand_found app (map string_bytes c.args.arguments.now) c.in_ok-matches.matches name found is (program_is_simple app is)
-    c.in_ok-matches.ensures.matches c.in-Some.ensures.name c.in-Some.ensures.rows in
-    (name, found, finds, c.in_ok-chosen_task.ensures.named, c.in_ok-chosen_task.ensures.options)
+    let found_so = finds app (map string_bytes c.args.arguments.now) c.in_ok-matches.matches name found is c.in_ok-matches.ensures.matches c.in-Some.ensures.name c.in-Some.ensures.rows in
+    (name, found, found_so, c.in_ok-chosen_task.ensures.named, c.in_ok-chosen_task.ensures.options)
 
 pub returns-clause-first : goal.returns-clause-first
 returns-clause-first c =
@@ -39,6 +37,5 @@ returns-clause-first c =
     let arguments = map string_bytes c.args.arguments.now in
     let name = c.in-Some.name.now in
     let found = rows_of (found_of c.in-Some.chosen.now) in
-    let finds = subcommand_found app arguments c.in_ok-matches.matches name found is (program_is_simple app is) c.in_ok-matches.ensures.matches
-    c.in-Some.ensures.name c.in-Some.ensures.rows in
-    named_first arguments name found c.in_ok-chosen_task.field-0 finds c.in_ok-chosen_task.ensures.named
+    let found_so = finds app arguments c.in_ok-matches.matches name found is c.in_ok-matches.ensures.matches c.in-Some.ensures.name c.in-Some.ensures.rows in
+    named_first arguments name found c.in_ok-chosen_task.field-0 found_so c.in_ok-chosen_task.ensures.named

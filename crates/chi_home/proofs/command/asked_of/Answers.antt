@@ -5,7 +5,7 @@ use Rattle.std.proofs.lemmas.Result.{err_from_is_err_and}
 use Rattle.clap.specs.Matches.{found_of}
 use Rattle.clap.specs.Simple.{app_of}
 use Rattle.clap.specs.Walk.{rows_of}
-use Rattle.chi_home.proofs.ChosenLemmas.{subcommand_found}
+use Rattle.chi_program.proofs.CommandLemmas.{subcommand_found}
 use Rattle.chi_home.proofs.CommandLemmas.{program_is_simple, arguments_fault, named_first}
 use Rattle.chi_home.proofs.command.asked_of.Goals as goal
 

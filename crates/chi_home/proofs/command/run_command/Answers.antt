@@ -7,5 +7,5 @@ pub returns-clause-app : goal.returns-clause-app
 returns-clause-app c = (
   app_of c.in_ok-task_command.field-0,
   c.in_ok-task_command.ensures.app,
-  c.in_ok-arg.ensures.shape c.cover_option.ensures.local ∙ ap (λ r. with_rule (app_of c.in_ok-task_command.field-0) r) c.cover_option.ensures.rule,
+  c.in_ok-arg.ensures.shape c.switch-cover.ensures.local ∙ ap (λ r. with_rule (app_of c.in_ok-task_command.field-0) r) c.switch-cover.ensures.rule,
 )

@@ -7,26 +7,26 @@ pub returns-clause-app : goal.returns-clause-app
 returns-clause-app c =
     c.in_ok-arg-9.ensures.shape c.mix_option.ensures.local
     ∙ ap₂ with_rule
-    (c.in_ok-arg-8.ensures.shape c.number_option-7.ensures.local
+    (c.in_ok-arg-8.ensures.shape c.number_option_or-7.ensures.local
     ∙ ap₂ with_rule
-    (c.in_ok-arg-7.ensures.shape c.number_option-6.ensures.local
+    (c.in_ok-arg-7.ensures.shape c.number_option_or-6.ensures.local
     ∙ ap₂ with_rule
-    (c.in_ok-arg-6.ensures.shape c.number_option-5.ensures.local
+    (c.in_ok-arg-6.ensures.shape c.number_option_or-5.ensures.local
     ∙ ap₂ with_rule
-    (c.in_ok-arg-5.ensures.shape c.image_option.ensures.local
+    (c.in_ok-arg-5.ensures.shape c.switch.ensures.local
     ∙ ap₂ with_rule
-    (c.in_ok-arg-4.ensures.shape c.number_option-4.ensures.local
+    (c.in_ok-arg-4.ensures.shape c.number_option_or-4.ensures.local
     ∙ ap₂ with_rule
-    (c.in_ok-arg-3.ensures.shape c.number_option-3.ensures.local
+    (c.in_ok-arg-3.ensures.shape c.number_option_or-3.ensures.local
     ∙ ap₂ with_rule
-    (c.in_ok-arg-2.ensures.shape c.number_option-2.ensures.local
+    (c.in_ok-arg-2.ensures.shape c.number_option_or-2.ensures.local
     ∙ ap₂ with_rule
-    (c.in_ok-arg.ensures.shape c.number_option.ensures.local ∙ ap₂ with_rule (ap app_of_fields c.about.ensures ∙ c.new.ensures.app) c.number_option.ensures.rule)
-    c.number_option-2.ensures.rule)
-    c.number_option-3.ensures.rule)
-    c.number_option-4.ensures.rule)
-    c.image_option.ensures.rule)
-    c.number_option-5.ensures.rule)
-    c.number_option-6.ensures.rule)
-    c.number_option-7.ensures.rule)
+    (c.in_ok-arg.ensures.shape c.number_option_or.ensures.local ∙ ap₂ with_rule (ap app_of_fields c.about.ensures ∙ c.new.ensures.app) c.number_option_or.ensures.rule)
+    c.number_option_or-2.ensures.rule)
+    c.number_option_or-3.ensures.rule)
+    c.number_option_or-4.ensures.rule)
+    c.switch.ensures.rule)
+    c.number_option_or-5.ensures.rule)
+    c.number_option_or-6.ensures.rule)
+    c.number_option_or-7.ensures.rule)
     c.mix_option.ensures.rule
