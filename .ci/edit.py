@@ -6,7 +6,7 @@ from typing import NamedTuple
 
 # The heads of a function and of an implementation, as rt fmt lays them out.
 FUNCTION = re.compile(r"^( *)(?:pub(?:\([^)]*\))? )?(?:const )?(?:unsafe )?fn (\w+)")
-OWNER = re.compile(r"impl(?:<.*?>)? (?:(?:\w+::)*(\w+)(?:<.*?>)? for )?(?:\w+::)*(\w+)")
+OWNER = re.compile(r"impl(?:<.*?>)? (?:(?:\w+::)*(\w+)(?:<(?:\w+::)*(\w+)>)? for )?(?:\w+::)*(\w+)")
 
 
 class Edit(NamedTuple):
@@ -74,7 +74,7 @@ def function_around(text, change):
     if not head[1]:
         return head[2]
     owner = OWNER.match(next(it for it in reversed(lines[:at]) if it.startswith("impl")))
-    return f"{owner[2]}{owner[1] or ''}::{head[2]}"
+    return f"{owner[3]}{owner[1] or ''}{owner[2] or ''}::{head[2]}"
 
 
 def module_of(path):
