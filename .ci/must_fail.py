@@ -16,7 +16,9 @@ from typing import NamedTuple
 
 from edit import applied
 
-VERDICT = re.compile(r"^fn (\S+): (.*)$", re.M)
+VERDICT = re.compile(r"fn (\S+): (.*)$")
+# A goal that is open, above the verdict of its function.
+OPEN = re.compile(r"note: src/\S+ it is not proved that ")
 CALLS = re.compile(r"(?:^|; |: )it calls `.*$")
 # A proof file that names what an edit took away: that says little of the contract.
 NAMES = re.compile(r"has no field|is not in scope|has no `|was not admitted")
@@ -40,20 +42,35 @@ def kit():
     return rtlib
 
 
-def own_reason(path, verdict, said):
+def verdicts_of(said):
+    """Returns for each function that the prover names its path, its verdict, and which of its goals are open."""
+    found, goals = [], []
+    for line in said.split("\n"):
+        verdict = VERDICT.match(line)
+        if verdict:
+            found.append((verdict[1], verdict[2], goals))
+            goals = []
+        elif OPEN.match(line):
+            goals.append(line)
+    return found
+
+
+def own_reason(path, verdict, goals, said):
     """Returns why a function is not proved, beside what it calls, or nothing."""
-    reason = "" if verdict == "proved" else CALLS.sub("", verdict)
-    if reason != "not proved":
-        return "" if reason == "no proof" else reason
-    # a proof file was refused: that of the function, where it is not for what the edit took away
+    if verdict.startswith("proved"):
+        return ""
+    reason = CALLS.sub("", verdict)
+    if reason not in ("no proof", "not proved"):
+        return reason
+    # what its proof file has was refused, where that is not for what an edit took away
     folder = "/".join(path.split("::")[-2:])
-    errors = re.findall(rf"^(?:\./)?proofs/(?:\S+/)?{re.escape(folder)}/\S+ error: .*$", said, re.M)
-    return next((it for it in errors if not NAMES.search(it)), "")
+    refused = re.findall(rf"^(?:\./)?proofs/(?:\S+/)?{re.escape(folder)}/\S+ error: .*$", said, re.M)
+    return next((it for it in goals + refused if not NAMES.search(it)), "")
 
 
 def reasons_of(said):
     """Returns why each function that is not proved is not, beside what it calls."""
-    found = {path: own_reason(path, verdict, said) for path, verdict in VERDICT.findall(said)}
+    found = {path: own_reason(path, verdict, goals, said) for path, verdict, goals in verdicts_of(said)}
     return {path: why for path, why in found.items() if why}
 
 
