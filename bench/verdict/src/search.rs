@@ -142,7 +142,8 @@ enum Choice {
 /// A step of a path: the state from which it was made, the operation, and the place before which all were tried.
 type Step = (State, Option<usize>, usize);
 
-/// Two bytes of the word, with states from which no order goes on there, and states from which one does.
+/// A run of bytes of the word, with states from which no order goes on there, and states from which one does. Their words have
+/// the bits of the mask alone.
 struct Part {
     mask: u64,
     dead: Dead,
@@ -287,7 +288,17 @@ impl Search<'_> {
     }
 
     /// Whether, in the bits of the mask, an operation must find, or the end must have, what nothing can leave.
-    fn lacks_maker(&self, state: &State, mask: u64, time: u64, count: usize, depth: usize) -> bool {
+    /// Of the operations that are looked at those are asked that start by the second time, and a run is followed back from those
+    /// that start by the first.
+    fn lacks_maker(
+        &self,
+        state: &State,
+        mask: u64,
+        times: [u64; 2],
+        count: usize,
+        depth: usize,
+    ) -> bool {
+        let [time, until] = times;
         if self
             .last
             .is_some_and(|seen| self.is_out_of_reach(state, NONE_LATER, (seen, mask), mask, depth))
@@ -295,14 +306,19 @@ impl Search<'_> {
             return true;
         }
         (state.first..self.ops.len().min(state.first + count))
-            .take_while(|place| self.earliest[*place] <= time)
+            .take_while(|place| self.earliest[*place] <= until)
             .filter(|place| {
                 let op = &self.ops[*place];
-                op.start <= time && op.reply.is_some() && self.is_left(state, *place)
+                op.start <= until && op.reply.is_some() && self.is_left(state, *place)
             })
             .any(|place| {
                 let it = &self.effects[place];
                 let wanted = (it.found, it.found_mask & mask);
+                let depth = if self.ops[place].start <= time {
+                    depth
+                } else {
+                    0
+                };
                 self.is_out_of_reach(state, [Some(place), None, None, None], wanted, mask, depth)
             })
     }
@@ -358,7 +374,9 @@ impl Search<'_> {
             return if differs { Choice::Dead } else { Choice::Ended };
         }
         let end = self.ops[state.first].end;
-        if tried <= state.first && self.lacks_maker(state, part.mask, end, LOOKED_AT[0], FOLLOWED) {
+        let times = [end, u64::MAX];
+        if tried <= state.first && self.lacks_maker(state, part.mask, times, LOOKED_AT[0], FOLLOWED)
+        {
             return Choice::Dead;
         }
         for place in self.places(state, tried) {
@@ -367,7 +385,7 @@ impl Search<'_> {
                 return Choice::Ended;
             };
             for word in words.into_iter().flatten() {
-                let next = self.absorb(part.mask, state.settled(place, word));
+                let next = self.absorb(part.mask, state.settled(place, word & part.mask));
                 if !part.dead.has(&next) {
                     return Choice::Step(Some(place), place, next);
                 }
@@ -384,7 +402,14 @@ impl Search<'_> {
 
     /// Whether no order goes on from a state in a part.
     fn lacks_order(&mut self, part: &mut Part, from: &State) -> bool {
-        let mut state = self.absorb(part.mask, from.clone());
+        let word = from.word & part.mask;
+        let mut state = self.absorb(
+            part.mask,
+            State {
+                word,
+                ..from.clone()
+            },
+        );
         if part.dead.has(&state) {
             return true;
         }
@@ -438,7 +463,7 @@ impl Search<'_> {
                 return self.only(state.settled(place, state.word), place);
             }
             let end = self.ops[state.first].end;
-            if with_rules && self.lacks_maker(state, u64::MAX, end, LOOKED_AT[0], FOLLOWED) {
+            if with_rules && self.lacks_maker(state, u64::MAX, [end; 2], LOOKED_AT[0], FOLLOWED) {
                 return Choice::Dead;
             }
             if with_rules && let Some(place) = self.commuting_next(state) {
@@ -514,6 +539,35 @@ fn search(search: &mut Search, parts: &mut [Part], word: u64) -> Option<Option<V
     None
 }
 
+/// The parts of a word that are asked: of a byte where all but one in sixteen of the operations lie within one, else of two bytes
+/// where at least a quarter lie within two; and of four bytes too where at least half are writes.
+fn parts_of(ops: &[Observed]) -> Vec<Part> {
+    let within = |len: u8| ops.iter().filter(|op| op.access.len <= len).count();
+    let writes = ops
+        .iter()
+        .filter(|op| op.access.kind == Kind::Write)
+        .count();
+    let lens: &[usize] = if within(1) >= ops.len() - ops.len() / 16 {
+        &[1]
+    } else {
+        match (within(2) >= ops.len() / 4, writes >= ops.len() / 2) {
+            (true, true) => &[2, 4],
+            (true, false) => &[2],
+            (false, true) => &[4],
+            (false, false) => &[],
+        }
+    };
+    let runs = lens
+        .iter()
+        .flat_map(|len| (0..8).step_by(*len).map(move |byte| (byte, *len)));
+    runs.map(|(byte, len)| Part {
+        mask: (u64::MAX >> (64 - 8 * len)) << (8 * byte),
+        dead: Dead::default(),
+        alive: Dead::default(),
+    })
+    .collect()
+}
+
 /// An order of a granule's operations, which stand by their ends; `None` within where there is none, and without where the budget
 /// was spent.
 fn order_of(
@@ -542,7 +596,7 @@ fn order_of(
         word,
         ..State::default()
     };
-    if it.lacks_maker(&start, u64::MAX, u64::MAX, LOOKED_AT[1], 0) {
+    if it.lacks_maker(&start, u64::MAX, [u64::MAX; 2], LOOKED_AT[1], 0) {
         return Some(None);
     }
     let effects = std::mem::take(&mut it.effects);
@@ -552,15 +606,7 @@ fn order_of(
     it.effects = effects;
     it.dead = Dead::default();
     it.left = budget - plain;
-    let short = ops.iter().filter(|op| op.access.len <= 2).count();
-    let parts = if short >= ops.len() / 4 { 4 } else { 0 };
-    let mut parts: Vec<Part> = (0..parts)
-        .map(|place| Part {
-            mask: 0xffff << (16 * place),
-            dead: Dead::default(),
-            alive: Dead::default(),
-        })
-        .collect();
+    let mut parts = parts_of(ops);
     search(&mut it, &mut parts, word)
 }
 

@@ -176,6 +176,7 @@ pub(crate) fn choose(
             state,
             u64::MAX,
             end,
+            end,
             LOOKED_AT,
             FOLLOWED,
         ) {

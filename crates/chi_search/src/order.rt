@@ -198,6 +198,7 @@ pub fn order_of<P: Progress>(
         &first,
         u64::MAX,
         u64::MAX,
+        u64::MAX,
         LOOKED_AT,
         0,
     ) {
