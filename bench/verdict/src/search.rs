@@ -611,6 +611,7 @@ fn order_of(
 }
 
 /// Decides whether the trace can be explained, over at most so many states of each granule.
+#[inline(never)]
 pub fn explain(trace: &Trace, budget: u64) -> Verdict {
     let mut places: Vec<usize> = (0..trace.ops.len()).collect();
     places.sort_by_key(|op| (trace.ops[*op].granule(), trace.ops[*op].end));

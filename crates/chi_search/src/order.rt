@@ -159,8 +159,8 @@ fn search<P: Progress>(
 
 /// Searches for an order of the operations of one granule, from its word at the opening on, which leaves `last` where that was
 /// observed. The operations stand in the order of their ends (`are_searchable`). `budget` is how many states may be looked
-/// at beside the first, and is left with how many more might have been; none of it is spent where an operation is seen at once to
-/// find what no other can leave.
+/// at beside the first, and is left with how many more might have been; no more than eight for each operation are where one is
+/// seen to find what no other can leave.
 ///
 /// Source: profile.
 ///
@@ -188,6 +188,24 @@ pub fn order_of<P: Progress>(
     ensures spends { IfOk result (λ found. (budget.new ≤ budget.old) × LookedMore P.looked progress.old progress.new (budget.old - budget.new)) }
 {
     let earliest = earliest_starts(alloc, ops)?;
+    // Most operations have an order that a plain search finds at once.
+    let plain = (ops.len() as u64).saturating_mul(PLAIN_STATES).min(*budget);
+    let mut left = plain;
+    let found = search(
+        alloc,
+        ops,
+        &[],
+        &earliest,
+        &mut [],
+        word,
+        last,
+        &mut left,
+        progress,
+    )?;
+    *budget -= plain - left;
+    if let Found::Order(_) | Found::Nothing = found {
+        return Ok(found);
+    }
     let effects = effects_of(alloc, ops)?;
     let first = first_state(alloc, word);
     if lacks_maker(
@@ -204,28 +222,8 @@ pub fn order_of<P: Progress>(
     ) {
         return Ok(Found::Nothing);
     }
-    // Most operations have an order that a plain search finds at once.
-    let plain = (ops.len() as u64).saturating_mul(PLAIN_STATES).min(*budget);
-    let mut left = plain;
-    let found = search(
-        alloc,
-        ops,
-        &[],
-        &earliest,
-        &mut [],
-        word,
-        last,
-        &mut left,
-        progress,
-    )?;
-    *budget -= plain - left;
-    match found {
-        Found::Undecided => {
-            let mut parts = parts_of(alloc, ops, last)?;
-            search(
-                alloc, ops, &effects, &earliest, &mut parts, word, last, budget, progress,
-            )
-        }
-        _ => Ok(found),
-    }
+    let mut parts = parts_of(alloc, ops, last)?;
+    search(
+        alloc, ops, &effects, &earliest, &mut parts, word, last, budget, progress,
+    )
 }
