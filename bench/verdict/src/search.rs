@@ -163,6 +163,9 @@ struct Search<'a> {
 /// How many states for each operation are looked at without the rules.
 const PLAIN_STATES: u64 = 8;
 
+/// After how many states for each operation the search of a granule that is mostly written begins again.
+const SPAN_STATES: u64 = 64;
+
 /// How many operations are looked at for makers at a state, and before the search.
 const LOOKED_AT: [usize; 2] = [64, 1000];
 
@@ -447,8 +450,27 @@ impl Search<'_> {
         }
     }
 
-    /// What can be done at a state, of which the operations before a place were tried.
-    fn choose(&self, state: &State, tried: usize) -> Choice {
+    /// The operation that changes the fewest bits, of those that lead to a state that is not known to be dead, and that state.
+    fn narrowest_next(&self, state: &State) -> Option<(usize, State)> {
+        let mut found = None;
+        let mut least = u32::MAX;
+        for place in self.places(state, state.first) {
+            let bits = self.effects[place].changed.count_ones();
+            if bits < least
+                && let Some(after) = self.after(state, place)
+            {
+                let next = state.settled(place, after);
+                if !self.dead.has(&next) && !self.has_equal_before(state, place) {
+                    (least, found) = (bits, Some((place, next)));
+                }
+            }
+        }
+        found
+    }
+
+    /// What can be done at a state, of which the operations before a place were tried. `by_width` says whether what changes fewer
+    /// bits is tried first.
+    fn choose(&self, state: &State, tried: usize, by_width: bool) -> Choice {
         if state.first >= self.ops.len() {
             let has_ended = self.last.is_none_or(|last| last == state.word);
             return if has_ended {
@@ -473,6 +495,9 @@ impl Search<'_> {
                 };
             }
         }
+        if by_width && let Some((place, next)) = self.narrowest_next(state) {
+            return Choice::Step(Some(place), tried, next);
+        }
         for place in self.places(state, tried) {
             if let Some(after) = self.after(state, place) {
                 let next = state.settled(place, after);
@@ -491,8 +516,14 @@ impl Search<'_> {
     }
 }
 
-/// Searches from a word on: an order, `None` within where there is none, and without where the budget was spent.
-fn search(search: &mut Search, parts: &mut [Part], word: u64) -> Option<Option<Vec<usize>>> {
+/// Searches from a word on: an order, `None` within where there is none, and without where the budget was spent. After each `span`
+/// states it begins again, and tries what changes fewer bits first every other time.
+fn search(
+    search: &mut Search,
+    parts: &mut [Part],
+    word: u64,
+    span: u64,
+) -> Option<Option<Vec<usize>>> {
     let mut state = State {
         word,
         ..State::default()
@@ -500,6 +531,8 @@ fn search(search: &mut Search, parts: &mut [Part], word: u64) -> Option<Option<V
     let mut path: Vec<Step> = Vec::new();
     let mut tried = 0;
     let mut is_new = true;
+    let mut by_width = false;
+    let mut due = search.left.saturating_sub(span);
     while search.left > 0 {
         let is_dead = is_new
             && parts
@@ -508,7 +541,7 @@ fn search(search: &mut Search, parts: &mut [Part], word: u64) -> Option<Option<V
         let choice = if is_dead {
             Choice::Dead
         } else {
-            search.choose(&state, tried)
+            search.choose(&state, tried, by_width)
         };
         let (op, place, next) = match choice {
             Choice::Ended => {
@@ -533,24 +566,35 @@ fn search(search: &mut Search, parts: &mut [Part], word: u64) -> Option<Option<V
             }
         };
         search.left = search.left.saturating_sub(1);
+        if search.left <= due {
+            path.clear();
+            state = State {
+                word,
+                ..State::default()
+            };
+            (tried, is_new, by_width) = (0, true, !by_width);
+            due = search.left.saturating_sub(span);
+            continue;
+        }
         tried = next.first;
         path.push((std::mem::replace(&mut state, next), op, place));
     }
     None
 }
 
+fn are_mostly_writes(ops: &[Observed]) -> bool {
+    let writes = ops.iter().filter(|op| op.access.kind == Kind::Write);
+    writes.count() >= ops.len() / 2
+}
+
 /// The parts of a word that are asked: of a byte where all but one in sixteen of the operations lie within one, else of two bytes
 /// where at least a quarter lie within two; and of four bytes too where at least half are writes.
 fn parts_of(ops: &[Observed]) -> Vec<Part> {
     let within = |len: u8| ops.iter().filter(|op| op.access.len <= len).count();
-    let writes = ops
-        .iter()
-        .filter(|op| op.access.kind == Kind::Write)
-        .count();
     let lens: &[usize] = if within(1) >= ops.len() - ops.len() / 16 {
         &[1]
     } else {
-        match (within(2) >= ops.len() / 4, writes >= ops.len() / 2) {
+        match (within(2) >= ops.len() / 4, are_mostly_writes(ops)) {
             (true, true) => &[2, 4],
             (true, false) => &[2],
             (false, true) => &[4],
@@ -582,16 +626,19 @@ fn order_of(
         least = least.min(ops[place].start);
         earliest[place] = least;
     }
-    let effects: Vec<Effect> = ops.iter().map(effect).collect();
     let plain = budget.min(ops.len() as u64 * PLAIN_STATES);
     let mut it = Search {
         ops,
-        effects,
+        effects: Vec::new(),
         earliest,
         last,
         dead: Dead::default(),
         left: plain,
     };
+    if let Some(found) = search(&mut it, &mut [], word, u64::MAX) {
+        return Some(found);
+    }
+    it.effects = ops.iter().map(effect).collect();
     let start = State {
         word,
         ..State::default()
@@ -599,15 +646,15 @@ fn order_of(
     if it.lacks_maker(&start, u64::MAX, [u64::MAX; 2], LOOKED_AT[1], 0) {
         return Some(None);
     }
-    let effects = std::mem::take(&mut it.effects);
-    if let Some(found) = search(&mut it, &mut [], word) {
-        return Some(found);
-    }
-    it.effects = effects;
     it.dead = Dead::default();
-    it.left = budget - plain;
+    it.left = budget - (plain - it.left);
     let mut parts = parts_of(ops);
-    search(&mut it, &mut parts, word)
+    let span = if are_mostly_writes(ops) {
+        ops.len() as u64 * SPAN_STATES
+    } else {
+        u64::MAX
+    };
+    search(&mut it, &mut parts, word, span)
 }
 
 /// Decides whether the trace can be explained, over at most so many states of each granule.

@@ -13,6 +13,7 @@ mod layer;
 mod makers;
 mod making;
 mod narrow;
+mod narrowest;
 mod order;
 mod outcomes;
 mod part;

@@ -17,7 +17,7 @@ use crate::earliest::earliest_starts;
 use crate::effect::{Effect, effects_of};
 use crate::makers::lacks_maker;
 use crate::part::Part;
-use crate::parts::{has_dead_part, parts_of};
+use crate::parts::{are_mostly_writes, has_dead_part, parts_of};
 use crate::path::{Step, taken};
 use crate::progress::Progress;
 use crate::state::{State, first_state};
@@ -37,6 +37,9 @@ pub enum Found {
 /// How many states for each operation are looked at without the rules that take time at each.
 const PLAIN_STATES: u64 = 8;
 
+/// After how many states for each operation the search of a granule that is mostly written begins again.
+const SPAN_STATES: u64 = 64;
+
 /// How many operations are looked at for makers before the search.
 const LOOKED_AT: usize = 1000;
 
@@ -53,6 +56,7 @@ fn decide<P: Progress>(
     state: &State,
     tried: usize,
     is_new: bool,
+    by_width: bool,
     next: &mut State,
     budget: &mut u64,
     progress: &mut P,
@@ -80,11 +84,14 @@ fn decide<P: Progress>(
     {
         return Ok(Choice::Dead);
     }
-    choose(ops, effects, earliest, last, dead, state, tried, next)
+    choose(
+        ops, effects, earliest, last, dead, state, tried, by_width, next,
+    )
 }
 
 // Searches as `order_of` does, from the start on. `effects` has what is known of each operation, or is empty: then it goes
-// without the rules that take time at each state. `parts` are those of the word that are asked, or none.
+// without the rules that take time at each state. `parts` are those of the word that are asked, or none. After each `span` states
+// it begins again, with the states that it found dead, and tries what changes fewer bits first every other time.
 fn search<P: Progress>(
     alloc: Global,
     ops: &[Observed],
@@ -93,6 +100,7 @@ fn search<P: Progress>(
     parts: &mut [Part],
     word: u64,
     last: Option<u64>,
+    span: u64,
     budget: &mut u64,
     progress: &mut P,
 ) -> Result<Found, AllocError>
@@ -112,10 +120,12 @@ fn search<P: Progress>(
     let mut next = first_state(alloc, word);
     let mut tried = 0;
     let mut is_new = true;
+    let mut by_width = false;
+    let mut due = budget.saturating_sub(span);
     while *budget > 0 {
         match decide(
-            alloc, ops, effects, earliest, last, &dead, parts, &state, tried, is_new, &mut next,
-            budget, progress,
+            alloc, ops, effects, earliest, last, &dead, parts, &state, tried, is_new, by_width,
+            &mut next, budget, progress,
         )? {
             Choice::Ended => {
                 let order = taken(alloc, &path)?;
@@ -131,6 +141,15 @@ fn search<P: Progress>(
                 }
                 *budget -= 1;
                 progress.look();
+                if *budget <= due {
+                    path = Vec::new(alloc);
+                    state = first_state(alloc, word);
+                    tried = 0;
+                    is_new = true;
+                    by_width = !by_width;
+                    due = budget.saturating_sub(span);
+                    continue;
+                }
                 path.push(Step {
                     from: state,
                     op,
@@ -199,6 +218,7 @@ pub fn order_of<P: Progress>(
         &mut [],
         word,
         last,
+        u64::MAX,
         &mut left,
         progress,
     )?;
@@ -223,7 +243,12 @@ pub fn order_of<P: Progress>(
         return Ok(Found::Nothing);
     }
     let mut parts = parts_of(alloc, ops, last)?;
+    let span = if are_mostly_writes(ops) {
+        (ops.len() as u64).saturating_mul(SPAN_STATES)
+    } else {
+        u64::MAX
+    };
     search(
-        alloc, ops, &effects, &earliest, &mut parts, word, last, budget, progress,
+        alloc, ops, &effects, &earliest, &mut parts, word, last, span, budget, progress,
     )
 }

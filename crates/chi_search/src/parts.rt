@@ -27,15 +27,15 @@ fn count_within(ops: &[Observed], len: usize) -> usize {
     count
 }
 
-// How many of them are writes.
-fn count_writes(ops: &[Observed]) -> usize {
+/// Whether at least half of the operations are writes.
+pub(crate) fn are_mostly_writes(ops: &[Observed]) -> bool {
     let mut count: usize = 0;
     for op in ops {
         if let Kind::Write = op.access.kind() {
             count = count.saturating_add(1);
         }
     }
-    count
+    count >= ops.len() / 2
 }
 
 // Adds the parts of so many bytes.
@@ -75,7 +75,7 @@ pub(crate) fn parts_of(
     if count_within(ops, 2) >= ops.len() / 4 {
         add_parts(alloc, ops, last, 2, &mut parts)?;
     }
-    if count_writes(ops) >= ops.len() / 2 {
+    if are_mostly_writes(ops) {
         add_parts(alloc, ops, last, 4, &mut parts)?;
     }
     Ok(parts)

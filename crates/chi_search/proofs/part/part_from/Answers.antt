@@ -1,5 +1,4 @@
 -- so many bytes are a run
-use Rattle.std.proofs.Common.{arith}
 use Rattle.chi_search.specs.Within.{IsDeadWithin}
 use Rattle.chi_search.proofs.Start.{none_of}
 use Rattle.chi_search.proofs.part.part_from.Goals as goal
