@@ -163,6 +163,9 @@ struct Search<'a> {
 /// How many states for each operation are looked at without the rules.
 const PLAIN_STATES: u64 = 8;
 
+/// Where no more operations than these lie between the first and the last that can come next, the plain search is the first.
+const FEW_NEXT: usize = 28;
+
 /// After how many states for each operation the search of a granule that is mostly written begins again.
 const SPAN_STATES: u64 = 64;
 
@@ -227,6 +230,31 @@ impl Search<'_> {
                     it.changed == 0 && (it.found ^ state.word) & it.found_mask == 0
                 })
         })
+    }
+
+    /// How many operations at most lie between the first that is left and the last that can come next, it among them.
+    fn most_next(&self) -> usize {
+        let mut past = 0;
+        let mut most = 0;
+        for place in 0..self.ops.len() {
+            while past < self.ops.len() && self.earliest[past] <= self.ops[place].end {
+                past += 1;
+            }
+            most = most.max(past - place);
+        }
+        most
+    }
+
+    /// Whether an operation is seen at once to find what no other can leave, or the end to have it.
+    fn is_hopeless(&mut self, word: u64) -> bool {
+        let start = State {
+            word,
+            ..State::default()
+        };
+        self.effects = self.ops.iter().map(effect).collect();
+        let is = self.lacks_maker(&start, u64::MAX, [u64::MAX; 2], LOOKED_AT[1], 0);
+        self.effects.clear();
+        is
     }
 
     fn is_left(&self, state: &State, place: usize) -> bool {
@@ -587,29 +615,26 @@ fn are_mostly_writes(ops: &[Observed]) -> bool {
     writes.count() >= ops.len() / 2
 }
 
-/// The parts of a word that are asked: of a byte where all but one in sixteen of the operations lie within one, else of two bytes
-/// where at least a quarter lie within two; and of four bytes too where at least half are writes.
-fn parts_of(ops: &[Observed]) -> Vec<Part> {
-    let within = |len: u8| ops.iter().filter(|op| op.access.len <= len).count();
-    let lens: &[usize] = if within(1) >= ops.len() - ops.len() / 16 {
-        &[1]
-    } else {
-        match (within(2) >= ops.len() / 4, are_mostly_writes(ops)) {
-            (true, true) => &[2, 4],
-            (true, false) => &[2],
-            (false, true) => &[4],
-            (false, false) => &[],
-        }
-    };
-    let runs = lens
-        .iter()
-        .flat_map(|len| (0..8).step_by(*len).map(move |byte| (byte, *len)));
-    runs.map(|(byte, len)| Part {
+/// The parts of a word that have so many bytes.
+fn parts_of_length(len: usize) -> impl Iterator<Item = Part> {
+    (0..8).step_by(len).map(move |byte| Part {
         mask: (u64::MAX >> (64 - 8 * len)) << (8 * byte),
         dead: Dead::default(),
         alive: Dead::default(),
     })
-    .collect()
+}
+
+/// The parts of a word that are asked: of a byte where all but one in sixteen of the operations lie within one, else of two bytes
+/// where at least a quarter lie within two, else none.
+fn parts_of(ops: &[Observed]) -> Vec<Part> {
+    let within = |len: u8| ops.iter().filter(|op| op.access.len <= len).count();
+    if within(1) >= ops.len() - ops.len() / 16 {
+        return parts_of_length(1).collect();
+    }
+    if within(2) >= ops.len() / 4 {
+        return parts_of_length(2).collect();
+    }
+    Vec::new()
 }
 
 /// An order of a granule's operations, which stand by their ends; `None` within where there is none, and without where the budget
@@ -626,35 +651,45 @@ fn order_of(
         least = least.min(ops[place].start);
         earliest[place] = least;
     }
-    let plain = budget.min(ops.len() as u64 * PLAIN_STATES);
     let mut it = Search {
         ops,
         effects: Vec::new(),
         earliest,
         last,
         dead: Dead::default(),
-        left: plain,
+        left: 0,
     };
+    let is_hot = it.most_next() > FEW_NEXT;
+    if is_hot && it.is_hopeless(word) {
+        return Some(None);
+    }
+    let plain = budget.min(ops.len() as u64 * PLAIN_STATES);
+    it.left = plain;
     if let Some(found) = search(&mut it, &mut [], word, u64::MAX) {
         return Some(found);
     }
-    it.effects = ops.iter().map(effect).collect();
-    let start = State {
-        word,
-        ..State::default()
-    };
-    if it.lacks_maker(&start, u64::MAX, [u64::MAX; 2], LOOKED_AT[1], 0) {
+    if !is_hot && it.is_hopeless(word) {
         return Some(None);
     }
+    it.effects = ops.iter().map(effect).collect();
+    it.left = budget - plain;
     it.dead = Dead::default();
-    it.left = budget - (plain - it.left);
     let mut parts = parts_of(ops);
-    let span = if are_mostly_writes(ops) {
-        ops.len() as u64 * SPAN_STATES
-    } else {
-        u64::MAX
-    };
-    search(&mut it, &mut parts, word, span)
+    if !are_mostly_writes(ops) {
+        return search(&mut it, &mut parts, word, u64::MAX);
+    }
+    let span = ops.len() as u64 * SPAN_STATES;
+    let left = it.left;
+    let short = span.min(left);
+    it.left = short;
+    if let Some(found) = search(&mut it, &mut parts, word, u64::MAX) {
+        return Some(found);
+    }
+    it.left = left - short;
+    it.dead = Dead::default();
+    let mut more_parts = parts_of(ops);
+    more_parts.extend(parts_of_length(4));
+    search(&mut it, &mut more_parts, word, span)
 }
 
 /// Decides whether the trace can be explained, over at most so many states of each granule.

@@ -1,6 +1,6 @@
 //! An order of the operations of one granule.
 
-ghost use Rattle.std.specs.Prelude.{◌≡◌, ℕ, ◌-◌, ◌≤◌, ◌⊎◌, All, List, IfOk, IfSome, OnOk, length};
+ghost use Rattle.std.specs.Prelude.{◌≡◌, ℕ, ◌-◌, ◌≤◌, ◌⊎◌, All, List, IfOk, IfSome, IsTrue, OnOk, length};
 ghost use Rattle.chi_trace.specs.Explains.{is_place};
 ghost use Rattle.chi_trace.specs.Granules.{Finishes};
 ghost use Rattle.chi_search.specs.Effects.{AreEffects};
@@ -17,7 +17,7 @@ use crate::earliest::earliest_starts;
 use crate::effect::{Effect, effects_of};
 use crate::makers::lacks_maker;
 use crate::part::Part;
-use crate::parts::{are_mostly_writes, has_dead_part, parts_of};
+use crate::parts::{add_parts, are_mostly_writes, has_dead_part, parts_of};
 use crate::path::{Step, taken};
 use crate::progress::Progress;
 use crate::state::{State, first_state};
@@ -36,6 +36,9 @@ pub enum Found {
 
 /// How many states for each operation are looked at without the rules that take time at each.
 const PLAIN_STATES: u64 = 8;
+
+/// Where no more operations than these lie between the first and the last that can come next, the plain search is the first.
+const FEW_NEXT: usize = 28;
 
 /// After how many states for each operation the search of a granule that is mostly written begins again.
 const SPAN_STATES: u64 = 64;
@@ -176,10 +179,121 @@ fn search<P: Progress>(
     Ok(Found::Undecided)
 }
 
+// How many operations at most lie between the first that is left and the last that can come next, it among them.
+fn most_next(ops: &[Observed], earliest: &[u64]) -> usize {
+    let mut most: usize = 0;
+    let mut past: usize = 0;
+    for place in 0..ops.len() {
+        while past < ops.len() && past < earliest.len() && earliest[past] <= ops[place].end {
+            past += 1;
+        }
+        most = most.max(past.saturating_sub(place));
+    }
+    most
+}
+
+// Whether an operation is seen at once to find what no other can leave, or the end to have it.
+fn is_hopeless(
+    alloc: Global,
+    ops: &[Observed],
+    earliest: &[u64],
+    word: u64,
+    last: Option<u64>,
+) -> Result<bool, AllocError>
+    requires within { AreWithin ops.now }
+    requires earliest { AreEarliest ops.now earliest.now }
+    ensures { IfOk result (λ is. IsTrue is → (order : List ℕ) → Finishes ops.now (is_place ops.now) word last order → ⊥) }
+{
+    let effects = effects_of(alloc, ops)?;
+    let first = first_state(alloc, word);
+    Ok(lacks_maker(
+        ops,
+        &effects,
+        earliest,
+        last,
+        &first,
+        u64::MAX,
+        u64::MAX,
+        u64::MAX,
+        LOOKED_AT,
+        0,
+    ))
+}
+
+// Searches as `order_of` does with all rules. Where most are writes and that takes long, the parts of four bytes are asked too,
+// and the search begins again from time to time.
+fn search_by_rules<P: Progress>(
+    alloc: Global,
+    ops: &[Observed],
+    earliest: &[u64],
+    word: u64,
+    last: Option<u64>,
+    budget: &mut u64,
+    progress: &mut P,
+) -> Result<Found, AllocError>
+    requires sorted { AreSorted ops.now }
+    requires within { AreWithin ops.now }
+    requires earliest { AreEarliest ops.now earliest.now }
+    ensures order { IfOk result (λ found. IfOrder found (λ order. Finishes ops.now (is_place ops.now) word last order)) }
+    ensures nothing { IfOk result (λ found. IfNothing found ((order : List ℕ) → Finishes ops.now (is_place ops.now) word last order → ⊥)) }
+    ensures undecided { IfOk result (λ found. IfUndecided found (budget.new ≡ 0)) }
+    ensures spends { IfOk result (λ found. (budget.new ≤ budget.old) × LookedMore P.looked progress.old progress.new (budget.old - budget.new)) }
+{
+    let effects = effects_of(alloc, ops)?;
+    let mut parts = parts_of(alloc, ops, last)?;
+    if !are_mostly_writes(ops) {
+        return search(
+            alloc,
+            ops,
+            &effects,
+            earliest,
+            &mut parts,
+            word,
+            last,
+            u64::MAX,
+            budget,
+            progress,
+        );
+    }
+    let span = (ops.len() as u64).saturating_mul(SPAN_STATES);
+    let short = span.min(*budget);
+    let mut left = short;
+    let found = search(
+        alloc,
+        ops,
+        &effects,
+        earliest,
+        &mut parts,
+        word,
+        last,
+        u64::MAX,
+        &mut left,
+        progress,
+    )?;
+    *budget -= short - left;
+    if let Found::Order(_) | Found::Nothing = found {
+        return Ok(found);
+    }
+    let mut more_parts = parts_of(alloc, ops, last)?;
+    add_parts(alloc, ops, last, 4, &mut more_parts)?;
+    search(
+        alloc,
+        ops,
+        &effects,
+        earliest,
+        &mut more_parts,
+        word,
+        last,
+        span,
+        budget,
+        progress,
+    )
+}
+
 /// Searches for an order of the operations of one granule, from its word at the opening on, which leaves `last` where that was
 /// observed. The operations stand in the order of their ends (`are_searchable`). `budget` is how many states may be looked
-/// at beside the first, and is left with how many more might have been; no more than eight for each operation are where one is
-/// seen to find what no other can leave.
+/// at beside the first, and is left with how many more might have been. Where an operation is seen at once to find what no other
+/// can leave none of it is spent, or no more than eight for each operation where few can come next.
 ///
 /// Source: profile.
 ///
@@ -207,6 +321,10 @@ pub fn order_of<P: Progress>(
     ensures spends { IfOk result (λ found. (budget.new ≤ budget.old) × LookedMore P.looked progress.old progress.new (budget.old - budget.new)) }
 {
     let earliest = earliest_starts(alloc, ops)?;
+    let is_hot = most_next(ops, &earliest) > FEW_NEXT;
+    if is_hot && is_hopeless(alloc, ops, &earliest, word, last)? {
+        return Ok(Found::Nothing);
+    }
     // Most operations have an order that a plain search finds at once.
     let plain = (ops.len() as u64).saturating_mul(PLAIN_STATES).min(*budget);
     let mut left = plain;
@@ -226,29 +344,8 @@ pub fn order_of<P: Progress>(
     if let Found::Order(_) | Found::Nothing = found {
         return Ok(found);
     }
-    let effects = effects_of(alloc, ops)?;
-    let first = first_state(alloc, word);
-    if lacks_maker(
-        ops,
-        &effects,
-        &earliest,
-        last,
-        &first,
-        u64::MAX,
-        u64::MAX,
-        u64::MAX,
-        LOOKED_AT,
-        0,
-    ) {
+    if !is_hot && is_hopeless(alloc, ops, &earliest, word, last)? {
         return Ok(Found::Nothing);
     }
-    let mut parts = parts_of(alloc, ops, last)?;
-    let span = if are_mostly_writes(ops) {
-        (ops.len() as u64).saturating_mul(SPAN_STATES)
-    } else {
-        u64::MAX
-    };
-    search(
-        alloc, ops, &effects, &earliest, &mut parts, word, last, span, budget, progress,
-    )
+    search_by_rules(alloc, ops, &earliest, word, last, budget, progress)
 }

@@ -38,8 +38,8 @@ pub(crate) fn are_mostly_writes(ops: &[Observed]) -> bool {
     count >= ops.len() / 2
 }
 
-// Adds the parts of so many bytes.
-fn add_parts(
+/// Adds the parts of so many bytes.
+pub(crate) fn add_parts(
     alloc: Global,
     ops: &[Observed],
     last: Option<u64>,
@@ -59,7 +59,7 @@ fn add_parts(
 }
 
 /// The parts of a word: of a byte where all but one in sixteen of the operations lie within one, else of two bytes where at least
-/// a quarter lie within two; and of four bytes too where at least half are writes.
+/// a quarter lie within two, else none.
 pub(crate) fn parts_of(
     alloc: Global,
     ops: &[Observed],
@@ -74,9 +74,6 @@ pub(crate) fn parts_of(
     }
     if count_within(ops, 2) >= ops.len() / 4 {
         add_parts(alloc, ops, last, 2, &mut parts)?;
-    }
-    if are_mostly_writes(ops) {
-        add_parts(alloc, ops, last, 4, &mut parts)?;
     }
     Ok(parts)
 }
