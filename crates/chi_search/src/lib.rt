@@ -22,6 +22,7 @@ mod passing;
 mod path;
 mod progress;
 mod searchable;
+mod searching;
 mod settled;
 mod state;
 mod states;

@@ -12,7 +12,7 @@ use Rattle.chi_search.proofs.Looking.{none_more, one_more, spent_after}
 use Rattle.chi_search.proofs.Moves.{ended}
 use Rattle.chi_search.proofs.Paths.{moves_ready, none_tried, tried_back, tried_on, walks_back, walks_end, walks_on}
 use Rattle.chi_search.proofs.Start.{at_start, from_start, more_dead, none_dead, ready_at_start}
-use Rattle.chi_search.proofs.order.search.Goals as goal
+use Rattle.chi_search.proofs.searching.search.Goals as goal
 
 pub loop-budget-init : goal.loop-budget-init
 unfolding Walks
