@@ -142,7 +142,8 @@ enum Choice {
 /// A step of a path: the state from which it was made, the operation, and the place before which all were tried.
 type Step = (State, Option<usize>, usize);
 
-/// Two bytes of the word, with states from which no order goes on there, and states from which one does.
+/// A run of bytes of the word, with states from which no order goes on there, and states from which one does. Their words have
+/// the bits of the mask alone.
 struct Part {
     mask: u64,
     dead: Dead,
@@ -161,6 +162,12 @@ struct Search<'a> {
 
 /// How many states for each operation are looked at without the rules.
 const PLAIN_STATES: u64 = 8;
+
+/// Where no more operations than these lie between the first and the last that can come next, the plain search is the first.
+const FEW_NEXT: usize = 28;
+
+/// After how many states for each operation the search of a granule that is mostly written begins again.
+const SPAN_STATES: u64 = 64;
 
 /// How many operations are looked at for makers at a state, and before the search.
 const LOOKED_AT: [usize; 2] = [64, 1000];
@@ -225,6 +232,31 @@ impl Search<'_> {
         })
     }
 
+    /// How many operations at most lie between the first that is left and the last that can come next, it among them.
+    fn most_next(&self) -> usize {
+        let mut past = 0;
+        let mut most = 0;
+        for place in 0..self.ops.len() {
+            while past < self.ops.len() && self.earliest[past] <= self.ops[place].end {
+                past += 1;
+            }
+            most = most.max(past - place);
+        }
+        most
+    }
+
+    /// Whether an operation is seen at once to find what no other can leave, or the end to have it.
+    fn is_hopeless(&mut self, word: u64) -> bool {
+        let start = State {
+            word,
+            ..State::default()
+        };
+        self.effects = self.ops.iter().map(effect).collect();
+        let is = self.lacks_maker(&start, u64::MAX, [u64::MAX; 2], LOOKED_AT[1], 0);
+        self.effects.clear();
+        is
+    }
+
     fn is_left(&self, state: &State, place: usize) -> bool {
         place >= state.first && !state.is_settled(place)
     }
@@ -287,7 +319,17 @@ impl Search<'_> {
     }
 
     /// Whether, in the bits of the mask, an operation must find, or the end must have, what nothing can leave.
-    fn lacks_maker(&self, state: &State, mask: u64, time: u64, count: usize, depth: usize) -> bool {
+    /// Of the operations that are looked at those are asked that start by the second time, and a run is followed back from those
+    /// that start by the first.
+    fn lacks_maker(
+        &self,
+        state: &State,
+        mask: u64,
+        times: [u64; 2],
+        count: usize,
+        depth: usize,
+    ) -> bool {
+        let [time, until] = times;
         if self
             .last
             .is_some_and(|seen| self.is_out_of_reach(state, NONE_LATER, (seen, mask), mask, depth))
@@ -295,14 +337,19 @@ impl Search<'_> {
             return true;
         }
         (state.first..self.ops.len().min(state.first + count))
-            .take_while(|place| self.earliest[*place] <= time)
+            .take_while(|place| self.earliest[*place] <= until)
             .filter(|place| {
                 let op = &self.ops[*place];
-                op.start <= time && op.reply.is_some() && self.is_left(state, *place)
+                op.start <= until && op.reply.is_some() && self.is_left(state, *place)
             })
             .any(|place| {
                 let it = &self.effects[place];
                 let wanted = (it.found, it.found_mask & mask);
+                let depth = if self.ops[place].start <= time {
+                    depth
+                } else {
+                    0
+                };
                 self.is_out_of_reach(state, [Some(place), None, None, None], wanted, mask, depth)
             })
     }
@@ -358,7 +405,9 @@ impl Search<'_> {
             return if differs { Choice::Dead } else { Choice::Ended };
         }
         let end = self.ops[state.first].end;
-        if tried <= state.first && self.lacks_maker(state, part.mask, end, LOOKED_AT[0], FOLLOWED) {
+        let times = [end, u64::MAX];
+        if tried <= state.first && self.lacks_maker(state, part.mask, times, LOOKED_AT[0], FOLLOWED)
+        {
             return Choice::Dead;
         }
         for place in self.places(state, tried) {
@@ -367,7 +416,7 @@ impl Search<'_> {
                 return Choice::Ended;
             };
             for word in words.into_iter().flatten() {
-                let next = self.absorb(part.mask, state.settled(place, word));
+                let next = self.absorb(part.mask, state.settled(place, word & part.mask));
                 if !part.dead.has(&next) {
                     return Choice::Step(Some(place), place, next);
                 }
@@ -384,7 +433,14 @@ impl Search<'_> {
 
     /// Whether no order goes on from a state in a part.
     fn lacks_order(&mut self, part: &mut Part, from: &State) -> bool {
-        let mut state = self.absorb(part.mask, from.clone());
+        let word = from.word & part.mask;
+        let mut state = self.absorb(
+            part.mask,
+            State {
+                word,
+                ..from.clone()
+            },
+        );
         if part.dead.has(&state) {
             return true;
         }
@@ -422,8 +478,27 @@ impl Search<'_> {
         }
     }
 
-    /// What can be done at a state, of which the operations before a place were tried.
-    fn choose(&self, state: &State, tried: usize) -> Choice {
+    /// The operation that changes the fewest bits, of those that lead to a state that is not known to be dead, and that state.
+    fn narrowest_next(&self, state: &State) -> Option<(usize, State)> {
+        let mut found = None;
+        let mut least = u32::MAX;
+        for place in self.places(state, state.first) {
+            let bits = self.effects[place].changed.count_ones();
+            if bits < least
+                && let Some(after) = self.after(state, place)
+            {
+                let next = state.settled(place, after);
+                if !self.dead.has(&next) && !self.has_equal_before(state, place) {
+                    (least, found) = (bits, Some((place, next)));
+                }
+            }
+        }
+        found
+    }
+
+    /// What can be done at a state, of which the operations before a place were tried. `by_width` says whether what changes fewer
+    /// bits is tried first.
+    fn choose(&self, state: &State, tried: usize, by_width: bool) -> Choice {
         if state.first >= self.ops.len() {
             let has_ended = self.last.is_none_or(|last| last == state.word);
             return if has_ended {
@@ -438,7 +513,7 @@ impl Search<'_> {
                 return self.only(state.settled(place, state.word), place);
             }
             let end = self.ops[state.first].end;
-            if with_rules && self.lacks_maker(state, u64::MAX, end, LOOKED_AT[0], FOLLOWED) {
+            if with_rules && self.lacks_maker(state, u64::MAX, [end; 2], LOOKED_AT[0], FOLLOWED) {
                 return Choice::Dead;
             }
             if with_rules && let Some(place) = self.commuting_next(state) {
@@ -447,6 +522,9 @@ impl Search<'_> {
                     None => Choice::Dead,
                 };
             }
+        }
+        if by_width && let Some((place, next)) = self.narrowest_next(state) {
+            return Choice::Step(Some(place), tried, next);
         }
         for place in self.places(state, tried) {
             if let Some(after) = self.after(state, place) {
@@ -466,8 +544,14 @@ impl Search<'_> {
     }
 }
 
-/// Searches from a word on: an order, `None` within where there is none, and without where the budget was spent.
-fn search(search: &mut Search, parts: &mut [Part], word: u64) -> Option<Option<Vec<usize>>> {
+/// Searches from a word on: an order, `None` within where there is none, and without where the budget was spent. After each `span`
+/// states it begins again, and tries what changes fewer bits first every other time.
+fn search(
+    search: &mut Search,
+    parts: &mut [Part],
+    word: u64,
+    span: u64,
+) -> Option<Option<Vec<usize>>> {
     let mut state = State {
         word,
         ..State::default()
@@ -475,6 +559,8 @@ fn search(search: &mut Search, parts: &mut [Part], word: u64) -> Option<Option<V
     let mut path: Vec<Step> = Vec::new();
     let mut tried = 0;
     let mut is_new = true;
+    let mut by_width = false;
+    let mut due = search.left.saturating_sub(span);
     while search.left > 0 {
         let is_dead = is_new
             && parts
@@ -483,7 +569,7 @@ fn search(search: &mut Search, parts: &mut [Part], word: u64) -> Option<Option<V
         let choice = if is_dead {
             Choice::Dead
         } else {
-            search.choose(&state, tried)
+            search.choose(&state, tried, by_width)
         };
         let (op, place, next) = match choice {
             Choice::Ended => {
@@ -508,10 +594,47 @@ fn search(search: &mut Search, parts: &mut [Part], word: u64) -> Option<Option<V
             }
         };
         search.left = search.left.saturating_sub(1);
+        if search.left <= due {
+            path.clear();
+            state = State {
+                word,
+                ..State::default()
+            };
+            (tried, is_new, by_width) = (0, true, !by_width);
+            due = search.left.saturating_sub(span);
+            continue;
+        }
         tried = next.first;
         path.push((std::mem::replace(&mut state, next), op, place));
     }
     None
+}
+
+fn are_mostly_writes(ops: &[Observed]) -> bool {
+    let writes = ops.iter().filter(|op| op.access.kind == Kind::Write);
+    writes.count() >= ops.len() / 2
+}
+
+/// The parts of a word that have so many bytes.
+fn parts_of_length(len: usize) -> impl Iterator<Item = Part> {
+    (0..8).step_by(len).map(move |byte| Part {
+        mask: (u64::MAX >> (64 - 8 * len)) << (8 * byte),
+        dead: Dead::default(),
+        alive: Dead::default(),
+    })
+}
+
+/// The parts of a word that are asked: of a byte where all but one in sixteen of the operations lie within one, else of two bytes
+/// where at least a quarter lie within two, else none.
+fn parts_of(ops: &[Observed]) -> Vec<Part> {
+    let within = |len: u8| ops.iter().filter(|op| op.access.len <= len).count();
+    if within(1) >= ops.len() - ops.len() / 16 {
+        return parts_of_length(1).collect();
+    }
+    if within(2) >= ops.len() / 4 {
+        return parts_of_length(2).collect();
+    }
+    Vec::new()
 }
 
 /// An order of a granule's operations, which stand by their ends; `None` within where there is none, and without where the budget
@@ -528,43 +651,49 @@ fn order_of(
         least = least.min(ops[place].start);
         earliest[place] = least;
     }
-    let effects: Vec<Effect> = ops.iter().map(effect).collect();
-    let plain = budget.min(ops.len() as u64 * PLAIN_STATES);
     let mut it = Search {
         ops,
-        effects,
+        effects: Vec::new(),
         earliest,
         last,
         dead: Dead::default(),
-        left: plain,
+        left: 0,
     };
-    let start = State {
-        word,
-        ..State::default()
-    };
-    if it.lacks_maker(&start, u64::MAX, u64::MAX, LOOKED_AT[1], 0) {
+    let is_hot = it.most_next() > FEW_NEXT;
+    if is_hot && it.is_hopeless(word) {
         return Some(None);
     }
-    let effects = std::mem::take(&mut it.effects);
-    if let Some(found) = search(&mut it, &mut [], word) {
+    let plain = budget.min(ops.len() as u64 * PLAIN_STATES);
+    it.left = plain;
+    if let Some(found) = search(&mut it, &mut [], word, u64::MAX) {
         return Some(found);
     }
-    it.effects = effects;
-    it.dead = Dead::default();
+    if !is_hot && it.is_hopeless(word) {
+        return Some(None);
+    }
+    it.effects = ops.iter().map(effect).collect();
     it.left = budget - plain;
-    let short = ops.iter().filter(|op| op.access.len <= 2).count();
-    let parts = if short >= ops.len() / 4 { 4 } else { 0 };
-    let mut parts: Vec<Part> = (0..parts)
-        .map(|place| Part {
-            mask: 0xffff << (16 * place),
-            dead: Dead::default(),
-            alive: Dead::default(),
-        })
-        .collect();
-    search(&mut it, &mut parts, word)
+    it.dead = Dead::default();
+    let mut parts = parts_of(ops);
+    if !are_mostly_writes(ops) {
+        return search(&mut it, &mut parts, word, u64::MAX);
+    }
+    let span = ops.len() as u64 * SPAN_STATES;
+    let left = it.left;
+    let short = span.min(left);
+    it.left = short;
+    if let Some(found) = search(&mut it, &mut parts, word, u64::MAX) {
+        return Some(found);
+    }
+    it.left = left - short;
+    it.dead = Dead::default();
+    let mut more_parts = parts_of(ops);
+    more_parts.extend(parts_of_length(4));
+    search(&mut it, &mut more_parts, word, span)
 }
 
 /// Decides whether the trace can be explained, over at most so many states of each granule.
+#[inline(never)]
 pub fn explain(trace: &Trace, budget: u64) -> Verdict {
     let mut places: Vec<usize> = (0..trace.ops.len()).collect();
     places.sort_by_key(|op| (trace.ops[*op].granule(), trace.ops[*op].end));

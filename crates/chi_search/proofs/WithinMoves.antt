@@ -1,6 +1,7 @@
 -- the moves of a search in the bits of a mask, and the orders that go on from a position
-use Rattle.std.proofs.Common.{◌≡◌, ℕ, suc, zero, ◌<◌, ◌≤◌, ◌⊎◌, Bool, true, false, not, true≢false, List, [], ◌∷◌, length, Option, IfSome, refl, sym, subst, arith, inl, inr}
+use Rattle.std.proofs.Common.{◌≡◌, ℕ, suc, zero, ◌<◌, ◌≤◌, ◌⊎◌, Bool, true, false, not, true≢false, List, [], ◌∷◌, length, Option, IfSome, bit_and, refl, sym, subst, arith, inl, inr}
 use Rattle.std.proofs.lemmas.Bool.{cases_lt}
+use Rattle.std.proofs.lemmas.Nat.Bits.{bit_at-lt, bit_at_and}
 use Rattle.chi_trace.specs.declared.observed.Observed.{Observed}
 use Rattle.chi_trace.specs.Explains.{IsInTime, at, times_in}
 use Rattle.chi_search.specs.declared.path.Step.{Step}
@@ -118,8 +119,17 @@ pub is_not : (b : Bool) → not b ≡ false → b ≡ true
 is_not true none = refl
 is_not false none = absurd (true≢false none)
 
--- a position is dead where one is that was reached from a copy of it
-pub dead_from : (mask : ℕ) (ops : List Observed) (last : Option ℕ) (from copy reached start : Position) → copy ≡ from → GoesOnWithin mask ops copy reached
-    → start ≡ reached → IsDeadWithin mask ops last start → IsDeadWithin mask ops last from
+-- a word's bits of the mask are those that it has there
+pub agree_and : (mask w : ℕ) → Agree mask w (bit_and w mask)
+agree_and mask w k one = omega (arith, bit_at_and w mask k, one, bit_at-lt w k)
+
+-- a position is dead where one is that was reached from a copy of it, of whose word the bits of the mask were kept
+pub dead_from : (mask : ℕ) (ops : List Observed) (last : Option ℕ) (from copy reached start : Position) → copy ≡ from
+    → GoesOnWithin mask ops (record copy { word = bit_and copy.word mask }) reached → start ≡ reached → IsDeadWithin mask ops last start → IsDeadWithin mask ops last from
 dead_from mask ops last from copy reached start same goes here dead ends =
-    dead (subst (EndsWithin mask ops last) (sym here) (goes last (subst (EndsWithin mask ops last) (sym same) ends)))
+    let there : EndsWithin mask ops last copy = subst (EndsWithin mask ops last) (sym same) ends in
+    dead (subst (EndsWithin mask ops last) (sym here) (goes last (
+      there.0,
+      same_word mask ops (is_left (length ops) copy) copy.word (bit_and copy.word mask) last there.0
+          (turned mask copy.word (bit_and copy.word mask) (agree_and mask copy.word)) there.1,
+    )))

@@ -15,6 +15,7 @@ use crate::commuting::commuting_next;
 use crate::effect::Effect;
 use crate::equal::has_equal_before;
 use crate::makers::{FOLLOWED, lacks_maker};
+use crate::narrowest::narrowest_next;
 use crate::state::{State, is_left, settle};
 use crate::states::{States, has};
 use crate::step::{stays, step};
@@ -122,7 +123,8 @@ pub(crate) fn leave_out(
 
 /// What can be done at a state, from which `next` is the next one, where the operations before the place `tried` were tried.
 /// `earliest` has the earliest start from each place on, and `dead` is a set of states from which no order goes on. `effects` has
-/// what is known of each operation, or is empty: then only the rule is used that takes what changes nothing.
+/// what is known of each operation, or is empty: then only the rule is used that takes what changes nothing. `by_width` says
+/// whether what changes fewer bits is tried first.
 pub(crate) fn choose(
     ops: &[Observed],
     effects: &[Effect],
@@ -131,6 +133,7 @@ pub(crate) fn choose(
     dead: &States,
     state: &State,
     tried: usize,
+    by_width: bool,
     next: &mut State,
 ) -> Result<Choice, AllocError>
     requires sorted { AreSorted ops.now }
@@ -176,6 +179,7 @@ pub(crate) fn choose(
             state,
             u64::MAX,
             end,
+            end,
             LOOKED_AT,
             FOLLOWED,
         ) {
@@ -192,6 +196,13 @@ pub(crate) fn choose(
             }
             return Ok(Choice::Dead);
         }
+    }
+    if let Some(place) = narrowest_next(ops, effects, earliest, dead, state, by_width, next)? {
+        return Ok(Choice::Step {
+            op: Some(place),
+            tried,
+            is_only: false,
+        });
     }
     let mut place = tried;
     while place < ops.len() && earliest[place] <= end {

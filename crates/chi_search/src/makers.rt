@@ -78,8 +78,8 @@ fn must_find(ops: &[Observed], state: &State, place: usize) -> bool
 }
 
 /// Whether in the bits of the mask an operation that is left must find, or the end must have, what nothing that is left can
-/// leave. So many operations from the first on are looked at, and of these the ones that start by this time. A run is followed
-/// back over `depth` operations beyond the last one.
+/// leave. So many operations from the first on are looked at, and of these the ones that start by `until`. Of those that start by
+/// `time` a run is followed back over `depth` operations beyond the last one.
 pub(crate) fn lacks_maker(
     ops: &[Observed],
     effects: &[Effect],
@@ -88,6 +88,7 @@ pub(crate) fn lacks_maker(
     state: &State,
     mask: u64,
     time: u64,
+    until: u64,
     count: usize,
     depth: usize,
 ) -> bool
@@ -106,8 +107,9 @@ pub(crate) fn lacks_maker(
         return true;
     }
     let mut place = state.first;
-    while place < ops.len() && earliest[place] <= time && place - state.first < count {
-        if ops[place].start <= time
+    while place < ops.len() && earliest[place] <= until && place - state.first < count {
+        let followed = if ops[place].start <= time { depth } else { 0 };
+        if ops[place].start <= until
             && must_find(ops, state, place)
             && is_out_of_reach(
                 ops,
@@ -118,7 +120,7 @@ pub(crate) fn lacks_maker(
                 effects[place].found,
                 effects[place].found_mask & mask,
                 mask,
-                depth,
+                followed,
             )
         {
             return true;

@@ -1,27 +1,20 @@
 //! An order of the operations of one granule.
 
-ghost use Rattle.std.specs.Prelude.{◌≡◌, ℕ, ◌-◌, ◌≤◌, ◌⊎◌, All, List, IfOk, IfSome, OnOk, length};
+ghost use Rattle.std.specs.Prelude.{◌≡◌, ℕ, ◌-◌, ◌≤◌, List, IfOk, IsTrue};
 ghost use Rattle.chi_trace.specs.Explains.{is_place};
 ghost use Rattle.chi_trace.specs.Granules.{Finishes};
-ghost use Rattle.chi_search.specs.Effects.{AreEffects};
 ghost use Rattle.chi_search.specs.Found.{IfNothing, IfOrder, IfUndecided};
 ghost use Rattle.chi_search.specs.Looks.{LookedMore};
-ghost use Rattle.chi_search.specs.Choices.{IfDead, IfEnded, IfStep, IfTried};
-ghost use Rattle.chi_search.specs.Parts.{IsPartOf};
-ghost use Rattle.chi_search.specs.Paths.{AllDead, AreEarliest, AreTried, IsDead, Moves};
-ghost use Rattle.chi_search.specs.Positions.{IsReady, position_of};
+ghost use Rattle.chi_search.specs.Paths.{AreEarliest};
 ghost use Rattle.chi_search.specs.Searchable.{AreSorted, AreWithin};
 
-use crate::choice::{Choice, choose};
 use crate::earliest::earliest_starts;
-use crate::effect::{Effect, effects_of};
+use crate::effect::effects_of;
 use crate::makers::lacks_maker;
-use crate::part::Part;
-use crate::parts::{has_dead_part, parts_of};
-use crate::path::{Step, taken};
+use crate::parts::{add_parts, are_mostly_writes, parts_of};
 use crate::progress::Progress;
-use crate::state::{State, first_state};
-use crate::states::{States, add, no_states};
+use crate::searching::search;
+use crate::state::first_state;
 use chi_trace::Observed;
 use std::alloc::{AllocError, Global};
 
@@ -37,60 +30,62 @@ pub enum Found {
 /// How many states for each operation are looked at without the rules that take time at each.
 const PLAIN_STATES: u64 = 8;
 
+/// Where no more operations than these lie between the first and the last that can come next, the plain search is the first.
+const FEW_NEXT: usize = 28;
+
+/// After how many states for each operation the search of a granule that is mostly written begins again.
+const SPAN_STATES: u64 = 64;
+
 /// How many operations are looked at for makers before the search.
 const LOOKED_AT: usize = 1000;
 
-// What can be done at a state, as `choose` says it. A state that is new is asked of the parts of its word first, where there are
-// some.
-fn decide<P: Progress>(
-    alloc: Global,
-    ops: &[Observed],
-    effects: &[Effect],
-    earliest: &[u64],
-    last: Option<u64>,
-    dead: &States,
-    parts: &mut [Part],
-    state: &State,
-    tried: usize,
-    is_new: bool,
-    next: &mut State,
-    budget: &mut u64,
-    progress: &mut P,
-) -> Result<Choice, AllocError>
-    requires sorted { AreSorted ops.now }
-    requires within { AreWithin ops.now }
-    requires known { AreEffects ops.now effects.now }
-    requires earliest { AreEarliest ops.now earliest.now }
-    requires ready { IsReady (length ops.now) (position_of state.now) }
-    requires tried { AreTried ops.now last (position_of state.now) tried }
-    requires parts { All (IsPartOf ops.now last) parts.now }
-    ensures ended { IfOk result (λ choice. IfEnded choice ((length ops.now ≤ state.now.first) × IfSome last (λ seen. state.now.word ≡ seen))) }
-    ensures moves { IfOk result (λ choice. IfStep choice (λ op. Moves ops.now (position_of state.now) op (position_of next.new))) }
-    ensures ready { IfOk result (λ choice. IfStep choice (λ op. IsReady (length ops.now) (position_of next.new))) }
-    ensures tried { IfOk result (λ choice. IfTried choice (λ place. AllDead ops.now last dead.now → AreTried ops.now last (position_of state.now) place)) }
-    ensures dead { IfOk result (λ choice. IfDead choice (AllDead ops.now last dead.now → IsDead ops.now last (position_of state.now))) }
-    ensures parts { OnOk result (All (IsPartOf ops.now last) parts.new) }
-    ensures spends { IfOk result (λ choice. (budget.new ≤ budget.old) × LookedMore P.looked progress.old progress.new (budget.old - budget.new)) }
-{
-    if is_new
-        && effects.len() >= ops.len()
-        && has_dead_part(
-            alloc, ops, effects, earliest, last, parts, state, budget, progress,
-        )?
-    {
-        return Ok(Choice::Dead);
+// How many operations at most lie between the first that is left and the last that can come next, it among them.
+fn most_next(ops: &[Observed], earliest: &[u64]) -> usize {
+    let mut most: usize = 0;
+    let mut past: usize = 0;
+    for place in 0..ops.len() {
+        while past < ops.len() && past < earliest.len() && earliest[past] <= ops[place].end {
+            past += 1;
+        }
+        most = most.max(past.saturating_sub(place));
     }
-    choose(ops, effects, earliest, last, dead, state, tried, next)
+    most
 }
 
-// Searches as `order_of` does, from the start on. `effects` has what is known of each operation, or is empty: then it goes
-// without the rules that take time at each state. `parts` are those of the word that are asked, or none.
-fn search<P: Progress>(
+// Whether an operation is seen at once to find what no other can leave, or the end to have it.
+fn is_hopeless(
     alloc: Global,
     ops: &[Observed],
-    effects: &[Effect],
     earliest: &[u64],
-    parts: &mut [Part],
+    word: u64,
+    last: Option<u64>,
+) -> Result<bool, AllocError>
+    requires within { AreWithin ops.now }
+    requires earliest { AreEarliest ops.now earliest.now }
+    ensures { IfOk result (λ is. IsTrue is → (order : List ℕ) → Finishes ops.now (is_place ops.now) word last order → ⊥) }
+{
+    let effects = effects_of(alloc, ops)?;
+    let first = first_state(alloc, word);
+    Ok(lacks_maker(
+        ops,
+        &effects,
+        earliest,
+        last,
+        &first,
+        u64::MAX,
+        u64::MAX,
+        u64::MAX,
+        LOOKED_AT,
+        0,
+    ))
+}
+
+// Searches as `order_of` does with all rules. Where most are writes and that takes long, the parts of four bytes are asked too,
+// and the search begins again from time to time.
+fn search_by_rules<P: Progress>(
+    alloc: Global,
+    ops: &[Observed],
+    earliest: &[u64],
     word: u64,
     last: Option<u64>,
     budget: &mut u64,
@@ -98,69 +93,67 @@ fn search<P: Progress>(
 ) -> Result<Found, AllocError>
     requires sorted { AreSorted ops.now }
     requires within { AreWithin ops.now }
-    requires known { AreEffects ops.now effects.now }
     requires earliest { AreEarliest ops.now earliest.now }
-    requires parts { All (IsPartOf ops.now last) parts.now }
     ensures order { IfOk result (λ found. IfOrder found (λ order. Finishes ops.now (is_place ops.now) word last order)) }
     ensures nothing { IfOk result (λ found. IfNothing found ((order : List ℕ) → Finishes ops.now (is_place ops.now) word last order → ⊥)) }
     ensures undecided { IfOk result (λ found. IfUndecided found (budget.new ≡ 0)) }
     ensures spends { IfOk result (λ found. (budget.new ≤ budget.old) × LookedMore P.looked progress.old progress.new (budget.old - budget.new)) }
 {
-    let mut dead = no_states(alloc);
-    let mut path: Vec<Step> = Vec::new(alloc);
-    let mut state = first_state(alloc, word);
-    let mut next = first_state(alloc, word);
-    let mut tried = 0;
-    let mut is_new = true;
-    while *budget > 0 {
-        match decide(
-            alloc, ops, effects, earliest, last, &dead, parts, &state, tried, is_new, &mut next,
-            budget, progress,
-        )? {
-            Choice::Ended => {
-                let order = taken(alloc, &path)?;
-                return Ok(Found::Order(order));
-            }
-            Choice::Step {
-                op,
-                tried: place,
-                is_only,
-            } => {
-                if *budget == 0 {
-                    return Ok(Found::Undecided);
-                }
-                *budget -= 1;
-                progress.look();
-                path.push(Step {
-                    from: state,
-                    op,
-                    tried: place,
-                })?;
-                state = next;
-                tried = state.first;
-                is_new = !is_only;
-                next = first_state(alloc, word);
-            }
-            Choice::Dead => {
-                add(alloc, &mut dead, &state)?;
-                is_new = false;
-                match path.pop() {
-                    Some(step) => {
-                        state = step.from;
-                        tried = step.tried;
-                    }
-                    None => return Ok(Found::Nothing),
-                }
-            }
-        }
+    let effects = effects_of(alloc, ops)?;
+    let mut parts = parts_of(alloc, ops, last)?;
+    if !are_mostly_writes(ops) {
+        return search(
+            alloc,
+            ops,
+            &effects,
+            earliest,
+            &mut parts,
+            word,
+            last,
+            u64::MAX,
+            budget,
+            progress,
+        );
     }
-    Ok(Found::Undecided)
+    let span = (ops.len() as u64).saturating_mul(SPAN_STATES);
+    let short = span.min(*budget);
+    let mut left = short;
+    let found = search(
+        alloc,
+        ops,
+        &effects,
+        earliest,
+        &mut parts,
+        word,
+        last,
+        u64::MAX,
+        &mut left,
+        progress,
+    )?;
+    *budget -= short - left;
+    if let Found::Order(_) | Found::Nothing = found {
+        return Ok(found);
+    }
+    let mut more_parts = parts_of(alloc, ops, last)?;
+    add_parts(alloc, ops, last, 4, &mut more_parts)?;
+    search(
+        alloc,
+        ops,
+        &effects,
+        earliest,
+        &mut more_parts,
+        word,
+        last,
+        span,
+        budget,
+        progress,
+    )
 }
 
 /// Searches for an order of the operations of one granule, from its word at the opening on, which leaves `last` where that was
 /// observed. The operations stand in the order of their ends (`are_searchable`). `budget` is how many states may be looked
-/// at beside the first, and is left with how many more might have been; none of it is spent where an operation is seen at once to
-/// find what no other can leave.
+/// at beside the first, and is left with how many more might have been. Where an operation is seen at once to find what no other
+/// can leave none of it is spent, or no more than eight for each operation where few can come next.
 ///
 /// Source: profile.
 ///
@@ -188,19 +181,8 @@ pub fn order_of<P: Progress>(
     ensures spends { IfOk result (λ found. (budget.new ≤ budget.old) × LookedMore P.looked progress.old progress.new (budget.old - budget.new)) }
 {
     let earliest = earliest_starts(alloc, ops)?;
-    let effects = effects_of(alloc, ops)?;
-    let first = first_state(alloc, word);
-    if lacks_maker(
-        ops,
-        &effects,
-        &earliest,
-        last,
-        &first,
-        u64::MAX,
-        u64::MAX,
-        LOOKED_AT,
-        0,
-    ) {
+    let is_hot = most_next(ops, &earliest) > FEW_NEXT;
+    if is_hot && is_hopeless(alloc, ops, &earliest, word, last)? {
         return Ok(Found::Nothing);
     }
     // Most operations have an order that a plain search finds at once.
@@ -214,17 +196,16 @@ pub fn order_of<P: Progress>(
         &mut [],
         word,
         last,
+        u64::MAX,
         &mut left,
         progress,
     )?;
     *budget -= plain - left;
-    match found {
-        Found::Undecided => {
-            let mut parts = parts_of(alloc, ops, last)?;
-            search(
-                alloc, ops, &effects, &earliest, &mut parts, word, last, budget, progress,
-            )
-        }
-        _ => Ok(found),
+    if let Found::Order(_) | Found::Nothing = found {
+        return Ok(found);
     }
+    if !is_hot && is_hopeless(alloc, ops, &earliest, word, last)? {
+        return Ok(Found::Nothing);
+    }
+    search_by_rules(alloc, ops, &earliest, word, last, budget, progress)
 }

@@ -1,6 +1,6 @@
-//! The search in two bytes of a granule: whether the operations that are left have an order there.
+//! The search in a run of bytes of a granule: whether the operations that are left have an order there.
 
-ghost use Rattle.std.specs.Prelude.{◌≡◌, ℕ, ◌-◌, ◌<◌, ◌≤◌, IfOk, IfSome, IsTrue, List, None, OnOk, Option, false, length};
+ghost use Rattle.std.specs.Prelude.{◌≡◌, ℕ, ◌+◌, ◌-◌, ◌<◌, ◌≤◌, IfOk, IfSome, IsTrue, List, None, OnOk, Option, false, length};
 ghost use Rattle.chi_trace.specs.Explains.{at};
 ghost use Rattle.chi_search.specs.Choices.{IfDead, IfStep, IfTried};
 ghost use Rattle.chi_search.specs.Effects.{AreEffects};
@@ -41,13 +41,14 @@ pub(crate) struct Part {
     pub alive: States,
 }
 
-/// The two bytes from this one on, of which no state is known.
-pub(crate) fn part_from(alloc: Global, byte: usize) -> Part
-    requires { byte ≤ 6 }
+/// So many bytes from this one on, of which no state is known.
+pub(crate) fn part_from(alloc: Global, byte: usize, len: usize) -> Part
+    requires some { 1 ≤ len }
+    requires room { byte + len ≤ 8 }
     ensures { (ops : List Observed) → (last : Option ℕ) → IsPartOf ops last result }
 {
     Part {
-        mask: lane_mask(byte, 2),
+        mask: lane_mask(byte, len),
         dead: no_states(alloc),
         alive: no_states(alloc),
     }
@@ -74,7 +75,7 @@ fn leads_on(
     ensures ready { OnOk result (IsReady (length ops.now) (position_of next.new)) }
     ensures dead { IfOk result (λ is. is ≡ false → (last : Option ℕ) → AllDeadWithin part.now.mask ops.now last part.now.dead → GoesOnBy part.now.mask ops.now last (position_of state.now) place word → ⊥) }
 {
-    settle(state, ops.len(), place, word, next)?;
+    settle(state, ops.len(), place, word & part.mask, next)?;
     absorb(ops, effects, earliest, part.mask, next, spare)?;
     Ok(!has(&part.dead, next))
 }
@@ -226,7 +227,16 @@ fn choose_within(
     let end = ops[state.first].end;
     if tried <= state.first
         && lacks_maker(
-            ops, effects, earliest, last, state, part.mask, end, LOOKED_AT, FOLLOWED,
+            ops,
+            effects,
+            earliest,
+            last,
+            state,
+            part.mask,
+            end,
+            u64::MAX,
+            LOOKED_AT,
+            FOLLOWED,
         )
     {
         return Ok(Choice::Dead);
@@ -289,6 +299,7 @@ pub(crate) fn lacks_order<P: Progress>(
     ensures spends { IfOk result (λ is. (budget.new ≤ budget.old) × LookedMore P.looked progress.old progress.new (budget.old - budget.new)) }
 {
     let mut state = copy_of(alloc, from)?;
+    state.word &= part.mask;
     let mut next = first_state(alloc, 0);
     let mut spare = first_state(alloc, 0);
     absorb(ops, effects, earliest, part.mask, &mut state, &mut spare)?;

@@ -1,4 +1,4 @@
-//! The word of a granule in parts of two bytes, which are asked whether the search can go on.
+//! The word of a granule in parts of one, two or four bytes, which are asked whether the search can go on.
 
 ghost use Rattle.std.specs.Prelude.{◌-◌, ◌≤◌, All, IfOk, IsTrue, OnOk, length};
 ghost use Rattle.chi_search.specs.Effects.{AreEffects};
@@ -12,21 +12,54 @@ use crate::effect::Effect;
 use crate::part::{Part, lacks_order, part_from};
 use crate::progress::Progress;
 use crate::state::State;
+use chi_fields::Kind;
 use chi_trace::Observed;
 use std::alloc::{AllocError, Global};
 
-// How many of the operations lie within two bytes.
-fn count_within(ops: &[Observed]) -> usize {
+// How many of the operations lie within so many bytes.
+fn count_within(ops: &[Observed], len: usize) -> usize {
     let mut count: usize = 0;
     for op in ops {
-        if op.access.len() <= 2 {
+        if op.access.len() <= len {
             count = count.saturating_add(1);
         }
     }
     count
 }
 
-/// The four parts of a word, or none where fewer than a quarter of the operations lie within one.
+/// Whether at least half of the operations are writes.
+pub(crate) fn are_mostly_writes(ops: &[Observed]) -> bool {
+    let mut count: usize = 0;
+    for op in ops {
+        if let Kind::Write = op.access.kind() {
+            count = count.saturating_add(1);
+        }
+    }
+    count >= ops.len() / 2
+}
+
+/// Adds the parts of so many bytes.
+pub(crate) fn add_parts(
+    alloc: Global,
+    ops: &[Observed],
+    last: Option<u64>,
+    len: usize,
+    parts: &mut Vec<Part>,
+) -> Result<(), AllocError>
+    requires some { 1 ≤ len }
+    requires parts { All (IsPartOf ops.now last) parts.now.items }
+    ensures { OnOk result (All (IsPartOf ops.now last) parts.new.items) }
+{
+    let mut byte: usize = 0;
+    while byte < 8 && len <= 8 - byte {
+        parts.push(part_from(alloc, byte, len))?;
+        byte += len;
+    }
+    Ok(())
+}
+
+/// The parts of a word: of a byte where all but one in sixteen of the operations lie within one, else of two bytes where at least
+/// a quarter lie within two, else none.
 pub(crate) fn parts_of(
     alloc: Global,
     ops: &[Observed],
@@ -35,13 +68,12 @@ pub(crate) fn parts_of(
     ensures { IfOk result (λ parts. All (IsPartOf ops.now last) parts.items) }
 {
     let mut parts = Vec::new(alloc);
-    let count = if count_within(ops) >= ops.len() / 4 {
-        4
-    } else {
-        0
-    };
-    for place in 0..count {
-        parts.push(part_from(alloc, 2 * place))?;
+    if ops.len() - ops.len() / 16 <= count_within(ops, 1) {
+        add_parts(alloc, ops, last, 1, &mut parts)?;
+        return Ok(parts);
+    }
+    if count_within(ops, 2) >= ops.len() / 4 {
+        add_parts(alloc, ops, last, 2, &mut parts)?;
     }
     Ok(parts)
 }

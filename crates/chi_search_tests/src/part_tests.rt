@@ -1,7 +1,7 @@
-//! Tests of searches that end since two bytes of the word have no order by themselves.
+//! Tests of searches that end since some bytes of the word have no order by themselves, or go on by what they tell.
 
 use crate::comparison::assert_same;
-use crate::operations::{READ, STORE_ADD, WRITE, done_at, order, told};
+use crate::operations::{READ, STORE_ADD, WRITE, done, done_at, order, told};
 use chi_trace::Observed;
 use std::alloc::Global;
 use std::test::Fail;
@@ -32,5 +32,39 @@ fn bytes_that_an_order_leaves(rt: HostRuntime) -> Result<(), Fail> {
     let mut budget = 1000;
     let found = order(rt.alloc(), &right, None, &mut budget)?;
     assert_same(&rt, (found.len(), found.last().copied()), (15, Some(14)));
+    Ok(())
+}
+
+// Four writes of each byte, of 1 to 4, all open at once.
+fn writes_of_bytes(alloc: Global) -> Result<Vec<Observed>, Fail> {
+    let mut ops = Vec::new(alloc);
+    for number in 1..5 {
+        for byte in 0..8 {
+            ops.push(done_at((0, 10), WRITE, byte, number * 0x0101_0101_0101_0101)?)?;
+        }
+    }
+    Ok(ops)
+}
+
+#[test]
+fn writes_of_a_byte_before_a_read(rt: HostRuntime) -> Result<(), Fail> {
+    let mut ops = writes_of_bytes(rt.alloc())?;
+    ops.push(told((11, 20), READ, 0, 0x0102_0304_0403_0201)?)?;
+    let mut budget = 450;
+    let found = order(rt.alloc(), &ops, None, &mut budget)?;
+    assert_same(&rt, (found.len(), found.last().copied()), (33, Some(32)));
+    Ok(())
+}
+
+#[test]
+fn writes_of_all_bytes_among_them(rt: HostRuntime) -> Result<(), Fail> {
+    let mut ops = writes_of_bytes(rt.alloc())?;
+    for number in 5..9 {
+        ops.push(done((0, 10), WRITE, number * 0x0101_0101_0101_0101)?)?;
+    }
+    ops.push(told((11, 20), READ, 0, 0x0808_0308_0808_0201)?)?;
+    let mut budget = 1000;
+    let found = order(rt.alloc(), &ops, None, &mut budget)?;
+    assert_same(&rt, (found.len(), found.last().copied()), (37, Some(36)));
     Ok(())
 }

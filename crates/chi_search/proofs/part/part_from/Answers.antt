@@ -1,11 +1,10 @@
--- two bytes are a run
-use Rattle.std.proofs.Common.{arith}
+-- so many bytes are a run
 use Rattle.chi_search.specs.Within.{IsDeadWithin}
 use Rattle.chi_search.proofs.Start.{none_of}
 use Rattle.chi_search.proofs.part.part_from.Goals as goal
 
 pub returns : goal.returns
 returns c ops last = record {
-  run = record { lane = c.args.byte; len = 2; some = omega arith; room = omega (arith, c.requires); number = c.lane_mask.ensures.number };
+  run = record { lane = c.args.byte; len = c.args.len; some = c.requires.some; room = c.requires.room; number = c.lane_mask.ensures.number };
   dead = none_of (IsDeadWithin c.lane_mask.result ops last) c.no_states.result c.no_states.ensures;
 }

@@ -4,10 +4,10 @@ use Rattle.chi_search.specs.Paths.{IsDead}
 use Rattle.chi_search.specs.Positions.{Position, position_of}
 use Rattle.chi_search.proofs.Start.{at_start}
 use Rattle.chi_search.proofs.Within.{dead_within}
-use Rattle.chi_search.proofs.order.order_of.Goals as goal
+use Rattle.chi_search.proofs.order.is_hopeless.Goals as goal
 
-pub returns-then-lacks_maker-clause-nothing : goal.returns-then-lacks_maker-clause-nothing
-returns-then-lacks_maker-clause-nothing g c order finishes =
+pub returns : goal.returns
+returns c is order finishes =
     let below = subst (λ (p : Position). p.word < 2 ^ 64) (sym c.first_state-first.ensures) c.ranges.word.fits in
-    let dead = dead_within _ c.args.ops.now c.args.last (position_of c.first_state-first.result) below (c.lacks_maker.ensures c.if-lacks_maker.true) in
+    let dead = dead_within _ c.args.ops.now c.args.last (position_of c.first_state-first.result) below (c.lacks_maker.ensures is) in
     subst (IsDead c.args.ops.now c.args.last) c.first_state-first.ensures dead (order, at_start c.args.ops.now c.args.word c.args.last order finishes)

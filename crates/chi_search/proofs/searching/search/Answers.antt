@@ -12,7 +12,7 @@ use Rattle.chi_search.proofs.Looking.{none_more, one_more, spent_after}
 use Rattle.chi_search.proofs.Moves.{ended}
 use Rattle.chi_search.proofs.Paths.{moves_ready, none_tried, tried_back, tried_on, walks_back, walks_end, walks_on}
 use Rattle.chi_search.proofs.Start.{at_start, from_start, more_dead, none_dead, ready_at_start}
-use Rattle.chi_search.proofs.order.search.Goals as goal
+use Rattle.chi_search.proofs.searching.search.Goals as goal
 
 pub loop-budget-init : goal.loop-budget-init
 unfolding Walks
@@ -57,6 +57,27 @@ loop-budget-preserved-in-Step g c =
       before = subst (AreTriedBefore c.args.ops.now c.args.last) (sym c.in_ok-push-in-Step.ensures.items)
           (tried_on c.args.ops.now c.args.last c.loop-budget.path.items (record { from = c.loop-budget.state; op = c.in-Step.op; tried = c.in-Step.place })
           c.loop-budget.invariant.before (tried c.loop-budget.invariant.dead));
+      parts = c.in_ok-decide.ensures.parts;
+      left = omega (arith, less);
+      looked = one_more g.P.Progress.looked c.args.progress.now c.decide.new.progress c.look.new.self c.args.budget.now c.decide.new.budget less
+          (omega arith) before_look c.look.ensures;
+    }
+
+-- begun again, with the states that are dead
+pub loop-budget-preserved-then-budget-due : goal.loop-budget-preserved-then-budget-due
+unfolding Walks
+loop-budget-preserved-then-budget-due g c =
+    let less : c.decide.new.budget ≤ c.args.budget.now = omega (arith, c.in_ok-decide.ensures.spends.0, c.loop-budget.invariant.left) in
+    let before_look = spent_after g.P.Progress.looked c.args.progress.now c.loop-budget.progress c.decide.new.progress c.args.budget.now c.loop-budget.budget c.decide.new.budget
+    c.loop-budget.invariant.left c.in_ok-decide.ensures.spends.0 c.loop-budget.invariant.looked c.in_ok-decide.ensures.spends.1 in
+    record {
+      walks = subst (λ (path : List Step). Walks c.args.ops.now (start c.args.word) path (position_of c.first_state-state-then-budget-due.result))
+          (sym c.new-path-then-budget-due.ensures.items) (sym c.first_state-state-then-budget-due.ensures);
+      ready = subst (λ (p : Position). IsReady (length c.args.ops.now) p) (sym c.first_state-state-then-budget-due.ensures)
+          (ready_at_start (length c.args.ops.now) c.args.word);
+      dead = c.loop-budget.invariant.dead;
+      tried = λ i before. absurd (omega (arith, before));
+      before = subst (AreTriedBefore c.args.ops.now c.args.last) (sym c.new-path-then-budget-due.ensures.items) (All-nil _);
       parts = c.in_ok-decide.ensures.parts;
       left = omega (arith, less);
       looked = one_more g.P.Progress.looked c.args.progress.now c.decide.new.progress c.look.new.self c.args.budget.now c.decide.new.budget less

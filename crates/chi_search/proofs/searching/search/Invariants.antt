@@ -4,7 +4,7 @@ use Rattle.chi_search.specs.Looks.{LookedMore}
 use Rattle.chi_search.specs.Parts.{IsPartOf}
 use Rattle.chi_search.specs.Paths.{AllDead, AreTried, AreTriedBefore, Walks}
 use Rattle.chi_search.specs.Positions.{IsReady, position_of, start}
-use Rattle.chi_search.proofs.order.search.Given as goal
+use Rattle.chi_search.proofs.searching.search.Given as goal
 
 abbrev pub invariant-loop-budget : goal.invariant-loop-budget
 invariant-loop-budget g l = record {

@@ -1,0 +1,158 @@
+//! The search over states, depth first, with the states that it found dead.
+
+ghost use Rattle.std.specs.Prelude.{◌≡◌, ℕ, ◌-◌, ◌≤◌, ◌⊎◌, All, List, IfOk, IfSome, OnOk, length};
+ghost use Rattle.chi_trace.specs.Explains.{is_place};
+ghost use Rattle.chi_trace.specs.Granules.{Finishes};
+ghost use Rattle.chi_search.specs.Effects.{AreEffects};
+ghost use Rattle.chi_search.specs.Found.{IfNothing, IfOrder, IfUndecided};
+ghost use Rattle.chi_search.specs.Looks.{LookedMore};
+ghost use Rattle.chi_search.specs.Choices.{IfDead, IfEnded, IfStep, IfTried};
+ghost use Rattle.chi_search.specs.Parts.{IsPartOf};
+ghost use Rattle.chi_search.specs.Paths.{AllDead, AreEarliest, AreTried, IsDead, Moves};
+ghost use Rattle.chi_search.specs.Positions.{IsReady, position_of};
+ghost use Rattle.chi_search.specs.Searchable.{AreSorted, AreWithin};
+
+use crate::choice::{Choice, choose};
+use crate::effect::Effect;
+use crate::order::Found;
+use crate::part::Part;
+use crate::parts::has_dead_part;
+use crate::path::{Step, taken};
+use crate::progress::Progress;
+use crate::state::{State, first_state};
+use crate::states::{States, add, no_states};
+use chi_trace::Observed;
+use std::alloc::{AllocError, Global};
+
+// What can be done at a state, as `choose` says it. A state that is new is asked of the parts of its word first, where there are
+// some.
+fn decide<P: Progress>(
+    alloc: Global,
+    ops: &[Observed],
+    effects: &[Effect],
+    earliest: &[u64],
+    last: Option<u64>,
+    dead: &States,
+    parts: &mut [Part],
+    state: &State,
+    tried: usize,
+    is_new: bool,
+    by_width: bool,
+    next: &mut State,
+    budget: &mut u64,
+    progress: &mut P,
+) -> Result<Choice, AllocError>
+    requires sorted { AreSorted ops.now }
+    requires within { AreWithin ops.now }
+    requires known { AreEffects ops.now effects.now }
+    requires earliest { AreEarliest ops.now earliest.now }
+    requires ready { IsReady (length ops.now) (position_of state.now) }
+    requires tried { AreTried ops.now last (position_of state.now) tried }
+    requires parts { All (IsPartOf ops.now last) parts.now }
+    ensures ended { IfOk result (λ choice. IfEnded choice ((length ops.now ≤ state.now.first) × IfSome last (λ seen. state.now.word ≡ seen))) }
+    ensures moves { IfOk result (λ choice. IfStep choice (λ op. Moves ops.now (position_of state.now) op (position_of next.new))) }
+    ensures ready { IfOk result (λ choice. IfStep choice (λ op. IsReady (length ops.now) (position_of next.new))) }
+    ensures tried { IfOk result (λ choice. IfTried choice (λ place. AllDead ops.now last dead.now → AreTried ops.now last (position_of state.now) place)) }
+    ensures dead { IfOk result (λ choice. IfDead choice (AllDead ops.now last dead.now → IsDead ops.now last (position_of state.now))) }
+    ensures parts { OnOk result (All (IsPartOf ops.now last) parts.new) }
+    ensures spends { IfOk result (λ choice. (budget.new ≤ budget.old) × LookedMore P.looked progress.old progress.new (budget.old - budget.new)) }
+{
+    if is_new
+        && effects.len() >= ops.len()
+        && has_dead_part(
+            alloc, ops, effects, earliest, last, parts, state, budget, progress,
+        )?
+    {
+        return Ok(Choice::Dead);
+    }
+    choose(
+        ops, effects, earliest, last, dead, state, tried, by_width, next,
+    )
+}
+
+/// Searches as `order_of` does, from the start on. `effects` has what is known of each operation, or is empty: then it goes
+/// without the rules that take time at each state. `parts` are those of the word that are asked, or none. After each `span` states
+/// it begins again, with the states that it found dead, and tries what changes fewer bits first every other time.
+pub(crate) fn search<P: Progress>(
+    alloc: Global,
+    ops: &[Observed],
+    effects: &[Effect],
+    earliest: &[u64],
+    parts: &mut [Part],
+    word: u64,
+    last: Option<u64>,
+    span: u64,
+    budget: &mut u64,
+    progress: &mut P,
+) -> Result<Found, AllocError>
+    requires sorted { AreSorted ops.now }
+    requires within { AreWithin ops.now }
+    requires known { AreEffects ops.now effects.now }
+    requires earliest { AreEarliest ops.now earliest.now }
+    requires parts { All (IsPartOf ops.now last) parts.now }
+    ensures order { IfOk result (λ found. IfOrder found (λ order. Finishes ops.now (is_place ops.now) word last order)) }
+    ensures nothing { IfOk result (λ found. IfNothing found ((order : List ℕ) → Finishes ops.now (is_place ops.now) word last order → ⊥)) }
+    ensures undecided { IfOk result (λ found. IfUndecided found (budget.new ≡ 0)) }
+    ensures spends { IfOk result (λ found. (budget.new ≤ budget.old) × LookedMore P.looked progress.old progress.new (budget.old - budget.new)) }
+{
+    let mut dead = no_states(alloc);
+    let mut path: Vec<Step> = Vec::new(alloc);
+    let mut state = first_state(alloc, word);
+    let mut next = first_state(alloc, word);
+    let mut tried = 0;
+    let mut is_new = true;
+    let mut by_width = false;
+    let mut due = budget.saturating_sub(span);
+    while *budget > 0 {
+        match decide(
+            alloc, ops, effects, earliest, last, &dead, parts, &state, tried, is_new, by_width,
+            &mut next, budget, progress,
+        )? {
+            Choice::Ended => {
+                let order = taken(alloc, &path)?;
+                return Ok(Found::Order(order));
+            }
+            Choice::Step {
+                op,
+                tried: place,
+                is_only,
+            } => {
+                if *budget == 0 {
+                    return Ok(Found::Undecided);
+                }
+                *budget -= 1;
+                progress.look();
+                if *budget <= due {
+                    path = Vec::new(alloc);
+                    state = first_state(alloc, word);
+                    tried = 0;
+                    is_new = true;
+                    by_width = !by_width;
+                    due = budget.saturating_sub(span);
+                    continue;
+                }
+                path.push(Step {
+                    from: state,
+                    op,
+                    tried: place,
+                })?;
+                state = next;
+                tried = state.first;
+                is_new = !is_only;
+                next = first_state(alloc, word);
+            }
+            Choice::Dead => {
+                add(alloc, &mut dead, &state)?;
+                is_new = false;
+                match path.pop() {
+                    Some(step) => {
+                        state = step.from;
+                        tried = step.tried;
+                    }
+                    None => return Ok(Found::Nothing),
+                }
+            }
+        }
+    }
+    Ok(Found::Undecided)
+}
