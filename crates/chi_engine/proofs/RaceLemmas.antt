@@ -1,6 +1,7 @@
 -- what a script's race over a fresh home did
-use Rattle.std.proofs.Common.{◌≡◌, ℕ, ◌<◌, true, List, [], ◌++◌, length, slice_index, Result, Ok, Err, OnOk, refl, sym, ap, subst, ◌∙◌, append-nil}
+use Rattle.std.proofs.Common.{◌≡◌, ℕ, zero, suc, ◌<◌, true, List, [], ◌∷◌, ◌++◌, All, map, get_or, length, slice_index, Result, Ok, Err, OnOk, refl, sym, ap, subst, ◌∙◌, append-nil}
 use Rattle.std.proofs.lemmas.Bool.{or_left, or_right}
+use Rattle.std.proofs.lemmas.List.Elements.{All-head, All-tail}
 use Rattle.chi_fields.specs.declared.request.Request.{Request}
 use Rattle.chi_lanes.specs.Memory.{word}
 use Rattle.chi_history.specs.declared.entry.Entry.{Entry}
@@ -10,9 +11,14 @@ use Rattle.chi_history.specs.NumberSets.{Held, only, union}
 use Rattle.chi_history.specs.History.{IsLegal, end}
 use Rattle.chi_requester.specs.declared.fault.WorkFault.{WorkFault}
 use Rattle.chi_requester.specs.declared.policy.Policy.{Policy}
-use Rattle.chi_requester.specs.Race.{IsRace, IsRaceRun}
+use Rattle.chi_requester.specs.declared.race_of_any.Racer.{Racer}
+use Rattle.chi_requester.specs.Race.{IsRace, IsRaceRun, lines_of_all}
+use Rattle.chi_requester.specs.Team.{lines_in, one_to}
 use Rattle.chi_requester.specs.Work.{own_requests}
 use Rattle.chi_script.specs.Script.{ScriptValue}
+use Rattle.chi_engine.specs.declared.options.Workers.{Workers}
+use Rattle.chi_engine.specs.declared.options.Workers.TheVariants.{Two, Four}
+use Rattle.chi_engine.specs.RaceTranscript.{most_racer, racers_of}
 use Rattle.chi_engine.specs.Store.{IsFresh, opening_of}
 use Rattle.chi_script.specs.RunText.{granule_words}
 use Rattle.chi_script.proofs.GranuleWords.{words_are}
@@ -67,3 +73,24 @@ pub raced_by : (r : Result (Unit {0}) WorkFault) (o : Opening) (policy : Policy)
 raced_by (Ok u) o policy limit limit' racers racers' all s held start seen' lines lines' lines'' fresh bound who are none same begun =
     rw (← bound, ← who, ← are, same) (raced_whole o policy limit racers all s held start seen' lines lines' u fresh none begun)
 raced_by (Err fault) o policy limit limit' racers racers' all s held start seen' lines lines' lines'' fresh bound who are none same begun = tt
+
+-- racers with no line yet
+none_in : {S G A : Type 0} (xs : List (Racer S G A)) → All (λ racer. racer.lines.items ≡ []) xs → (r : ℕ) → get_or ([] ∷ map lines_in xs) r [] ≡ []
+none_in xs each zero = refl
+none_in [] each (suc r) = refl
+none_in (x ∷ xs) each (suc zero) = All-head (λ (racer : Racer _ _ _). racer.lines.items ≡ []) x xs each
+none_in (x ∷ xs) each (suc (suc r)) = none_in xs (All-tail (λ (racer : Racer _ _ _). racer.lines.items ≡ []) x xs each) (suc r)
+
+pub none_of_all : {S G A : Type 0} (before : List Line) (racers made : List (Racer S G A)) → before ≡ [] → racers ≡ made → All (λ racer. racer.lines.items ≡ []) made → lines_of_all before racers ≡ (λ r. [])
+none_of_all before racers made empty same none = rw (empty, same) (λ i r. none_in made none r i)
+
+pub racers_are : (workers : Workers) (n : ℕ) → n ≡ most_racer workers → one_to n ≡ racers_of workers
+racers_are Two n is = ap one_to is
+racers_are Four n is = ap one_to is
+
+-- a race over a fresh home, by the values that the caller has of its limit, requests and lines
+pub race_fresh : {r : Result (Unit {0}) WorkFault} {o : Opening} {policy : Policy} {limit limit' : ℕ} {racers racers' : Held} {all : List Request} {s : ScriptValue} {held : Held}
+    {start seen' : List Entry} {lines lines' : ℕ → List Line}
+    → IsFresh o s held start → limit ≡ limit' → racers ≡ racers' → all ≡ s.requests → lines ≡ (λ r. [])
+    → IsRaceRun r o policy limit racers all start seen' lines lines' → IsRaceRun r (opening_of s) policy limit' racers' s.requests [] seen' (λ r. []) lines'
+race_fresh fresh bound who are none begun = rw (fresh.opening, fresh.first.1, bound, who, are, none) at begun

@@ -1,10 +1,21 @@
 -- one writing call after another
-use Rattle.std.proofs.Common.{◌≡◌, ℕ, List, ◌++◌, ◌∙◌, Option, Result, Ok, Err, IsErr, ap, sym, append_assoc, subst}
+use Rattle.std.proofs.Common.{◌≡◌, ℕ, ◌+◌, ◌<◌, List, [], ◌∷◌, ◌++◌, ◌∙◌, length, get_or, take, drop, Option, Result, Ok, Err, IsErr, ap, sym, append_assoc, append-nil, refl, subst, arith, take-append-drop}
+use Rattle.std.proofs.lemmas.List.{drop_more}
 use Rattle.std.specs.Io.KnownBytes.{Appends}
-use Rattle.std.proofs.lemmas.Grind.{flat_map-append}
+use Rattle.std.proofs.lemmas.Grind.{common_steps, flat_map-append}
+use Rattle.chi_history.specs.declared.entry.Entry.{Entry}
+use Rattle.chi_history.specs.History.{end}
 use Rattle.chi_history.specs.declared.line.Line.{Line}
-use Rattle.chi_script.specs.Transcript.{line_text, text}
+use Rattle.chi_requester.specs.declared.race_of_any.Racer.{Racer}
+use Rattle.chi_requester.specs.Race.{lines_of_all}
+use Rattle.chi_script.specs.RunText.{granule_words}
+use Rattle.chi_script.specs.Script.{ScriptValue}
+use Rattle.chi_script.specs.Transcript.{memtext, text}
 use Rattle.chi_script.specs.WriterBytes.{AppendsFront, Puts}
+use Rattle.chi_engine.specs.declared.options.Workers.{Workers}
+use Rattle.chi_engine.specs.declared.options.Workers.TheVariants.{Two, Four}
+use Rattle.chi_engine.specs.RaceTranscript.{most_racer, race_lines, race_text, racers_text}
+use Rattle.chi_engine.specs.Store.{opening_of}
 use Rattle.chi_script.proofs.WriterBytesLemmas.{cut_more, taken_then}
 
 -- a fault in the first call
@@ -25,18 +36,40 @@ puts_two a b c s t (Err fault) p q = record {
 pub puts_then : {E : Type 0} (a b c : Option (List ℕ)) (s t whole : List ℕ) (r : Result (Unit {0}) E) → Appends a b s → Puts b c r t → s ++ t ≡ whole → Puts a c r whole
 puts_then a b c s t whole r p q is = subst (λ (l : List ℕ). Puts a c r l) is (puts_two a b c s t r p q)
 
--- the lines of five requesters, and more after them
-pub five_texts : (one two three four zero : List Line) → (text (one ++ two) ++ text (three ++ four)) ++ text zero ≡ text (one ++ (two ++ (three ++ (four ++ zero))))
-five_texts one two three four zero =
-    ap (λ (l : List ℕ). l ++ text zero) (sym (flat_map-append line_text (one ++ two) (three ++ four)))
-    ∙ (sym (flat_map-append line_text ((one ++ two) ++ (three ++ four)) zero) ∙ ap text parted)
-  where
-    parted : ((one ++ two) ++ (three ++ four)) ++ zero ≡ one ++ (two ++ (three ++ (four ++ zero)))
-    parted =
-        append_assoc (one ++ two) (three ++ four) zero
-        ∙ (append_assoc one two ((three ++ four) ++ zero) ∙ ap (λ (l : List Line). one ++ (two ++ l)) (append_assoc three four zero))
+-- a fault in a later call
+pub puts_cut_then : {E : Type 0} (a b c : Option (List ℕ)) (s t rest whole : List ℕ) (r : Result (Unit {0}) E) → IsErr r → Appends a b s → AppendsFront b c t → (s ++ t) ++ rest ≡ whole → Puts a c r whole
+puts_cut_then a b c s t rest whole (Ok done) failed p q is = absurd (cc)
+puts_cut_then a b c s t rest whole (Err fault) failed p q is = puts_cut a c (s ++ t) rest whole (Err fault) failed (puts_two a b c s t (Err fault) p q) is
 
-pub five_texts_then : (one two three four zero : List Line) (more : List ℕ)
-    → (text (one ++ two) ++ text (three ++ four)) ++ (text zero ++ more) ≡ text (one ++ (two ++ (three ++ (four ++ zero)))) ++ more
-five_texts_then one two three four zero more =
-    sym (append_assoc (text (one ++ two) ++ text (three ++ four)) (text zero) more) ∙ ap (λ (l : List ℕ). l ++ more) (five_texts one two three four zero)
+-- the lines of the racers before one, its own, and those after it
+pub racers_parted : {S G A : Type 0} (racers : List (Racer S G A)) (i : ℕ) (x : Racer S G A) → i < length racers → x ≡ get_or racers i x
+    → (racers_text (take i racers) ++ text x.lines.items) ++ racers_text (drop (i + 1) racers) ≡ racers_text racers
+racers_parted racers i x inside is =
+    append_assoc (racers_text (take i racers)) (text x.lines.items) (racers_text (drop (i + 1) racers))
+    ∙ (ap (λ (l : List ℕ). racers_text (take i racers) ++ l) (ap racers_text (ap (λ y. y ∷ drop (i + 1) racers) is ∙ sym (drop_more racers i x inside)))
+    ∙ (sym (flat_map-append (λ racer. text racer.lines.items) (take i racers) (drop i racers)) ∙ ap racers_text (take-append-drop i racers)))
+
+-- the lines of as many racers as there are workers, and of 0 after them
+pub race_lines_are : {S G A : Type 0} (workers : Workers) (zero : List Line) (racers : List (Racer S G A)) → length racers ≡ most_racer workers
+    → racers_text racers ++ text zero ≡ race_lines workers (lines_of_all zero racers)
+race_lines_are Two zero [] count = absurd (omega arith)
+race_lines_are Two zero (x ∷ []) count = absurd (omega arith)
+race_lines_are Two zero (x ∷ (y ∷ [])) count = grind (arith, common_steps)
+race_lines_are Two zero (x ∷ (y ∷ (z ∷ more))) count = absurd (omega arith)
+race_lines_are Four zero [] count = absurd (omega arith)
+race_lines_are Four zero (x ∷ []) count = absurd (omega arith)
+race_lines_are Four zero (x ∷ (y ∷ [])) count = absurd (omega arith)
+race_lines_are Four zero (x ∷ (y ∷ (z ∷ []))) count = absurd (omega arith)
+race_lines_are Four zero (x ∷ (y ∷ (z ∷ (w ∷ [])))) count = grind (arith, common_steps)
+race_lines_are Four zero (x ∷ (y ∷ (z ∷ (w ∷ (v ∷ more))))) count = absurd (omega arith)
+
+-- the whole transcript of a race
+pub race_text_is : {S G A : Type 0} (workers : Workers) (s : ScriptValue) (since : List Entry) (zero last : List Line) (racers : List (Racer S G A)) (base : ℕ) (words : List ℕ)
+    → length racers ≡ most_racer workers → last ≡ zero → base ≡ s.region.base → words ≡ granule_words (end (opening_of s) since) s.region.base s.region.granules
+    → (racers_text racers ++ text last) ++ memtext base words ≡ race_text workers s since (lines_of_all zero racers)
+race_text_is workers s since zero last racers base words count same at_base shown = rw (same, at_base, shown, race_lines_are workers zero racers count) refl
+
+-- what was written is a prefix in both cases
+pub puts_front : {E : Type 0} (a b : Option (List ℕ)) (s : List ℕ) (r : Result (Unit {0}) E) → Puts a b r s → AppendsFront a b s
+puts_front a b s (Ok done) p = record { front = s; rest = []; whole = append-nil s; taken = p }
+puts_front a b s (Err fault) p = p

@@ -71,8 +71,8 @@ IsInputFault Memory = Unit {0}
 IsInputFault (Script fault) = Unit {0}
 IsInputFault fault = ⊥
 
--- The store was refused, or there was no memory for the words of its region; or it was opened, and what it executed
--- holds.
+-- The store was refused, or there was no memory for the words of its region or for the racers; or it was opened, and
+-- what it executed holds.
 abbrev pub FromOpening : Result (Unit {0}) EngineFault → Type 0 → Type 0
 FromOpening (Err (Open fault)) executed = Unit {0}
 FromOpening (Err Memory) executed = Unit {0}

@@ -1,11 +1,12 @@
 -- what a race of the program does: two or four requesters at work at the same time over a fresh home, and 0 after
-use Rattle.std.specs.Prelude.{ℕ, List, [], ◌++◌, Option, Result, Ok, Err}
-use Rattle.std.specs.Io.KnownBytes.{Appends}
+use Rattle.std.specs.Prelude.{ℕ, List, [], ◌++◌, flat_map, Option, Result, Ok, Err}
+use Rattle.std.specs.Io.KnownBytes.{Appends, Keeps}
 use Rattle.chi_history.specs.declared.entry.Entry.{Entry}
 use Rattle.chi_history.specs.declared.line.Line.{Line}
 use Rattle.chi_history.specs.NumberSets.{Held}
 use Rattle.chi_history.specs.History.{end}
 use Rattle.chi_requester.specs.declared.fault.WorkFault.{WorkFault}
+use Rattle.chi_requester.specs.declared.race_of_any.Racer.{Racer}
 use Rattle.chi_requester.specs.Race.{IsRace, IsRaceRun, one_and_two, one_to_four}
 use Rattle.chi_requester.specs.Work.{own_requests}
 use Rattle.chi_script.specs.RunText.{memory_text}
@@ -13,7 +14,7 @@ use Rattle.chi_script.specs.Script.{ScriptValue}
 use Rattle.chi_script.specs.Transcript.{text}
 use Rattle.chi_script.specs.WriterBytes.{AppendsFront}
 use Rattle.chi_engine.specs.declared.fault.EngineFault.{EngineFault}
-use Rattle.chi_engine.specs.declared.fault.EngineFault.TheVariants.{Work, Write}
+use Rattle.chi_engine.specs.declared.fault.EngineFault.TheVariants.{Memory, Work, Write}
 use Rattle.chi_engine.specs.declared.options.Options.{Options}
 use Rattle.chi_engine.specs.declared.options.Workers.{Workers}
 use Rattle.chi_engine.specs.declared.options.Workers.TheVariants.{Two, Four}
@@ -44,6 +45,10 @@ abbrev pub race_lines : Workers → (ℕ → List Line) → List ℕ
 race_lines Two lines = text (lines 1 ++ (lines 2 ++ lines 0))
 race_lines Four lines = text (lines 1 ++ (lines 2 ++ (lines 3 ++ (lines 4 ++ lines 0))))
 
+-- the lines of the racers in their order
+abbrev pub racers_text : {S G A : Type 0} → List (Racer S G A) → List ℕ
+racers_text racers = flat_map (λ racer. text racer.lines.items) racers
+
 -- the transcript of a race: the lines, and the memory at the end of the history
 abbrev pub race_text : Workers → ScriptValue → List Entry → (ℕ → List Line) → List ℕ
 race_text workers s since lines = race_lines workers lines ++ memory_text s.region (end (opening_of s) since)
@@ -58,6 +63,11 @@ Races options s old new (Err (Work fault)) =
 Races options s old new (Err (Write fault)) =
     (since : List Entry) × (lines : ℕ → List Line) × IsRaced options s since lines × AppendsFront old new (race_text options.workers s since lines)
 Races options s old new (Err fault) = ⊥
+
+-- the same over a home that was opened; where there was no memory for the racers, nothing is written
+abbrev pub RacesOver : Options → ScriptValue → Option (List ℕ) → Option (List ℕ) → Result (Unit {0}) EngineFault → Type 0
+RacesOver options s old new (Err Memory) = Keeps old new
+RacesOver options s old new result = Races options s old new result
 
 -- the same over the store of the options, which may be refused
 abbrev pub RacesBy : Options → ScriptValue → Option (List ℕ) → Option (List ℕ) → Result (Unit {0}) EngineFault → Type 0

@@ -1,6 +1,6 @@
 //! From a script's bytes to a transcript's bytes, or to what it covered.
 
-ghost use Rattle.std.specs.Prelude.{◌≡◌, IfSome};
+ghost use Rattle.std.specs.Prelude.{◌≡◌, length, IfOk, IfSome};
 ghost use Rattle.chi_engine.specs.Cover.{CoverOutcome, KeepsUnwritten};
 ghost use Rattle.chi_engine.specs.Engine.{KeepsUnexecuted, ReportsOpening};
 ghost use Rattle.chi_engine.specs.RaceTranscript.{RaceOutcome, most_racer};
@@ -10,9 +10,11 @@ use crate::cover::cover_script;
 use crate::fault::EngineFault;
 use crate::input::read_whole;
 use crate::options::{Options, Workers};
-use crate::race::{Gates, race_script};
+use crate::race::race_script;
 use crate::run::run_script;
 use chi_history::Gate;
+use chi_requester::MixedGate;
+use std::alloc::{AllocError, Global};
 use std::io::{Read, Write};
 use std::sync::Wait;
 use std::thread::Threads;
@@ -78,6 +80,27 @@ fn most_racer(workers: Workers) -> u8
     }
 }
 
+// The gates of so many workers, which take the first ones.
+fn gates_of<G1: Drop, G2: Drop, G3: Drop, G4: Drop>(
+    alloc: Global,
+    workers: Workers,
+    gate1: G1,
+    gate2: G2,
+    gate3: G3,
+    gate4: G4,
+) -> Result<Vec<MixedGate<G1, G2, G3, G4>>, AllocError>
+    ensures { IfOk result (λ v. length v.items ≡ most_racer workers) }
+{
+    let mut gates = Vec::with_capacity(alloc, 4)?;
+    gates.push_reserved(MixedGate::One(gate1));
+    gates.push_reserved(MixedGate::Two(gate2));
+    if let Workers::Four = workers {
+        gates.push_reserved(MixedGate::Three(gate3));
+        gates.push_reserved(MixedGate::Four(gate4));
+    }
+    Ok(gates)
+}
+
 /// Reads a script, executes the requests of 1 and of 2, or of 1 to 4, at the same time, each with a gate of its
 /// own, and then those of 0, on the memory that the script opens with, and writes the transcript: the lines of 1 on,
 /// those of 0, and the memory.
@@ -111,11 +134,8 @@ pub fn engine_race<
     ensures unexecuted { KeepsUnexecuted (W.contents to.old) (W.contents to.new) result }
 {
     let script = read_whole(rt.alloc(), from, most_racer(options.workers))?;
-    let gates = Gates {
-        gate1,
-        gate2,
-        gate3,
-        gate4,
+    let Ok(gates) = gates_of(rt.alloc(), options.workers, gate1, gate2, gate3, gate4) else {
+        return Err(EngineFault::Memory);
     };
     race_script(rt, &script, to, options, gates)
 }

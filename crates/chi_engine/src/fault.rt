@@ -12,7 +12,7 @@ use thiserror::Error;
 ///
 /// - `Read`: the reader answered a fault, which may also be that it was interrupted.
 /// - `TooLong`: the input has more than 4,194,304 bytes.
-/// - `Memory`: no memory for the input or for the words of the memory lines.
+/// - `Memory`: no memory for the input, for the racers or for the words of the memory lines.
 /// - `Script`, `Open`: the script or the opening of the store was refused. Up to here nothing is written.
 /// - `Work`: no memory for a request's lines. The lines before it are written, and no memory lines.
 /// - `Write`: the transcript was not written whole.

@@ -1,142 +1,81 @@
 //! A script's requests raced: those of two or four requesters at the same time, and then those of 0.
 
-ghost use Rattle.std.specs.Prelude.{◌≡◌, ◌+◌, [], ◌++◌, length, IfErr, OnOk};
+ghost use Rattle.std.specs.Prelude.{◌≡◌, ◌+◌, [], ◌++◌, length, All, IfOk};
 ghost use Rattle.chi_history.specs.NumberSets.{AllFrom, below};
 ghost use Rattle.chi_history.specs.History.{end};
-ghost use Rattle.chi_requester.specs.Race.{lines_of, lines_of_four};
 ghost use Rattle.chi_script.specs.Transcript.{memtext, text};
 ghost use Rattle.chi_script.specs.WriterBytes.{Puts};
 ghost use Rattle.chi_engine.specs.Engine.{KeepsUnexecuted, ReportsOpening};
-ghost use Rattle.chi_engine.specs.RaceTranscript.{IsRaceCut, IsRaced, Races, RacesBy, most_racer, race_lines};
+ghost use Rattle.chi_engine.specs.RaceTranscript.{RacesBy, RacesOver, most_racer, racers_text};
 ghost use Rattle.chi_engine.specs.Store.{IsFresh, limit_of, opening_of};
 ghost use Rattle.chi_script.specs.RunText.{granule_words};
 
 use crate::fault::EngineFault;
-use crate::options::{Options, Workers};
+use crate::options::Options;
 use crate::store::{on_store, room};
 use chi_fields::Region;
 use chi_history::{Gate, Home, Line};
-use chi_requester::{Race, RaceFour, WorkFault, race_four, race_two};
+use chi_requester::{Racer, race};
 use chi_script::{Script, WriteFault, write_lines, write_transcript};
-use std::alloc::Global;
+use std::alloc::{AllocError, Global};
 use std::io::Write;
 use std::sync::Wait;
 use std::thread::Threads;
 
-/// A gate for each worker. Two workers take the first two.
-#[derive(Drop)]
-pub(crate) struct Gates<G1, G2, G3, G4> {
-    pub(crate) gate1: G1,
-    pub(crate) gate2: G2,
-    pub(crate) gate3: G3,
-    pub(crate) gate4: G4,
-}
-
-// The lines of a race of two as those of a race of four, in which 3 and 4 have none.
-fn with_no_more(race: Race<Global>) -> RaceFour<Global>
-    ensures same { lines_of_four result ≡ lines_of race }
-    ensures three { result.three.items ≡ [] }
-    ensures four { result.four.items ≡ [] }
+// Racers by these gates, from 1 on, with no line yet.
+fn racers_by<S: Drop, G: Drop>(
+    alloc: Global,
+    gates: Vec<G>,
+) -> Result<Vec<Racer<S, G, Global>>, AllocError>
+    ensures count { IfOk result (λ v. length v.items ≡ length gates.items) }
+    ensures none { IfOk result (λ v. All (λ racer. racer.lines.items ≡ []) v.items) }
 {
-    let alloc = *race.zero.allocator();
-    RaceFour {
-        one: race.one,
-        two: race.two,
-        three: Vec::new(alloc),
-        four: Vec::new(alloc),
-        zero: race.zero,
+    let mut racers = Vec::new(alloc);
+    for gate in gates {
+        racers.push(Racer::new(gate, Vec::new(alloc)))?;
     }
+    Ok(racers)
 }
 
-// Races the requests of a script by the workers of the options: the lines of each requester, and whether every
-// request was executed.
-fn race_all<
-    H: Home + Sync,
-    T: AllocGlobal + Threads + Wait + Sync,
-    G1: Gate + Drop + Send,
-    G2: Gate + Drop + Send,
-    G3: Gate + Drop + Send,
-    G4: Gate + Drop + Send,
->(
-    home: &H,
-    rt: &T,
-    seat: &mut H::Seat,
-    script: &Script,
-    options: &Options,
-    gates: Gates<G1, G2, G3, G4>,
-) -> (RaceFour<Global>, Result<(), WorkFault>)
-    requires own { H.belongs home.now seat.old }
-    requires fresh { IsFresh (H.opening home.now) script.now (H.held seat.old) (H.seen seat.old) }
-    requires limit { H.limit home.now ≡ limit_of options.now }
-    requires from { AllFrom (below (most_racer options.now.workers + 1)) script.now.requests }
-    ensures own { H.belongs home.now seat.new }
-    ensures held { H.held seat.new ≡ H.held seat.old }
-    ensures raced { OnOk result.1 (IsRaced options.now script.now (H.seen seat.new) (lines_of_four result.0)) }
-    ensures cut { IfErr result.1 (λ fault. IsRaceCut fault options.now script.now (H.seen seat.new) (lines_of_four result.0)) }
-    ensures listed { race_lines options.now.workers (lines_of_four result.0) ≡ race_lines Workers.Four (lines_of_four result.0) }
-{
-    let requests = script.requests();
-    let policy = options.policy;
-    let Gates {
-        gate1,
-        gate2,
-        gate3,
-        gate4,
-    } = gates;
-    match options.workers {
-        Workers::Two => {
-            let mut race = Race::new(rt.alloc());
-            let outcome = race_two(home, rt, seat, requests, policy, gate1, gate2, &mut race);
-            (with_no_more(race), outcome)
-        }
-        Workers::Four => {
-            let mut race = RaceFour::new(rt.alloc());
-            let outcome = race_four(
-                home, rt, seat, requests, policy, gate1, gate2, gate3, gate4, &mut race,
-            );
-            (race, outcome)
-        }
-    }
-}
-
-// Writes the lines of one requester and then those of another.
-fn write_pair<W: Write>(to: &mut W, one: &[Line], other: &[Line]) -> Result<(), WriteFault>
-    ensures { Puts (W.contents to.old) (W.contents to.new) result (text (one.now ++ other.now)) }
-{
-    write_lines(to, one)?;
-    write_lines(to, other)
-}
-
-// Writes the lines of 1, of 2, of 3 and of 4.
-fn write_racers<W: Write>(to: &mut W, race: &RaceFour<Global>) -> Result<(), WriteFault>
-    ensures { Puts (W.contents to.old) (W.contents to.new) result
-        (text (race.now.one.items ++ race.now.two.items) ++ text (race.now.three.items ++ race.now.four.items)) }
-{
-    write_pair(to, race.one.as_slice(), race.two.as_slice())?;
-    write_pair(to, race.three.as_slice(), race.four.as_slice())
-}
-
-// Writes the lines of 1 to 4, and then those of 0.
-fn write_race_lines<W: Write>(to: &mut W, race: &RaceFour<Global>) -> Result<(), WriteFault>
-    ensures { Puts (W.contents to.old) (W.contents to.new) result (race_lines Workers.Four (lines_of_four race.now)) }
-{
-    write_racers(to, race)?;
-    write_lines(to, race.zero.as_slice())
-}
-
-// Writes the lines of 1 to 4 and of 0, and then the memory lines.
-fn write_race<W: Write>(
+// Writes the lines of the racers in their order.
+fn write_racers<W: Write, S, G>(
     to: &mut W,
-    race: &RaceFour<Global>,
+    racers: &[Racer<S, G, Global>],
+) -> Result<(), WriteFault>
+    ensures { Puts (W.contents to.old) (W.contents to.new) result (racers_text racers.now) }
+{
+    for racer in racers {
+        write_lines(to, racer.lines.as_slice())?;
+    }
+    Ok(())
+}
+
+// Writes the lines of the racers, and then those of 0.
+fn write_race_lines<W: Write, S, G>(
+    to: &mut W,
+    racers: &[Racer<S, G, Global>],
+    zero: &[Line],
+) -> Result<(), WriteFault>
+    ensures { Puts (W.contents to.old) (W.contents to.new) result (racers_text racers.now ++ text zero.now) }
+{
+    write_racers(to, racers)?;
+    write_lines(to, zero)
+}
+
+// Writes the lines of the racers and of 0, and then the memory lines.
+fn write_race<W: Write, S, G>(
+    to: &mut W,
+    racers: &[Racer<S, G, Global>],
+    zero: &[Line],
     region: &Region,
     words: &[u64],
 ) -> Result<(), WriteFault>
     requires { length words.now ≡ region.now.granules }
     ensures { Puts (W.contents to.old) (W.contents to.new) result
-        (race_lines Workers.Four (lines_of_four race.now) ++ memtext region.now.base words.now) }
+        ((racers_text racers.now ++ text zero.now) ++ memtext region.now.base words.now) }
 {
-    write_racers(to, race)?;
-    write_transcript(to, race.zero.as_slice(), region, words)
+    write_racers(to, racers)?;
+    write_transcript(to, zero, region, words)
 }
 
 // The words of the memory after a race.
@@ -156,22 +95,19 @@ fn words_after<H: Home, R: Wait>(
     home.snapshot(rt, seat, words);
 }
 
-// Races a script over a home that was just opened for it, and writes the transcript.
+// Races a script over a home that was just opened for it, by a racer for each gate, and writes the transcript.
 fn race_over<
     H: Home + Sync,
     T: AllocGlobal + Threads + Wait + Sync,
     W: Write,
-    G1: Gate + Drop + Send,
-    G2: Gate + Drop + Send,
-    G3: Gate + Drop + Send,
-    G4: Gate + Drop + Send,
+    G: Gate + Drop + Send,
 >(
     home: &H,
     rt: &T,
     seat: &mut H::Seat,
     script: &Script,
     options: &Options,
-    gates: Gates<G1, G2, G3, G4>,
+    gates: Vec<G>,
     words: &mut [u64],
     to: &mut W,
 ) -> Result<(), EngineFault>
@@ -179,38 +115,39 @@ fn race_over<
     requires fresh { IsFresh (H.opening home.now) script.now (H.held seat.old) (H.seen seat.old) }
     requires limit { H.limit home.now ≡ limit_of options.now }
     requires from { AllFrom (below (most_racer options.now.workers + 1)) script.now.requests }
+    requires count { length gates.items ≡ most_racer options.now.workers }
     requires room { length words.old ≡ script.now.region.granules }
-    ensures { Races options.now script.now (W.contents to.old) (W.contents to.new) result }
+    ensures { RacesOver options.now script.now (W.contents to.old) (W.contents to.new) result }
 {
-    let (race, outcome) = race_all(home, rt, seat, script, options, gates);
+    let Ok(mut racers) = racers_by(rt.alloc(), gates) else {
+        return Err(EngineFault::Memory);
+    };
+    let racers = racers.as_mut_slice();
+    let mut zero = Vec::new(rt.alloc());
+    let requests = script.requests();
+    let outcome = race(home, rt, seat, requests, options.policy, racers, &mut zero);
     if let Err(fault) = outcome {
         // That the work stopped is answered also where this writing fails.
-        let _written = write_race_lines(to, &race);
+        let _written = write_race_lines(to, racers, zero.as_slice());
         return Err(EngineFault::Work(fault));
     }
     words_after(home, rt, seat, script, words);
-    match write_race(to, &race, &script.region(), words) {
+    match write_race(to, racers, zero.as_slice(), &script.region(), words) {
         Ok(()) => Ok(()),
         Err(fault) => Err(EngineFault::Write(fault)),
     }
 }
 
-// Races a script over the store of the options, and writes the transcript.
-pub(crate) fn race_script<
-    T: AllocGlobal + Threads + Wait + Sync,
-    W: Write,
-    G1: Gate + Drop + Send,
-    G2: Gate + Drop + Send,
-    G3: Gate + Drop + Send,
-    G4: Gate + Drop + Send,
->(
+// Races a script over the store of the options, by a racer for each gate, and writes the transcript.
+pub(crate) fn race_script<T: AllocGlobal + Threads + Wait + Sync, W: Write, G: Gate + Drop + Send>(
     rt: &T,
     script: &Script,
     to: &mut W,
     options: &Options,
-    gates: Gates<G1, G2, G3, G4>,
+    gates: Vec<G>,
 ) -> Result<(), EngineFault>
     requires from { AllFrom (below (most_racer options.now.workers + 1)) script.now.requests }
+    requires count { length gates.items ≡ most_racer options.now.workers }
     ensures executed { RacesBy options.now script.now (W.contents to.old) (W.contents to.new) result }
     ensures opening { ReportsOpening options.now result }
     ensures unexecuted { KeepsUnexecuted (W.contents to.old) (W.contents to.new) result }

@@ -12,6 +12,7 @@ mod serial;
 mod single;
 
 pub use fault::WorkFault;
+pub use mixed_gate::MixedGate;
 pub use policy::Policy;
 pub use race_of_any::{Racer, race};
 pub use race_of_four::{RaceFour, race_four};

@@ -2,9 +2,9 @@
 
 use chi_history::Gate;
 
-// The gate of a racer, where those of the others are of other types.
+/// The gate of a racer, where those of the others are of other types.
 #[derive(Drop)]
-pub(crate) enum MixedGate<G1, G2, G3, G4> {
+pub enum MixedGate<G1, G2, G3, G4> {
     One(G1),
     Two(G2),
     Three(G3),
