@@ -75,8 +75,9 @@ def reasons_of(said):
 
 
 def is_function(path, function):
-    """Returns whether a path is that of a function which is told by the end of its path."""
-    return path == function or path.endswith(f"::{function}")
+    """Returns whether a path is that of a function, which is told by the end of its path, or of a closure in it."""
+    closures = "::fn::".join(function.rsplit("::", 1))
+    return f"::{path}".endswith(f"::{function}") or f"::{closures}::" in f"::{path}"
 
 
 def reason_of(edit, reasons):
