@@ -82,7 +82,7 @@ pub struct Wanted {
 
 /// The word of which a sum leaves the operand of another word in the mask, with the bits of `rest` out of the mask.
 fn difference(op: &Observed, word: u64, mask: u64, rest: u64) -> Option<u64> {
-    let turned = op.after(!((word & mask) | (rest & !mask)))?;
+    let turned = op.after((!word & mask) | (rest & !mask))?;
     Some((!turned & mask) | (rest & !mask))
 }
 

@@ -285,9 +285,9 @@ impl Search<'_> {
             let it = &self.effects[place];
             let op = &self.ops[place];
             let may_precede = |after: usize| after != place && op.start <= self.ops[after].end;
-            later.iter().all(|after| after.is_none_or(may_precede))
-                && it.changed & bits != 0
+            it.changed & bits != 0
                 && (it.left ^ word) & it.left_mask & bits == 0
+                && later.iter().all(|after| after.is_none_or(may_precede))
                 && self.is_left(state, place)
                 && (depth == 0 || {
                     let before = [Some(place), later[0], later[1], later[2]];

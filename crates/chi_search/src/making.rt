@@ -71,10 +71,10 @@ fn may_make(
     requires later { ArePlaces ops.now later }
     ensures { result ≡ false → (mask : ℕ) → CannotMake mask ops.now (position_of state.now) later word bits place }
 {
-    if !may_precede_each(ops, place, later) {
+    if makes_none(&effects[place], word, bits) {
         return false;
     }
-    if makes_none(&effects[place], word, bits) {
+    if !may_precede_each(ops, place, later) {
         return false;
     }
     is_left(state, ops.len(), place)

@@ -57,7 +57,8 @@ fn difference(op: &Observed, word: u64, mask: u64, rest: u64) -> Option<u64>
     ensures left { IfSome result (λ found. LeavesOperand mask op.now found word) }
 {
     let operand = operand_mask(op);
-    let turned = step(op, !((word & mask) | (rest & !mask)))?;
+    // Of a word turned over the sum is the difference turned over; the other bytes carry into it what those of `rest` do.
+    let turned = step(op, (!word & mask) | (rest & !mask))?;
     let found = (!turned & mask) | (rest & !mask);
     let left = step(op, found)?;
     if (left ^ word) & (operand & mask) != 0 {
