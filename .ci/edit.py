@@ -1,11 +1,12 @@
 """An edit of a crate's code, which the prover has to refuse: what it changes, and which function it turns."""
 
+import glob
 import os
 import re
 from typing import NamedTuple
 
 # The heads of a function and of an implementation, as rt fmt lays them out.
-FUNCTION = re.compile(r"^( *)(?:pub(?:\([^)]*\))? )?(?:const )?(?:unsafe )?fn (\w+)")
+FUNCTION = re.compile(r"^( *)(?:pub(?:\([^)]*\))? )?(?:const )?(?:unsafe )?(?:extern \"C\" )?fn (\w+)")
 OWNER = re.compile(r"impl(?:<.*?>)? (?:(?:\w+::)*(\w+)(?:<(?:\w+::)*(\w+)>)? for )?(?:\w+::)*(\w+)")
 
 
@@ -14,8 +15,10 @@ class Edit(NamedTuple):
     crate: str
     # each file that it changes, as it leaves it
     texts: dict
-    # the function whose body has all of the change, by the end of its path, or none where that is not one function
+    # the function that it turns, by the end of its path: the one whose body has all of the change, or else the one of its name
     function: str | None
+    # whether one body has all of the change
+    is_of_body: bool
 
 
 class Change(NamedTuple):
@@ -63,41 +66,65 @@ def change_of(text, changed):
     return Change(begin, len(text) - after, changed[begin : len(changed) - after])
 
 
-def function_around(text, change):
-    """Returns the function whose body has all of a change, with the type that it is a method of, or nothing."""
-    lines = text.split("\n")
-    first, last = text.count("\n", 0, change.begin), text.count("\n", 0, change.end)
-    head, at = next(((it, at) for at in range(first, -1, -1) if (it := FUNCTION.match(lines[at]))), (None, 0))
-    end = head and next((it for it in range(at + 1, len(lines)) if lines[it] == head[1] + "}"), at)
-    if not head or not (at < first and last <= end):
-        return None
+def end_of(lines, at, indent):
+    """Returns the line at which a function ends."""
+    return next((it for it in range(at + 1, len(lines)) if lines[it] == indent + "}"), at)
+
+
+def path_of(lines, at, module):
+    """Returns the function whose head is a line, by its type or its module and its name."""
+    head = FUNCTION.match(lines[at])
     if not head[1]:
-        return head[2]
+        return f"{module}::{head[2]}"
     owner = OWNER.match(next(it for it in reversed(lines[:at]) if it.startswith("impl")))
     return f"{owner[3]}{owner[1] or ''}{owner[2] or ''}::{head[2]}"
 
 
-def module_of(path):
-    """Returns the path of a file's module in its crate; it is empty for the crate's root."""
+def function_around(text, change, module):
+    """Returns the function whose body has all of a change, or nothing."""
+    lines = text.split("\n")
+    first, last = text.count("\n", 0, change.begin), text.count("\n", 0, change.end)
+    at = next((at for at in range(first, -1, -1) if FUNCTION.match(lines[at])), None)
+    is_within = at is not None and at < first and last <= end_of(lines, at, FUNCTION.match(lines[at])[1])
+    return path_of(lines, at, module) if is_within else None
+
+
+def module_of(path, folder):
+    """Returns the name of a file's module, and of the crate for its root."""
     module = path.removeprefix("src/").removesuffix(".rt").replace("/", "::")
-    return "" if module in ("lib", "main") else module
+    return os.path.basename(folder) if module in ("lib", "main") else module
 
 
 def turned_by(texts, folder):
-    """Returns the function that these changes lie in, where it is one, by its type or its module and its name."""
+    """Returns the function that these changes lie in, where it is one."""
     if len(texts) != 1:
         return None
     ((path, changed),) = texts.items()
     text = text_of(f"{folder}/{path}")
-    function = function_around(text, change_of(text, changed))
-    module = module_of(path) or os.path.basename(folder)
-    return function if function is None or "::" in function else f"{module}::{function}"
+    return function_around(text, change_of(text, changed), module_of(path, folder))
+
+
+def named(name, texts, folder):
+    """Returns the function of this name in the files of a crate that are changed, or else in any of its files, where it is one."""
+    files = sorted(os.path.relpath(it, folder) for it in glob.glob(f"{folder}/src/**/*.rt", recursive=True))
+    for them in (texts, files):
+        found = []
+        for path in them:
+            lines = text_of(f"{folder}/{path}").split("\n")
+            heads = ((at, FUNCTION.match(it)) for at, it in enumerate(lines))
+            bodies = (at for at, head in heads if head and head[2] == name and end_of(lines, at, head[1]) > at)
+            found += [path_of(lines, at, module_of(path, folder)) for at in bodies]
+        if len(found) == 1:
+            return found[0]
+    return None
 
 
 def read_edit(file, folder):
     """Returns an edit of the crate in a folder, or raises ValueError where it fits no more."""
-    texts = changed_by(file, folder)
-    return Edit(os.path.basename(file), os.path.basename(folder), texts, turned_by(texts, folder))
+    name, texts = os.path.basename(file), changed_by(file, folder)
+    turned = turned_by(texts, folder)
+    function = turned or named(name.split(".")[0][3:], texts, folder)
+    return Edit(name, os.path.basename(folder), texts, function, turned is not None)
 
 
 def applied(edits, folder):

@@ -2,7 +2,7 @@
 
 An edit is refused where the function that it turns is not proved, for a goal of its own: that a function which it calls is not
 proved does not count. In the same check each function that no edit turns has to be proved, but for those that call one that is
-not. An edit whose change lies in no one function is tried alone."""
+not. An edit whose change lies in no one body is tried alone: the function of its name has to be refused."""
 
 import os
 import re
@@ -81,7 +81,7 @@ def is_function(path, function):
 
 
 def reason_of(edit, reasons):
-    """Returns why the function that an edit turns is not proved, or nothing; of an edit that turns none, why some function is not."""
+    """Returns why the function that an edit turns is not proved, or nothing; where it is not known, why some function is not."""
     return next((f"{path}: {why}" for path, why in reasons.items() if not edit.function or is_function(path, edit.function)), "")
 
 
@@ -130,8 +130,8 @@ class Crate:
 
     def try_all(self, edits):
         """Tries edits of the crate, and says of each whether it is refused."""
-        tried, left = [], [it for it in edits if it.function]
-        alone = [it for it in edits if not it.function]
+        tried, left = [], [it for it in edits if it.is_of_body]
+        alone = [it for it in edits if not it.is_of_body]
         with tempfile.TemporaryDirectory(prefix="must-fail-kept-") as kept:
             while left:
                 turn = [*{it.function: it for it in reversed(left)}.values()]
