@@ -11,10 +11,12 @@ import subprocess
 import sys
 import tempfile
 import threading
+import time
 from concurrent.futures import ThreadPoolExecutor
 from typing import NamedTuple
 
 from edit import applied
+from watch import provers_of
 
 VERDICT = re.compile(r"fn (\S+): (.*)$")
 # A goal that is open, above the verdict of its function.
@@ -145,13 +147,15 @@ class Crate:
 
 
 class Trials:
-    """The edits of a repository's crates, tried while rt ci runs: those of a crate as soon as that is proved."""
+    """The edits of a repository's crates, tried while rt ci runs: those of a crate as soon as that is proved, where few provers run."""
 
     def __init__(self, root, edits):
         self.root, self.edits, self.rtlib = root, edits, kit()
         self.processors = len(os.sched_getaffinity(0))
-        self.lanes = threading.Semaphore(max(1, self.processors // 2))
-        self.pool, self.begun = ThreadPoolExecutor(self.processors), {}
+        # so many provers may run, those of rt ci among them
+        self.most = self.processors + self.processors // 2
+        self.pool, self.begun = ThreadPoolExecutor(self.most), {}
+        self.door, self.trying = threading.Lock(), set()
         # its first call sets a signal's handler, which only the main thread may
         self.rtlib.guarded()
 
@@ -161,13 +165,18 @@ class Trials:
             self.begun[crate] = self.pool.submit(self.try_crate, crate)
 
     def try_crate(self, crate):
-        with self.lanes:
+        with self.door:
+            while len(self.trying) + provers_of(self.root) >= self.most:
+                time.sleep(0.5)
+            self.trying.add(crate)
+        try:
             return Crate(self.root, crate, self.rtlib).try_all(self.edits[crate])
+        finally:
+            self.trying.discard(crate)
 
     def end(self):
         """Waits for all edits, on all processors, and returns what became of them."""
-        for _ in range(self.processors - self.processors // 2):
-            self.lanes.release()
+        self.most = self.processors
         return [it for crate in sorted(self.edits) for it in self.begun[crate].result()]
 
     def stop(self):

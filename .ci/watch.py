@@ -1,6 +1,8 @@
-"""What the prover does below this process: the processor time of each crate's proof, of its tests and of its edits."""
+"""What the provers of this machine do: how many work on a folder, and below this process the processor time of each crate's proof, of
+its tests and of its edits."""
 
 import collections
+import contextlib
 import glob
 import os
 import threading
@@ -25,6 +27,16 @@ def processes():
         name = text[text.index("(") + 1 : text.rindex(")")]
         found[int(entry.split("/")[2])] = Process(name, int(fields[1]), seconds, fields[19])
     return found
+
+
+def provers_of(folder):
+    """Returns how many provers work on the crates of a folder. One that has copies of itself do so only waits for these."""
+    found = {number: it for number, it in processes().items() if it.name == "rattle"}
+    waiting, count = {it.parent for it in found.values()}, 0
+    for number in found.keys() - waiting:
+        with contextlib.suppress(OSError):
+            count += os.readlink(f"/proc/{number}/cwd").startswith(f"{os.path.realpath(folder)}/")
+    return count
 
 
 class Watch(threading.Thread):
