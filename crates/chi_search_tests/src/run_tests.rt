@@ -1,7 +1,7 @@
 //! Tests of what an operation would have to find before it could leave what another one finds.
 
 use crate::comparison::assert_same;
-use crate::operations::{READ, STORE_ADD, STORE_EOR, WRITE, done, order, told};
+use crate::operations::{READ, STORE_ADD, STORE_EOR, WRITE, done, done_at, order, told};
 use chi_trace::Observed;
 use std::alloc::Global;
 use std::test::Fail;
@@ -43,5 +43,33 @@ fn number_that_one_makes(rt: HostRuntime) -> Result<(), Fail> {
     let turned = evens(rt.alloc(), STORE_EOR, (3 << 56) | 4)?;
     let both = (found(rt.alloc(), &sum)?, found(rt.alloc(), &turned)?);
     assert_same(&rt, both, ((None, 24), (None, 24)));
+    Ok(())
+}
+
+// Three additions of 1 to each of the two lowest pairs of bytes and nine writes of the highest byte, all open at once, and a read
+// of this word that ends last.
+fn sums_of_two_pairs(alloc: Global, read: u64) -> Result<Vec<Observed>, Fail> {
+    let mut ops = Vec::new(alloc);
+    for _ in 0..3 {
+        ops.push(done((0, 10), STORE_ADD, 0x0001_0001)?)?;
+    }
+    for number in 1..10 {
+        ops.push(done_at((0, 10), WRITE, 7, number << 56)?)?;
+    }
+    ops.push(told((10, 20), READ, 0, read)?)?;
+    Ok(ops)
+}
+
+#[test]
+fn sum_that_reaches_below_its_bytes(rt: HostRuntime) -> Result<(), Fail> {
+    let wrong = sums_of_two_pairs(rt.alloc(), (9 << 56) | 0x7777_0003)?;
+    // Eight states for each of the 13 operations, three for the additions in the lowest bytes, and few in the next ones.
+    let mut budget = 110;
+    let nothing = order(rt.alloc(), &wrong, None, &mut budget)?;
+    let right = sums_of_two_pairs(rt.alloc(), (9 << 56) | 0x0003_0003)?;
+    let mut more = 1000;
+    let found = order(rt.alloc(), &right, None, &mut more)?;
+    let both = (nothing.first().copied(), 110 - budget.min(110), found.len());
+    assert_same(&rt, both, (Some(999), 107, 13));
     Ok(())
 }
