@@ -11,7 +11,7 @@ use Rattle.chi_lanes.specs.Combination.{combine}
 use Rattle.chi_lanes.specs.Memory.{Memory, bytes_from, granule_start, with_bytes, word_at}
 use Rattle.chi_lanes.specs.Packet.{sent}
 use Rattle.chi_lanes.proofs.AfterLemmas.{IsMemory-after, length-combined}
-use Rattle.chi_lanes.proofs.CombineLemmas.{little_bytes-num}
+use Rattle.chi_lanes.proofs.CombineLemmas.{little_bytes-number_in}
 use Rattle.chi_lanes.proofs.Digits.{length-little_bytes}
 use Rattle.chi_lanes.proofs.MemoryLemmas.{bytes_from-with_bytes}
 use Rattle.chi_lanes.proofs.Operands.{IsPlaced, old_bytes, placed, same_bytes-differs, same_bytes-self}
@@ -40,7 +40,7 @@ module _ (o : Access) (word found : ℕ) (lawful : IsLawful o) (fits : word < 2 
   old_is =
       let value : ℕ = little (slice_range (little_bytes 8 word) (o.addr % 8) (o.addr % 8 + o.len)) in
       sym (old_bytes memory (IsMemory-with_word _ word) o.addr o.len word value place (sym (word_at-with_word _ word fits)) refl)
-      ∙ (ap (λ bs. little_bytes o.len (little bs)) in_word ∙ little_bytes-num false o.len found)
+      ∙ (ap (λ bs. little_bytes o.len (little bs)) in_word ∙ little_bytes-number_in false o.len found)
 
   -- the operand's bytes after an AtomicLoad
   pub left_bytes : (op : Op) (next new : ℕ) → o.kind ≡ Load op → next ≡ word_at (after o (with_word (granule_start o.addr) word)) (granule_start o.addr)

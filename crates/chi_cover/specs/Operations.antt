@@ -8,7 +8,7 @@ use Rattle.chi_fields.specs.declared.kind.Kind.TheVariants.{Write, Load, Compare
 use Rattle.chi_fields.specs.declared.kind.Op.{Op}
 use Rattle.chi_fields.specs.declared.kind.Op.TheVariants.{Add}
 use Rattle.chi_lanes.specs.After.{same_bytes}
-use Rattle.chi_lanes.specs.Bytes.{num}
+use Rattle.chi_lanes.specs.Bytes.{number_in}
 use Rattle.chi_lanes.specs.Combination.{combine}
 use Rattle.chi_lanes.specs.Packet.{sent}
 use Rattle.chi_lanes.specs.declared.reply.Reply.{Reply}
@@ -61,9 +61,9 @@ abbrev pub values_as : Op → Access → List ℕ → Values
 values_as op a returned = record {
   op = op;
   len = a.len;
-  old = num a.endian (operand_in a returned);
-  sent = num a.endian (operand_in a a.lanes);
-  new = num a.endian (combine op a.endian (operand_in a returned) (operand_in a a.lanes));
+  old = number_in a.endian (operand_in a returned);
+  sent = number_in a.endian (operand_in a a.lanes);
+  new = number_in a.endian (combine op a.endian (operand_in a returned) (operand_in a a.lanes));
 }
 
 abbrev pub values_by : Kind → Access → Option Reply → Option Values

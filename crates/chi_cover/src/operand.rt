@@ -3,7 +3,7 @@
 ghost use Rattle.std.specs.Prelude.{◌≡◌, ◌+◌, ◌^◌, ◌<◌, ◌≤◌, IfSome};
 ghost use Rattle.chi_fields.specs.Access.{IsLen};
 ghost use Rattle.chi_fields.specs.declared.kind.Kind.{Kind};
-ghost use Rattle.chi_lanes.specs.Bytes.{little_bytes, num};
+ghost use Rattle.chi_lanes.specs.Bytes.{little_bytes, number_in};
 ghost use Rattle.chi_lanes.specs.Combination.{combine};
 ghost use Rattle.chi_cover.specs.Operations.{operand_in, values_as, values_of};
 
@@ -25,7 +25,7 @@ pub(crate) struct Values {
 fn ordered(endian: bool, len: usize, value: u64) -> u64
     requires part { IsLen len }
     requires fits { value < 256 ^ len }
-    ensures { result ≡ num endian (little_bytes len value) }
+    ensures { result ≡ number_in endian (little_bytes len value) }
 {
     if endian {
         swap_order(value, len)

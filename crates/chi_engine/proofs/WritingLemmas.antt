@@ -10,7 +10,7 @@ use Rattle.chi_requester.specs.declared.race_of_any.Racer.{Racer}
 use Rattle.chi_requester.specs.Race.{lines_of_all}
 use Rattle.chi_script.specs.RunText.{granule_words}
 use Rattle.chi_script.specs.Script.{ScriptValue}
-use Rattle.chi_script.specs.Transcript.{memtext, text}
+use Rattle.chi_script.specs.Transcript.{granules_text, text}
 use Rattle.chi_script.specs.WriterBytes.{AppendsFront, Puts}
 use Rattle.chi_engine.specs.declared.options.Workers.{Workers}
 use Rattle.chi_engine.specs.declared.options.Workers.TheVariants.{Two, Four}
@@ -66,7 +66,7 @@ race_lines_are Four zero (x ∷ (y ∷ (z ∷ (w ∷ (v ∷ more))))) count = ab
 -- the whole transcript of a race
 pub race_text_is : {S G A : Type 0} (workers : Workers) (s : ScriptValue) (since : List Entry) (zero last : List Line) (racers : List (Racer S G A)) (base : ℕ) (words : List ℕ)
     → length racers ≡ most_racer workers → last ≡ zero → base ≡ s.region.base → words ≡ granule_words (end (opening_of s) since) s.region.base s.region.granules
-    → (racers_text racers ++ text last) ++ memtext base words ≡ race_text workers s since (lines_of_all zero racers)
+    → (racers_text racers ++ text last) ++ granules_text base words ≡ race_text workers s since (lines_of_all zero racers)
 race_text_is workers s since zero last racers base words count same at_base shown = rw (same, at_base, shown, race_lines_are workers zero racers count) refl
 
 -- what was written is a prefix in both cases

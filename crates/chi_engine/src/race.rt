@@ -3,7 +3,7 @@
 ghost use Rattle.std.specs.Prelude.{◌≡◌, ◌+◌, [], ◌++◌, length, All, IfOk};
 ghost use Rattle.chi_history.specs.NumberSets.{AllFrom, below};
 ghost use Rattle.chi_history.specs.History.{end};
-ghost use Rattle.chi_script.specs.Transcript.{memtext, text};
+ghost use Rattle.chi_script.specs.Transcript.{granules_text, text};
 ghost use Rattle.chi_script.specs.WriterBytes.{Puts};
 ghost use Rattle.chi_engine.specs.Engine.{KeepsUnexecuted, ReportsOpening};
 ghost use Rattle.chi_engine.specs.RaceTranscript.{RacesBy, RacesOver, most_racer, racers_text};
@@ -72,7 +72,7 @@ fn write_race<W: Write, S, G>(
 ) -> Result<(), WriteFault>
     requires { length words.now ≡ region.now.granules }
     ensures { Puts (W.contents to.old) (W.contents to.new) result
-        ((racers_text racers.now ++ text zero.now) ++ memtext region.now.base words.now) }
+        ((racers_text racers.now ++ text zero.now) ++ granules_text region.now.base words.now) }
 {
     write_racers(to, racers)?;
     write_transcript(to, zero, region, words)

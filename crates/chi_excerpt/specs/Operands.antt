@@ -7,7 +7,7 @@ use Rattle.chi_fields.specs.declared.kind.Kind.{Kind}
 use Rattle.chi_fields.specs.declared.kind.Kind.TheVariants.{Read, Write, Store, Load, Swap, Compare}
 use Rattle.chi_fields.specs.declared.kind.Op.{Op}
 use Rattle.chi_fields.specs.declared.kind.Op.TheVariants.{Add, Clr, Eor, Set, SMax, SMin, UMax, UMin}
-use Rattle.chi_lanes.specs.Packet.{sent, swp}
+use Rattle.chi_lanes.specs.Packet.{sent, swap_value}
 use Rattle.chi_lanes.specs.declared.reply.Reply.{Reply}
 use Rattle.chi_lanes.specs.declared.reply.Reply.TheVariants.{Comp, CompData}
 
@@ -32,7 +32,7 @@ abbrev pub sent_bytes : Access → List ℕ
 sent_bytes a = sent a.lanes (lane_of a.addr) a.len
 
 abbrev pub swap_bytes : Access → List ℕ
-swap_bytes a = swp a.lanes (lane_of a.addr) a.len
+swap_bytes a = swap_value a.lanes (lane_of a.addr) a.len
 
 -- what was sent
 abbrev pub sent_by : Kind → Access → List ℕ

@@ -1,21 +1,20 @@
 -- what an access leaves of a memory: bytes, and the words of every other granule
-use Rattle.std.proofs.Common.{◌≡◌, ◌≢◌, ℕ, ◌+◌, ◌-◌, ◌*◌, ◌/◌, ◌%◌, ◌<◌, ◌≤◌, ◌==◌, ◌⊎◌, inl, inr, Bool, true, false, cond, List, length, slice_range, refl, sym, ap, ◌∙◌, arith}
+use Rattle.std.proofs.Common.{◌≡◌, ◌≢◌, ℕ, ◌+◌, ◌-◌, ◌*◌, ◌/◌, ◌%◌, ◌<◌, ◌≤◌, ◌⊎◌, inl, inr, Bool, true, false, cond, List, length, refl, sym, ◌∙◌, arith}
 use Rattle.std.proofs.lemmas.Bool.{and_parts, cases_lt, leb-true}
 use Rattle.chi_fields.specs.declared.kind.Kind.{Kind}
 use Rattle.chi_fields.specs.declared.kind.Op.{Op}
 use Rattle.chi_fields.specs.declared.kind.Kind.TheVariants.{Read, Write, Store, Load, Swap, Compare}
 use Rattle.chi_fields.specs.Extent.{Extent, IsRegion, granule_of, lies_in}
 use Rattle.chi_fields.specs.Access.{IsLawful, IsLen, Access, lane_of}
-use Rattle.chi_fields.proofs.EnableBits.{window_within}
 use Rattle.chi_lanes.specs.After.{after, after_as, old, same_bytes}
 use Rattle.chi_lanes.specs.Bytes.{AreBytes}
 use Rattle.chi_lanes.specs.Combination.{combine}
 use Rattle.chi_lanes.specs.Memory.{Memory, IsMemory, granule_start, with_bytes, word, word_at}
-use Rattle.chi_lanes.specs.Packet.{sent, swp}
+use Rattle.chi_lanes.specs.Packet.{other_half, sent, swap_value}
 use Rattle.chi_lanes.proofs.ByteLists.{AreBytes-slice_range}
 use Rattle.chi_lanes.proofs.CombineLemmas.{AreBytes-combine, length-combine}
 use Rattle.chi_lanes.proofs.MemoryLemmas.{AreBytes-bytes_from, IsMemory-with_bytes, IsMemory-with_enabled, length-bytes_from, word_at-outside, word_at-outside_enabled}
-use Rattle.chi_lanes.proofs.Operands.{IsPlaced, placed}
+use Rattle.chi_lanes.proofs.Operands.{IsPlaced, other_within, placed}
 use Rattle.chi_lanes.proofs.Runs.{length-slice_range}
 
 -- a granule that does not start where the operand's does lies below the operand or above it
@@ -36,36 +35,12 @@ length-old : (o : Access) → IsLawful o → (m : Memory) → length (old o m) �
 length-old o is m = length-bytes_from m o.addr o.len ∙ sym (length-sent o is)
 
 -- the swap value is as long as the operand
-pub length-swp : (lanes : List ℕ) (l len : ℕ) → length lanes ≡ 16 → IsLen len → l < 16 → length (swp lanes l len) ≡ len
-length-swp lanes l len whole part inside = by_half (l == l - l % (2 * len))
-  where
-    w : ℕ
-    w = l - l % (2 * len)
-
-    within : w + 2 * len ≤ 16
-    within = window_within l len part inside
-
-    twice : w + len + len ≡ w + 2 * len
-    twice = omega arith
-
-    by_half : (b : Bool) → length (cond b (slice_range lanes (w + len) (w + 2 * len)) (slice_range lanes w (w + len))) ≡ len
-    by_half true =
-        let room : w + len + len ≤ length lanes = rw whole (omega (arith, within)) in
-        ap (λ e. length (slice_range lanes (w + len) e)) (sym twice) ∙ length-slice_range lanes (w + len) len room
-    by_half false =
-        let room : w + len ≤ length lanes = rw whole (omega (arith, within)) in
-        length-slice_range lanes w len room
+pub length-swap_value : (lanes : List ℕ) (l len : ℕ) → length lanes ≡ 16 → IsLen len → l < 16 → length (swap_value lanes l len) ≡ len
+length-swap_value lanes l len whole part inside = length-slice_range lanes (other_half l len) len (rw whole (other_within l len part inside))
 
 -- the swap value is of bytes
-AreBytes-swp : (lanes : List ℕ) (l len : ℕ) → AreBytes lanes → AreBytes (swp lanes l len)
-AreBytes-swp lanes l len are = by_half (l == l - l % (2 * len))
-  where
-    w : ℕ
-    w = l - l % (2 * len)
-
-    by_half : (b : Bool) → AreBytes (cond b (slice_range lanes (w + len) (w + 2 * len)) (slice_range lanes w (w + len)))
-    by_half true = AreBytes-slice_range lanes (w + len) (w + 2 * len) are
-    by_half false = AreBytes-slice_range lanes w (w + len) are
+AreBytes-swap_value : (lanes : List ℕ) (l len : ℕ) → AreBytes lanes → AreBytes (swap_value lanes l len)
+AreBytes-swap_value lanes l len are = AreBytes-slice_range lanes (other_half l len) (other_half l len + len) are
 
 -- what an access combines is of bytes
 AreBytes-combined : (op : Op) (o : Access) (m : Memory) → IsMemory m → IsLawful o
@@ -91,8 +66,8 @@ IsMemory-after_as Swap o m is lawful =
     IsMemory-with_bytes m is o.addr (sent o.lanes l o.len) (AreBytes-slice_range o.lanes l (l + o.len) lawful.bytes)
 IsMemory-after_as Compare o m is lawful = by_test (same_bytes (old o m) (sent o.lanes (lane_of o.addr) o.len))
   where
-    by_test : (b : Bool) → IsMemory (cond b (with_bytes m o.addr (swp o.lanes (lane_of o.addr) o.len)) m)
-    by_test true = IsMemory-with_bytes m is o.addr (swp o.lanes (lane_of o.addr) o.len) (AreBytes-swp o.lanes (lane_of o.addr) o.len lawful.bytes)
+    by_test : (b : Bool) → IsMemory (cond b (with_bytes m o.addr (swap_value o.lanes (lane_of o.addr) o.len)) m)
+    by_test true = IsMemory-with_bytes m is o.addr (swap_value o.lanes (lane_of o.addr) o.len) (AreBytes-swap_value o.lanes (lane_of o.addr) o.len lawful.bytes)
     by_test false = is
 
 -- a lawful access leaves a memory a memory
@@ -122,9 +97,9 @@ word_at-after_as Compare o m s lawful aligned other = by_test (same_bytes (old o
     lane_below : lane_of o.addr < 16
     lane_below = omega arith
 
-    by_test : (b : Bool) → word_at (cond b (with_bytes m o.addr (swp o.lanes (lane_of o.addr) o.len)) m) s ≡ word_at m s
+    by_test : (b : Bool) → word_at (cond b (with_bytes m o.addr (swap_value o.lanes (lane_of o.addr) o.len)) m) s ≡ word_at m s
     by_test true =
-        written_other o m (swp o.lanes (lane_of o.addr) o.len) s lawful (length-swp o.lanes (lane_of o.addr) o.len lawful.packet lawful.part lane_below) aligned other
+        written_other o m (swap_value o.lanes (lane_of o.addr) o.len) s lawful (length-swap_value o.lanes (lane_of o.addr) o.len lawful.packet lawful.part lane_below) aligned other
     by_test false = refl
 
 -- a lawful access leaves the word of every granule but its own

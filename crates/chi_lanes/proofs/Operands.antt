@@ -1,12 +1,13 @@
 -- the operand of a lawful access, in its granule's word and in the packet
-use Rattle.std.proofs.Common.{◌≡◌, ℕ, ◌+◌, ◌-◌, ◌*◌, ◌%◌, ◌^◌, ◌<◌, ◌≤◌, ◌==◌, Bool, true, false, cond, List, [], ◌∷◌, ◌++◌, length, take, drop, slice_range, refl, sym, ap, ◌∙◌, arith, inl, inr, eqb-true, eq-eqb, true≢false, ◌≢◌}
+use Rattle.std.proofs.Common.{◌≡◌, ℕ, ◌+◌, ◌-◌, ◌*◌, ◌%◌, ◌^◌, ◌<◌, ◌≤◌, ◌==◌, Bool, true, false, List, [], ◌∷◌, ◌++◌, length, take, drop, slice_range, refl, sym, ap, ◌∙◌, arith, inl, inr, eqb-true, eq-eqb, true≢false, ◌≢◌}
 use Rattle.std.proofs.lemmas.Bool.{and_from, and_parts}
+use Rattle.std.proofs.lemmas.Bool.Decides.{nat_tests}
 use Rattle.chi_fields.specs.Access.{IsLen, lane_of}
 use Rattle.chi_fields.proofs.EnableBits.{window_within}
 use Rattle.chi_lanes.specs.After.{same_bytes}
 use Rattle.chi_lanes.specs.Bytes.{AreBytes, little, little_bytes}
 use Rattle.chi_lanes.specs.Memory.{Memory, IsMemory, bytes_from, granule_start, with_bytes, word_at}
-use Rattle.chi_lanes.specs.Packet.{swp}
+use Rattle.chi_lanes.specs.Packet.{other_half, swap_value}
 use Rattle.chi_lanes.proofs.ByteLists.{AreBytes-slice_range}
 use Rattle.chi_lanes.proofs.Digits.{little_bytes_little, same_from_bytes}
 use Rattle.chi_lanes.proofs.MemoryLemmas.{inserted, little_bytes-extracted}
@@ -50,27 +51,17 @@ lanes_of_value lanes first len value whole are within read =
     let spelled = little_bytes_little (slice_range lanes first (first + len)) (AreBytes-slice_range lanes first (first + len) are) in
     ap (little_bytes len) read ∙ rw count at spelled
 
+-- the other half of a window lies in the packet
+pub other_within : (l len : ℕ) → IsLen len → l < 16 → other_half l len + len ≤ 16
+other_within l len part inside =
+    let window : l - l % (2 * len) + 2 * len ≤ 16 = window_within l len part inside in
+    grind (arith, nat_tests, window)
+
 -- the bytes of the swap value's number are the swap value
 pub swap_of_value : (lanes : List ℕ) (l len value : ℕ) → length lanes ≡ 16 → AreBytes lanes → IsLen len → l < 16
-    → value ≡ little (swp lanes l len) → little_bytes len value ≡ swp lanes l len
-swap_of_value lanes l len value whole are part inside read = by_half (l == l - l % (2 * len)) read
-  where
-    w : ℕ
-    w = l - l % (2 * len)
-
-    within : w + 2 * len ≤ 16
-    within = window_within l len part inside
-
-    twice : w + len + len ≡ w + 2 * len
-    twice = omega arith
-
-    by_half : (b : Bool) → value ≡ little (cond b (slice_range lanes (w + len) (w + 2 * len)) (slice_range lanes w (w + len)))
-        → little_bytes len value ≡ cond b (slice_range lanes (w + len) (w + 2 * len)) (slice_range lanes w (w + len))
-    by_half true upper =
-        let bound : w + len + len ≤ 16 = omega (arith, within) in
-        lanes_of_value lanes (w + len) len value whole are bound (upper ∙ ap (λ e. little (slice_range lanes (w + len) e)) (sym twice))
-        ∙ ap (λ e. slice_range lanes (w + len) e) twice
-    by_half false lower = lanes_of_value lanes w len value whole are (omega (arith, within)) lower
+    → value ≡ little (swap_value lanes l len) → little_bytes len value ≡ swap_value lanes l len
+swap_of_value lanes l len value whole are part inside read =
+    lanes_of_value lanes (other_half l len) len value whole are (other_within l len part inside) read
 
 -- a list has its own bytes
 pub same_bytes-self : (bs : List ℕ) → same_bytes bs bs ≡ true

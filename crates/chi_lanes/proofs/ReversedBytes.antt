@@ -4,7 +4,7 @@ use Rattle.std.proofs.lemmas.Bool.{cases_lt}
 use Rattle.std.proofs.lemmas.List.{reverse-reverse, length-reverse, get_or-reverse, get_or_past}
 use Rattle.std.proofs.lemmas.Nat.{pow-add}
 use Rattle.std.proofs.lemmas.Grind.{reverse_onto}
-use Rattle.chi_lanes.specs.Bytes.{little, big, little_bytes, num, bytes}
+use Rattle.chi_lanes.specs.Bytes.{little, big, little_bytes, number_in, bytes}
 use Rattle.chi_lanes.proofs.Digits.{length-little_bytes, little_little_bytes, little_bytes_little, little-bound}
 
 -- the number of joined bytes, the most significant first
@@ -60,9 +60,9 @@ big-bound bs is =
     rw (← little-reverse bs, ← length-reverse bs) (little-bound (reverse bs) (AreBytes-reverse bs is))
 
 -- bytes, read in either order, spell a number below that power of 256
-pub num-bound : (endian : Bool) (bs : List ℕ) → ((i : ℕ) → slice_index bs i < 256) → num endian bs < 256 ^ length bs
-num-bound true bs is = big-bound bs is
-num-bound false bs is = little-bound bs is
+pub number_in-bound : (endian : Bool) (bs : List ℕ) → ((i : ℕ) → slice_index bs i < 256) → number_in endian bs < 256 ^ length bs
+number_in-bound true bs is = big-bound bs is
+number_in-bound false bs is = little-bound bs is
 
 -- the bytes of a number in either order are so many
 pub length-bytes : (endian : Bool) (len n : ℕ) → length (bytes endian len n) ≡ len
@@ -75,16 +75,16 @@ AreBytes-bytes true len n i = AreBytes-reverse (little_bytes len n) (AreBytes-li
 AreBytes-bytes false len n i = AreBytes-little_bytes len n i
 
 -- the bytes of a number spell it, cut to so many bytes
-pub num-bytes : (endian : Bool) (len n : ℕ) → num endian (bytes endian len n) ≡ n % 256 ^ len
-num-bytes true len n = big-reverse (little_bytes len n) ∙ little_little_bytes len n
-num-bytes false len n = little_little_bytes len n
+pub number_in-bytes : (endian : Bool) (len n : ℕ) → number_in endian (bytes endian len n) ≡ n % 256 ^ len
+number_in-bytes true len n = big-reverse (little_bytes len n) ∙ little_little_bytes len n
+number_in-bytes false len n = little_little_bytes len n
 
 -- the bytes of the number that bytes spell are those bytes
-pub bytes-num : (endian : Bool) (bs : List ℕ) → ((i : ℕ) → slice_index bs i < 256) → bytes endian (length bs) (num endian bs) ≡ bs
-bytes-num true bs is =
+pub bytes-number_in : (endian : Bool) (bs : List ℕ) → ((i : ℕ) → slice_index bs i < 256) → bytes endian (length bs) (number_in endian bs) ≡ bs
+bytes-number_in true bs is =
     let turned : little_bytes (length (reverse bs)) (little (reverse bs)) ≡ reverse bs =
     little_bytes_little (reverse bs) (AreBytes-reverse bs is) in
     let back : little_bytes (length bs) (big bs) ≡ reverse bs =
     rw (← little-reverse bs, ← length-reverse bs) turned in
     ap reverse back ∙ reverse-reverse bs
-bytes-num false bs is = little_bytes_little bs is
+bytes-number_in false bs is = little_bytes_little bs is

@@ -7,7 +7,7 @@ use Rattle.chi_lanes.specs.declared.reply.Reply.{Reply}
 use Rattle.chi_lanes.specs.declared.reply.Reply.TheVariants.{Comp, CompData}
 use Rattle.chi_lanes.specs.Combination.{combine}
 use Rattle.chi_lanes.specs.Memory.{Memory, bytes_from, with_bytes, with_enabled}
-use Rattle.chi_lanes.specs.Packet.{in_lanes, sent, swp}
+use Rattle.chi_lanes.specs.Packet.{in_lanes, sent, swap_value}
 
 -- the old bytes of the operand
 abbrev pub old : Access → Memory → List ℕ
@@ -22,7 +22,7 @@ same_bytes _ _ = false
 -- the swap value is written exactly where the old bytes are the compare value
 abbrev pub after_compare : Access → Memory → Memory
 after_compare o m =
-    if same_bytes (old o m) (sent o.lanes (lane_of o.addr) o.len) then with_bytes m o.addr (swp o.lanes (lane_of o.addr) o.len) else m
+    if same_bytes (old o m) (sent o.lanes (lane_of o.addr) o.len) then with_bytes m o.addr (swap_value o.lanes (lane_of o.addr) o.len) else m
 
 abbrev pub after_as : Kind → Access → Memory → Memory
 after_as Read o m = m

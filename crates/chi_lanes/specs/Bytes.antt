@@ -16,16 +16,16 @@ big [] = 0
 big (b ∷ bs) = b * 256 ^ length bs + big bs
 
 -- the number of some bytes: big-endian or little-endian
-abbrev pub num : Bool → List ℕ → ℕ
-num endian bs = if endian then big bs else little bs
+abbrev pub number_in : Bool → List ℕ → ℕ
+number_in endian bs = if endian then big bs else little bs
 
 -- a number of so many bytes, read as two's complement
 abbrev pub signed_number : ℕ → ℕ → ℤ
 signed_number len n = if nat_lt (2 * n) (256 ^ len) then pos n else pos n -ℤ pos (256 ^ len)
 
 -- the two's complement number of some bytes
-abbrev pub snum : Bool → List ℕ → ℤ
-snum endian bs = signed_number (length bs) (num endian bs)
+abbrev pub signed_number_in : Bool → List ℕ → ℤ
+signed_number_in endian bs = signed_number (length bs) (number_in endian bs)
 
 -- so many bytes that spell a number, the least significant first
 unfoldable pub little_bytes : ℕ → ℕ → List ℕ

@@ -6,11 +6,13 @@ use Rattle.std.specs.Prelude.{ℕ, ◌+◌, ◌-◌, ◌*◌, ◌%◌, ◌==◌,
 abbrev pub sent : List ℕ → ℕ → ℕ → List ℕ
 sent lanes l len = slice_range lanes l (l + len)
 
--- the swap value of an AtomicCompare, which stands in the window's other half; w is the window's first lane
-abbrev pub swp : List ℕ → ℕ → ℕ → List ℕ
-swp lanes l len =
-    let w = l - l % (2 * len) in
-    if l == w then slice_range lanes (w + len) (w + 2 * len) else slice_range lanes w (w + len)
+-- the first lane of the other half of an AtomicCompare's window, whose two halves have len lanes each
+abbrev pub other_half : ℕ → ℕ → ℕ
+other_half l len = if l % (2 * len) == 0 then l + len else l - len
+
+-- the swap value of an AtomicCompare, which stands in the window's other half
+abbrev pub swap_value : List ℕ → ℕ → ℕ → List ℕ
+swap_value lanes l len = sent lanes (other_half l len) len
 
 -- returned data: the bytes from lane l on, and 0 in every other lane
 abbrev pub in_lanes : ℕ → List ℕ → List ℕ

@@ -1,7 +1,7 @@
 //! The other byte order of a number of a few bytes.
 
 ghost use Rattle.std.specs.Prelude.{◌≡◌, ◌≤◌, ◌<◌, ◌^◌, true};
-ghost use Rattle.chi_lanes.specs.Bytes.{num, little_bytes};
+ghost use Rattle.chi_lanes.specs.Bytes.{number_in, little_bytes};
 
 /// The number that the little-endian bytes of `value` spell when they are read big-endian, and the
 /// other way round. `len` is a number of bytes, 1 to 8, and `value` is below 256 to that power.
@@ -13,7 +13,7 @@ pub fn swap_order(value: u64, len: usize) -> u64
     requires some { 1 ≤ len }
     requires most { len ≤ 8 }
     requires fits { value < 256 ^ len }
-    ensures reversed { result ≡ num true (little_bytes len value) }
+    ensures reversed { result ≡ number_in true (little_bytes len value) }
     ensures below { result < 256 ^ len }
 {
     value.swap_bytes() >> (8 * (8 - len))

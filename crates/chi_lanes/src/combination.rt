@@ -1,7 +1,7 @@
 //! What an atomic leaves in its operand.
 
 ghost use Rattle.std.specs.Prelude.{◌≡◌, ◌≤◌, ◌<◌, ◌+◌, ◌%◌, ◌^◌, nat_lt, int_lt};
-ghost use Rattle.chi_lanes.specs.Bytes.{num, snum, bytes, little_bytes};
+ghost use Rattle.chi_lanes.specs.Bytes.{number_in, signed_number_in, bytes, little_bytes};
 ghost use Rattle.chi_lanes.specs.Combination.{combine};
 
 use crate::byte_order::swap_order;
@@ -14,7 +14,7 @@ fn ordered(endian: bool, len: usize, value: u64) -> u64
     requires some { 1 ≤ len }
     requires most { len ≤ 8 }
     requires fits { value < 256 ^ len }
-    ensures number { result ≡ num endian (little_bytes len value) }
+    ensures number { result ≡ number_in endian (little_bytes len value) }
     ensures below { result < 256 ^ len }
 {
     if endian {
@@ -32,8 +32,8 @@ fn sum(endian: bool, len: usize, old: u64, sent: u64) -> u64
     requires old_fits { old < 256 ^ len }
     requires sent_fits { sent < 256 ^ len }
     ensures below { result < 256 ^ len }
-    ensures bytes { let x = num endian (little_bytes len old) in
-        let y = num endian (little_bytes len sent) in
+    ensures bytes { let x = number_in endian (little_bytes len old) in
+        let y = number_in endian (little_bytes len sent) in
         little_bytes len result ≡ bytes endian len ((x + y) % 256 ^ len) }
 {
     let mask = u64::MAX >> (64 - 8 * len);
@@ -48,7 +48,7 @@ fn is_less(endian: bool, len: usize, x: u64, y: u64) -> bool
     requires most { len ≤ 8 }
     requires x_fits { x < 256 ^ len }
     requires y_fits { y < 256 ^ len }
-    ensures { result ≡ nat_lt (num endian (little_bytes len x)) (num endian (little_bytes len y)) }
+    ensures { result ≡ nat_lt (number_in endian (little_bytes len x)) (number_in endian (little_bytes len y)) }
 {
     ordered(endian, len, x) < ordered(endian, len, y)
 }
@@ -60,7 +60,7 @@ fn is_less_signed(endian: bool, len: usize, x: u64, y: u64) -> bool
     requires most { len ≤ 8 }
     requires x_fits { x < 256 ^ len }
     requires y_fits { y < 256 ^ len }
-    ensures { result ≡ int_lt (snum endian (little_bytes len x)) (snum endian (little_bytes len y)) }
+    ensures { result ≡ int_lt (signed_number_in endian (little_bytes len x)) (signed_number_in endian (little_bytes len y)) }
 {
     let sign = 1 << (8 * len - 1);
     ordered(endian, len, x) ^ sign < ordered(endian, len, y) ^ sign

@@ -1,7 +1,7 @@
 //! Runs of lanes of a granule's word, by shifts and masks. Lane 0 is its least significant byte.
 
 ghost use Rattle.std.specs.Prelude.{◌≡◌, ◌+◌, ◌-◌, ◌*◌, ◌^◌, ◌<◌, ◌≤◌, ◌++◌, false, replicate, take, drop, slice_range};
-ghost use Rattle.chi_lanes.specs.Bytes.{little_bytes, num};
+ghost use Rattle.chi_lanes.specs.Bytes.{little_bytes, number_in};
 
 /// The word whose `len` bytes from `lane` on are 255 and whose other bytes are 0.
 ///
@@ -25,7 +25,7 @@ pub fn lane_mask(lane: usize, len: usize) -> u64
 pub fn extract(word: u64, lane: usize, len: usize) -> u64
     requires room { lane + len ≤ 8 }
     requires some { 1 ≤ len }
-    ensures value { result ≡ num false (slice_range (little_bytes 8 word) lane (lane + len)) }
+    ensures value { result ≡ number_in false (slice_range (little_bytes 8 word) lane (lane + len)) }
     ensures below { result < 256 ^ len }
 {
     (word >> (8 * lane)) & (u64::MAX >> (64 - 8 * len))

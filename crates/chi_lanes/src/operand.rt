@@ -6,7 +6,7 @@ ghost use Rattle.chi_fields.specs.declared.kind.Kind.{Kind};
 ghost use Rattle.chi_lanes.specs.After.{after_compare, old};
 ghost use Rattle.chi_lanes.specs.Bytes.{little_bytes};
 ghost use Rattle.chi_lanes.specs.Memory.{Memory, IsMemory, granule_start, with_bytes, with_enabled, word_at};
-ghost use Rattle.chi_lanes.specs.Packet.{sent, swp};
+ghost use Rattle.chi_lanes.specs.Packet.{sent, swap_value};
 
 use crate::kernels::{extract, insert};
 use crate::packet::{enabled_mask, lanes_value, masked, packet_half, swap_half};
@@ -35,7 +35,7 @@ pub(crate) fn sent_of(access: &Access) -> u64
 #[inline]
 pub(crate) fn swap_of(access: &Access) -> u64
     ensures below { result < 256 ^ access.now.len }
-    ensures bytes { little_bytes access.now.len result ≡ swp access.now.lanes (lane_of access.now.addr) access.now.len }
+    ensures bytes { little_bytes access.now.len result ≡ swap_value access.now.lanes (lane_of access.now.addr) access.now.len }
 {
     swap_half(&access.lanes(), access.lane(), access.len())
 }

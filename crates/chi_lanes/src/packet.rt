@@ -3,8 +3,8 @@
 ghost use Rattle.std.specs.Prelude.{◌≡◌, ℕ, ◌+◌, ◌*◌, ◌%◌, ◌^◌, ◌<◌, false, slice_index, slice_range, if◌then◌else◌};
 ghost use Rattle.std.specs.Int.{bit_at};
 ghost use Rattle.chi_fields.specs.Access.{IsLen};
-ghost use Rattle.chi_lanes.specs.Bytes.{little_bytes, num};
-ghost use Rattle.chi_lanes.specs.Packet.{in_lanes, sent, swp};
+ghost use Rattle.chi_lanes.specs.Bytes.{little_bytes, number_in};
+ghost use Rattle.chi_lanes.specs.Packet.{in_lanes, sent, swap_value};
 
 use crate::kernels::extract;
 
@@ -36,7 +36,7 @@ pub(crate) fn lanes_value(lanes: &[u8; 16], lane: usize, len: usize) -> u64
     requires part { IsLen len }
     requires aligned { lane % len ≡ 0 }
     requires inside { lane < 16 }
-    ensures value { result ≡ num false (sent lanes.now lane len) }
+    ensures value { result ≡ number_in false (sent lanes.now lane len) }
     ensures below { result < 256 ^ len }
 {
     let upper = lane >= 8;
@@ -52,7 +52,7 @@ pub fn compare_half(lanes: &[u8; 16], lane: usize, len: usize) -> u64
     requires part { IsLen len }
     requires aligned { lane % len ≡ 0 }
     requires inside { lane < 16 }
-    ensures value { result ≡ num false (sent lanes.now lane len) }
+    ensures value { result ≡ number_in false (sent lanes.now lane len) }
     ensures below { result < 256 ^ len }
 {
     lanes_value(lanes, lane, len)
@@ -68,15 +68,12 @@ pub fn swap_half(lanes: &[u8; 16], lane: usize, len: usize) -> u64
     requires part { IsLen len }
     requires aligned { lane % len ≡ 0 }
     requires inside { lane < 16 }
-    ensures value { result ≡ num false (swp lanes.now lane len) }
+    ensures value { result ≡ number_in false (swap_value lanes.now lane len) }
     ensures below { result < 256 ^ len }
 {
-    let first = lane - lane % (2 * len);
-    if lane == first {
-        lanes_value(lanes, first + len, len)
-    } else {
-        lanes_value(lanes, first, len)
-    }
+    let is_lower = lane % (2 * len) == 0;
+    let other = if is_lower { lane + len } else { lane - len };
+    lanes_value(lanes, other, len)
 }
 
 /// The lanes of an answer: the `len` bytes of `value` from `lane` on, least significant first, else 0.

@@ -7,7 +7,7 @@ use Rattle.chi_fields.specs.declared.request.Request.{Request}
 use Rattle.chi_fields.specs.declared.refusal.Refusal.TheVariants.{Misaligned}
 use Rattle.chi_lanes.specs.declared.reply.Reply.TheVariants.{Comp, CompData}
 use Rattle.chi_history.specs.declared.line.Line.TheVariants.{Completed, Refused, Retried}
-use Rattle.chi_script.specs.Transcript.{request_text, line_text, granule_text, text, memtext}
+use Rattle.chi_script.specs.Transcript.{request_text, line_text, granule_text, text, granules_text}
 
 -- an AtomicLoad ADD of 1 to the eight bytes at 0x1000
 abbrev pub fetch_add : Request
@@ -23,7 +23,7 @@ fetch_add = record {
 }
 
 -- the transcript of one fetch and add on zeros
-pub text-fetch_add : text (Completed fetch_add (CompData (replicate 16 0)) ∷ []) ++ memtext 4096 (1 ∷ replicate 7 0)
+pub text-fetch_add : text (Completed fetch_add (CompData (replicate 16 0)) ∷ []) ++ granules_text 4096 (1 ∷ replicate 7 0)
     ≡ codes "0 1 30 AtomicLoad.ADD 3 0000000000001000 data 00000000000000000000000000000000\nm 0000000000001000 0100000000000000\nm 0000000000001008 0000000000000000\nm 0000000000001010 0000000000000000\nm 0000000000001018 0000000000000000\nm 0000000000001020 0000000000000000\nm 0000000000001028 0000000000000000\nm 0000000000001030 0000000000000000\nm 0000000000001038 0000000000000000\n"
 unfolding request_text line_text granule_text hex_on_literals digits
 text-fetch_add = refl
@@ -47,6 +47,6 @@ unfolding request_text line_text hex_on_literals digits
 text-comp = refl
 
 -- a word is printed in address order
-pub memtext-order : memtext (2 ^ 52 - 8) (0x8877665544332211 ∷ []) ≡ codes "m 000ffffffffffff8 1122334455667788\n"
+pub granules_text-order : granules_text (2 ^ 52 - 8) (0x8877665544332211 ∷ []) ≡ codes "m 000ffffffffffff8 1122334455667788\n"
 unfolding granule_text hex_on_literals
-memtext-order = refl
+granules_text-order = refl

@@ -4,7 +4,7 @@ use Rattle.chi_fields.specs.declared.request.Request.{Request}
 use Rattle.chi_fields.specs.Extent.{Extent}
 use Rattle.chi_lanes.specs.Memory.{Memory, word_at}
 use Rattle.chi_history.specs.Lines.{serial, serial_end}
-use Rattle.chi_script.specs.Transcript.{memtext, text}
+use Rattle.chi_script.specs.Transcript.{granules_text, text}
 
 -- the words of so many granules from an address on
 unfoldable pub granule_words : Memory → ℕ → ℕ → List ℕ
@@ -13,7 +13,7 @@ granule_words m start (suc n) = word_at m start ∷ granule_words m (start + 8) 
 
 -- the memory lines of a region
 abbrev pub memory_text : Extent → Memory → List ℕ
-memory_text region m = memtext region.base (granule_words m region.base region.granules)
+memory_text region m = granules_text region.base (granule_words m region.base region.granules)
 
 -- the lines of the requests, executed in order from a memory on, and the memory lines after them
 abbrev pub run_text : Extent → List Request → Memory → List ℕ

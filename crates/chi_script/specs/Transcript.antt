@@ -53,6 +53,6 @@ unfoldable pub granule_text : ℕ → ℕ → List ℕ
 granule_text addr word = codes "m " ++ address_text addr ++ codes " " ++ word_text word ++ codes "\n"
 
 -- the memory lines of granules from an address on, by their words
-abbrev pub memtext : ℕ → List ℕ → List ℕ
-memtext addr [] = []
-memtext addr (word ∷ words) = granule_text addr word ++ memtext (addr + 8) words
+abbrev pub granules_text : ℕ → List ℕ → List ℕ
+granules_text addr [] = []
+granules_text addr (word ∷ words) = granule_text addr word ++ granules_text (addr + 8) words

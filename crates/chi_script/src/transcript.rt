@@ -1,7 +1,7 @@
 //! The text of a transcript to a writer.
 
 ghost use Rattle.std.specs.Prelude.{◌≡◌, ◌+◌, ◌*◌, ◌^◌, ◌≤◌, ◌++◌, codes, length};
-ghost use Rattle.chi_script.specs.Transcript.{request_of_line, request_text, outcome_text, line_text, text, granule_text, memtext};
+ghost use Rattle.chi_script.specs.Transcript.{request_of_line, request_text, outcome_text, line_text, text, granule_text, granules_text};
 ghost use Rattle.chi_script.specs.WriterBytes.{Puts, Writes};
 
 use crate::device::{WriteFault, put_page};
@@ -127,7 +127,7 @@ fn put_memory<W: Write>(
     words: &[u64],
 ) -> Result<(), WriteFault>
     requires { base + 8 * length words.now ≤ 2 ^ 52 }
-    ensures { Writes (W.contents to.old) page.old (W.contents to.new) page.new result (memtext base words.now) }
+    ensures { Writes (W.contents to.old) page.old (W.contents to.new) page.new result (granules_text base words.now) }
 {
     let mut addr = base;
     'words: for word in words {
@@ -168,7 +168,7 @@ pub fn write_transcript<W: Write>(
     words: &[u64],
 ) -> Result<(), WriteFault>
     requires { length words.now ≡ region.now.granules }
-    ensures { Puts (W.contents to.old) (W.contents to.new) result (text lines.now ++ memtext region.now.base words.now) }
+    ensures { Puts (W.contents to.old) (W.contents to.new) result (text lines.now ++ granules_text region.now.base words.now) }
 {
     let mut page = Page::new();
     put_lines(to, &mut page, lines)?;

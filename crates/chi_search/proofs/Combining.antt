@@ -5,10 +5,10 @@ use Rattle.std.proofs.lemmas.Nat.Bits.{bit_at-lt}
 use Rattle.std.proofs.Math.Nat.{mod-add-mod, mod-mod, mul_right_comm}
 use Rattle.chi_fields.specs.declared.kind.Op.{Op}
 use Rattle.chi_fields.specs.declared.kind.Op.TheVariants.{Add, Clr, Eor, Set, SMax, SMin, UMax, UMin}
-use Rattle.chi_lanes.specs.Bytes.{AreBytes, bytes, num, snum}
+use Rattle.chi_lanes.specs.Bytes.{AreBytes, bytes, number_in, signed_number_in}
 use Rattle.chi_lanes.specs.Combination.{bitwise, combine, from_bits}
-use Rattle.chi_lanes.proofs.ReversedBytes.{length-bytes, num-bytes}
-use Rattle.chi_search.proofs.Picking.{greatest, least, same_num, same_turned, signed_by, turned}
+use Rattle.chi_lanes.proofs.ReversedBytes.{length-bytes, number_in-bytes}
+use Rattle.chi_search.proofs.Picking.{greatest, least, same_number, same_turned, signed_by, turned}
 use Rattle.chi_search.proofs.Spelled.{MakesBits, MakesBits-clr, MakesBits-eor, MakesBits-set, spelled_bit}
 
 -- sums, cut to so many bytes
@@ -16,15 +16,15 @@ added : (m o s t : ℕ) → ((o + s) % m % m + t) % m ≡ (o + s + t) % m
 added m o s t = ap (λ n. (n + t) % m) (mod-mod (o + s) m) ∙ mod-add-mod (o + s) m t
 
 add_once : (endian : Bool) (old s t : List ℕ)
-    → combine Add endian (combine Add endian old s) t ≡ bytes endian (length old) ((num endian old + num endian s + num endian t) % 256 ^ length old)
+    → combine Add endian (combine Add endian old s) t ≡ bytes endian (length old) ((number_in endian old + number_in endian s + number_in endian t) % 256 ^ length old)
 add_once endian old s t =
-    let sum : ℕ = (num endian old + num endian s) % 256 ^ length old in
-    rw (length-bytes endian (length old) sum, num-bytes endian (length old) sum)
-    (ap (bytes endian (length old)) (added (256 ^ length old) (num endian old) (num endian s) (num endian t)))
+    let sum : ℕ = (number_in endian old + number_in endian s) % 256 ^ length old in
+    rw (length-bytes endian (length old) sum, number_in-bytes endian (length old) sum)
+    (ap (bytes endian (length old)) (added (256 ^ length old) (number_in endian old) (number_in endian s) (number_in endian t)))
 
 adds : (endian : Bool) (old s t : List ℕ) → combine Add endian (combine Add endian old s) t ≡ combine Add endian (combine Add endian old t) s
 adds endian old s t =
-    let turned : num endian old + num endian s + num endian t ≡ num endian old + num endian t + num endian s = omega arith in
+    let turned : number_in endian old + number_in endian s + number_in endian t ≡ number_in endian old + number_in endian t + number_in endian s = omega arith in
     add_once endian old s t ∙ ap (λ n. bytes endian (length old) (n % 256 ^ length old)) turned ∙ sym (add_once endian old t s)
 
 -- the same bits spell the same number
@@ -81,18 +81,18 @@ combines Clr endian old s t is_old is_s is_t long_s long_t some = bits (λ x y. 
 combines Eor endian old s t is_old is_s is_t long_s long_t some = bits (λ x y. (x + y) % 2) turns old s t
 combines Set endian old s t is_old is_s is_t long_s long_t some = bits (λ x y. max x y) sets old s t
 combines SMax endian old s t is_old is_s is_t long_s long_t some =
-    greatest (λ x y. int_lt (snum endian x) (snum endian y)) old s t (turned endian old) (turned endian s) (turned endian t)
+    greatest (λ x y. int_lt (signed_number_in endian x) (signed_number_in endian y)) old s t (turned endian old) (turned endian s) (turned endian t)
     (signed_by endian old s is_old is_s (sym long_s) some) (signed_by endian old t is_old is_t (sym long_t) some)
     (signed_by endian s t is_s is_t (long_s ∙ sym long_t) (rw long_s some)) (signed_by endian t s is_t is_s (long_t ∙ sym long_s) (rw long_t some))
     (same_turned endian s t is_s is_t (long_s ∙ sym long_t))
 combines SMin endian old s t is_old is_s is_t long_s long_t some =
-    least (λ x y. int_lt (snum endian y) (snum endian x)) old s t (turned endian old) (turned endian s) (turned endian t)
+    least (λ x y. int_lt (signed_number_in endian y) (signed_number_in endian x)) old s t (turned endian old) (turned endian s) (turned endian t)
     (signed_by endian s old is_s is_old long_s (rw long_s some)) (signed_by endian t old is_t is_old long_t (rw long_t some))
     (signed_by endian t s is_t is_s (long_t ∙ sym long_s) (rw long_t some)) (signed_by endian s t is_s is_t (long_s ∙ sym long_t) (rw long_s some))
     (same_turned endian s t is_s is_t (long_s ∙ sym long_t))
 combines UMax endian old s t is_old is_s is_t long_s long_t some =
-    greatest (λ x y. nat_lt (num endian x) (num endian y)) old s t (num endian old) (num endian s) (num endian t) refl refl refl refl
-    (same_num endian s t is_s is_t (long_s ∙ sym long_t))
+    greatest (λ x y. nat_lt (number_in endian x) (number_in endian y)) old s t (number_in endian old) (number_in endian s) (number_in endian t) refl refl refl refl
+    (same_number endian s t is_s is_t (long_s ∙ sym long_t))
 combines UMin endian old s t is_old is_s is_t long_s long_t some =
-    least (λ x y. nat_lt (num endian y) (num endian x)) old s t (num endian old) (num endian s) (num endian t) refl refl refl refl
-    (same_num endian s t is_s is_t (long_s ∙ sym long_t))
+    least (λ x y. nat_lt (number_in endian y) (number_in endian x)) old s t (number_in endian old) (number_in endian s) (number_in endian t) refl refl refl refl
+    (same_number endian s t is_s is_t (long_s ∙ sym long_t))

@@ -9,7 +9,7 @@ use Rattle.chi_fields.specs.declared.kind.Op.{Op}
 use Rattle.chi_fields.specs.declared.kind.Op.TheVariants.{Add, Clr, Eor, Set, SMax, SMin, UMax, UMin}
 use Rattle.chi_fields.specs.Access.{IsLawful, Access, lane_of}
 use Rattle.chi_lanes.specs.After.{after_as, old}
-use Rattle.chi_lanes.specs.Bytes.{num, snum}
+use Rattle.chi_lanes.specs.Bytes.{number_in, signed_number_in}
 use Rattle.chi_lanes.specs.Combination.{combine}
 use Rattle.chi_lanes.specs.Memory.{Memory, with_bytes}
 use Rattle.chi_lanes.specs.Packet.{sent}
@@ -36,10 +36,10 @@ kept Add endian xs ys pick = absurd pick
 kept Clr endian xs ys pick = absurd pick
 kept Eor endian xs ys pick = absurd pick
 kept Set endian xs ys pick = absurd pick
-kept SMax endian xs ys pick = either (int_lt (snum endian xs) (snum endian ys)) ys xs
-kept SMin endian xs ys pick = either (int_lt (snum endian ys) (snum endian xs)) ys xs
-kept UMax endian xs ys pick = either (nat_lt (num endian xs) (num endian ys)) ys xs
-kept UMin endian xs ys pick = either (nat_lt (num endian ys) (num endian xs)) ys xs
+kept SMax endian xs ys pick = either (int_lt (signed_number_in endian xs) (signed_number_in endian ys)) ys xs
+kept SMin endian xs ys pick = either (int_lt (signed_number_in endian ys) (signed_number_in endian xs)) ys xs
+kept UMax endian xs ys pick = either (nat_lt (number_in endian xs) (number_in endian ys)) ys xs
+kept UMin endian xs ys pick = either (nat_lt (number_in endian ys) (number_in endian xs)) ys xs
 
 -- the bytes of the operand are the sent ones, or each byte stays
 abbrev SentOrStays : Kind → Access → Memory → Type 0

@@ -3,8 +3,8 @@ use Rattle.std.proofs.Common.{◌≡◌, ℕ, ◌+◌, ◌%◌, ◌-◌, ◌*◌
 use Rattle.std.proofs.lemmas.Bool.{ltb-false}
 use Rattle.std.specs.Int.{bit_at}
 use Rattle.std.proofs.lemmas.Nat.Bits.{bit_at-lt, bit_at_xor, same_from_bits}
-use Rattle.chi_lanes.specs.Bytes.{AreBytes, bytes, num, signed_number, snum}
-use Rattle.chi_lanes.proofs.ReversedBytes.{bytes-num, num-bound}
+use Rattle.chi_lanes.specs.Bytes.{AreBytes, bytes, number_in, signed_number, signed_number_in}
+use Rattle.chi_lanes.proofs.ReversedBytes.{bytes-number_in, number_in-bound}
 use Rattle.chi_lanes.proofs.SignedLemmas.{signed_order}
 
 -- the second, where the test says that it replaces the first
@@ -56,20 +56,20 @@ least test old s t a b c old_s old_t s_t t_s same = either_first test old s t (r
 })
 
 -- bytes that spell one number are the same
-pub same_num : (endian : Bool) (s t : List ℕ) → AreBytes s → AreBytes t → length s ≡ length t → num endian s ≡ num endian t → s ≡ t
-same_num endian s t is_s is_t long same = sym (bytes-num endian s is_s) ∙ ap₂ (bytes endian) long same ∙ bytes-num endian t is_t
+pub same_number : (endian : Bool) (s t : List ℕ) → AreBytes s → AreBytes t → length s ≡ length t → number_in endian s ≡ number_in endian t → s ≡ t
+same_number endian s t is_s is_t long same = sym (bytes-number_in endian s is_s) ∙ ap₂ (bytes endian) long same ∙ bytes-number_in endian t is_t
 
 -- a number with its sign bit turned
 abbrev pub turned : Bool → List ℕ → ℕ
-turned endian bs = bit_xor (num endian bs) (2 ^ (8 * length bs - 1))
+turned endian bs = bit_xor (number_in endian bs) (2 ^ (8 * length bs - 1))
 
 -- the signed order is that of the numbers with their sign bits turned
 pub signed_by : (endian : Bool) (s t : List ℕ) → AreBytes s → AreBytes t → length s ≡ length t → 1 ≤ length s
-    → int_lt (snum endian s) (snum endian t) ≡ nat_lt (turned endian s) (turned endian t)
+    → int_lt (signed_number_in endian s) (signed_number_in endian t) ≡ nat_lt (turned endian s) (turned endian t)
 signed_by endian s t is_s is_t long some =
-    subst (λ n. int_lt (snum endian s) (signed_number n (num endian t)) ≡ nat_lt (turned endian s) (bit_xor (num endian t) (2 ^ (8 * n - 1)))) long
-    (sym (signed_order (length s) (num endian s) (num endian t) some (num-bound endian s is_s)
-    (subst (λ n. num endian t < 256 ^ n) (sym long) (num-bound endian t is_t))))
+    subst (λ n. int_lt (signed_number_in endian s) (signed_number n (number_in endian t)) ≡ nat_lt (turned endian s) (bit_xor (number_in endian t) (2 ^ (8 * n - 1)))) long
+    (sym (signed_order (length s) (number_in endian s) (number_in endian t) some (number_in-bound endian s is_s)
+    (subst (λ n. number_in endian t < 256 ^ n) (sym long) (number_in-bound endian t is_t))))
 
 -- numbers that are the same with the same bits turned are the same
 xor_back : (a b k : ℕ) → bit_xor a k ≡ bit_xor b k → a ≡ b
@@ -80,5 +80,5 @@ xor_back a b k same = same_from_bits a b (λ i.
 -- bytes whose numbers with the sign bit turned are the same are the same
 pub same_turned : (endian : Bool) (s t : List ℕ) → AreBytes s → AreBytes t → length s ≡ length t → turned endian s ≡ turned endian t → s ≡ t
 same_turned endian s t is_s is_t long same =
-    same_num endian s t is_s is_t long
-    (xor_back (num endian s) (num endian t) (2 ^ (8 * length s - 1)) (same ∙ ap (λ n. bit_xor (num endian t) (2 ^ (8 * n - 1))) (sym long)))
+    same_number endian s t is_s is_t long
+    (xor_back (number_in endian s) (number_in endian t) (2 ^ (8 * length s - 1)) (same ∙ ap (λ n. bit_xor (number_in endian t) (2 ^ (8 * n - 1))) (sym long)))

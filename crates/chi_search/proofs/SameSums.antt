@@ -5,7 +5,7 @@ use Rattle.std.proofs.lemmas.Bool.{cases_lt}
 use Rattle.std.proofs.lemmas.Nat.Bits.{same_from_bits_below}
 use Rattle.chi_fields.specs.Access.{IsLawful, Access}
 use Rattle.chi_lanes.specs.After.{after, old}
-use Rattle.chi_lanes.specs.Bytes.{num}
+use Rattle.chi_lanes.specs.Bytes.{number_in}
 use Rattle.chi_lanes.specs.Memory.{Memory, granule_start}
 use Rattle.chi_lanes.proofs.AfterLemmas.{IsMemory-after}
 use Rattle.chi_lanes.proofs.Operands.{IsPlaced, placed}
@@ -60,7 +60,7 @@ same_here op lane len v w v_below w_below agree j inside outside =
 
 -- the operand's number
 abbrev number : Access → Memory → ℕ
-number o m = num o.endian (old o m)
+number o m = number_in o.endian (old o m)
 
 -- Words that agree out of a run of bytes have the same operand where a sum leaves the same of both in the run.
 pub same_sum : (op : Observed) → IsLawful op.access → IsSum op.access.kind → (lane len v w : ℕ) → v < 2 ^ 64 → w < 2 ^ 64
@@ -77,7 +77,7 @@ same_sum op lawful sum lane len v w v_below w_below agree same k inside =
     placing : IsPlaced o.addr o.len
     placing = placed o.addr o.len lawful.part lawful.aligned
 
-    byte_after : (m : Memory) (d : ℕ) → d < o.len → after o m (o.addr + place o.endian o.len d) ≡ digit (number o m + num o.endian (sent_by o)) d
+    byte_after : (m : Memory) (d : ℕ) → d < o.len → after o m (o.addr + place o.endian o.len d) ≡ digit (number o m + number_in o.endian (sent_by o)) d
     byte_after m d below =
         ap (λ (n : Memory). n (o.addr + place o.endian o.len d)) (sum_after o.kind o m sum) ∙ byte_of_sum o.endian m o.addr o.len (sent_by o) d below
 
@@ -90,7 +90,7 @@ same_sum op lawful sum lane len v w v_below w_below agree same k inside =
         ∙ sym (digit_here op w d placing below)
 
     in_run : (d : ℕ) → d < o.len → lane ≤ o.addr % 8 + place o.endian o.len d → o.addr % 8 + place o.endian o.len d < lane + len
-        → digit (number o (here op v) + num o.endian (sent_by o)) d ≡ digit (number o (here op w) + num o.endian (sent_by o)) d
+        → digit (number o (here op v) + number_in o.endian (sent_by o)) d ≡ digit (number o (here op w) + number_in o.endian (sent_by o)) d
     in_run d below from to =
         let there : place o.endian o.len d < o.len = place_below o.endian o.len d below in
         sym (byte_after (here op v) d below)
@@ -99,7 +99,7 @@ same_sum op lawful sum lane len v w v_below w_below agree same k inside =
         ∙ byte_after (here op w) d below
 
     each : (d : ℕ) → d < o.len → (digit (number o (here op v)) d ≡ digit (number o (here op w)) d)
-        ⊎ (digit (number o (here op v) + num o.endian (sent_by o)) d ≡ digit (number o (here op w) + num o.endian (sent_by o)) d)
+        ⊎ (digit (number o (here op v) + number_in o.endian (sent_by o)) d ≡ digit (number o (here op w) + number_in o.endian (sent_by o)) d)
     each d below = elim (cases_lt (o.addr % 8 + place o.endian o.len d) lane) [
       | inl before ↦ inl (outside_run d below (inl before))
       | inr from ↦ elim (cases_lt (o.addr % 8 + place o.endian o.len d) (lane + len)) [
@@ -117,6 +117,6 @@ same_sum op lawful sum lane len v w v_below w_below agree same k inside =
         let at : o.addr + place o.endian o.len d ≡ byte_of op k = omega (arith, place_place o.endian o.len p p_below, inside.0) in
         ap (here op v) (sym at)
         ∙ sym (digit_of_operand o.endian (here op v) o.addr o.len d (IsMemory-with_word _ v) d_below)
-        ∙ back_digit (number o (here op v)) (number o (here op w)) (num o.endian (sent_by o)) o.len each d d_below
+        ∙ back_digit (number o (here op v)) (number o (here op w)) (number_in o.endian (sent_by o)) o.len each d d_below
         ∙ digit_of_operand o.endian (here op w) o.addr o.len d (IsMemory-with_word _ w) d_below
         ∙ ap (here op w) at

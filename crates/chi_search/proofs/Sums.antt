@@ -9,14 +9,14 @@ use Rattle.chi_fields.specs.declared.kind.Kind.TheVariants.{Store, Load}
 use Rattle.chi_fields.specs.declared.kind.Op.TheVariants.{Add}
 use Rattle.chi_fields.specs.Access.{IsLawful, Access}
 use Rattle.chi_lanes.specs.After.{after, after_as, old}
-use Rattle.chi_lanes.specs.Bytes.{bytes, little_bytes, num}
+use Rattle.chi_lanes.specs.Bytes.{bytes, little_bytes, number_in}
 use Rattle.chi_lanes.specs.Combination.{combine}
 use Rattle.chi_lanes.specs.Memory.{Memory, IsMemory, bytes_from, granule_start, with_bytes}
 use Rattle.chi_lanes.proofs.Digits.{length-little_bytes, little_bytes-mod}
 use Rattle.chi_lanes.proofs.MaskedBytes.{slice_index-little_bytes}
 use Rattle.chi_lanes.proofs.MemoryLemmas.{AreBytes-bytes_from, get_or-bytes_from, length-bytes_from, with_bytes-inside}
 use Rattle.chi_lanes.proofs.Operands.{IsPlaced, placed}
-use Rattle.chi_lanes.proofs.ReversedBytes.{bytes-num, length-bytes}
+use Rattle.chi_lanes.proofs.ReversedBytes.{bytes-number_in, length-bytes}
 use Rattle.chi_trace.specs.declared.observed.Observed.{Observed}
 use Rattle.chi_trace.specs.Granules.{next}
 use Rattle.chi_trace.proofs.Steps.{IsMemory-with_word}
@@ -62,19 +62,19 @@ bytes-mod false len n = little_bytes-mod len n
 
 -- a digit of the number that the operand's bytes spell
 pub digit_of_operand : (endian : Bool) (m : Memory) (addr len d : ℕ) → IsMemory m → d < len
-    → digit (num endian (bytes_from m addr len)) d ≡ m (addr + place endian len d)
+    → digit (number_in endian (bytes_from m addr len)) d ≡ m (addr + place endian len d)
 digit_of_operand endian m addr len d is below =
-    let back : bytes endian len (num endian (bytes_from m addr len)) ≡ bytes_from m addr len =
-    ap (λ l. bytes endian l (num endian (bytes_from m addr len))) (sym (length-bytes_from m addr len))
-    ∙ bytes-num endian (bytes_from m addr len) (AreBytes-bytes_from m is addr len) in
-    sym (byte_of_number endian len (num endian (bytes_from m addr len)) d below)
+    let back : bytes endian len (number_in endian (bytes_from m addr len)) ≡ bytes_from m addr len =
+    ap (λ l. bytes endian l (number_in endian (bytes_from m addr len))) (sym (length-bytes_from m addr len))
+    ∙ bytes-number_in endian (bytes_from m addr len) (AreBytes-bytes_from m is addr len) in
+    sym (byte_of_number endian len (number_in endian (bytes_from m addr len)) d below)
     ∙ ap (λ bs. slice_index bs (place endian len d)) back
     ∙ get_or-bytes_from m addr len (place endian len d) (place_below endian len d below)
 
 -- a byte of a sum
 pub byte_of_sum : (endian : Bool) (m : Memory) (addr len : ℕ) (bs : List ℕ) (d : ℕ) → d < len
     → with_bytes m addr (combine Add endian (bytes_from m addr len) bs) (addr + place endian len d)
-    ≡ digit (num endian (bytes_from m addr len) + num endian bs) d
+    ≡ digit (number_in endian (bytes_from m addr len) + number_in endian bs) d
 byte_of_sum endian m addr len bs d below =
     with_bytes-inside m addr written (addr + place endian len d) (omega arith) (omega (arith, long, place_below endian len d below))
     ∙ ap (slice_index written) at
@@ -82,7 +82,7 @@ byte_of_sum endian m addr len bs d below =
     ∙ byte_of_number endian len sum d below
   where
     sum : ℕ
-    sum = num endian (bytes_from m addr len) + num endian bs
+    sum = number_in endian (bytes_from m addr len) + number_in endian bs
 
     written : List ℕ
     written = combine Add endian (bytes_from m addr len) bs
@@ -105,7 +105,7 @@ sum_after kind o m sum = absurd sum
 
 -- the operand's number
 abbrev number : Access → Memory → ℕ
-number o m = num o.endian (old o m)
+number o m = number_in o.endian (old o m)
 
 -- the lowest digit of an operand that stands in a run of bytes, or the operand's length
 abbrev lowest : Bool → ℕ → ℕ → ℕ → ℕ → ℕ
@@ -200,7 +200,7 @@ from_digit op lane len = lowest op.access.endian (op.access.addr % 8) op.access.
 -- a word is added to as another that agrees with it in the run
 like : (op : Observed) → IsLawful op.access → IsSum op.access.kind → (lane len w v : ℕ) → lane + len ≤ 8 → w < 2 ^ 64 → v < 2 ^ 64
     → Agree (run lane len) v w
-    → AddsLike (number op.access (here op w)) (number op.access (here op v)) (num op.access.endian (sent_by op.access)) (from_digit op lane len)
+    → AddsLike (number op.access (here op w)) (number op.access (here op v)) (number_in op.access.endian (sent_by op.access)) (from_digit op lane len)
     → Agree (run lane len) (next op w) (next op v)
 like op lawful sum lane len w v room w_below v_below agree adds k one =
     elim (cases_lt (byte_of op k) op.access.addr) [
@@ -264,7 +264,7 @@ pub sum_within : (op : Observed) → IsLawful op.access → IsSum op.access.kind
     → ((k : ℕ) → k < 64 → bit_at (run lane len) k ≡ 0 → bit_at high k ≡ 1)
     → Agree (run lane len) (next op w) (next op low) ⊎ Agree (run lane len) (next op w) (next op high)
 sum_within op lawful sum lane len some room w low high w_below low_below high_below low_agrees high_agrees zeros ones =
-    elim (adds_like (number o (here op w)) (number o (here op low)) (number o (here op high)) (num o.endian (sent_by o)) (from_digit op lane len)
+    elim (adds_like (number o (here op w)) (number o (here op low)) (number o (here op high)) (number_in o.endian (sent_by o)) (from_digit op lane len)
     lows highs) [
       | inl adds ↦ inl (like op lawful sum lane len w low room w_below low_below low_agrees adds)
       | inr adds ↦ inr (like op lawful sum lane len w high room w_below high_below high_agrees adds)

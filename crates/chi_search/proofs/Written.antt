@@ -10,8 +10,8 @@ use Rattle.chi_fields.specs.Access.{IsLawful, Access, lane_of}
 use Rattle.chi_lanes.specs.After.{after_as, old, same_bytes}
 use Rattle.chi_lanes.specs.Combination.{bitwise}
 use Rattle.chi_lanes.specs.Memory.{Memory, with_bytes, with_enabled}
-use Rattle.chi_lanes.specs.Packet.{sent, swp}
-use Rattle.chi_lanes.proofs.AfterLemmas.{length-combined, length-sent, length-swp}
+use Rattle.chi_lanes.specs.Packet.{sent, swap_value}
+use Rattle.chi_lanes.proofs.AfterLemmas.{length-combined, length-sent, length-swap_value}
 use Rattle.chi_lanes.proofs.BitwiseLemmas.{length-bitwise}
 use Rattle.chi_lanes.proofs.MemoryLemmas.{get_or-bytes_from, length-bytes_from, with_bytes-inside, with_bytes-outside, with_enabled-off, with_enabled-on, with_enabled-outside}
 use Rattle.chi_search.specs.Effects.{IsBlind}
@@ -35,13 +35,13 @@ after_outside Swap o m x lawful outside = written_outside o m _ x (length-sent o
 after_outside Compare o m x lawful outside = by_test (same_bytes (old o m) (sent o.lanes (lane_of o.addr) o.len))
   where
     swapped : List ℕ
-    swapped = swp o.lanes (lane_of o.addr) o.len
+    swapped = swap_value o.lanes (lane_of o.addr) o.len
 
     lane_below : lane_of o.addr < 16
     lane_below = omega arith
 
     by_test : (b : Bool) → cond b (with_bytes m o.addr swapped) m x ≡ m x
-    by_test true = written_outside o m swapped x (length-swp o.lanes (lane_of o.addr) o.len lawful.packet lawful.part lane_below) outside
+    by_test true = written_outside o m swapped x (length-swap_value o.lanes (lane_of o.addr) o.len lawful.packet lawful.part lane_below) outside
     by_test false = refl
 
 -- a byte stays in each memory, or is the same after each

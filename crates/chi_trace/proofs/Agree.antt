@@ -8,7 +8,7 @@ use Rattle.chi_lanes.specs.After.{after, after_as, answer, answer_as, old, same_
 use Rattle.chi_lanes.specs.Bytes.{little, little_bytes}
 use Rattle.chi_lanes.specs.Combination.{combine}
 use Rattle.chi_lanes.specs.Memory.{Memory, IsMemory, bytes_from, granule_start, with_bytes, with_enabled, word_at}
-use Rattle.chi_lanes.specs.Packet.{in_lanes, sent, swp}
+use Rattle.chi_lanes.specs.Packet.{in_lanes, sent, swap_value}
 use Rattle.chi_lanes.proofs.MemoryLemmas.{bytes_from-same, get_or-bytes_from, little_bytes-word_at}
 use Rattle.chi_lanes.proofs.Operands.{placed}
 
@@ -81,7 +81,7 @@ after_as_byte Compare o m k x same byte =
     compared = sent o.lanes (lane_of o.addr) o.len
 
     swapped : List ℕ
-    swapped = swp o.lanes (lane_of o.addr) o.len
+    swapped = swap_value o.lanes (lane_of o.addr) o.len
 
     by_test : (b c : Bool) → b ≡ c → cond b (with_bytes m o.addr swapped) m x ≡ cond c (with_bytes k o.addr swapped) k x
     by_test true true e = written_byte m k o.addr swapped swapped x byte refl

@@ -1,7 +1,7 @@
 -- a number that fits is spelled by its bytes
-use Rattle.chi_lanes.proofs.CombineLemmas.{num-little_bytes}
+use Rattle.chi_lanes.proofs.CombineLemmas.{number_in-little_bytes}
 use Rattle.chi_lanes.proofs.combination.ordered.Goals as goal
 
 pub returns-else-endian-clause-number : goal.returns-else-endian-clause-number
 returns-else-endian-clause-number c =
-    rw c.if-endian.false (num-little_bytes c.args.len c.args.value c.requires.fits)
+    rw c.if-endian.false (number_in-little_bytes c.args.len c.args.value c.requires.fits)
