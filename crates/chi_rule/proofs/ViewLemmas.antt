@@ -11,10 +11,6 @@ use Rattle.chi_history.proofs.HistoryLemmas.{free-front, longer}
 use Rattle.chi_rule.specs.Views.{all_below, all_but, longest_of}
 use Rattle.chi_rule.proofs.Histories.{free-back}
 
--- each number of the first set is in the second
-abbrev pub Within : Held → Held → Type 0
-Within held other = (r : ℕ) → held r ≡ true → other r ≡ true
-
 -- a number that a set has and another has not is not in both
 pub apart_sym : (held other : Held) → Apart held other → Apart other held
 apart_sym held other apart r in_other = not_in (held r) refl
@@ -22,6 +18,10 @@ apart_sym held other apart r in_other = not_in (held r) refl
     not_in : (b : Bool) → held r ≡ b → held r ≡ false
     not_in true is = absurd (true≢false (sym in_other ∙ apart r is))
     not_in false is = is
+
+-- each number of the first set is in the second
+abbrev pub Within : Held → Held → Type 0
+Within held other = (r : ℕ) → held r ≡ true → other r ≡ true
 
 -- parts of sets that share no number share none
 pub within_apart : (held other held' other' : Held) → Apart held other → Within held' held → Within other' other → Apart held' other'
