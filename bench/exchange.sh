@@ -4,5 +4,5 @@
 set -eu
 cd "$(dirname "$0")"
 ./build.sh
-./program.sh time_attempts attempts chi_fields chi_lanes chi_history chi_bookstore
+./program.sh time_attempts attempts chi_fields chi_lanes chi_history chi_rule chi_bookstore
 timeout -k 5 1800 out/release/exchange "${ROUNDS:-20}" out/release/bare out/release/row out/time_attempts

@@ -6,16 +6,17 @@ use Rattle.atomic_table.specs.Table.{Allows, Joins, Me, Splits, State, keeps, st
 use Rattle.chi_fields.specs.Extent.{granule_of, lies_in}
 use Rattle.chi_fields.specs.Access.{IsLawful}
 use Rattle.chi_history.specs.declared.opening.Opening.{Opening}
-use Rattle.chi_history.specs.declared.view.View.{View}
-use Rattle.chi_history.specs.Rule.{Kept}
-use Rattle.chi_history.specs.StepFacts.{Applies, Exchanges, Looks, ReadsAt, Settles}
-use Rattle.chi_history.specs.Views.{alone, both, gone, has, knower, rest_of}
-use Rattle.chi_history.proofs.ExchangeLemmas.{exchanges}
-use Rattle.chi_history.proofs.JoinLemmas.{unites}
-use Rattle.chi_history.proofs.SplitLemmas.{splits}
-use Rattle.chi_history.proofs.StepLemmas.{looks, reads_at, settles, unwritten}
-use Rattle.chi_history.proofs.Steps.{Steps}
-use Rattle.chi_history.specs.declared.purpose.Purpose.{Purpose}
+use Rattle.chi_history.specs.NumberLists.{has}
+use Rattle.chi_rule.specs.declared.view.View.{View}
+use Rattle.chi_rule.specs.declared.purpose.Purpose.{Purpose}
+use Rattle.chi_rule.specs.Rule.{Kept}
+use Rattle.chi_rule.specs.StepFacts.{Applies, Exchanges, Looks, ReadsAt, Settles}
+use Rattle.chi_rule.specs.Views.{alone, both, gone, knower, rest_of}
+use Rattle.chi_rule.proofs.ExchangeLemmas.{exchanges}
+use Rattle.chi_rule.proofs.JoinLemmas.{unites}
+use Rattle.chi_rule.proofs.SplitLemmas.{splits}
+use Rattle.chi_rule.proofs.StepLemmas.{looks, reads_at, settles, unwritten}
+use Rattle.chi_rule.proofs.Steps.{Steps}
 use Rattle.chi_bookstore.specs.TableSteps.{looked, read_one, served, settled}
 
 abbrev pub Rule : Opening → State Purpose View → Type 0

@@ -4,12 +4,12 @@ use Rattle.atomic_table.specs.declared.shared.Seat.{Seat}
 use Rattle.chi_fields.specs.Access.{Access}
 use Rattle.chi_lanes.specs.declared.reply.Reply.{Reply}
 use Rattle.chi_history.specs.declared.opening.Opening.{Opening}
-use Rattle.chi_history.specs.declared.view.View.{View}
 use Rattle.chi_history.specs.HomeClauses.{Completes, Retries}
-use Rattle.chi_history.specs.Views.{has}
-use Rattle.chi_history.proofs.TryLemmas.{lost_none, then_done, then_lost}
-use Rattle.chi_history.specs.declared.purpose.Purpose.{Purpose}
-use Rattle.chi_history.specs.Seats.{IsKnown}
+use Rattle.chi_history.specs.NumberLists.{has}
+use Rattle.chi_rule.specs.declared.view.View.{View}
+use Rattle.chi_rule.specs.declared.purpose.Purpose.{Purpose}
+use Rattle.chi_rule.specs.Seats.{IsKnown}
+use Rattle.chi_rule.proofs.TryLemmas.{lost_none, then_done, then_lost}
 
 -- after lost tries, of which so many are counted, a seat of the opening holds what it held
 pub record IsAfter (o : Opening) (first : Seat Purpose View) (access : Access) (count : ℕ) (seat : Seat Purpose View) : Type 0 where

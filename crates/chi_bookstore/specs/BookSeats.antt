@@ -1,6 +1,6 @@
 -- which seats are of a store
 use Rattle.std.specs.Prelude.{◌≡◌, []}
-use Rattle.chi_history.specs.Seats.{IsSeat}
+use Rattle.chi_rule.specs.Seats.{IsSeat}
 use Rattle.chi_bookstore.specs.declared.seat.BookSeat.{BookSeat}
 use Rattle.chi_bookstore.specs.declared.store.BookStore.{BookStore}
 

@@ -2,9 +2,9 @@
 use Rattle.std.specs.Prelude.{◌≡◌, ℕ}
 use mathlib.Core.Option as plain
 use Rattle.atomic_table.specs.Table.{Me, Step}
-use Rattle.chi_history.specs.declared.view.View.{View}
-use Rattle.chi_history.specs.StepFacts.{Exchanges, Looks, ReadsAt, Settles}
-use Rattle.chi_history.specs.declared.purpose.Purpose.{Purpose}
+use Rattle.chi_rule.specs.declared.view.View.{View}
+use Rattle.chi_rule.specs.declared.purpose.Purpose.{Purpose}
+use Rattle.chi_rule.specs.StepFacts.{Exchanges, Looks, ReadsAt, Settles}
 
 abbrev pub looked : Step Purpose → Me Purpose View → ℕ → Me Purpose View → Type 0
 looked s m n m' = Looks m.0 s.word n m'.0 × (m'.1 ≡ m.1)

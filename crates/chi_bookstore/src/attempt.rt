@@ -8,7 +8,8 @@ use crate::seat::BookSeat;
 use crate::store::BookStore;
 use crate::tries::try_some;
 use chi_fields::Access;
-use chi_history::{Gate, Home, NoGate, Purpose, Served};
+use chi_history::{Gate, Home, NoGate, Served};
+use chi_rule::Purpose;
 use std::alloc::Allocator;
 
 impl<A: Allocator> BookStore<A> {

@@ -5,14 +5,15 @@ use crate::steps::{give, read_one, take_in};
 use crate::store::BookStore;
 use crate::tries::try_until_done;
 use chi_fields::{Access, Region};
-use chi_history::{Credit, Gate, Home, Numbers, Purpose, Served};
+use chi_history::{Credit, Gate, Home, Numbers, Served};
 use chi_lanes::Reply;
+use chi_rule::Purpose;
 use std::alloc::Allocator;
 use std::marker::Brand;
 use std::sync::Wait;
 
 impl<A: Allocator> Home for BookStore<A> {
-    ghost use Rattle.chi_history.specs.Views.{has};
+    ghost use Rattle.chi_history.specs.NumberLists.{has};
     ghost use Rattle.chi_bookstore.specs.BookSeats.{IsSeatOf};
 
     type Seat = BookSeat;

@@ -1,6 +1,6 @@
 //! Laws of the lock-free home, as functions whose contracts they are.
 
-ghost use Rattle.chi_history.specs.Events.{ExchangeAdds, ExchangeIsPossible, IsOneHistory, JoinLeaves, LookIsPossible, LookLeaves, ReadLeaves, SplitLeaves};
+ghost use Rattle.chi_rule.specs.Events.{ExchangeAdds, ExchangeIsPossible, IsOneHistory, JoinLeaves, LookIsPossible, LookLeaves, ReadLeaves, SplitLeaves};
 
 /// What a store's words and seats show is one history: no other is the longest that a seat has seen.
 pub fn one_history()

@@ -8,7 +8,8 @@ use crate::seat::BookSeat;
 use crate::steps::begin;
 use crate::store::BookStore;
 use chi_fields::Region;
-use chi_history::{Home, MOST_NUMBERS, Numbers, OpenFault, OpeningValues};
+use chi_history::{Home, MOST_NUMBERS, Numbers, OpenFault};
+use chi_rule::OpeningValues;
 use std::alloc::Allocator;
 
 /// The greatest number of tries that a request gets before it is answered by RetryAck, which the profile sets.

@@ -1,15 +1,15 @@
 //! The rule of the words and seats, and what each step on them shows.
 
 use atomic_table::{Join, Play, Seat, Table, TableRule};
-use chi_history::{OpeningValues, Purpose, View};
+use chi_rule::{OpeningValues, Purpose, View};
 use std::alloc::Allocator;
 
 /// The words show the end of one history, and each seat has seen a prefix of it.
 pub struct BookRule;
 
 impl<A: Allocator> TableRule<Purpose, View, OpeningValues<A>> for BookRule {
-    ghost use Rattle.chi_history.specs.Rule.{Kept};
-    ghost use Rattle.chi_history.specs.Views.{all_below, knower};
+    ghost use Rattle.chi_rule.specs.Rule.{Kept};
+    ghost use Rattle.chi_rule.specs.Views.{all_below, knower};
     ghost use Rattle.std.specs.Prelude.{[]};
 
     ghost holds = { λ k s. Kept k.region.granules k s.words s.views };
@@ -63,7 +63,7 @@ impl Play<Purpose, View> for Settle {
 pub struct Glue;
 
 impl Join<View> for Glue {
-    ghost use Rattle.chi_history.specs.Views.{both, gone};
+    ghost use Rattle.chi_rule.specs.Views.{both, gone};
 
     ghost both = { both };
 

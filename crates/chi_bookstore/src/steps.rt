@@ -2,12 +2,13 @@
 ghost use Rattle.std.specs.Prelude.{◌≡◌, ◌<◌, [], true, IsTrue, IfOk};
 ghost use Rattle.chi_fields.specs.Extent.{lies_in, granule_of};
 ghost use Rattle.chi_history.specs.Openings.{IsOpening};
-ghost use Rattle.chi_history.specs.Views.{all_below, alone, both, has, knower, rest_of};
-ghost use Rattle.chi_history.specs.StepFacts.{Applies, Exchanges, Looks, ReadsAt, Settles};
+ghost use Rattle.chi_history.specs.NumberLists.{has};
+ghost use Rattle.chi_rule.specs.Views.{all_below, alone, both, knower, rest_of};
+ghost use Rattle.chi_rule.specs.StepFacts.{Applies, Exchanges, Looks, ReadsAt, Settles};
 
 use crate::rule::{BookTable, Glue, Look, ReadOne, Serve, Settle, TableSeat};
 use chi_fields::laws::access_is_lawful;
-use chi_history::{OpeningValues, Purpose, SplitNumber, SplitOff};
+use chi_rule::{OpeningValues, Purpose, SplitNumber, SplitOff};
 use std::alloc::{AllocError, Allocator};
 
 // The words at the opening, all zeros, and the first seat, which holds every number.

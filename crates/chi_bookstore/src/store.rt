@@ -4,7 +4,7 @@ ghost use Rattle.std.specs.Prelude.{◌≡◌, ◌≤◌};
 ghost use Rattle.chi_history.specs.Openings.{IsOpening};
 
 use crate::rule::BookTable;
-use chi_history::OpeningValues;
+use chi_rule::OpeningValues;
 use std::alloc::{Allocator, Global};
 
 /// A home whose memory is a row of words, one for each granule, that callers load and exchange.

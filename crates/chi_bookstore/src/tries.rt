@@ -2,15 +2,16 @@
 
 ghost use Rattle.std.specs.Prelude.{◌≡◌, ◌≤◌, true, IsTrue, MatchOption};
 ghost use Rattle.chi_fields.specs.Extent.{lies_in};
-ghost use Rattle.chi_history.specs.Views.{has};
+ghost use Rattle.chi_history.specs.NumberLists.{has};
 ghost use Rattle.chi_history.specs.HomeClauses.{Completes, IsServed, Retries};
-ghost use Rattle.chi_history.specs.Seats.{IsKnown};
+ghost use Rattle.chi_rule.specs.Seats.{IsKnown};
 
 use crate::rule::TableSeat;
 use crate::steps::{exchange, look};
 use crate::store::BookStore;
-use chi_history::{Credit, Gate, NoGate, Purpose, Served};
+use chi_history::{Credit, Gate, NoGate, Served};
 use chi_lanes::{Reply, apply};
+use chi_rule::Purpose;
 use std::alloc::Allocator;
 use std::sync::Wait;
 

@@ -4,7 +4,7 @@ use Rattle.chi_lanes.specs.After.{after}
 use Rattle.chi_lanes.specs.Memory.{Memory}
 use Rattle.chi_history.specs.declared.entry.Entry.{Entry}
 use Rattle.chi_history.specs.declared.opening.Opening.{Opening}
-use Rattle.chi_history.specs.NumberSets.{Held, nobody, union}
+use Rattle.chi_history.specs.NumberSets.{Held, nobody}
 use Rattle.chi_history.specs.History.{end_from, IsLegalEntry, IsLegalFrom, IsFreeOf, of, hits_from}
 
 -- the memory after two histories, one after another
@@ -12,12 +12,6 @@ pub end_from-append : (m : Memory) (xs ys : List Entry) → end_from m (xs ++ ys
 unfolding end_from
 end_from-append m [] ys = refl
 end_from-append m (x ∷ xs) ys = end_from-append (after x.access m) xs ys
-
--- a legal history that goes on legally is legal
-pub legal-append : (o : Opening) (m : Memory) (xs ys : List Entry) → IsLegalFrom o m xs → IsLegalFrom o (end_from m xs) ys → IsLegalFrom o m (xs ++ ys)
-unfolding end_from IsLegalFrom
-legal-append o m [] ys first second = second
-legal-append o m (x ∷ xs) ys first second = (first.0, legal-append o (after x.access m) xs ys first.1 second)
 
 -- the front of a legal history is legal
 pub legal-front : (o : Opening) (m : Memory) (xs ys : List Entry) → IsLegalFrom o m (xs ++ ys) → IsLegalFrom o m xs
@@ -46,11 +40,6 @@ unfolding IsFreeOf
 free-front held [] ys whole = tt
 free-front held (x ∷ xs) ys whole = (whole.0, free-front held xs ys whole.1)
 
-pub free-back : (held : Held) (xs ys : List Entry) → IsFreeOf held (xs ++ ys) → IsFreeOf held ys
-unfolding IsFreeOf
-free-back held [] ys whole = whole
-free-back held (x ∷ xs) ys whole = free-back held xs ys whole.1
-
 -- what contains no entry of a set contains none of a smaller one
 pub free-within : (held other : Held) (xs : List Entry) → ((r : ℕ) → other r ≡ true → held r ≡ true) → IsFreeOf held xs → IsFreeOf other xs
 unfolding IsFreeOf
@@ -60,18 +49,6 @@ free-within held other (x ∷ xs) within free = (not_in (other x.src) refl, free
     not_in : (b : Bool) → other x.src ≡ b → other x.src ≡ false
     not_in true is = absurd (true≢false (sym (within x.src is) ∙ free.0))
     not_in false is = is
-
--- what contains no entry of two sets contains none of their union
-pub free-union : (held other : Held) (xs : List Entry) → IsFreeOf held xs → IsFreeOf other xs → IsFreeOf (union held other) xs
-unfolding IsFreeOf
-free-union held other [] first second = tt
-free-union held other (x ∷ xs) first second = (rw (first.0, second.0) refl, free-union held other xs first.1 second.1)
-
--- every history contains no entry of the empty set
-pub free-nobody : (xs : List Entry) → IsFreeOf nobody xs
-unfolding IsFreeOf
-free-nobody [] = tt
-free-nobody (x ∷ xs) = (refl, free-nobody xs)
 
 -- a legal history that contains no entry of any requester is empty
 pub free-all : (o : Opening) (m : Memory) (held : Held) (xs : List Entry) → ((r : ℕ) → r < o.requesters → held r ≡ true)

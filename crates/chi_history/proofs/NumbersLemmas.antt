@@ -1,10 +1,9 @@
 -- sets of requester numbers as lists
-use Rattle.std.proofs.Common.{◌≡◌, ℕ, zero, suc, ◌+◌, ◌<◌, ◌≤◌, ◌==◌, nat_eq, Bool, true, false, cond, ◌||◌, List, [], ◌∷◌, ◌++◌, length, refl, sym, ap, ◌∙◌, true≢false, arith, length-append, eq-eqb, eqb-true, inl, inr}
+use Rattle.std.proofs.Common.{◌≡◌, ℕ, zero, suc, ◌+◌, ◌<◌, ◌==◌, nat_eq, Bool, true, false, cond, ◌||◌, List, [], ◌∷◌, ◌++◌, length, refl, sym, ap, ◌∙◌, true≢false, arith, length-append, eq-eqb, eqb-true, inl, inr}
 use Rattle.std.proofs.lemmas.Bool.{cases_Bool, cases_eq, cond-false, cond-true, ne_eqb, or_cases, or_left, or_right}
 use Rattle.std.specs.List.{list_any}
 use Rattle.chi_history.specs.NumberSets.{Held}
-use Rattle.chi_history.specs.NumberLists.{IsInOrder, numbers_in, size_below}
-use Rattle.chi_history.specs.Views.{has}
+use Rattle.chi_history.specs.NumberLists.{IsInOrder, has, numbers_in, size_below}
 
 -- the numbers of a list and those of another
 pub has-append : (xs ys : List ℕ) (r : ℕ) → has (xs ++ ys) r ≡ has xs r || has ys r
@@ -108,13 +107,3 @@ length-numbers_in held (suc n) = by_test (held n) (length-numbers_in held n)
         → length (cond b (numbers_in held n ++ n ∷ []) (numbers_in held n)) ≡ cond b (size_below held n + 1) (size_below held n)
     by_test true rest = length-append (numbers_in held n) (n ∷ []) ∙ ap (λ k. k + 1) rest
     by_test false rest = rest
-
--- a set has no more numbers below a bound than the bound
-pub size_below-bound : (held : Held) (n : ℕ) → size_below held n ≤ n
-unfolding size_below
-size_below-bound held zero = omega arith
-size_below-bound held (suc n) = by_test (held n) (size_below-bound held n)
-  where
-    by_test : (b : Bool) → size_below held n ≤ n → cond b (size_below held n + 1) (size_below held n) ≤ suc n
-    by_test true rest = omega arith
-    by_test false rest = omega arith

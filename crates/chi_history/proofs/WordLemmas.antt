@@ -1,14 +1,12 @@
 -- the words that a history leaves in the granules of a region
-use Rattle.std.proofs.Common.{◌≡◌, ◌≢◌, ℕ, ◌+◌, ◌-◌, ◌*◌, ◌/◌, ◌%◌, ◌^◌, ◌<◌, ◌≤◌, nat_le, Bool, true, false, not, ◌&&◌, if◌then◌else◌, List, [], ◌∷◌, ◌++◌, replicate, slice_index, refl, sym, ap, ◌∙◌, inl, inr, arith, ext_get_or, mod-eq_of_lt}
-use Rattle.std.proofs.lemmas.Bool.{cases_lt}
+use Rattle.std.proofs.Common.{◌≡◌, ◌≢◌, ℕ, ◌+◌, ◌-◌, ◌*◌, ◌/◌, ◌%◌, ◌^◌, ◌<◌, ◌≤◌, nat_le, Bool, true, false, not, ◌&&◌, if◌then◌else◌, List, [], ◌∷◌, ◌++◌, slice_index, refl, sym, ap, ◌∙◌, arith, ext_get_or, mod-eq_of_lt}
 use Rattle.std.proofs.lemmas.Bool.Decides.{nat_tests}
-use Rattle.std.proofs.lemmas.List.{get_or-replicate, get_or_past, length-replicate}
 use Rattle.chi_fields.specs.Extent.{IsRegion, granule_of, lies_in}
 use Rattle.chi_fields.specs.Access.{IsLawful}
 use Rattle.chi_lanes.specs.After.{after, same_bytes}
 use Rattle.chi_lanes.specs.Bytes.{little, little_bytes}
 use Rattle.chi_lanes.specs.Memory.{Memory, IsMemory, bytes_from, word, word_at}
-use Rattle.chi_lanes.proofs.AfterLemmas.{IsMemory-after, word-after_other}
+use Rattle.chi_lanes.proofs.AfterLemmas.{word-after_other}
 use Rattle.chi_lanes.proofs.Digits.{length-little_bytes, little_little_bytes}
 use Rattle.chi_lanes.proofs.MaskedBytes.{slice_index-little_bytes}
 use Rattle.chi_lanes.proofs.MemoryLemmas.{get_or-bytes_from, length-bytes_from}
@@ -16,15 +14,8 @@ use Rattle.chi_lanes.proofs.Operands.{same_bytes-true}
 use Rattle.chi_history.specs.declared.entry.Entry.{Entry}
 use Rattle.chi_history.specs.declared.opening.Opening.{Opening}
 use Rattle.chi_history.specs.NumberSets.{nobody}
-use Rattle.chi_history.specs.History.{IsLegal, IsLegalFrom, end, end_from, hits, hits_from, image_byte, one_if, opening_memory}
+use Rattle.chi_history.specs.History.{end, end_from, hits, hits_from, image_byte, one_if, opening_memory}
 use Rattle.chi_history.proofs.HistoryLemmas.{end_from-append}
-
--- zeros, however many
-pub zeros_are : (count g : ℕ) → slice_index (replicate count 0) g ≡ 0
-zeros_are count g = elim (cases_lt g count) [
-  | inl inside ↦ get_or-replicate count g 0 0 inside
-  | inr past ↦ get_or_past (replicate count 0) g 0 (rw (length-replicate {A = ℕ} count 0) past)
-]
 
 -- the memory of an opening is one
 pub IsMemory-opening_memory : (o : Opening) → IsMemory (opening_memory o)
@@ -33,17 +24,6 @@ IsMemory-opening_memory o x = by_test (lies_in x 1 o.region)
     by_test : (b : Bool) → (if b then image_byte o.image (x - o.region.base) else 0) < 256
     by_test true = omega arith
     by_test false = omega arith
-
--- a legal history leaves a memory a memory
-pub IsMemory-end_from : (o : Opening) (m : Memory) (h : List Entry) → IsMemory m → IsLegalFrom o m h → IsMemory (end_from m h)
-unfolding end_from IsLegalFrom
-IsMemory-end_from o m [] is legal = is
-IsMemory-end_from o m (e ∷ es) is legal =
-    IsMemory-end_from o (after e.access m) es (IsMemory-after e.access m is legal.0.lawful) legal.1
-
--- the memory at the end of a legal history is one
-pub IsMemory-end : (o : Opening) (h : List Entry) → IsLegal o h → IsMemory (end o h)
-IsMemory-end o h legal = IsMemory-end_from o (opening_memory o) h (IsMemory-opening_memory o) legal
 
 -- a byte of a granule at the opening
 opening_byte : (o : Opening) (g k : ℕ) → g < o.region.granules → k < 8 → opening_memory o (o.region.base + 8 * g + k) ≡ slice_index o.image g / 256 ^ k % 256

@@ -1,4 +1,3 @@
-pub mod Events
 pub mod History
 pub mod HistoryLaws
 pub mod HomeClauses
@@ -6,7 +5,3 @@ pub mod Lines
 pub mod NumberLists
 pub mod NumberSets
 pub mod Openings
-pub mod Rule
-pub mod Seats
-pub mod StepFacts
-pub mod Views

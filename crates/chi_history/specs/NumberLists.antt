@@ -1,7 +1,11 @@
 -- sets of requester numbers as lists
-use Rattle.std.specs.Prelude.{◌≡◌, ℕ, zero, suc, ◌+◌, List, [], ◌∷◌, ◌++◌, if◌then◌else◌}
-use Rattle.chi_history.specs.NumberSets.{Held}
-use Rattle.chi_history.specs.Views.{has}
+use Rattle.std.specs.Prelude.{◌≡◌, ℕ, zero, suc, ◌+◌, ◌==◌, ◌||◌, List, [], ◌∷◌, ◌++◌, if◌then◌else◌}
+use Rattle.chi_history.specs.NumberSets.{Held, nobody}
+
+-- the numbers of a list, as a set
+unfoldable pub has : List ℕ → Held
+has [] = nobody
+has (x ∷ xs) = λ r. r == x || has xs r
 
 -- the numbers below this one that are in the set, in rising order
 unfoldable pub numbers_in : Held → ℕ → List ℕ

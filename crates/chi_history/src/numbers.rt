@@ -2,8 +2,7 @@
 
 ghost use Rattle.std.specs.Prelude.{◌≡◌, ◌↔◌, ℕ, ◌<◌, ◌≤◌, true, IsTrue};
 ghost use Rattle.chi_history.specs.NumberSets.{below, only, union, without};
-ghost use Rattle.chi_history.specs.NumberLists.{size_of};
-ghost use Rattle.chi_history.specs.Views.{has};
+ghost use Rattle.chi_history.specs.NumberLists.{has, size_of};
 
 use arrayvec::ArrayVec;
 use std::marker::Model;

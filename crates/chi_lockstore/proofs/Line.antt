@@ -5,16 +5,17 @@ use Rattle.crossbeam_utils.specs.Register.{Forks, Merges, Turns}
 use Rattle.chi_fields.specs.Extent.{IsRegion, granule_of, lies_in}
 use Rattle.chi_fields.specs.Access.{IsLawful, Access}
 use Rattle.chi_history.specs.declared.opening.Opening.{Opening}
-use Rattle.chi_history.specs.declared.view.View.{View}
-use Rattle.chi_history.specs.Rule.{Ruled}
-use Rattle.chi_history.specs.StepFacts.{Applies, Reads, Replaces, Settles, Tries}
-use Rattle.chi_history.specs.Views.{all_below, alone, newcomer, both, gone, has, knower, rest_of}
+use Rattle.chi_history.specs.NumberLists.{has}
+use Rattle.chi_rule.specs.declared.view.View.{View}
+use Rattle.chi_rule.specs.Rule.{Ruled}
+use Rattle.chi_rule.specs.StepFacts.{Applies, Reads, Replaces, Settles, Tries}
+use Rattle.chi_rule.specs.Views.{all_below, alone, newcomer, both, gone, knower, rest_of}
 use Rattle.chi_lockstore.specs.LockSeats.{IsAlone}
-use Rattle.chi_history.proofs.ExchangeLemmas.{tries}
-use Rattle.chi_history.proofs.JoinLemmas.{unites}
-use Rattle.chi_history.proofs.RuledLemmas.{ruled_opens, ruled_parts, ruled_steps, ruled_unites}
-use Rattle.chi_history.proofs.SplitLemmas.{moves, splits}
-use Rattle.chi_history.proofs.StepLemmas.{reads, settles}
+use Rattle.chi_rule.proofs.ExchangeLemmas.{tries}
+use Rattle.chi_rule.proofs.JoinLemmas.{unites}
+use Rattle.chi_rule.proofs.RuledLemmas.{ruled_opens, ruled_parts, ruled_steps, ruled_unites}
+use Rattle.chi_rule.proofs.SplitLemmas.{moves, splits}
+use Rattle.chi_rule.proofs.StepLemmas.{reads, settles}
 
 -- such a view carries the opening
 pub is_live : (v : View) → IsAlone v → v.live ≡ true

@@ -1,14 +1,14 @@
 //! The cell's steps, each called here alone: that the cell fits in memory is shown once for each.
 
 ghost use Rattle.std.specs.Prelude.{◌≡◌, []};
-ghost use Rattle.chi_history.specs.Rule.{Ruled};
+ghost use Rattle.chi_rule.specs.Rule.{Ruled};
 ghost use Rattle.chi_lockstore.specs.Room.{IsSmall};
 ghost use Rattle.crossbeam_utils.specs.Register.{Forks, Turns};
 ghost use Rattle.crossbeam_utils.specs.Seq.{IsSamePass, cell_view};
 
 use crate::rule::{Cell, LinePass, Words};
 use atomic_table::Split;
-use chi_history::View;
+use chi_rule::View;
 use crossbeam_utils::rule::Outcome;
 use std::alloc::Allocator;
 use std::sync::Wait;

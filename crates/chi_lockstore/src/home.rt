@@ -5,16 +5,17 @@ use crate::service::complete;
 use crate::steps::{give, look, take_in};
 use crate::store::LockStore;
 use chi_fields::{Access, Region};
-use chi_history::{Credit, Gate, Home, Numbers, Purpose, Served};
+use chi_history::{Credit, Gate, Home, Numbers, Served};
 use chi_lanes::Reply;
+use chi_rule::Purpose;
 use std::alloc::Allocator;
 use std::marker::Brand;
 use std::sync::Wait;
 
 impl<A: Allocator> Home for LockStore<A> {
     ghost use Rattle.std.specs.Prelude.{◌≡◌};
-    ghost use Rattle.chi_history.specs.Seats.{IsSeat};
-    ghost use Rattle.chi_history.specs.Views.{has};
+    ghost use Rattle.chi_history.specs.NumberLists.{has};
+    ghost use Rattle.chi_rule.specs.Seats.{IsSeat};
     ghost use Rattle.crossbeam_utils.specs.Seq.{cell_view};
 
     type Seat = LockSeat;

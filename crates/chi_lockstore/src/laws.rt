@@ -1,6 +1,6 @@
 //! Laws of the locked home, as functions whose contracts they are.
 
-ghost use Rattle.chi_history.specs.Events.{IsOneHistory, JoinLeaves, MoveLeaves, ReadLeaves, ReplaceAdds, ReplaceIsPossible, SplitLeaves};
+ghost use Rattle.chi_rule.specs.Events.{IsOneHistory, JoinLeaves, MoveLeaves, ReadLeaves, ReplaceAdds, ReplaceIsPossible, SplitLeaves};
 
 /// What a store's line and seats show is one history: no other is the longest that a seat has seen.
 pub fn one_history()

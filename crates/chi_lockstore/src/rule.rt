@@ -1,7 +1,7 @@
 //! The cell of the cache line, its rule, and what looks at it show.
 
 use atomic_table::{Join, Split};
-use chi_history::View;
+use chi_rule::View;
 use crossbeam_utils::atomic::seq_cell::{Pass, RuledSeqCell};
 use crossbeam_utils::rule::{Outcome, Protocol};
 
@@ -21,8 +21,8 @@ pub(crate) type LinePass = Pass<Words, View>;
 pub struct LineRule;
 
 impl Protocol<Words, View> for LineRule {
-    ghost use Rattle.chi_history.specs.Rule.{Ruled};
-    ghost use Rattle.chi_history.specs.Views.{newcomer};
+    ghost use Rattle.chi_rule.specs.Rule.{Ruled};
+    ghost use Rattle.chi_rule.specs.Views.{newcomer};
 
     ghost holds = { λ words views. Ruled 8 words views };
 
@@ -33,7 +33,7 @@ impl Protocol<Words, View> for LineRule {
 pub(crate) struct Look;
 
 impl Outcome<Words, View> for Look {
-    ghost use Rattle.chi_history.specs.StepFacts.{Reads};
+    ghost use Rattle.chi_rule.specs.StepFacts.{Reads};
 
     ghost then = { λ v x y w. Reads v x w };
 }
@@ -42,7 +42,7 @@ impl Outcome<Words, View> for Look {
 pub(crate) struct Settle;
 
 impl Outcome<Words, View> for Settle {
-    ghost use Rattle.chi_history.specs.StepFacts.{Settles};
+    ghost use Rattle.chi_rule.specs.StepFacts.{Settles};
 
     ghost then = { λ v x y w. Settles v w };
 }
@@ -51,7 +51,7 @@ impl Outcome<Words, View> for Settle {
 pub(crate) struct Whole;
 
 impl Split<View> for Whole {
-    ghost use Rattle.chi_history.specs.Views.{gone};
+    ghost use Rattle.chi_rule.specs.Views.{gone};
 
     ghost left = { λ v. gone };
 
@@ -59,7 +59,7 @@ impl Split<View> for Whole {
 }
 
 impl Join<View> for Whole {
-    ghost use Rattle.chi_history.specs.Views.{both, gone};
+    ghost use Rattle.chi_rule.specs.Views.{both, gone};
 
     ghost both = { both };
 

@@ -3,17 +3,17 @@
 ghost use Rattle.std.specs.Prelude.{◌≡◌, true, IsTrue};
 ghost use Rattle.chi_fields.specs.Extent.{lies_in};
 ghost use Rattle.chi_history.specs.Openings.{IsOpening};
-ghost use Rattle.chi_history.specs.Seats.{IsKnown};
 ghost use Rattle.chi_history.specs.HomeClauses.{Completes};
-ghost use Rattle.chi_history.specs.Views.{has};
+ghost use Rattle.chi_history.specs.NumberLists.{has};
+ghost use Rattle.chi_rule.specs.Seats.{IsKnown};
 ghost use Rattle.chi_lockstore.specs.LockFaults.{IsWithinLine};
 ghost use Rattle.chi_lockstore.specs.Room.{IsSmall};
 ghost use Rattle.crossbeam_utils.specs.Seq.{IsSamePass, cell_view};
 
 use crate::rule::{Cell, LinePass};
 use crate::steps::{look, try_once};
-use chi_history::{OpeningValues, Purpose};
 use chi_lanes::{Reply, apply};
+use chi_rule::{OpeningValues, Purpose};
 use std::alloc::Allocator;
 use std::marker::Brand;
 use std::sync::Wait;

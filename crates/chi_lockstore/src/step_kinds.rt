@@ -2,7 +2,7 @@
 
 use crate::rule::Words;
 use atomic_table::Split;
-use chi_history::View;
+use chi_rule::View;
 use crossbeam_utils::rule::Outcome;
 use std::marker::{Brand, PhantomData};
 
@@ -14,7 +14,7 @@ pub(crate) trait ChosenOpening {
 }
 
 impl ChosenOpening for Brand {
-    ghost use Rattle.chi_history.specs.Views.{no_opening};
+    ghost use Rattle.chi_rule.specs.Views.{no_opening};
 
     ghost opening = { no_opening };
 }
@@ -26,7 +26,7 @@ pub(crate) struct OpeningCut<Q> {
 
 impl<Q: ChosenOpening> Split<View> for OpeningCut<Q> {
     ghost use Rattle.std.specs.Prelude.{[]};
-    ghost use Rattle.chi_history.specs.Views.{all_below, gone, knower};
+    ghost use Rattle.chi_rule.specs.Views.{all_below, gone, knower};
 
     ghost left = { λ v. knower Q.opening (all_below Q.opening.requesters) [] };
 
@@ -36,7 +36,7 @@ impl<Q: ChosenOpening> Split<View> for OpeningCut<Q> {
 /// What an exchange of the line is for, and the words that it expects.
 pub(crate) trait ChosenExchange {
     ghost use Rattle.std.specs.Prelude.{ℕ, List};
-    ghost use Rattle.chi_history.specs.declared.purpose.Purpose.{Purpose};
+    ghost use Rattle.chi_rule.specs.declared.purpose.Purpose.{Purpose};
 
     ghost purpose: { Purpose };
 
@@ -58,7 +58,7 @@ pub(crate) struct LineExchange<Q> {
 }
 
 impl<Q: ChosenExchange> Outcome<Words, View> for LineExchange<Q> {
-    ghost use Rattle.chi_history.specs.StepFacts.{Tries};
+    ghost use Rattle.chi_rule.specs.StepFacts.{Tries};
 
     ghost then = { λ v x y w. Tries v Q.current Q.purpose.src Q.purpose.access x w };
 }

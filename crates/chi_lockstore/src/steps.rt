@@ -3,9 +3,10 @@
 ghost use Rattle.std.specs.Prelude.{◌≡◌, ◌≤◌, ◌<◌, ℕ, [], true, IsTrue, IfOk, slice_index, MatchResult};
 ghost use Rattle.chi_fields.specs.Extent.{granule_of, lies_in};
 ghost use Rattle.chi_history.specs.Openings.{IsOpening};
-ghost use Rattle.chi_history.specs.Seats.{IsKnown};
-ghost use Rattle.chi_history.specs.StepFacts.{Applies, Reads, Replaces, Settles};
-ghost use Rattle.chi_history.specs.Views.{all_below, alone, both, has, knower, rest_of};
+ghost use Rattle.chi_history.specs.NumberLists.{has};
+ghost use Rattle.chi_rule.specs.Seats.{IsKnown};
+ghost use Rattle.chi_rule.specs.StepFacts.{Applies, Reads, Replaces, Settles};
+ghost use Rattle.chi_rule.specs.Views.{all_below, alone, both, knower, rest_of};
 ghost use Rattle.chi_lockstore.specs.LockFaults.{IsWithinLine};
 ghost use Rattle.chi_lockstore.specs.Room.{IsSmall};
 ghost use Rattle.chi_lockstore.specs.LockSeats.{IsAlone};
@@ -15,7 +16,7 @@ use crate::cell_steps::{cut, load};
 use crate::rule::{Cell, LINE_GRANULES, LinePass, Look, Settle, Whole, Words};
 use crate::step_kinds::{ChosenExchange, ChosenOpening, LineExchange, OpeningCut};
 use chi_fields::laws::access_is_lawful;
-use chi_history::{OpeningValues, Purpose, SplitNumber, SplitOff};
+use chi_rule::{OpeningValues, Purpose, SplitNumber, SplitOff};
 use std::alloc::{AllocError, Allocator};
 use std::sync::Wait;
 

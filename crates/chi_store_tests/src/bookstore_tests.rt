@@ -1,7 +1,7 @@
 //! What no clause says: each operation once, the refusals, and two real threads.
 
 ghost use Rattle.std.specs.Prelude.{◌≡◌, true};
-ghost use Rattle.chi_history.specs.Views.{has};
+ghost use Rattle.chi_history.specs.NumberLists.{has};
 ghost use Rattle.chi_bookstore.specs.BookSeats.{IsSeatOf};
 
 use crate::comparison::assert_same;

@@ -1,7 +1,7 @@
 //! Two threads at one store: at the same granule, and each at its own.
 
 ghost use Rattle.std.specs.Prelude.{◌≡◌, true};
-ghost use Rattle.chi_history.specs.Views.{has};
+ghost use Rattle.chi_history.specs.NumberLists.{has};
 ghost use Rattle.chi_bookstore.specs.BookSeats.{IsSeatOf};
 
 use super::{reply_to, request};

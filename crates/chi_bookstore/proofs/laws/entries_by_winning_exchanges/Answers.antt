@@ -1,6 +1,6 @@
 -- What each step does to the history.
-use Rattle.chi_history.proofs.GrowthLemmas.{exchange_adds, look_leaves}
-use Rattle.chi_history.proofs.LeaveLemmas.{join_leaves, read_leaves, split_leaves}
+use Rattle.chi_rule.proofs.GrowthLemmas.{exchange_adds, look_leaves}
+use Rattle.chi_rule.proofs.LeaveLemmas.{join_leaves, read_leaves, split_leaves}
 use Rattle.chi_bookstore.proofs.laws.entries_by_winning_exchanges.Goals as goal
 
 pub returns : goal.returns

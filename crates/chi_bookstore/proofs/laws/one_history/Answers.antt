@@ -1,5 +1,5 @@
 -- The rule stands at one history.
-use Rattle.chi_history.proofs.LeaveLemmas.{one_history}
+use Rattle.chi_rule.proofs.LeaveLemmas.{one_history}
 use Rattle.chi_bookstore.proofs.laws.one_history.Goals as goal
 
 pub returns : goal.returns

@@ -1,9 +1,9 @@
 -- A store opens with zeros.
 use Rattle.std.proofs.Common.{rules, ◌≡◌, sym, subst, List, [], ◌∷◌, ℕ, replicate, le_refl}
 use Rattle.chi_history.specs.declared.opening.Opening.{Opening}
-use Rattle.chi_history.specs.Rule.{RuleStands}
-use Rattle.chi_history.specs.Views.{all_below, knower}
-use Rattle.chi_history.proofs.SplitLemmas.{opens}
+use Rattle.chi_rule.specs.Rule.{RuleStands}
+use Rattle.chi_rule.specs.Views.{all_below, knower}
+use Rattle.chi_rule.proofs.SplitLemmas.{opens}
 use Rattle.chi_bookstore.proofs.steps.begin.Goals as goal
 
 pub of_words-requires : goal.of_words-requires

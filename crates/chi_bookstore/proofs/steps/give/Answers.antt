@@ -1,8 +1,8 @@
 -- One number gets a seat of its own.
 use Rattle.std.proofs.Common.{ap, subst, ℕ}
 use Rattle.atomic_table.specs.Table.{Splits}
-use Rattle.chi_history.specs.declared.view.View.{View}
-use Rattle.chi_history.specs.Views.{alone, rest_of}
+use Rattle.chi_rule.specs.declared.view.View.{View}
+use Rattle.chi_rule.specs.Views.{alone, rest_of}
 use Rattle.chi_bookstore.proofs.Book.{Rule, book_splits}
 use Rattle.chi_bookstore.proofs.steps.give.Goals as goal
 

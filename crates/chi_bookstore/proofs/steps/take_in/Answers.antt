@@ -1,6 +1,6 @@
 -- Two seats become one, and the load after it shows what both had seen.
 use Rattle.std.proofs.Common.{rules, ap}
-use Rattle.chi_history.specs.declared.view.View.{View}
+use Rattle.chi_rule.specs.declared.view.View.{View}
 use Rattle.chi_bookstore.proofs.Book.{book_settles, book_unites}
 use Rattle.chi_bookstore.proofs.steps.take_in.Goals as goal
 

@@ -3,13 +3,13 @@ use Rattle.std.proofs.Common.{rules, ◌≡◌, ◌^◌, ◌<◌, ◌∙◌, sym
 use Rattle.chi_fields.specs.Extent.{granule_of}
 use Rattle.chi_fields.specs.Access.{Access}
 use Rattle.chi_history.specs.declared.opening.Opening.{Opening}
-use Rattle.chi_history.specs.declared.view.View.{View}
 use Rattle.chi_history.specs.HomeClauses.{Completes, Retries}
-use Rattle.chi_history.specs.StepFacts.{Applies}
-use Rattle.chi_history.specs.Views.{has}
-use Rattle.chi_history.proofs.StepFactLemmas.{Answers, answers, applies}
-use Rattle.chi_history.proofs.TryLemmas.{try_lost, try_won}
-use Rattle.chi_history.proofs.SeatLemmas.{held_try, known_opening, known_try}
+use Rattle.chi_history.specs.NumberLists.{has}
+use Rattle.chi_rule.specs.declared.view.View.{View}
+use Rattle.chi_rule.specs.StepFacts.{Applies}
+use Rattle.chi_rule.proofs.StepFactLemmas.{Answers, answers, applies}
+use Rattle.chi_rule.proofs.TryLemmas.{try_lost, try_won}
+use Rattle.chi_rule.proofs.SeatLemmas.{held_try, known_opening, known_try}
 use Rattle.chi_bookstore.proofs.tries.try_once.Goals as goal
 
 pub exchange-now-requires-clause-applies : goal.exchange-now-requires-clause-applies

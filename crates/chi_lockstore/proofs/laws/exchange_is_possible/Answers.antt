@@ -1,5 +1,5 @@
 -- An exchange is possible.
-use Rattle.chi_history.proofs.PossibleLemmas.{replace_possible}
+use Rattle.chi_rule.proofs.PossibleLemmas.{replace_possible}
 use Rattle.chi_lockstore.proofs.laws.exchange_is_possible.Goals as goal
 
 pub returns : goal.returns

@@ -4,10 +4,10 @@ use Rattle.crossbeam_utils.specs.Seq.{cell_view}
 use Rattle.chi_fields.specs.Extent.{Extent, granule_of}
 use Rattle.chi_fields.specs.Access.{Access}
 use Rattle.chi_history.specs.declared.opening.Opening.{Opening}
-use Rattle.chi_history.specs.declared.view.View.{View}
-use Rattle.chi_history.specs.StepFacts.{Replaces}
-use Rattle.chi_history.proofs.SeatLemmas.{seat_replaces}
-use Rattle.chi_history.proofs.StepFactLemmas.{Answers, answers, applies}
+use Rattle.chi_rule.specs.declared.view.View.{View}
+use Rattle.chi_rule.specs.StepFacts.{Replaces}
+use Rattle.chi_rule.proofs.SeatLemmas.{seat_replaces}
+use Rattle.chi_rule.proofs.StepFactLemmas.{Answers, answers, applies}
 use Rattle.chi_lockstore.proofs.service.complete.Goals as goal
 
 pub offset_bounds-current-granule : goal.offset_bounds-current-granule

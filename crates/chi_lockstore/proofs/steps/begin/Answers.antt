@@ -3,10 +3,10 @@ use Rattle.std.proofs.Common.{rules, [], subst, sym}
 use Rattle.crossbeam_utils.specs.Register.{Forks}
 use Rattle.crossbeam_utils.specs.Seq.{cell_view}
 use Rattle.chi_history.specs.declared.opening.Opening.{Opening}
-use Rattle.chi_history.specs.declared.view.View.{View}
-use Rattle.chi_history.specs.Rule.{Ruled}
-use Rattle.chi_history.specs.Views.{all_below, gone, knower}
-use Rattle.chi_history.proofs.RuledLemmas.{ruled_first}
+use Rattle.chi_rule.specs.declared.view.View.{View}
+use Rattle.chi_rule.specs.Rule.{Ruled}
+use Rattle.chi_rule.specs.Views.{all_below, gone, knower}
+use Rattle.chi_rule.proofs.RuledLemmas.{ruled_first}
 use Rattle.chi_lockstore.proofs.Line.{line_opens}
 use Rattle.chi_lockstore.proofs.Room.{cell_fits}
 use Rattle.chi_lockstore.proofs.steps.begin.Goals as goal

@@ -2,9 +2,9 @@
 use Rattle.std.proofs.Common.{subst, ℕ}
 use Rattle.crossbeam_utils.specs.Seq.{cell_view}
 use Rattle.crossbeam_utils.specs.Register.{Forks}
-use Rattle.chi_history.specs.declared.view.View.{View}
-use Rattle.chi_history.specs.Rule.{Ruled}
-use Rattle.chi_history.specs.Views.{alone, rest_of}
+use Rattle.chi_rule.specs.declared.view.View.{View}
+use Rattle.chi_rule.specs.Rule.{Ruled}
+use Rattle.chi_rule.specs.Views.{alone, rest_of}
 use Rattle.chi_lockstore.proofs.Line.{is_live, line_gives}
 use Rattle.chi_lockstore.proofs.steps.give.Goals as goal
 

@@ -1,7 +1,7 @@
 -- Two passes become one, and the look after it shows what both had seen.
 use Rattle.std.proofs.Common.{rules, ap}
 use Rattle.crossbeam_utils.specs.Seq.{cell_view}
-use Rattle.chi_history.specs.declared.view.View.{View}
+use Rattle.chi_rule.specs.declared.view.View.{View}
 use Rattle.chi_lockstore.proofs.Line.{is_live, line_moves, line_settles, line_unites}
 use Rattle.chi_lockstore.proofs.Room.{cell_fits}
 use Rattle.chi_lockstore.proofs.steps.take_in.Goals as goal

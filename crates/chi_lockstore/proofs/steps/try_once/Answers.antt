@@ -3,10 +3,10 @@ use Rattle.std.proofs.Common.{rules, subst, refl, ℕ, nat_eq, List, set, if◌t
 use lib.Pointwise.{pointwise}
 use Rattle.crossbeam_utils.specs.Seq.{cell_view}
 use Rattle.crossbeam_utils.specs.Register.{Turns}
-use Rattle.chi_history.specs.declared.purpose.Purpose.{Purpose}
-use Rattle.chi_history.specs.declared.view.View.{View}
-use Rattle.chi_history.specs.Rule.{Ruled}
-use Rattle.chi_history.specs.StepFacts.{Tries}
+use Rattle.chi_rule.specs.declared.purpose.Purpose.{Purpose}
+use Rattle.chi_rule.specs.declared.view.View.{View}
+use Rattle.chi_rule.specs.Rule.{Ruled}
+use Rattle.chi_rule.specs.StepFacts.{Tries}
 use Rattle.chi_lockstore.proofs.Line.{line_tried, line_tries}
 use Rattle.chi_lockstore.proofs.Room.{cell_fits}
 use Rattle.chi_lockstore.proofs.steps.try_once.Goals as goal

@@ -1,6 +1,6 @@
 -- The seat that two were made.
 use Rattle.std.proofs.Common.{◌∙◌}
-use Rattle.chi_history.proofs.SeatLemmas.{seat_joined}
+use Rattle.chi_rule.proofs.SeatLemmas.{seat_joined}
 use Rattle.chi_bookstore.proofs.home.BookStoreHome.rejoin.Goals as goal
 
 pub returns-clause-own : goal.returns-clause-own

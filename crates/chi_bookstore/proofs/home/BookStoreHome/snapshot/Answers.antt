@@ -3,11 +3,11 @@ use Rattle.std.proofs.Common.{rules, ◌≡◌, ◌<◌, ◌∙◌, ap, subst, �
 use Rattle.atomic_table.specs.Table.{Me}
 use Rattle.chi_lanes.specs.Memory.{word}
 use Rattle.chi_history.specs.declared.opening.Opening.{Opening}
-use Rattle.chi_history.specs.declared.view.View.{View}
 use Rattle.chi_history.specs.History.{end}
-use Rattle.chi_history.specs.StepFacts.{ReadsAt}
-use Rattle.chi_history.specs.declared.purpose.Purpose.{Purpose}
-use Rattle.chi_history.proofs.SeatLemmas.{one_more, seat_reads}
+use Rattle.chi_rule.specs.declared.view.View.{View}
+use Rattle.chi_rule.specs.declared.purpose.Purpose.{Purpose}
+use Rattle.chi_rule.specs.StepFacts.{ReadsAt}
+use Rattle.chi_rule.proofs.SeatLemmas.{one_more, seat_reads}
 use Rattle.chi_bookstore.proofs.home.BookStoreHome.snapshot.Goals as goal
 
 pub loop-granule-preserved : goal.loop-granule-preserved

@@ -1,8 +1,8 @@
 -- The seat without the number, and the seat of the number alone.
-use Rattle.std.proofs.Common.{rules, ◌≡◌, ◌∙◌, ℕ, List}
+use Rattle.std.proofs.Common.{rules, ◌∙◌, ℕ, List}
 use Rattle.chi_history.specs.declared.opening.Opening.{Opening}
-use Rattle.chi_history.specs.declared.view.View.{View}
-use Rattle.chi_history.proofs.SeatLemmas.{seat_alone, seat_rest}
+use Rattle.chi_rule.specs.declared.view.View.{View}
+use Rattle.chi_rule.proofs.SeatLemmas.{seat_alone, seat_rest}
 use Rattle.chi_bookstore.proofs.home.BookStoreHome.split.Goals as goal
 
 pub returns-clause-own : goal.returns-clause-own

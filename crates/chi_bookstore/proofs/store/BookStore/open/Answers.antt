@@ -1,6 +1,6 @@
 -- The first seat of a store.
 use Rattle.std.proofs.Common.{rules}
-use Rattle.chi_history.proofs.SeatLemmas.{seat_first}
+use Rattle.chi_rule.proofs.SeatLemmas.{seat_first}
 use Rattle.chi_bookstore.proofs.store.BookStore.open.Goals as goal
 
 pub returns-clause-own : goal.returns-clause-own

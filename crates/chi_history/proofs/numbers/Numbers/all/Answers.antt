@@ -2,8 +2,7 @@
 use Rattle.std.proofs.Common.{◌≡◌, ◌<◌, ◌∙◌, ap, sym, subst, arith}
 use Rattle.std.proofs.lemmas.Bool.{ltb-true}
 use Rattle.chi_history.specs.NumberSets.{below}
-use Rattle.chi_history.specs.NumberLists.{IsInOrder}
-use Rattle.chi_history.specs.Views.{has}
+use Rattle.chi_history.specs.NumberLists.{IsInOrder, has}
 use Rattle.chi_history.proofs.NumbersLemmas.{IsInOrder-numbers_in, has-numbers_in}
 use Rattle.chi_history.proofs.numbers.Numbers.all.Goals as goal
 

@@ -1,7 +1,6 @@
 -- The list has each number of the set once.
 use Rattle.std.proofs.Common.{◌∙◌, ap, length}
-use Rattle.chi_history.specs.NumberLists.{size_of}
-use Rattle.chi_history.specs.Views.{has}
+use Rattle.chi_history.specs.NumberLists.{has, size_of}
 use Rattle.chi_history.proofs.NumbersLemmas.{length-numbers_in}
 use Rattle.chi_history.proofs.numbers.Numbers.count.Goals as goal
 

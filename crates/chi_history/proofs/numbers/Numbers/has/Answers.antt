@@ -1,6 +1,6 @@
 -- A test of the list is a test of the set.
 use Rattle.std.proofs.Common.{◌∙◌, ap}
-use Rattle.chi_history.specs.Views.{has}
+use Rattle.chi_history.specs.NumberLists.{has}
 use Rattle.chi_history.proofs.NumbersLemmas.{list_any-has}
 use Rattle.chi_history.proofs.numbers.Numbers.has.Goals as goal
 

@@ -1,6 +1,6 @@
 -- The set has each number so far.
 use Rattle.std.proofs.Common.{◌≡◌, ◌<◌, ℕ, true}
-use Rattle.chi_history.specs.Views.{has}
+use Rattle.chi_history.specs.NumberLists.{has}
 use Rattle.chi_history.proofs.numbers.Numbers.has_all.Given as goal
 
 abbrev pub invariant-numbers : goal.invariant-numbers

@@ -2,8 +2,7 @@
 use Rattle.std.proofs.Common.{◌≡◌, ◌∙◌, ap, sym, subst, arith, inl, inr}
 use Rattle.std.proofs.lemmas.Bool.{or_cases}
 use Rattle.chi_history.specs.NumberSets.{union}
-use Rattle.chi_history.specs.NumberLists.{IsInOrder}
-use Rattle.chi_history.specs.Views.{has}
+use Rattle.chi_history.specs.NumberLists.{IsInOrder, has}
 use Rattle.chi_history.proofs.NumbersLemmas.{IsInOrder-below, IsInOrder-numbers_in, has-numbers_in}
 use Rattle.chi_history.proofs.numbers.Numbers.merge.Goals as goal
 

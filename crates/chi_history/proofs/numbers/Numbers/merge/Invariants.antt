@@ -2,8 +2,7 @@
 use Rattle.std.proofs.Common.{◌≡◌, ◌≤◌}
 use Rattle.arrayvec.specs.ArrayVec.{array_vec_len}
 use Rattle.chi_history.specs.NumberSets.{union}
-use Rattle.chi_history.specs.NumberLists.{numbers_in}
-use Rattle.chi_history.specs.Views.{has}
+use Rattle.chi_history.specs.NumberLists.{has, numbers_in}
 use Rattle.chi_history.proofs.numbers.Numbers.merge.Given as goal
 
 abbrev pub invariant-numbers : goal.invariant-numbers

@@ -1,8 +1,7 @@
 -- The list is that of the set.
 use Rattle.std.proofs.Common.{◌≡◌, ◌∙◌, ap, sym, subst, arith, eqb-true}
 use Rattle.chi_history.specs.NumberSets.{only}
-use Rattle.chi_history.specs.NumberLists.{IsInOrder}
-use Rattle.chi_history.specs.Views.{has}
+use Rattle.chi_history.specs.NumberLists.{IsInOrder, has}
 use Rattle.chi_history.proofs.NumbersLemmas.{IsInOrder-numbers_in, has-numbers_in}
 use Rattle.chi_history.proofs.numbers.Numbers.only.Goals as goal
 

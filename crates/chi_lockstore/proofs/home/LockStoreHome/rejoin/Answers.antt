@@ -1,7 +1,7 @@
 -- The seat that two were made is of the opening.
 use Rattle.std.proofs.Common.{◌∙◌}
 use Rattle.crossbeam_utils.specs.Seq.{cell_view}
-use Rattle.chi_history.proofs.SeatLemmas.{seat_joined}
+use Rattle.chi_rule.proofs.SeatLemmas.{seat_joined}
 use Rattle.chi_lockstore.proofs.home.LockStoreHome.rejoin.Goals as goal
 
 pub returns-clause-own : goal.returns-clause-own

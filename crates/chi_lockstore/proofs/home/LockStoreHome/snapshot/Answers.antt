@@ -3,9 +3,9 @@ use Rattle.std.proofs.Common.{rules, ◌≡◌, ◌<◌, ◌∙◌, ap, subst, s
 use Rattle.crossbeam_utils.specs.Seq.{cell_view}
 use Rattle.chi_lanes.specs.Memory.{word}
 use Rattle.chi_history.specs.declared.opening.Opening.{Opening}
-use Rattle.chi_history.specs.declared.view.View.{View}
 use Rattle.chi_history.specs.History.{end}
-use Rattle.chi_history.proofs.SeatLemmas.{known_opening, one_more, seat_reads}
+use Rattle.chi_rule.specs.declared.view.View.{View}
+use Rattle.chi_rule.proofs.SeatLemmas.{known_opening, one_more, seat_reads}
 use Rattle.chi_lockstore.proofs.home.LockStoreHome.snapshot.Goals as goal
 
 pub loop-granule-preserved : goal.loop-granule-preserved

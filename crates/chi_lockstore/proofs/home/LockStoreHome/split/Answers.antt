@@ -2,8 +2,8 @@
 use Rattle.std.proofs.Common.{rules, ℕ, List, ◌∙◌}
 use Rattle.crossbeam_utils.specs.Seq.{cell_view}
 use Rattle.chi_history.specs.declared.opening.Opening.{Opening}
-use Rattle.chi_history.specs.declared.view.View.{View}
-use Rattle.chi_history.proofs.SeatLemmas.{seat_alone, seat_rest}
+use Rattle.chi_rule.specs.declared.view.View.{View}
+use Rattle.chi_rule.proofs.SeatLemmas.{seat_alone, seat_rest}
 use Rattle.chi_lockstore.proofs.home.LockStoreHome.split.Goals as goal
 
 pub returns-clause-own : goal.returns-clause-own

@@ -1,7 +1,7 @@
 -- The first seat is of the opening.
 use Rattle.std.proofs.Common.{rules}
 use Rattle.crossbeam_utils.specs.Seq.{cell_view}
-use Rattle.chi_history.proofs.SeatLemmas.{seat_first}
+use Rattle.chi_rule.proofs.SeatLemmas.{seat_first}
 use Rattle.chi_lockstore.proofs.store.LockStore.open.Goals as goal
 
 pub returns-clause-own : goal.returns-clause-own

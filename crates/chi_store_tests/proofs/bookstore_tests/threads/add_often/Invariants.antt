@@ -1,6 +1,6 @@
 -- The seat is of the home, and holds what it held.
 use Rattle.std.proofs.Common.{◌≡◌}
-use Rattle.chi_history.specs.Views.{has}
+use Rattle.chi_history.specs.NumberLists.{has}
 use Rattle.chi_bookstore.specs.BookSeats.{IsSeatOf}
 use Rattle.chi_store_tests.proofs.bookstore_tests.threads.add_often.Given as goal
 

@@ -21,7 +21,7 @@ pub struct SplitOff<Q> {
 }
 
 impl<Q: SplitNumber> Split<View> for SplitOff<Q> {
-    ghost use Rattle.chi_history.specs.Views.{alone, rest_of};
+    ghost use Rattle.chi_rule.specs.Views.{alone, rest_of};
 
     ghost left = { λ v. rest_of Q.number v };
 

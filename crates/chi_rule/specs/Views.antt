@@ -1,16 +1,12 @@
 -- what the seats of a store know
-use Rattle.std.specs.Prelude.{ℕ, zero, suc, ◌==◌, nat_le, true, false, ◌||◌, if◌then◌else◌, List, [], ◌∷◌, ◌++◌, length, Option, None, Some}
+use Rattle.std.specs.Prelude.{ℕ, zero, suc, ◌==◌, nat_le, true, false, if◌then◌else◌, List, [], ◌∷◌, ◌++◌, length, Option, None, Some}
 use Rattle.chi_history.specs.declared.entry.Entry.{Entry}
 use Rattle.chi_history.specs.declared.opening.Opening.{Opening}
-use Rattle.chi_history.specs.declared.view.Part.{Part}
-use Rattle.chi_history.specs.declared.view.View.{View}
-use Rattle.chi_history.specs.NumberSets.{Held, Apart, nobody}
+use Rattle.chi_history.specs.NumberLists.{has}
+use Rattle.chi_history.specs.NumberSets.{Apart}
 use Rattle.chi_history.specs.HomeClauses.{Joins}
-
--- the numbers of a list, as a set
-unfoldable pub has : List ℕ → Held
-has [] = nobody
-has (x ∷ xs) = λ r. r == x || has xs r
+use Rattle.chi_rule.specs.declared.view.Part.{Part}
+use Rattle.chi_rule.specs.declared.view.View.{View}
 
 -- every number below this one
 unfoldable pub all_below : ℕ → List ℕ

@@ -1,5 +1,7 @@
 -- lists read at an index, after a write and with one item more
-use Rattle.std.proofs.Common.{◌≡◌, ◌≢◌, ℕ, zero, suc, ◌<◌, ◌⊎◌, inl, inr, List, [], ◌∷◌, ◌++◌, length, set, refl, sym, ap, ◌∙◌, arith}
+use Rattle.std.proofs.Common.{◌≡◌, ◌≢◌, ℕ, zero, suc, ◌⊎◌, inl, inr, List, [], ◌∷◌, ◌++◌, length, replicate, set, slice_index, refl, sym, ap, ◌∙◌, arith}
+use Rattle.std.proofs.lemmas.Bool.{cases_lt}
+use Rattle.std.proofs.lemmas.List.{get_or-replicate, get_or_past, length-replicate}
 use mathlib.Core.Option.{some, some-injective, some-ne-none}
 use lib.ListN.{get_elem?}
 
@@ -53,12 +55,13 @@ module _ {A : Type 0} where
   at_last [] a = refl
   at_last (x ∷ xs) a = at_last xs a
 
-  -- an index that has an item is below the length
-  pub at_below : (l : List A) (a : A) (i : ℕ) → get_elem? l i ≡ some a → i < length l
-  at_below [] a i e = absurd (some-ne-none a (sym e))
-  at_below (x ∷ xs) a zero e = omega arith
-  at_below (x ∷ xs) a (suc i) e = let rest = at_below xs a i e in omega arith
-
   -- two readings of one index
   pub at_once : (l : List A) (i : ℕ) (a b : A) → get_elem? l i ≡ some a → get_elem? l i ≡ some b → a ≡ b
   at_once l i a b e f = some-injective a b (sym e ∙ f)
+
+-- zeros, however many
+pub zeros_are : (count g : ℕ) → slice_index (replicate count 0) g ≡ 0
+zeros_are count g = elim (cases_lt g count) [
+  | inl inside ↦ get_or-replicate count g 0 0 inside
+  | inr past ↦ get_or_past (replicate count 0) g 0 (rw (length-replicate {A = ℕ} count 0) past)
+]

@@ -10,19 +10,20 @@ use lib.ListN.{get_elem?}
 use Rattle.chi_fields.specs.Extent.{IsRegion}
 use Rattle.chi_history.specs.declared.entry.Entry.{Entry}
 use Rattle.chi_history.specs.declared.opening.Opening.{Opening}
-use Rattle.chi_history.specs.declared.view.View.{View}
 use Rattle.chi_history.specs.NumberSets.{Apart, Held}
 use Rattle.chi_history.specs.History.{IsLegalFrom, end_from}
-use Rattle.chi_history.specs.Rule.{IsHeld, IsSeen, Knows, RuleStands, first_word}
-use Rattle.chi_history.specs.Views.{all_below, all_but, alone, gone, has, knower, rest_of}
+use Rattle.chi_history.specs.NumberLists.{has}
 use Rattle.chi_history.proofs.HeldLemmas.{without-held}
-use Rattle.chi_history.proofs.HistoryLemmas.{free-nobody, free-within}
-use Rattle.chi_history.proofs.RuleLemmas.{apart_end, apart_set, each_end, each_set, held_end, seen_end, seen_set}
-use Rattle.chi_history.proofs.StepLemmas.{below_all, knows_all}
-use Rattle.chi_history.proofs.Steps.{Parts}
-use Rattle.chi_history.proofs.ViewLemmas.{Within, has-all_below, has-all_but, has-only, within_apart}
-use Rattle.chi_history.proofs.ViewLists.{at_last, at_longer, at_once, at_set, set_else, set_here}
-use Rattle.chi_history.proofs.WordLemmas.{zeros_are}
+use Rattle.chi_history.proofs.HistoryLemmas.{free-within}
+use Rattle.chi_rule.specs.declared.view.View.{View}
+use Rattle.chi_rule.specs.Rule.{IsHeld, IsSeen, Knows, RuleStands, first_word}
+use Rattle.chi_rule.specs.Views.{all_below, all_but, alone, gone, knower, rest_of}
+use Rattle.chi_rule.proofs.Histories.{free-nobody}
+use Rattle.chi_rule.proofs.RuleLemmas.{apart_end, apart_set, each_end, each_set, held_end, seen_end, seen_set}
+use Rattle.chi_rule.proofs.StepLemmas.{below_all, knows_all}
+use Rattle.chi_rule.proofs.Steps.{Parts}
+use Rattle.chi_rule.proofs.ViewLemmas.{Within, has-all_below, has-all_but, has-only, within_apart}
+use Rattle.chi_rule.proofs.ViewLists.{at_last, at_longer, at_once, at_set, set_else, set_here, zeros_are}
 
 -- a seat that was joined away knows
 pub knows_gone : (o : Opening) (h : List Entry) → Knows o h gone

@@ -8,18 +8,19 @@ use Rattle.chi_fields.specs.Access.{Access}
 use Rattle.chi_lanes.specs.declared.reply.Reply.{Reply}
 use Rattle.chi_lanes.specs.Memory.{word}
 use Rattle.chi_history.specs.declared.opening.Opening.{Opening}
-use Rattle.chi_history.specs.declared.view.View.{View}
 use Rattle.chi_history.specs.NumberSets.{Held, below, only, union, without}
 use Rattle.chi_history.specs.History.{IsLegal, IsLegalFrom, end}
-use Rattle.chi_history.specs.Rule.{shown}
-use Rattle.chi_history.specs.Seats.{IsKnown, IsSeat}
 use Rattle.chi_history.specs.HomeClauses.{Completes}
-use Rattle.chi_history.specs.StepFacts.{Replaces, Settles}
-use Rattle.chi_history.specs.Views.{all_below, all_but, alone, both, has, knower, rest_of}
+use Rattle.chi_history.specs.NumberLists.{has}
 use Rattle.chi_history.proofs.HeldLemmas.{without-held}
-use Rattle.chi_history.proofs.StepFactLemmas.{Answers, IsJoined, joined, read_word, replaced}
-use Rattle.chi_history.proofs.TryLemmas.{IsTried, replaced_try}
-use Rattle.chi_history.proofs.ViewLemmas.{has-all_below, has-all_but, has-only}
+use Rattle.chi_rule.specs.declared.view.View.{View}
+use Rattle.chi_rule.specs.Rule.{shown}
+use Rattle.chi_rule.specs.Seats.{IsKnown, IsSeat}
+use Rattle.chi_rule.specs.StepFacts.{Replaces, Settles}
+use Rattle.chi_rule.specs.Views.{all_below, all_but, alone, both, knower, rest_of}
+use Rattle.chi_rule.proofs.StepFactLemmas.{Answers, IsJoined, joined, read_word, replaced}
+use Rattle.chi_rule.proofs.TryLemmas.{IsTried, replaced_try}
+use Rattle.chi_rule.proofs.ViewLemmas.{has-all_below, has-all_but, has-only}
 
 -- a seat of an opening carries its values
 pub known_opening : (o : Opening) (v : View) → IsKnown o v → v.opening ≡ o

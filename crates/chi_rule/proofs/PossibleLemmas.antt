@@ -4,12 +4,13 @@ use Rattle.chi_fields.specs.Extent.{granule_of, lies_in}
 use Rattle.chi_fields.specs.Access.{IsLawful, Access}
 use Rattle.chi_history.specs.declared.entry.Entry.{Entry}
 use Rattle.chi_history.specs.declared.opening.Opening.{Opening}
-use Rattle.chi_history.specs.declared.view.View.{View}
-use Rattle.chi_history.specs.Events.{ExchangeIsPossible, IsAt, LookIsPossible, ReplaceIsPossible, with_entry}
-use Rattle.chi_history.specs.Rule.{RuleStands, shown}
-use Rattle.chi_history.specs.StepFacts.{Adds, Applies, Exchanges, Looks, Sees, Tries}
-use Rattle.chi_history.specs.Views.{has, knower}
-use Rattle.chi_history.proofs.StepLemmas.{appends, granule_below, sees}
+use Rattle.chi_history.specs.NumberLists.{has}
+use Rattle.chi_rule.specs.declared.view.View.{View}
+use Rattle.chi_rule.specs.Events.{ExchangeIsPossible, IsAt, LookIsPossible, ReplaceIsPossible, with_entry}
+use Rattle.chi_rule.specs.Rule.{RuleStands, shown}
+use Rattle.chi_rule.specs.StepFacts.{Adds, Applies, Exchanges, Looks, Sees, Tries}
+use Rattle.chi_rule.specs.Views.{knower}
+use Rattle.chi_rule.proofs.StepLemmas.{appends, granule_below, sees}
 
 -- the load of a try, by a seat of the opening
 look_at : (count : ℕ) (o : Opening) (id : ℕ) (held : List ℕ) (seen : List Entry) (g : ℕ) → g < o.region.granules

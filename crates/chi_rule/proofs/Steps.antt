@@ -3,8 +3,8 @@ use Rattle.std.specs.Prelude.{◌≡◌, ℕ, List, [], ◌∷◌, ◌++◌, sli
 use mathlib.Core.Option as plain
 use lib.ListN.{get_elem?}
 use Rattle.chi_history.specs.declared.opening.Opening.{Opening}
-use Rattle.chi_history.specs.declared.view.View.{View}
-use Rattle.chi_history.specs.Rule.{Kept}
+use Rattle.chi_rule.specs.declared.view.View.{View}
+use Rattle.chi_rule.specs.Rule.{Kept}
 
 -- whatever the words and the other views are when the words ws become f ws, the seat has a new view that keeps the rule, and `then` holds of ws and this view
 abbrev pub Steps : ℕ → Opening → ℕ → View → (List ℕ → List ℕ) → (List ℕ → View → Type 0) → Type 0

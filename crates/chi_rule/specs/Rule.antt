@@ -6,10 +6,11 @@ use Rattle.chi_fields.specs.Extent.{IsRegion}
 use Rattle.chi_lanes.specs.Memory.{word}
 use Rattle.chi_history.specs.declared.entry.Entry.{Entry}
 use Rattle.chi_history.specs.declared.opening.Opening.{Opening}
-use Rattle.chi_history.specs.declared.view.View.{View}
 use Rattle.chi_history.specs.NumberSets.{Apart}
 use Rattle.chi_history.specs.History.{IsFreeOf, IsLegal, end, opening_memory}
-use Rattle.chi_history.specs.Views.{IsJoint, has, newcomer}
+use Rattle.chi_history.specs.NumberLists.{has}
+use Rattle.chi_rule.specs.declared.view.View.{View}
+use Rattle.chi_rule.specs.Views.{IsJoint, newcomer}
 
 -- the word of a granule at the opening
 abbrev pub first_word : Opening → ℕ → ℕ

@@ -9,17 +9,19 @@ use Rattle.chi_lanes.specs.After.{answer}
 use Rattle.chi_lanes.specs.Memory.{Memory}
 use Rattle.chi_history.specs.declared.entry.Entry.{Entry}
 use Rattle.chi_history.specs.declared.opening.Opening.{Opening}
-use Rattle.chi_history.specs.declared.view.View.{View}
-use Rattle.chi_history.specs.Events.{ExchangeAdds, IsAt, LookLeaves, ReplaceAdds, with_entry}
 use Rattle.chi_history.specs.NumberSets.{Held}
 use Rattle.chi_history.specs.History.{IsFreeOf, IsLegalFrom, end, opening_memory}
-use Rattle.chi_history.specs.Rule.{AreHeld, Knows, RuleStands}
 use Rattle.chi_history.specs.HomeClauses.{entry}
-use Rattle.chi_history.specs.StepFacts.{Adds, Exchanges, Sees}
-use Rattle.chi_history.specs.Views.{has, knower}
-use Rattle.chi_history.proofs.HistoryLemmas.{free-append, free-back, free-front, legal-back, legal-front, longer}
-use Rattle.chi_history.proofs.LeaveLemmas.{Covers, by_none, goes_on, read_leaves}
-use Rattle.chi_history.proofs.ViewLists.{at_once, set_else, set_here}
+use Rattle.chi_history.specs.NumberLists.{has}
+use Rattle.chi_history.proofs.HistoryLemmas.{free-append, free-front, legal-back, legal-front, longer}
+use Rattle.chi_rule.specs.declared.view.View.{View}
+use Rattle.chi_rule.specs.Events.{ExchangeAdds, IsAt, LookLeaves, ReplaceAdds, with_entry}
+use Rattle.chi_rule.specs.Rule.{AreHeld, Knows, RuleStands}
+use Rattle.chi_rule.specs.StepFacts.{Adds, Exchanges, Sees}
+use Rattle.chi_rule.specs.Views.{knower}
+use Rattle.chi_rule.proofs.Histories.{free-back}
+use Rattle.chi_rule.proofs.LeaveLemmas.{Covers, by_none, goes_on, read_leaves}
+use Rattle.chi_rule.proofs.ViewLists.{at_once, set_else, set_here}
 
 -- a front that two lists have in common
 cancel : (front xs ys : List Entry) → front ++ xs ≡ front ++ ys → xs ≡ ys

@@ -6,15 +6,14 @@ use native.Mathlib.Decide.{ℕ_discrete}
 use lib.ListN.{get_elem?}
 use Rattle.chi_history.specs.declared.entry.Entry.{Entry}
 use Rattle.chi_history.specs.declared.opening.Opening.{Opening}
-use Rattle.chi_history.specs.declared.view.View.{View}
 use Rattle.chi_history.specs.NumberSets.{Apart}
 use Rattle.chi_history.specs.History.{IsFreeOf, IsLegal}
-use Rattle.chi_history.specs.Rule.{AreApart, EachKnows, IsHeld, IsSeen, Knows, RuleStands, shown}
-use Rattle.chi_history.specs.Views.{has}
-use Rattle.chi_history.proofs.HeldLemmas.{apart_sym}
+use Rattle.chi_history.specs.NumberLists.{has}
 use Rattle.chi_history.proofs.HistoryLemmas.{free-append}
-use Rattle.chi_history.proofs.ViewLemmas.{Within, within_apart}
-use Rattle.chi_history.proofs.ViewLists.{at_end, at_longer, at_once, at_set, set_else, set_here}
+use Rattle.chi_rule.specs.declared.view.View.{View}
+use Rattle.chi_rule.specs.Rule.{AreApart, EachKnows, IsHeld, IsSeen, Knows, RuleStands, shown}
+use Rattle.chi_rule.proofs.ViewLemmas.{Within, apart_sym, within_apart}
+use Rattle.chi_rule.proofs.ViewLists.{at_end, at_longer, at_once, at_set, set_else, set_here}
 
 -- views that each hold a part of what the view at the same place held
 pub apart_within : (views views' : List View) → AreApart views

@@ -7,17 +7,19 @@ use Rattle.chi_lanes.specs.After.{after, answer}
 use Rattle.chi_lanes.specs.Memory.{Memory, IsMemory, word}
 use Rattle.chi_history.specs.declared.entry.Entry.{Entry}
 use Rattle.chi_history.specs.declared.opening.Opening.{Opening}
-use Rattle.chi_history.specs.declared.view.View.{View}
 use Rattle.chi_history.specs.NumberSets.{Apart, union}
 use Rattle.chi_history.specs.History.{IsLegal, IsLegalFrom, end, opening_memory}
-use Rattle.chi_history.specs.Rule.{first_word, shown}
 use Rattle.chi_history.specs.HomeClauses.{Completes, Joins, entry}
-use Rattle.chi_history.specs.StepFacts.{Adds, Applies, Replaces, Settles, next_entry}
-use Rattle.chi_history.specs.Views.{both, has, knower}
+use Rattle.chi_history.specs.NumberLists.{has}
 use Rattle.chi_history.proofs.HistoryLemmas.{legal-back, legal-front}
-use Rattle.chi_history.proofs.StepLemmas.{granule_below, unmasked}
-use Rattle.chi_history.proofs.ViewLemmas.{has-append}
-use Rattle.chi_history.proofs.WordLemmas.{IsMemory-end, word-opening_memory}
+use Rattle.chi_history.proofs.WordLemmas.{word-opening_memory}
+use Rattle.chi_rule.specs.declared.view.View.{View}
+use Rattle.chi_rule.specs.Rule.{first_word, shown}
+use Rattle.chi_rule.specs.StepFacts.{Adds, Applies, Replaces, Settles, next_entry}
+use Rattle.chi_rule.specs.Views.{both, knower}
+use Rattle.chi_rule.proofs.StepLemmas.{granule_below, unmasked}
+use Rattle.chi_rule.proofs.ViewLemmas.{has-append}
+use Rattle.chi_rule.proofs.Histories.{IsMemory-end}
 
 -- `reply` is the answer of every memory whose granule a store keeps as `found`
 abbrev pub Answers : Opening → Access → ℕ → Reply → Type 0

@@ -6,12 +6,13 @@ use native.Mathlib.Decide.{ℕ_discrete}
 use lib.ListN.{get_elem?}
 use Rattle.chi_history.specs.declared.entry.Entry.{Entry}
 use Rattle.chi_history.specs.declared.opening.Opening.{Opening}
-use Rattle.chi_history.specs.declared.view.View.{View}
-use Rattle.chi_history.specs.Rule.{RuleStands}
-use Rattle.chi_history.specs.Views.{both, gone, has}
-use Rattle.chi_history.proofs.ViewLemmas.{Meets, meets}
-use Rattle.chi_history.proofs.ViewLists.{at_end, at_last, at_longer, at_once, at_set, set_else, set_here}
-use Rattle.chi_history.specs.Events.{IsOneHistory, JoinLeaves, MoveLeaves, ReadLeaves, SplitLeaves}
+use Rattle.chi_history.specs.NumberLists.{has}
+use Rattle.chi_rule.specs.declared.view.View.{View}
+use Rattle.chi_rule.specs.Rule.{RuleStands}
+use Rattle.chi_rule.specs.Views.{both, gone}
+use Rattle.chi_rule.specs.Events.{IsOneHistory, JoinLeaves, MoveLeaves, ReadLeaves, SplitLeaves}
+use Rattle.chi_rule.proofs.ViewLemmas.{Meets, meets}
+use Rattle.chi_rule.proofs.ViewLists.{at_end, at_last, at_longer, at_once, at_set, set_else, set_here}
 
 -- two histories that each go on the other are one
 one_of_two : (a b r s : List Entry) → b ≡ a ++ r → a ≡ b ++ s → a ≡ b

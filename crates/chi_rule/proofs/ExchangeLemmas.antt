@@ -7,13 +7,14 @@ use Rattle.chi_fields.specs.Extent.{granule_of, lies_in}
 use Rattle.chi_fields.specs.Access.{IsLawful, Access}
 use Rattle.chi_history.specs.declared.entry.Entry.{Entry}
 use Rattle.chi_history.specs.declared.opening.Opening.{Opening}
-use Rattle.chi_history.specs.declared.view.View.{View}
-use Rattle.chi_history.specs.Rule.{Kept, RuleStands, shown}
-use Rattle.chi_history.specs.StepFacts.{Adds, Applies, Exchanges, Sees, Tries}
-use Rattle.chi_history.specs.Views.{has, knower}
-use Rattle.chi_history.proofs.StepLemmas.{appends, granule_below, next_of, sees}
-use Rattle.chi_history.proofs.Steps.{Steps}
-use Rattle.chi_history.proofs.ViewLists.{set_again}
+use Rattle.chi_history.specs.NumberLists.{has}
+use Rattle.chi_rule.specs.declared.view.View.{View}
+use Rattle.chi_rule.specs.Rule.{Kept, RuleStands, shown}
+use Rattle.chi_rule.specs.StepFacts.{Adds, Applies, Exchanges, Sees, Tries}
+use Rattle.chi_rule.specs.Views.{knower}
+use Rattle.chi_rule.proofs.StepLemmas.{appends, granule_below, next_of, sees}
+use Rattle.chi_rule.proofs.Steps.{Steps}
+use Rattle.chi_rule.proofs.ViewLists.{set_again}
 
 -- an exchange of the access's word, at a knower
 exchanges_at : (count : ℕ) (o : Opening) (id : ℕ) (held : List ℕ) (seen : List Entry) (first next src : ℕ) (access : Access) → has held src ≡ true

@@ -1,7 +1,6 @@
 //! What the rule of a store knows of each seat. No value of these types is made: contracts and proofs see them.
 
-use crate::entry::Entry;
-use crate::opening::Opening;
+use chi_history::{Entry, Opening};
 use std::collections::LinkedList;
 
 /// What one of two seats knew that were made one: the numbers that it held, and the history that it had seen.

@@ -6,16 +6,17 @@ use Rattle.chi_lanes.specs.declared.reply.Reply.{Reply}
 use Rattle.chi_lanes.specs.Memory.{Memory}
 use Rattle.chi_history.specs.declared.entry.Entry.{Entry}
 use Rattle.chi_history.specs.declared.opening.Opening.{Opening}
-use Rattle.chi_history.specs.declared.view.View.{View}
 use Rattle.chi_history.specs.NumberSets.{Held, nobody}
 use Rattle.chi_history.specs.History.{IsFreeOf, IsLegal, end, hits, hits_from, opening_memory}
-use Rattle.chi_history.specs.Rule.{first_word, shown}
 use Rattle.chi_history.specs.HomeClauses.{Completes, Retries, entry}
-use Rattle.chi_history.specs.StepFacts.{Adds, Exchanges, Looks, Replaces, Sees}
-use Rattle.chi_history.specs.Views.{has, knower}
+use Rattle.chi_history.specs.NumberLists.{has}
 use Rattle.chi_history.proofs.HistoryLemmas.{end_from-append, free-append, hits-append}
-use Rattle.chi_history.proofs.StepFactLemmas.{Answers, added}
 use Rattle.chi_history.proofs.WordLemmas.{differs}
+use Rattle.chi_rule.specs.declared.view.View.{View}
+use Rattle.chi_rule.specs.Rule.{first_word, shown}
+use Rattle.chi_rule.specs.StepFacts.{Adds, Exchanges, Looks, Replaces, Sees}
+use Rattle.chi_rule.specs.Views.{knower}
+use Rattle.chi_rule.proofs.StepFactLemmas.{Answers, added}
 
 -- a seat after a try: it holds what it held
 pub record IsTried (v w : View) : Type 0 where

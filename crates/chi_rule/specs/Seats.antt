@@ -1,9 +1,10 @@
 -- what is known of the seats of a store
 use Rattle.std.specs.Prelude.{◌≡◌, ℕ, ◌<◌, true, List}
 use Rattle.chi_history.specs.declared.opening.Opening.{Opening}
-use Rattle.chi_history.specs.declared.view.View.{View}
 use Rattle.chi_history.specs.History.{IsLegal}
-use Rattle.chi_history.specs.Views.{has, knower}
+use Rattle.chi_history.specs.NumberLists.{has}
+use Rattle.chi_rule.specs.declared.view.View.{View}
+use Rattle.chi_rule.specs.Views.{knower}
 
 -- a seat of an opening carries its values, and has seen a legal history
 pub record IsKnown (o : Opening) (v : View) : Type 0 where

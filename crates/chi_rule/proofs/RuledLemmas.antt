@@ -4,13 +4,14 @@ use mathlib.Core.Option as plain
 use lib.ListN.{get_elem?}
 use Rattle.chi_fields.specs.Extent.{IsRegion}
 use Rattle.chi_history.specs.declared.opening.Opening.{Opening}
-use Rattle.chi_history.specs.declared.view.View.{View}
-use Rattle.chi_history.specs.Rule.{Kept, Ruled, RuleStands}
-use Rattle.chi_history.specs.Views.{all_below, gone, has, knower, newcomer}
-use Rattle.chi_history.proofs.HeldLemmas.{apart_sym}
-use Rattle.chi_history.proofs.RuleLemmas.{arrives}
-use Rattle.chi_history.proofs.SplitLemmas.{gone_apart, knows_gone, one_at, opens}
-use Rattle.chi_history.proofs.Steps.{Parts, Steps, Unites}
+use Rattle.chi_history.specs.NumberLists.{has}
+use Rattle.chi_rule.specs.declared.view.View.{View}
+use Rattle.chi_rule.specs.Rule.{Kept, Ruled, RuleStands}
+use Rattle.chi_rule.specs.Views.{all_below, gone, knower, newcomer}
+use Rattle.chi_rule.proofs.ViewLemmas.{apart_sym}
+use Rattle.chi_rule.proofs.RuleLemmas.{arrives}
+use Rattle.chi_rule.proofs.SplitLemmas.{gone_apart, knows_gone, one_at, opens}
+use Rattle.chi_rule.proofs.Steps.{Parts, Steps, Unites}
 
 -- a seat that carries an opening is of that opening
 pub ruled_kept : (count : ℕ) (o : Opening) (id : ℕ) (v : View) (words : List ℕ) (views : List View) → v.live ≡ true → v.opening ≡ o

@@ -15,18 +15,20 @@ use Rattle.chi_lanes.specs.Memory.{Memory, word}
 use Rattle.chi_lanes.proofs.Operands.{placed}
 use Rattle.chi_history.specs.declared.entry.Entry.{Entry}
 use Rattle.chi_history.specs.declared.opening.Opening.{Opening}
-use Rattle.chi_history.specs.declared.view.View.{View}
 use Rattle.chi_history.specs.NumberSets.{Held, below}
 use Rattle.chi_history.specs.History.{IsFreeOf, IsLegal, IsLegalFrom, end, opening_memory}
-use Rattle.chi_history.specs.Rule.{Kept, Knows, RuleStands, first_word, shown}
 use Rattle.chi_history.specs.HomeClauses.{entry}
-use Rattle.chi_history.specs.StepFacts.{Adds, Applies, Looks, Reads, ReadsAt, Sees, Settles}
-use Rattle.chi_history.specs.Views.{has, knower}
-use Rattle.chi_history.proofs.HistoryLemmas.{free-all, legal-append, legal-back, legal-front}
-use Rattle.chi_history.proofs.RuleLemmas.{advance, seen_here, seen_set, unmoved}
-use Rattle.chi_history.proofs.Steps.{Steps}
-use Rattle.chi_history.proofs.ViewLists.{set_again}
-use Rattle.chi_history.proofs.WordLemmas.{IsMemory-end, end-snoc, word-snoc_other}
+use Rattle.chi_history.specs.NumberLists.{has}
+use Rattle.chi_history.proofs.HistoryLemmas.{free-all, legal-back, legal-front}
+use Rattle.chi_history.proofs.WordLemmas.{end-snoc, word-snoc_other}
+use Rattle.chi_rule.specs.declared.view.View.{View}
+use Rattle.chi_rule.specs.Rule.{Kept, Knows, RuleStands, first_word, shown}
+use Rattle.chi_rule.specs.StepFacts.{Adds, Applies, Looks, Reads, ReadsAt, Sees, Settles}
+use Rattle.chi_rule.specs.Views.{knower}
+use Rattle.chi_rule.proofs.Histories.{IsMemory-end, legal-append}
+use Rattle.chi_rule.proofs.RuleLemmas.{advance, seen_here, seen_set, unmoved}
+use Rattle.chi_rule.proofs.Steps.{Steps}
+use Rattle.chi_rule.proofs.ViewLists.{set_again}
 
 -- a mask that is taken away again
 pub unmasked : (a b : ℕ) → bit_xor (bit_xor a b) b ≡ a

@@ -6,12 +6,13 @@ use Rattle.chi_lanes.specs.After.{after, answer}
 use Rattle.chi_lanes.specs.Memory.{Memory, IsMemory, word}
 use Rattle.chi_history.specs.declared.entry.Entry.{Entry}
 use Rattle.chi_history.specs.declared.opening.Opening.{Opening}
-use Rattle.chi_history.specs.declared.view.View.{View}
 use Rattle.chi_history.specs.NumberSets.{below}
 use Rattle.chi_history.specs.History.{IsFreeOf, IsLegal, end}
-use Rattle.chi_history.specs.Rule.{first_word, shown}
 use Rattle.chi_history.specs.HomeClauses.{entry}
-use Rattle.chi_history.specs.Views.{IsJoint, has, knower}
+use Rattle.chi_history.specs.NumberLists.{has}
+use Rattle.chi_rule.specs.declared.view.View.{View}
+use Rattle.chi_rule.specs.Rule.{first_word, shown}
+use Rattle.chi_rule.specs.Views.{IsJoint, knower}
 
 -- the seat has seen these entries more, all of others
 pub record Sees (v : View) (mid : List Entry) (w : View) : Type 0 where

@@ -6,8 +6,18 @@ use Rattle.chi_history.specs.declared.entry.Entry.{Entry}
 use Rattle.chi_history.specs.NumberSets.{Held, Apart, below, only, union, without}
 use Rattle.chi_history.specs.History.{IsFreeOf}
 use Rattle.chi_history.specs.HomeClauses.{Joins}
-use Rattle.chi_history.specs.Views.{all_below, all_but, has, longest_of}
-use Rattle.chi_history.proofs.HistoryLemmas.{free-back, free-front, longer}
+use Rattle.chi_history.specs.NumberLists.{has}
+use Rattle.chi_history.proofs.HistoryLemmas.{free-front, longer}
+use Rattle.chi_rule.specs.Views.{all_below, all_but, longest_of}
+use Rattle.chi_rule.proofs.Histories.{free-back}
+
+-- a number that a set has and another has not is not in both
+pub apart_sym : (held other : Held) → Apart held other → Apart other held
+apart_sym held other apart r in_other = not_in (held r) refl
+  where
+    not_in : (b : Bool) → held r ≡ b → held r ≡ false
+    not_in true is = absurd (true≢false (sym in_other ∙ apart r is))
+    not_in false is = is
 
 -- each number of the first set is in the second
 abbrev pub Within : Held → Held → Type 0

@@ -7,12 +7,13 @@ use Rattle.chi_fields.specs.Access.{IsLawful, Access}
 use Rattle.chi_lanes.specs.After.{answer}
 use Rattle.chi_history.specs.declared.entry.Entry.{Entry}
 use Rattle.chi_history.specs.declared.opening.Opening.{Opening}
-use Rattle.chi_history.specs.declared.view.View.{View}
 use Rattle.chi_history.specs.History.{end}
-use Rattle.chi_history.specs.Rule.{RuleStands}
 use Rattle.chi_history.specs.HomeClauses.{entry}
-use Rattle.chi_history.specs.StepFacts.{Applies, Exchanges, Looks, Tries}
-use Rattle.chi_history.specs.Views.{both, gone, has, knower}
+use Rattle.chi_history.specs.NumberLists.{has}
+use Rattle.chi_rule.specs.declared.view.View.{View}
+use Rattle.chi_rule.specs.Rule.{RuleStands}
+use Rattle.chi_rule.specs.StepFacts.{Applies, Exchanges, Looks, Tries}
+use Rattle.chi_rule.specs.Views.{both, gone, knower}
 
 -- the rule stands at one history alone, whatever the words are
 abbrev pub IsOneHistory : Type 0

@@ -6,18 +6,18 @@ use native.Mathlib.Decide.{ℕ_discrete}
 use lib.ListN.{get_elem?}
 use Rattle.chi_history.specs.declared.entry.Entry.{Entry}
 use Rattle.chi_history.specs.declared.opening.Opening.{Opening}
-use Rattle.chi_history.specs.declared.view.View.{View}
 use Rattle.chi_history.specs.NumberSets.{Apart, Held}
 use Rattle.chi_history.specs.History.{IsFreeOf}
-use Rattle.chi_history.specs.Rule.{AreApart, IsHeld, IsSeen, Knows, RuleStands}
-use Rattle.chi_history.specs.Views.{both, gone, has}
-use Rattle.chi_history.proofs.HeldLemmas.{apart_sym}
-use Rattle.chi_history.proofs.HistoryLemmas.{free-union}
-use Rattle.chi_history.proofs.RuleLemmas.{each_set}
-use Rattle.chi_history.proofs.SplitLemmas.{gone_apart, knows_gone}
-use Rattle.chi_history.proofs.Steps.{Unites}
-use Rattle.chi_history.proofs.ViewLemmas.{apart_union, has-append, longest_first, longest_second, meets, union_apart, union_parts}
-use Rattle.chi_history.proofs.ViewLists.{at_once, at_set, set_else, set_here}
+use Rattle.chi_history.specs.NumberLists.{has}
+use Rattle.chi_rule.specs.declared.view.View.{View}
+use Rattle.chi_rule.specs.Rule.{AreApart, IsHeld, IsSeen, Knows, RuleStands}
+use Rattle.chi_rule.specs.Views.{both, gone}
+use Rattle.chi_rule.proofs.ViewLemmas.{apart_sym, apart_union, has-append, longest_first, longest_second, meets, union_apart, union_parts}
+use Rattle.chi_rule.proofs.Histories.{free-union}
+use Rattle.chi_rule.proofs.RuleLemmas.{each_set}
+use Rattle.chi_rule.proofs.SplitLemmas.{gone_apart, knows_gone}
+use Rattle.chi_rule.proofs.Steps.{Unites}
+use Rattle.chi_rule.proofs.ViewLists.{at_once, at_set, set_else, set_here}
 
 -- the seat that two were made knows what both knew
 knows_both : (o : Opening) (h : List Entry) (v w : View) → v.live ≡ true → Knows o h v → Knows o h w → Apart (has v.held) (has w.held) → Knows o h (both v w)

@@ -1,0 +1,16 @@
+pub mod ExchangeLemmas
+pub mod GrowthLemmas
+pub mod Histories
+pub mod JoinLemmas
+pub mod LeaveLemmas
+pub mod PossibleLemmas
+pub mod RuleLemmas
+pub mod RuledLemmas
+pub mod SeatLemmas
+pub mod SplitLemmas
+pub mod StepFactLemmas
+pub mod StepLemmas
+pub mod Steps
+pub mod TryLemmas
+pub mod ViewLemmas
+pub mod ViewLists

@@ -1,0 +1,5 @@
+pub mod Events
+pub mod Rule
+pub mod Seats
+pub mod StepFacts
+pub mod Views
