@@ -170,6 +170,12 @@ fn write_enables_part_of_window(rt: HostRuntime) -> Result<(), Fail> {
     Ok(())
 }
 
+// The kind of a request of eight bytes with this opcode.
+fn kind_of(opcode: u8) -> Result<Kind, Fail> {
+    let access = decoded(8, request(opcode, 3, 0x1000, 0x00ff))??;
+    Ok(access.kind())
+}
+
 #[test]
 fn kinds_of_opcodes(rt: HostRuntime) -> Result<(), Fail> {
     let ops = [
@@ -189,17 +195,11 @@ fn kinds_of_opcodes(rt: HostRuntime) -> Result<(), Fail> {
         (0x39, Kind::Compare),
     ];
     for (number, op) in ops {
-        let store = decoded(8, request(0x28 | number, 3, 0x1000, 0x00ff))??;
-        let load = decoded(8, request(0x30 | number, 3, 0x1000, 0x00ff))??;
-        assert_same(
-            &rt,
-            (store.kind(), load.kind()),
-            (Kind::Store(op), Kind::Load(op)),
-        );
+        let kinds = (kind_of(0x28 | number)?, kind_of(0x30 | number)?);
+        assert_same(&rt, kinds, (Kind::Store(op), Kind::Load(op)));
     }
     for (opcode, kind) in others {
-        let access = decoded(8, request(opcode, 3, 0x1000, 0x00ff))??;
-        assert_same(&rt, access.kind(), kind);
+        assert_same(&rt, kind_of(opcode)?, kind);
     }
     Ok(())
 }
@@ -242,24 +242,31 @@ fn read_keeps_ignored_fields(rt: HostRuntime) -> Result<(), Fail> {
     Ok(())
 }
 
+// The place of the granule of a swap of four bytes, where it fits a region of so many granules from 0x1000 on.
+fn granule_of(granules: u16, addr: u64, be: u16) -> Result<Option<usize>, Fail> {
+    let access = decoded(8, request(0x38, 2, addr, be))??;
+    let region = Region::new(0x1000, granules)?;
+    Ok(if access.fits(&region) {
+        Some(access.granule(&region))
+    } else {
+        None
+    })
+}
+
 #[test]
 fn granules_of_accesses(rt: HostRuntime) -> Result<(), Fail> {
-    let accesses = [
-        (0x1000, 0x000f, 0),
-        (0x1004, 0x00f0, 0),
-        (0x1008, 0x0f00, 1),
-        (0x103c, 0xf000, 7),
-    ];
-    let region = Region::new(0x1000, 8)?;
-    for (addr, be, want) in accesses {
-        let access = decoded(8, request(0x38, 2, addr, be))??;
-        assert!(rt; access.fits(&region));
-        assert_same(&rt, (addr, access.granule(&region)), (addr, want));
+    for (granules, addr, be, want) in [
+        (8, 0x1000, 0x000f, Some(0)),
+        (8, 0x1004, 0x00f0, Some(0)),
+        (8, 0x1008, 0x0f00, Some(1)),
+        (8, 0x103c, 0xf000, Some(7)),
+        (3, 0x1014, 0x00f0, Some(2)),
+        (2, 0x1014, 0x00f0, None),
+    ] {
+        let found = granule_of(granules, addr, be)?;
+        assert_same(&rt, (granules, addr, found), (granules, addr, want));
     }
     let third = decoded(8, request(0x38, 2, 0x1014, 0x00f0))??;
-    let (long, short) = (Region::new(0x1000, 3)?, Region::new(0x1000, 2)?);
-    let later = Region::new(0x1040, 8)?;
-    let fits = (third.fits(&long), third.fits(&short), third.fits(&later));
-    assert_same(&rt, fits, (true, false, false));
+    assert_same(&rt, third.fits(&Region::new(0x1040, 8)?), false);
     Ok(())
 }

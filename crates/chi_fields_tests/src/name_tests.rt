@@ -2,6 +2,8 @@
 
 use crate::comparison::assert_same;
 use chi_fields::{Refusal, RegionFault, op_name, refusal_name, region_fault_name};
+use std::fmt::Display;
+use std::process::Abort;
 use std::test::Fail;
 
 const OPCODES: [(u8, &str); 20] = [
@@ -27,17 +29,32 @@ const OPCODES: [(u8, &str); 20] = [
     (0x39, "AtomicCompare"),
 ];
 
+// The name that is listed for an opcode.
+fn listed(opcode: u8) -> &'static str {
+    for (each, name) in OPCODES {
+        if each == opcode {
+            return name;
+        }
+    }
+    "Unknown"
+}
+
 #[test]
 fn op_names(rt: HostRuntime) {
     for opcode in 0..=u8::MAX {
-        let mut want = "Unknown";
-        for (listed, name) in OPCODES {
-            if listed == opcode {
-                want = name;
-            }
-        }
-        assert_same(&rt, (opcode, op_name(opcode)), (opcode, want));
+        assert_same(&rt, (opcode, op_name(opcode)), (opcode, listed(opcode)));
     }
+}
+
+// Compares the text of a refusal or a fault.
+fn assert_text<R: AllocGlobal + Abort, T: Display>(
+    rt: &R,
+    shown: &T,
+    wanted: &str,
+) -> Result<(), Fail> {
+    let text = format!(in rt.alloc(); "{shown}")?;
+    assert_same(rt, text.as_str(), wanted);
+    Ok(())
 }
 
 #[test]
@@ -76,8 +93,7 @@ fn refusal_names_and_texts(rt: HostRuntime) -> Result<(), Fail> {
     ];
     for (refusal, name, text) in refusals {
         assert_same(&rt, refusal_name(refusal), name);
-        let shown = format!(in rt.alloc(); "{refusal}")?;
-        assert_same(&rt, shown.as_str(), text);
+        assert_text(&rt, &refusal, text)?;
     }
     Ok(())
 }
@@ -103,8 +119,7 @@ fn region_fault_names_and_texts(rt: HostRuntime) -> Result<(), Fail> {
     ];
     for (fault, name, text) in faults {
         assert_same(&rt, region_fault_name(fault), name);
-        let shown = format!(in rt.alloc(); "{fault}")?;
-        assert_same(&rt, shown.as_str(), text);
+        assert_text(&rt, &fault, text)?;
     }
     Ok(())
 }

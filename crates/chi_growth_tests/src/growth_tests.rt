@@ -7,7 +7,7 @@ use crate::comparison::assert_same;
 use crate::growth_four_tests::race_forty;
 use crate::growth_list_tests::add_forty;
 use crate::growth_race_tests::race_ten;
-use crate::growth_work_tests::{add_three, add_three_serially};
+use crate::growth_work_tests::add_three;
 use crate::refusing_allocator::Refusing;
 use chi_bookstore::BookStore;
 use chi_fields::Region;
@@ -103,8 +103,8 @@ fn call_on<H: Home + Sync, T: AllocGlobal + Abort + Threads + Wait + Sync>(
     requires line { (H.opening home.now).region.granules ≡ 8 }
 {
     match call {
-        Call::Work => Ok(add_three(rt, home, seat, number)),
-        Call::Serial => Ok(add_three_serially(rt, home, seat, number)),
+        Call::Work => Ok(add_three(rt, home, seat, false, number)),
+        Call::Serial => Ok(add_three(rt, home, seat, true, number)),
         Call::Forty(count) => add_forty(rt, home, seat, number, count),
         Call::RaceOfTwo => race_ten(rt, home, seat, number),
         Call::RaceOfFour => race_forty(rt, home, seat, number),

@@ -10,6 +10,7 @@ use chi_fields::Request;
 use chi_history::{Home, Line, NoGate};
 use chi_lanes::Reply;
 use chi_requester::{Policy, run_serial, work};
+use std::alloc::Allocator;
 use std::process::Abort;
 use std::sync::Wait;
 use std::test::Fail;
@@ -71,73 +72,51 @@ fn assert_first<H: Home, T: Abort + Wait>(
     assert!(rt; if is_ok { count == 3 } else { has_refused });
 }
 
-// Executes three fetch-adds by requester 0, and answers whether a growth was refused.
-pub(crate) fn add_three<H: Home, T: AllocGlobal + Abort + Wait>(
-    rt: &T,
+// Executes three fetch-adds by requester 0, as its work or serially, and answers whether all were done.
+fn are_three_done<H: Home, R: Wait, A: Allocator>(
+    rt: &R,
     home: &H,
     seat: &mut H::Seat,
-    number: u64,
+    is_serial: bool,
+    lines: &mut Vec<Line, A>,
 ) -> bool
     requires own { H.belongs home.now seat.old }
     requires all { H.held seat.old ≡ below (H.opening home.now).requesters }
     requires eight { (H.opening home.now).requesters ≡ 8 }
-    requires line { (H.opening home.now).region.granules ≡ 8 }
-{
-    let requests = [add(FETCH_ADD, 0, 1); 3];
-    let alloc = Refusing::new(rt.alloc(), number);
-    let mut lines = Vec::new(&alloc);
-    let policy = Policy::Resend;
-    let outcome = work(
-        home,
-        rt,
-        seat,
-        0,
-        &requests,
-        policy,
-        &mut NoGate,
-        &mut lines,
-    );
-    let has_refused = alloc.has_refused();
-    assert_first(
-        rt,
-        home,
-        seat,
-        lines.as_slice(),
-        outcome.is_ok(),
-        has_refused,
-    );
-    has_refused
-}
-
-// Executes three fetch-adds one after another, and answers whether a growth was refused.
-pub(crate) fn add_three_serially<H: Home, T: AllocGlobal + Abort + Wait>(
-    rt: &T,
-    home: &H,
-    seat: &mut H::Seat,
-    number: u64,
-) -> bool
-    requires own { H.belongs home.now seat.old }
-    requires all { H.held seat.old ≡ below (H.opening home.now).requesters }
-    requires eight { (H.opening home.now).requesters ≡ 8 }
-    requires line { (H.opening home.now).region.granules ≡ 8 }
+    ensures own { H.belongs home.now seat.new }
+    ensures held { H.held seat.new ≡ H.held seat.old }
 {
     let requests = [
         add(FETCH_ADD, 0, 1),
         add(FETCH_ADD, 0, 1),
         add(FETCH_ADD, 0, 1),
     ];
+    let policy = Policy::Resend;
+    if is_serial {
+        run_serial(home, rt, seat, &requests, policy, lines).is_ok()
+    } else {
+        work(home, rt, seat, 0, &requests, policy, &mut NoGate, lines).is_ok()
+    }
+}
+
+// Executes the three with the growth of this number refused, and answers whether there was one.
+pub(crate) fn add_three<H: Home, T: AllocGlobal + Abort + Wait>(
+    rt: &T,
+    home: &H,
+    seat: &mut H::Seat,
+    is_serial: bool,
+    number: u64,
+) -> bool
+    requires own { H.belongs home.now seat.old }
+    requires all { H.held seat.old ≡ below (H.opening home.now).requesters }
+    requires eight { (H.opening home.now).requesters ≡ 8 }
+    requires line { (H.opening home.now).region.granules ≡ 8 }
+{
     let alloc = Refusing::new(rt.alloc(), number);
     let mut lines = Vec::new(&alloc);
-    let outcome = run_serial(home, rt, seat, &requests, Policy::Resend, &mut lines);
+    let is_ok = are_three_done(rt, home, seat, is_serial, &mut lines);
     let has_refused = alloc.has_refused();
-    assert_first(
-        rt,
-        home,
-        seat,
-        lines.as_slice(),
-        outcome.is_ok(),
-        has_refused,
-    );
+    assert_first(rt, home, seat, lines.as_slice(), is_ok, has_refused);
     has_refused
 }
 

@@ -3,6 +3,7 @@
 use crate::comparison::assert_same;
 use chi_fields::{Region, Request, decode};
 use chi_lanes::{Reply, apply};
+use std::process::Abort;
 use std::test::Fail;
 
 // A request of requester 0 with little-endian data. The digits of `lanes` are the packet, lane 0 first.
@@ -40,6 +41,23 @@ fn executed(granule: u64, request: Request) -> Result<(u64, Reply), Fail> {
     Ok((after.swap_bytes(), reply))
 }
 
+// Compares the granule after a request, and the answer.
+fn assert_executed<R: Abort>(
+    rt: &R,
+    granule: u64,
+    request: Request,
+    after: u64,
+    answer: Reply,
+) -> Result<(), Fail> {
+    let found = executed(granule, request)?;
+    assert_same(
+        rt,
+        (request.opcode, found),
+        (request.opcode, (after, answer)),
+    );
+    Ok(())
+}
+
 // The answer to a request in that region, whose granules are then as it leaves them.
 fn executed_in(granules: &mut [u64; 8], request: Request) -> Result<Reply, Fail> {
     let region = Region::new(0x1000, 8)?;
@@ -50,16 +68,26 @@ fn executed_in(granules: &mut [u64; 8], request: Request) -> Result<Reply, Fail>
     Ok(reply)
 }
 
+// Compares the answer to a request in that region, and its granules after it.
+fn assert_executed_in<R: Abort>(
+    rt: &R,
+    granules: &mut [u64; 8],
+    request: Request,
+    answer: Reply,
+    after: [u64; 8],
+) -> Result<(), Fail> {
+    let found = executed_in(granules, request)?;
+    let opcode = request.opcode;
+    assert_same(rt, (opcode, found, *granules), (opcode, answer, after));
+    Ok(())
+}
+
 #[test]
 fn first_fetch_add(rt: HostRuntime) -> Result<(), Fail> {
     let add = request(0x30, 3, 0x1000, 0x00ff, 0x01000000000000000000000000000000);
-    assert_same(&rt, executed(0, add)?, (0x0100000000000000, data(0)));
-    assert_same(
-        &rt,
-        executed(0x0100000000000000, add)?,
-        (0x0200000000000000, data(0x01000000000000000000000000000000)),
-    );
-    Ok(())
+    let one = data(0x01000000000000000000000000000000);
+    assert_executed(&rt, 0, add, 0x0100000000000000, data(0))?;
+    assert_executed(&rt, 0x0100000000000000, add, 0x0200000000000000, one)
 }
 
 #[test]
@@ -68,11 +96,11 @@ fn big_endian_carry(rt: HostRuntime) -> Result<(), Fail> {
     let add = request(0x30, 1, 0x1006, 0x00c0, 0x00000000000000010000000000000000);
     let answer = data(0x000000000000ffff0000000000000000);
     for (add, after) in [(big_endian(add), 0), (add, 0x000000000000ff00)] {
+        let written = [0x000000000000ffff, 0, 0, 0, 0, 0, 0, 0];
+        let added = [after, 0, 0, 0, 0, 0, 0, 0];
         let mut granules = [0; 8];
-        assert_same(&rt, executed_in(&mut granules, write)?, Reply::Comp);
-        assert_same(&rt, granules, [0x000000000000ffff, 0, 0, 0, 0, 0, 0, 0]);
-        assert_same(&rt, executed_in(&mut granules, add)?, answer);
-        assert_same(&rt, granules, [after, 0, 0, 0, 0, 0, 0, 0]);
+        assert_executed_in(&rt, &mut granules, write, Reply::Comp, written)?;
+        assert_executed_in(&rt, &mut granules, add, answer, added)?;
     }
     Ok(())
 }
@@ -86,11 +114,7 @@ fn byte_smax_umax_add(rt: HostRuntime) -> Result<(), Fail> {
     ];
     for (opcode, lanes, after) in cases {
         let store = request(opcode, 0, 0x1000, 0x0001, lanes);
-        assert_same(
-            &rt,
-            (opcode, executed(0x8000000000000000, store)?),
-            (opcode, (after, Reply::Comp)),
-        );
+        assert_executed(&rt, 0x8000000000000000, store, after, Reply::Comp)?;
     }
     Ok(())
 }
@@ -98,48 +122,35 @@ fn byte_smax_umax_add(rt: HostRuntime) -> Result<(), Fail> {
 #[test]
 fn smin_in_both_byte_orders(rt: HostRuntime) -> Result<(), Fail> {
     let least = request(0x35, 2, 0x1000, 0x000f, 0x00000080000000000000000000000000);
+    let before = 0x8000000000000000;
     let answer = data(0x80000000000000000000000000000000);
-    assert_same(
-        &rt,
-        executed(0x8000000000000000, big_endian(least))?,
-        (0x8000000000000000, answer),
-    );
-    assert_same(
-        &rt,
-        executed(0x8000000000000000, least)?,
-        (0x0000008000000000, answer),
-    );
-    Ok(())
+    assert_executed(&rt, before, big_endian(least), before, answer)?;
+    assert_executed(&rt, before, least, 0x0000008000000000, answer)
 }
 
 #[test]
 fn compare_one_byte_upper_half(rt: HostRuntime) -> Result<(), Fail> {
     let compare = request(0x39, 1, 0x1003, 0x000c, 0x00005a00000000000000000000000000);
-    assert_same(&rt, executed(0, compare)?, (0x0000005a00000000, data(0)));
-    Ok(())
+    assert_executed(&rt, 0, compare, 0x0000005a00000000, data(0))
 }
 
 #[test]
 fn compare_eight_bytes_upper_half(rt: HostRuntime) -> Result<(), Fail> {
     let compare = request(0x39, 4, 0x1008, 0xffff, 0x11223344556677880000000000000000);
-    let mut granules = [0; 8];
-    assert_same(&rt, executed_in(&mut granules, compare)?, data(0));
-    assert_same(&rt, granules, [0, 0x1122334455667788, 0, 0, 0, 0, 0, 0]);
-    Ok(())
+    let after = [0, 0x1122334455667788, 0, 0, 0, 0, 0, 0];
+    assert_executed_in(&rt, &mut [0; 8], compare, data(0), after)
 }
 
 #[test]
 fn compare_four_bytes_upper_half(rt: HostRuntime) -> Result<(), Fail> {
     let compare = request(0x39, 3, 0x1004, 0x00ff, 0xaabbccdd000000000000000000000000);
-    assert_same(&rt, executed(0, compare)?, (0x00000000aabbccdd, data(0)));
-    Ok(())
+    assert_executed(&rt, 0, compare, 0x00000000aabbccdd, data(0))
 }
 
 #[test]
 fn compare_that_differs(rt: HostRuntime) -> Result<(), Fail> {
     let compare = request(0x39, 3, 0x1000, 0x00ff, 0x01000000ffffffff0000000000000000);
-    assert_same(&rt, executed(0, compare)?, (0, data(0)));
-    Ok(())
+    assert_executed(&rt, 0, compare, 0, data(0))
 }
 
 #[test]
@@ -148,11 +159,14 @@ fn write_of_no_bytes_then_two(rt: HostRuntime) -> Result<(), Fail> {
     let mut granules = [0; 8];
     for (be, after) in [(0x0000, 0), (0x0042, 0x00a100000000a600)] {
         let write = request(0x1c, 3, 0x1000, be, lanes);
-        assert_same(&rt, executed_in(&mut granules, write)?, Reply::Comp);
-        assert_same(&rt, granules, [after, 0, 0, 0, 0, 0, 0, 0]);
+        let after = [after, 0, 0, 0, 0, 0, 0, 0];
+        assert_executed_in(&rt, &mut granules, write, Reply::Comp, after)?;
     }
     Ok(())
 }
+
+// The byte 3c in lane 0.
+const SENT: u128 = 0x3c000000000000000000000000000000;
 
 #[test]
 fn nine_operations_on_one_byte(rt: HostRuntime) -> Result<(), Fail> {
@@ -168,35 +182,18 @@ fn nine_operations_on_one_byte(rt: HostRuntime) -> Result<(), Fail> {
         (0x38, 0x3c00000000000000),
     ];
     let before = 0xf0000000000000000000000000000000;
-    let sent = 0x3c000000000000000000000000000000;
     let write = request(0x1c, 0, 0x1000, 0x0001, before);
+    let written = [0xf000000000000000, 0, 0, 0, 0, 0, 0, 0];
     let mut granules = [0; 8];
     for (opcode, after) in operations {
-        assert_same(&rt, executed_in(&mut granules, write)?, Reply::Comp);
-        let load = request(opcode, 0, 0x1000, 0x0001, sent);
-        assert_same(
-            &rt,
-            (opcode, executed_in(&mut granules, load)?),
-            (opcode, data(before)),
-        );
-        assert_same(
-            &rt,
-            (opcode, granules),
-            (opcode, [after, 0, 0, 0, 0, 0, 0, 0]),
-        );
+        let load = request(opcode, 0, 0x1000, 0x0001, SENT);
+        let after = [after, 0, 0, 0, 0, 0, 0, 0];
+        assert_executed_in(&rt, &mut granules, write, Reply::Comp, written)?;
+        assert_executed_in(&rt, &mut granules, load, data(before), after)?;
         if opcode < 0x38 {
-            assert_same(&rt, executed_in(&mut granules, write)?, Reply::Comp);
-            let store = request(opcode - 8, 0, 0x1000, 0x0001, sent);
-            assert_same(
-                &rt,
-                (opcode, executed_in(&mut granules, store)?),
-                (opcode, Reply::Comp),
-            );
-            assert_same(
-                &rt,
-                (opcode, granules),
-                (opcode, [after, 0, 0, 0, 0, 0, 0, 0]),
-            );
+            let store = request(opcode - 8, 0, 0x1000, 0x0001, SENT);
+            assert_executed_in(&rt, &mut granules, write, Reply::Comp, written)?;
+            assert_executed_in(&rt, &mut granules, store, Reply::Comp, after)?;
         }
     }
     Ok(())
@@ -206,22 +203,17 @@ fn nine_operations_on_one_byte(rt: HostRuntime) -> Result<(), Fail> {
 fn write_then_read_upper_half(rt: HostRuntime) -> Result<(), Fail> {
     let write = request(0x1c, 3, 0x1008, 0xff00, 0x00000000000000000102030405060708);
     let read = request(0x04, 2, 0x100c, 0, 0);
-    let mut granules = [0; 8];
-    assert_same(&rt, executed_in(&mut granules, write)?, Reply::Comp);
     let answer = data(0x00000000000000000000000005060708);
-    assert_same(&rt, executed_in(&mut granules, read)?, answer);
-    assert_same(&rt, granules, [0, 0x0102030405060708, 0, 0, 0, 0, 0, 0]);
-    Ok(())
+    let after = [0, 0x0102030405060708, 0, 0, 0, 0, 0, 0];
+    let mut granules = [0; 8];
+    assert_executed_in(&rt, &mut granules, write, Reply::Comp, after)?;
+    assert_executed_in(&rt, &mut granules, read, answer, after)
 }
 
 // A swap in the middle of the upper granule leaves its neighbours and answers what stood there.
 #[test]
 fn swap_in_upper_half(rt: HostRuntime) -> Result<(), Fail> {
     let swap = request(0x38, 1, 0x100a, 0x0c00, 0x00000000000000000000aabb00000000);
-    assert_same(
-        &rt,
-        executed(0x1122334455667788, swap)?,
-        (0x1122aabb55667788, data(0x00000000000000000000334400000000)),
-    );
-    Ok(())
+    let answer = data(0x00000000000000000000334400000000);
+    assert_executed(&rt, 0x1122334455667788, swap, 0x1122aabb55667788, answer)
 }

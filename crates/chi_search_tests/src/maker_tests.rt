@@ -1,32 +1,42 @@
 //! Tests of operations that find what nothing leaves, and of last words that nothing leaves.
 
 use crate::comparison::assert_same;
-use crate::operations::{READ, WRITE, done, has_order, order, told};
-use chi_trace::Observed;
+use crate::operations::{READ, Timed, WRITE, done, has_order, order, told};
 use std::alloc::Global;
 use std::test::Fail;
 
-// So many writes, all open at once, each of its own number in the first byte and in the last.
-fn writes(alloc: Global, count: usize) -> Result<Vec<Observed>, Fail> {
+// So many writes, all open at once, each of its own number in the first byte and in the last, and perhaps a read of a word.
+fn writes(
+    alloc: Global,
+    count: usize,
+    read: Option<((u64, u64), u64)>,
+) -> Result<Vec<Timed>, Fail> {
     let mut ops = Vec::new(alloc);
     for place in 0..count {
         let number = place as u64 + 1;
-        ops.push(done((0, 20), WRITE, (number << 56) | number)?)?;
+        ops.push(done((0, 20), WRITE, (number << 56) | number))?;
+    }
+    if let Some((times, word)) = read {
+        ops.push(told(times, READ, 0, word))?;
     }
     Ok(ops)
 }
 
+// Whether nothing is found of thirty writes and such a read, with this word at the end.
+fn finds_nothing(
+    alloc: Global,
+    read: Option<((u64, u64), u64)>,
+    last: Option<u64>,
+) -> Result<bool, Fail> {
+    has_order(alloc, &writes(alloc, 30, read)?, last, &[999])
+}
+
 #[test]
 fn byte_that_none_wrote(rt: HostRuntime) -> Result<(), Fail> {
-    let mut among = writes(rt.alloc(), 30)?;
-    among.push(told((0, 20), READ, 0, 77)?)?;
-    let mut after = writes(rt.alloc(), 30)?;
-    after.push(told((21, 30), READ, 0, 77)?)?;
-    let last = writes(rt.alloc(), 30)?;
     let found = (
-        has_order(rt.alloc(), &among, None, &[999])?,
-        has_order(rt.alloc(), &after, None, &[999])?,
-        has_order(rt.alloc(), &last, Some(77), &[999])?,
+        finds_nothing(rt.alloc(), Some(((0, 20), 77)), None)?,
+        finds_nothing(rt.alloc(), Some(((21, 30), 77)), None)?,
+        finds_nothing(rt.alloc(), None, Some(77))?,
     );
     assert_same(&rt, found, (true, true, true));
     Ok(())
@@ -35,12 +45,9 @@ fn byte_that_none_wrote(rt: HostRuntime) -> Result<(), Fail> {
 #[test]
 fn bytes_that_two_wrote(rt: HostRuntime) -> Result<(), Fail> {
     let both = 0x0100_0000_0000_0002;
-    let mut among = writes(rt.alloc(), 30)?;
-    among.push(told((0, 20), READ, 0, both)?)?;
-    let last = writes(rt.alloc(), 30)?;
     let found = (
-        has_order(rt.alloc(), &among, None, &[999])?,
-        has_order(rt.alloc(), &last, Some(both), &[999])?,
+        finds_nothing(rt.alloc(), Some(((0, 20), both)), None)?,
+        finds_nothing(rt.alloc(), None, Some(both))?,
     );
     assert_same(&rt, found, (true, true));
     Ok(())
@@ -48,8 +55,7 @@ fn bytes_that_two_wrote(rt: HostRuntime) -> Result<(), Fail> {
 
 #[test]
 fn word_that_one_wrote(rt: HostRuntime) -> Result<(), Fail> {
-    let mut ops = writes(rt.alloc(), 3)?;
-    ops.push(told((0, 20), READ, 0, 0x0200_0000_0000_0002)?)?;
+    let ops = writes(rt.alloc(), 3, Some(((0, 20), 0x0200_0000_0000_0002)))?;
     let third = Some(0x0300_0000_0000_0003);
     let first = Some(0x0100_0000_0000_0001);
     let found = (
@@ -62,12 +68,15 @@ fn word_that_one_wrote(rt: HostRuntime) -> Result<(), Fail> {
 
 #[test]
 fn nothing_is_found_at_once(rt: HostRuntime) -> Result<(), Fail> {
-    let ops = writes(rt.alloc(), 30)?;
-    let mut none = 0;
-    let mut some = 1000;
-    let dead = order(rt.alloc(), &ops, Some(77), &mut none)?;
-    let same = order(rt.alloc(), &ops, Some(77), &mut some)?;
-    let found = (dead.first().copied(), same.first().copied(), some);
-    assert_same(&rt, found, (Some(999), Some(999), 1000));
+    for budget in [0, 1000] {
+        let mut left = budget;
+        let ops = writes(rt.alloc(), 30, None)?;
+        let found = order(rt.alloc(), &ops, Some(77), &mut left)?;
+        assert_same(
+            &rt,
+            (budget, found.as_slice(), left),
+            (budget, [999].as_slice(), budget),
+        );
+    }
     Ok(())
 }

@@ -1,46 +1,43 @@
 //! Tests of searches that end since some bytes of the word have no order by themselves, or go on by what they tell.
 
 use crate::comparison::assert_same;
-use crate::operations::{READ, STORE_ADD, WRITE, done, done_at, order, told};
-use chi_trace::Observed;
+use crate::operations::{
+    NOTHING, READ, STORE_ADD, Timed, WRITE, count_and_last, done, done_at, told,
+};
 use std::alloc::Global;
 use std::test::Fail;
 
 // Of each byte of the granule but one a write of 5 and an addition of 1 that are open at once, and a read after them.
-fn writes_and_additions(alloc: Global, read: u64) -> Result<Vec<Observed>, Fail> {
+fn writes_and_additions(alloc: Global, read: u64) -> Result<Vec<Timed>, Fail> {
     let mut ops = Vec::new(alloc);
     for byte in 0..7 {
-        ops.push(done_at((0, 10), WRITE, byte, 0x0505_0505_0505_0505)?)?;
-        ops.push(done_at((0, 10), STORE_ADD, byte, 0x0101_0101_0101_0101)?)?;
+        ops.push(done_at((0, 10), WRITE, byte, 0x0505_0505_0505_0505))?;
+        ops.push(done_at((0, 10), STORE_ADD, byte, 0x0101_0101_0101_0101))?;
     }
-    ops.push(told((11, 20), READ, 0, read)?)?;
+    ops.push(told((11, 20), READ, 0, read))?;
     Ok(ops)
 }
 
+// The read finds a byte that no order leaves, and then what one does.
 #[test]
-fn byte_that_no_order_leaves(rt: HostRuntime) -> Result<(), Fail> {
-    let wrong = writes_and_additions(rt.alloc(), 0x0006_0606_0606_0607)?;
-    let mut budget = 200;
-    let nothing = order(rt.alloc(), &wrong, None, &mut budget)?;
-    assert_same(&rt, nothing.first().copied(), Some(999));
-    Ok(())
-}
-
-#[test]
-fn bytes_that_an_order_leaves(rt: HostRuntime) -> Result<(), Fail> {
-    let right = writes_and_additions(rt.alloc(), 0x0006_0506_0506_0506)?;
-    let mut budget = 1000;
-    let found = order(rt.alloc(), &right, None, &mut budget)?;
-    assert_same(&rt, (found.len(), found.last().copied()), (15, Some(14)));
+fn bytes_that_no_order_or_one_leaves(rt: HostRuntime) -> Result<(), Fail> {
+    for (read, budget, wanted) in [
+        (0x0006_0606_0606_0607, 200, NOTHING),
+        (0x0006_0506_0506_0506, 1000, (15, Some(14))),
+    ] {
+        let ops = writes_and_additions(rt.alloc(), read)?;
+        let found = count_and_last(rt.alloc(), &ops, budget)?;
+        assert_same(&rt, (read, found), (read, wanted));
+    }
     Ok(())
 }
 
 // Four writes of each byte, of 1 to 4, all open at once.
-fn writes_of_bytes(alloc: Global) -> Result<Vec<Observed>, Fail> {
+fn writes_of_bytes(alloc: Global) -> Result<Vec<Timed>, Fail> {
     let mut ops = Vec::new(alloc);
     for number in 1..5 {
         for byte in 0..8 {
-            ops.push(done_at((0, 10), WRITE, byte, number * 0x0101_0101_0101_0101)?)?;
+            ops.push(done_at((0, 10), WRITE, byte, number * 0x0101_0101_0101_0101))?;
         }
     }
     Ok(ops)
@@ -49,10 +46,9 @@ fn writes_of_bytes(alloc: Global) -> Result<Vec<Observed>, Fail> {
 #[test]
 fn writes_of_a_byte_before_a_read(rt: HostRuntime) -> Result<(), Fail> {
     let mut ops = writes_of_bytes(rt.alloc())?;
-    ops.push(told((11, 20), READ, 0, 0x0102_0304_0403_0201)?)?;
-    let mut budget = 450;
-    let found = order(rt.alloc(), &ops, None, &mut budget)?;
-    assert_same(&rt, (found.len(), found.last().copied()), (33, Some(32)));
+    ops.push(told((11, 20), READ, 0, 0x0102_0304_0403_0201))?;
+    let found = count_and_last(rt.alloc(), &ops, 450)?;
+    assert_same(&rt, found, (33, Some(32)));
     Ok(())
 }
 
@@ -60,11 +56,10 @@ fn writes_of_a_byte_before_a_read(rt: HostRuntime) -> Result<(), Fail> {
 fn writes_of_all_bytes_among_them(rt: HostRuntime) -> Result<(), Fail> {
     let mut ops = writes_of_bytes(rt.alloc())?;
     for number in 5..9 {
-        ops.push(done((0, 10), WRITE, number * 0x0101_0101_0101_0101)?)?;
+        ops.push(done((0, 10), WRITE, number * 0x0101_0101_0101_0101))?;
     }
-    ops.push(told((11, 20), READ, 0, 0x0808_0308_0808_0201)?)?;
-    let mut budget = 1000;
-    let found = order(rt.alloc(), &ops, None, &mut budget)?;
-    assert_same(&rt, (found.len(), found.last().copied()), (37, Some(36)));
+    ops.push(told((11, 20), READ, 0, 0x0808_0308_0808_0201))?;
+    let found = count_and_last(rt.alloc(), &ops, 1000)?;
+    assert_same(&rt, found, (37, Some(36)));
     Ok(())
 }

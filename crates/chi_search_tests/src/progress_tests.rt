@@ -3,7 +3,7 @@
 ghost use Rattle.std.specs.Prelude.{◌≡◌, ◌-◌, ◌^◌, min};
 
 use crate::comparison::assert_same;
-use crate::operations::{ADD, silent};
+use crate::operations::{ADD, observed, silent};
 use chi_search::{Progress, are_searchable, order_of, words_of};
 use std::test::Fail;
 
@@ -21,7 +21,10 @@ impl Progress for States {
 
 #[test]
 fn states_are_counted_as_the_budget_is_spent(rt: HostRuntime) -> Result<(), Fail> {
-    let ops = [silent((0, 10), ADD, 1)?, silent((5, 15), ADD, 1)?];
+    let ops = observed(
+        rt.alloc(),
+        &[silent((0, 10), ADD, 1), silent((5, 15), ADD, 1)],
+    )?;
     let mut budget = 100;
     let mut states = States(0);
     if are_searchable(&ops) {

@@ -6,11 +6,11 @@ use std::test::Fail;
 
 #[test]
 fn answered_adds_leave_one_word(rt: HostRuntime) -> Result<(), Fail> {
-    let first = told((0, 10), ADD, 1, 0)?;
-    let second = told((5, 15), ADD, 2, 1)?;
-    let lost = told((5, 15), ADD, 2, 0)?;
-    let one = done((0, 10), STORE_ADD, 1)?;
-    let two = done((5, 15), STORE_ADD, 2)?;
+    let first = told((0, 10), ADD, 1, 0);
+    let second = told((5, 15), ADD, 2, 1);
+    let lost = told((5, 15), ADD, 2, 0);
+    let one = done((0, 10), STORE_ADD, 1);
+    let two = done((5, 15), STORE_ADD, 2);
     let found = (
         has_words(rt.alloc(), &[first, second], &[0], &[3])?,
         has_words(rt.alloc(), &[first, lost], &[0], &[])?,
@@ -22,9 +22,9 @@ fn answered_adds_leave_one_word(rt: HostRuntime) -> Result<(), Fail> {
 
 #[test]
 fn silent_adds_leave_each_word_once(rt: HostRuntime) -> Result<(), Fail> {
-    let add = silent((0, 10), ADD, 1)?;
-    let other = silent((5, 15), ADD, 1)?;
-    let read = told((20, 30), READ, 0, 8)?;
+    let add = silent((0, 10), ADD, 1);
+    let other = silent((5, 15), ADD, 1);
+    let read = told((20, 30), READ, 0, 8);
     let found = (
         has_words(rt.alloc(), &[add], &[7], &[7, 8])?,
         has_words(rt.alloc(), &[add, other], &[7], &[7, 8, 9])?,
@@ -36,9 +36,9 @@ fn silent_adds_leave_each_word_once(rt: HostRuntime) -> Result<(), Fail> {
 
 #[test]
 fn words_from_two_opening_words(rt: HostRuntime) -> Result<(), Fail> {
-    let untold = done((0, 10), STORE_ADD, 1)?;
-    let add = told((0, 10), ADD, 1, 5)?;
-    let write = done((0, 10), WRITE, 4)?;
+    let untold = done((0, 10), STORE_ADD, 1);
+    let add = told((0, 10), ADD, 1, 5);
+    let write = done((0, 10), WRITE, 4);
     let found = (
         has_words(rt.alloc(), &[untold], &[0, 5], &[1, 6])?,
         has_words(rt.alloc(), &[add], &[0, 5], &[6])?,
@@ -50,7 +50,7 @@ fn words_from_two_opening_words(rt: HostRuntime) -> Result<(), Fail> {
 
 #[test]
 fn no_words_from_none_and_the_opening_ones_without_operations(rt: HostRuntime) -> Result<(), Fail> {
-    let add = silent((0, 10), ADD, 1)?;
+    let add = silent((0, 10), ADD, 1);
     let found = (
         has_words(rt.alloc(), &[add], &[], &[])?,
         has_words(rt.alloc(), &[], &[7, 3, 7], &[3, 7])?,
@@ -61,8 +61,8 @@ fn no_words_from_none_and_the_opening_ones_without_operations(rt: HostRuntime) -
 
 #[test]
 fn unknown_where_the_budget_was_spent(rt: HostRuntime) -> Result<(), Fail> {
-    let one = done((0, 10), STORE_ADD, 1)?;
-    let two = done((5, 15), STORE_ADD, 2)?;
+    let one = done((0, 10), STORE_ADD, 1);
+    let two = done((5, 15), STORE_ADD, 2);
     let ops = [one, two];
     let mut enough = 10;
     let mut short = 2;

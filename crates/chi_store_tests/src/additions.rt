@@ -8,8 +8,21 @@ use std::test::Fail;
 
 const HEAD: &str = "{\"base\":4096,\"granules\":8,\"requests\":[";
 
-const OPERAND: &str =
-    ",\"size\":3,\"addr\":4096,\"endian\":0,\"be\":255,\"lanes\":\"01000000000000000000000000000000\"}";
+// Adds an addition of 1 to the first eight bytes, after this text.
+fn push_addition(
+    rt: &impl AllocGlobal,
+    text: &mut String,
+    before: &str,
+    opcode: u8,
+    src: u8,
+    txn: u16,
+) -> Result<(), Fail> {
+    let request = format!(in rt.alloc();
+        "{before}{{\"src\":{src},\"txn\":{txn},\"op\":{opcode},\"size\":3,\"addr\":4096,\"endian\":0,\"be\":255,\"lanes\":\"01000000000000000000000000000000\"}}"
+    )?;
+    text.push_str(request.as_str())?;
+    Ok(())
+}
 
 // A script of additions of 1 to the first eight bytes: so many by each of these requesters, in turn. Their
 // identifiers rise from 1, and begin again from 0 after 255. The script is read, so that each requester is known to
@@ -24,19 +37,11 @@ pub(crate) fn additions(
     ensures { IfOk result (λ script. AllFrom (below (top + 1)) script.requests) }
 {
     let mut text = String::from_str(rt.alloc(), HEAD)?;
-    let mut start = "{";
+    let mut before = "";
     for number in 0..each {
         for src in requesters {
-            let request = format!(in rt.alloc();
-                "{}\"src\":{},\"txn\":{},\"op\":{}{}",
-                start,
-                *src,
-                (number + 1) % 256,
-                opcode,
-                OPERAND
-            )?;
-            text.push_str(request.as_str())?;
-            start = ",{";
+            push_addition(rt, &mut text, before, opcode, *src, (number + 1) % 256)?;
+            before = ",";
         }
     }
     text.push_str("]}")?;

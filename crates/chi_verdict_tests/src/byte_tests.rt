@@ -3,90 +3,74 @@
 
 use crate::comparison::assert_same;
 use crate::traces::{
-    ADD, LOW, LOWER, NEXT, STORE_ADD, Told, WRITE, add, answered, done, order_of, read, sent,
-    silent, trace, trace_from, verdict, verdict_from, write,
+    ADD, LOW, LOWER, NEXT, STORE_ADD, Told, WRITE, add, answered, assert_ordered, assert_verdicts,
+    at, done, read, sent, silent, verdict_from, write,
 };
 use std::test::Fail;
 
 // The bytes 00 ff at the granule's end are 255 in big-endian order, and 01 00 are 256.
 #[test]
 fn big_endian_add(rt: HostRuntime) -> Result<(), Fail> {
-    let alloc = rt.alloc();
     let before = 0xff00_0000_0000_0000;
-    let one = 0x0100_0000_0000_0000;
-    let big = answered(sent((0, 10), ADD, 1, LOW + 6, true, one)?, before);
-    let little = answered(sent((0, 10), ADD, 1, LOW + 6, false, one)?, before);
     let after = 0x0001_0000_0000_0000;
-    let opening = [(LOW, before)];
-    let found = (
-        verdict_from(alloc, &opening, &[big], &[(LOW, after)])?,
-        verdict_from(alloc, &opening, &[big], &[(LOW, 0)])?,
-        verdict_from(alloc, &opening, &[little], &[(LOW, 0)])?,
-    );
-    let wanted = (
-        Told::Explained(1),
-        Told::Unexplained(LOWER),
-        Told::Explained(1),
-    );
-    assert_same(&rt, found, wanted);
+    for (endian, last, wanted) in [
+        (true, after, Told::Explained(1)),
+        (true, 0, Told::Unexplained(LOWER)),
+        (false, 0, Told::Explained(1)),
+    ] {
+        let one = 0x0100_0000_0000_0000;
+        let op = sent((0, 10), ADD, 1, LOW + 6, endian, 0x00c0, one);
+        let ops = [answered(op, before)];
+        let found = verdict_from(rt.alloc(), &[at(LOW, before)], &ops, &[at(LOW, last)])?;
+        assert_same(&rt, (endian, last, found), (endian, last, wanted));
+    }
     Ok(())
 }
 
 #[test]
 fn bytes_of_one_granule(rt: HostRuntime) -> Result<(), Fail> {
-    let alloc = rt.alloc();
-    let high = done(sent((0, 50), WRITE, 0, LOW + 1, false, 0xbb00)?);
-    let low = done(sent((0, 50), WRITE, 0, LOW, false, 0xaa)?);
-    let sees_low = read((10, 20), LOW, 0x00aa)?;
-    let sees_high = read((30, 40), LOW, 0xbb00)?;
-    let sees_both = read((30, 40), LOW, 0xbbaa)?;
-    let both = [(LOW, 0xbbaa)];
-    let order = order_of(
-        alloc,
-        &trace(alloc, &[high, low, sees_low, sees_both])?,
-        &both,
-    )?;
-    assert_same(&rt, order.as_slice(), [1, 2, 0, 3].as_slice());
-    let found = verdict(alloc, &[high, low, sees_low, sees_high], &both)?;
-    assert_same(&rt, found, Told::Unexplained(LOWER));
-    Ok(())
+    let high = done(sent((0, 50), WRITE, 0, LOW + 1, false, 0x0002, 0xbb00));
+    let low = done(sent((0, 50), WRITE, 0, LOW, false, 0x0001, 0xaa));
+    let sees_low = read((10, 20), LOW, 0x00aa);
+    let sees_high = read((30, 40), LOW, 0xbb00);
+    let sees_both = read((30, 40), LOW, 0xbbaa);
+    let both = [at(LOW, 0xbbaa)];
+    let ops = [high, low, sees_low, sees_both];
+    assert_ordered(&rt, &[], &ops, &both, &[1, 2, 0, 3])?;
+    let ops = [high, low, sees_low, sees_high];
+    assert_verdicts(&rt, &ops, &[(&both, Told::Unexplained(LOWER))])
 }
 
 // Three writes whose order only the later reads tell.
 #[test]
 fn writes_told_by_reads(rt: HostRuntime) -> Result<(), Fail> {
-    let alloc = rt.alloc();
-    let one = write((0, 90), LOW, 1)?;
-    let two = write((0, 90), LOW, 2)?;
-    let three = write((0, 90), LOW, 3)?;
-    let sees_two = read((10, 20), LOW, 2)?;
-    let sees_three = read((30, 40), LOW, 3)?;
-    let sees_one = read((50, 60), LOW, 1)?;
-    let again = read((50, 60), LOW, 2)?;
+    let one = write((0, 90), LOW, 1);
+    let two = write((0, 90), LOW, 2);
+    let three = write((0, 90), LOW, 3);
+    let sees_two = read((10, 20), LOW, 2);
+    let sees_three = read((30, 40), LOW, 3);
+    let sees_one = read((50, 60), LOW, 1);
+    let again = read((50, 60), LOW, 2);
     let ops = [one, two, three, sees_two, sees_three, sees_one];
-    let order = order_of(alloc, &trace(alloc, &ops)?, &[(LOW, 1)])?;
-    assert_same(&rt, order.as_slice(), [1, 3, 2, 4, 0, 5].as_slice());
-    let found = verdict(alloc, &[one, two, three, sees_two, sees_three, again], &[])?;
-    assert_same(&rt, found, Told::Unexplained(LOWER));
-    Ok(())
+    assert_ordered(&rt, &[], &ops, &[at(LOW, 1)], &[1, 3, 2, 4, 0, 5])?;
+    let ops = [one, two, three, sees_two, sees_three, again];
+    assert_verdicts(&rt, &ops, &[(&[], Told::Unexplained(LOWER))])
 }
 
 // Each granule's order is told by its own words, and the times hold both together.
 #[test]
 fn two_granules(rt: HostRuntime) -> Result<(), Fail> {
-    let alloc = rt.alloc();
-    let low = add((0, 10), LOW, 0)?;
-    let high = done(silent((20, 30), STORE_ADD, NEXT, 3)?);
-    let low_again = add((40, 50), LOW, 1)?;
-    let read = read((60, 70), NEXT, 3)?;
-    let ops = [low, high, low_again, read];
-    let order = order_of(
-        alloc,
-        &trace_from(alloc, &[(LOW, 0), (NEXT, 0)], &ops)?,
-        &[(LOW, 2), (NEXT, 3)],
-    )?;
-    assert_same(&rt, order.as_slice(), [0, 1, 2, 3].as_slice());
-    let found = verdict_from(alloc, &[(LOW, 0), (NEXT, 1)], &ops, &[(LOW, 2), (NEXT, 4)])?;
+    let ops = [
+        add((0, 10), LOW, 0),
+        done(silent((20, 30), STORE_ADD, NEXT, 3)),
+        add((40, 50), LOW, 1),
+        read((60, 70), NEXT, 3),
+    ];
+    let opening = [at(LOW, 0), at(NEXT, 0)];
+    let last = [at(LOW, 2), at(NEXT, 3)];
+    assert_ordered(&rt, &opening, &ops, &last, &[0, 1, 2, 3])?;
+    let opening = [at(LOW, 0), at(NEXT, 1)];
+    let found = verdict_from(rt.alloc(), &opening, &ops, &[at(LOW, 2), at(NEXT, 4)])?;
     assert_same(&rt, found, Told::Unexplained(NEXT / 8));
     Ok(())
 }

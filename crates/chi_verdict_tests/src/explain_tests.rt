@@ -2,7 +2,8 @@
 
 use crate::comparison::assert_same;
 use crate::traces::{
-    HIGH, LOW, LOWER, Told, UPPER, WRITE, add, read, silent, trace, verdict, verdict_from, write,
+    HIGH, LOW, LOWER, Told, UPPER, WRITE, add, at, read, silent, trace, verdict, verdict_from,
+    write,
 };
 use chi_search::NoProgress;
 use chi_verdict::{GranuleWords, Verdict, explain};
@@ -11,15 +12,15 @@ use std::test::Fail;
 #[test]
 fn granules_far_apart(rt: HostRuntime) -> Result<(), Fail> {
     let ops = [
-        write((0, 10), HIGH, 5)?,
-        read((5, 15), LOW, 0)?,
-        read((11, 20), HIGH, 5)?,
+        write((0, 10), HIGH, 5),
+        read((5, 15), LOW, 0),
+        read((11, 20), HIGH, 5),
     ];
     let found = (
         verdict(rt.alloc(), &ops, &[])?,
-        verdict(rt.alloc(), &ops, &[(LOW, 0), (HIGH, 5)])?,
-        verdict(rt.alloc(), &ops, &[(LOW, 1), (HIGH, 5)])?,
-        verdict(rt.alloc(), &ops, &[(LOW, 0), (HIGH, 0)])?,
+        verdict(rt.alloc(), &ops, &[at(LOW, 0), at(HIGH, 5)])?,
+        verdict(rt.alloc(), &ops, &[at(LOW, 1), at(HIGH, 5)])?,
+        verdict(rt.alloc(), &ops, &[at(LOW, 0), at(HIGH, 0)])?,
     );
     let wanted = (
         Told::Explained(3),
@@ -34,9 +35,9 @@ fn granules_far_apart(rt: HostRuntime) -> Result<(), Fail> {
 #[test]
 fn stale_read_in_one_granule(rt: HostRuntime) -> Result<(), Fail> {
     let ops = [
-        write((0, 10), HIGH, 5)?,
-        read((5, 15), LOW, 0)?,
-        read((11, 20), HIGH, 0)?,
+        write((0, 10), HIGH, 5),
+        read((5, 15), LOW, 0),
+        read((11, 20), HIGH, 0),
     ];
     let found = verdict(rt.alloc(), &ops, &[])?;
     assert_same(&rt, found, Told::Unexplained(UPPER));
@@ -45,12 +46,12 @@ fn stale_read_in_one_granule(rt: HostRuntime) -> Result<(), Fail> {
 
 #[test]
 fn word_of_a_granule_without_operations(rt: HostRuntime) -> Result<(), Fail> {
-    let ops = [read((5, 15), LOW, 0)?];
+    let ops = [read((5, 15), LOW, 0)];
     let found = (
-        verdict(rt.alloc(), &ops, &[(HIGH, 0)])?,
-        verdict(rt.alloc(), &ops, &[(HIGH, 7)])?,
-        verdict(rt.alloc(), &[], &[(LOW, 7)])?,
-        verdict_from(rt.alloc(), &[(LOW, 4)], &[], &[(LOW, 4)])?,
+        verdict(rt.alloc(), &ops, &[at(HIGH, 0)])?,
+        verdict(rt.alloc(), &ops, &[at(HIGH, 7)])?,
+        verdict(rt.alloc(), &[], &[at(LOW, 7)])?,
+        verdict_from(rt.alloc(), &[at(LOW, 4)], &[], &[at(LOW, 4)])?,
     );
     let wanted = (
         Told::Explained(1),
@@ -64,13 +65,10 @@ fn word_of_a_granule_without_operations(rt: HostRuntime) -> Result<(), Fail> {
 
 #[test]
 fn open_write_that_a_read_found(rt: HostRuntime) -> Result<(), Fail> {
-    let ops = [
-        silent((0, u64::MAX), WRITE, LOW, 4)?,
-        read((5, 10), LOW, 4)?,
-    ];
+    let ops = [silent((0, u64::MAX), WRITE, LOW, 4), read((5, 10), LOW, 4)];
     let found = (
-        verdict(rt.alloc(), &ops, &[(LOW, 4)])?,
-        verdict(rt.alloc(), &ops, &[(LOW, 0)])?,
+        verdict(rt.alloc(), &ops, &[at(LOW, 4)])?,
+        verdict(rt.alloc(), &ops, &[at(LOW, 0)])?,
     );
     assert_same(&rt, found, (Told::Explained(2), Told::Unexplained(LOWER)));
     Ok(())
@@ -80,7 +78,7 @@ fn open_write_that_a_read_found(rt: HostRuntime) -> Result<(), Fail> {
 fn more_granules_than_a_region_has(rt: HostRuntime) -> Result<(), Fail> {
     let mut ops = Vec::new(rt.alloc());
     for granule in 0..600 {
-        ops.push(write((granule, granule + 9), HIGH - 64 * granule, granule)?)?;
+        ops.push(write((granule, granule + 9), HIGH - 64 * granule, granule))?;
     }
     assert_same(&rt, verdict(rt.alloc(), &ops, &[])?, Told::Explained(600));
     Ok(())
@@ -89,9 +87,9 @@ fn more_granules_than_a_region_has(rt: HostRuntime) -> Result<(), Fail> {
 #[test]
 fn undecided_where_the_budget_was_spent(rt: HostRuntime) -> Result<(), Fail> {
     let ops = [
-        add((0, 9), LOW, 1)?,
-        add((0, 9), LOW, 0)?,
-        read((0, 9), HIGH, 0)?,
+        add((0, 9), LOW, 1),
+        add((0, 9), LOW, 0),
+        read((0, 9), HIGH, 0),
     ];
     let none = GranuleWords::none(rt.alloc());
     let found = match explain(

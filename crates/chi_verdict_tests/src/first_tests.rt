@@ -2,10 +2,9 @@
 
 use crate::comparison::assert_same;
 use crate::traces::{
-    BUDGET, HIGH, LOW, LOWER, NEXT, Told, UPPER, add, blame, read, trace, verdict, write,
+    BUDGET, HIGH, LOW, LOWER, NEXT, Timed, Told, UPPER, add, at, blame, read, trace, verdict, write,
 };
 use chi_search::{NoProgress, Words};
-use chi_trace::Observed;
 use chi_verdict::{Blame, First, first_unexplained};
 use std::alloc::Global;
 use std::test::Fail;
@@ -13,11 +12,11 @@ use std::test::Fail;
 #[test]
 fn first_of_two_granules(rt: HostRuntime) -> Result<(), Fail> {
     let ops = [
-        write((0, 10), HIGH, 5)?,
-        write((0, 10), LOW, 5)?,
-        read((11, 21), LOW, 6)?,
-        read((12, 20), HIGH, 0)?,
-        read((22, 30), HIGH, 5)?,
+        write((0, 10), HIGH, 5),
+        write((0, 10), LOW, 5),
+        read((11, 21), LOW, 6),
+        read((12, 20), HIGH, 0),
+        read((22, 30), HIGH, 5),
     ];
     assert_same(&rt, blame(rt.alloc(), &ops)?, Some((UPPER, 20, 3)));
     Ok(())
@@ -25,7 +24,7 @@ fn first_of_two_granules(rt: HostRuntime) -> Result<(), Fail> {
 
 #[test]
 fn reply_that_came_later_is_not_known_before(rt: HostRuntime) -> Result<(), Fail> {
-    let ops = [add((0, 100), LOW, 7)?, read((10, 20), LOW, 1)?];
+    let ops = [add((0, 100), LOW, 7), read((10, 20), LOW, 1)];
     let found = (verdict(rt.alloc(), &ops, &[])?, blame(rt.alloc(), &ops)?);
     assert_same(
         &rt,
@@ -37,9 +36,9 @@ fn reply_that_came_later_is_not_known_before(rt: HostRuntime) -> Result<(), Fail
 
 #[test]
 fn explained_at_each_time(rt: HostRuntime) -> Result<(), Fail> {
-    let ops = [write((0, 10), LOW, 5)?, read((11, 20), LOW, 5)?];
+    let ops = [write((0, 10), LOW, 5), read((11, 20), LOW, 5)];
     let found = (
-        verdict(rt.alloc(), &ops, &[(LOW, 6)])?,
+        verdict(rt.alloc(), &ops, &[at(LOW, 6)])?,
         blame(rt.alloc(), &ops)?,
     );
     assert_same(&rt, found, (Told::Unexplained(LOWER), None));
@@ -48,7 +47,7 @@ fn explained_at_each_time(rt: HostRuntime) -> Result<(), Fail> {
 
 #[test]
 fn wrong_at_the_first_time_of_all(rt: HostRuntime) -> Result<(), Fail> {
-    let ops = [read((0, 0), LOW, 1)?];
+    let ops = [read((0, 0), LOW, 1)];
     assert_same(&rt, blame(rt.alloc(), &ops)?, Some((LOWER, 0, 0)));
     Ok(())
 }
@@ -73,7 +72,7 @@ fn details(blame: Blame) -> Result<(Vec<usize>, Vec<usize>, Vec<u64>), Fail> {
 }
 
 // What is said of the operation at which these stop being explained.
-fn blamed(alloc: Global, ops: &[Observed]) -> Result<Blame, Fail> {
+fn blamed(alloc: Global, ops: &[Timed]) -> Result<Blame, Fail> {
     match first_unexplained(alloc, &trace(alloc, ops)?, BUDGET, &mut NoProgress)? {
         First::At(blame) => Ok(blame),
         _ => Err(Fail::new("explained at each time")),
@@ -83,11 +82,11 @@ fn blamed(alloc: Global, ops: &[Observed]) -> Result<Blame, Fail> {
 #[test]
 fn what_is_said_of_the_blamed_operation(rt: HostRuntime) -> Result<(), Fail> {
     let ops = [
-        write((0, 10), LOW, 5)?,
-        write((0, 50), HIGH, 6)?,
-        read((11, 20), LOW, 0)?,
-        read((15, 40), LOW, 5)?,
-        read((21, 40), LOW, 5)?,
+        write((0, 10), LOW, 5),
+        write((0, 50), HIGH, 6),
+        read((11, 20), LOW, 0),
+        read((15, 40), LOW, 5),
+        read((21, 40), LOW, 5),
     ];
     let (order, overlapping, words) = details(blamed(rt.alloc(), &ops)?)?;
     assert_same(&rt, order.contains(&0), true);
@@ -101,12 +100,12 @@ fn what_is_said_of_the_blamed_operation(rt: HostRuntime) -> Result<(), Fail> {
 #[test]
 fn first_lost_update(rt: HostRuntime) -> Result<(), Fail> {
     let ops = [
-        write((0, 90), LOW, 9)?,
-        add((0, 10), NEXT, 0)?,
-        add((20, 30), NEXT, 1)?,
-        add((35, 80), NEXT, 2)?,
-        add((40, 50), NEXT, 1)?,
-        add((60, 70), NEXT, 9)?,
+        write((0, 90), LOW, 9),
+        add((0, 10), NEXT, 0),
+        add((20, 30), NEXT, 1),
+        add((35, 80), NEXT, 2),
+        add((40, 50), NEXT, 1),
+        add((60, 70), NEXT, 9),
     ];
     let blame = blamed(rt.alloc(), &ops)?;
     let found = (blame.granule, blame.time, blame.op);
@@ -120,7 +119,7 @@ fn first_lost_update(rt: HostRuntime) -> Result<(), Fail> {
 }
 
 // Which granule is not decided within no state, if one is not. Where the trace stops being explained is an error.
-fn undecided_at_once(alloc: Global, ops: &[Observed]) -> Result<Option<(u64, u64)>, Fail> {
+fn undecided_at_once(alloc: Global, ops: &[Timed]) -> Result<Option<(u64, u64)>, Fail> {
     match first_unexplained(alloc, &trace(alloc, ops)?, 0, &mut NoProgress)? {
         First::Never => Ok(None),
         First::At(_) => Err(Fail::new("not explained at each time")),
@@ -131,7 +130,7 @@ fn undecided_at_once(alloc: Global, ops: &[Observed]) -> Result<Option<(u64, u64
 #[test]
 fn nothing_to_blame(rt: HostRuntime) -> Result<(), Fail> {
     let alloc = rt.alloc();
-    let ops = [write((0, 10), LOW, 5)?, read((20, 30), LOW, 5)?];
+    let ops = [write((0, 10), LOW, 5), read((20, 30), LOW, 5)];
     assert_same(&rt, (blame(alloc, &ops)?, blame(alloc, &[])?), (None, None));
     let found = (
         undecided_at_once(alloc, &ops)?,

@@ -3,10 +3,9 @@
 ghost use Rattle.std.specs.Prelude.{◌≡◌, ◌-◌, ◌^◌, min};
 
 use crate::comparison::assert_same;
-use crate::traces::{BUDGET, LOW, LOWER, NEXT, add, read, trace, write};
+use crate::traces::{BUDGET, LOW, LOWER, NEXT, Timed, add, read, trace, write};
 use chi_search::{Progress, Words};
-use chi_trace::Observed;
-use chi_verdict::{First, GranuleWords, Trace, Verdict, explain, first_unexplained, words_held};
+use chi_verdict::{First, GranuleWords, Verdict, explain, first_unexplained, words_held};
 use std::alloc::Global;
 use std::test::Fail;
 
@@ -23,19 +22,20 @@ impl Progress for Looks {
 }
 
 // An operation on the lower granule, and two on the next.
-fn three_operations() -> Result<[Observed; 3], Fail> {
-    Ok([
-        write((0, 10), LOW, 5)?,
-        add((0, 10), NEXT, 0)?,
-        read((20, 30), NEXT, 1)?,
-    ])
+fn three_operations() -> [Timed; 3] {
+    [
+        write((0, 10), LOW, 5),
+        add((0, 10), NEXT, 0),
+        read((20, 30), NEXT, 1),
+    ]
 }
 
-// Which granule is not decided within so many states, and how many were looked at, of both.
-fn found_within(alloc: Global, trace: &Trace, budget: u64) -> Result<(Option<u64>, u64), Fail> {
+// Which granule of the three operations is not decided within so many states, and how many were looked at, of both.
+fn found_within(alloc: Global, budget: u64) -> Result<(Option<u64>, u64), Fail> {
+    let trace = trace(alloc, &three_operations())?;
     let mut looks = Looks(0);
     let none = GranuleWords::none(alloc);
-    match explain(alloc, trace, &none, budget, &mut looks)? {
+    match explain(alloc, &trace, &none, budget, &mut looks)? {
         Verdict::Explained(_) => Ok((None, looks.0)),
         Verdict::Unexplained { granule: _ } => Err(Fail::new("the trace is not explained")),
         Verdict::Undecided { granule, states: _ } => Ok((Some(granule), looks.0)),
@@ -45,24 +45,16 @@ fn found_within(alloc: Global, trace: &Trace, budget: u64) -> Result<(Option<u64
 // Each granule's search comes to a state by each operation. Where that takes the whole budget, it does not look on.
 #[test]
 fn states_of_each_granule(rt: HostRuntime) -> Result<(), Fail> {
-    let alloc = rt.alloc();
-    let trace = trace(alloc, &three_operations()?)?;
-    let found = (
-        found_within(alloc, &trace, BUDGET)?,
-        found_within(alloc, &trace, 3)?,
-        found_within(alloc, &trace, 2)?,
-        found_within(alloc, &trace, 1)?,
-    );
-    let wanted = ((None, 3), (None, 3), (Some(NEXT / 8), 3), (Some(LOWER), 2));
-    assert_same(&rt, found, wanted);
-    Ok(())
-}
-
-#[test]
-fn no_state_within_no_budget(rt: HostRuntime) -> Result<(), Fail> {
-    let alloc = rt.alloc();
-    let trace = trace(alloc, &three_operations()?)?;
-    assert_same(&rt, found_within(alloc, &trace, 0)?, (Some(LOWER), 0));
+    for (budget, granule, states) in [
+        (BUDGET, None, 3),
+        (3, None, 3),
+        (2, Some(NEXT / 8), 3),
+        (1, Some(LOWER), 2),
+        (0, Some(LOWER), 0),
+    ] {
+        let found = found_within(rt.alloc(), budget)?;
+        assert_same(&rt, (budget, found), (budget, (granule, states)));
+    }
     Ok(())
 }
 
@@ -70,8 +62,8 @@ fn no_state_within_no_budget(rt: HostRuntime) -> Result<(), Fail> {
 #[test]
 fn states_of_a_blame(rt: HostRuntime) -> Result<(), Fail> {
     let alloc = rt.alloc();
-    let [write, add, sees_one] = three_operations()?;
-    let stale = read((40, 50), NEXT, 0)?;
+    let [write, add, sees_one] = three_operations();
+    let stale = read((40, 50), NEXT, 0);
     let trace = trace(alloc, &[write, add, sees_one, stale])?;
     let mut looks = Looks(0);
     let First::At(blame) = first_unexplained(alloc, &trace, BUDGET, &mut looks)? else {
@@ -84,14 +76,17 @@ fn states_of_a_blame(rt: HostRuntime) -> Result<(), Fail> {
 #[test]
 fn words_at_end_look_at_states(rt: HostRuntime) -> Result<(), Fail> {
     let alloc = rt.alloc();
-    let trace = trace(alloc, &three_operations()?)?;
+    let trace = trace(alloc, &three_operations())?;
     let mut looks = Looks(0);
     let mut budget = BUDGET;
     let Words::Each(words) = words_held(alloc, &trace, NEXT / 8, &mut budget, &mut looks)? else {
         return Err(Fail::new("the budget was spent"));
     };
-    assert_same(&rt, words.as_slice(), [1].as_slice());
-    assert_same(&rt, looks.0 > 0, true);
-    assert_same(&rt, Some(looks.0), BUDGET.checked_sub(budget));
+    let spent = BUDGET.saturating_sub(budget);
+    assert_same(
+        &rt,
+        (words.as_slice(), looks.0 > 0, looks.0),
+        ([1].as_slice(), true, spent),
+    );
     Ok(())
 }

@@ -2,9 +2,9 @@
 
 use crate::comparison::assert_same;
 use crate::traces::{
-    ADD, LOW, NEXT, READ, STORE_ADD, SWAP, Told, WRITE, answered, blame, done, silent, verdict,
+    ADD, LOW, NEXT, READ, STORE_ADD, SWAP, Timed, Told, WRITE, answered, blame, done, silent,
+    verdict,
 };
-use chi_trace::Observed;
 use std::alloc::Global;
 use std::test::Fail;
 
@@ -17,7 +17,7 @@ fn next(seed: &mut u64) -> u64 {
 }
 
 // Two to six operations on two granules, in the order of their starts. Most of their replies are wrong.
-fn random_operations(alloc: Global, seed: &mut u64) -> Result<Vec<Observed>, Fail> {
+fn random_operations(alloc: Global, seed: &mut u64) -> Result<Vec<Timed>, Fail> {
     let mut ops = Vec::new(alloc);
     for _ in 0..2 + next(seed) % 5 {
         let start = next(seed) % 8;
@@ -32,14 +32,14 @@ fn random_operations(alloc: Global, seed: &mut u64) -> Result<Vec<Observed>, Fai
             3 => (WRITE, false),
             _ => (STORE_ADD, false),
         };
-        let op = silent((start, end), opcode, addr, word)?;
+        let op = silent((start, end), opcode, addr, word);
         ops.push(if answers {
             answered(op, answer)
         } else {
             done(op)
         })?;
     }
-    ops.sort_by_key(|op| op.start)?;
+    ops.sort_by_key(|op| op.times.0)?;
     Ok(ops)
 }
 

@@ -1,11 +1,13 @@
 //! Traces for the tests, and what is found of them.
 
+use crate::comparison::assert_same;
 use chi_fields::{Region, Request, decode};
 use chi_lanes::Reply;
 use chi_search::NoProgress;
 use chi_trace::Observed;
 use chi_verdict::{First, GranuleWord, GranuleWords, Trace, Verdict, explain, first_unexplained};
 use std::alloc::Global;
+use std::process::Abort;
 use std::test::Fail;
 
 pub(crate) const READ: u8 = 0x04;
@@ -48,23 +50,25 @@ pub(crate) fn data(addr: u64, word: u64) -> Reply {
     Reply::CompData(packet(addr, word).to_le_bytes())
 }
 
-/// An operation whose packet is this number, lane 0 its least significant byte, and whose reply was not seen.
+/// An operation between two times, and the reply that was seen of it.
+#[derive(Clone, Copy)]
+pub(crate) struct Timed {
+    pub(crate) times: (u64, u64),
+    request: Request,
+    reply: Option<Reply>,
+}
+
+/// An operation with these byte enables, whose packet is this number, lane 0 its least significant byte, and whose reply was
+/// not seen.
 pub(crate) fn sent(
     times: (u64, u64),
     opcode: u8,
     size: u8,
     addr: u64,
     endian: bool,
+    be: u16,
     lanes: u128,
-) -> Result<Observed, Fail> {
-    let bytes: u32 = match size {
-        0 => 1,
-        1 => 2,
-        2 => 4,
-        3 => 8,
-        _ => 16,
-    };
-    let first = (addr % 16) as u32 / bytes * bytes;
+) -> Timed {
     let request = Request {
         src: 1,
         txn: 0,
@@ -72,86 +76,98 @@ pub(crate) fn sent(
         size,
         addr,
         endian,
-        be: ((((1u64 << bytes) - 1) << first) & 0xffff) as u16,
+        be,
         lanes: lanes.to_le_bytes(),
     };
-    Ok(Observed {
-        start: times.0,
-        end: times.1,
-        src: 1,
-        access: decode(&request, &Region::new(addr / 64 * 64, 8)?)?,
+    Timed {
+        times,
+        request,
         reply: None,
-    })
+    }
 }
 
 /// The operation with a reply that has this word, and with one that has no data.
-pub(crate) fn answered(op: Observed, answer: u64) -> Observed {
-    Observed {
-        reply: Some(data(op.access.addr(), answer)),
+pub(crate) fn answered(op: Timed, answer: u64) -> Timed {
+    Timed {
+        reply: Some(data(op.request.addr, answer)),
         ..op
     }
 }
 
-pub(crate) fn done(op: Observed) -> Observed {
-    Observed {
+pub(crate) fn done(op: Timed) -> Timed {
+    Timed {
         reply: Some(Reply::Comp),
         ..op
     }
 }
 
 /// An operation on all eight bytes of the granule at an address, with little-endian data, whose reply was not seen.
-pub(crate) fn silent(
-    times: (u64, u64),
-    opcode: u8,
-    addr: u64,
-    word: u64,
-) -> Result<Observed, Fail> {
-    sent(times, opcode, 3, addr, false, packet(addr, word))
+pub(crate) fn silent(times: (u64, u64), opcode: u8, addr: u64, word: u64) -> Timed {
+    let be = if addr % 16 < 8 { 0x00ff } else { 0xff00 };
+    sent(times, opcode, 3, addr, false, be, packet(addr, word))
 }
 
 /// A read that answered a word, and an addition of 1 that answered one.
-pub(crate) fn read(times: (u64, u64), addr: u64, answer: u64) -> Result<Observed, Fail> {
-    Ok(answered(silent(times, READ, addr, 0)?, answer))
+pub(crate) fn read(times: (u64, u64), addr: u64, answer: u64) -> Timed {
+    answered(silent(times, READ, addr, 0), answer)
 }
 
-pub(crate) fn add(times: (u64, u64), addr: u64, answer: u64) -> Result<Observed, Fail> {
-    Ok(answered(silent(times, ADD, addr, 1)?, answer))
+pub(crate) fn add(times: (u64, u64), addr: u64, answer: u64) -> Timed {
+    answered(silent(times, ADD, addr, 1), answer)
 }
 
 /// A write of a word that was completed.
-pub(crate) fn write(times: (u64, u64), addr: u64, word: u64) -> Result<Observed, Fail> {
-    Ok(done(silent(times, WRITE, addr, word)?))
+pub(crate) fn write(times: (u64, u64), addr: u64, word: u64) -> Timed {
+    done(silent(times, WRITE, addr, word))
 }
 
 /// A swap that left a word and answered one.
-pub(crate) fn swap(times: (u64, u64), addr: u64, word: u64, answer: u64) -> Result<Observed, Fail> {
-    Ok(answered(silent(times, SWAP, addr, word)?, answer))
+pub(crate) fn swap(times: (u64, u64), addr: u64, word: u64, answer: u64) -> Timed {
+    answered(silent(times, SWAP, addr, word), answer)
 }
 
-/// The words of granules at these addresses.
-pub(crate) fn words(alloc: Global, told: &[(u64, u64)]) -> Result<GranuleWords, Fail> {
+/// What was observed of these operations.
+pub(crate) fn observed(alloc: Global, ops: &[Timed]) -> Result<Vec<Observed>, Fail> {
     let mut list = Vec::new(alloc);
-    for (addr, word) in told {
-        list.push(GranuleWord {
-            granule: *addr / 8,
-            word: *word,
+    for op in ops {
+        let region = Region::new(op.request.addr / 64 * 64, 8)?;
+        list.push(Observed {
+            start: op.times.0,
+            end: op.times.1,
+            src: 1,
+            access: decode(&op.request, &region)?,
+            reply: op.reply,
         })?;
     }
+    Ok(list)
+}
+
+/// The word of the granule at an address.
+pub(crate) fn at(addr: u64, word: u64) -> GranuleWord {
+    GranuleWord {
+        granule: addr / 8,
+        word,
+    }
+}
+
+/// These words of granules.
+pub(crate) fn words(alloc: Global, told: &[GranuleWord]) -> Result<GranuleWords, Fail> {
+    let list = Vec::from_slice(alloc, told)?;
     Ok(GranuleWords::new(list).ok_or("the granules are not in order")?)
 }
 
 /// The trace of these operations, from these words at the opening on.
 pub(crate) fn trace_from(
     alloc: Global,
-    opening: &[(u64, u64)],
-    ops: &[Observed],
+    opening: &[GranuleWord],
+    ops: &[Timed],
 ) -> Result<Trace, Fail> {
-    let list = Vec::from_slice(alloc, ops)?;
+    let list = observed(alloc, ops)?;
     Ok(Trace::new(words(alloc, opening)?, list).ok_or("the operations are not those of a trace")?)
 }
 
 /// The trace of these operations, where each granule holds 0 at the opening.
-pub(crate) fn trace(alloc: Global, ops: &[Observed]) -> Result<Trace, Fail> {
+pub(crate) fn trace(alloc: Global, ops: &[Timed]) -> Result<Trace, Fail> {
     trace_from(alloc, &[], ops)
 }
 
@@ -166,9 +182,9 @@ pub(crate) enum Told {
 /// What is found of these operations, from these words at the opening to those at the end.
 pub(crate) fn verdict_from(
     alloc: Global,
-    opening: &[(u64, u64)],
-    ops: &[Observed],
-    finals: &[(u64, u64)],
+    opening: &[GranuleWord],
+    ops: &[Timed],
+    finals: &[GranuleWord],
 ) -> Result<Told, Fail> {
     let trace = trace_from(alloc, opening, ops)?;
     let finals = words(alloc, finals)?;
@@ -180,29 +196,43 @@ pub(crate) fn verdict_from(
 }
 
 /// The same, where each granule holds 0 at the opening.
-pub(crate) fn verdict(
-    alloc: Global,
-    ops: &[Observed],
-    finals: &[(u64, u64)],
-) -> Result<Told, Fail> {
+pub(crate) fn verdict(alloc: Global, ops: &[Timed], finals: &[GranuleWord]) -> Result<Told, Fail> {
     verdict_from(alloc, &[], ops, finals)
 }
 
-/// The order that explains a trace with these words at the end.
-pub(crate) fn order_of(
-    alloc: Global,
-    trace: &Trace,
-    finals: &[(u64, u64)],
-) -> Result<Vec<usize>, Fail> {
-    let finals = words(alloc, finals)?;
-    match explain(alloc, trace, &finals, BUDGET, &mut NoProgress)? {
-        Verdict::Explained(order) => Ok(order),
-        _ => Err(Fail::new("no order was found")),
+/// Compares what is found of these operations where each granule holds 0 at the opening, with each of these words at the end.
+pub(crate) fn assert_verdicts<R: AllocGlobal + Abort>(
+    rt: &R,
+    ops: &[Timed],
+    wanted: &[(&[GranuleWord], Told)],
+) -> Result<(), Fail> {
+    for (finals, told) in wanted {
+        let found = verdict(rt.alloc(), ops, finals)?;
+        assert_same(rt, found, *told);
     }
+    Ok(())
+}
+
+/// Compares the order that explains these operations, from these words at the opening to those at the end.
+pub(crate) fn assert_ordered<R: AllocGlobal + Abort>(
+    rt: &R,
+    opening: &[GranuleWord],
+    ops: &[Timed],
+    finals: &[GranuleWord],
+    wanted: &[usize],
+) -> Result<(), Fail> {
+    let trace = trace_from(rt.alloc(), opening, ops)?;
+    let finals = words(rt.alloc(), finals)?;
+    let found = explain(rt.alloc(), &trace, &finals, BUDGET, &mut NoProgress)?;
+    let Verdict::Explained(order) = found else {
+        return Err(Fail::new("no order was found"));
+    };
+    assert_same(rt, order.as_slice(), wanted);
+    Ok(())
 }
 
 /// The number of the granule, the time and the operation at which these operations stop being explained, if they do.
-pub(crate) fn blame(alloc: Global, ops: &[Observed]) -> Result<Option<(u64, u64, usize)>, Fail> {
+pub(crate) fn blame(alloc: Global, ops: &[Timed]) -> Result<Option<(u64, u64, usize)>, Fail> {
     let found = first_unexplained(alloc, &trace(alloc, ops)?, BUDGET, &mut NoProgress)?;
     match found {
         First::Never => Ok(None),

@@ -1,9 +1,10 @@
 //! Tests of the words of granules: those that are told, and those that can be held.
 
 use crate::comparison::assert_same;
-use crate::traces::{ADD, BUDGET, HIGH, LOW, NEXT, read, silent, trace_from, words, write};
+use crate::traces::{
+    ADD, BUDGET, HIGH, LOW, NEXT, Timed, at, read, silent, trace_from, words, write,
+};
 use chi_search::{NoProgress, Words};
-use chi_trace::Observed;
 use chi_verdict::{GranuleWord, GranuleWords, words_held};
 use std::alloc::Global;
 use std::collections::BTreeMap;
@@ -11,7 +12,7 @@ use std::test::Fail;
 
 #[test]
 fn words_that_are_told(rt: HostRuntime) -> Result<(), Fail> {
-    let told = words(rt.alloc(), &[(LOW, 3), (HIGH, 4)])?;
+    let told = words(rt.alloc(), &[at(LOW, 3), at(HIGH, 4)])?;
     let found = (
         told.get(LOW / 8),
         told.get(LOW / 8 + 1),
@@ -62,8 +63,8 @@ fn words_of_a_map(rt: HostRuntime) -> Result<(), Fail> {
 // The words that a granule can hold after the operations, from these words on, in rising order.
 fn held(
     alloc: Global,
-    opening: &[(u64, u64)],
-    ops: &[Observed],
+    opening: &[GranuleWord],
+    ops: &[Timed],
     addr: u64,
 ) -> Result<Vec<u64>, Fail> {
     let trace = trace_from(alloc, opening, ops)?;
@@ -79,7 +80,7 @@ fn held(
 
 #[test]
 fn words_that_a_granule_can_hold(rt: HostRuntime) -> Result<(), Fail> {
-    let ops = [silent((0, 10), ADD, LOW, 1)?, read((0, 20), HIGH, 0)?];
+    let ops = [silent((0, 10), ADD, LOW, 1), read((0, 20), HIGH, 0)];
     let found = held(rt.alloc(), &[], &ops, LOW)?;
     assert_same(&rt, found.as_slice(), [0, 1].as_slice());
     Ok(())
@@ -89,8 +90,8 @@ fn words_that_a_granule_can_hold(rt: HostRuntime) -> Result<(), Fail> {
 #[test]
 fn either_write_last(rt: HostRuntime) -> Result<(), Fail> {
     let alloc = rt.alloc();
-    let opening = [(LOW, 7), (NEXT, 0)];
-    let ops = [write((0, 10), NEXT, 4)?, write((0, 10), NEXT, 6)?];
+    let opening = [at(LOW, 7), at(NEXT, 0)];
+    let ops = [write((0, 10), NEXT, 4), write((0, 10), NEXT, 6)];
     let found = held(alloc, &opening, &ops, NEXT)?;
     assert_same(&rt, found.as_slice(), [4, 6].as_slice());
     let still = held(alloc, &opening, &ops, LOW)?;

@@ -5,6 +5,7 @@ ghost use Rattle.chi_history.specs.NumberLists.{has};
 ghost use Rattle.chi_bookstore.specs.BookSeats.{IsSeatOf};
 
 use super::{reply_to, request};
+use crate::comparison::assert_same;
 use chi_bookstore::{BookSeat, BookStore};
 use chi_fields::{Region, Request};
 use chi_history::Home;
@@ -133,18 +134,20 @@ fn raced<T: AllocGlobal + Abort + Threads + Wait + Sync>(
 #[test]
 fn two_threads_attempt(rt: HostRuntime) -> Result<(), Fail> {
     let (words, ones, twos) = raced(&rt, 4, Task::Add)?;
-    assert_eq!(rt;
+    assert_same(
+        &rt,
         (words[0], ones > 0, twos > 0),
-        (ones.saturating_add(twos), true, true)
+        (ones.saturating_add(twos), true, true),
     );
     Ok(())
 }
 
 #[test]
 fn two_threads_at_their_own_granules(rt: HostRuntime) -> Result<(), Fail> {
-    assert_eq!(rt;
+    assert_same(
+        &rt,
         raced(&rt, 1, Task::Swap)?,
-        ([0x01fa, 0x02fa, 0, 0, 0, 0, 0, 0], 250, 250)
+        ([0x01fa, 0x02fa, 0, 0, 0, 0, 0, 0], 250, 250),
     );
     Ok(())
 }

@@ -1,6 +1,7 @@
 //! The locked store over allocators other than the global one.
 
 use super::{LOAD_ADD, one_byte, reply_of, request, words_of};
+use crate::comparison::assert_same;
 use chi_fields::Region;
 use chi_history::Home;
 use chi_lanes::Reply;
@@ -17,9 +18,10 @@ fn assert_adds<H: Home, R: Abort + Wait>(rt: &R, home: &H, seat: &mut H::Seat)
     let add = request(LOAD_ADD, 0, 0x0001, one_byte(0x3c));
     let reply = reply_of(rt, home, seat, 0, &add);
     let words = words_of(rt, home, seat);
-    assert_eq!(rt;
+    assert_same(
+        rt,
         (reply, words),
-        (Reply::CompData([0; 16]), [0x3c, 0, 0, 0, 0, 0, 0, 0])
+        (Reply::CompData([0; 16]), [0x3c, 0, 0, 0, 0, 0, 0, 0]),
     );
 }
 

@@ -1,6 +1,7 @@
 //! What the locked store does with each operation, with seats, a gate and credits.
 
 use super::{LOAD_ADD, SWAP, accepted, gated_reply_of, one_byte, reply_of, request, words_of};
+use crate::comparison::assert_same;
 use chi_fields::Region;
 use chi_history::{Credit, Gate, Home};
 use chi_lanes::Reply;
@@ -35,7 +36,7 @@ fn assert_compared<H: Home, R: Abort + Wait>(rt: &R, home: &H, seat: &mut H::Sea
     let compare = request(COMPARE, 3, 0x00ff, lanes);
     let reply = reply_of(rt, home, seat, 0, &compare);
     let words = words_of(rt, home, seat);
-    assert_eq!(rt; (reply, words), (Reply::CompData([0; 16]), [0; 8]));
+    assert_same(rt, (reply, words), (Reply::CompData([0; 16]), [0; 8]));
 }
 
 // Writes f0 to the first byte, serves this operation with 3c sent, and answers the word after it.
@@ -48,13 +49,14 @@ fn word_after<H: Home, R: Abort + Wait>(rt: &R, home: &H, seat: &mut H::Seat, op
     let operation = request(opcode, 0, 0x0001, one_byte(0x3c));
     let before = reply_of(rt, home, seat, 7, &operation);
     let words = words_of(rt, home, seat);
-    assert_eq!(rt;
+    assert_same(
+        rt,
         (written, before, words),
         (
             Reply::Comp,
             Reply::CompData(one_byte(0xf0)),
-            [words[0], 0, 0, 0, 0, 0, 0, 0]
-        )
+            [words[0], 0, 0, 0, 0, 0, 0, 0],
+        ),
     );
     words[0]
 }
@@ -74,9 +76,10 @@ fn assert_nine<H: Home, R: Abort + Wait>(rt: &R, home: &H, seat: &mut H::Seat)
         word_after(rt, home, seat, LOAD_UMIN),
         word_after(rt, home, seat, SWAP),
     ];
-    assert_eq!(rt;
+    assert_same(
+        rt,
         words,
-        [0x2c, 0xc0, 0xcc, 0xfc, 0x3c, 0xf0, 0xf0, 0x3c, 0x3c]
+        [0x2c, 0xc0, 0xcc, 0xfc, 0x3c, 0xf0, 0xf0, 0x3c, 0x3c],
     );
 }
 
@@ -93,14 +96,15 @@ fn assert_split<H: Home, R: Abort + Wait>(rt: &R, home: &H, seat: &mut H::Seat)
     let second = reply_of(rt, home, &mut other, 1, &add);
     home.rejoin(rt, seat, other);
     let words = words_of(rt, home, seat);
-    assert_eq!(rt;
+    assert_same(
+        rt,
         (rest, first, second, words),
         (
             (false, false),
             Reply::CompData([0; 16]),
             Reply::CompData(one_byte(1)),
-            [3, 0, 0, 0, 0, 0, 0, 0]
-        )
+            [3, 0, 0, 0, 0, 0, 0, 0],
+        ),
     );
 }
 
@@ -125,9 +129,10 @@ fn assert_paused<H: Home, R: Abort + Wait>(rt: &R, home: &H, seat: &mut H::Seat)
     let swap = request(SWAP, 0, 0x0001, one_byte(5));
     let mut gate = Pauses { count: 0, last: 0 };
     let reply = gated_reply_of(rt, home, seat, 0, &swap, &mut gate);
-    assert_eq!(rt;
+    assert_same(
+        rt,
         (reply, gate.count, gate.last),
-        (Reply::CompData([0; 16]), 1, 1)
+        (Reply::CompData([0; 16]), 1, 1),
     );
 }
 
@@ -141,9 +146,10 @@ fn assert_credited<H: Home, R: Abort + Wait>(rt: &R, home: &H, seat: &mut H::Sea
     let reply = home.serve_credited(rt, seat, Credit::issue(0), &access);
     home.return_credit(Credit::issue(0));
     let words = words_of(rt, home, seat);
-    assert_eq!(rt;
+    assert_same(
+        rt,
         (reply, words),
-        (Reply::CompData([0; 16]), [5, 0, 0, 0, 0, 0, 0, 0])
+        (Reply::CompData([0; 16]), [5, 0, 0, 0, 0, 0, 0, 0]),
     );
 }
 

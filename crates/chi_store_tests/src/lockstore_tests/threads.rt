@@ -1,6 +1,7 @@
 //! The locked store in two threads.
 
 use super::{SWAP, one_byte, reply_of, request, words_of};
+use crate::comparison::assert_same;
 use chi_fields::{Region, Request};
 use chi_history::Home;
 use chi_lanes::Reply;
@@ -34,9 +35,10 @@ fn add_and_swap<H: Home, R: Abort + Wait>(
             ..request(SWAP, 0, 0x0001, one_byte(value))
         };
         let swapped = reply_of(rt, home, &mut seat, src, &swap);
-        assert_eq!(rt;
+        assert_same(
+            rt,
             (added, swapped),
-            (Reply::Comp, Reply::CompData(one_byte(before)))
+            (Reply::Comp, Reply::CompData(one_byte(before))),
         );
         before = value;
     }
@@ -87,6 +89,6 @@ fn words_after<H: Home + Sync, R: Abort + Wait + Threads + Sync>(
 fn two_threads_serve(rt: HostRuntime) -> Result<(), Fail> {
     let (store, seat) = LockStore::open(rt.alloc(), Region::new(0x1000, 8)?, 2, &[0; 8])?;
     let words = words_after(&rt, &store, seat);
-    assert_eq!(rt; words, [200, 0, 200, 0, 201, 0, 0, 0]);
+    assert_same(&rt, words, [200, 0, 200, 0, 201, 0, 0, 0]);
     Ok(())
 }
