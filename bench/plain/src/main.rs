@@ -1,7 +1,7 @@
 //! plain: the work of chihome in plain Rust, to be timed beside it.
 //!
 //!     plain [run]
-//!     plain race [--workers 2|4]
+//!     plain race [--workers N]
 
 use plain::engine::work;
 use plain::fault::Fault;
@@ -23,8 +23,11 @@ impl Task {
     fn of(words: &[&str]) -> Option<Task> {
         match words {
             [] | ["run"] => Some(Task::Run),
-            ["race"] | ["race", "--workers", "2"] => Some(Task::Race(2)),
-            ["race", "--workers", "4"] => Some(Task::Race(4)),
+            ["race"] => Some(Task::Race(2)),
+            ["race", "--workers", count] => {
+                let count = count.parse().ok()?;
+                (1..=7).contains(&count).then_some(Task::Race(count))
+            }
             _ => None,
         }
     }
@@ -66,7 +69,7 @@ fn main() -> ExitCode {
     let words: Vec<String> = env::args().skip(1).collect();
     let words: Vec<&str> = words.iter().map(String::as_str).collect();
     let Some(task) = Task::of(&words) else {
-        eprintln!("usage: plain [run] or plain race [--workers 2|4]");
+        eprintln!("usage: plain [run] or plain race [--workers N]");
         return ExitCode::from(2);
     };
     match execute(&task) {

@@ -13,12 +13,9 @@ use Rattle.chi_requester.specs.declared.fault.WorkFault.{WorkFault}
 use Rattle.chi_requester.specs.declared.policy.Policy.{Policy}
 use Rattle.chi_requester.specs.declared.race_of_any.Racer.{Racer}
 use Rattle.chi_requester.specs.Race.{IsRace, IsRaceRun, lines_of_all}
-use Rattle.chi_requester.specs.Team.{lines_in, one_to}
+use Rattle.chi_requester.specs.Team.{lines_in}
 use Rattle.chi_requester.specs.Work.{own_requests}
 use Rattle.chi_script.specs.Script.{ScriptValue}
-use Rattle.chi_engine.specs.declared.options.Workers.{Workers}
-use Rattle.chi_engine.specs.declared.options.Workers.TheVariants.{Two, Four}
-use Rattle.chi_engine.specs.RaceTranscript.{most_racer, racers_of}
 use Rattle.chi_engine.specs.Store.{IsFresh, opening_of}
 use Rattle.chi_script.specs.RunText.{granule_words}
 use Rattle.chi_script.proofs.GranuleWords.{words_are}
@@ -83,10 +80,6 @@ none_in (x ∷ xs) each (suc (suc r)) = none_in xs (All-tail (λ (racer : Racer 
 
 pub none_of_all : {S G A : Type 0} (before : List Line) (racers made : List (Racer S G A)) → before ≡ [] → racers ≡ made → All (λ racer. racer.lines.items ≡ []) made → lines_of_all before racers ≡ (λ r. [])
 none_of_all before racers made empty same none = rw (empty, same) (λ i r. none_in made none r i)
-
-pub racers_are : (workers : Workers) (n : ℕ) → n ≡ most_racer workers → one_to n ≡ racers_of workers
-racers_are Two n is = ap one_to is
-racers_are Four n is = ap one_to is
 
 -- a race over a fresh home, by the values that the caller has of its limit, requests and lines
 pub race_fresh : {r : Result (Unit {0}) WorkFault} {o : Opening} {policy : Policy} {limit limit' : ℕ} {racers racers' : Held} {all : List Request} {s : ScriptValue} {held : Held}

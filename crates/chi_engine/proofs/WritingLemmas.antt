@@ -1,20 +1,19 @@
 -- one writing call after another
-use Rattle.std.proofs.Common.{◌≡◌, ℕ, ◌+◌, ◌<◌, List, [], ◌∷◌, ◌++◌, ◌∙◌, length, get_or, take, drop, Option, Result, Ok, Err, IsErr, ap, sym, append_assoc, append-nil, refl, subst, arith, take-append-drop}
+use Rattle.std.proofs.Common.{◌≡◌, ℕ, suc, flat_map, map, ◌+◌, ◌<◌, List, [], ◌∷◌, ◌++◌, ◌∙◌, length, get_or, take, drop, Option, Result, Ok, Err, IsErr, ap, sym, append_assoc, append-nil, refl, subst, arith, take-append-drop}
 use Rattle.std.proofs.lemmas.List.{drop_more}
 use Rattle.std.specs.Io.KnownBytes.{Appends}
-use Rattle.std.proofs.lemmas.Grind.{common_steps, flat_map-append}
+use Rattle.std.proofs.lemmas.Grind.{flat_map-append}
 use Rattle.chi_history.specs.declared.entry.Entry.{Entry}
 use Rattle.chi_history.specs.History.{end}
 use Rattle.chi_history.specs.declared.line.Line.{Line}
 use Rattle.chi_requester.specs.declared.race_of_any.Racer.{Racer}
 use Rattle.chi_requester.specs.Race.{lines_of_all}
+use Rattle.chi_requester.specs.Team.{lines_in}
 use Rattle.chi_script.specs.RunText.{granule_words}
 use Rattle.chi_script.specs.Script.{ScriptValue}
 use Rattle.chi_script.specs.Transcript.{granules_text, text}
 use Rattle.chi_script.specs.WriterBytes.{AppendsFront, Puts}
-use Rattle.chi_engine.specs.declared.options.Workers.{Workers}
-use Rattle.chi_engine.specs.declared.options.Workers.TheVariants.{Two, Four}
-use Rattle.chi_engine.specs.RaceTranscript.{most_racer, race_lines, race_text, racers_text}
+use Rattle.chi_engine.specs.RaceTranscript.{numbers_from, race_lines, race_text, racers_text}
 use Rattle.chi_engine.specs.Store.{opening_of}
 use Rattle.chi_script.proofs.WriterBytesLemmas.{cut_more, taken_then}
 
@@ -49,23 +48,24 @@ racers_parted racers i x inside is =
     ∙ (ap (λ (l : List ℕ). racers_text (take i racers) ++ l) (ap racers_text (ap (λ y. y ∷ drop (i + 1) racers) is ∙ sym (drop_more racers i x inside)))
     ∙ (sym (flat_map-append (λ racer. text racer.lines.items) (take i racers) (drop i racers)) ∙ ap racers_text (take-append-drop i racers)))
 
+-- the lines of racers whose numbers are from one on
+racers_text_from : {S G A : Type 0} (first : ℕ) (lines : ℕ → List Line) (racers : List (Racer S G A))
+    → ((i : ℕ) → i < length racers → lines (first + i) ≡ get_or (map lines_in racers) i []) → racers_text racers ≡ flat_map (λ r. text (lines r)) (numbers_from first (length racers))
+racers_text_from first lines [] are = refl
+racers_text_from first lines (x ∷ xs) are =
+    let own : lines first ≡ x.lines.items = ap lines (omega arith) ∙ are 0 (omega arith) in
+    let rest = racers_text_from (suc first) lines xs (λ i inside. ap lines (omega arith) ∙ are (suc i) (omega arith)) in
+    rw (own, rest) refl
+
 -- the lines of as many racers as there are workers, and of 0 after them
-pub race_lines_are : {S G A : Type 0} (workers : Workers) (zero : List Line) (racers : List (Racer S G A)) → length racers ≡ most_racer workers
+pub race_lines_are : {S G A : Type 0} (workers : ℕ) (zero : List Line) (racers : List (Racer S G A)) → length racers ≡ workers
     → racers_text racers ++ text zero ≡ race_lines workers (lines_of_all zero racers)
-race_lines_are Two zero [] count = absurd (omega arith)
-race_lines_are Two zero (x ∷ []) count = absurd (omega arith)
-race_lines_are Two zero (x ∷ (y ∷ [])) count = grind (arith, common_steps)
-race_lines_are Two zero (x ∷ (y ∷ (z ∷ more))) count = absurd (omega arith)
-race_lines_are Four zero [] count = absurd (omega arith)
-race_lines_are Four zero (x ∷ []) count = absurd (omega arith)
-race_lines_are Four zero (x ∷ (y ∷ [])) count = absurd (omega arith)
-race_lines_are Four zero (x ∷ (y ∷ (z ∷ []))) count = absurd (omega arith)
-race_lines_are Four zero (x ∷ (y ∷ (z ∷ (w ∷ [])))) count = grind (arith, common_steps)
-race_lines_are Four zero (x ∷ (y ∷ (z ∷ (w ∷ (v ∷ more))))) count = absurd (omega arith)
+race_lines_are workers zero racers count =
+    rw (← count) (ap (λ (told : List ℕ). told ++ text zero) (racers_text_from 1 (lines_of_all zero racers) racers (λ i inside. let e : 1 + i ≡ suc i = omega arith in ap (lines_of_all zero racers) e)))
 
 -- the whole transcript of a race
-pub race_text_is : {S G A : Type 0} (workers : Workers) (s : ScriptValue) (since : List Entry) (zero last : List Line) (racers : List (Racer S G A)) (base : ℕ) (words : List ℕ)
-    → length racers ≡ most_racer workers → last ≡ zero → base ≡ s.region.base → words ≡ granule_words (end (opening_of s) since) s.region.base s.region.granules
+pub race_text_is : {S G A : Type 0} (workers : ℕ) (s : ScriptValue) (since : List Entry) (zero last : List Line) (racers : List (Racer S G A)) (base : ℕ) (words : List ℕ)
+    → length racers ≡ workers → last ≡ zero → base ≡ s.region.base → words ≡ granule_words (end (opening_of s) since) s.region.base s.region.granules
     → (racers_text racers ++ text last) ++ granules_text base words ≡ race_text workers s since (lines_of_all zero racers)
 race_text_is workers s since zero last racers base words count same at_base shown = rw (same, at_base, shown, race_lines_are workers zero racers count) refl
 

@@ -7,9 +7,8 @@ use Rattle.chi_script.specs.declared.fault.ScriptFault.TheVariants as script_fau
 use Rattle.chi_script.specs.Script.{ScriptValue, script}
 use Rattle.chi_engine.specs.declared.fault.EngineFault.{EngineFault}
 use Rattle.chi_engine.specs.declared.fault.EngineFault.TheVariants.{Read, TooLong, Memory, Script, Open, Work, Write}
-use Rattle.chi_engine.specs.declared.options.Options.{Options}
-use Rattle.chi_engine.specs.declared.options.StoreKind.{StoreKind}
-use Rattle.chi_engine.specs.declared.options.StoreKind.TheVariants as store_kind
+use Rattle.chi_engine.specs.declared.options.Store.{Store}
+use Rattle.chi_engine.specs.declared.options.Store.TheVariants.{Lock}
 use Rattle.chi_engine.specs.Store.{Opens, OpensOn}
 
 -- the greatest number of bytes of a script
@@ -27,28 +26,28 @@ Yields input top (Err fault) = ⊥
 
 -- a store that is refused: never for its requesters, for its tries just where these are out of range, and for its
 -- region only if it is the locked one
-abbrev pub Refuses : Options → OpenFault → Type 0
-Refuses options open_fault.RequesterCount = ⊥
-Refuses options open_fault.AttemptCount = Opens options → ⊥
-Refuses options open_fault.NotOneLine = options.store ≡ store_kind.Lock
-Refuses options open_fault.Memory = Opens options
+abbrev pub Refuses : Store → OpenFault → Type 0
+Refuses store open_fault.RequesterCount = ⊥
+Refuses store open_fault.AttemptCount = Opens store → ⊥
+Refuses store open_fault.NotOneLine = store ≡ Lock
+Refuses store open_fault.Memory = Opens store
 
 -- what an outcome reports of the store: it was opened where a script was executed
-abbrev pub ReportsOpening : Options → Result (Unit {0}) EngineFault → Type 0
-ReportsOpening options (Ok done) = Opens options
-ReportsOpening options (Err (Open fault)) = Refuses options fault
-ReportsOpening options (Err (Work fault)) = Opens options
-ReportsOpening options (Err (Write fault)) = Opens options
-ReportsOpening options (Err fault) = Unit {0}
+abbrev pub ReportsOpening : Store → Result (Unit {0}) EngineFault → Type 0
+ReportsOpening store (Ok done) = Opens store
+ReportsOpening store (Err (Open fault)) = Refuses store fault
+ReportsOpening store (Err (Work fault)) = Opens store
+ReportsOpening store (Err (Write fault)) = Opens store
+ReportsOpening store (Err fault) = Unit {0}
 
 -- a store that is refused on a region of so many granules: for this region just where it does not open on it
-abbrev pub RefusesOn : StoreKind → ℕ → OpenFault → Type 0
+abbrev pub RefusesOn : Store → ℕ → OpenFault → Type 0
 RefusesOn store granules open_fault.NotOneLine = OpensOn store granules → ⊥
 RefusesOn store granules open_fault.Memory = OpensOn store granules
 RefusesOn store granules fault = Unit {0}
 
 -- what an outcome reports of the script's region: the store was opened on it where the script was executed
-abbrev pub ReportsRegion : StoreKind → ℕ → Result (Unit {0}) EngineFault → Type 0
+abbrev pub ReportsRegion : Store → ℕ → Result (Unit {0}) EngineFault → Type 0
 ReportsRegion store granules (Ok done) = OpensOn store granules
 ReportsRegion store granules (Err (Open fault)) = RefusesOn store granules fault
 ReportsRegion store granules (Err (Work fault)) = OpensOn store granules

@@ -1,4 +1,5 @@
 pub mod Store
+pub mod WorkerCount
 pub mod Cover
 pub mod Engine
 pub mod Run

@@ -1,13 +1,13 @@
--- what a race of the program does: two or four requesters at work at the same time over a fresh home, and 0 after
-use Rattle.std.specs.Prelude.{ℕ, List, [], ◌++◌, flat_map, Option, Result, Ok, Err}
+-- what a race of the program does: 1 to 7 requesters at work at the same time over a fresh home, and 0 after
+use Rattle.std.specs.Prelude.{ℕ, zero, suc, List, [], ◌∷◌, ◌++◌, flat_map, Option, Result, Ok, Err}
 use Rattle.std.specs.Io.KnownBytes.{Appends, Keeps}
 use Rattle.chi_history.specs.declared.entry.Entry.{Entry}
 use Rattle.chi_history.specs.declared.line.Line.{Line}
-use Rattle.chi_history.specs.NumberSets.{Held}
 use Rattle.chi_history.specs.History.{end}
 use Rattle.chi_requester.specs.declared.fault.WorkFault.{WorkFault}
 use Rattle.chi_requester.specs.declared.race_of_any.Racer.{Racer}
-use Rattle.chi_requester.specs.Race.{IsRace, IsRaceRun, one_and_two, one_to_four}
+use Rattle.chi_requester.specs.Race.{IsRace, IsRaceRun}
+use Rattle.chi_requester.specs.Team.{one_to}
 use Rattle.chi_requester.specs.Work.{own_requests}
 use Rattle.chi_script.specs.RunText.{memory_text}
 use Rattle.chi_script.specs.Script.{ScriptValue}
@@ -16,41 +16,33 @@ use Rattle.chi_script.specs.WriterBytes.{AppendsFront}
 use Rattle.chi_engine.specs.declared.fault.EngineFault.{EngineFault}
 use Rattle.chi_engine.specs.declared.fault.EngineFault.TheVariants.{Memory, Work, Write}
 use Rattle.chi_engine.specs.declared.options.Options.{Options}
-use Rattle.chi_engine.specs.declared.options.Workers.{Workers}
-use Rattle.chi_engine.specs.declared.options.Workers.TheVariants.{Two, Four}
 use Rattle.chi_engine.specs.Engine.{FromInput, FromOpening, ReportsRegion}
 use Rattle.chi_engine.specs.Store.{limit_of, opening_of}
 
--- the requesters at work at the same time
-abbrev pub racers_of : Workers → Held
-racers_of Two = one_and_two
-racers_of Four = one_to_four
-
--- the greatest requester number in a race
-abbrev pub most_racer : Workers → ℕ
-most_racer Two = 2
-most_racer Four = 4
-
--- one legal history stands behind the lines of the racers and of 0, and every request of the script was executed
+-- one legal history stands behind the lines of the racers, who are 1 to the number of workers, and of 0, and every request of the script was executed
 abbrev pub IsRaced : Options → ScriptValue → List Entry → (ℕ → List Line) → Type 0
-IsRaced options s since lines = IsRace (opening_of s) options.policy (limit_of options) (racers_of options.workers) [] since (own_requests s.requests) lines
+IsRaced options s since lines = IsRace (opening_of s) options.policy (limit_of options.store) (one_to options.workers) [] since (own_requests s.requests) lines
 
 -- the same of the first requests of each, some not being executed, since there was no memory
 abbrev pub IsRaceCut : WorkFault → Options → ScriptValue → List Entry → (ℕ → List Line) → Type 0
 IsRaceCut fault options s since lines =
-    IsRaceRun (Err fault) (opening_of s) options.policy (limit_of options) (racers_of options.workers) s.requests [] since (λ r. []) lines
+    IsRaceRun (Err fault) (opening_of s) options.policy (limit_of options.store) (one_to options.workers) s.requests [] since (λ r. []) lines
+
+-- so many numbers, from one on
+abbrev pub numbers_from : ℕ → ℕ → List ℕ
+numbers_from first zero = []
+numbers_from first (suc n) = first ∷ numbers_from (suc first) n
 
 -- the lines of the racers in the order of their numbers, and then those of 0
-abbrev pub race_lines : Workers → (ℕ → List Line) → List ℕ
-race_lines Two lines = text (lines 1 ++ (lines 2 ++ lines 0))
-race_lines Four lines = text (lines 1 ++ (lines 2 ++ (lines 3 ++ (lines 4 ++ lines 0))))
+abbrev pub race_lines : ℕ → (ℕ → List Line) → List ℕ
+race_lines workers lines = flat_map (λ r. text (lines r)) (numbers_from 1 workers) ++ text (lines 0)
 
 -- the lines of the racers in their order
 abbrev pub racers_text : {S G A : Type 0} → List (Racer S G A) → List ℕ
 racers_text racers = flat_map (λ racer. text racer.lines.items) racers
 
 -- the transcript of a race: the lines, and the memory at the end of the history
-abbrev pub race_text : Workers → ScriptValue → List Entry → (ℕ → List Line) → List ℕ
+abbrev pub race_text : ℕ → ScriptValue → List Entry → (ℕ → List Line) → List ℕ
 race_text workers s since lines = race_lines workers lines ++ memory_text s.region (end (opening_of s) since)
 
 -- What is written of a script over a home: after Ok the transcript of a race. Where there was no memory for the
@@ -76,4 +68,4 @@ RacesBy options s old new result = ReportsRegion options.store s.region.granules
 -- after Ok the transcript of a race of the input's script was written; what each fault means, and what was
 -- written then
 abbrev pub RaceOutcome : Options → List ℕ → Option (List ℕ) → Option (List ℕ) → Result (Unit {0}) EngineFault → Type 0
-RaceOutcome options input old new result = FromInput input (most_racer options.workers) result (λ s. RacesBy options s old new result)
+RaceOutcome options input old new result = FromInput input options.workers result (λ s. RacesBy options s old new result)

@@ -7,34 +7,27 @@ use Rattle.chi_history.specs.declared.opening.Opening.{Opening}
 use Rattle.chi_history.specs.NumberSets.{Held}
 use Rattle.chi_history.specs.Openings.{IsFirst, opened}
 use Rattle.chi_script.specs.Script.{ScriptValue}
-use Rattle.chi_engine.specs.declared.options.Options.{Options}
-use Rattle.chi_engine.specs.declared.options.StoreKind.{StoreKind}
-use Rattle.chi_engine.specs.declared.options.StoreKind.TheVariants.{Lock, Book}
+use Rattle.chi_engine.specs.declared.options.Store.{Store}
+use Rattle.chi_engine.specs.declared.options.Store.TheVariants.{Lock, Book}
 
 -- how many requesters a home is opened for
 abbrev pub requester_count : ℕ
 requester_count = 8
 
--- the store opens with so many tries
-abbrev pub OpensWith : StoreKind → ℕ → Type 0
-OpensWith Lock attempts = Unit {0}
-OpensWith Book attempts = IsAttemptCount attempts
-
-abbrev pub Opens : Options → Type 0
-Opens options = OpensWith options.store options.attempts
+-- the store opens with its tries
+abbrev pub Opens : Store → Type 0
+Opens Lock = Unit {0}
+Opens (Book attempts) = IsAttemptCount attempts
 
 -- the store opens on a region of so many granules
-abbrev pub OpensOn : StoreKind → ℕ → Type 0
+abbrev pub OpensOn : Store → ℕ → Type 0
 OpensOn Lock granules = IsWithinLine granules
-OpensOn Book granules = Unit {0}
+OpensOn (Book attempts) granules = Unit {0}
 
 -- how many lost tries a request may have
-abbrev pub limit_with : StoreKind → ℕ → ℕ
-limit_with Lock attempts = 0
-limit_with Book attempts = attempts
-
-abbrev pub limit_of : Options → ℕ
-limit_of options = limit_with options.store options.attempts
+abbrev pub limit_of : Store → ℕ
+limit_of Lock = 0
+limit_of (Book attempts) = attempts
 
 -- it is opened on the script's region, with the script's image
 abbrev pub opening_of : ScriptValue → Opening

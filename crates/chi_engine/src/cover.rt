@@ -71,7 +71,7 @@ pub(crate) fn cover_script<T: AllocGlobal + Wait, W: Write>(
 ) -> Result<(), EngineFault>
     requires from { AllFrom (below (most_src + 1)) script.now.requests }
     ensures covered { CoversBy options.now script.now (W.contents to.old) (W.contents to.new) result }
-    ensures opening { ReportsOpening options.now result }
+    ensures opening { ReportsOpening options.now.store result }
     ensures unwritten { KeepsUnwritten (W.contents to.old) (W.contents to.new) result }
 {
     let policy = options.policy;

@@ -1,15 +1,15 @@
 //! From a script's bytes to a transcript's bytes, or to what it covered.
 
-ghost use Rattle.std.specs.Prelude.{◌≡◌, length, IfOk, IfSome};
+ghost use Rattle.std.specs.Prelude.{IfSome};
 ghost use Rattle.chi_engine.specs.Cover.{CoverOutcome, KeepsUnwritten};
 ghost use Rattle.chi_engine.specs.Engine.{KeepsUnexecuted, ReportsOpening};
-ghost use Rattle.chi_engine.specs.RaceTranscript.{RaceOutcome, most_racer};
+ghost use Rattle.chi_engine.specs.RaceTranscript.{RaceOutcome};
 ghost use Rattle.chi_engine.specs.Run.{Outcome};
 
 use crate::cover::cover_script;
 use crate::fault::EngineFault;
 use crate::input::read_whole;
-use crate::options::{Options, Workers};
+use crate::options::Options;
 use crate::race::race_script;
 use crate::run::run_script;
 use chi_history::Gate;
@@ -38,7 +38,7 @@ pub fn engine_run<T: AllocGlobal + Wait, R: Read, W: Write>(
     options: &Options,
 ) -> Result<(), EngineFault>
     ensures outcome { IfSome (R.remaining from.old) (λ input. Outcome options.now input (W.contents to.old) (W.contents to.new) result) }
-    ensures opening { ReportsOpening options.now result }
+    ensures opening { ReportsOpening options.now.store result }
     ensures unexecuted { KeepsUnexecuted (W.contents to.old) (W.contents to.new) result }
 {
     let script = read_whole(rt.alloc(), from, MOST_SRC)?;
@@ -64,49 +64,54 @@ pub fn engine_cover<T: AllocGlobal + Wait, R: Read, W: Write>(
     options: &Options,
 ) -> Result<(), EngineFault>
     ensures outcome { IfSome (R.remaining from.old) (λ input. CoverOutcome options.now input (W.contents to.old) (W.contents to.new) result) }
-    ensures opening { ReportsOpening options.now result }
+    ensures opening { ReportsOpening options.now.store result }
     ensures unwritten { KeepsUnwritten (W.contents to.old) (W.contents to.new) result }
 {
     cover_script(rt, &read_whole(rt.alloc(), from, MOST_SRC)?, to, options)
 }
 
-// The greatest requester number in a race.
-fn most_racer(workers: Workers) -> u8
-    ensures { result ≡ most_racer workers }
-{
-    match workers {
-        Workers::Two => 2,
-        Workers::Four => 4,
-    }
-}
-
-// The gates of so many workers, which take the first ones.
+// The four gates, of which each may be of a type of its own.
 fn gates_of<G1: Drop, G2: Drop, G3: Drop, G4: Drop>(
     alloc: Global,
-    workers: Workers,
     gate1: G1,
     gate2: G2,
     gate3: G3,
     gate4: G4,
-) -> Result<Vec<MixedGate<G1, G2, G3, G4>>, AllocError>
-    ensures { IfOk result (λ v. length v.items ≡ most_racer workers) }
-{
+) -> Result<Vec<MixedGate<G1, G2, G3, G4>>, AllocError> {
     let mut gates = Vec::with_capacity(alloc, 4)?;
     gates.push_reserved(MixedGate::One(gate1));
     gates.push_reserved(MixedGate::Two(gate2));
-    if let Workers::Four = workers {
-        gates.push_reserved(MixedGate::Three(gate3));
-        gates.push_reserved(MixedGate::Four(gate4));
-    }
+    gates.push_reserved(MixedGate::Three(gate3));
+    gates.push_reserved(MixedGate::Four(gate4));
     Ok(gates)
 }
 
-/// Reads a script, executes the requests of 1 and of 2, or of 1 to 4, at the same time, each with a gate of its
-/// own, and then those of 0, on the memory that the script opens with, and writes the transcript: the lines of 1 on,
-/// those of 0, and the memory.
+/// Reads a script, executes the requests of 1 and up, one requester for each worker of the options, at the same time,
+/// and then those of 0, on the memory that the script opens with, and writes the transcript: the lines of 1 on, those
+/// of 0, and the memory.
 ///
-/// How many work at the same time the options say; two take the first two gates. Faults and what they leave
+/// Each worker has a gate of its own, in the order of their numbers. Where there are fewer gates than workers, the
+/// further workers have none; where there are more, the further gates are not used. Faults and what they leave
 /// written are as in `engine_run`; the lines so far are in the same order.
+///
+/// ```
+/// engine_race_gated(rt, &mut script.as_bytes(), &mut transcript, &options, vec![in rt.alloc(); NoGate; 7]?)?;
+/// ```
+pub fn engine_race_gated<
+    T: AllocGlobal + Threads + Wait + Sync,
+    R: Read,
+    W: Write,
+    G: Gate + Drop + Send,
+>(rt: &T, from: &mut R, to: &mut W, options: &Options, gates: Vec<G>) -> Result<(), EngineFault>
+    ensures outcome { IfSome (R.remaining from.old) (λ input. RaceOutcome options.now input (W.contents to.old) (W.contents to.new) result) }
+    ensures opening { ReportsOpening options.now.store result }
+    ensures unexecuted { KeepsUnexecuted (W.contents to.old) (W.contents to.new) result }
+{
+    let script = read_whole(rt.alloc(), from, options.workers.count())?;
+    race_script(rt, &script, to, options, gates)
+}
+
+/// Races a script as `engine_race_gated` does, by four gates, of which each may be of a type of its own.
 ///
 /// ```
 /// engine_race(rt, &mut script.as_bytes(), &mut transcript, &options, NoGate, NoGate, NoGate, NoGate)?;
@@ -130,12 +135,11 @@ pub fn engine_race<
     gate4: G4,
 ) -> Result<(), EngineFault>
     ensures outcome { IfSome (R.remaining from.old) (λ input. RaceOutcome options.now input (W.contents to.old) (W.contents to.new) result) }
-    ensures opening { ReportsOpening options.now result }
+    ensures opening { ReportsOpening options.now.store result }
     ensures unexecuted { KeepsUnexecuted (W.contents to.old) (W.contents to.new) result }
 {
-    let script = read_whole(rt.alloc(), from, most_racer(options.workers))?;
-    let Ok(gates) = gates_of(rt.alloc(), options.workers, gate1, gate2, gate3, gate4) else {
+    let Ok(gates) = gates_of(rt.alloc(), gate1, gate2, gate3, gate4) else {
         return Err(EngineFault::Memory);
     };
-    race_script(rt, &script, to, options, gates)
+    engine_race_gated(rt, from, to, options, gates)
 }

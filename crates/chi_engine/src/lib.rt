@@ -5,12 +5,15 @@ mod cover;
 mod engine;
 mod fault;
 mod input;
+mod optional_gate;
 mod options;
 mod race;
 mod run;
 mod store;
+mod workers;
 
-pub use engine::{engine_cover, engine_race, engine_run};
+pub use engine::{engine_cover, engine_race, engine_race_gated, engine_run};
 pub use fault::{EngineFault, status_of};
 pub use input::MOST_BYTES;
-pub use options::{Options, StoreKind, Workers};
+pub use options::{Options, Store};
+pub use workers::Workers;

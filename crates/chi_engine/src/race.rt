@@ -1,18 +1,21 @@
-//! A script's requests raced: those of two or four requesters at the same time, and then those of 0.
+//! A script's requests raced: those of 1 to 7 requesters at the same time, and then those of 0.
 
-ghost use Rattle.std.specs.Prelude.{◌≡◌, ◌+◌, [], ◌++◌, length, All, IfOk};
+ghost use Rattle.std.specs.Prelude.{◌≡◌, ◌+◌, ◌≤◌, [], ◌++◌, length, All, IfOk};
 ghost use Rattle.chi_history.specs.NumberSets.{AllFrom, below};
 ghost use Rattle.chi_history.specs.History.{end};
 ghost use Rattle.chi_script.specs.Transcript.{granules_text, text};
 ghost use Rattle.chi_script.specs.WriterBytes.{Puts};
 ghost use Rattle.chi_engine.specs.Engine.{KeepsUnexecuted, ReportsOpening};
-ghost use Rattle.chi_engine.specs.RaceTranscript.{RacesBy, RacesOver, most_racer, racers_text};
+ghost use Rattle.chi_engine.specs.RaceTranscript.{RacesBy, RacesOver, racers_text};
 ghost use Rattle.chi_engine.specs.Store.{IsFresh, limit_of, opening_of};
+ghost use Rattle.chi_engine.specs.WorkerCount.{most_workers};
 ghost use Rattle.chi_script.specs.RunText.{granule_words};
 
 use crate::fault::EngineFault;
+use crate::optional_gate::OptionalGate;
 use crate::options::Options;
 use crate::store::{on_store, room};
+use crate::workers::Workers;
 use chi_fields::Region;
 use chi_history::{Gate, Home, Line};
 use chi_requester::{Racer, race};
@@ -22,16 +25,20 @@ use std::io::Write;
 use std::sync::Wait;
 use std::thread::Threads;
 
-// Racers by these gates, from 1 on, with no line yet.
+// So many racers, from 1 on, with no line yet, by these gates as far as they go.
 fn racers_by<S: Drop, G: Drop>(
     alloc: Global,
+    workers: Workers,
     gates: Vec<G>,
-) -> Result<Vec<Racer<S, G, Global>>, AllocError>
-    ensures count { IfOk result (λ v. length v.items ≡ length gates.items) }
+) -> Result<Vec<Racer<S, OptionalGate<G>, Global>>, AllocError>
+    ensures count { IfOk result (λ v. length v.items ≡ workers) }
+    ensures few { IfOk result (λ v. length v.items ≤ most_workers) }
     ensures none { IfOk result (λ v. All (λ racer. racer.lines.items ≡ []) v.items) }
 {
     let mut racers = Vec::new(alloc);
-    for gate in gates {
+    let mut gates = gates.into_iter();
+    for _ in 0..workers.count() {
+        let gate = OptionalGate { gate: gates.next() };
         racers.push(Racer::new(gate, Vec::new(alloc)))?;
     }
     Ok(racers)
@@ -95,7 +102,7 @@ fn words_after<H: Home, R: Wait>(
     home.snapshot(rt, seat, words);
 }
 
-// Races a script over a home that was just opened for it, by a racer for each gate, and writes the transcript.
+// Races a script over a home that was just opened for it, by the workers of the options, and writes the transcript.
 fn race_over<
     H: Home + Sync,
     T: AllocGlobal + Threads + Wait + Sync,
@@ -113,13 +120,12 @@ fn race_over<
 ) -> Result<(), EngineFault>
     requires own { H.belongs home.now seat.old }
     requires fresh { IsFresh (H.opening home.now) script.now (H.held seat.old) (H.seen seat.old) }
-    requires limit { H.limit home.now ≡ limit_of options.now }
-    requires from { AllFrom (below (most_racer options.now.workers + 1)) script.now.requests }
-    requires count { length gates.items ≡ most_racer options.now.workers }
+    requires limit { H.limit home.now ≡ limit_of options.now.store }
+    requires from { AllFrom (below (options.now.workers + 1)) script.now.requests }
     requires room { length words.old ≡ script.now.region.granules }
     ensures { RacesOver options.now script.now (W.contents to.old) (W.contents to.new) result }
 {
-    let Ok(mut racers) = racers_by(rt.alloc(), gates) else {
+    let Ok(mut racers) = racers_by(rt.alloc(), options.workers, gates) else {
         return Err(EngineFault::Memory);
     };
     let racers = racers.as_mut_slice();
@@ -138,7 +144,7 @@ fn race_over<
     }
 }
 
-// Races a script over the store of the options, by a racer for each gate, and writes the transcript.
+// Races a script over the store of the options, by its workers, and writes the transcript.
 pub(crate) fn race_script<T: AllocGlobal + Threads + Wait + Sync, W: Write, G: Gate + Drop + Send>(
     rt: &T,
     script: &Script,
@@ -146,10 +152,9 @@ pub(crate) fn race_script<T: AllocGlobal + Threads + Wait + Sync, W: Write, G: G
     options: &Options,
     gates: Vec<G>,
 ) -> Result<(), EngineFault>
-    requires from { AllFrom (below (most_racer options.now.workers + 1)) script.now.requests }
-    requires count { length gates.items ≡ most_racer options.now.workers }
+    requires from { AllFrom (below (options.now.workers + 1)) script.now.requests }
     ensures executed { RacesBy options.now script.now (W.contents to.old) (W.contents to.new) result }
-    ensures opening { ReportsOpening options.now result }
+    ensures opening { ReportsOpening options.now.store result }
     ensures unexecuted { KeepsUnexecuted (W.contents to.old) (W.contents to.new) result }
 {
     let Ok(mut words) = room(rt.alloc(), script.region().granules()) else {

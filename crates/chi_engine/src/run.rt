@@ -102,7 +102,7 @@ pub(crate) fn run_script<T: AllocGlobal + Wait, W: Write>(
 ) -> Result<(), EngineFault>
     requires from { AllFrom (below (most_src + 1)) script.now.requests }
     ensures executed { RunsBy options.now script.now (W.contents to.old) (W.contents to.new) result }
-    ensures opening { ReportsOpening options.now result }
+    ensures opening { ReportsOpening options.now.store result }
     ensures unexecuted { KeepsUnexecuted (W.contents to.old) (W.contents to.new) result }
 {
     let Ok(mut words) = room(rt.alloc(), script.region().granules()) else {

@@ -1,8 +1,8 @@
 //! Gates that wait for each other: a RetryAck at a chosen moment.
 
 use crate::comparison::assert_same;
-use crate::scripts::{ADD_OF_ONE, ADD_OF_TWO, script};
-use chi_engine::{EngineFault, Options, StoreKind, Workers, engine_race};
+use crate::scripts::{ADDS, script};
+use chi_engine::{EngineFault, Options, Store, Workers, engine_race};
 use chi_history::{Gate, NoGate};
 use chi_requester::Policy;
 use std::process::Abort;
@@ -86,15 +86,14 @@ impl<C: Clock> Gate for WaitingGate<'_, C> {
 // Races a text where the first gate waits for two pauses of the other, and tells how often a gate met its want.
 fn raced_late<T: AllocGlobal + Clock + Threads + Wait + Sync>(
     rt: &T,
-    store: StoreKind,
+    store: Store,
     mut text: &[u8],
     to: &mut Vec<u8>,
 ) -> Result<u64, EngineFault> {
     let options = Options {
         store,
-        attempts: 1,
         policy: Policy::Return,
-        workers: Workers::Two,
+        workers: Workers::TWO,
     };
     let pauses = Pauses::none();
     let (one, two) = (pauses.gate_one(rt, 2), pauses.gate_two(rt, 1));
@@ -105,10 +104,10 @@ fn raced_late<T: AllocGlobal + Clock + Threads + Wait + Sync>(
 // One add of 1 and two of 2, where the first waits at its gate until both of the others are over.
 fn assert_late<T: AllocGlobal + Abort + Clock + Threads + Wait + Sync>(
     rt: &T,
-    store: StoreKind,
+    store: Store,
     want: &str,
 ) -> Result<(), Fail> {
-    let text = script(rt, &[ADD_OF_ONE, ADD_OF_TWO, SECOND_ADD_OF_TWO])?;
+    let text = script(rt, &[ADDS[0], ADDS[1], SECOND_ADD_OF_TWO])?;
     let mut to: Vec<u8> = Vec::new(rt.alloc());
     let met = raced_late(rt, store, text.as_bytes(), &mut to)?;
     assert_same(&rt, ("gates that met", met), ("gates that met", 2));
@@ -146,6 +145,6 @@ m 0000000000001038 0000000000000000
 
 #[test]
 fn one_retry_by_two_gates(rt: HostRuntime) -> Result<(), Fail> {
-    assert_late(&rt, StoreKind::Book, RETRIED)?;
-    assert_late(&rt, StoreKind::Lock, COMPLETED)
+    assert_late(&rt, Store::Book { attempts: 1 }, RETRIED)?;
+    assert_late(&rt, Store::Lock, COMPLETED)
 }

@@ -2,7 +2,7 @@
 
 use crate::answers::{Engine, assert_written_by_each, refusal_of};
 use crate::comparison::assert_same;
-use crate::scripts::{BOOK, FETCH_ADD, STORES, STORES_OF_FOUR};
+use crate::scripts::{BOOK, FETCH_ADD, STORES, stores_of};
 use chi_script::{Member, ScriptFault};
 use std::alloc::AllocError;
 use std::process::Abort;
@@ -76,7 +76,7 @@ m 0000000000001038 b23f7c60958e1d4a
 #[test]
 fn opening_image_of_eight_granules(rt: HostRuntime) -> Result<(), Fail> {
     let text = with_image(&rt, 8, IMAGE_BY_CHANCE, FIVE_REQUESTS)?;
-    for (engine, all) in &[(Engine::Run, STORES), (Engine::Race, STORES_OF_FOUR)] {
+    for (engine, all) in &[(Engine::Run, STORES), (Engine::Race, stores_of(&rt, 4))] {
         assert_written_by_each(&rt, *engine, all, text.as_str(), FIVE_TRANSCRIPT)?;
     }
     Ok(())

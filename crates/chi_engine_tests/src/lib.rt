@@ -1,4 +1,4 @@
-//! Tests of the engine: worked examples from bytes to bytes, printed texts, devices and two real threads.
+//! Tests of the engine: worked examples from bytes to bytes, printed texts, devices and up to seven real threads.
 #![tactic(auto)]
 
 #[cfg(test)]
@@ -31,5 +31,3 @@ mod race_tests;
 mod run_tests;
 #[cfg(test)]
 mod scripts;
-#[cfg(test)]
-mod seven_tests;

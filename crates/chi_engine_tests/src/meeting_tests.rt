@@ -1,14 +1,12 @@
-//! Gates that wait for one another: two and four workers at once, by the engine and by call.
+//! Gates that wait for one another: two, four and seven workers at once by the engine, and two and four by call.
 
 ghost use Rattle.std.specs.Prelude.{◌≡◌, ◌≤◌};
 ghost use Rattle.chi_history.specs.NumberSets.{below};
 
 use crate::comparison::assert_same;
-use crate::scripts::{
-    ADD_OF_FOUR, ADD_OF_ONE, ADD_OF_THREE, ADD_OF_TWO, STORES, STORES_OF_FOUR, script,
-};
+use crate::scripts::{ADDS, script, stores_of};
 use chi_bookstore::BookStore;
-use chi_engine::{Options, engine_race};
+use chi_engine::{engine_race, engine_race_gated};
 use chi_fields::{Region, Request};
 use chi_history::{Gate, Home};
 use chi_lockstore::LockStore;
@@ -22,13 +20,13 @@ use std::time::{Clock, Duration};
 
 // How many gates were paused for the first time, and how many of these saw all of them paused.
 #[derive(Drop)]
-pub(crate) struct Meeting {
+struct Meeting {
     paused: AtomicU64,
     met: AtomicU64,
 }
 
 impl Meeting {
-    pub(crate) fn new() -> Meeting {
+    fn new() -> Meeting {
         Meeting {
             paused: AtomicU64::new(0),
             met: AtomicU64::new(0),
@@ -36,7 +34,7 @@ impl Meeting {
     }
 
     // A gate of so many.
-    pub(crate) fn gate<'a, C: Clock>(&'a self, clock: &'a C, gates: u64) -> MeetingGate<'a, C> {
+    fn gate<'a, C: Clock>(&'a self, clock: &'a C, gates: u64) -> MeetingGate<'a, C> {
         MeetingGate {
             clock,
             meeting: self,
@@ -45,7 +43,7 @@ impl Meeting {
         }
     }
 
-    pub(crate) fn assert_met<T: Abort>(&self, rt: &T, gates: u64) {
+    fn assert_met<T: Abort>(&self, rt: &T, gates: u64) {
         assert_same(
             rt,
             ("gates that met", self.met.load(Ordering::SeqCst)),
@@ -57,7 +55,7 @@ impl Meeting {
 // A gate that at its first pause sleeps a millisecond a turn until all gates were paused, for ten thousand turns at
 // most. Its later pauses end at once.
 #[derive(Drop)]
-pub(crate) struct MeetingGate<'a, C> {
+struct MeetingGate<'a, C> {
     clock: &'a C,
     meeting: &'a Meeting,
     gates: u64,
@@ -81,49 +79,74 @@ impl<C: Clock> Gate for MeetingGate<'_, C> {
     }
 }
 
-// Races a script of one request for each worker, with gates that wait for all of them.
+// Races a script of one add for each worker over both stores, with the four gates of two or four workers, which wait
+// for all of these.
 fn assert_engine_meets<T: AllocGlobal + Abort + Clock + Threads + Wait + Sync>(
     rt: &T,
-    options: &Options,
+    workers: u8,
     requests: &[&str],
-    gates: u64,
 ) -> Result<(), Fail> {
     let text = script(rt, requests)?;
-    let meeting = Meeting::new();
-    let mut to: Vec<u8> = Vec::new(rt.alloc());
-    engine_race(
-        rt,
-        &mut text.as_bytes(),
-        &mut to,
-        options,
-        meeting.gate(rt, gates),
-        meeting.gate(rt, gates),
-        meeting.gate(rt, gates),
-        meeting.gate(rt, gates),
-    )?;
-    meeting.assert_met(rt, gates);
+    let gates = u64::from(workers);
+    for options in &stores_of(rt, workers) {
+        let meeting = Meeting::new();
+        let mut to: Vec<u8> = Vec::new(rt.alloc());
+        engine_race(
+            rt,
+            &mut text.as_bytes(),
+            &mut to,
+            options,
+            meeting.gate(rt, gates),
+            meeting.gate(rt, gates),
+            meeting.gate(rt, gates),
+            meeting.gate(rt, gates),
+        )?;
+        meeting.assert_met(rt, gates);
+    }
     Ok(())
 }
 
 #[test]
 fn gates_meet(rt: HostRuntime) -> Result<(), Fail> {
-    for options in &STORES {
-        assert_engine_meets(&rt, options, &[ADD_OF_ONE, ADD_OF_TWO], 2)?;
+    assert_engine_meets(&rt, 2, &ADDS[..2])
+}
+
+#[test]
+fn gates_meet_of_four(rt: HostRuntime) -> Result<(), Fail> {
+    assert_engine_meets(&rt, 4, &ADDS[..4])
+}
+
+// Races the adds of 1 to 7 over both stores, with so many gates, which wait for all of these. The further workers have
+// none, and gates past the seventh are not used.
+fn assert_seven_meet<T: AllocGlobal + Abort + Clock + Threads + Wait + Sync>(
+    rt: &T,
+    gates: u64,
+) -> Result<(), Fail> {
+    let text = script(rt, &ADDS)?;
+    let used = gates.min(7);
+    for options in &stores_of(rt, 7) {
+        let meeting = Meeting::new();
+        let mut all = Vec::new(rt.alloc());
+        for _ in 0..gates {
+            all.push(meeting.gate(rt, used))?;
+        }
+        let mut to: Vec<u8> = Vec::new(rt.alloc());
+        engine_race_gated(rt, &mut text.as_bytes(), &mut to, options, all)?;
+        meeting.assert_met(rt, used);
     }
     Ok(())
 }
 
 #[test]
-fn gates_meet_of_four(rt: HostRuntime) -> Result<(), Fail> {
-    let requests = [ADD_OF_ONE, ADD_OF_TWO, ADD_OF_THREE, ADD_OF_FOUR];
-    for options in &STORES_OF_FOUR {
-        assert_engine_meets(&rt, options, &requests, 4)?;
+fn gates_meet_of_seven(rt: HostRuntime) -> Result<(), Fail> {
+    for gates in [7, 3, 9] {
+        assert_seven_meet(&rt, gates)?;
     }
     Ok(())
 }
 
 // An add of 1 to the first eight bytes.
-pub(crate) fn add(src: u8) -> Request
+fn add(src: u8) -> Request
     ensures { result.src ≡ src }
 {
     let mut lanes = [0; 16];
@@ -183,57 +206,21 @@ fn assert_four_meet<H: Home + Sync, T: AllocGlobal + Abort + Clock + Threads + W
     Ok(())
 }
 
-// Over a home of so many requesters: four where there is one for each of them beside 0, else two.
-fn assert_meet<H: Home + Sync, T: AllocGlobal + Abort + Clock + Threads + Wait + Sync>(
-    rt: &T,
-    home: &H,
-    seat: &mut H::Seat,
-    requesters: u8,
-) -> Result<(), Fail>
-    requires own { H.belongs home.now seat.old }
-    requires all { H.held seat.old ≡ below (H.opening home.now).requesters }
-    requires count { (H.opening home.now).requesters ≡ requesters }
-    requires three { 3 ≤ requesters }
-{
-    if requesters < 5 {
-        assert_two_meet(rt, home, seat)
-    } else {
-        assert_four_meet(rt, home, seat)
-    }
-}
-
-// Over the locked store.
-fn assert_meet_over_lock<T: AllocGlobal + Abort + Clock + Threads + Wait + Sync>(
-    rt: &T,
-    requesters: u8,
-) -> Result<(), Fail>
-    requires { 3 ≤ requesters }
-{
-    let region = Region::new(0x1000, 8)?;
-    let (home, mut seat) = LockStore::open(rt.alloc(), region, requesters, &[0; 8])?;
-    assert_meet(rt, &home, &mut seat, requesters)
-}
-
-// Over the lock-free store.
-fn assert_meet_over_book<T: AllocGlobal + Abort + Clock + Threads + Wait + Sync>(
-    rt: &T,
-    requesters: u8,
-) -> Result<(), Fail>
-    requires { 3 ≤ requesters }
-{
-    let region = Region::new(0x1000, 8)?;
-    let (home, mut seat) = BookStore::open(rt.alloc(), region, requesters, 4, &[0; 8])?;
-    assert_meet(rt, &home, &mut seat, requesters)
-}
-
+// The tests open each home for 0 and just the workers.
 #[test]
 fn gates_meet_by_race_two(rt: HostRuntime) -> Result<(), Fail> {
-    assert_meet_over_lock(&rt, 3)?;
-    assert_meet_over_book(&rt, 3)
+    let region = Region::new(0x1000, 8)?;
+    let (home, mut seat) = LockStore::open(rt.alloc(), region, 3, &[0; 8])?;
+    assert_two_meet(&rt, &home, &mut seat)?;
+    let (home, mut seat) = BookStore::open(rt.alloc(), region, 3, 4, &[0; 8])?;
+    assert_two_meet(&rt, &home, &mut seat)
 }
 
 #[test]
 fn gates_meet_by_race_four(rt: HostRuntime) -> Result<(), Fail> {
-    assert_meet_over_lock(&rt, 5)?;
-    assert_meet_over_book(&rt, 5)
+    let region = Region::new(0x1000, 8)?;
+    let (home, mut seat) = LockStore::open(rt.alloc(), region, 5, &[0; 8])?;
+    assert_four_meet(&rt, &home, &mut seat)?;
+    let (home, mut seat) = BookStore::open(rt.alloc(), region, 5, 4, &[0; 8])?;
+    assert_four_meet(&rt, &home, &mut seat)
 }

@@ -1,36 +1,29 @@
 //! Scripts for the tests, and the options that they are executed with.
 
-use chi_engine::{Options, StoreKind, Workers};
+use chi_engine::{Options, Store, Workers};
 use chi_requester::Policy;
 use std::alloc::AllocError;
+use std::process::Abort;
 
 pub(crate) const LOCK: Options = Options {
-    store: StoreKind::Lock,
-    attempts: 4,
+    store: Store::Lock,
     policy: Policy::Resend,
-    workers: Workers::Two,
+    workers: Workers::TWO,
 };
 
 pub(crate) const BOOK: Options = Options {
-    store: StoreKind::Book,
-    attempts: 4,
-    policy: Policy::Resend,
-    workers: Workers::Two,
+    store: Store::Book { attempts: 4 },
+    ..LOCK
 };
 
-// Either store, with two workers and with four.
+// Either store, with two workers.
 pub(crate) const STORES: [Options; 2] = [LOCK, BOOK];
 
-pub(crate) const STORES_OF_FOUR: [Options; 2] = [
-    Options {
-        workers: Workers::Four,
-        ..LOCK
-    },
-    Options {
-        workers: Workers::Four,
-        ..BOOK
-    },
-];
+// Either store, with so many workers.
+pub(crate) fn stores_of<R: Abort>(rt: &R, workers: u8) -> [Options; 2] {
+    let workers = Workers::new(workers).expect(rt, "1 to 7 workers");
+    [Options { workers, ..LOCK }, Options { workers, ..BOOK }]
+}
 
 // A fetch-add of 1 to the first eight bytes.
 pub(crate) const FETCH_ADD: &str =
@@ -52,19 +45,16 @@ m 0000000000001030 0000000000000000
 m 0000000000001038 0000000000000000
 ";
 
-// An add of 1 to the first eight bytes by requester 1, and one by requester 2.
-pub(crate) const ADD_OF_ONE: &str =
-    "{\"src\":1,\"txn\":1,\"op\":40,\"size\":3,\"addr\":4096,\"endian\":0,\"be\":255,\"lanes\":\"01000000000000000000000000000000\"}";
-
-pub(crate) const ADD_OF_TWO: &str =
-    "{\"src\":2,\"txn\":2,\"op\":40,\"size\":3,\"addr\":4096,\"endian\":0,\"be\":255,\"lanes\":\"01000000000000000000000000000000\"}";
-
-// The same by requester 3, and by requester 4.
-pub(crate) const ADD_OF_THREE: &str =
-    "{\"src\":3,\"txn\":3,\"op\":40,\"size\":3,\"addr\":4096,\"endian\":0,\"be\":255,\"lanes\":\"01000000000000000000000000000000\"}";
-
-pub(crate) const ADD_OF_FOUR: &str =
-    "{\"src\":4,\"txn\":4,\"op\":40,\"size\":3,\"addr\":4096,\"endian\":0,\"be\":255,\"lanes\":\"01000000000000000000000000000000\"}";
+// An add of 1 to the first eight bytes by each of the requesters 1 to 7, in this order.
+pub(crate) const ADDS: [&str; 7] = [
+    "{\"src\":1,\"txn\":1,\"op\":40,\"size\":3,\"addr\":4096,\"endian\":0,\"be\":255,\"lanes\":\"01000000000000000000000000000000\"}",
+    "{\"src\":2,\"txn\":2,\"op\":40,\"size\":3,\"addr\":4096,\"endian\":0,\"be\":255,\"lanes\":\"01000000000000000000000000000000\"}",
+    "{\"src\":3,\"txn\":3,\"op\":40,\"size\":3,\"addr\":4096,\"endian\":0,\"be\":255,\"lanes\":\"01000000000000000000000000000000\"}",
+    "{\"src\":4,\"txn\":4,\"op\":40,\"size\":3,\"addr\":4096,\"endian\":0,\"be\":255,\"lanes\":\"01000000000000000000000000000000\"}",
+    "{\"src\":5,\"txn\":5,\"op\":40,\"size\":3,\"addr\":4096,\"endian\":0,\"be\":255,\"lanes\":\"01000000000000000000000000000000\"}",
+    "{\"src\":6,\"txn\":6,\"op\":40,\"size\":3,\"addr\":4096,\"endian\":0,\"be\":255,\"lanes\":\"01000000000000000000000000000000\"}",
+    "{\"src\":7,\"txn\":7,\"op\":40,\"size\":3,\"addr\":4096,\"endian\":0,\"be\":255,\"lanes\":\"01000000000000000000000000000000\"}",
+];
 
 // The memory lines after the second granule, all zeros.
 pub(crate) const SIX_ZEROS: &str =

@@ -18,7 +18,7 @@ use Rattle.chi_home.specs.declared.command.Asked.TheVariants.{Work, Script}
 use Rattle.chi_home.specs.declared.command.Task.{Task}
 use Rattle.chi_home.specs.declared.command.Task.TheVariants.{Run, Race, Cover}
 use Rattle.chi_engine.specs.declared.options.Options.{Options}
-use Rattle.chi_home.specs.CommandLine.{IsProgram, IsRaceApp, IsRunApp, IsTaskApp, IsArgumentsFault, cover_rule, generate_app}
+use Rattle.chi_home.specs.CommandLine.{IsProgram, IsRaceApp, IsRunApp, IsTaskApp, IsArgumentsFault, cover_rule, generate_app, workers_rule}
 
 -- a task with these two options
 task_of : Text → Rule → Rule → App
@@ -31,43 +31,40 @@ stores_of words = option_rule (codes "store") (value_parser.Names words) (codes 
 abbrev policies_of : Bor (List (Bor Text)) → Rule
 policies_of words = option_rule (codes "policy") (value_parser.Names words) (codes "resend" ∷ [])
 
-abbrev workers_of : Bor (List (Bor Text)) → Rule
-workers_of words = option_rule (codes "workers") (value_parser.Names words) (codes "2" ∷ [])
-
 -- the three tasks
 both : App → App → App
 both run race = with_subcommand (with_subcommand (with_subcommand (bare_app (codes "chihome")) run.top) race.top) generate_app.top
 
 -- the program, whose options take these words
-program_of : Bor (List (Bor Text)) → Bor (List (Bor Text)) → Bor (List (Bor Text)) → Bor (List (Bor Text)) → Bor (List (Bor Text)) → App
-program_of v w x y z =
-    both (with_rule (task_of (codes "run") (stores_of v) (policies_of w)) cover_rule) (with_rule (task_of (codes "race") (stores_of x) (policies_of y)) (workers_of z))
+program_of : Bor (List (Bor Text)) → Bor (List (Bor Text)) → Bor (List (Bor Text)) → Bor (List (Bor Text)) → App
+program_of v w x y =
+    both (with_rule (task_of (codes "run") (stores_of v) (policies_of w)) cover_rule) (with_rule (task_of (codes "race") (stores_of x) (policies_of y)) workers_rule)
 
-simple_whatever : (v w x y z : Bor (List (Bor Text))) → is_simple_and_free (program_of v w x y z) ≡ true
+simple_whatever : (v w x y : Bor (List (Bor Text))) → is_simple_and_free (program_of v w x y) ≡ true
 unfolding clap_on_literals program_of both task_of
-simple_whatever v w x y z = refl
+simple_whatever v w x y = refl
 
 -- the name of the subcommand that the arguments name
 name_found : App → List Text → Option Text
 name_found app arguments = option_map (λ p. p.0) (subcommand_of app arguments)
 
 -- where the walk has met a subcommand it leaves the other arguments to it
-raced_whatever : (v w x y z : Bor (List (Bor Text))) (rest : List Text) → name_found (program_of v w x y z) (codes "race" ∷ rest) ≡ Some (codes "race")
+raced_whatever : (v w x y : Bor (List (Bor Text))) (rest : List Text) → name_found (program_of v w x y) (codes "race" ∷ rest) ≡ Some (codes "race")
 unfolding clap_on_literals name_found program_of both task_of
-raced_whatever v w x y z rest =
-    let app = built (program_of v w x y z) in
+raced_whatever v w x y rest =
+    let app = built (program_of v w x y) in
     ap (λ (end : Walk). option_map (λ p. p.0) (entered app end.stopped)) (sym (walk_stopped app.top.rules (names_of app) (walk_from nothing_held) (codes "race") [] rest))
 
-run_whatever : (v w x y z : Bor (List (Bor Text))) (rest : List Text) → name_found (program_of v w x y z) (codes "run" ∷ rest) ≡ Some (codes "run")
+run_whatever : (v w x y : Bor (List (Bor Text))) (rest : List Text) → name_found (program_of v w x y) (codes "run" ∷ rest) ≡ Some (codes "run")
 unfolding clap_on_literals name_found program_of both task_of
-run_whatever v w x y z rest =
-    let app = built (program_of v w x y z) in
+run_whatever v w x y rest =
+    let app = built (program_of v w x y) in
     ap (λ (end : Walk). option_map (λ p. p.0) (entered app end.stopped)) (sym (walk_stopped app.top.rules (names_of app) (walk_from nothing_held) (codes "run") [] rest))
 
-generate_whatever : (v w x y z : Bor (List (Bor Text))) (rest : List Text) → name_found (program_of v w x y z) (codes "generate" ∷ rest) ≡ Some (codes "generate")
+generate_whatever : (v w x y : Bor (List (Bor Text))) (rest : List Text) → name_found (program_of v w x y) (codes "generate" ∷ rest) ≡ Some (codes "generate")
 unfolding clap_on_literals name_found program_of both task_of
-generate_whatever v w x y z rest =
-    let app = built (program_of v w x y z) in
+generate_whatever v w x y rest =
+    let app = built (program_of v w x y) in
     ap (λ (end : Walk). option_map (λ p. p.0) (entered app end.stopped)) (sym (walk_stopped app.top.rules (names_of app) (walk_from nothing_held) (codes "generate") [] rest))
 
 task_is : (name : Text) (app : App) → (t : IsTaskApp name app) → app ≡ task_of name (stores_of t.2.0) (policies_of t.3.0)
@@ -77,17 +74,17 @@ task_is name app t = t.4 ∙ ap₂ (task_of name) t.2.2 t.3.2
 run_is : (app : App) → (t : IsRunApp app) → app ≡ with_rule (task_of (codes "run") (stores_of t.1.2.0) (policies_of t.1.3.0)) cover_rule
 run_is app t = t.2 ∙ ap (λ (task : App). with_rule task cover_rule) (task_is (codes "run") t.0 t.1)
 
-race_is : (app : App) → (t : IsRaceApp app) → app ≡ with_rule (task_of (codes "race") (stores_of t.2.2.0) (policies_of t.2.3.0)) (workers_of t.3.0)
+race_is : (app : App) → (t : IsRaceApp app) → app ≡ with_rule (task_of (codes "race") (stores_of t.1.2.0) (policies_of t.1.3.0)) workers_rule
 unfolding task_of
-race_is app t = t.4 ∙ ap₂ with_rule (task_is (codes "race") t.0 t.2) t.3.2
+race_is app t = t.2 ∙ ap (λ (task : App). with_rule task workers_rule) (task_is (codes "race") t.0 t.1)
 
-program_is : (app : App) → (p : IsProgram app) → app ≡ program_of p.2.1.2.0 p.2.1.3.0 p.3.2.2.0 p.3.2.3.0 p.3.3.0
+program_is : (app : App) → (p : IsProgram app) → app ≡ program_of p.2.1.2.0 p.2.1.3.0 p.3.1.2.0 p.3.1.3.0
 unfolding program_of both
 program_is app p = p.4 ∙ ap₂ both (run_is p.0 p.2) (race_is p.1 p.3)
 
 -- `clap` says what it answers to any arguments
 pub program_is_simple : (app : App) → IsProgram app → is_simple_and_free app ≡ true
-program_is_simple app p = ap is_simple_and_free (program_is app p) ∙ simple_whatever p.2.1.2.0 p.2.1.3.0 p.3.2.2.0 p.3.2.3.0 p.3.3.0
+program_is_simple app p = ap is_simple_and_free (program_is app p) ∙ simple_whatever p.2.1.2.0 p.2.1.3.0 p.3.1.2.0 p.3.1.3.0
 
 -- each name is that of its own task alone
 race_named : (name : Text) (found : List Row) (asked : Asked) → IsNamed name asked → HasOptions found name asked → name ≡ codes "race" → IsWork Race asked
@@ -113,16 +110,16 @@ script_named name word (Script options) generate named is = tt
 module _ (app : App) (arguments : List Text) (name : Text) (found : List Row) (asked : Asked) (p : IsProgram app)
     (is : subcommand_of app arguments ≡ Some (name, found)) (named : IsNamed name asked) (has : HasOptions found name asked) where
   begins_with : (word : Text) → (begins : BeginsWith arguments word)
-      → name_found (program_of p.2.1.2.0 p.2.1.3.0 p.3.2.2.0 p.3.2.3.0 p.3.3.0) (word ∷ begins.0) ≡ Some word → name ≡ word
+      → name_found (program_of p.2.1.2.0 p.2.1.3.0 p.3.1.2.0 p.3.1.3.0) (word ∷ begins.0) ≡ Some word → name ≡ word
   unfolding name_found
   begins_with word begins first =
       ap (λ n. unwrap_or n name) (ap (option_map (λ p. p.0)) (sym is) ∙ (ap₂ name_found (program_is app p) begins.1 ∙ first))
 
   pub named_first : IsNamedFirst arguments asked
   named_first = (
-    λ race. race_named name found asked named has (begins_with (codes "race") race (raced_whatever p.2.1.2.0 p.2.1.3.0 p.3.2.2.0 p.3.2.3.0 p.3.3.0 race.0)),
-    λ run. run_named name found asked named has (begins_with (codes "run") run (run_whatever p.2.1.2.0 p.2.1.3.0 p.3.2.2.0 p.3.2.3.0 p.3.3.0 run.0)),
-    λ generate. script_named name (codes "generate") asked refl named (begins_with (codes "generate") generate (generate_whatever p.2.1.2.0 p.2.1.3.0 p.3.2.2.0 p.3.2.3.0 p.3.3.0 generate.0)),
+    λ race. race_named name found asked named has (begins_with (codes "race") race (raced_whatever p.2.1.2.0 p.2.1.3.0 p.3.1.2.0 p.3.1.3.0 race.0)),
+    λ run. run_named name found asked named has (begins_with (codes "run") run (run_whatever p.2.1.2.0 p.2.1.3.0 p.3.1.2.0 p.3.1.3.0 run.0)),
+    λ generate. script_named name (codes "generate") asked refl named (begins_with (codes "generate") generate (generate_whatever p.2.1.2.0 p.2.1.3.0 p.3.1.2.0 p.3.1.3.0 generate.0)),
   )
 
 -- what `clap` refuses

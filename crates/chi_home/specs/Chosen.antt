@@ -1,17 +1,16 @@
 -- which task and which options the arguments name
 use Rattle.std.specs.Prelude.{◌≡◌, ℕ, ◌&&◌, Bool, true, false, nat_le, if◌then◌else◌, List, Some, codes}
-use Rattle.std.specs.Option.{option_map_or}
+use Rattle.std.specs.Option.{option_map_or, unwrap_or}
 use Rattle.std.specs.Str.{bytes_eq}
 use Rattle.clap.specs.Walk.{Row, Text, byte_or_zero, one_of}
 use Rattle.clap.specs.Simple.{App, subcommand_of}
 use Rattle.chi_requester.specs.declared.policy.Policy.{Policy}
 use Rattle.chi_requester.specs.declared.policy.Policy.TheVariants.{Resend, Return}
 use Rattle.chi_engine.specs.declared.options.Options.{Options}
-use Rattle.chi_engine.specs.declared.options.StoreKind.{StoreKind}
-use Rattle.chi_engine.specs.declared.options.StoreKind.TheVariants.{Lock, Book}
-use Rattle.chi_engine.specs.declared.options.Workers.{Workers}
-use Rattle.chi_engine.specs.declared.options.Workers.TheVariants.{Two, Four}
-use Rattle.chi_bookstore.specs.BookFaults.{IsAttemptCount}
+use Rattle.chi_engine.specs.declared.options.Store.{Store}
+use Rattle.chi_engine.specs.declared.options.Store.TheVariants.{Lock, Book}
+use Rattle.chi_engine.specs.Store.{Opens}
+use Rattle.chi_engine.specs.WorkerCount.{workers_of_count}
 use Rattle.chi_home.specs.Generating.{HasGenerateOptions}
 use Rattle.chi_home.specs.declared.command.Asked.{Asked}
 use Rattle.chi_home.specs.declared.command.Asked.TheVariants.{Work, Script}
@@ -24,17 +23,9 @@ use Rattle.chi_program.specs.Found.{BeginsWith, has_word}
 abbrev pub task_named : Text → List Row → Task
 task_named name found = if bytes_eq name (codes "race") then Race else if has_word found (codes "cover") (codes "true") then Cover else Run
 
--- `--store lock`, or any other word
-abbrev pub store_of : List Row → StoreKind
-store_of found = if has_word found (codes "store") (codes "lock") then Lock else Book
-
 -- `--policy return`, or any other word
 abbrev pub policy_of : List Row → Policy
 policy_of found = if has_word found (codes "policy") (codes "return") then Return else Resend
-
--- `--workers 4`, or any other word
-abbrev pub workers_of : List Row → Workers
-workers_of found = if has_word found (codes "workers") (codes "4") then Four else Two
 
 -- the number if it is 1 to 16
 abbrev pub tries_or_four : ℕ → ℕ
@@ -44,16 +35,28 @@ tries_or_four n = if nat_le 1 n && nat_le n 16 then n else 4
 abbrev pub attempts_of : List Row → ℕ
 attempts_of found = tries_or_four (option_map_or byte_or_zero (one_of (codes "attempts") found) 0)
 
+-- `--store lock`, or any other word, with the tries
+abbrev pub store_of : List Row → Store
+store_of found = if has_word found (codes "store") (codes "lock") then Lock else Book (attempts_of found)
+
+-- the number if it is 1 to 7
+abbrev pub workers_or_two : ℕ → ℕ
+workers_or_two n = unwrap_or (workers_of_count n) 2
+
+-- the number after `--workers`
+abbrev pub workers_of : List Row → ℕ
+workers_of found = workers_or_two (option_map_or byte_or_zero (one_of (codes "workers") found) 0)
+
 -- only a race is told its workers
-abbrev pub workers_for : Task → List Row → Workers
-workers_for Run found = Two
+abbrev pub workers_for : Task → List Row → ℕ
+workers_for Run found = 2
 workers_for Race found = workers_of found
-workers_for Cover found = Two
+workers_for Cover found = 2
 
 -- the options of a task, as they were found
 abbrev pub options_of_task : Task → List Row → Options
 options_of_task task found =
-    record { store = store_of found; attempts = attempts_of found; policy = policy_of found; workers = workers_for task found }
+    record { store = store_of found; policy = policy_of found; workers = workers_for task found }
 
 -- in these arguments `clap` finds the subcommand of this name, and this of its options, by use or by default
 abbrev pub Finds : List Text → Text → List Row → Type 0
@@ -77,9 +80,9 @@ HasOptions found name (Script options) = HasGenerateOptions found options
 abbrev pub IsChosen : List Text → Asked → Type 0
 IsChosen arguments asked = (name : Text) × (found : List Row) × Finds arguments name found × IsNamed name asked × HasOptions found name asked
 
--- a request of the work is tried 1 to 16 times
+-- the store of the work opens with its tries: with 1 to 16, where it counts them
 abbrev pub HasAttempts : Asked → Type 0
-HasAttempts (Work task options) = IsAttemptCount options.attempts
+HasAttempts (Work task options) = Opens options.store
 HasAttempts (Script options) = Unit {0}
 
 -- it is this task that is asked for

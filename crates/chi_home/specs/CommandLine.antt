@@ -24,11 +24,13 @@ IsTaskApp name app =
     × (app ≡ with_rule (with_rule (with_rule (new_app name) store)
     (option_rule (codes "attempts") (value_parser.Signed (pos 1) (pos 16)) (codes "4" ∷ []))) policy)
 
--- the task of a race: its workers are two or four, too
+-- a race may be told its workers, 1 to 7
+abbrev pub workers_rule : Rule
+workers_rule = option_rule (codes "workers") (value_parser.Signed (pos 1) (pos 7)) (codes "2" ∷ [])
+
+-- the task of a race: it has these, too
 abbrev pub IsRaceApp : App → Type 0
-IsRaceApp app =
-    (task : App) × (workers : Rule) × IsTaskApp (codes "race") task
-    × IsChoice (codes "workers") (codes "2" ∷ codes "4" ∷ []) (codes "2") workers × (app ≡ with_rule task workers)
+IsRaceApp app = (task : App) × IsTaskApp (codes "race") task × (app ≡ with_rule task workers_rule)
 
 -- a run may be asked for what its requests covered
 abbrev pub cover_rule : Rule

@@ -1,7 +1,6 @@
 -- what the program does with a script, by its task
 use Rattle.std.specs.Prelude.{◌≡◌, ℕ, ◌⊎◌, List, Option, Result, Ok, Err, IfSome}
 use Rattle.clap.specs.Walk.{Text}
-use Rattle.chi_bookstore.specs.BookFaults.{IsAttemptCount}
 use Rattle.chi_history.specs.declared.opening.OpenFault.TheVariants as open_fault
 use Rattle.chi_home.specs.Generating.{WritesScript, generate_status}
 use Rattle.chi_home.specs.declared.generation.GenerateFault.{GenerateFault}
@@ -17,6 +16,7 @@ use Rattle.chi_home.specs.Chosen.{IsChosen}
 use Rattle.chi_home.specs.CommandLine.{IsTaken, IsArgumentsFault}
 use Rattle.chi_engine.specs.Cover.{CoverOutcome}
 use Rattle.chi_engine.specs.Engine.{KeepsUnexecuted, ReportsOpening}
+use Rattle.chi_engine.specs.Store.{Opens}
 use Rattle.chi_engine.specs.RaceTranscript.{RaceOutcome}
 use Rattle.chi_engine.specs.Run.{Outcome}
 use Rattle.chi_engine.specs.FaultStatus.{status_of}
@@ -36,7 +36,7 @@ end_status (Err fault) = status_of fault
 -- input where the reader's bytes are known.
 abbrev pub Ends : Task → Options → Option (List ℕ) → Option (List ℕ) → Option (List ℕ) → ℕ → Type 0
 Ends task options input old new status =
-    (result : Result (Unit {0}) EngineFault) × ReportsOpening options result × KeepsUnexecuted old new result
+    (result : Result (Unit {0}) EngineFault) × ReportsOpening options.store result × KeepsUnexecuted old new result
     × IfSome input (λ bytes. TaskOutcome task options bytes old new result) × (status ≡ end_status result)
 
 -- the opening of a store was refused neither for its requesters nor for its tries
@@ -45,13 +45,13 @@ IsUnrefused (Err (Open open_fault.RequesterCount)) = ⊥
 IsUnrefused (Err (Open open_fault.AttemptCount)) = ⊥
 IsUnrefused result = Unit {0}
 
--- The arguments name this task with these options, of 1 to 16 tries: `clap` finds no fault in them. The task came to an
+-- The arguments name this task with these options, whose store opens with its tries: `clap` finds no fault in them. The task came to an
 -- outcome of this status, which is never that the store was refused for its requesters or for its tries.
 abbrev pub DoesTask : List Text → Option (List ℕ) → Option (List ℕ) → Option (List ℕ) → ℕ → Type 0
 DoesTask arguments input old new status =
     IsTaken arguments × (task : Task) × (options : Options) × IsChosen arguments (Work task options)
     × (result : Result (Unit {0}) EngineFault)
-    × IsAttemptCount options.attempts × IsUnrefused result × KeepsUnexecuted old new result
+    × Opens options.store × IsUnrefused result × KeepsUnexecuted old new result
     × IfSome input (λ bytes. TaskOutcome task options bytes old new result) × (status ≡ end_status result)
 
 -- 0 where a script was made, else the status of the fault

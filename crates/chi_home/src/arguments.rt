@@ -27,7 +27,7 @@ fn do_task<T: AllocGlobal + Threads + Wait + Sync, R: Read, W: Write>(
     to: &mut W,
 ) -> Result<(), EngineFault>
     ensures outcome { IfSome (R.remaining from.old) (λ input. TaskOutcome task options.now input (W.contents to.old) (W.contents to.new) result) }
-    ensures opening { ReportsOpening options.now result }
+    ensures opening { ReportsOpening options.now.store result }
     ensures unexecuted { KeepsUnexecuted (W.contents to.old) (W.contents to.new) result }
 {
     match task {
@@ -46,7 +46,7 @@ fn run_task<T: AllocGlobal + Threads + Wait + Sync, R: Read, W: Write>(
     to: &mut W,
 ) -> Result<(), EngineFault>
     ensures outcome { IfSome (R.remaining from.old) (λ input. TaskOutcome task options.now input (W.contents to.old) (W.contents to.new) result) }
-    ensures opening { ReportsOpening options.now result }
+    ensures opening { ReportsOpening options.now.store result }
     ensures unexecuted { KeepsUnexecuted (W.contents to.old) (W.contents to.new) result }
 {
     do_task(rt, task, options, from, to)?;
@@ -93,17 +93,17 @@ fn end_generate<W: Write, E: Write>(
 // Does what is asked for, and reports its fault. The status is 0 where it was done.
 fn end_asked<T: AllocGlobal + Threads + Wait + Sync, R: Read, W: Write, E: Write>(
     rt: &T,
-    asked: Asked<'_>,
+    asked: &Asked<'_>,
     from: &mut R,
     to: &mut W,
     errors: &mut E,
 ) -> u8
-    ensures ends { EndsAsked asked.entry (R.remaining from.old) (W.contents to.old) (W.contents to.new) result }
+    ensures ends { EndsAsked asked.now (R.remaining from.old) (W.contents to.old) (W.contents to.new) result }
     ensures status { IsStatus result }
 {
     match asked {
-        Asked::Work(task, options) => end_task(rt, task, &options, from, to, errors),
-        Asked::Script(options) => end_generate(rt.alloc(), &options, to, errors),
+        Asked::Work(task, options) => end_task(rt, *task, options, from, to, errors),
+        Asked::Script(options) => end_generate(rt.alloc(), options, to, errors),
     }
 }
 
@@ -125,7 +125,7 @@ pub fn run_words<T: AllocGlobal + Threads + Wait + Sync, R: Read, W: Write, E: W
     ensures status { IsStatus result }
 {
     match asked_of(rt.alloc(), arguments) {
-        Ok(asked) => end_asked(rt, asked, from, to, errors),
+        Ok(asked) => end_asked(rt, &asked, from, to, errors),
         Err(error) => report_arguments::<HomeFault, _, _>(PROGRAM, &error, to, errors),
     }
 }

@@ -6,12 +6,13 @@ ghost use Rattle.clap.specs.Simple.{app_of};
 ghost use Rattle.clap.specs.Values.{kind_of};
 ghost use Rattle.clap.specs.Walk.{rows_of};
 ghost use Rattle.clap.specs.declared.builder.value_parser.ValueParser.TheVariants as value_parser;
+ghost use Rattle.chi_engine.specs.Store.{Opens};
 ghost use Rattle.chi_home.specs.Chosen.{HasAttempts, HasOptions, IsChosen, IsNamed, IsNamedFirst, attempts_of, options_of_task, policy_of, store_of, task_named, workers_of};
 ghost use Rattle.chi_home.specs.CommandLine.{IsProgram, IsRaceApp, IsRunApp, IsTaken, IsTaskApp, IsArgumentsFault};
 
 use crate::generation::{GenerateOptions, generate_command, generate_options};
 use chi_bookstore::MOST_ATTEMPTS;
-use chi_engine::{Options, StoreKind, Workers};
+use chi_engine::{Options, Store, Workers};
 use chi_program::{bare_command, has_word, is_switched, switch, value_option_or};
 use chi_requester::Policy;
 use clap::builder::ValueParser;
@@ -59,7 +60,7 @@ Statuses: 0 done; 2 command line refused; 3 script or opening refused; 4 no memo
 const RUN_ABOUT: &str = "Executes the requests in the order of the script, by one thread";
 
 const RACE_ABOUT: &str =
-    "Executes the requests of 1 and 2, or of 1 to 4, at the same time, each in order, and then those of 0";
+    "Executes the requests of 1 and 2, or of 1 to WORKERS, at the same time, each in order, and then those of 0";
 
 // One of these words.
 fn one_of<'a>(words: &'a [&'a str]) -> ValueParser<'a>
@@ -128,9 +129,9 @@ fn race_command<'a>(alloc: Global) -> Result<Command<'a>, Error>
         alloc,
         "workers",
         "WORKERS",
-        one_of(["2", "4"].as_slice()),
+        value_parser!(u8).range(1..=7),
         "2",
-        "How many requesters work at the same time: 1 and 2, or 1 to 4",
+        "How many requesters work at the same time, 1 to 7: those of the numbers from 1 on",
     );
     Ok(task_command(alloc, "race", RACE_ABOUT)?.arg(workers)?)
 }
@@ -145,17 +146,6 @@ fn whole_command<'a>(alloc: Global) -> Result<Command<'a>, Error>
             .subcommand(race_command(alloc)?)?
             .subcommand(generate_command(alloc)?)?,
     )
-}
-
-// The store that a subcommand was given.
-fn chosen_store(chosen: &ArgMatches<'_>) -> StoreKind
-    ensures { result ≡ store_of (rows_of (found_of chosen.now)) }
-{
-    if has_word(chosen, "store", "lock") {
-        StoreKind::Lock
-    } else {
-        StoreKind::Book
-    }
 }
 
 // What requesters do after RetryAck.
@@ -181,15 +171,26 @@ fn chosen_attempts(chosen: &ArgMatches<'_>) -> u8
     }
 }
 
-// How many workers a race was given.
+// The store that a subcommand was given, with its tries.
+fn chosen_store(chosen: &ArgMatches<'_>) -> Store
+    ensures store { result ≡ store_of (rows_of (found_of chosen.now)) }
+    ensures opens { Opens result }
+{
+    if has_word(chosen, "store", "lock") {
+        Store::Lock
+    } else {
+        Store::Book {
+            attempts: chosen_attempts(chosen),
+        }
+    }
+}
+
+// How many workers a race was given. `clap` lets no number through that is not 1 to 7.
 fn chosen_workers(chosen: &ArgMatches<'_>) -> Workers
     ensures { result ≡ workers_of (rows_of (found_of chosen.now)) }
 {
-    if has_word(chosen, "workers", "4") {
-        Workers::Four
-    } else {
-        Workers::Two
-    }
+    let count = chosen.get_one::<u8>("workers").unwrap_or(0);
+    Workers::new(count).unwrap_or(Workers::TWO)
 }
 
 // The options of a task that a subcommand was given, or that stand in for them.
@@ -197,12 +198,11 @@ fn chosen_options(task: Task, chosen: &ArgMatches<'_>) -> Options
     ensures { result ≡ options_of_task task (rows_of (found_of chosen.now)) }
 {
     let workers = match task {
-        Task::Run | Task::Cover => Workers::Two,
+        Task::Run | Task::Cover => Workers::TWO,
         Task::Race => chosen_workers(chosen),
     };
     Options {
         store: chosen_store(chosen),
-        attempts: chosen_attempts(chosen),
         policy: chosen_policy(chosen),
         workers,
     }
