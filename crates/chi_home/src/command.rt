@@ -80,7 +80,7 @@ fn task_command<'a>(alloc: Global, name: &'a str, about: &'a str) -> Result<Comm
         "STORE",
         one_of(["lock", "book"].as_slice()),
         "book",
-        "At most 8 granules under a lock, or a row of at most 512 without one",
+        "book: a row of at most 512 words, each changed by one exchange; lock: at most 8 under a lock",
     );
     let attempts = value_option_or(
         alloc,
