@@ -1,10 +1,10 @@
-//! Whether a line tells what is wanted.
+//! What a line tells, and its fault, beside what is wanted.
 
 use chi_event_text::{LineFault, read_event};
 use chi_events::EventKind;
 use chi_reading::Asked;
 use chi_verdict::GranuleWord;
-use std::alloc::Global;
+use std::process::Abort;
 
 fn same_asked(asked: &Asked, want: &Asked) -> bool {
     asked.src == want.src
@@ -48,15 +48,17 @@ fn same_kind(kind: &EventKind, want: &EventKind) -> bool {
     }
 }
 
-/// Whether a line tells this, at time 70.
-pub(crate) fn tells(alloc: Global, line: &str, want: &EventKind) -> bool {
-    match read_event(alloc, line.as_bytes()) {
-        Ok(event) => event.time == 70 && same_kind(&event.kind, want),
+/// Compares what a line tells, at time 70.
+pub(crate) fn assert_tells<R: AllocGlobal + Abort>(rt: &R, line: &str, want: EventKind) {
+    let is_told = match read_event(rt.alloc(), line.as_bytes()) {
+        Ok(event) => event.time == 70 && same_kind(&event.kind, &want),
         Err(_) => false,
-    }
+    };
+    assert!(*rt; is_told, "{line}");
 }
 
-/// The fault of a line; `None` where it has none.
-pub(crate) fn fault_of(alloc: Global, line: &str) -> Option<LineFault> {
-    read_event(alloc, line.as_bytes()).err()
+/// Compares the fault of a line.
+pub(crate) fn assert_fault<R: AllocGlobal + Abort>(rt: &R, line: &str, want: LineFault) {
+    let fault = read_event(rt.alloc(), line.as_bytes()).err();
+    assert_eq!(*rt; fault, Some(want), "{line}");
 }

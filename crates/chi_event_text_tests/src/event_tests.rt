@@ -1,6 +1,6 @@
 //! Each kind of event but a request, and members that are ignored.
 
-use crate::comparison::tells;
+use crate::comparison::assert_tells;
 use chi_event_text::read_event;
 use chi_events::{Completion, EventKind, Packet};
 use chi_lanes::Reply;
@@ -16,7 +16,7 @@ fn data_of_a_request(rt: HostRuntime) {
         be: 65535,
         lanes: [0, 1, 2, 3, 4, 5, 6, 7, 8, 9, 10, 11, 12, 13, 14, 15],
     };
-    assert!(rt; tells(rt.alloc(), line, &EventKind::Data(packet)));
+    assert_tells(&rt, line, EventKind::Data(packet));
 }
 
 #[test]
@@ -32,21 +32,14 @@ fn completions(rt: HostRuntime) {
         ),
         (r#"{"time":70,"event":"reply","id":3,"reply":null}"#, None),
     ] {
-        assert!(rt;
-            tells(
-                rt.alloc(),
-                line,
-                &EventKind::Reply(Completion { id: 3, reply })
-            ),
-            "{line}"
-        );
+        assert_tells(&rt, line, EventKind::Reply(Completion { id: 3, reply }));
     }
 }
 
 #[test]
 fn dropped_request(rt: HostRuntime) {
     let line = r#"{"time":70,"event":"dropped","id":0}"#;
-    assert!(rt; tells(rt.alloc(), line, &EventKind::Dropped { id: 0 }));
+    assert_tells(&rt, line, EventKind::Dropped { id: 0 });
 }
 
 // The bytes are in address order, so the first is the least of the word.
@@ -70,7 +63,7 @@ fn words(rt: HostRuntime) {
             EventKind::Final(word),
         ),
     ] {
-        assert!(rt; tells(rt.alloc(), line, &want), "{line}");
+        assert_tells(&rt, line, want);
     }
 }
 
@@ -81,7 +74,7 @@ fn last_granule(rt: HostRuntime) {
         granule: 562949953421311,
         word: 0,
     };
-    assert!(rt; tells(rt.alloc(), line, &EventKind::Word(word)));
+    assert_tells(&rt, line, EventKind::Word(word));
 }
 
 #[test]
@@ -98,10 +91,7 @@ fn unknown_bytes(rt: HostRuntime) {
             4096,
         ),
     ] {
-        assert!(rt;
-            tells(rt.alloc(), line, &EventKind::Unknown { addr, length }),
-            "{line}"
-        );
+        assert_tells(&rt, line, EventKind::Unknown { addr, length });
     }
 }
 
@@ -111,10 +101,7 @@ fn members_that_are_ignored(rt: HostRuntime) {
         r#"{"time":70,"event":"dropped","id":3,"x-note":{"id":[4]}}"#,
         r#"{"x-":0,"id":3,"event":"dropped","x-x":null,"time":70}"#,
     ] {
-        assert!(rt;
-            tells(rt.alloc(), line, &EventKind::Dropped { id: 3 }),
-            "{line}"
-        );
+        assert_tells(&rt, line, EventKind::Dropped { id: 3 });
     }
 }
 
@@ -122,7 +109,7 @@ fn members_that_are_ignored(rt: HostRuntime) {
 #[test]
 fn member_told_twice(rt: HostRuntime) {
     let line = r#"{"time":70,"event":"dropped","id":"none","id":3}"#;
-    assert!(rt; tells(rt.alloc(), line, &EventKind::Dropped { id: 3 }));
+    assert_tells(&rt, line, EventKind::Dropped { id: 3 });
 }
 
 #[test]

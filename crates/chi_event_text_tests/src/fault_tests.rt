@@ -1,10 +1,18 @@
 //! The faults of a line, and their texts.
 
-use crate::comparison::fault_of;
+use crate::comparison::assert_fault;
 use chi_event_text::LineFault;
 use chi_reading::MemberName;
 use chi_script::Member;
+use std::process::Abort;
 use std::test::Fail;
+
+// Compares the text of a fault.
+fn assert_text<R: AllocGlobal + Abort>(rt: &R, fault: LineFault, wanted: &str) -> Result<(), Fail> {
+    let text = format!(in rt.alloc(); "{fault}")?;
+    assert!(*rt; text.as_str() == wanted, "{wanted}");
+    Ok(())
+}
 
 #[test]
 fn faults_and_their_texts(rt: HostRuntime) -> Result<(), Fail> {
@@ -57,14 +65,10 @@ fn faults_and_their_texts(rt: HostRuntime) -> Result<(), Fail> {
             "has an unknown member note",
         ),
     ] {
-        assert_eq!(rt; fault_of(rt.alloc(), line), Some(fault), "{line}");
-        assert_eq!(rt; format!(in rt.alloc(); "{fault}")?.as_str(), text);
+        assert_fault(&rt, line, fault);
+        assert_text(&rt, fault, text)?;
     }
-    assert_eq!(rt;
-        format!(in rt.alloc(); "{}", LineFault::Memory)?.as_str(),
-        "no memory"
-    );
-    Ok(())
+    assert_text(&rt, LineFault::Memory, "no memory")
 }
 
 #[test]
@@ -118,11 +122,7 @@ fn bad_members(rt: HostRuntime) {
             Member::Length,
         ),
     ] {
-        assert_eq!(rt;
-            fault_of(rt.alloc(), line),
-            Some(LineFault::BadMember(member)),
-            "{line}"
-        );
+        assert_fault(&rt, line, LineFault::BadMember(member));
     }
 }
 
@@ -138,11 +138,7 @@ fn missing_members(rt: HostRuntime) {
         (r#"{"event":"word","time":70}"#, Member::Addr),
         (r#"{"event":"unknown","time":70}"#, Member::Addr),
     ] {
-        assert_eq!(rt;
-            fault_of(rt.alloc(), line),
-            Some(LineFault::Missing(member)),
-            "{line}"
-        );
+        assert_fault(&rt, line, LineFault::Missing(member));
     }
 }
 
@@ -177,11 +173,7 @@ fn members_of_other_events(rt: HostRuntime) {
         (r#"{"event":"dropped","time":70,"id":3,"x":0}"#, "x"),
         (r#"{"event":"dropped","time":70,"id":3,"":0}"#, ""),
     ] {
-        assert_eq!(rt;
-            fault_of(rt.alloc(), line),
-            Some(LineFault::UnknownMember(MemberName::of(name))),
-            "{line}"
-        );
+        assert_fault(&rt, line, LineFault::UnknownMember(MemberName::of(name)));
     }
 }
 
@@ -202,6 +194,6 @@ fn first_fault(rt: HostRuntime) {
             LineFault::BadMember(Member::Lanes),
         ),
     ] {
-        assert_eq!(rt; fault_of(rt.alloc(), line), Some(fault), "{line}");
+        assert_fault(&rt, line, fault);
     }
 }

@@ -1,6 +1,6 @@
 //! Requests with and without data.
 
-use crate::comparison::{fault_of, tells};
+use crate::comparison::{assert_fault, assert_tells};
 use chi_event_text::LineFault;
 use chi_events::{EventKind, Requested};
 use chi_reading::Asked;
@@ -24,7 +24,7 @@ fn request_with_data(rt: HostRuntime) {
         },
         has_data: true,
     };
-    assert!(rt; tells(rt.alloc(), line, &EventKind::Request(requested)));
+    assert_tells(&rt, line, EventKind::Request(requested));
 }
 
 #[test]
@@ -45,7 +45,7 @@ fn request_without_data(rt: HostRuntime) {
         },
         has_data: false,
     };
-    assert!(rt; tells(rt.alloc(), line, &EventKind::Request(requested)));
+    assert_tells(&rt, line, EventKind::Request(requested));
 }
 
 #[test]
@@ -60,7 +60,7 @@ fn half_of_the_data(rt: HostRuntime) {
             LineFault::Missing(Member::Be),
         ),
     ] {
-        assert_eq!(rt; fault_of(rt.alloc(), line), Some(fault), "{line}");
+        assert_fault(&rt, line, fault);
     }
 }
 
@@ -104,11 +104,7 @@ fn bad_members(rt: HostRuntime) {
             Member::Lanes,
         ),
     ] {
-        assert_eq!(rt;
-            fault_of(rt.alloc(), line),
-            Some(LineFault::BadMember(member)),
-            "{line}"
-        );
+        assert_fault(&rt, line, LineFault::BadMember(member));
     }
 }
 
@@ -138,10 +134,6 @@ fn missing_members(rt: HostRuntime) {
             Member::Endian,
         ),
     ] {
-        assert_eq!(rt;
-            fault_of(rt.alloc(), line),
-            Some(LineFault::Missing(member)),
-            "{line}"
-        );
+        assert_fault(&rt, line, LineFault::Missing(member));
     }
 }

@@ -1,13 +1,15 @@
 //! The faults of an event, and their texts.
 
+use crate::comparison::assert_same;
 use crate::home::{
-    ENABLES, LANES, OLD, data, is_load_of, load_with_data, load_without_data, none_ends, read,
-    reply, take,
+    ENABLES, LANES, OLD, after, answer, assert_load, data, load_with_data, load_without_data, read,
+    reply, take, take_each,
 };
 use chi_events::{EventFault, EventKind, Outstanding, Requested};
 use chi_fields::Refusal;
 use chi_lanes::Reply;
 use chi_reading::{Asked, ReplyFault};
+use std::process::Abort;
 use std::test::Fail;
 
 /// A request with its data.
@@ -28,16 +30,29 @@ fn request(opcode: u8, size: u8, addr: u64, be: u16) -> EventKind {
     })
 }
 
+// Compares the text of a fault.
+fn assert_text<R: AllocGlobal + Abort>(
+    rt: &R,
+    fault: EventFault,
+    wanted: &str,
+) -> Result<(), Fail> {
+    let text = format!(in rt.alloc(); "{fault}")?;
+    assert_same(rt, text.as_str(), wanted);
+    Ok(())
+}
+
 // Request 1 has its data, request 2 waits for them, and so does request 3, whose completion has left. Request 4 needs none.
 // After a fault nothing has changed.
 #[test]
 fn faults_and_their_texts(rt: HostRuntime) -> Result<(), Fail> {
-    let mut outstanding = Outstanding::new(rt.alloc());
-    assert!(rt; none_ends(&mut outstanding, 10, load_with_data(1)));
-    assert!(rt; none_ends(&mut outstanding, 11, load_without_data(2)));
-    assert!(rt; none_ends(&mut outstanding, 12, load_without_data(3)));
-    assert!(rt; none_ends(&mut outstanding, 13, reply(3, Some(Reply::CompData(OLD)))));
-    assert!(rt; none_ends(&mut outstanding, 14, read(4, 4096)));
+    let events = [
+        (10, load_with_data(1)),
+        (11, load_without_data(2)),
+        (12, load_without_data(3)),
+        (13, answer(3)),
+        (14, read(4, 4096)),
+    ];
+    let mut outstanding = after(rt.alloc(), &events)?;
     let before = format!(in rt.alloc(); "{:?}", outstanding.requests())?;
     for (time, kind, fault, text) in [
         (
@@ -95,16 +110,13 @@ fn faults_and_their_texts(rt: HostRuntime) -> Result<(), Fail> {
             "is refused: Misaligned",
         ),
     ] {
-        assert_eq!(rt; take(&mut outstanding, time, kind).err(), Some(fault));
-        assert_eq!(rt; format!(in rt.alloc(); "{fault}")?.as_str(), text);
+        let found = take(&mut outstanding, time, kind).err();
+        assert_same(&rt, (text, found), (text, Some(fault)));
+        assert_text(&rt, fault, text)?;
         let after = format!(in rt.alloc(); "{:?}", outstanding.requests())?;
-        assert!(rt; after == before, "{text}");
+        assert_same(&rt, after.as_str(), before.as_str());
     }
-    assert_eq!(rt;
-        format!(in rt.alloc(); "{}", EventFault::Memory)?.as_str(),
-        "no memory"
-    );
-    Ok(())
+    assert_text(&rt, EventFault::Memory, "no memory")
 }
 
 // Such a reply is refused where the request has its data, whatever the memory holds. Lane 7 is before the operand.
@@ -132,27 +144,28 @@ fn replies_that_no_home_gives(rt: HostRuntime) -> Result<(), Fail> {
             "ends a request that has a reply with a byte outside its operand",
         ),
     ] {
-        let mut outstanding = Outstanding::new(rt.alloc());
-        assert!(rt; none_ends(&mut outstanding, 10, request(opcode, 3, 4104, ENABLES)));
+        let asked = request(opcode, 3, 4104, ENABLES);
+        let mut outstanding = after(rt.alloc(), &[(10, asked)])?;
         let found = take(&mut outstanding, 11, reply(9, Some(sent))).err();
-        assert_eq!(rt; found, Some(EventFault::Reply(fault)));
-        let shown = format!(in rt.alloc(); "{}", EventFault::Reply(fault))?;
-        assert_eq!(rt; shown.as_str(), text);
+        let fault = EventFault::Reply(fault);
+        assert_same(&rt, (opcode, found), (opcode, Some(fault)));
+        assert_text(&rt, fault, text)?;
     }
     Ok(())
 }
 
 // Where the data come last it is they that are refused. A request that is dropped before has no reply that counts.
 #[test]
-fn data_after_a_reply_that_no_home_gives(rt: HostRuntime) {
-    let mut outstanding = Outstanding::new(rt.alloc());
-    assert!(rt; none_ends(&mut outstanding, 10, load_without_data(3)));
-    assert!(rt; none_ends(&mut outstanding, 11, reply(3, Some(Reply::Comp))));
-    assert_eq!(rt;
-        take(&mut outstanding, 12, data(3, ENABLES)).err(),
-        Some(EventFault::Reply(ReplyFault::WithoutData))
-    );
-    assert!(rt; none_ends(&mut outstanding, 12, EventKind::Dropped { id: 3 }));
+fn data_after_a_reply_that_no_home_gives(rt: HostRuntime) -> Result<(), Fail> {
+    let events = [
+        (10, load_without_data(3)),
+        (11, reply(3, Some(Reply::Comp))),
+    ];
+    let mut outstanding = after(rt.alloc(), &events)?;
+    let found = take(&mut outstanding, 12, data(3, ENABLES)).err();
+    let fault = EventFault::Reply(ReplyFault::WithoutData);
+    assert_same(&rt, found, Some(fault));
+    take_each(&mut outstanding, &[(12, EventKind::Dropped { id: 3 })])
 }
 
 // A request that a home refuses is not taken.
@@ -210,10 +223,10 @@ fn refusals(rt: HostRuntime) -> Result<(), Fail> {
         ),
     ] {
         let fault = EventFault::Refused(refusal);
-        let result = take(&mut outstanding, 5, request(opcode, size, addr, be));
-        assert_eq!(rt; result.err(), Some(fault), "{text}");
-        assert_eq!(rt; format!(in rt.alloc(); "{fault}")?.as_str(), text);
-        assert_eq!(rt; outstanding.requests().len(), 0);
+        let found = take(&mut outstanding, 5, request(opcode, size, addr, be)).err();
+        let left = outstanding.requests().len();
+        assert_same(&rt, (text, found, left), (text, Some(fault), 0));
+        assert_text(&rt, fault, text)?;
     }
     Ok(())
 }
@@ -221,15 +234,13 @@ fn refusals(rt: HostRuntime) -> Result<(), Fail> {
 // The request waits on for its data, where those that came are refused.
 #[test]
 fn refused_data(rt: HostRuntime) -> Result<(), Fail> {
-    let mut outstanding = Outstanding::new(rt.alloc());
-    assert!(rt; none_ends(&mut outstanding, 10, load_without_data(3)));
-    assert!(rt; none_ends(&mut outstanding, 11, reply(3, Some(Reply::CompData(OLD)))));
-    assert_eq!(rt;
-        take(&mut outstanding, 12, data(3, 0x00ff)).err(),
-        Some(EventFault::Refused(Refusal::BadByteEnable))
-    );
-    assert_eq!(rt; outstanding.requests().len(), 1);
+    let events = [(10, load_without_data(3)), (11, answer(3))];
+    let mut outstanding = after(rt.alloc(), &events)?;
+    let found = take(&mut outstanding, 12, data(3, 0x00ff)).err();
+    let fault = EventFault::Refused(Refusal::BadByteEnable);
+    let left = outstanding.requests().len();
+    assert_same(&rt, (found, left), (Some(fault), 1));
     let ended = take(&mut outstanding, 13, data(3, ENABLES))?;
-    assert!(rt; is_load_of(&ended, 10, 13, Some(Reply::CompData(OLD))));
+    assert_load(&rt, ended, (10, 13), Some(Reply::CompData(OLD)));
     Ok(())
 }

@@ -1,10 +1,14 @@
 //! Requests, data and completions of a home, and what is wanted of an operation.
 
+use crate::comparison::assert_same;
 use chi_events::{Completion, Event, EventFault, EventKind, Outstanding, Packet, Requested};
 use chi_fields::{Access, Kind, Op};
 use chi_lanes::Reply;
 use chi_reading::Asked;
 use chi_trace::Observed;
+use std::alloc::Global;
+use std::process::Abort;
+use std::test::Fail;
 
 // Address 4104 is in lane 8 of its packet, so its eight bytes are lanes 8 to 15.
 pub(crate) const LANES: [u8; 16] = [0, 0, 0, 0, 0, 0, 0, 0, 5, 0, 0, 0, 0, 0, 0, 0];
@@ -87,9 +91,29 @@ pub(crate) fn take(
     outstanding.take(&Event { time, kind })
 }
 
-/// Whether no operation ended by it.
-pub(crate) fn none_ends(outstanding: &mut Outstanding, time: u64, kind: EventKind) -> bool {
-    matches!(take(outstanding, time, kind), Ok(None))
+/// Has the home take these events, by none of which an operation ends.
+pub(crate) fn take_each(
+    outstanding: &mut Outstanding,
+    events: &[(u64, EventKind)],
+) -> Result<(), Fail> {
+    for (time, kind) in events {
+        if take(outstanding, *time, *kind)?.is_some() {
+            return Err(Fail::new("an operation ended"));
+        }
+    }
+    Ok(())
+}
+
+/// What is outstanding after these events, by none of which an operation ends.
+pub(crate) fn after(alloc: Global, events: &[(u64, EventKind)]) -> Result<Outstanding, Fail> {
+    let mut outstanding = Outstanding::new(alloc);
+    take_each(&mut outstanding, events)?;
+    Ok(outstanding)
+}
+
+/// The completion that tells what the eight bytes were.
+pub(crate) fn answer(id: u64) -> EventKind {
+    reply(id, Some(Reply::CompData(OLD)))
 }
 
 /// Whether it is the access of the load with its data.
@@ -102,21 +126,25 @@ fn is_load(access: &Access) -> bool {
         && access.lanes() == LANES
 }
 
-/// Whether it is the load with its data, at these times and with this reply.
-pub(crate) fn is_load_of(
-    ended: &Option<Observed>,
-    start: u64,
-    end: u64,
+/// Compares what ended with the load with its data, at these times and with this reply.
+pub(crate) fn assert_load<R: Abort>(
+    rt: &R,
+    ended: Option<Observed>,
+    times: (u64, u64),
     reply: Option<Reply>,
-) -> bool {
-    match ended {
-        Some(op) => {
-            op.start == start
-                && op.end == end
-                && op.src == 513
-                && is_load(&op.access)
-                && op.reply == reply
-        }
-        None => false,
-    }
+) {
+    let found = ended.map(|op| ((op.start, op.end), op.src, is_load(&op.access), op.reply));
+    assert_same(rt, found, Some((times, 513, true, reply)));
+}
+
+/// Ends the request of this number, which has to be the load with its data, by its answer.
+pub(crate) fn assert_answered<R: Abort>(
+    rt: &R,
+    outstanding: &mut Outstanding,
+    times: (u64, u64),
+    id: u64,
+) -> Result<(), Fail> {
+    let ended = take(outstanding, times.1, answer(id))?;
+    assert_load(rt, ended, times, Some(Reply::CompData(OLD)));
+    Ok(())
 }

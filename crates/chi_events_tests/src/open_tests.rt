@@ -1,64 +1,82 @@
 //! Requests that are still open.
 
+use crate::comparison::assert_same;
 use crate::home::{
-    ENABLES, LANES, OLD, data, is_load_of, load_with_data, load_without_data, none_ends, read,
-    reply,
+    ENABLES, LANES, OLD, after, answer, assert_load, data, load_with_data, load_without_data, read,
+    take_each,
 };
 use chi_events::Outstanding;
 use chi_lanes::Reply;
+use std::test::Fail;
 
 // Before any event.
 #[test]
 fn none_is_outstanding(rt: HostRuntime) {
     let outstanding = Outstanding::new(rt.alloc());
-    assert_eq!(rt; outstanding.requests().len(), 0);
+    assert_same(&rt, outstanding.requests().len(), 0);
 }
 
 // With its data a request may have taken effect, at any time from its start on.
 #[test]
-fn open_with_data(rt: HostRuntime) {
-    let mut outstanding = Outstanding::new(rt.alloc());
-    assert!(rt; none_ends(&mut outstanding, 10, load_with_data(3)));
-    assert!(rt; none_ends(&mut outstanding, 11, load_without_data(4)));
-    assert!(rt; none_ends(&mut outstanding, 12, data(4, ENABLES)));
-    let requests = outstanding.requests();
-    assert_eq!(rt; requests.len(), 2);
-    assert!(rt; is_load_of(&requests[0].operation(), 10, 18446744073709551615, None));
-    assert!(rt; is_load_of(&requests[1].operation(), 11, 18446744073709551615, None));
-    assert!(rt; requests[0].completion.is_none());
+fn open_with_data(rt: HostRuntime) -> Result<(), Fail> {
+    let events = [
+        (10, load_with_data(3)),
+        (11, load_without_data(4)),
+        (12, data(4, ENABLES)),
+    ];
+    let outstanding = after(rt.alloc(), &events)?;
+    let [first, second] = outstanding.requests() else {
+        return Err(Fail::new("there are not two requests"));
+    };
+    assert_load(&rt, first.operation(), (10, u64::MAX), None);
+    assert_load(&rt, second.operation(), (11, u64::MAX), None);
+    assert_same(&rt, first.completion, None);
+    Ok(())
 }
 
 // Before its data have come it has taken no effect, whether or not its completion has left.
 #[test]
-fn open_without_data(rt: HostRuntime) {
-    let mut outstanding = Outstanding::new(rt.alloc());
-    assert!(rt; none_ends(&mut outstanding, 10, load_without_data(3)));
-    let requests = outstanding.requests();
-    assert_eq!(rt; requests.len(), 1);
-    assert!(rt; requests[0].operation().is_none());
-    assert!(rt; none_ends(&mut outstanding, 11, reply(3, Some(Reply::CompData(OLD)))));
-    let requests = outstanding.requests();
-    assert_eq!(rt; requests.len(), 1);
-    assert!(rt; requests[0].operation().is_none());
-    assert_eq!(rt; requests[0].completion, Some(Some(Reply::CompData(OLD))));
+fn open_without_data(rt: HostRuntime) -> Result<(), Fail> {
+    let sent = Some(Some(Reply::CompData(OLD)));
+    let events = [(10, load_without_data(3)), (11, answer(3))];
+    for (count, completion) in [(1, None), (2, sent)] {
+        let mut outstanding = Outstanding::new(rt.alloc());
+        take_each(&mut outstanding, &events[..count])?;
+        let [request] = outstanding.requests() else {
+            return Err(Fail::new("there is not one request"));
+        };
+        assert_same(
+            &rt,
+            (count, request.operation().is_none(), request.completion),
+            (count, true, completion),
+        );
+    }
+    Ok(())
 }
 
 // What an outstanding request is, as it was taken.
 #[test]
-fn request_as_it_was_asked(rt: HostRuntime) {
-    let mut outstanding = Outstanding::new(rt.alloc());
-    assert!(rt; none_ends(&mut outstanding, 10, load_with_data(3)));
-    assert!(rt; none_ends(&mut outstanding, 10, read(7, 4100)));
-    let requests = outstanding.requests();
-    assert_eq!(rt; requests.len(), 2);
-    let load = requests[0];
-    assert_eq!(rt; (load.id, load.start), (3, 10));
-    assert_eq!(rt; (load.asked.src, load.asked.txn), (513, 9));
-    assert_eq!(rt; (load.asked.opcode, load.asked.size), (0x30, 3));
-    assert_eq!(rt; load.asked.addr, 4104);
-    assert_eq!(rt; (load.asked.be, load.asked.lanes), (ENABLES, LANES));
-    let read = requests[1];
-    assert_eq!(rt; (read.id, read.start), (7, 10));
-    assert_eq!(rt; (read.asked.src, read.asked.txn), (2, 65535));
-    assert!(rt; read.asked.endian);
+fn request_as_it_was_asked(rt: HostRuntime) -> Result<(), Fail> {
+    let events = [(10, load_with_data(3)), (10, read(7, 4100))];
+    let outstanding = after(rt.alloc(), &events)?;
+    let [load, read] = outstanding.requests() else {
+        return Err(Fail::new("there are not two requests"));
+    };
+    let asked = load.asked;
+    let numbers = (load.id, load.start, asked.src, asked.txn);
+    assert_same(&rt, numbers, (3, 10, 513, 9));
+    let what = (asked.opcode, asked.size, asked.addr);
+    let lanes = asked.lanes;
+    assert_same(
+        &rt,
+        (what, asked.be, lanes),
+        ((0x30, 3, 4104), ENABLES, LANES),
+    );
+    let asked = read.asked;
+    assert_same(
+        &rt,
+        (read.id, read.start, asked.src, asked.txn, asked.endian),
+        (7, 10, 2, 65535, true),
+    );
+    Ok(())
 }
