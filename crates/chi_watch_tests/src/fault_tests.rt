@@ -1,6 +1,7 @@
 //! The faults of an event, and their texts.
 
-use crate::home::{answer, done, read, take, take_all, word, write};
+use crate::comparison::assert_same;
+use crate::home::{answer, assert_found, done, read, take, take_all, word, write};
 use chi_events::{EventFault, EventKind};
 use chi_watch::{Watch, WatchFault};
 use std::alloc::Global;
@@ -67,9 +68,9 @@ fn faults_and_their_texts(rt: HostRuntime) -> Result<(), Fail> {
             "has no length from 1 to 4096 below 2^52",
         ),
     ] {
-        let found = fault_after(rt.alloc(), kinds, kind)?;
-        assert_eq!(rt; found, Some(fault));
-        assert_eq!(rt; format!(in rt.alloc(); "{fault}")?.as_str(), text);
+        assert_same(&rt, fault_after(rt.alloc(), kinds, kind)?, Some(fault));
+        let shown = format!(in rt.alloc(); "{fault}")?;
+        assert_same(&rt, shown.as_str(), text);
     }
     Ok(())
 }
@@ -77,14 +78,11 @@ fn faults_and_their_texts(rt: HostRuntime) -> Result<(), Fail> {
 // A word may be told before the granule's first request, and after its last.
 #[test]
 fn words_in_time(rt: HostRuntime) -> Result<(), Fail> {
-    let alloc = rt.alloc();
-    let mut watch = Watch::new(alloc);
     let kinds = [
         EventKind::Word(word(1)),
         read(1),
         answer(1, 1),
         EventKind::Final(word(1)),
     ];
-    assert_eq!(rt; take_all(alloc, &mut watch, &kinds)?, None);
-    Ok(())
+    assert_found(&rt, &kinds, None)
 }

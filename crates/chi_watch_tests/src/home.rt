@@ -1,12 +1,14 @@
 //! Events of a home, and a watch that takes them.
 
+use crate::comparison::assert_same;
 use chi_events::{Completion, Event, EventKind, Packet, Requested};
 use chi_lanes::Reply;
 use chi_reading::Asked;
 use chi_search::NoProgress;
 use chi_verdict::GranuleWord;
 use chi_watch::{Ending, Watch, WatchFault};
-use std::alloc::{AllocError, Global};
+use std::alloc::Global;
+use std::process::Abort;
 use std::test::Fail;
 
 // The granule at address 4096 has the number 512. Its eight bytes are lanes 0 to 7 of their packet.
@@ -105,6 +107,11 @@ pub(crate) fn next_word(word: u64) -> GranuleWord {
     }
 }
 
+/// The end of a request that took no effect.
+pub(crate) fn dropped(id: u64) -> EventKind {
+    EventKind::Dropped { id }
+}
+
 /// What the watch finds by an event.
 pub(crate) fn take(
     alloc: Global,
@@ -132,6 +139,18 @@ pub(crate) fn take_all(
     Ok(found)
 }
 
+/// Compares what is found by the last of these events; by the others nothing is found.
+pub(crate) fn assert_found<R: AllocGlobal + Abort>(
+    rt: &R,
+    kinds: &[EventKind],
+    wanted: Option<u64>,
+) -> Result<(), Fail> {
+    let mut watch = Watch::new(rt.alloc());
+    let found = take_all(rt.alloc(), &mut watch, kinds)?;
+    assert_same(rt, found, wanted);
+    Ok(())
+}
+
 /// What is said after these events, by none of which anything is found.
 pub(crate) fn ending_of(alloc: Global, kinds: &[EventKind]) -> Result<Ending, Fail> {
     let mut watch = Watch::new(alloc);
@@ -141,11 +160,31 @@ pub(crate) fn ending_of(alloc: Global, kinds: &[EventKind]) -> Result<Ending, Fa
     Ok(watch.ending(alloc, 1_000_000, &mut NoProgress)?)
 }
 
-/// The granules that are found at the end.
-pub(crate) fn granules_at_end(alloc: Global, ending: &Ending) -> Result<Vec<u64>, AllocError> {
-    ending
+/// Compares the granules that are found at the end, and those that are not decided.
+pub(crate) fn assert_ending<R: AllocGlobal + Abort>(
+    rt: &R,
+    ending: &Ending,
+    unexplained: &[u64],
+    undecided: &[u64],
+) -> Result<(), Fail> {
+    let found: Vec<u64> = ending
         .unexplained
         .iter()
         .map(|it| it.granule)
-        .collect(alloc)
+        .collect(rt.alloc())?;
+    assert_same(
+        rt,
+        (found.as_slice(), ending.undecided.as_slice()),
+        (unexplained, undecided),
+    );
+    Ok(())
+}
+
+/// Compares the granules that are found at the end of these events, where each is decided.
+pub(crate) fn assert_ends<R: AllocGlobal + Abort>(
+    rt: &R,
+    kinds: &[EventKind],
+    unexplained: &[u64],
+) -> Result<(), Fail> {
+    assert_ending(rt, &ending_of(rt.alloc(), kinds)?, unexplained, &[])
 }

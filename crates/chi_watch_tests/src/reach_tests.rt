@@ -2,14 +2,14 @@
 
 use crate::comparison::assert_same;
 use crate::home::{
-    GRANULE, add, answer, data, done, ending_of, error, next_word, read, take, take_all, word,
-    write, write_without_data,
+    GRANULE, add, answer, data, done, dropped, ending_of, error, next_word, read, take, take_all,
+    word, write, write_without_data,
 };
-use crate::stop::{Stop, assert_stops, told_stop};
+use crate::stop::{Stop, assert_stop, assert_stops};
 use chi_events::EventKind;
 use chi_recent::Reach;
 use chi_search::NoProgress;
-use chi_watch::Watch;
+use chi_watch::{Watch, WatchFault};
 use std::alloc::Global;
 use std::test::Fail;
 
@@ -23,7 +23,7 @@ fn reach_after(alloc: Global, kinds: &[EventKind]) -> Result<Reach, Fail> {
 // The write of 5, which event 1 tells, has ended at 2. The read that starts at 3 answers 0 at 4, and up to 3 only 5 can be there.
 #[test]
 fn a_lost_write(rt: HostRuntime) -> Result<(), Fail> {
-    let reach = reach_after(rt.alloc(), &[write(1, 5), done(1), read(2), answer(2, 0)])?;
+    let kinds = [write(1, 5), done(1), read(2), answer(2, 0)];
     let stop = Stop {
         time: 4,
         opcode: 0x04,
@@ -34,17 +34,14 @@ fn a_lost_write(rt: HostRuntime) -> Result<(), Fail> {
         open: &[3],
         legal: &[5],
     };
-    assert_stops(&rt, rt.alloc(), &reach, stop)
+    assert_stops(&rt, &reach_after(rt.alloc(), &kinds)?, stop)
 }
 
 // Both of two AtomicLoads that overlap answer 0. The second starts at 2 and answers at 4, where 1 would have been right; up to 3
 // the first has added its 1, and the second, which was open, its 1 or not.
 #[test]
 fn a_lost_addition(rt: HostRuntime) -> Result<(), Fail> {
-    let reach = reach_after(
-        rt.alloc(),
-        &[add(1, 1), add(2, 1), answer(1, 0), answer(2, 0)],
-    )?;
+    let kinds = [add(1, 1), add(2, 1), answer(1, 0), answer(2, 0)];
     let stop = Stop {
         time: 4,
         opcode: 0x30,
@@ -55,7 +52,7 @@ fn a_lost_addition(rt: HostRuntime) -> Result<(), Fail> {
         open: &[2],
         legal: &[1],
     };
-    assert_stops(&rt, rt.alloc(), &reach, stop)
+    assert_stops(&rt, &reach_after(rt.alloc(), &kinds)?, stop)
 }
 
 // The first read is dropped, and the second has its number. The write's data come after its request, which is event 3.
@@ -63,14 +60,13 @@ fn a_lost_addition(rt: HostRuntime) -> Result<(), Fail> {
 fn numbers_that_are_used_again(rt: HostRuntime) -> Result<(), Fail> {
     let kinds = [
         read(1),
-        EventKind::Dropped { id: 1 },
+        dropped(1),
         write_without_data(1),
         data(1, 5),
         done(1),
         read(1),
         answer(1, 7),
     ];
-    let reach = reach_after(rt.alloc(), &kinds)?;
     let stop = Stop {
         time: 7,
         opcode: 0x04,
@@ -81,23 +77,41 @@ fn numbers_that_are_used_again(rt: HostRuntime) -> Result<(), Fail> {
         open: &[6],
         legal: &[5],
     };
-    assert_stops(&rt, rt.alloc(), &reach, stop)
+    assert_stops(&rt, &reach_after(rt.alloc(), &kinds)?, stop)
 }
 
 // At time 0 nothing is known before.
 #[test]
 fn time_0(rt: HostRuntime) -> Result<(), Fail> {
-    let alloc = rt.alloc();
-    let mut watch = Watch::new(alloc);
-    take(alloc, &mut watch, 0, read(1))?;
-    take(alloc, &mut watch, 0, answer(1, 7))?;
-    let reach = watch.reach(alloc, GRANULE, 1_000_000, &mut NoProgress)?;
-    let (time, opcode, starts, words) = told_stop(alloc, &reach)?;
-    assert_same(
-        &rt,
-        (time, opcode, starts.as_slice(), words.as_slice()),
-        (0, 0x04, [0].as_slice(), [].as_slice()),
-    );
+    let mut watch = Watch::new(rt.alloc());
+    take(rt.alloc(), &mut watch, 0, read(1))?;
+    take(rt.alloc(), &mut watch, 0, answer(1, 7))?;
+    let reach = watch.reach(rt.alloc(), GRANULE, 1_000_000, &mut NoProgress)?;
+    assert_stop(&rt, &reach, (0, 0x04), &[0], &[])
+}
+
+// Tells a word, and then two hundred additions of 1 that come one after the other.
+fn take_two_hundred(alloc: Global, watch: &mut Watch) -> Result<(), WatchFault> {
+    take(alloc, watch, 0, EventKind::Word(word(0)))?;
+    for number in 0..200u64 {
+        take(alloc, watch, 2 * number + 1, add(number, 1))?;
+        let ends = answer(number, number as u8);
+        take(alloc, watch, 2 * number + 2, ends)?;
+    }
+    Ok(())
+}
+
+// Tells an addition that is open while a read answers 7, forty that are not seen to answer, and the end of the first.
+fn take_a_wrong_read(alloc: Global, watch: &mut Watch) -> Result<(), WatchFault> {
+    let kinds = [add(1000, 1), read(1001), answer(1001, 7)];
+    for (time, kind) in (401..404).zip(kinds) {
+        take(alloc, watch, time, kind)?;
+    }
+    for number in 0..40u64 {
+        take(alloc, watch, 404 + number, add(number, 1))?;
+        take(alloc, watch, 404 + number, error(number))?;
+    }
+    take(alloc, watch, 500, answer(1000, 200))?;
     Ok(())
 }
 
@@ -106,27 +120,10 @@ fn time_0(rt: HostRuntime) -> Result<(), Fail> {
 // requests with numbers that were used before are not seen to answer after it: it is the read that is named.
 #[test]
 fn after_many(rt: HostRuntime) -> Result<(), Fail> {
-    let alloc = rt.alloc();
-    let mut watch = Watch::new(alloc);
-    take(alloc, &mut watch, 0, EventKind::Word(word(0)))?;
-    for number in 0..200u64 {
-        take(alloc, &mut watch, 2 * number + 1, add(number, 1))?;
-        take(
-            alloc,
-            &mut watch,
-            2 * number + 2,
-            answer(number, number as u8),
-        )?;
-    }
-    take(alloc, &mut watch, 401, add(1000, 1))?;
-    take(alloc, &mut watch, 402, read(1001))?;
-    take(alloc, &mut watch, 403, answer(1001, 7))?;
-    for number in 0..40u64 {
-        take(alloc, &mut watch, 404 + number, add(number, 1))?;
-        take(alloc, &mut watch, 404 + number, error(number))?;
-    }
-    take(alloc, &mut watch, 500, answer(1000, 200))?;
-    let reach = watch.reach(alloc, GRANULE, 1_000_000, &mut NoProgress)?;
+    let mut watch = Watch::new(rt.alloc());
+    take_two_hundred(rt.alloc(), &mut watch)?;
+    take_a_wrong_read(rt.alloc(), &mut watch)?;
+    let reach = watch.reach(rt.alloc(), GRANULE, 1_000_000, &mut NoProgress)?;
     let stop = Stop {
         time: 403,
         opcode: 0x04,
@@ -139,35 +136,38 @@ fn after_many(rt: HostRuntime) -> Result<(), Fail> {
         open: &[402, 403],
         legal: &[200, 201],
     };
-    assert_stops(&rt, alloc, &reach, stop)
+    assert_stops(&rt, &reach, stop)
+}
+
+// The words that the granule can hold at the end, in rising order, where it can be explained so far.
+fn words_at_end(reach: Reach) -> Result<Vec<u64>, Fail> {
+    match reach {
+        Reach::Whole(mut words) => {
+            words.sort()?;
+            Ok(words)
+        }
+        _ => Err(Fail::new("it is not explained to its end")),
+    }
 }
 
 // A granule that can be explained is so to its end, with the words that it can hold there; one of which nothing is told, or whose
 // requests are outstanding, is not looked at.
 #[test]
 fn explained_and_not_looked_at(rt: HostRuntime) -> Result<(), Fail> {
-    let alloc = rt.alloc();
-    let mut watch = Watch::new(alloc);
-    take_all(alloc, &mut watch, &[write(1, 5), error(1), read(2)])?;
-    let outstanding = watch.reach(alloc, GRANULE, 1_000_000, &mut NoProgress)?;
-    let untold = watch.reach(alloc, GRANULE + 1, 1_000_000, &mut NoProgress)?;
-    take(alloc, &mut watch, 9, EventKind::Dropped { id: 2 })?;
-    let words = match watch.reach(alloc, GRANULE, 1_000_000, &mut NoProgress)? {
-        Reach::Whole(mut words) => {
-            words.sort()?;
-            words
-        }
-        _ => Vec::new(alloc),
-    };
-    assert_same(
-        &rt,
-        (
-            matches!(outstanding, Reach::Undecided),
-            matches!(untold, Reach::Undecided),
-            words.as_slice(),
-        ),
-        (true, true, [0, 5].as_slice()),
-    );
+    let mut watch = Watch::new(rt.alloc());
+    take_all(rt.alloc(), &mut watch, &[write(1, 5), error(1), read(2)])?;
+    for granule in [GRANULE, GRANULE + 1] {
+        let reach = watch.reach(rt.alloc(), granule, 1_000_000, &mut NoProgress)?;
+        assert_same(
+            &rt,
+            (granule, matches!(reach, Reach::Undecided)),
+            (granule, true),
+        );
+    }
+    take(rt.alloc(), &mut watch, 9, dropped(2))?;
+    let reach = watch.reach(rt.alloc(), GRANULE, 1_000_000, &mut NoProgress)?;
+    let words = words_at_end(reach)?;
+    assert_same(&rt, words.as_slice(), [0, 5].as_slice());
     Ok(())
 }
 
@@ -175,14 +175,13 @@ fn explained_and_not_looked_at(rt: HostRuntime) -> Result<(), Fail> {
 // word at the end that nobody wrote.
 #[test]
 fn at_the_end(rt: HostRuntime) -> Result<(), Fail> {
-    let alloc = rt.alloc();
     let kinds = [
         EventKind::Final(next_word(3)),
         write(1, 5),
         read(2),
         answer(2, 6),
     ];
-    let ending = ending_of(alloc, &kinds)?;
+    let ending = ending_of(rt.alloc(), &kinds)?;
     let [first, second] = ending.unexplained.as_slice() else {
         return Err(Fail::new("there are not two granules"));
     };
@@ -196,7 +195,6 @@ fn at_the_end(rt: HostRuntime) -> Result<(), Fail> {
         open: &[2, 3],
         legal: &[0, 5],
     };
-    assert_stops(&rt, alloc, &first.reach, stop)?;
     let words = match &second.reach {
         Reach::Whole(words) => words.as_slice(),
         _ => &[],
@@ -206,20 +204,16 @@ fn at_the_end(rt: HostRuntime) -> Result<(), Fail> {
         (first.last, second.granule, second.last, words),
         (None, GRANULE + 1, Some(3), [0].as_slice()),
     );
-    Ok(())
+    assert_stops(&rt, &first.reach, stop)
 }
 
 // Within no states it is not found how far.
 #[test]
 fn no_budget(rt: HostRuntime) -> Result<(), Fail> {
-    let alloc = rt.alloc();
-    let mut watch = Watch::new(alloc);
-    take_all(
-        alloc,
-        &mut watch,
-        &[write(1, 5), done(1), read(2), answer(2, 0)],
-    )?;
-    let reach = watch.reach(alloc, GRANULE, 0, &mut NoProgress)?;
+    let mut watch = Watch::new(rt.alloc());
+    let kinds = [write(1, 5), done(1), read(2), answer(2, 0)];
+    take_all(rt.alloc(), &mut watch, &kinds)?;
+    let reach = watch.reach(rt.alloc(), GRANULE, 0, &mut NoProgress)?;
     assert_same(&rt, matches!(reach, Reach::Undecided), true);
     Ok(())
 }

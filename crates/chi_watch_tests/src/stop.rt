@@ -4,7 +4,6 @@ use crate::comparison::assert_same;
 use crate::home::lanes;
 use chi_lanes::Reply;
 use chi_recent::{Reach, Traced};
-use std::alloc::{AllocError, Global};
 use std::process::Abort;
 use std::test::Fail;
 
@@ -23,39 +22,25 @@ pub(crate) struct Stop<'a> {
     pub(crate) legal: &'a [u8],
 }
 
-/// How far operations can be explained: the time at which they stop, the request that was answered then, those that were open,
-/// by their starts, and the words that the granule can hold before.
-pub(crate) fn told_stop(
-    alloc: Global,
-    reach: &Reach,
-) -> Result<(u64, u8, Vec<u64>, Vec<u64>), Fail> {
-    match reach {
-        Reach::Stops(stop) => {
-            let starts = stop
-                .overlapping
-                .iter()
-                .map(|it| it.op.start)
-                .collect(alloc)?;
-            let mut words = Vec::from_slice(alloc, &stop.words)?;
-            words.sort()?;
-            Ok((stop.time, stop.op.asked.opcode, starts, words))
-        }
-        _ => Err(Fail::new("it does not stop")),
-    }
+// Compares the events of these operations.
+fn assert_numbers<R: AllocGlobal + Abort>(
+    rt: &R,
+    traced: &[Traced],
+    wanted: &[u64],
+) -> Result<(), Fail> {
+    let numbers: Vec<u64> = traced.iter().map(|it| it.number).collect(rt.alloc())?;
+    assert_same(rt, numbers.as_slice(), wanted);
+    Ok(())
 }
 
-fn numbers(alloc: Global, traced: &[Traced]) -> Result<Vec<u64>, AllocError> {
-    traced.iter().map(|it| it.number).collect(alloc)
-}
-
-// The event of the operation that is blamed, those of the operations before it, those of the operations that were open, and the
-// first bytes of the answers that would have been legal.
-fn told_rows(alloc: Global, reach: &Reach) -> Result<(u64, Vec<u64>, Vec<u64>, Vec<u8>), Fail> {
-    let Reach::Stops(stop) = reach else {
-        return Err(Fail::new("it does not stop"));
-    };
-    let mut legal = Vec::new(alloc);
-    for reply in &stop.legal {
+// Compares the first bytes of these answers, in rising order; the others have to be 0.
+fn assert_legal<R: AllocGlobal + Abort>(
+    rt: &R,
+    replies: &[Reply],
+    wanted: &[u8],
+) -> Result<(), Fail> {
+    let mut legal = Vec::new(rt.alloc());
+    for reply in replies {
         if let Reply::CompData(bytes) = reply {
             if *bytes == lanes(bytes[0]) {
                 legal.push(bytes[0])?;
@@ -63,32 +48,59 @@ fn told_rows(alloc: Global, reach: &Reach) -> Result<(u64, Vec<u64>, Vec<u64>, V
         }
     }
     legal.sort()?;
-    Ok((
-        stop.op.number,
-        numbers(alloc, &stop.before)?,
-        numbers(alloc, &stop.overlapping)?,
-        legal,
-    ))
+    assert_same(rt, legal.as_slice(), wanted);
+    Ok(())
+}
+
+// Compares these words, in rising order.
+fn assert_words<R: AllocGlobal + Abort>(rt: &R, words: &[u64], wanted: &[u64]) -> Result<(), Fail> {
+    let mut words = Vec::from_slice(rt.alloc(), words)?;
+    words.sort()?;
+    assert_same(rt, words.as_slice(), wanted);
+    Ok(())
+}
+
+// Compares the starts of these operations.
+fn assert_starts<R: AllocGlobal + Abort>(
+    rt: &R,
+    traced: &[Traced],
+    wanted: &[u64],
+) -> Result<(), Fail> {
+    let starts: Vec<u64> = traced.iter().map(|it| it.op.start).collect(rt.alloc())?;
+    assert_same(rt, starts.as_slice(), wanted);
+    Ok(())
+}
+
+/// Compares the time at which operations stop being explained, the request that was answered then, those that were open, by their
+/// starts, and the words that the granule can hold before.
+pub(crate) fn assert_stop<R: AllocGlobal + Abort>(
+    rt: &R,
+    reach: &Reach,
+    (time, opcode): (u64, u8),
+    starts: &[u64],
+    words: &[u64],
+) -> Result<(), Fail> {
+    let Reach::Stops(stop) = reach else {
+        return Err(Fail::new("it does not stop"));
+    };
+    assert_same(rt, (stop.time, stop.op.asked.opcode), (time, opcode));
+    assert_starts(rt, &stop.overlapping, starts)?;
+    assert_words(rt, &stop.words, words)
 }
 
 /// Compares where a granule stops being explained.
-pub(crate) fn assert_stops<R: Abort>(
+pub(crate) fn assert_stops<R: AllocGlobal + Abort>(
     rt: &R,
-    alloc: Global,
     reach: &Reach,
     wanted: Stop<'_>,
 ) -> Result<(), Fail> {
-    let (time, opcode, starts, words) = told_stop(alloc, reach)?;
-    let (blamed, before, open, legal) = told_rows(alloc, reach)?;
-    assert_same(
-        rt,
-        (time, opcode, starts.as_slice(), words.as_slice()),
-        (wanted.time, wanted.opcode, wanted.starts, wanted.words),
-    );
-    assert_same(
-        rt,
-        (blamed, before.as_slice(), open.as_slice(), legal.as_slice()),
-        (wanted.blamed, wanted.before, wanted.open, wanted.legal),
-    );
-    Ok(())
+    let at = (wanted.time, wanted.opcode);
+    assert_stop(rt, reach, at, wanted.starts, wanted.words)?;
+    let Reach::Stops(stop) = reach else {
+        return Err(Fail::new("it does not stop"));
+    };
+    assert_same(rt, stop.op.number, wanted.blamed);
+    assert_numbers(rt, &stop.before, wanted.before)?;
+    assert_numbers(rt, &stop.overlapping, wanted.open)?;
+    assert_legal(rt, &stop.legal, wanted.legal)
 }
