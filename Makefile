@@ -104,7 +104,7 @@ bench: build
 	bench/run.sh $(PROGRAM) race --store lock
 	GRANULES=512 bench/run.sh $(PROGRAM) run --store book
 	GRANULES=512 bench/run.sh $(PROGRAM) race --store book
-	for workers in 2 4; do for places in own one; do \
+	for workers in 1 2 4 7; do for places in own one; do \
 	  WORKERS=$$workers PLACES=$$places bench/run.sh $(PROGRAM) race --store book || exit 1; \
 	done; done
 	bench/exchange.sh

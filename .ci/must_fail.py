@@ -4,6 +4,7 @@ An edit is refused where the function that it turns is not proved, for a goal of
 proved does not count. In the same check each function that no edit turns has to be proved, but for those that call one that is
 not. An edit whose change lies in no one body is tried alone: the function of its name has to be refused."""
 
+import glob
 import os
 import re
 import shutil
@@ -11,7 +12,6 @@ import subprocess
 import sys
 import tempfile
 import threading
-import time
 from concurrent.futures import ThreadPoolExecutor
 from typing import NamedTuple
 
@@ -87,6 +87,11 @@ def reason_of(edit, reasons):
     return next((f"{path}: {why}" for path, why in reasons.items() if not edit.function or is_function(path, edit.function)), "")
 
 
+def size_of(folder):
+    """Returns how many bytes of code, definitions and proofs a crate has."""
+    return sum(os.path.getsize(it) for ending in ("rt", "antt") for it in glob.glob(f"{folder}/[sp]*/**/*.{ending}", recursive=True))
+
+
 class Crate:
     """A crate whose libraries are built, and the edits of it."""
 
@@ -147,28 +152,40 @@ class Crate:
 
 
 class Trials:
-    """The edits of a repository's crates, tried while rt ci runs: those of a crate as soon as that is proved, where few provers run."""
+    """The edits of a repository's crates, tried while rt ci runs: those of a crate once that is proved, where few provers run, and the
+    largest crate first."""
 
     def __init__(self, root, edits):
         self.root, self.edits, self.rtlib = root, edits, kit()
         self.processors = len(os.sched_getaffinity(0))
         # so many provers may run, those of rt ci among them
         self.most = self.processors + self.processors // 2
-        self.pool, self.begun = ThreadPoolExecutor(self.most), {}
-        self.door, self.trying = threading.Lock(), set()
+        self.pool, self.begun = ThreadPoolExecutor(max(1, len(edits))), {}
+        self.door, self.stopped, self.waiting, self.trying = threading.Lock(), threading.Event(), set(), set()
+        self.sizes = {it: size_of(f"{root}/crates/{it}") for it in edits}
         # its first call sets a signal's handler, which only the main thread may
         self.rtlib.guarded()
 
     def begin(self, crate):
         """Tries the edits of a crate, which is proved."""
         if crate in self.edits:
+            self.waiting.add(crate)
             self.begun[crate] = self.pool.submit(self.try_crate, crate)
 
-    def try_crate(self, crate):
+    def may_begin(self, crate):
+        """Whether it is the crate's turn, which then has come."""
         with self.door:
-            while len(self.trying) + provers_of(self.root) >= self.most:
-                time.sleep(0.5)
+            is_first = crate == max(self.waiting, key=self.sizes.get)
+            if not is_first or len(self.trying) + provers_of(self.root) >= self.most:
+                return False
+            self.waiting.discard(crate)
             self.trying.add(crate)
+            return True
+
+    def try_crate(self, crate):
+        while not self.may_begin(crate):
+            if self.stopped.wait(0.5):
+                return []
         try:
             return Crate(self.root, crate, self.rtlib).try_all(self.edits[crate])
         finally:
@@ -181,4 +198,5 @@ class Trials:
 
     def stop(self):
         """Begins no further edits."""
+        self.stopped.set()
         self.pool.shutdown(wait=False, cancel_futures=True)
