@@ -1,5 +1,7 @@
 //! The rule of the words and seats, and what each step on them shows.
 
+ghost use Rattle.chi_bookstore.specs.TableSteps.{looked, read_one, served, settled};
+
 use atomic_table::{Join, Play, Seat, Table, TableRule};
 use chi_rule::{OpeningValues, Purpose, View};
 use std::alloc::Allocator;
@@ -27,8 +29,6 @@ pub type TableSeat = Seat<Purpose, View>;
 pub struct Look;
 
 impl Play<Purpose, View> for Look {
-    ghost use Rattle.chi_bookstore.specs.TableSteps.{looked};
-
     ghost then = { looked };
 }
 
@@ -36,8 +36,6 @@ impl Play<Purpose, View> for Look {
 pub struct Serve;
 
 impl Play<Purpose, View> for Serve {
-    ghost use Rattle.chi_bookstore.specs.TableSteps.{served};
-
     ghost then = { served };
 }
 
@@ -45,8 +43,6 @@ impl Play<Purpose, View> for Serve {
 pub struct ReadOne;
 
 impl Play<Purpose, View> for ReadOne {
-    ghost use Rattle.chi_bookstore.specs.TableSteps.{read_one};
-
     ghost then = { read_one };
 }
 
@@ -54,8 +50,6 @@ impl Play<Purpose, View> for ReadOne {
 pub struct Settle;
 
 impl Play<Purpose, View> for Settle {
-    ghost use Rattle.chi_bookstore.specs.TableSteps.{settled};
-
     ghost then = { settled };
 }
 

@@ -1,5 +1,5 @@
 -- what a script's race over a fresh home did
-use Rattle.std.proofs.Common.{◌≡◌, ℕ, zero, suc, ◌<◌, true, List, [], ◌∷◌, ◌++◌, All, map, get_or, length, slice_index, Result, Ok, Err, OnOk, refl, sym, ap, subst, ◌∙◌, append-nil}
+use Rattle.std.proofs.Common.{◌≡◌, ℕ, zero, suc, ◌<◌, true, List, [], ◌∷◌, ◌++◌, All, map, get_or, length, slice_index, Option, Result, Ok, Err, IsErrAnd, MatchResult, OnOk, refl, sym, ap, subst, ◌∙◌, append-nil}
 use Rattle.std.proofs.lemmas.Bool.{or_left, or_right}
 use Rattle.std.proofs.lemmas.List.Elements.{All-head, All-tail}
 use Rattle.chi_fields.specs.declared.request.Request.{Request}
@@ -16,6 +16,12 @@ use Rattle.chi_requester.specs.Race.{IsRace, IsRaceRun, lines_of_all}
 use Rattle.chi_requester.specs.Team.{lines_in}
 use Rattle.chi_requester.specs.Work.{own_requests}
 use Rattle.chi_script.specs.Script.{ScriptValue}
+use Rattle.chi_script.specs.WriterBytes.{Puts}
+use Rattle.chi_script.specs.declared.device.WriteFault.{WriteFault}
+use Rattle.chi_engine.specs.declared.fault.EngineFault.{EngineFault}
+use Rattle.chi_engine.specs.declared.fault.EngineFault.TheVariants.{Write}
+use Rattle.chi_engine.specs.declared.options.Options.{Options}
+use Rattle.chi_engine.specs.RaceTranscript.{IsRaced, RacesOver, race_text}
 use Rattle.chi_engine.specs.Store.{IsFresh, opening_of}
 use Rattle.chi_script.specs.RunText.{granule_words}
 use Rattle.chi_script.proofs.GranuleWords.{words_are}
@@ -87,3 +93,13 @@ pub race_fresh : {r : Result (Unit {0}) WorkFault} {o : Opening} {policy : Polic
     → IsFresh o s held start → limit ≡ limit' → racers ≡ racers' → all ≡ s.requests → lines ≡ (λ r. [])
     → IsRaceRun r o policy limit racers all start seen' lines lines' → IsRaceRun r (opening_of s) policy limit' racers' s.requests [] seen' (λ r. []) lines'
 race_fresh fresh bound who are none begun = rw (fresh.opening, fresh.first.1, bound, who, are, none) at begun
+
+-- what is written of a race over a fresh home that is done
+pub race_written : (options : Options) (s : ScriptValue) (old new : Option (List ℕ)) (since : List Entry) (lines : ℕ → List Line) (written : Result (Unit {0}) WriteFault)
+    (result : Result (Unit {0}) EngineFault) → IsRaced options s since lines → Puts old new written (race_text options.workers s since lines)
+    → MatchResult written (λ done. result ≡ Ok done) (λ fault. IsErrAnd result (λ x. x ≡ Write fault)) → RacesOver options s old new result
+race_written options s old new since lines (Ok done) (Ok _) raced puts cases = (since, lines, raced, puts)
+race_written options s old new since lines (Ok done) (Err fault) raced puts cases = cc
+race_written options s old new since lines (Err fault) (Ok done) raced puts cases = absurd cases
+race_written options s old new since lines (Err fault) (Err x) raced puts cases =
+    let P : EngineFault → Type 0 = λ f. RacesOver options s old new (Err f) in subst P (sym cases) (since, lines, raced, puts)

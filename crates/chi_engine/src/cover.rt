@@ -3,15 +3,12 @@
 ghost use Rattle.std.specs.Prelude.{◌≡◌, ◌+◌, All, IfOk};
 ghost use Rattle.chi_history.specs.NumberSets.{AllFrom, below};
 ghost use Rattle.chi_cover.specs.Executed.{IsAcceptedIn};
-ghost use Rattle.chi_engine.specs.Cover.{Covers, CoversBy, IsCoverText, KeepsUnwritten};
-ghost use Rattle.chi_engine.specs.Engine.{ReportsOpening};
+ghost use Rattle.chi_engine.specs.Cover.{Covers, IsCoverText, KeepsUnwritten};
 ghost use Rattle.chi_engine.specs.Run.{most_src};
 ghost use Rattle.chi_engine.specs.Store.{IsFresh};
 
 use crate::fault::EngineFault;
-use crate::options::Options;
 use crate::run::execute_all;
-use crate::store::on_store;
 use chi_cover::{Covered, add_refusals, add_table, executed};
 use chi_fields::Region;
 use chi_history::{Home, Line};
@@ -35,7 +32,7 @@ fn cover_text(alloc: Global, region: &Region, lines: &[Line]) -> Result<Vec<u8>,
 }
 
 // Executes a script over a home that was just opened for it, and writes what it covered.
-fn cover_over<H: Home, T: AllocGlobal + Wait, W: Write>(
+pub(crate) fn cover_over<H: Home, T: AllocGlobal + Wait, W: Write>(
     home: &H,
     rt: &T,
     seat: &mut H::Seat,
@@ -56,29 +53,5 @@ fn cover_over<H: Home, T: AllocGlobal + Wait, W: Write>(
     let Ok(text) = cover_text(rt.alloc(), &script.region(), lines.as_slice()) else {
         return Err(EngineFault::Memory);
     };
-    match write_bytes(to, text.as_slice()) {
-        Ok(()) => Ok(()),
-        Err(fault) => Err(EngineFault::Write(fault)),
-    }
-}
-
-// Executes a script over the store of the options, and writes what it covered.
-pub(crate) fn cover_script<T: AllocGlobal + Wait, W: Write>(
-    rt: &T,
-    script: &Script,
-    to: &mut W,
-    options: &Options,
-) -> Result<(), EngineFault>
-    requires from { AllFrom (below (most_src + 1)) script.now.requests }
-    ensures covered { CoversBy options.now script.now (W.contents to.old) (W.contents to.new) result }
-    ensures opening { ReportsOpening options.now.store result }
-    ensures unwritten { KeepsUnwritten (W.contents to.old) (W.contents to.new) result }
-{
-    let policy = options.policy;
-    on_store!(
-        rt.alloc(),
-        script,
-        options,
-        |home, seat| cover_over(&home, rt, &mut seat, script, policy, to)
-    )
+    write_bytes(to, text.as_slice()).map_err(EngineFault::Write)
 }

@@ -6,12 +6,13 @@ ghost use Rattle.chi_engine.specs.Engine.{KeepsUnexecuted, ReportsOpening};
 ghost use Rattle.chi_engine.specs.RaceTranscript.{RaceOutcome};
 ghost use Rattle.chi_engine.specs.Run.{Outcome};
 
-use crate::cover::cover_script;
+use crate::cover::cover_over;
 use crate::fault::EngineFault;
 use crate::input::read_whole;
 use crate::options::Options;
 use crate::race::race_script;
-use crate::run::run_script;
+use crate::run::run_over;
+use crate::store::{on_store, room};
 use chi_history::Gate;
 use chi_requester::MixedGate;
 use std::alloc::{AllocError, Global};
@@ -42,7 +43,17 @@ pub fn engine_run<T: AllocGlobal + Wait, R: Read, W: Write>(
     ensures unexecuted { KeepsUnexecuted (W.contents to.old) (W.contents to.new) result }
 {
     let script = read_whole(rt.alloc(), from, MOST_SRC)?;
-    run_script(rt, &script, to, options)
+    let Ok(mut words) = room(rt.alloc(), script.region().granules()) else {
+        return Err(EngineFault::Memory);
+    };
+    let words = words.as_mut_slice();
+    let policy = options.policy;
+    on_store!(
+        rt.alloc(),
+        &script,
+        options,
+        |home, seat| run_over(&home, rt, &mut seat, &script, policy, words, to)
+    )
 }
 
 /// Reads a script, executes its requests in order as `engine_run` does, and writes what they covered in place of the transcript:
@@ -67,7 +78,14 @@ pub fn engine_cover<T: AllocGlobal + Wait, R: Read, W: Write>(
     ensures opening { ReportsOpening options.now.store result }
     ensures unwritten { KeepsUnwritten (W.contents to.old) (W.contents to.new) result }
 {
-    cover_script(rt, &read_whole(rt.alloc(), from, MOST_SRC)?, to, options)
+    let script = &read_whole(rt.alloc(), from, MOST_SRC)?;
+    let policy = options.policy;
+    on_store!(
+        rt.alloc(),
+        script,
+        options,
+        |home, seat| cover_over(&home, rt, &mut seat, script, policy, to)
+    )
 }
 
 // The four gates, of which each may be of a type of its own.

@@ -138,10 +138,7 @@ fn race_over<
         return Err(EngineFault::Work(fault));
     }
     words_after(home, rt, seat, script, words);
-    match write_race(to, racers, zero.as_slice(), &script.region(), words) {
-        Ok(()) => Ok(()),
-        Err(fault) => Err(EngineFault::Write(fault)),
-    }
+    write_race(to, racers, zero.as_slice(), &script.region(), words).map_err(EngineFault::Write)
 }
 
 // Races a script over the store of the options, by its workers, and writes the transcript.

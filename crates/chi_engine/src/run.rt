@@ -4,14 +4,11 @@ ghost use Rattle.std.specs.Prelude.{◌≡◌, ◌+◌, [], length, IfErr, OnOk}
 ghost use Rattle.chi_history.specs.NumberSets.{AllFrom, below};
 ghost use Rattle.chi_history.specs.History.{end, opening_memory};
 ghost use Rattle.chi_history.specs.Lines.{serial, serial_end};
-ghost use Rattle.chi_engine.specs.Engine.{KeepsUnexecuted, ReportsOpening};
-ghost use Rattle.chi_engine.specs.Run.{IsCut, Runs, RunsBy, most_src};
+ghost use Rattle.chi_engine.specs.Run.{IsCut, Runs, most_src};
 ghost use Rattle.chi_engine.specs.Store.{IsFresh, opening_of};
 ghost use Rattle.chi_script.specs.RunText.{granule_words};
 
 use crate::fault::EngineFault;
-use crate::options::Options;
-use crate::store::{on_store, room};
 use chi_history::{Home, Line};
 use chi_requester::{Policy, WorkFault, run_serial};
 use chi_script::{Script, write_lines, write_transcript};
@@ -66,7 +63,7 @@ fn work_all<H: Home, R: Wait>(
 }
 
 // Executes a script over a home that was just opened for it, and writes the transcript.
-fn run_over<H: Home, T: AllocGlobal + Wait, W: Write>(
+pub(crate) fn run_over<H: Home, T: AllocGlobal + Wait, W: Write>(
     home: &H,
     rt: &T,
     seat: &mut H::Seat,
@@ -87,33 +84,5 @@ fn run_over<H: Home, T: AllocGlobal + Wait, W: Write>(
         let _written = write_lines(to, lines.as_slice());
         return Err(EngineFault::Work(fault));
     }
-    match write_transcript(to, lines.as_slice(), &script.region(), words) {
-        Ok(()) => Ok(()),
-        Err(fault) => Err(EngineFault::Write(fault)),
-    }
-}
-
-// Executes a script over the store of the options, and writes the transcript.
-pub(crate) fn run_script<T: AllocGlobal + Wait, W: Write>(
-    rt: &T,
-    script: &Script,
-    to: &mut W,
-    options: &Options,
-) -> Result<(), EngineFault>
-    requires from { AllFrom (below (most_src + 1)) script.now.requests }
-    ensures executed { RunsBy options.now script.now (W.contents to.old) (W.contents to.new) result }
-    ensures opening { ReportsOpening options.now.store result }
-    ensures unexecuted { KeepsUnexecuted (W.contents to.old) (W.contents to.new) result }
-{
-    let Ok(mut words) = room(rt.alloc(), script.region().granules()) else {
-        return Err(EngineFault::Memory);
-    };
-    let words = words.as_mut_slice();
-    let policy = options.policy;
-    on_store!(
-        rt.alloc(),
-        script,
-        options,
-        |home, seat| run_over(&home, rt, &mut seat, script, policy, words, to)
-    )
+    write_transcript(to, lines.as_slice(), &script.region(), words).map_err(EngineFault::Write)
 }

@@ -1,5 +1,5 @@
 -- sets of requester numbers as lists
-use Rattle.std.proofs.Common.{◌≡◌, ℕ, zero, suc, ◌+◌, ◌<◌, ◌==◌, nat_eq, Bool, true, false, cond, ◌||◌, List, [], ◌∷◌, ◌++◌, length, refl, sym, ap, ◌∙◌, true≢false, arith, length-append, eq-eqb, eqb-true, inl, inr}
+use Rattle.std.proofs.Common.{◌≡◌, ℕ, zero, suc, ◌+◌, ◌<◌, ◌==◌, nat_eq, Bool, true, false, cond, ◌||◌, List, [], ◌∷◌, ◌++◌, length, refl, sym, ap, subst, ◌∙◌, true≢false, arith, length-append, eq-eqb, eqb-true, inl, inr}
 use Rattle.std.proofs.lemmas.Bool.{cases_Bool, cases_eq, cond-false, cond-true, ne_eqb, or_cases, or_left, or_right}
 use Rattle.std.specs.List.{list_any}
 use Rattle.chi_history.specs.NumberSets.{Held}
@@ -96,6 +96,14 @@ IsInOrder-numbers_in held = numbers_in-agree held (has (numbers_in held 8)) 8
 -- the numbers of a list in order are below 8
 pub IsInOrder-below : (xs : List ℕ) → IsInOrder xs → (r : ℕ) → has xs r ≡ true → r < 8
 IsInOrder-below xs order r h = (numbers_in-held (has xs) 8 r (ap (λ ys. has ys r) (sym order) ∙ h)).1
+
+-- a list of the numbers of a set below 8 is in order
+pub listed_in_order : (held : Held) (n : ℕ) (xs : List ℕ) → n ≡ 8 → xs ≡ numbers_in held n → IsInOrder xs
+listed_in_order held n xs last listed = let listed_all = rw last at listed in subst IsInOrder (sym listed_all) (IsInOrder-numbers_in held)
+
+-- and it is the list of that set, where the set has no other number
+pub listed_has : (held : Held) (n : ℕ) (xs : List ℕ) → n ≡ 8 → xs ≡ numbers_in held n → ((r : ℕ) → held r ≡ true → r < 8) → has xs ≡ held
+listed_has held n xs last listed low = ap has (rw last at listed) ∙ has-numbers_in held 8 low
 
 -- how long the list is
 pub length-numbers_in : (held : Held) (n : ℕ) → length (numbers_in held n) ≡ size_below held n

@@ -3,22 +3,25 @@ use Rattle.std.proofs.Common.{ap, ap₂, inl, inr, ◌⊎◌, codes, ◌≡◌, 
 use Rattle.std.specs.Option.{option_map, unwrap_or}
 use Rattle.clap.specs.Faults.{fault_of, is_simple_and_free}
 use Rattle.clap.specs.Kinds.{IsAmong}
-use Rattle.clap.specs.Simple.{App, built, entered, names_of, new_app, subcommand_of, with_rule, with_subcommand}
+use Rattle.clap.specs.Matches.{subcommand_name_of}
+use Rattle.clap.specs.Simple.{App, HasMatchesOf, built, entered, names_of, new_app, subcommand_of, subcommand_rows_of, with_rule, with_subcommand}
 use Rattle.clap.specs.Walk.{Row, Rule, Text, Walk, nothing_held, walk_from}
 use Rattle.clap.specs.declared.error.kind.ErrorKind.{ErrorKind}
 use Rattle.clap.specs.declared.error.kind.ErrorKind.TheVariants as error_kind
 use Rattle.clap.specs.declared.builder.value_parser.ValueParser.TheVariants as value_parser
+use Rattle.clap.specs.declared.parser.matches.ArgMatches.{ArgMatches}
 use Rattle.clap.proofs.OnLiterals.{clap_on_literals}
 use Rattle.clap.proofs.WalkLemmas.{walk_stopped}
-use Rattle.chi_home.specs.Chosen.{HasOptions, IsNamed, IsNamedFirst, IsRun, IsScript, IsWork, is_generate, task_named}
+use Rattle.chi_home.specs.Chosen.{HasOptions, IsChosen, IsNamed, IsNamedFirst, IsRun, IsScript, IsWork, is_generate, task_named}
 use Rattle.chi_program.specs.Found.{BeginsWith, has_word}
 use Rattle.chi_program.specs.Rules.{bare_app, option_rule}
+use Rattle.chi_program.proofs.CommandLemmas.{subcommand_found}
 use Rattle.chi_home.specs.declared.command.Asked.{Asked}
 use Rattle.chi_home.specs.declared.command.Asked.TheVariants.{Work, Script}
 use Rattle.chi_home.specs.declared.command.Task.{Task}
 use Rattle.chi_home.specs.declared.command.Task.TheVariants.{Run, Race, Cover}
 use Rattle.chi_engine.specs.declared.options.Options.{Options}
-use Rattle.chi_home.specs.CommandLine.{IsProgram, IsRaceApp, IsRunApp, IsTaskApp, IsArgumentsFault, cover_rule, generate_app, workers_rule}
+use Rattle.chi_home.specs.CommandLine.{IsProgram, IsRaceApp, IsRunApp, IsTaken, IsTaskApp, IsArgumentsFault, cover_rule, generate_app, workers_rule}
 
 -- a task with these two options
 task_of : Text → Rule → Rule → App
@@ -122,8 +125,21 @@ module _ (app : App) (arguments : List Text) (name : Text) (found : List Row) (a
     λ generate. script_named name (codes "generate") asked refl named (begins_with (codes "generate") generate (generate_whatever p.2.1.2.0 p.2.1.3.0 p.3.1.2.0 p.3.1.3.0 generate.0)),
   )
 
--- what `clap` refuses
+-- what is asked for, with its options, is what `clap` finds, and a first argument that is a task's name asks for that
+pub asked_found : (app : App) (arguments : List Text) (matches : ArgMatches) (name : Text) (found : List Row) (asked : Asked) → IsProgram app
+    → HasMatchesOf app arguments matches → Some name ≡ subcommand_name_of matches → Some found ≡ option_map (λ p. p.1) (subcommand_rows_of matches)
+    → IsNamed name asked → HasOptions found name asked → IsChosen arguments asked × IsNamedFirst arguments asked
+asked_found app arguments matches name found asked program has is_named rows named options =
+    let is = subcommand_found app arguments matches name found (program_is_simple app program) has is_named rows in
+    ((name, found, (app, program, is), named, options), named_first app arguments name found asked program is named options)
+
+-- what `clap` refuses, and what it takes
 pub arguments_fault : (app : App) (arguments : List Text) (kind : ErrorKind) → IsProgram app
-    → (kind ≡ error_kind.OutOfMemory) ⊎ IsAmong kind (fault_of app arguments) → IsArgumentsFault arguments kind
-arguments_fault app arguments kind p (inl memory) = inl memory
-arguments_fault app arguments kind p (inr among) = inr (app, p, among)
+    → (is_simple_and_free app ≡ true → (kind ≡ error_kind.OutOfMemory) ⊎ IsAmong kind (fault_of app arguments)) → IsArgumentsFault arguments kind
+arguments_fault app arguments kind program fails = elim (fails (program_is_simple app program)) [
+  | inl memory ↦ inl memory
+  | inr among ↦ inr (app, program, among)
+]
+
+pub arguments_taken : (app : App) (arguments : List Text) → IsProgram app → (is_simple_and_free app ≡ true → fault_of app arguments ≡ []) → IsTaken arguments
+arguments_taken app arguments program none = (app, program, none (program_is_simple app program))

@@ -70,18 +70,16 @@ const GENERATE_ABOUT: &str = "Writes a script of requests by chance";
 // The weights where none are given.
 const MIX: &str = "read=1,write=1,store=2,load=3,swap=1,compare=1";
 
+// What the weights are for.
+const MIX_HELP: &str =
+    "How often read, write, store, load, swap and compare are drawn; others never";
+
 // The option that takes the weights.
 fn mix_option<'a>(alloc: Global) -> Arg<'a>
     ensures rule { rule_of result ≡ mix_rule }
     ensures local { result.global ≡ false }
 {
-    text_option(
-        alloc,
-        "mix",
-        "KIND=WEIGHT,..",
-        "How often read, write, store, load, swap and compare are drawn; others never",
-    )
-    .default_value(MIX)
+    text_option(alloc, "mix", "KIND=WEIGHT,..", MIX_HELP).default_value(MIX)
 }
 
 /// The task `generate`.

@@ -1,6 +1,6 @@
 -- sets of requester numbers, and families by number
 use Rattle.std.proofs.Common.{◌≡◌, ℕ, zero, suc, ◌<◌, ◌≤◌, Bool, true, false, not, ◌&&◌, ◌||◌, ◌==◌, nat_lt, if◌then◌else◌, refl, sym, ap, subst, ◌∙◌, eqb-true, eq-eqb, ◌≢◌, arith, true≢false}
-use Rattle.std.proofs.Math.Bool.{and-true, or-false}
+use Rattle.std.proofs.Math.Bool.{and-true, or-false, or_assoc}
 use Rattle.std.proofs.lemmas.Bool.{lt-ltb, or_left, or_right}
 use Rattle.chi_history.specs.NumberSets.{Held, below, only, union, without}
 use Rattle.chi_requester.specs.Team.{one_to, without_to}
@@ -62,6 +62,19 @@ pub whole_to : (n more : ℕ) → n < more → union (without_to n (below more))
 whole_to zero more room = λ i r. or-false (nat_lt r more) i
 whole_to (suc n) more room =
     whole_split (below more) (without_to n (below more)) (one_to n) (suc n) (whole_to n more (omega arith)) (kept_above n (suc n) (below more) (omega arith) (lt-ltb (suc n) more room))
+
+-- what was kept and was taken back, and one number more
+pub one_more : (src : ℕ) (kept team held own back : Held) → held ≡ union kept team → own ≡ only src → back ≡ union held own → back ≡ union kept (union team (only src))
+one_more src kept team held own back held_is alone joined = joined ∙ (λ i. union (held_is i) (alone i)) ∙ (λ i r. or_assoc (kept r) (team r) (r == src) i)
+
+-- a seat that held every number and gave those up to n
+pub whole_rest : (n more : ℕ) (held rest : Held) → n < more → held ≡ below more → rest ≡ without_to n held → union rest (one_to n) ≡ below more
+whole_rest n more held rest room whole given = ap (λ (s : Held). union s (one_to n)) (given ∙ ap (without_to n) whole) ∙ whole_to n more room
+
+-- took them back, and holds every number again
+pub whole_again : (n m more : ℕ) (held rest back : Held) → n < more → m ≡ n → held ≡ below more → rest ≡ without_to n held → back ≡ union rest (one_to m) → back ≡ held
+whole_again n m more held rest back room same whole given taken =
+    taken ∙ (ap (λ k. union rest (one_to k)) same ∙ (whole_rest n more held rest room whole given ∙ sym whole))
 
 -- a family with another value at one number
 abbrev pub put : {A : Type 0} → ℕ → A → (ℕ → A) → ℕ → A

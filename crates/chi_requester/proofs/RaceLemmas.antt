@@ -1,9 +1,8 @@
 -- requesters who work at the same time, and 0 after them
-use Rattle.std.proofs.Common.{◌≡◌, ◌≢◌, ℕ, ◌+◌, ◌*◌, ◌≤◌, zero, suc, true, false, ◌||◌, List, [], ◌∷◌, ◌++◌, All, Result, Ok, Err, IsErr, refl, sym, ap, subst, ◌∙◌, arith, append_assoc, append-nil, eq-eqb, eqb-true, ◌==◌, length, true≢false}
+use Rattle.std.proofs.Common.{◌≡◌, ◌≢◌, ℕ, ◌+◌, ◌*◌, ◌≤◌, zero, suc, true, false, ◌||◌, List, [], ◌∷◌, ◌++◌, All, Result, Ok, Err, IsErr, IfErr, OnOk, refl, sym, ap, subst, ◌∙◌, arith, append_assoc, append-nil, eq-eqb, true≢false}
 use Rattle.std.proofs.Math.Bool.{or-false}
 use Rattle.std.proofs.lemmas.Bool.{lt-ltb, or_left}
 use Rattle.std.proofs.lemmas.List.Elements.{All-append, All-cons, All-head, All-nil}
-use Rattle.std.proofs.lemmas.List.{nil_from_length}
 use Rattle.chi_fields.specs.declared.refusal.Refusal.{Refusal}
 use Rattle.chi_fields.specs.declared.request.Request.{Request}
 use Rattle.chi_fields.specs.Extent.{Extent}
@@ -141,7 +140,7 @@ race_done {racers = racers} {u = u} {result = result} apart whole legal t same p
     last = record { done = z.done; left = z.left; appended = z.appended }
 
 -- where nobody began, nothing is added to the history
-pub race_idle : (o : Opening) (policy : Policy) (limit : ℕ) (racers : Held) (all : List Request) (seen : List Entry) (lines : ℕ → List Line) (result : Result (Unit {0}) WorkFault)
+race_idle : (o : Opening) (policy : Policy) (limit : ℕ) (racers : Held) (all : List Request) (seen : List Entry) (lines : ℕ → List Line) (result : Result (Unit {0}) WorkFault)
     → IsLegal o seen → AreLeftBy result (union racers (only 0)) (idle_shares all) → IsRaceRun result o policy limit racers all seen seen lines lines
 unfolding IsFreeOf IsOf of
 race_idle o policy limit racers all seen lines result legal left = record {
@@ -165,16 +164,11 @@ race_idle o policy limit racers all seen lines result legal left = record {
   };
 }
 
--- there was no request
-pub race_empty : (o : Opening) (policy : Policy) (limit : ℕ) (racers : Held) (all : List Request) (seen : List Entry) (lines : ℕ → List Line) (u : Unit {0})
-    → IsLegal o seen → (length all == 0) ≡ true → IsRaceRun (Ok u) o policy limit racers all seen seen lines lines
-race_empty o policy limit racers all seen lines u legal none =
-    race_idle o policy limit racers all seen lines (Ok u) legal (λ r is. ap (λ (qs : List Request). own_requests qs r) (nil_from_length all (eqb-true (length all) 0 none)))
-
--- where nobody began, some request is left, since each is of a racer or of 0
-pub race_unstarted : (o : Opening) (policy : Policy) (limit n : ℕ) (all : List Request) (seen : List Entry) (lines : ℕ → List Line) (result : Result (Unit {0}) WorkFault)
-    → IsLegal o seen → IsErr result → (length all == 0) ≡ false → All (λ q. q.src ≤ n) all → IsRaceRun result o policy limit (one_to n) all seen seen lines lines
-race_unstarted o policy limit n [] seen lines result legal failed some known = absurd (true≢false some)
-race_unstarted o policy limit n (q ∷ qs) seen lines (Ok u) legal failed some known = cc
-race_unstarted o policy limit n (q ∷ qs) seen lines (Err fault) legal failed some known =
+-- Nobody began: there was no request, or some request is left, since each is of a racer or of 0.
+pub race_unbegun : (o : Opening) (policy : Policy) (limit n : ℕ) (all : List Request) (seen : List Entry) (lines : ℕ → List Line) (result : Result (Unit {0}) WorkFault)
+    → IsLegal o seen → OnOk result (all ≡ []) → IfErr result (λ _. all ≢ []) → All (λ q. q.src ≤ n) all → IsRaceRun result o policy limit (one_to n) all seen seen lines lines
+race_unbegun o policy limit n all seen lines (Ok u) legal none some known =
+    race_idle o policy limit (one_to n) all seen lines (Ok u) legal (λ r is. ap (λ (qs : List Request). own_requests qs r) none)
+race_unbegun o policy limit n [] seen lines (Err fault) legal none some known = absurd (some refl)
+race_unbegun o policy limit n (q ∷ qs) seen lines (Err fault) legal none some known =
     race_idle o policy limit (one_to n) (q ∷ qs) seen lines (Err fault) legal (q.src, one_to_within n q.src (All-head (λ (x : Request). x.src ≤ n) q qs known), rw (eq-eqb q.src q.src refl) (λ none. cc))

@@ -12,7 +12,7 @@ use Rattle.chi_requester.specs.declared.fault.WorkFault.{WorkFault}
 use Rattle.chi_requester.specs.declared.policy.Policy.{Policy}
 use Rattle.chi_requester.specs.declared.race_of_any.Racer.{Racer}
 use Rattle.chi_requester.specs.Race.{lines_of_all}
-use Rattle.chi_requester.specs.Team.{AreSeated, HasRaced, HaveRaced, IsOwn, IsSeated, IsTeamRun, lines_in}
+use Rattle.chi_requester.specs.Team.{AreSeated, HasRaced, HaveRaced, IsOwn, IsSeated, IsTeamRun, lines_in, one_to}
 use Rattle.chi_requester.specs.Work.{IsWorkRun}
 use Rattle.chi_requester.proofs.TeamLemmas.{team_back}
 
@@ -49,6 +49,15 @@ have_raced Belongs held seen o policy limit all start zero before seated after a
     let lines = sym (get_or-map lines_in seated i d [] inside) ∙ ap (λ xs. get_or xs i []) same in
     let ran = t.4 (rw t.2 mine) in
     rw (t.2, t.3, lines) at ran
+
+-- the same, once each racer has given its seat back
+pub have_returned : {S G A : Type 0} (Belongs : S → Type 0) (held : S → Held) (seen : S → List Entry) {o : Opening} {policy : Policy} {limit : ℕ} {all : List Request} {kept held' : Held}
+    {start mid seen' : List Entry} {result : Result (Unit {0}) WorkFault} (zero : List Line) (before worked after : List (Racer S G A)) → length worked ≡ length before
+    → HaveRaced Belongs held seen o policy limit all start (lines_of_all zero before) worked → mid ≡ start → map lines_in after ≡ map lines_in worked
+    → (HaveRaced Belongs held seen o policy limit all mid (lines_of_all zero before) worked
+    → IsTeamRun result o policy limit all kept (one_to (length worked)) held' mid seen' (lines_of_all zero before) (lines_of_all zero worked))
+    → IsTeamRun result o policy limit all kept (one_to (length before)) held' start seen' (lines_of_all zero before) (lines_of_all zero after)
+have_returned Belongs held seen zero before worked after long raced same kept team = rw (same, long, lines-same zero worked after (sym kept)) at (team (rw same raced))
 
 -- a racer that executed its requests gives its seat back
 pub racer_back : {S G A : Type 0} (Belongs : S → Type 0) (held_of : S → Held) (seen_of : S → List Entry) {o : Opening} {policy : Policy} {limit : ℕ} {all : List Request}

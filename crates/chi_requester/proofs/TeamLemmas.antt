@@ -1,7 +1,7 @@
 -- requesters who work at the same time, and a seat that takes theirs back
 use Rattle.std.proofs.Common.{◌≡◌, ℕ, true, false, ◌==◌, List, [], ◌∷◌, ◌++◌, Result, Ok, Err, refl, sym, ap, subst, ◌∙◌, eqb-true, eq-eqb, arith, append_assoc, append-nil}
 use Rattle.std.specs.Result.{result_and}
-use Rattle.std.proofs.Math.Bool.{or-false, or_assoc}
+use Rattle.std.proofs.Math.Bool.{or-false}
 use Rattle.std.proofs.lemmas.Bool.{or_left, or_right}
 use Rattle.std.proofs.lemmas.List.{append_cancel_left}
 use Rattle.chi_lanes.specs.After.{after}
@@ -19,7 +19,7 @@ use Rattle.chi_requester.specs.declared.policy.Policy.{Policy}
 use Rattle.chi_requester.specs.Team.{AreLeftBy, IsTeamRun}
 use Rattle.chi_requester.specs.Reports.{Told}
 use Rattle.chi_requester.specs.Work.{AreLeft, IsRacer, IsShare, IsExecuted, IsWorkRun, Share}
-use Rattle.chi_requester.proofs.FamilyLemmas.{put, put_each, put_other}
+use Rattle.chi_requester.proofs.FamilyLemmas.{one_more, put, put_each, put_other}
 
 -- entries of which none is of a set hit alike whether it is left out or not
 pub hits_outside : (o : Opening) (m : Memory) (extra held : Held) (xs : List Entry) (g : ℕ) → IsFreeOf extra xs → hits_from o m xs g held ≡ hits_from o m xs g (union extra held)
@@ -94,7 +94,7 @@ team_back {o = o} {policy = policy} {limit = limit} {all = all} {kept = kept} {t
       since = t.since ++ joined.more;
       grown = grown;
       zero_kept = t.zero_kept;
-      held_is = held_is ∙ (λ i. union (t.held_is i) (alone i)) ∙ (λ i r. or_assoc (kept r) (team r) (r == src) i);
+      held_is = one_more src kept team held _ _ t.held_is alone held_is;
       free = free;
       share = put src new t.share;
       shares = put_each (λ r x. IsShare all r (lines r) (lines' r) x) team src new t.share (record { parts = run.parts; kept = run.kept }) t.shares;

@@ -58,15 +58,7 @@ impl<A: Allocator + Copy> RaceFour<A> {
 /// ```
 /// race_four(&home, rt, &mut seat, script.requests(), Policy::Return, NoGate, NoGate, NoGate, NoGate, &mut race)?;
 /// ```
-pub fn race_four<
-    H: Home + Sync,
-    R: Threads + Wait + Sync,
-    G1: Gate + Drop + Send,
-    G2: Gate + Drop + Send,
-    G3: Gate + Drop + Send,
-    G4: Gate + Drop + Send,
-    A: Allocator + Copy + Send,
->(
+pub fn race_four<H, R, G1, G2, G3, G4, A>(
     home: &H,
     rt: &R,
     seat: &mut H::Seat,
@@ -78,6 +70,14 @@ pub fn race_four<
     gate4: G4,
     race: &mut RaceFour<A>,
 ) -> Result<(), WorkFault>
+where
+    H: Home + Sync,
+    R: Threads + Wait + Sync,
+    G1: Gate + Drop + Send,
+    G2: Gate + Drop + Send,
+    G3: Gate + Drop + Send,
+    G4: Gate + Drop + Send,
+    A: Allocator + Copy + Send,
     requires own { H.belongs home.now seat.old }
     requires all { H.held seat.old ≡ below (H.opening home.now).requesters }
     requires five { 5 ≤ (H.opening home.now).requesters }
@@ -87,27 +87,13 @@ pub fn race_four<
     ensures race { IsRaceRun result (H.opening home.now) policy (H.limit home.now) one_to_four requests.now
         (H.seen seat.old) (H.seen seat.new) (lines_of_four race.old) (lines_of_four race.new) }
 {
-    if requests.is_empty() {
-        return Ok(());
-    }
-    let alloc = *race.zero.allocator();
-    let mut team = Vec::with_capacity(alloc, 4)?;
-    team.push_reserved(Racer::new(
-        MixedGate::One(gate1),
-        mem::replace(&mut race.one, Vec::new(alloc)),
-    ));
-    team.push_reserved(Racer::new(
-        MixedGate::Two(gate2),
-        mem::replace(&mut race.two, Vec::new(alloc)),
-    ));
-    team.push_reserved(Racer::new(
-        MixedGate::Three(gate3),
-        mem::replace(&mut race.three, Vec::new(alloc)),
-    ));
-    team.push_reserved(Racer::new(
-        MixedGate::Four(gate4),
-        mem::replace(&mut race.four, Vec::new(alloc)),
-    ));
+    let Ok(mut team) = Vec::with_capacity(*race.zero.allocator(), 4) else {
+        return race_of_any::unexecuted(requests);
+    };
+    team.push_reserved(Racer::taking(MixedGate::One(gate1), &mut race.one));
+    team.push_reserved(Racer::taking(MixedGate::Two(gate2), &mut race.two));
+    team.push_reserved(Racer::taking(MixedGate::Three(gate3), &mut race.three));
+    team.push_reserved(Racer::taking(MixedGate::Four(gate4), &mut race.four));
     let racers = team.as_mut_slice();
     let outcome = race_of_any::race(home, rt, seat, requests, policy, racers, &mut race.zero);
     mem::swap(&mut race.one, &mut racers[0].lines);

@@ -54,13 +54,7 @@ impl<A: Allocator + Copy> Race<A> {
 /// ```
 /// race_two(&home, rt, &mut seat, script.requests(), Policy::Return, NoGate, NoGate, &mut race)?;
 /// ```
-pub fn race_two<
-    H: Home + Sync,
-    R: Threads + Wait + Sync,
-    G1: Gate + Drop + Send,
-    G2: Gate + Drop + Send,
-    A: Allocator + Copy + Send,
->(
+pub fn race_two<H, R, G1, G2, A>(
     home: &H,
     rt: &R,
     seat: &mut H::Seat,
@@ -70,6 +64,12 @@ pub fn race_two<
     gate2: G2,
     race: &mut Race<A>,
 ) -> Result<(), WorkFault>
+where
+    H: Home + Sync,
+    R: Threads + Wait + Sync,
+    G1: Gate + Drop + Send,
+    G2: Gate + Drop + Send,
+    A: Allocator + Copy + Send,
     requires own { H.belongs home.now seat.old }
     requires all { H.held seat.old ≡ below (H.opening home.now).requesters }
     requires three { 3 ≤ (H.opening home.now).requesters }
@@ -79,19 +79,12 @@ pub fn race_two<
     ensures race { IsRaceRun result (H.opening home.now) policy (H.limit home.now) one_and_two requests.now
         (H.seen seat.old) (H.seen seat.new) (lines_of race.old) (lines_of race.new) }
 {
-    if requests.is_empty() {
-        return Ok(());
-    }
-    let alloc = *race.zero.allocator();
-    let mut team = Vec::with_capacity(alloc, 2)?;
-    team.push_reserved(Racer::new(
-        MixedGate::<G1, G2, NoGate, NoGate>::One(gate1),
-        mem::replace(&mut race.one, Vec::new(alloc)),
-    ));
-    team.push_reserved(Racer::new(
-        MixedGate::Two(gate2),
-        mem::replace(&mut race.two, Vec::new(alloc)),
-    ));
+    let Ok(mut team) = Vec::with_capacity(*race.zero.allocator(), 2) else {
+        return race_of_any::unexecuted(requests);
+    };
+    let gate = MixedGate::<G1, G2, NoGate, NoGate>::One(gate1);
+    team.push_reserved(Racer::taking(gate, &mut race.one));
+    team.push_reserved(Racer::taking(MixedGate::Two(gate2), &mut race.two));
     let racers = team.as_mut_slice();
     let outcome = race_of_any::race(home, rt, seat, requests, policy, racers, &mut race.zero);
     mem::swap(&mut race.one, &mut racers[0].lines);
