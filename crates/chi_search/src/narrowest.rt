@@ -1,6 +1,6 @@
 //! The operation that changes the fewest bits, of those that can come next.
 
-ghost use Rattle.std.specs.Prelude.{◌≡◌, ◌<◌, ◌≤◌, IfOk, IfSome, Some, length};
+ghost use Rattle.std.specs.Prelude.{◌<◌, IfOk, IfSome, Some, length};
 ghost use Rattle.chi_search.specs.Knowing.{IsKnown};
 ghost use Rattle.chi_search.specs.Paths.{Moves};
 ghost use Rattle.chi_search.specs.Positions.{IsReady, position_of};

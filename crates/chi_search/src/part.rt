@@ -1,17 +1,16 @@
 //! The search in a run of bytes of a granule: whether the operations that are left have an order there.
 
-ghost use Rattle.std.specs.Prelude.{◌≡◌, ℕ, ◌+◌, ◌-◌, ◌<◌, ◌≤◌, IfOk, IfSome, IsTrue, List, None, OnOk, Option, false, length};
+ghost use Rattle.std.specs.Prelude.{◌≡◌, ℕ, ◌+◌, ◌-◌, ◌<◌, ◌≤◌, IfOk, IsTrue, List, None, OnOk, Option, false, length};
 ghost use Rattle.chi_trace.specs.Explains.{at};
 ghost use Rattle.chi_search.specs.Choices.{IfDead, IfStep, IfTried};
 ghost use Rattle.chi_search.specs.Knowing.{IsKnown};
 ghost use Rattle.chi_search.specs.Looks.{LookedMore};
-ghost use Rattle.chi_search.specs.Moves.{CanCome};
 ghost use Rattle.chi_search.specs.Outcomes.{HasBits};
 ghost use Rattle.chi_search.specs.Parts.{IsPartOf};
 ghost use Rattle.chi_search.specs.Positions;
 ghost use Rattle.chi_search.specs.Positions.{IsReady, position_of};
 ghost use Rattle.chi_trace.specs.declared.observed.Observed.{Observed};
-ghost use Rattle.chi_search.specs.Within.{AllDeadWithin, AreTriedWithin, ByDroppingWithin, ByTakingWithin, GoesOnBy, IsDeadWithin, IsRun};
+ghost use Rattle.chi_search.specs.Within.{AllDeadWithin, AreTriedWithin, ByDroppingWithin, GoesOnBy, IsDeadWithin, IsRun};
 
 use crate::absorbing::absorb;
 use crate::choice::Choice;
@@ -24,7 +23,6 @@ use crate::state::{State, first_state, is_left, settle};
 use crate::states::{States, add, has, no_states};
 use crate::wide::copy_of;
 use chi_lanes::lane_mask;
-use chi_trace::Observed;
 use std::alloc::{AllocError, Global};
 
 /// How many operations are looked at for makers at a state.
