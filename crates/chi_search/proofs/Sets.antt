@@ -1,7 +1,8 @@
 -- what stands in a set of two lists, the second after the first
-use Rattle.std.proofs.Common.{◌≡◌, ℕ, ◌<◌, ◌==◌, ◌⊎◌, ◌↔◌, Bool, true, false, cond, List, [], ◌∷◌, ◌++◌, All, filter, length, refl, sym, ap, subst, ◌∙◌, eqb-true, true≢false, inl, inr}
+use Rattle.std.proofs.Common.{◌≡◌, ℕ, ◌<◌, ◌==◌, ◌⊎◌, ◌↔◌, Bool, true, false, cond, List, [], ◌∷◌, ◌++◌, All, filter, length, refl, sym, ap, subst, ◌∙◌, eqb-true, true≢false, inl, inr, ⊎_elim}
 use Rattle.std.specs.Prelude.{map}
 use Rattle.std.specs.List.{Contains}
+use Rattle.std.proofs.Math.Logic.{⊎_swap}
 use Rattle.std.proofs.lemmas.List.{get_or-map, length-map, nil_from_length}
 use Rattle.std.proofs.lemmas.List.Elements.{All-cons, All-contains, All-contains_itself, All-head, All-nil, All-tail, Contains-append_cases, Contains-append_left, Contains-append_right, Contains-push, Contains-push_cases}
 
@@ -31,50 +32,37 @@ pub Contains-filter : {X : Type 0} (p : X → Bool) (xs : List X) (x : X) → Co
 Contains-filter p xs x there passes =
     All-contains (λ y. p y ≡ true → Contains (filter p xs) y) xs x (passed p (Contains (filter p xs)) xs (All-contains_itself (filter p xs))) there passes
 
+-- what stands in two lists stands in the one or the other
+in_either : {X : Type 0} (xs ys : List X) (x : X) → Contains (xs ++ ys) x ↔ (Contains xs x ⊎ Contains ys x)
+in_either xs ys x = (
+  Contains-append_cases xs ys x,
+  λ has. elim has [ inl first ↦ Contains-append_left xs ys x first | inr second ↦ Contains-append_right xs ys x second ],
+)
+
+-- an element more of a list
+pushed : {X : Type 0} (old new : List X) (y : X) → new ≡ old ++ y ∷ [] → (x : X) → Contains new x ↔ (Contains old x ⊎ (x ≡ y))
+pushed old new y is x = (
+  λ has. elim (Contains-push_cases old y x (subst (λ zs. Contains zs x) is has)) [ inl before ↦ inl before | inr same ↦ inr (sym same) ],
+  λ has. subst (λ zs. Contains zs x) (sym is) (elim has [
+    | inl before ↦ Contains-append_left old (y ∷ []) x before
+    | inr same ↦ subst (Contains (old ++ y ∷ [])) (sym same) (Contains-push old y)
+  ]),
+)
+
+swapped : {A B C : Type 0} → A ↔ (B ⊎ C) → A ↔ (C ⊎ B)
+swapped e = (λ a. ⊎_swap (e.0 a), λ either. e.1 (⊎_swap either))
+
+-- where one of two parts has one more, so has the whole
+one_more : {Old New Other More Before After : Type 0} → New ↔ (Old ⊎ More) → Before ↔ (Old ⊎ Other) → After ↔ (New ⊎ Other) → After ↔ (Before ⊎ More)
+one_more more before after = (
+  λ has. ⊎_elim (λ new. ⊎_elim (λ old. inl (before.1 (inl old))) inr (more.0 new)) (λ other. inl (before.1 (inr other))) (after.0 has),
+  λ has. after.1 (⊎_elim (λ was. ⊎_elim (λ old. inl (more.1 (inl old))) inr (before.0 was)) (λ one. inl (more.1 (inr one))) has),
+)
+
 -- one element more of the first list
 pub more_first : {X : Type 0} (old new ys : List X) (y : X) → new ≡ old ++ y ∷ [] → (x : X) → Contains (new ++ ys) x ↔ (Contains (old ++ ys) x ⊎ (x ≡ y))
-more_first old new ys y is x = (
-  λ has. elim (Contains-append_cases new ys x has) [
-    | inl first ↦ of_first (Contains-push_cases old y x (subst (λ zs. Contains zs x) is first))
-    | inr second ↦ inl (Contains-append_right old ys x second)
-  ],
-  λ has. elim has [
-    | inl before ↦ still (Contains-append_cases old ys x before)
-    | inr same ↦ Contains-append_left new ys x (there (subst (Contains (old ++ y ∷ [])) (sym same) (Contains-push old y)))
-  ],
-)
-  where
-    there : Contains (old ++ y ∷ []) x → Contains new x
-    there has = subst (λ zs. Contains zs x) (sym is) has
-
-    of_first : (Contains old x ⊎ (y ≡ x)) → Contains (old ++ ys) x ⊎ (x ≡ y)
-    of_first (inl before) = inl (Contains-append_left old ys x before)
-    of_first (inr same) = inr (sym same)
-
-    still : (Contains old x ⊎ Contains ys x) → Contains (new ++ ys) x
-    still (inl first) = Contains-append_left new ys x (there (Contains-append_left old (y ∷ []) x first))
-    still (inr second) = Contains-append_right new ys x second
+more_first old new ys y is x = one_more (pushed old new y is x) (in_either old ys x) (in_either new ys x)
 
 -- one element more of the second list
 pub more_second : {X : Type 0} (xs old new : List X) (y : X) → new ≡ old ++ y ∷ [] → (x : X) → Contains (xs ++ new) x ↔ (Contains (xs ++ old) x ⊎ (x ≡ y))
-more_second xs old new y is x = (
-  λ has. elim (Contains-append_cases xs new x has) [
-    | inl first ↦ inl (Contains-append_left xs old x first)
-    | inr second ↦ of_second (Contains-push_cases old y x (subst (λ zs. Contains zs x) is second))
-  ],
-  λ has. elim has [
-    | inl before ↦ still (Contains-append_cases xs old x before)
-    | inr same ↦ Contains-append_right xs new x (there (subst (Contains (old ++ y ∷ [])) (sym same) (Contains-push old y)))
-  ],
-)
-  where
-    there : Contains (old ++ y ∷ []) x → Contains new x
-    there has = subst (λ zs. Contains zs x) (sym is) has
-
-    of_second : (Contains old x ⊎ (y ≡ x)) → Contains (xs ++ old) x ⊎ (x ≡ y)
-    of_second (inl before) = inl (Contains-append_right xs old x before)
-    of_second (inr same) = inr (sym same)
-
-    still : (Contains xs x ⊎ Contains old x) → Contains (xs ++ new) x
-    still (inl first) = Contains-append_left xs new x first
-    still (inr second) = Contains-append_right xs new x (there (Contains-append_left old (y ∷ []) x second))
+more_second xs old new y is x = one_more (pushed old new y is x) (swapped (in_either xs old x)) (swapped (in_either xs new x))

@@ -9,7 +9,7 @@ use Rattle.chi_fields.specs.declared.kind.Op.TheVariants.{Clr, Set}
 use Rattle.chi_fields.specs.Access.{IsLawful, Access, lane_of}
 use Rattle.chi_lanes.specs.After.{after_as, old, same_bytes}
 use Rattle.chi_lanes.specs.Combination.{bitwise}
-use Rattle.chi_lanes.specs.Memory.{Memory, with_bytes, with_enabled}
+use Rattle.chi_lanes.specs.Memory.{Memory, with_bytes}
 use Rattle.chi_lanes.specs.Packet.{sent, swap_value}
 use Rattle.chi_lanes.proofs.AfterLemmas.{length-combined, length-sent, length-swap_value}
 use Rattle.chi_lanes.proofs.BitwiseLemmas.{length-bitwise}

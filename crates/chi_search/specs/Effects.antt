@@ -41,18 +41,11 @@ IsBlind (Load Clr) = Unit {0}
 IsBlind (Load Set) = Unit {0}
 IsBlind _ = ⊥
 
--- each bit that it leaves depends on that bit alone
+-- each bit that it leaves depends on that bit alone: it is blind, or makes the exclusive or
 abbrev pub IsBitwise : Kind → Type 0
-IsBitwise Read = Unit {0}
-IsBitwise Write = Unit {0}
-IsBitwise Swap = Unit {0}
-IsBitwise (Store Clr) = Unit {0}
 IsBitwise (Store Eor) = Unit {0}
-IsBitwise (Store Set) = Unit {0}
-IsBitwise (Load Clr) = Unit {0}
 IsBitwise (Load Eor) = Unit {0}
-IsBitwise (Load Set) = Unit {0}
-IsBitwise _ = ⊥
+IsBitwise kind = IsBlind kind
 
 -- it adds
 abbrev pub IsSum : Kind → Type 0

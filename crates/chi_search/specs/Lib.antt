@@ -4,6 +4,7 @@ pub mod Effects
 pub mod Equal
 pub mod Found
 pub mod Frontiers
+pub mod Knowing
 pub mod Layers
 pub mod Looks
 pub mod Makers

@@ -4,13 +4,14 @@ ghost use Rattle.std.specs.Prelude.{◌≡◌, ◌<◌, ◌≤◌, IfSome, IsTru
 ghost use Rattle.chi_trace.specs.declared.observed.Observed.{Observed};
 ghost use Rattle.chi_trace.specs.Explains.{at};
 ghost use Rattle.chi_search.specs.Effects.{AreEffects, HasEffect};
+ghost use Rattle.chi_search.specs.Knowing.{IsKnown};
 ghost use Rattle.chi_search.specs.Moves.{IsIdle};
-ghost use Rattle.chi_search.specs.Paths.{AreEarliest};
 ghost use Rattle.chi_search.specs.Positions;
 ghost use Rattle.chi_search.specs.Positions.{IsReady, position_of};
 ghost use Rattle.chi_search.specs.Within.{GoesOnWithin, KeepsWithin};
 
 use crate::effect::Effect;
+use crate::known::Known;
 use crate::state::{State, is_left, settle};
 use chi_trace::Observed;
 use std::alloc::AllocError;
@@ -36,27 +37,21 @@ pub(crate) fn keeps_word(ops: &[Observed], effects: &[Effect], place: usize, wor
 }
 
 // The place of an operation that keeps the bits of the mask and can come next, if there is one.
-fn kept_next(
-    ops: &[Observed],
-    effects: &[Effect],
-    earliest: &[u64],
-    mask: u64,
-    state: &State,
-) -> Option<usize>
-    requires known { AreEffects ops.now effects.now }
-    requires each { length ops.now ≤ length effects.now }
-    requires earliest { AreEarliest ops.now earliest.now }
-    ensures left { IfSome result (λ place. Positions.is_left (length ops.now) (position_of state.now) place ≡ true) }
-    ensures keeps { IfSome result (λ place. KeepsWithin mask (at ops.now place)) }
+fn kept_next(known: &Known, mask: u64, state: &State) -> Option<usize>
+    requires known { IsKnown known.now }
+    requires each { length known.now.ops.now ≤ length known.now.effects.now }
+    ensures left { IfSome result (λ place. Positions.is_left (length known.now.ops.now) (position_of state.now) place ≡ true) }
+    ensures keeps { IfSome result (λ place. KeepsWithin mask (at known.now.ops.now place)) }
 {
+    let ops = known.ops;
     if state.first >= ops.len() {
         return None;
     }
     let end = ops[state.first].end;
     let mut place = state.first;
-    while place < ops.len() && earliest[place] <= end {
+    while place < ops.len() && known.earliest[place] <= end {
         if ops[place].start <= end
-            && is_kept(&effects[place], mask, state.word)
+            && is_kept(&known.effects[place], mask, state.word)
             && is_left(state, ops.len(), place)
         {
             return Some(place);
@@ -68,24 +63,21 @@ fn kept_next(
 
 /// Settles all such operations that can come, one after the other. `spare` is written over.
 pub(crate) fn absorb(
-    ops: &[Observed],
-    effects: &[Effect],
-    earliest: &[u64],
+    known: &Known,
     mask: u64,
     state: &mut State,
     spare: &mut State,
 ) -> Result<(), AllocError>
-    requires known { AreEffects ops.now effects.now }
-    requires each { length ops.now ≤ length effects.now }
-    requires earliest { AreEarliest ops.now earliest.now }
-    requires ready { IsReady (length ops.now) (position_of state.now) }
-    ensures ready { OnOk result (IsReady (length ops.now) (position_of state.new)) }
-    ensures goes_on { OnOk result (GoesOnWithin mask ops.now (position_of state.old) (position_of state.new)) }
+    requires known { IsKnown known.now }
+    requires each { length known.now.ops.now ≤ length known.now.effects.now }
+    requires ready { IsReady (length known.now.ops.now) (position_of state.now) }
+    ensures ready { OnOk result (IsReady (length known.now.ops.now) (position_of state.new)) }
+    ensures goes_on { OnOk result (GoesOnWithin mask known.now.ops.now (position_of state.old) (position_of state.new)) }
 {
-    for _ in 0..ops.len() {
-        match kept_next(ops, effects, earliest, mask, state) {
+    for _ in 0..known.ops.len() {
+        match kept_next(known, mask, state) {
             Some(place) => {
-                settle(state, ops.len(), place, state.word, spare)?;
+                settle(state, known.ops.len(), place, state.word, spare)?;
                 mem::swap(state, spare);
             }
             None => return Ok(()),

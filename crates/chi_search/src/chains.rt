@@ -1,4 +1,6 @@
-//! Where the states of a set stand, by their hashes.
+//! The states of a set, and where they stand by their hashes.
+
+ghost use Rattle.std.specs.Prelude.{◌≡◌, []};
 
 use std::alloc::{AllocError, Global};
 
@@ -8,6 +10,13 @@ use std::alloc::{AllocError, Global};
 pub(crate) struct Chains {
     newest: Vec<u32>,
     older: Vec<u32>,
+}
+
+/// The states of a set, and where they stand.
+#[derive(Drop)]
+pub(crate) struct Chained<S> {
+    pub states: Vec<S>,
+    pub chains: Chains,
 }
 
 const FEWEST_BUCKETS: usize = 64;
@@ -20,11 +29,16 @@ fn with_buckets(alloc: Global, buckets: usize) -> Result<Chains, AllocError> {
     })
 }
 
-/// No buckets.
-pub(crate) fn no_chains(alloc: Global) -> Chains {
-    Chains {
-        newest: Vec::new(alloc),
-        older: Vec::new(alloc),
+/// The empty set.
+pub(crate) fn none_chained<S>(alloc: Global) -> Chained<S>
+    ensures { result.states.items ≡ [] }
+{
+    Chained {
+        states: Vec::new(alloc),
+        chains: Chains {
+            newest: Vec::new(alloc),
+            older: Vec::new(alloc),
+        },
     }
 }
 

@@ -5,15 +5,17 @@ ghost use Rattle.chi_trace.specs.Explains.{at};
 ghost use Rattle.chi_trace.specs.Granules.{Fits};
 ghost use Rattle.chi_search.specs.Choices.{IfDead, IfEnded, IfStep, IfTried};
 ghost use Rattle.chi_search.specs.Effects.{AreEffects};
+ghost use Rattle.chi_search.specs.Knowing.{IsKnown};
 ghost use Rattle.chi_search.specs.Moves.{CanCome, Drops, IsIdle, Takes};
 ghost use Rattle.chi_search.specs.Paths.{AllDead, AreEarliest, AreTried, IsDead, Moves};
 ghost use Rattle.chi_search.specs.Positions.{IsReady, position_of};
-ghost use Rattle.chi_search.specs.Searchable.{AreSorted, AreWithin};
+ghost use Rattle.chi_search.specs.Searchable.{AreWithin};
 
 use crate::absorbing::keeps_word;
 use crate::commuting::commuting_next;
 use crate::effect::Effect;
 use crate::equal::has_equal_before;
+use crate::known::Known;
 use crate::makers::{FOLLOWED, lacks_maker};
 use crate::narrowest::narrowest_next;
 use crate::state::{State, is_left, settle};
@@ -122,44 +124,39 @@ pub(crate) fn leave_out(
 }
 
 /// What can be done at a state, from which `next` is the next one, where the operations before the place `tried` were tried.
-/// `earliest` has the earliest start from each place on, and `dead` is a set of states from which no order goes on. `effects` has
-/// what is known of each operation, or is empty: then only the rule is used that takes what changes nothing. `by_width` says
-/// whether what changes fewer bits is tried first.
+/// `dead` is a set of states from which no order goes on. Where nothing is known of the operations only the rule is used that takes
+/// what changes nothing. `by_width` says whether what changes fewer bits is tried first.
 pub(crate) fn choose(
-    ops: &[Observed],
-    effects: &[Effect],
-    earliest: &[u64],
-    last: Option<u64>,
+    known: &Known,
     dead: &States,
     state: &State,
     tried: usize,
     by_width: bool,
     next: &mut State,
 ) -> Result<Choice, AllocError>
-    requires sorted { AreSorted ops.now }
-    requires within { AreWithin ops.now }
-    requires known { AreEffects ops.now effects.now }
-    requires earliest { AreEarliest ops.now earliest.now }
-    requires ready { IsReady (length ops.now) (position_of state.now) }
-    requires tried { AreTried ops.now last (position_of state.now) tried }
-    ensures ended { IfOk result (λ choice. IfEnded choice ((length ops.now ≤ state.now.first) × IfSome last (λ seen. state.now.word ≡ seen))) }
-    ensures moves { IfOk result (λ choice. IfStep choice (λ op. Moves ops.now (position_of state.now) op (position_of next.new))) }
-    ensures ready { IfOk result (λ choice. IfStep choice (λ op. IsReady (length ops.now) (position_of next.new))) }
-    ensures tried { IfOk result (λ choice. IfTried choice (λ place. AllDead ops.now last dead.now → AreTried ops.now last (position_of state.now) place)) }
-    ensures dead { IfOk result (λ choice. IfDead choice (AllDead ops.now last dead.now → IsDead ops.now last (position_of state.now))) }
+    requires known { IsKnown known.now }
+    requires ready { IsReady (length known.now.ops.now) (position_of state.now) }
+    requires tried { AreTried known.now.ops.now known.now.last (position_of state.now) tried }
+    ensures ended { IfOk result (λ choice. IfEnded choice ((length known.now.ops.now ≤ state.now.first) × IfSome known.now.last (λ seen. state.now.word ≡ seen))) }
+    ensures moves { IfOk result (λ choice. IfStep choice (λ op. Moves known.now.ops.now (position_of state.now) op (position_of next.new))) }
+    ensures ready { IfOk result (λ choice. IfStep choice (λ op. IsReady (length known.now.ops.now) (position_of next.new))) }
+    ensures tried { IfOk result (λ choice. IfTried choice (λ place. AllDead known.now.ops.now known.now.last dead.now → AreTried known.now.ops.now known.now.last (position_of state.now) place)) }
+    ensures dead { IfOk result (λ choice. IfDead choice (AllDead known.now.ops.now known.now.last dead.now → IsDead known.now.ops.now known.now.last (position_of state.now))) }
 {
+    let ops = known.ops;
+    let earliest = known.earliest;
     if state.first >= ops.len() {
-        return match last {
+        return match known.last {
             Some(seen) if seen != state.word => Ok(Choice::Dead),
             _ => Ok(Choice::Ended),
         };
     }
-    let with_rules = !effects.is_empty();
+    let with_rules = !known.effects.is_empty();
     // That the word is one of 64 bits is known here once it is read.
     let _word = state.word;
     let end = ops[state.first].end;
     if tried <= state.first {
-        if let Some(place) = idle_next(ops, effects, earliest, state) {
+        if let Some(place) = idle_next(ops, known.effects, earliest, state) {
             if take(ops, state, place, next)? {
                 if has(dead, next) {
                     return Ok(Choice::Dead);
@@ -171,18 +168,7 @@ pub(crate) fn choose(
                 });
             }
         }
-        if lacks_maker(
-            ops,
-            effects,
-            earliest,
-            last,
-            state,
-            u64::MAX,
-            end,
-            end,
-            LOOKED_AT,
-            FOLLOWED,
-        ) {
+        if lacks_maker(known, state, u64::MAX, end, end, LOOKED_AT, FOLLOWED) {
             return Ok(Choice::Dead);
         }
         // Where some order goes on, one goes on by this operation.
@@ -197,7 +183,7 @@ pub(crate) fn choose(
             return Ok(Choice::Dead);
         }
     }
-    if let Some(place) = narrowest_next(ops, effects, earliest, dead, state, by_width, next)? {
+    if let Some(place) = narrowest_next(known, dead, state, by_width, next)? {
         return Ok(Choice::Step {
             op: Some(place),
             tried,

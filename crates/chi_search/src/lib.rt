@@ -9,6 +9,7 @@ mod earliest;
 mod effect;
 mod equal;
 mod frontier;
+mod known;
 mod layer;
 mod makers;
 mod making;

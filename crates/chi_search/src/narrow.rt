@@ -3,7 +3,7 @@
 ghost use Rattle.std.specs.Prelude.{◌≡◌, ◌∷◌, [], ◌++◌, IsTrue, OnOk};
 ghost use Rattle.std.specs.List.{Contains};
 
-use crate::chains::{Chains, is_full, link, newest, no_chains, older, wider};
+use crate::chains::{Chained, is_full, link, newest, older, wider};
 use std::alloc::{AllocError, Global};
 
 /// A state of the search, with the settled operations in one word.
@@ -15,21 +15,7 @@ pub(crate) struct NarrowState {
 }
 
 /// A set of such states.
-#[derive(Drop)]
-pub(crate) struct Narrow {
-    pub states: Vec<NarrowState>,
-    pub chains: Chains,
-}
-
-/// The empty set.
-pub(crate) fn no_narrow(alloc: Global) -> Narrow
-    ensures { result.states.items ≡ [] }
-{
-    Narrow {
-        states: Vec::new(alloc),
-        chains: no_chains(alloc),
-    }
-}
+pub(crate) type Narrow = Chained<NarrowState>;
 
 // A number that differs for most states.
 fn hash(state: NarrowState) -> u64 {

@@ -4,12 +4,13 @@ ghost use Rattle.std.specs.Prelude.{◌≡◌, ℕ, ◌-◌, ◌≤◌, List, If
 ghost use Rattle.chi_trace.specs.Explains.{is_place};
 ghost use Rattle.chi_trace.specs.Granules.{Finishes};
 ghost use Rattle.chi_search.specs.Found.{IfNothing, IfOrder, IfUndecided};
+ghost use Rattle.chi_search.specs.Knowing.{IsKnown};
 ghost use Rattle.chi_search.specs.Looks.{LookedMore};
-ghost use Rattle.chi_search.specs.Paths.{AreEarliest};
 ghost use Rattle.chi_search.specs.Searchable.{AreSorted, AreWithin};
 
 use crate::earliest::earliest_starts;
 use crate::effect::effects_of;
+use crate::known::Known;
 use crate::makers::lacks_maker;
 use crate::parts::{add_parts, are_mostly_writes, parts_of};
 use crate::progress::Progress;
@@ -53,79 +54,52 @@ fn most_next(ops: &[Observed], earliest: &[u64]) -> usize {
 }
 
 // Whether an operation is seen at once to find what no other can leave, or the end to have it.
-fn is_hopeless(
-    alloc: Global,
-    ops: &[Observed],
-    earliest: &[u64],
-    word: u64,
-    last: Option<u64>,
-) -> Result<bool, AllocError>
-    requires within { AreWithin ops.now }
-    requires earliest { AreEarliest ops.now earliest.now }
-    ensures { IfOk result (λ is. IsTrue is → (order : List ℕ) → Finishes ops.now (is_place ops.now) word last order → ⊥) }
+fn is_hopeless(alloc: Global, known: &Known, word: u64) -> Result<bool, AllocError>
+    requires { IsKnown known.now }
+    ensures { IfOk result (λ is. IsTrue is → (order : List ℕ) → Finishes known.now.ops.now (is_place known.now.ops.now) word known.now.last order → ⊥) }
 {
-    let effects = effects_of(alloc, ops)?;
+    let effects = effects_of(alloc, known.ops)?;
+    let known = Known {
+        effects: &effects,
+        ..*known
+    };
     let first = first_state(alloc, word);
-    Ok(lacks_maker(
-        ops,
-        &effects,
-        earliest,
-        last,
-        &first,
-        u64::MAX,
-        u64::MAX,
-        u64::MAX,
-        LOOKED_AT,
-        0,
-    ))
+    Ok(lacks_maker(&known, &first, u64::MAX, u64::MAX, u64::MAX, LOOKED_AT, 0))
 }
 
 // Searches as `order_of` does with all rules. Where most are writes and that takes long, the parts of four bytes are asked too,
 // and the search begins again from time to time.
 fn search_by_rules<P: Progress>(
     alloc: Global,
-    ops: &[Observed],
-    earliest: &[u64],
+    known: &Known,
     word: u64,
-    last: Option<u64>,
     budget: &mut u64,
     progress: &mut P,
 ) -> Result<Found, AllocError>
-    requires sorted { AreSorted ops.now }
-    requires within { AreWithin ops.now }
-    requires earliest { AreEarliest ops.now earliest.now }
-    ensures order { IfOk result (λ found. IfOrder found (λ order. Finishes ops.now (is_place ops.now) word last order)) }
-    ensures nothing { IfOk result (λ found. IfNothing found ((order : List ℕ) → Finishes ops.now (is_place ops.now) word last order → ⊥)) }
+    requires { IsKnown known.now }
+    ensures order { IfOk result (λ found. IfOrder found (λ order. Finishes known.now.ops.now (is_place known.now.ops.now) word known.now.last order)) }
+    ensures nothing { IfOk result (λ found. IfNothing found ((order : List ℕ) → Finishes known.now.ops.now (is_place known.now.ops.now) word known.now.last order → ⊥)) }
     ensures undecided { IfOk result (λ found. IfUndecided found (budget.new ≡ 0)) }
     ensures spends { IfOk result (λ found. (budget.new ≤ budget.old) × LookedMore P.looked progress.old progress.new (budget.old - budget.new)) }
 {
+    let (ops, last) = (known.ops, known.last);
     let effects = effects_of(alloc, ops)?;
+    let known = Known {
+        effects: &effects,
+        ..*known
+    };
     let mut parts = parts_of(alloc, ops, last)?;
     if !are_mostly_writes(ops) {
-        return search(
-            alloc,
-            ops,
-            &effects,
-            earliest,
-            &mut parts,
-            word,
-            last,
-            u64::MAX,
-            budget,
-            progress,
-        );
+        return search(alloc, &known, &mut parts, word, u64::MAX, budget, progress);
     }
     let span = (ops.len() as u64).saturating_mul(SPAN_STATES);
     let short = span.min(*budget);
     let mut left = short;
     let found = search(
         alloc,
-        ops,
-        &effects,
-        earliest,
+        &known,
         &mut parts,
         word,
-        last,
         u64::MAX,
         &mut left,
         progress,
@@ -136,18 +110,7 @@ fn search_by_rules<P: Progress>(
     }
     let mut more_parts = parts_of(alloc, ops, last)?;
     add_parts(alloc, ops, last, 4, &mut more_parts)?;
-    search(
-        alloc,
-        ops,
-        &effects,
-        earliest,
-        &mut more_parts,
-        word,
-        last,
-        span,
-        budget,
-        progress,
-    )
+    search(alloc, &known, &mut more_parts, word, span, budget, progress)
 }
 
 /// Searches for an order of the operations of one granule, from its word at the opening on, which leaves `last` where that was
@@ -181,31 +144,26 @@ pub fn order_of<P: Progress>(
     ensures spends { IfOk result (λ found. (budget.new ≤ budget.old) × LookedMore P.looked progress.old progress.new (budget.old - budget.new)) }
 {
     let earliest = earliest_starts(alloc, ops)?;
+    let known = Known {
+        ops,
+        last,
+        effects: &[],
+        earliest: &earliest,
+    };
     let is_hot = most_next(ops, &earliest) > FEW_NEXT;
-    if is_hot && is_hopeless(alloc, ops, &earliest, word, last)? {
+    if is_hot && is_hopeless(alloc, &known, word)? {
         return Ok(Found::Nothing);
     }
     // Most operations have an order that a plain search finds at once.
     let plain = (ops.len() as u64).saturating_mul(PLAIN_STATES).min(*budget);
     let mut left = plain;
-    let found = search(
-        alloc,
-        ops,
-        &[],
-        &earliest,
-        &mut [],
-        word,
-        last,
-        u64::MAX,
-        &mut left,
-        progress,
-    )?;
+    let found = search(alloc, &known, &mut [], word, u64::MAX, &mut left, progress)?;
     *budget -= plain - left;
     if let Found::Order(_) | Found::Nothing = found {
         return Ok(found);
     }
-    if !is_hot && is_hopeless(alloc, ops, &earliest, word, last)? {
+    if !is_hot && is_hopeless(alloc, &known, word)? {
         return Ok(Found::Nothing);
     }
-    search_by_rules(alloc, ops, &earliest, word, last, budget, progress)
+    search_by_rules(alloc, &known, word, budget, progress)
 }

@@ -1,23 +1,20 @@
 //! The search in a run of bytes of a granule: whether the operations that are left have an order there.
 
-ghost use Rattle.std.specs.Prelude.{◌≡◌, ℕ, ◌+◌, ◌-◌, ◌<◌, ◌≤◌, IfOk, IfSome, IsTrue, List, None, OnOk, Option, false, length};
+ghost use Rattle.std.specs.Prelude.{◌≡◌, ℕ, ◌+◌, ◌-◌, ◌<◌, ◌≤◌, IfOk, IsTrue, List, None, OnOk, Option, false, length};
 ghost use Rattle.chi_trace.specs.Explains.{at};
 ghost use Rattle.chi_search.specs.Choices.{IfDead, IfStep, IfTried};
-ghost use Rattle.chi_search.specs.Effects.{AreEffects};
+ghost use Rattle.chi_search.specs.Knowing.{IsKnown};
 ghost use Rattle.chi_search.specs.Looks.{LookedMore};
-ghost use Rattle.chi_search.specs.Moves.{CanCome};
 ghost use Rattle.chi_search.specs.Outcomes.{HasBits};
-ghost use Rattle.chi_search.specs.Parts.{IfDeadEnd, IfLeads, IsPartOf};
-ghost use Rattle.chi_search.specs.Paths.{AreEarliest};
+ghost use Rattle.chi_search.specs.Parts.{IsPartOf};
 ghost use Rattle.chi_search.specs.Positions;
 ghost use Rattle.chi_search.specs.Positions.{IsReady, position_of};
-ghost use Rattle.chi_search.specs.Searchable.{AreSorted, AreWithin};
 ghost use Rattle.chi_trace.specs.declared.observed.Observed.{Observed};
-ghost use Rattle.chi_search.specs.Within.{AllDeadWithin, AreTriedWithin, ByDroppingWithin, ByTakingWithin, GoesOnBy, IsDeadWithin, IsRun};
+ghost use Rattle.chi_search.specs.Within.{AllDeadWithin, AreTriedWithin, ByDroppingWithin, GoesOnBy, IsDeadWithin, IsRun};
 
 use crate::absorbing::absorb;
 use crate::choice::Choice;
-use crate::effect::Effect;
+use crate::known::Known;
 use crate::makers::{FOLLOWED, lacks_maker};
 use crate::outcomes::{Outcomes, outcomes_of};
 use crate::path::Step;
@@ -26,7 +23,6 @@ use crate::state::{State, first_state, is_left, settle};
 use crate::states::{States, add, has, no_states};
 use crate::wide::copy_of;
 use chi_lanes::lane_mask;
-use chi_trace::Observed;
 use std::alloc::{AllocError, Global};
 
 /// How many operations are looked at for makers at a state.
@@ -54,37 +50,10 @@ pub(crate) fn part_from(alloc: Global, byte: usize, len: usize) -> Part
     }
 }
 
-// Makes `next` the state after an operation was settled and left this word, and after those that are settled before all others;
-// and says whether it is not known that no order goes on from there.
-fn leads_on(
-    ops: &[Observed],
-    effects: &[Effect],
-    earliest: &[u64],
-    part: &Part,
-    state: &State,
-    place: usize,
-    word: u64,
-    next: &mut State,
-    spare: &mut State,
-) -> Result<bool, AllocError>
-    requires known { AreEffects ops.now effects.now }
-    requires each { length ops.now ≤ length effects.now }
-    requires earliest { AreEarliest ops.now earliest.now }
-    requires ready { IsReady (length ops.now) (position_of state.now) }
-    requires left { IsTrue (Positions.is_left (length ops.now) (position_of state.now) place) }
-    ensures ready { OnOk result (IsReady (length ops.now) (position_of next.new)) }
-    ensures dead { IfOk result (λ is. is ≡ false → (last : Option ℕ) → AllDeadWithin part.now.mask ops.now last part.now.dead → GoesOnBy part.now.mask ops.now last (position_of state.now) place word → ⊥) }
-{
-    settle(state, ops.len(), place, word & part.mask, next)?;
-    absorb(ops, effects, earliest, part.mask, next, spare)?;
-    Ok(!has(&part.dead, next))
-}
-
-// The same where there is a word.
+// Makes `next` the state after an operation was settled and left this word, where there is one, and after those that are settled
+// before all others; and says whether it is not known that no order goes on from there.
 fn leads_by(
-    ops: &[Observed],
-    effects: &[Effect],
-    earliest: &[u64],
+    known: &Known,
     part: &Part,
     state: &State,
     place: usize,
@@ -92,94 +61,40 @@ fn leads_by(
     next: &mut State,
     spare: &mut State,
 ) -> Result<bool, AllocError>
-    requires known { AreEffects ops.now effects.now }
-    requires each { length ops.now ≤ length effects.now }
-    requires earliest { AreEarliest ops.now earliest.now }
-    requires ready { IsReady (length ops.now) (position_of state.now) }
-    requires left { IsTrue (Positions.is_left (length ops.now) (position_of state.now) place) }
-    ensures ready { IfOk result (λ is. IsTrue is → IsReady (length ops.now) (position_of next.new)) }
-    ensures dead { IfOk result (λ is. is ≡ false → (last : Option ℕ) → AllDeadWithin part.now.mask ops.now last part.now.dead → (u : ℕ) → HasBits part.now.mask u word → GoesOnBy part.now.mask ops.now last (position_of state.now) place u → ⊥) }
+    requires known { IsKnown known.now }
+    requires each { length known.now.ops.now ≤ length known.now.effects.now }
+    requires ready { IsReady (length known.now.ops.now) (position_of state.now) }
+    requires left { IsTrue (Positions.is_left (length known.now.ops.now) (position_of state.now) place) }
+    ensures ready { IfOk result (λ is. IsTrue is → IsReady (length known.now.ops.now) (position_of next.new)) }
+    ensures dead { IfOk result (λ is. is ≡ false → (last : Option ℕ) → AllDeadWithin part.now.mask known.now.ops.now last part.now.dead → (u : ℕ) → HasBits part.now.mask u word → GoesOnBy part.now.mask known.now.ops.now last (position_of state.now) place u → ⊥) }
 {
-    match word {
-        Some(word) => leads_on(
-            ops, effects, earliest, part, state, place, word, next, spare,
-        ),
-        None => Ok(false),
-    }
-}
-
-/// What taking an operation leads to: a state that is not known to be dead, none but dead ones, or any.
-pub(crate) enum Next {
-    Leads,
-    Dead,
-    Unknown,
-}
-
-// Makes `next` a state to which an operation leads, where it can come and one is not known to be dead.
-fn take_within(
-    ops: &[Observed],
-    effects: &[Effect],
-    earliest: &[u64],
-    part: &Part,
-    state: &State,
-    place: usize,
-    next: &mut State,
-    spare: &mut State,
-) -> Result<Next, AllocError>
-    requires within { AreWithin ops.now }
-    requires known { AreEffects ops.now effects.now }
-    requires each { length ops.now ≤ length effects.now }
-    requires earliest { AreEarliest ops.now earliest.now }
-    requires run { IsRun part.now.mask }
-    requires ready { IsReady (length ops.now) (position_of state.now) }
-    requires first { state.now.first < length ops.now }
-    requires place { place < length ops.now }
-    ensures ready { IfOk result (λ found. IfLeads found (IsReady (length ops.now) (position_of next.new))) }
-    ensures dead { IfOk result (λ found. IfDeadEnd found ((last : Option ℕ) → AllDeadWithin part.now.mask ops.now last part.now.dead → ByTakingWithin part.now.mask ops.now last (position_of state.now) place → ⊥)) }
-{
-    if ops[place].start > ops[state.first].end || !is_left(state, ops.len(), place) {
-        return Ok(Next::Dead);
-    }
-    match outcomes_of(&ops[place], &effects[place], part.mask, state.word) {
-        Outcomes::Known { one, other } => {
-            if leads_by(ops, effects, earliest, part, state, place, one, next, spare)? {
-                return Ok(Next::Leads);
-            }
-            if leads_by(
-                ops, effects, earliest, part, state, place, other, next, spare,
-            )? {
-                return Ok(Next::Leads);
-            }
-            Ok(Next::Dead)
-        }
-        Outcomes::Unknown => Ok(Next::Unknown),
-    }
+    let Some(word) = word else {
+        return Ok(false);
+    };
+    settle(state, known.ops.len(), place, word & part.mask, next)?;
+    absorb(known, part.mask, next, spare)?;
+    Ok(!has(&part.dead, next))
 }
 
 // Makes `next` the state without the first operation, where its reply was not seen and it is not known to be dead.
 fn leave_out_within(
-    ops: &[Observed],
-    effects: &[Effect],
-    earliest: &[u64],
+    known: &Known,
     part: &Part,
     state: &State,
     next: &mut State,
     spare: &mut State,
 ) -> Result<bool, AllocError>
-    requires known { AreEffects ops.now effects.now }
-    requires each { length ops.now ≤ length effects.now }
-    requires earliest { AreEarliest ops.now earliest.now }
-    requires ready { IsReady (length ops.now) (position_of state.now) }
-    requires first { state.now.first < length ops.now }
-    ensures ready { IfOk result (λ is. IsTrue is → IsReady (length ops.now) (position_of next.new)) }
-    ensures dead { IfOk result (λ is. is ≡ false → (last : Option ℕ) → AllDeadWithin part.now.mask ops.now last part.now.dead → ByDroppingWithin part.now.mask ops.now last (position_of state.now) → ⊥) }
+    requires known { IsKnown known.now }
+    requires each { length known.now.ops.now ≤ length known.now.effects.now }
+    requires ready { IsReady (length known.now.ops.now) (position_of state.now) }
+    requires first { state.now.first < length known.now.ops.now }
+    ensures ready { IfOk result (λ is. IsTrue is → IsReady (length known.now.ops.now) (position_of next.new)) }
+    ensures dead { IfOk result (λ is. is ≡ false → (last : Option ℕ) → AllDeadWithin part.now.mask known.now.ops.now last part.now.dead → ByDroppingWithin part.now.mask known.now.ops.now last (position_of state.now) → ⊥) }
 {
-    match ops[state.first].reply {
+    match known.ops[state.first].reply {
         Some(_) => Ok(false),
         None => leads_by(
-            ops,
-            effects,
-            earliest,
+            known,
             part,
             state,
             state.first,
@@ -193,70 +108,58 @@ fn leave_out_within(
 // What can be done at a state, as `choose` says it; it has ended too where it is known that an order goes on, or nothing can be
 // known of what comes next.
 fn choose_within(
-    ops: &[Observed],
-    effects: &[Effect],
-    earliest: &[u64],
-    last: Option<u64>,
+    known: &Known,
     part: &Part,
     state: &State,
     tried: usize,
     next: &mut State,
     spare: &mut State,
 ) -> Result<Choice, AllocError>
-    requires sorted { AreSorted ops.now }
-    requires within { AreWithin ops.now }
-    requires known { AreEffects ops.now effects.now }
-    requires each { length ops.now ≤ length effects.now }
-    requires earliest { AreEarliest ops.now earliest.now }
+    requires known { IsKnown known.now }
+    requires each { length known.now.ops.now ≤ length known.now.effects.now }
     requires run { IsRun part.now.mask }
-    requires ready { IsReady (length ops.now) (position_of state.now) }
-    requires tried { AreTriedWithin part.now.mask ops.now last (position_of state.now) tried }
-    ensures ready { IfOk result (λ choice. IfStep choice (λ op. IsReady (length ops.now) (position_of next.new))) }
-    ensures tried { IfOk result (λ choice. IfTried choice (λ place. AllDeadWithin part.now.mask ops.now last part.now.dead → AreTriedWithin part.now.mask ops.now last (position_of state.now) place)) }
-    ensures dead { IfOk result (λ choice. IfDead choice (AllDeadWithin part.now.mask ops.now last part.now.dead → IsDeadWithin part.now.mask ops.now last (position_of state.now))) }
+    requires ready { IsReady (length known.now.ops.now) (position_of state.now) }
+    requires tried { AreTriedWithin part.now.mask known.now.ops.now known.now.last (position_of state.now) tried }
+    ensures ready { IfOk result (λ choice. IfStep choice (λ op. IsReady (length known.now.ops.now) (position_of next.new))) }
+    ensures tried { IfOk result (λ choice. IfTried choice (λ place. AllDeadWithin part.now.mask known.now.ops.now known.now.last part.now.dead → AreTriedWithin part.now.mask known.now.ops.now known.now.last (position_of state.now) place)) }
+    ensures dead { IfOk result (λ choice. IfDead choice (AllDeadWithin part.now.mask known.now.ops.now known.now.last part.now.dead → IsDeadWithin part.now.mask known.now.ops.now known.now.last (position_of state.now))) }
 {
+    let ops = known.ops;
     if has(&part.alive, state) {
         return Ok(Choice::Ended);
     }
     if state.first >= ops.len() {
-        return match last {
+        return match known.last {
             Some(seen) if (seen ^ state.word) & part.mask != 0 => Ok(Choice::Dead),
             _ => Ok(Choice::Ended),
         };
     }
     let end = ops[state.first].end;
     if tried <= state.first
-        && lacks_maker(
-            ops,
-            effects,
-            earliest,
-            last,
-            state,
-            part.mask,
-            end,
-            u64::MAX,
-            LOOKED_AT,
-            FOLLOWED,
-        )
+        && lacks_maker(known, state, part.mask, end, u64::MAX, LOOKED_AT, FOLLOWED)
     {
         return Ok(Choice::Dead);
     }
     let mut place = tried;
-    while place < ops.len() && earliest[place] <= end {
-        match take_within(ops, effects, earliest, part, state, place, next, spare)? {
-            Next::Leads => {
+    while place < ops.len() && known.earliest[place] <= end {
+        if ops[place].start <= end && is_left(state, ops.len(), place) {
+            let outcomes = outcomes_of(&ops[place], &known.effects[place], part.mask, state.word);
+            let Outcomes::Known { one, other } = outcomes else {
+                return Ok(Choice::Ended);
+            };
+            if leads_by(known, part, state, place, one, next, spare)?
+                || leads_by(known, part, state, place, other, next, spare)?
+            {
                 return Ok(Choice::Step {
                     op: Some(place),
                     tried: place,
                     is_only: false,
                 });
             }
-            Next::Dead => {}
-            Next::Unknown => return Ok(Choice::Ended),
         }
         place += 1;
     }
-    if leave_out_within(ops, effects, earliest, part, state, next, spare)? {
+    if leave_out_within(known, part, state, next, spare)? {
         return Ok(Choice::Step {
             op: None,
             tried: place,
@@ -278,31 +181,25 @@ fn keep_alive(alloc: Global, alive: &mut States, state: &State) -> Result<(), Al
 /// states may be looked at.
 pub(crate) fn lacks_order<P: Progress>(
     alloc: Global,
-    ops: &[Observed],
-    effects: &[Effect],
-    earliest: &[u64],
-    last: Option<u64>,
+    known: &Known,
     part: &mut Part,
     from: &State,
     budget: &mut u64,
     progress: &mut P,
 ) -> Result<bool, AllocError>
-    requires sorted { AreSorted ops.now }
-    requires within { AreWithin ops.now }
-    requires known { AreEffects ops.now effects.now }
-    requires each { length ops.now ≤ length effects.now }
-    requires earliest { AreEarliest ops.now earliest.now }
-    requires ready { IsReady (length ops.now) (position_of from.now) }
-    requires part { IsPartOf ops.now last part.now }
-    ensures dead { IfOk result (λ is. IsTrue is → IsDeadWithin part.old.mask ops.now last (position_of from.now)) }
-    ensures part { OnOk result (IsPartOf ops.now last part.new) }
+    requires known { IsKnown known.now }
+    requires each { length known.now.ops.now ≤ length known.now.effects.now }
+    requires ready { IsReady (length known.now.ops.now) (position_of from.now) }
+    requires part { IsPartOf known.now.ops.now known.now.last part.now }
+    ensures dead { IfOk result (λ is. IsTrue is → IsDeadWithin part.old.mask known.now.ops.now known.now.last (position_of from.now)) }
+    ensures part { OnOk result (IsPartOf known.now.ops.now known.now.last part.new) }
     ensures spends { IfOk result (λ is. (budget.new ≤ budget.old) × LookedMore P.looked progress.old progress.new (budget.old - budget.new)) }
 {
     let mut state = copy_of(alloc, from)?;
     state.word &= part.mask;
     let mut next = first_state(alloc, 0);
     let mut spare = first_state(alloc, 0);
-    absorb(ops, effects, earliest, part.mask, &mut state, &mut spare)?;
+    absorb(known, part.mask, &mut state, &mut spare)?;
     let start = copy_of(alloc, &state)?;
     if has(&part.dead, &start) {
         return Ok(true);
@@ -310,9 +207,7 @@ pub(crate) fn lacks_order<P: Progress>(
     let mut path: Vec<Step> = Vec::new(alloc);
     let mut tried = state.first;
     while *budget > 0 {
-        match choose_within(
-            ops, effects, earliest, last, part, &state, tried, &mut next, &mut spare,
-        )? {
+        match choose_within(known, part, &state, tried, &mut next, &mut spare)? {
             Choice::Ended => {
                 for step in &path {
                     keep_alive(alloc, &mut part.alive, &step.from)?;

@@ -1,14 +1,13 @@
 //! The word of a granule in parts of one, two or four bytes, which are asked whether the search can go on.
 
 ghost use Rattle.std.specs.Prelude.{◌-◌, ◌≤◌, All, IfOk, IsTrue, OnOk, length};
-ghost use Rattle.chi_search.specs.Effects.{AreEffects};
+ghost use Rattle.chi_search.specs.Knowing.{IsKnown};
 ghost use Rattle.chi_search.specs.Looks.{LookedMore};
 ghost use Rattle.chi_search.specs.Parts.{IsPartOf};
-ghost use Rattle.chi_search.specs.Paths.{AreEarliest, IsDead};
+ghost use Rattle.chi_search.specs.Paths.{IsDead};
 ghost use Rattle.chi_search.specs.Positions.{IsReady, position_of};
-ghost use Rattle.chi_search.specs.Searchable.{AreSorted, AreWithin};
 
-use crate::effect::Effect;
+use crate::known::Known;
 use crate::part::{Part, lacks_order, part_from};
 use crate::progress::Progress;
 use crate::state::State;
@@ -81,40 +80,24 @@ pub(crate) fn parts_of(
 /// Whether in one of the parts no order of what is left goes on, as far as that is seen. So many states may be looked at.
 pub(crate) fn has_dead_part<P: Progress>(
     alloc: Global,
-    ops: &[Observed],
-    effects: &[Effect],
-    earliest: &[u64],
-    last: Option<u64>,
+    known: &Known,
     parts: &mut [Part],
     state: &State,
     budget: &mut u64,
     progress: &mut P,
 ) -> Result<bool, AllocError>
-    requires sorted { AreSorted ops.now }
-    requires within { AreWithin ops.now }
-    requires known { AreEffects ops.now effects.now }
-    requires each { length ops.now ≤ length effects.now }
-    requires earliest { AreEarliest ops.now earliest.now }
-    requires ready { IsReady (length ops.now) (position_of state.now) }
-    requires parts { All (IsPartOf ops.now last) parts.now }
-    ensures dead { IfOk result (λ is. IsTrue is → IsDead ops.now last (position_of state.now)) }
-    ensures parts { OnOk result (All (IsPartOf ops.now last) parts.new) }
+    requires known { IsKnown known.now }
+    requires each { length known.now.ops.now ≤ length known.now.effects.now }
+    requires ready { IsReady (length known.now.ops.now) (position_of state.now) }
+    requires parts { All (IsPartOf known.now.ops.now known.now.last) parts.now }
+    ensures dead { IfOk result (λ is. IsTrue is → IsDead known.now.ops.now known.now.last (position_of state.now)) }
+    ensures parts { OnOk result (All (IsPartOf known.now.ops.now known.now.last) parts.new) }
     ensures spends { IfOk result (λ is. (budget.new ≤ budget.old) × LookedMore P.looked progress.old progress.new (budget.old - budget.new)) }
 {
     // That the word is one of 64 bits is known here once it is read.
     let _word = state.word;
     for place in 0..parts.len() {
-        if lacks_order(
-            alloc,
-            ops,
-            effects,
-            earliest,
-            last,
-            &mut parts[place],
-            state,
-            budget,
-            progress,
-        )? {
+        if lacks_order(alloc, known, &mut parts[place], state, budget, progress)? {
             return Ok(true);
         }
     }

@@ -3,17 +3,16 @@
 ghost use Rattle.std.specs.Prelude.{◌≡◌, ℕ, ◌-◌, ◌≤◌, ◌⊎◌, All, List, IfOk, IfSome, OnOk, length};
 ghost use Rattle.chi_trace.specs.Explains.{is_place};
 ghost use Rattle.chi_trace.specs.Granules.{Finishes};
-ghost use Rattle.chi_search.specs.Effects.{AreEffects};
 ghost use Rattle.chi_search.specs.Found.{IfNothing, IfOrder, IfUndecided};
+ghost use Rattle.chi_search.specs.Knowing.{IsKnown};
 ghost use Rattle.chi_search.specs.Looks.{LookedMore};
 ghost use Rattle.chi_search.specs.Choices.{IfDead, IfEnded, IfStep, IfTried};
 ghost use Rattle.chi_search.specs.Parts.{IsPartOf};
-ghost use Rattle.chi_search.specs.Paths.{AllDead, AreEarliest, AreTried, IsDead, Moves};
+ghost use Rattle.chi_search.specs.Paths.{AllDead, AreTried, IsDead, Moves};
 ghost use Rattle.chi_search.specs.Positions.{IsReady, position_of};
-ghost use Rattle.chi_search.specs.Searchable.{AreSorted, AreWithin};
 
 use crate::choice::{Choice, choose};
-use crate::effect::Effect;
+use crate::known::Known;
 use crate::order::Found;
 use crate::part::Part;
 use crate::parts::has_dead_part;
@@ -21,17 +20,13 @@ use crate::path::{Step, taken};
 use crate::progress::Progress;
 use crate::state::{State, first_state};
 use crate::states::{States, add, no_states};
-use chi_trace::Observed;
 use std::alloc::{AllocError, Global};
 
 // What can be done at a state, as `choose` says it. A state that is new is asked of the parts of its word first, where there are
 // some.
 fn decide<P: Progress>(
     alloc: Global,
-    ops: &[Observed],
-    effects: &[Effect],
-    earliest: &[u64],
-    last: Option<u64>,
+    known: &Known,
     dead: &States,
     parts: &mut [Part],
     state: &State,
@@ -42,56 +37,43 @@ fn decide<P: Progress>(
     budget: &mut u64,
     progress: &mut P,
 ) -> Result<Choice, AllocError>
-    requires sorted { AreSorted ops.now }
-    requires within { AreWithin ops.now }
-    requires known { AreEffects ops.now effects.now }
-    requires earliest { AreEarliest ops.now earliest.now }
-    requires ready { IsReady (length ops.now) (position_of state.now) }
-    requires tried { AreTried ops.now last (position_of state.now) tried }
-    requires parts { All (IsPartOf ops.now last) parts.now }
-    ensures ended { IfOk result (λ choice. IfEnded choice ((length ops.now ≤ state.now.first) × IfSome last (λ seen. state.now.word ≡ seen))) }
-    ensures moves { IfOk result (λ choice. IfStep choice (λ op. Moves ops.now (position_of state.now) op (position_of next.new))) }
-    ensures ready { IfOk result (λ choice. IfStep choice (λ op. IsReady (length ops.now) (position_of next.new))) }
-    ensures tried { IfOk result (λ choice. IfTried choice (λ place. AllDead ops.now last dead.now → AreTried ops.now last (position_of state.now) place)) }
-    ensures dead { IfOk result (λ choice. IfDead choice (AllDead ops.now last dead.now → IsDead ops.now last (position_of state.now))) }
-    ensures parts { OnOk result (All (IsPartOf ops.now last) parts.new) }
+    requires known { IsKnown known.now }
+    requires ready { IsReady (length known.now.ops.now) (position_of state.now) }
+    requires tried { AreTried known.now.ops.now known.now.last (position_of state.now) tried }
+    requires parts { All (IsPartOf known.now.ops.now known.now.last) parts.now }
+    ensures ended { IfOk result (λ choice. IfEnded choice ((length known.now.ops.now ≤ state.now.first) × IfSome known.now.last (λ seen. state.now.word ≡ seen))) }
+    ensures moves { IfOk result (λ choice. IfStep choice (λ op. Moves known.now.ops.now (position_of state.now) op (position_of next.new))) }
+    ensures ready { IfOk result (λ choice. IfStep choice (λ op. IsReady (length known.now.ops.now) (position_of next.new))) }
+    ensures tried { IfOk result (λ choice. IfTried choice (λ place. AllDead known.now.ops.now known.now.last dead.now → AreTried known.now.ops.now known.now.last (position_of state.now) place)) }
+    ensures dead { IfOk result (λ choice. IfDead choice (AllDead known.now.ops.now known.now.last dead.now → IsDead known.now.ops.now known.now.last (position_of state.now))) }
+    ensures parts { OnOk result (All (IsPartOf known.now.ops.now known.now.last) parts.new) }
     ensures spends { IfOk result (λ choice. (budget.new ≤ budget.old) × LookedMore P.looked progress.old progress.new (budget.old - budget.new)) }
 {
     if is_new
-        && effects.len() >= ops.len()
-        && has_dead_part(
-            alloc, ops, effects, earliest, last, parts, state, budget, progress,
-        )?
+        && known.effects.len() >= known.ops.len()
+        && has_dead_part(alloc, known, parts, state, budget, progress)?
     {
         return Ok(Choice::Dead);
     }
-    choose(
-        ops, effects, earliest, last, dead, state, tried, by_width, next,
-    )
+    choose(known, dead, state, tried, by_width, next)
 }
 
-/// Searches as `order_of` does, from the start on. `effects` has what is known of each operation, or is empty: then it goes
-/// without the rules that take time at each state. `parts` are those of the word that are asked, or none. After each `span` states
-/// it begins again, with the states that it found dead, and tries what changes fewer bits first every other time.
+/// Searches as `order_of` does, from the start on. Where nothing is known of the operations it goes without the rules that take
+/// time at each state. `parts` are those of the word that are asked, or none. After each `span` states it begins again, with the
+/// states that it found dead, and tries what changes fewer bits first every other time.
 pub(crate) fn search<P: Progress>(
     alloc: Global,
-    ops: &[Observed],
-    effects: &[Effect],
-    earliest: &[u64],
+    known: &Known,
     parts: &mut [Part],
     word: u64,
-    last: Option<u64>,
     span: u64,
     budget: &mut u64,
     progress: &mut P,
 ) -> Result<Found, AllocError>
-    requires sorted { AreSorted ops.now }
-    requires within { AreWithin ops.now }
-    requires known { AreEffects ops.now effects.now }
-    requires earliest { AreEarliest ops.now earliest.now }
-    requires parts { All (IsPartOf ops.now last) parts.now }
-    ensures order { IfOk result (λ found. IfOrder found (λ order. Finishes ops.now (is_place ops.now) word last order)) }
-    ensures nothing { IfOk result (λ found. IfNothing found ((order : List ℕ) → Finishes ops.now (is_place ops.now) word last order → ⊥)) }
+    requires known { IsKnown known.now }
+    requires parts { All (IsPartOf known.now.ops.now known.now.last) parts.now }
+    ensures order { IfOk result (λ found. IfOrder found (λ order. Finishes known.now.ops.now (is_place known.now.ops.now) word known.now.last order)) }
+    ensures nothing { IfOk result (λ found. IfNothing found ((order : List ℕ) → Finishes known.now.ops.now (is_place known.now.ops.now) word known.now.last order → ⊥)) }
     ensures undecided { IfOk result (λ found. IfUndecided found (budget.new ≡ 0)) }
     ensures spends { IfOk result (λ found. (budget.new ≤ budget.old) × LookedMore P.looked progress.old progress.new (budget.old - budget.new)) }
 {
@@ -105,8 +87,8 @@ pub(crate) fn search<P: Progress>(
     let mut due = budget.saturating_sub(span);
     while *budget > 0 {
         match decide(
-            alloc, ops, effects, earliest, last, &dead, parts, &state, tried, is_new, by_width,
-            &mut next, budget, progress,
+            alloc, known, &dead, parts, &state, tried, is_new, by_width, &mut next, budget,
+            progress,
         )? {
             Choice::Ended => {
                 let order = taken(alloc, &path)?;

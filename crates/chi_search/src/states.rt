@@ -4,9 +4,10 @@ ghost use Rattle.std.specs.Prelude.{◌≡◌, ℕ, ◌<◌, ◌⊎◌, ◌↔�
 ghost use Rattle.chi_search.specs.Positions.{Position, position_of};
 ghost use Rattle.chi_search.specs.StateSets.{Has, position_of_narrow, positions};
 
-use crate::narrow::{Narrow, NarrowState, add_narrow, has_narrow, no_narrow};
+use crate::chains::none_chained;
+use crate::narrow::{Narrow, NarrowState, add_narrow, has_narrow};
 use crate::state::State;
-use crate::wide::{Wide, add_wide, has_wide, no_wide};
+use crate::wide::{Wide, add_wide, has_wide};
 use std::alloc::{AllocError, Global};
 
 /// A set of states.
@@ -21,8 +22,8 @@ pub(crate) fn no_states(alloc: Global) -> States
     ensures { positions result ≡ [] }
 {
     States {
-        narrow: no_narrow(alloc),
-        wide: no_wide(alloc),
+        narrow: none_chained(alloc),
+        wide: none_chained(alloc),
     }
 }
 

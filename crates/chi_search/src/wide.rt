@@ -4,27 +4,13 @@ ghost use Rattle.std.specs.Prelude.{◌≡◌, ◌∷◌, [], ◌++◌, IfOk, Is
 ghost use Rattle.std.specs.List.{Contains};
 ghost use Rattle.chi_search.specs.Positions.{position_of};
 
-use crate::chains::{Chains, is_full, link, newest, no_chains, older, wider};
+use crate::chains::{Chained, is_full, link, newest, older, wider};
 use crate::settled::Settled;
 use crate::state::State;
 use std::alloc::{AllocError, Global};
 
 /// A set of states.
-#[derive(Drop)]
-pub(crate) struct Wide {
-    pub states: Vec<State>,
-    pub chains: Chains,
-}
-
-/// The empty set.
-pub(crate) fn no_wide(alloc: Global) -> Wide
-    ensures { result.states.items ≡ [] }
-{
-    Wide {
-        states: Vec::new(alloc),
-        chains: no_chains(alloc),
-    }
-}
+pub(crate) type Wide = Chained<State>;
 
 /// A state like this one.
 pub(crate) fn copy_of(alloc: Global, state: &State) -> Result<State, AllocError>

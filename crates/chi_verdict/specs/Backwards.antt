@@ -2,6 +2,7 @@
 use Rattle.std.specs.Prelude.{◌≡◌, ℕ}
 use Rattle.chi_verdict.specs.declared.first.Back.{Back}
 use Rattle.chi_verdict.specs.declared.first.Back.TheVariants.{Answer, Earlier}
+use Rattle.chi_verdict.specs.declared.first.Failing.{Failing}
 use Rattle.chi_verdict.specs.declared.first.First.{First}
 use Rattle.chi_verdict.specs.Blames.{IfAt, IfNever, IfNotFound, IsBlame}
 use Rattle.chi_verdict.specs.Traces.{TraceValue}
@@ -12,11 +13,11 @@ pub record IsFirst (t : TraceValue) (budget : ℕ) (first : First) : Type 0 wher
   pub blame : IfAt first (IsBlame t)
   pub undecided : IfNotFound first (λ states. states ≡ budget)
 
--- P of the answer, or of the granule, that a search back in time comes to
+-- P of the answer, or of the granule and its time, that a search back in time comes to
 abbrev pub IfAnswer : Back → (First → Type 0) → Type 0
 IfAnswer (Answer first) P = P first
-IfAnswer (Earlier granule) P = Unit {0}
+IfAnswer (Earlier failing) P = Unit {0}
 
-abbrev pub IfEarlier : Back → (ℕ → Type 0) → Type 0
+abbrev pub IfEarlier : Back → (Failing → Type 0) → Type 0
 IfEarlier (Answer first) P = Unit {0}
-IfEarlier (Earlier granule) P = P granule
+IfEarlier (Earlier failing) P = P failing

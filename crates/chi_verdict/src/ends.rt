@@ -8,7 +8,7 @@ ghost use Rattle.chi_trace.specs.Granules.{ExplainsGranule};
 ghost use Rattle.chi_verdict.specs.declared.grouping.Placed.{Placed};
 ghost use Rattle.chi_verdict.specs.Ends.{AreAnswered};
 
-use crate::granule::search_granule;
+use crate::granule::{Group, search_granule};
 use crate::grouping::{Placed, of_granule};
 use crate::trace::cut;
 use chi_search::{Found, Progress};
@@ -50,10 +50,9 @@ pub(crate) fn is_unexplained<P: Progress>(
 {
     let known = cut(alloc, ops, time)?;
     let run = of_granule(alloc, &known, granule)?;
+    let group = Group { granule, run: &run };
     let mut left = budget;
-    match search_granule(
-        alloc, &known, granule, &run, word, None, &mut left, progress,
-    )? {
+    match search_granule(alloc, &known, &group, word, None, &mut left, progress)? {
         Found::Nothing => Ok(true),
         _ => Ok(false),
     }

@@ -1,6 +1,6 @@
 //! Where a trace stops being explained.
 
-ghost use Rattle.std.specs.Prelude.{◌≡◌, ℕ, ◌-◌, ◌<◌, ◌≤◌, List, All, None, true, IfOk};
+ghost use Rattle.std.specs.Prelude.{◌≡◌, ℕ, ◌+◌, ◌≤◌, List, All, None, true, IfOk};
 ghost use Rattle.chi_history.specs.History.{one_if};
 ghost use Rattle.chi_search.specs.Looks.{LookedMore};
 ghost use Rattle.chi_trace.specs.Cuts.{cut};
@@ -48,10 +48,17 @@ pub enum First {
     Undecided { granule: u64, states: u64 },
 }
 
-/// What one search back in time comes to: the answer, or that the trace is not explained up to the time before, in a granule.
+/// A granule, and a time up to which no order explains its operations.
+#[derive(Clone, Copy)]
+struct Failing {
+    granule: u64,
+    time: u64,
+}
+
+/// What one search back in time comes to: the answer, or that the trace is not explained up to the time before either.
 enum Back {
     Answer(First),
-    Earlier { granule: u64 },
+    Earlier(Failing),
 }
 
 /// The latest end of operations.
@@ -102,10 +109,10 @@ fn look_back<P: Progress>(
     requires ends { (at ops.now blamed.place).end ≡ blamed.end }
     requires unexplained { (order : List ℕ) → ExplainsGranule (cut blamed.end ops.now) granule (word_told opening.now granule) None order → ⊥ }
     ensures answer { IfOk result (λ back. IfAnswer back (IsFirst (record { opening = opening.now; operations = ops.now }) budget)) }
-    ensures later { IfOk result (λ back. IfEarlier back (λ other. 0 < blamed.end)) }
-    ensures earlier { IfOk result (λ back. IfEarlier back (λ other. (order : List ℕ) → ExplainsGranule (cut (blamed.end - 1) ops.now) other (word_told opening.now other) None order → ⊥)) }
+    ensures later { IfOk result (λ back. IfEarlier back (λ failing. failing.time + 1 ≡ blamed.end)) }
+    ensures earlier { IfOk result (λ back. IfEarlier back (λ failing. (order : List ℕ) → ExplainsGranule (cut failing.time ops.now) failing.granule (word_told opening.now failing.granule) None order → ⊥)) }
     ensures spent { IfOk result (λ back. IfAnswer back (LookedForFirst P.looked progress.old progress.new budget)) }
-    ensures looked { IfOk result (λ back. IfEarlier back (λ other. (k : ℕ) × LookedMore P.looked progress.old progress.new k)) }
+    ensures looked { IfOk result (λ back. IfEarlier back (λ failing. (k : ℕ) × LookedMore P.looked progress.old progress.new k)) }
 {
     parts_explain();
     let overlapping = open_at(alloc, ops, granule, blamed.end)?;
@@ -134,42 +141,41 @@ fn look_back<P: Progress>(
                 words,
             })))
         }
-        Verdict::Unexplained { granule } => Ok(Back::Earlier { granule }),
+        Verdict::Unexplained { granule } => Ok(Back::Earlier(Failing {
+            granule,
+            time: blamed.end - 1,
+        })),
         Verdict::Undecided { granule, states } => {
             Ok(Back::Answer(First::Undecided { granule, states }))
         }
     }
 }
 
-/// Where a trace stops being explained, of which a granule's operations are not up to a time.
+/// Where a trace stops being explained, of which this granule's operations are not up to the time.
 fn first_before<P: Progress>(
     alloc: Global,
     opening: &GranuleWords,
     ops: &[Observed],
-    granule: u64,
-    time: u64,
+    failing: Failing,
     budget: u64,
     progress: &mut P,
 ) -> Result<First, AllocError>
     requires words { AreWords opening.now }
     requires traced { IsTrace ops.now }
-    requires unexplained { (order : List ℕ) → ExplainsGranule (cut time ops.now) granule (word_told opening.now granule) None order → ⊥ }
+    requires unexplained { (order : List ℕ) → ExplainsGranule (cut failing.time ops.now) failing.granule (word_told opening.now failing.granule) None order → ⊥ }
     ensures first { IfOk result (IsFirst (record { opening = opening.now; operations = ops.now }) budget) }
     ensures spent { IfOk result (LookedForFirst P.looked progress.old progress.new budget) }
 {
-    let mut granule = granule;
-    let mut time = time;
+    let mut failing = failing;
     loop {
+        let Failing { granule, time } = failing;
         let word = opening.word(granule);
         let ends = answered_by(alloc, ops, granule, time)?;
         let place = first_end(alloc, ops, granule, word, &ends, budget, progress)?;
         let blamed = ends[place];
         match look_back(alloc, opening, ops, granule, blamed, budget, progress)? {
             Back::Answer(first) => return Ok(first),
-            Back::Earlier { granule: other } => {
-                granule = other;
-                time = blamed.end - 1;
-            }
+            Back::Earlier(earlier) => failing = earlier,
         }
     }
 }
@@ -205,7 +211,8 @@ pub fn first_unexplained<P: Progress>(
         Verdict::Explained(_) => Ok(First::Never),
         Verdict::Unexplained { granule } => {
             let time = latest_end(ops);
-            first_before(alloc, opening, ops, granule, time, budget, progress)
+            let failing = Failing { granule, time };
+            first_before(alloc, opening, ops, failing, budget, progress)
         }
         Verdict::Undecided { granule, states } => Ok(First::Undecided { granule, states }),
     }

@@ -27,25 +27,32 @@ fn chosen(alloc: Global, ops: &[Observed], run: &[Placed]) -> Result<Vec<Observe
     Ok(own)
 }
 
+/// A granule by its number, and the places of its operations.
+#[derive(Clone, Copy)]
+pub(crate) struct Group<'a> {
+    pub granule: u64,
+    pub run: &'a [Placed],
+}
+
 /// Searches for an order of one granule's operations, which stand at these places. `budget` is how many states may be looked
 /// at, and is left with how many more might have been.
 pub(crate) fn search_granule<P: Progress>(
     alloc: Global,
     ops: &[Observed],
-    granule: u64,
-    run: &[Placed],
+    group: &Group,
     word: u64,
     last: Option<u64>,
     budget: &mut u64,
     progress: &mut P,
 ) -> Result<Found, AllocError>
     requires traced { IsTrace ops.now }
-    requires grouped { IsGrouped ops.now (is_of ops.now granule) run.now }
-    ensures order { IfOk result (λ found. IfOrder found (λ order. ExplainsGranule ops.now granule word last order)) }
-    ensures nothing { IfOk result (λ found. IfNothing found ((order : List ℕ) → ExplainsGranule ops.now granule word last order → ⊥)) }
+    requires grouped { IsGrouped ops.now (is_of ops.now group.now.granule) group.now.run.now }
+    ensures order { IfOk result (λ found. IfOrder found (λ order. ExplainsGranule ops.now group.now.granule word last order)) }
+    ensures nothing { IfOk result (λ found. IfNothing found ((order : List ℕ) → ExplainsGranule ops.now group.now.granule word last order → ⊥)) }
     ensures undecided { IfOk result (λ found. IfUndecided found (budget.new ≡ 0)) }
     ensures spends { IfOk result (λ found. (budget.new ≤ budget.old) × LookedMore P.looked progress.old progress.new (budget.old - budget.new)) }
 {
+    let run = group.run;
     let own = chosen(alloc, ops, run)?;
     places_explain();
     match order_of(alloc, &own, word, last, budget, progress)? {

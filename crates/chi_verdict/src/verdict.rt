@@ -7,7 +7,7 @@ ghost use Rattle.chi_verdict.specs.Traces.{IsExplained, IsExplainedIn};
 ghost use Rattle.chi_verdict.specs.Verdicts.{IfExplained, IfUndecided, IfUnexplained, LookedForVerdict};
 ghost use Rattle.chi_verdict.specs.Words.{AreWords, memory_of, told, word_told};
 
-use crate::granule::search_granule;
+use crate::granule::{Group, search_granule};
 use crate::grouping::by_granule;
 use crate::trace::Trace;
 use crate::walk::{next_granule, past_granule, past_word};
@@ -58,13 +58,16 @@ pub(crate) fn explain_operations<P: Progress>(
     let mut last_place = 0;
     while let Some(granule) = next_granule(places, from, words, last_place) {
         let to = past_granule(places, from, granule);
+        let group = Group {
+            granule,
+            run: &places[from..to],
+        };
         let mut left = budget;
         let last = finals.get(granule);
         match search_granule(
             alloc,
             ops,
-            granule,
-            &places[from..to],
+            &group,
             opening.word(granule),
             last,
             &mut left,

@@ -1,46 +1,74 @@
 -- the word at the end has other bits, one operation more was tried, and all of them
-use Rattle.std.proofs.Common.{ℕ, ◌<◌, ◌≤◌, Option, IfSome, get_or, length, subst, sym, ◌∙◌, arith, below_more}
+use Rattle.std.proofs.Common.{◌≡◌, ℕ, ◌<◌, ◌≤◌, List, Option, IfSome, get_or, inl, inr, length, ap, subst, sym, ◌∙◌, arith, below_more, true≢false}
 use Rattle.std.proofs.lemmas.List.{get_or_read}
 use Rattle.chi_trace.specs.declared.observed.Observed.{Observed}
 use Rattle.chi_trace.specs.Explains.{at, nothing}
-use Rattle.chi_search.specs.declared.part.Next.{Next}
+use Rattle.chi_search.specs.declared.outcomes.Outcomes.{Outcomes}
 use Rattle.chi_search.specs.Effects.{Agree}
+use Rattle.chi_search.specs.Outcomes.{AreOutcomes, IfKnown}
 use Rattle.chi_search.specs.Positions.{position_of}
-use Rattle.chi_search.specs.Parts.{IfDeadEnd}
-use Rattle.chi_search.specs.Within.{AllDeadWithin, ByTakingWithin}
+use Rattle.chi_search.specs.Within.{AllDeadWithin, ByTakingWithin, StepsTo}
 use Rattle.chi_search.proofs.Paths.{all_late}
 use Rattle.chi_search.proofs.Within.{turned}
 use Rattle.chi_search.proofs.WithinMoves.{at_end, tried_all}
 use Rattle.chi_search.proofs.WordBits.{agree_to}
 use Rattle.chi_search.proofs.part.choose_within.Goals as goal
-use Rattle.chi_search.proofs.part.choose_within.Goals.{then-loop-place-test+else-earliest-place, else-loop-place-test}
+use Rattle.chi_search.proofs.part.choose_within.Goals.{else-loop-place-test, else-ops-place, else-ops-place-via-else-ops-place, else-ops-place-via-then-ops-place+else-is_left, then-loop-place-test+else-known-place, then-ops-place+then-is_left+in-Known+in_ok-leads_by+else-branch+in_ok-leads_by-2+else-branch-2}
 
 pub returns-in-Some-clause-dead : goal.returns-in-Some-clause-dead
 returns-in-Some-clause-dead c all ends =
     let mask = c.args.part.now.mask in
-    let past : length c.args.ops.now ≤ c.args.state.now.first = omega arith in
-    let last = at_end mask c.args.ops.now c.args.last (position_of c.args.state.now) past ends in
+    let past : length c.args.known.now.ops.now ≤ c.args.state.now.first = omega arith in
+    let last = at_end mask c.args.known.now.ops.now c.args.known.now.last (position_of c.args.state.now) past ends in
     let same : Agree mask c.args.state.now.word c.in-Some.seen = subst (λ (o : Option ℕ). IfSome o (λ v. Agree mask c.args.state.now.word v)) c.in-Some.is last in
     c.if-seen-state-ne0.true (agree_to c.in-Some.seen c.args.state.now.word mask (turned mask c.args.state.now.word c.in-Some.seen same))
 
+-- an operation that may be taken was not one from which an order goes on
+none_by : (c : goal.Joined-ops-place) → AllDeadWithin c.args.part.now.mask c.args.known.now.ops.now c.args.known.now.last c.args.part.now.dead
+    → ByTakingWithin c.args.part.now.mask c.args.known.now.ops.now c.args.known.now.last (position_of c.args.state.now) c.loop-place.place → ⊥
+none_by c all taking = elim c.if-ops-place.branch [
+  | then-ops-place+then-is_left+in-Known+in_ok-leads_by+else-branch+in_ok-leads_by-2+else-branch-2 w ↦
+      let read = w.index-ops-place-then-is_left.result in
+      let same : at ops place ≡ read = sym (get_or_read ops place read c.loop-place-test.true w.index-ops-place-then-is_left.is nothing) in
+      let steps = subst (λ (op : Observed). StepsTo c.args.part.now.mask op c.args.state.now.word taking.leaves) same taking.steps in
+      let each = subst (λ (o : Outcomes). IfKnown o (AreOutcomes c.args.part.now.mask read c.args.state.now.word)) w.in-Known.is w.outcomes_of-outcomes.ensures in
+      elim (each taking.leaves steps) [
+        | inl one ↦ w.in_ok-leads_by.ensures.dead w.if-branch.false c.args.known.now.last all taking.leaves one taking.rest
+        | inr other ↦ w.in_ok-leads_by-2.ensures.dead w.if-branch-2.false c.args.known.now.last all taking.leaves other taking.rest
+      ]
+  | else-ops-place w ↦ elim w.else-ops-place.branch [
+    | else-ops-place-via-then-ops-place+else-is_left v ↦ true≢false (sym taking.comes.0 ∙ sym v.is_left.ensures ∙ v.if-is_left.false)
+    | else-ops-place-via-else-ops-place v ↦ omega (arith, v.if-ops-place.false, taking.comes.1, ap (λ (op : Observed). op.end) first, ap (λ (op : Observed). op.start) here)
+  ]
+]
+  where
+    ops : List Observed
+    ops = c.args.known.now.ops.now
+
+    place : ℕ
+    place = c.loop-place.place
+
+    first : get_or ops c.args.state.now.first c.index-ops-state.result ≡ at ops c.args.state.now.first
+    first = sym c.index-ops-state.is ∙ get_or_read ops c.args.state.now.first c.index-ops-state.result (omega arith) c.index-ops-state.is nothing
+
+    here : get_or ops place c.index-ops-place.result ≡ at ops place
+    here = sym c.index-ops-place.is ∙ get_or_read ops place c.index-ops-place.result c.loop-place-test.true c.index-ops-place.is nothing
+
 pub loop-place-preserved : goal.loop-place-preserved
 loop-place-preserved c all =
-    below_more (λ i. ByTakingWithin c.args.part.now.mask c.args.ops.now c.args.last (position_of c.args.state.now) i → ⊥) c.loop-place.place
-    (c.loop-place.invariant all)
-    (subst (λ (found : Next). IfDeadEnd found ((last : Option ℕ) → AllDeadWithin c.args.part.now.mask c.args.ops.now last c.args.part.now.dead
-    → ByTakingWithin c.args.part.now.mask c.args.ops.now last (position_of c.args.state.now) c.loop-place.place → ⊥))
-    c.in-Dead.is c.in_ok-take_within.ensures.dead c.args.last all)
+    below_more (λ i. ByTakingWithin c.args.part.now.mask c.args.known.now.ops.now c.args.known.now.last (position_of c.args.state.now) i → ⊥) c.loop-place.place
+    (c.loop-place.invariant all) (none_by c all)
 
 pub returns-clause-dead : goal.returns-clause-dead
 returns-clause-dead c all =
-    let below : c.args.state.now.first < length c.args.ops.now = omega arith in
-    tried_all c.args.part.now.mask c.args.ops.now c.args.last (position_of c.args.state.now) c.loop-place.place c.requires.sorted c.requires.ready below
+    let below : c.args.state.now.first < length c.args.known.now.ops.now = omega arith in
+    tried_all c.args.part.now.mask c.args.known.now.ops.now c.args.known.now.last (position_of c.args.state.now) c.loop-place.place c.requires.known.sorted c.requires.ready below
     (c.loop-place.invariant all)
     (elim c.loop-place-test.branch [
-      | then-loop-place-test+else-earliest-place w ↦
-          subst (λ (op : Observed). (i : ℕ) → c.loop-place.place ≤ i → i < length c.args.ops.now → op.end < (at c.args.ops.now i).start)
-          (sym c.index-ops-state.is ∙ get_or_read c.args.ops.now c.args.state.now.first c.index-ops-state.result below c.index-ops-state.is nothing)
-          (all_late c.args.ops.now c.args.earliest.now c.loop-place.place (get_or c.args.ops.now c.args.state.now.first c.index-ops-state.result).end c.requires.earliest w.if-earliest-place.false)
+      | then-loop-place-test+else-known-place w ↦
+          subst (λ (op : Observed). (i : ℕ) → c.loop-place.place ≤ i → i < length c.args.known.now.ops.now → op.end < (at c.args.known.now.ops.now i).start)
+          (sym c.index-ops-state.is ∙ get_or_read c.args.known.now.ops.now c.args.state.now.first c.index-ops-state.result below c.index-ops-state.is nothing)
+          (all_late c.args.known.now.ops.now c.args.known.now.earliest.now c.loop-place.place (get_or c.args.known.now.ops.now c.args.state.now.first c.index-ops-state.result).end c.requires.known.earliest w.if-known-place.false)
       | else-loop-place-test w ↦ λ i from within. absurd (omega (arith, from, within, w.loop-place-test.false))
     ])
-    (c.in_ok-leave_out_within.ensures.dead c.if-branch.false c.args.last all)
+    (c.in_ok-leave_out_within.ensures.dead c.if-branch-3.false c.args.known.now.last all)

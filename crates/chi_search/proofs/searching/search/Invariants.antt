@@ -8,12 +8,12 @@ use Rattle.chi_search.proofs.searching.search.Given as goal
 
 abbrev pub invariant-loop-budget : goal.invariant-loop-budget
 invariant-loop-budget g l = record {
-  walks : Walks l.ops (start l.fn.word) l.path.items (position_of l.state);
-  ready : IsReady (length l.ops) (position_of l.state);
-  dead : AllDead l.ops l.fn.last l.dead;
-  tried : AreTried l.ops l.fn.last (position_of l.state) l.tried;
-  before : AreTriedBefore l.ops l.fn.last l.path.items;
-  parts : All (IsPartOf l.ops l.fn.last) l.parts;
+  walks : Walks l.known.ops.now (start l.fn.word) l.path.items (position_of l.state);
+  ready : IsReady (length l.known.ops.now) (position_of l.state);
+  dead : AllDead l.known.ops.now l.known.last l.dead;
+  tried : AreTried l.known.ops.now l.known.last (position_of l.state) l.tried;
+  before : AreTriedBefore l.known.ops.now l.known.last l.path.items;
+  parts : All (IsPartOf l.known.ops.now l.known.last) l.parts;
   left : l.budget ≤ l.initial.budget;
   looked : LookedMore g.P.Progress.looked l.initial.progress l.progress (l.initial.budget - l.budget);
 }

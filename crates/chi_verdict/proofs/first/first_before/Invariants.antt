@@ -1,4 +1,4 @@
--- up to the time the granule's operations are not explained, and some states were looked at
+-- up to its time the granule's operations are not explained, and some states were looked at
 use Rattle.std.proofs.Common.{ℕ, List, None}
 use Rattle.chi_trace.specs.Cuts.{cut}
 use Rattle.chi_trace.specs.Granules.{ExplainsGranule}
@@ -8,9 +8,9 @@ use Rattle.chi_verdict.proofs.first.first_before.Given as goal
 
 abbrev pub invariant-loop-ends : goal.invariant-loop-ends
 invariant-loop-ends g l = record {
-  unexplained : (order : List ℕ) → ExplainsGranule (cut l.time l.ops) l.granule (word_told l.opening l.granule) None order → ⊥;
+  unexplained : (order : List ℕ) → ExplainsGranule (cut l.failing.time l.ops) l.failing.granule (word_told l.opening l.failing.granule) None order → ⊥;
   looked : LookedSome g.P.Progress.looked l.initial.progress l.progress;
 }
 
 abbrev pub decreases-loop-ends : goal.decreases-loop-ends
-decreases-loop-ends g l = l.time
+decreases-loop-ends g l = l.failing.time

@@ -1,17 +1,11 @@
 -- operations that fail a test are not those of a trace, and others are
-use Rattle.std.proofs.Common.{◌≡◌, ℕ, zero, suc, ◌+◌, ◌<◌, ◌≤◌, List, length, refl, ap, arith}
+use Rattle.std.proofs.Common.{◌≡◌, ℕ, ◌<◌, length, refl, ap, arith}
 use Rattle.std.proofs.lemmas.Bool.{false≢true}
-use Rattle.chi_trace.specs.declared.observed.Observed.{Observed}
 use Rattle.chi_trace.specs.Explains.{IsObserved, at}
-use Rattle.chi_verdict.proofs.Traced.{AreByStart, AreByStart-from_trace, IsTrace-from_places, at_read, observed_below}
+use Rattle.chi_search.proofs.InOrder.{next_no_less}
+use Rattle.chi_verdict.proofs.Traced.{AreByStart-from_trace, IsTrace-from_places, at_read, observed_below}
 use Rattle.chi_verdict.proofs.trace.are_traced.Goals as goal
 use Rattle.chi_verdict.proofs.trace.are_traced.Goals.{then-op-before-via-then-op-before, then-op-before-via-else-op-before+then-op, then-op-before-via-else-op-before+else-op+then-addr-length}
-
--- no operation of a trace starts before the one before it
-in_order : (ops : List Observed) (before i : ℕ) → (i ≡ 0 → before ≡ 0) → ((j : ℕ) → j + 1 ≡ i → (at ops j).start ≡ before) → AreByStart ops (length ops) → i < length ops
-    → before ≤ (at ops i).start
-in_order ops before zero none last sorted below = omega (arith, none refl)
-in_order ops before (suc j) none last sorted below = omega (arith, last j (omega arith), sorted j (suc j) (omega arith) below)
 
 pub returns-then-op-before : goal.returns-then-op-before
 returns-then-op-before c = (
@@ -25,7 +19,7 @@ returns-then-op-before c = (
       let start : (at ops i).start ≡ c.op-item.result.start = ap (λ op. op.start) read in
       absurd (elim c.then-op-before.branch [
         | then-op-before-via-then-op-before w ↦
-            omega (arith, in_order ops c.loop-op.before i c.loop-op.invariant.none c.loop-op.invariant.last (AreByStart-from_trace ops is) inside)
+            omega (arith, next_no_less (λ (j : ℕ). (at ops j).start) (length ops) c.loop-op.before i c.loop-op.invariant.none c.loop-op.invariant.last (AreByStart-from_trace ops is) inside)
         | then-op-before-via-else-op-before+then-op w ↦ omega (arith, observed.lasting, ap (λ op. op.end) read)
         | then-op-before-via-else-op-before+else-op+then-addr-length w ↦
             omega (arith, observed.within, ap (λ op. op.access.addr) read, ap (λ op. op.access.len) read)
