@@ -58,44 +58,37 @@ at the end: 0400000000000000
     Ok(())
 }
 
+// Within one state; within two, where an operation without an end is open; and where all is explained but the last of four.
 #[test]
-fn undecided_within_one_state(rt: HostRuntime) -> Result<(), Fail> {
-    let found = text(rt.alloc(), FINAL_WORD, 1, false)?;
-    assert_same(
-        &rt,
-        found.as_str(),
-        "undecided: granule 0000000000000008 after 1 states
+fn undecided_within_so_many_states(rt: HostRuntime) -> Result<(), Fail> {
+    for (trace, states, wanted) in [
+        (
+            FINAL_WORD,
+            1,
+            "undecided: granule 0000000000000008 after 1 states
   operations open at most: 1
 ",
-    );
-    Ok(())
-}
-
-#[test]
-fn an_operation_without_an_end_is_open(rt: HostRuntime) -> Result<(), Fail> {
-    let found = text(rt.alloc(), LOST_UPDATE, 2, false)?;
-    assert_same(
-        &rt,
-        found.as_str(),
-        "undecided: granule 0000000000001000 after 2 states
+        ),
+        (
+            LOST_UPDATE,
+            2,
+            "undecided: granule 0000000000001000 after 2 states
   explained up to 20
   operations open at most: 2
 ",
-    );
-    Ok(())
-}
-
-#[test]
-fn explained_but_for_the_last_of_four(rt: HostRuntime) -> Result<(), Fail> {
-    let found = text(rt.alloc(), FOUR_WRITES, 4, false)?;
-    assert_same(
-        &rt,
-        found.as_str(),
-        "undecided: granule 0000000000000008 after 4 states
+        ),
+        (
+            FOUR_WRITES,
+            4,
+            "undecided: granule 0000000000000008 after 4 states
   explained up to 25
   operations open at most: 3
 ",
-    );
+        ),
+    ] {
+        let found = text(rt.alloc(), trace, states, false)?;
+        assert_same(&rt, found.as_str(), wanted);
+    }
     Ok(())
 }
 

@@ -50,16 +50,9 @@ fn executed(first: u64, asked: Asked) -> ([u64; 8], (u32, u8, u128)) {
 
 #[test]
 fn first_fetch_add(rt: HostRuntime) {
-    let add = (
-        0x30,
-        3,
-        0x1000,
-        0,
-        0x00ff,
-        0x01000000000000000000000000000000,
-    );
+    let one = 0x01000000000000000000000000000000;
     assert_eq!(rt;
-        executed(0, add),
+        executed(0, (0x30, 3, 0x1000, 0, 0x00ff, one)),
         ([0x0100000000000000, 0, 0, 0, 0, 0, 0, 0], (0, 1, 0))
     );
 }
@@ -81,20 +74,13 @@ fn byte_smax_umax_add(rt: HostRuntime) {
 #[test]
 fn smin_in_both_byte_orders(rt: HostRuntime) {
     let old = 0x80000000000000000000000000000000;
+    let sent = 0x00000080000000000000000000000000;
     for (endian, after) in [
         (1, 0x8000000000000000),
         (255, 0x8000000000000000),
         (0, 0x0000008000000000),
     ] {
-        let least = (
-            0x35,
-            2,
-            0x1000,
-            endian,
-            0x000f,
-            0x00000080000000000000000000000000,
-        );
-        let (words, answer) = executed(0x8000000000000000, least);
+        let (words, answer) = executed(0x8000000000000000, (0x35, 2, 0x1000, endian, 0x000f, sent));
         assert_eq!(rt; words, [after, 0, 0, 0, 0, 0, 0, 0], "{endian}");
         assert_eq!(rt; answer, (0, 1, old), "{endian}");
     }
@@ -102,28 +88,14 @@ fn smin_in_both_byte_orders(rt: HostRuntime) {
 
 #[test]
 fn compare_in_upper_half(rt: HostRuntime) {
-    let eight = (
-        0x39,
-        4,
-        0x1008,
-        0,
-        0xffff,
-        0x11223344556677880000000000000000,
-    );
-    let four = (
-        0x39,
-        3,
-        0x1004,
-        0,
-        0x00ff,
-        0xaabbccdd000000000000000000000000,
-    );
+    let eight = 0x11223344556677880000000000000000;
+    let four = 0xaabbccdd000000000000000000000000;
     assert_eq!(rt;
-        executed(0, eight),
+        executed(0, (0x39, 4, 0x1008, 0, 0xffff, eight)),
         ([0, 0x1122334455667788, 0, 0, 0, 0, 0, 0], (0, 1, 0))
     );
     assert_eq!(rt;
-        executed(0, four),
+        executed(0, (0x39, 3, 0x1004, 0, 0x00ff, four)),
         ([0x00000000aabbccdd, 0, 0, 0, 0, 0, 0, 0], (0, 1, 0))
     );
 }

@@ -1,7 +1,7 @@
 //! Gates that wait for each other: a RetryAck at a chosen moment.
 
 use crate::comparison::assert_same;
-use crate::scripts::{ADDS, script};
+use crate::scripts::{ADDS, SEVEN_ZEROS, script};
 use chi_engine::{EngineFault, Options, Store, Workers, engine_race};
 use chi_history::{Gate, NoGate};
 use chi_requester::Policy;
@@ -101,13 +101,22 @@ fn raced_late<T: AllocGlobal + Clock + Threads + Wait + Sync>(
     Ok(pauses.met.load(Ordering::SeqCst))
 }
 
-// One add of 1 and two of 2, where the first waits at its gate until both of the others are over.
+// One add of 1 and two of 2, where the first waits at its gate until both of the others are over: the line of the first, and the
+// bytes of the first granule after all three.
 fn assert_late<T: AllocGlobal + Abort + Clock + Threads + Wait + Sync>(
     rt: &T,
     store: Store,
-    want: &str,
+    reply: &str,
+    first: &str,
 ) -> Result<(), Fail> {
     let text = script(rt, &[ADDS[0], ADDS[1], SECOND_ADD_OF_TWO])?;
+    let want = format!(in rt.alloc();
+        "1 1 28 AtomicStore.ADD 3 0000000000001000 {reply}
+2 2 28 AtomicStore.ADD 3 0000000000001000 comp
+2 3 28 AtomicStore.ADD 3 0000000000001000 comp
+m 0000000000001000 {first}
+{SEVEN_ZEROS}"
+    )?;
     let mut to: Vec<u8> = Vec::new(rt.alloc());
     let met = raced_late(rt, store, text.as_bytes(), &mut to)?;
     assert_same(&rt, ("gates that met", met), ("gates that met", 2));
@@ -115,36 +124,14 @@ fn assert_late<T: AllocGlobal + Abort + Clock + Threads + Wait + Sync>(
     Ok(())
 }
 
-// What the lock-free store writes, where the first add is lost and answered by a retry.
-const RETRIED: &str = "1 1 28 AtomicStore.ADD 3 0000000000001000 retry
-2 2 28 AtomicStore.ADD 3 0000000000001000 comp
-2 3 28 AtomicStore.ADD 3 0000000000001000 comp
-m 0000000000001000 0200000000000000
-m 0000000000001008 0000000000000000
-m 0000000000001010 0000000000000000
-m 0000000000001018 0000000000000000
-m 0000000000001020 0000000000000000
-m 0000000000001028 0000000000000000
-m 0000000000001030 0000000000000000
-m 0000000000001038 0000000000000000
-";
-
-// What the locked store writes.
-const COMPLETED: &str = "1 1 28 AtomicStore.ADD 3 0000000000001000 comp
-2 2 28 AtomicStore.ADD 3 0000000000001000 comp
-2 3 28 AtomicStore.ADD 3 0000000000001000 comp
-m 0000000000001000 0300000000000000
-m 0000000000001008 0000000000000000
-m 0000000000001010 0000000000000000
-m 0000000000001018 0000000000000000
-m 0000000000001020 0000000000000000
-m 0000000000001028 0000000000000000
-m 0000000000001030 0000000000000000
-m 0000000000001038 0000000000000000
-";
-
+// Over the lock-free store the first add is lost and answered by a retry. The locked store completes all.
 #[test]
 fn one_retry_by_two_gates(rt: HostRuntime) -> Result<(), Fail> {
-    assert_late(&rt, Store::Book { attempts: 1 }, RETRIED)?;
-    assert_late(&rt, Store::Lock, COMPLETED)
+    assert_late(
+        &rt,
+        Store::Book { attempts: 1 },
+        "retry",
+        "0200000000000000",
+    )?;
+    assert_late(&rt, Store::Lock, "comp", "0300000000000000")
 }

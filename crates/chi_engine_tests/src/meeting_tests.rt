@@ -1,6 +1,6 @@
 //! Gates that wait for one another: two, four and seven workers at once by the engine, and two and four by call.
 
-ghost use Rattle.std.specs.Prelude.{◌≡◌, ◌≤◌};
+ghost use Rattle.std.specs.Prelude.{◌≡◌, ◌<◌, ◌≤◌};
 ghost use Rattle.chi_history.specs.NumberSets.{below};
 
 use crate::comparison::assert_same;
@@ -163,46 +163,34 @@ fn add(src: u8) -> Request
     }
 }
 
-// Two over a home.
-fn assert_two_meet<H: Home + Sync, T: AllocGlobal + Abort + Clock + Threads + Wait + Sync>(
+// Two or four over a home.
+fn assert_race_meets<H: Home + Sync, T: AllocGlobal + Abort + Clock + Threads + Wait + Sync>(
     rt: &T,
     home: &H,
     seat: &mut H::Seat,
+    workers: u64,
 ) -> Result<(), Fail>
     requires own { H.belongs home.now seat.old }
     requires all { H.held seat.old ≡ below (H.opening home.now).requesters }
-    requires three { 3 ≤ (H.opening home.now).requesters }
+    requires two { 2 ≤ workers }
+    requires room { workers < (H.opening home.now).requesters }
 {
     let meeting = Meeting::new();
-    let mut race = Race::new(rt.alloc());
-    let requests = [add(1), add(2)];
-    let (gate1, gate2) = (meeting.gate(rt, 2), meeting.gate(rt, 2));
+    let (gate1, gate2) = (meeting.gate(rt, workers), meeting.gate(rt, workers));
     let policy = Policy::Resend;
-    race_two(home, rt, seat, &requests, policy, gate1, gate2, &mut race)?;
-    meeting.assert_met(rt, 2);
-    Ok(())
-}
-
-// Four over a home.
-fn assert_four_meet<H: Home + Sync, T: AllocGlobal + Abort + Clock + Threads + Wait + Sync>(
-    rt: &T,
-    home: &H,
-    seat: &mut H::Seat,
-) -> Result<(), Fail>
-    requires own { H.belongs home.now seat.old }
-    requires all { H.held seat.old ≡ below (H.opening home.now).requesters }
-    requires five { 5 ≤ (H.opening home.now).requesters }
-{
-    let meeting = Meeting::new();
-    let mut race = RaceFour::new(rt.alloc());
-    let requests = [add(1), add(2), add(3), add(4)];
-    let (gate1, gate2) = (meeting.gate(rt, 4), meeting.gate(rt, 4));
-    let (gate3, gate4) = (meeting.gate(rt, 4), meeting.gate(rt, 4));
-    let policy = Policy::Resend;
-    race_four(
-        home, rt, seat, &requests, policy, gate1, gate2, gate3, gate4, &mut race,
-    )?;
-    meeting.assert_met(rt, 4);
+    if workers < 4 {
+        let mut race = Race::new(rt.alloc());
+        let requests = [add(1), add(2)];
+        race_two(home, rt, seat, &requests, policy, gate1, gate2, &mut race)?;
+    } else {
+        let mut race = RaceFour::new(rt.alloc());
+        let requests = [add(1), add(2), add(3), add(4)];
+        let (gate3, gate4) = (meeting.gate(rt, workers), meeting.gate(rt, workers));
+        race_four(
+            home, rt, seat, &requests, policy, gate1, gate2, gate3, gate4, &mut race,
+        )?;
+    }
+    meeting.assert_met(rt, workers);
     Ok(())
 }
 
@@ -211,16 +199,16 @@ fn assert_four_meet<H: Home + Sync, T: AllocGlobal + Abort + Clock + Threads + W
 fn gates_meet_by_race_two(rt: HostRuntime) -> Result<(), Fail> {
     let region = Region::new(0x1000, 8)?;
     let (home, mut seat) = LockStore::open(rt.alloc(), region, 3, &[0; 8])?;
-    assert_two_meet(&rt, &home, &mut seat)?;
+    assert_race_meets(&rt, &home, &mut seat, 2)?;
     let (home, mut seat) = BookStore::open(rt.alloc(), region, 3, 4, &[0; 8])?;
-    assert_two_meet(&rt, &home, &mut seat)
+    assert_race_meets(&rt, &home, &mut seat, 2)
 }
 
 #[test]
 fn gates_meet_by_race_four(rt: HostRuntime) -> Result<(), Fail> {
     let region = Region::new(0x1000, 8)?;
     let (home, mut seat) = LockStore::open(rt.alloc(), region, 5, &[0; 8])?;
-    assert_four_meet(&rt, &home, &mut seat)?;
+    assert_race_meets(&rt, &home, &mut seat, 4)?;
     let (home, mut seat) = BookStore::open(rt.alloc(), region, 5, 4, &[0; 8])?;
-    assert_four_meet(&rt, &home, &mut seat)
+    assert_race_meets(&rt, &home, &mut seat, 4)
 }

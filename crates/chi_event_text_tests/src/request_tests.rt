@@ -7,45 +7,44 @@ use chi_reading::Asked;
 use chi_script::Member;
 
 #[test]
-fn request_with_data(rt: HostRuntime) {
-    let line =
-        r#"{"time":70,"event":"request","id":3,"src":513,"txn":65535,"op":48,"size":3,"addr":4096,"endian":1,"be":255,"lanes":"01000000000000000000000000000000"}"#;
-    let requested = Requested {
-        id: 3,
-        asked: Asked {
-            src: 513,
-            txn: 65535,
-            opcode: 48,
-            size: 3,
-            addr: 4096,
-            endian: true,
-            be: 255,
-            lanes: [1, 0, 0, 0, 0, 0, 0, 0, 0, 0, 0, 0, 0, 0, 0, 0],
-        },
-        has_data: true,
-    };
-    assert_tells(&rt, line, EventKind::Request(requested));
-}
-
-#[test]
-fn request_without_data(rt: HostRuntime) {
-    let line =
-        r#"{"time":70,"event":"request","id":3,"src":65535,"txn":0,"op":255,"size":7,"addr":18446744073709551615,"endian":0}"#;
-    let requested = Requested {
-        id: 3,
-        asked: Asked {
-            src: 65535,
-            txn: 0,
-            opcode: 255,
-            size: 7,
-            addr: 18446744073709551615,
-            endian: false,
-            be: 0,
-            lanes: [0, 0, 0, 0, 0, 0, 0, 0, 0, 0, 0, 0, 0, 0, 0, 0],
-        },
-        has_data: false,
-    };
-    assert_tells(&rt, line, EventKind::Request(requested));
+fn requests_with_and_without_data(rt: HostRuntime) {
+    for (line, has_data, asked) in [
+        (
+            r#"{"time":70,"event":"request","id":3,"src":513,"txn":65535,"op":48,"size":3,"addr":4096,"endian":1,"be":255,"lanes":"01000000000000000000000000000000"}"#,
+            true,
+            Asked {
+                src: 513,
+                txn: 65535,
+                opcode: 48,
+                size: 3,
+                addr: 4096,
+                endian: true,
+                be: 255,
+                lanes: [1, 0, 0, 0, 0, 0, 0, 0, 0, 0, 0, 0, 0, 0, 0, 0],
+            },
+        ),
+        (
+            r#"{"time":70,"event":"request","id":3,"src":65535,"txn":0,"op":255,"size":7,"addr":18446744073709551615,"endian":0}"#,
+            false,
+            Asked {
+                src: 65535,
+                txn: 0,
+                opcode: 255,
+                size: 7,
+                addr: 18446744073709551615,
+                endian: false,
+                be: 0,
+                lanes: [0, 0, 0, 0, 0, 0, 0, 0, 0, 0, 0, 0, 0, 0, 0, 0],
+            },
+        ),
+    ] {
+        let requested = Requested {
+            id: 3,
+            asked,
+            has_data,
+        };
+        assert_tells(&rt, line, EventKind::Request(requested));
+    }
 }
 
 #[test]

@@ -2,24 +2,14 @@
 
 use crate::comparison::assert_same;
 use chi_fields::{Access, Kind, Op, Refusal, Region, Request, decode};
+use chi_samples::plain_request;
 use std::test::Fail;
-
-const NO_DATA: [u8; 16] = [0; 16];
 
 const EACH_LANE: [u8; 16] = [0, 1, 2, 3, 4, 5, 6, 7, 8, 9, 10, 11, 12, 13, 14, 15];
 
-// A request of requester 0 with little-endian data.
+// A request of requester 0 with little-endian data, all 0.
 fn request(opcode: u8, size: u8, addr: u64, be: u16) -> Request {
-    Request {
-        src: 0,
-        txn: 0,
-        opcode,
-        size,
-        addr,
-        endian: false,
-        be,
-        lanes: NO_DATA,
-    }
+    plain_request(opcode, size, addr, be, [0; 16])
 }
 
 // What a region of so many granules from 0x1000 on makes of a request.
@@ -204,14 +194,18 @@ fn kinds_of_opcodes(rt: HostRuntime) -> Result<(), Fail> {
     Ok(())
 }
 
-#[test]
-fn fields_of_access(rt: HostRuntime) -> Result<(), Fail> {
-    let big_endian_add = Request {
+// The request with big-endian data, of a number for each lane.
+fn big_endian(request: Request) -> Request {
+    Request {
         endian: true,
         lanes: EACH_LANE,
-        ..request(0x30, 1, 0x1006, 0x00c0)
-    };
-    let access = decoded(8, big_endian_add)??;
+        ..request
+    }
+}
+
+#[test]
+fn fields_of_access(rt: HostRuntime) -> Result<(), Fail> {
+    let access = decoded(8, big_endian(request(0x30, 1, 0x1006, 0x00c0)))??;
     assert_same(
         &rt,
         (access.kind(), access.lanes()),
@@ -231,12 +225,7 @@ fn fields_of_access(rt: HostRuntime) -> Result<(), Fail> {
 
 #[test]
 fn read_keeps_ignored_fields(rt: HostRuntime) -> Result<(), Fail> {
-    let read = Request {
-        endian: true,
-        lanes: EACH_LANE,
-        ..request(0x04, 0, 0x1003, 0x8421)
-    };
-    let access = decoded(8, read)??;
+    let access = decoded(8, big_endian(request(0x04, 0, 0x1003, 0x8421)))??;
     let fields = (access.endian(), access.enables(), access.lanes());
     assert_same(&rt, fields, (true, 0x8421, EACH_LANE));
     Ok(())

@@ -46,80 +46,53 @@ fn op_names(rt: HostRuntime) {
     }
 }
 
-// Compares the text of a refusal or a fault.
-fn assert_text<R: AllocGlobal + Abort, T: Display>(
+// Compares the lines of refusals or faults: each with its name and its text.
+fn assert_lines<R: AllocGlobal + Abort, T: Display>(
     rt: &R,
-    shown: &T,
+    named: &[(&str, T)],
     wanted: &str,
 ) -> Result<(), Fail> {
-    let text = format!(in rt.alloc(); "{shown}")?;
-    assert_same(rt, text.as_str(), wanted);
+    let mut lines = String::new(rt.alloc());
+    for (name, shown) in named {
+        let line = format!(in rt.alloc(); "{name}: {shown}\n")?;
+        lines.push_str(line.as_str())?;
+    }
+    assert_same(rt, lines.as_str(), wanted);
     Ok(())
 }
 
 #[test]
 fn refusal_names_and_texts(rt: HostRuntime) -> Result<(), Fail> {
     let refusals = [
-        (
-            Refusal::UnknownOpcode,
-            "UnknownOpcode",
-            "the opcode names no request",
-        ),
-        (
-            Refusal::ReservedSize,
-            "ReservedSize",
-            "the size is reserved",
-        ),
-        (
-            Refusal::SizeOutOfProfile,
-            "SizeOutOfProfile",
-            "the size is outside the profile",
-        ),
-        (
-            Refusal::Misaligned,
-            "Misaligned",
-            "the address is not a multiple of the operand's length",
-        ),
-        (
-            Refusal::OutOfRegion,
-            "OutOfRegion",
-            "the operand is not in the region",
-        ),
-        (
-            Refusal::BadByteEnable,
-            "BadByteEnable",
-            "a byte enable is outside the window, or an atomic's is missing",
-        ),
+        Refusal::UnknownOpcode,
+        Refusal::ReservedSize,
+        Refusal::SizeOutOfProfile,
+        Refusal::Misaligned,
+        Refusal::OutOfRegion,
+        Refusal::BadByteEnable,
     ];
-    for (refusal, name, text) in refusals {
-        assert_same(&rt, refusal_name(refusal), name);
-        assert_text(&rt, &refusal, text)?;
-    }
-    Ok(())
+    let wanted = "UnknownOpcode: the opcode names no request
+ReservedSize: the size is reserved
+SizeOutOfProfile: the size is outside the profile
+Misaligned: the address is not a multiple of the operand's length
+OutOfRegion: the operand is not in the region
+BadByteEnable: a byte enable is outside the window, or an atomic's is missing
+";
+    let named = refusals.map(|it| (refusal_name(it), it));
+    assert_lines(&rt, &named, wanted)
 }
 
 #[test]
 fn region_fault_names_and_texts(rt: HostRuntime) -> Result<(), Fail> {
     let faults = [
-        (
-            RegionFault::BaseNotLineAligned,
-            "BaseNotLineAligned",
-            "the base is not a multiple of 64",
-        ),
-        (
-            RegionFault::GranuleCount,
-            "GranuleCount",
-            "the number of granules is not 1 to 512",
-        ),
-        (
-            RegionFault::EndPastAddresses,
-            "EndPastAddresses",
-            "the end is past the last address",
-        ),
+        RegionFault::BaseNotLineAligned,
+        RegionFault::GranuleCount,
+        RegionFault::EndPastAddresses,
     ];
-    for (fault, name, text) in faults {
-        assert_same(&rt, region_fault_name(fault), name);
-        assert_text(&rt, &fault, text)?;
-    }
-    Ok(())
+    let wanted = "BaseNotLineAligned: the base is not a multiple of 64
+GranuleCount: the number of granules is not 1 to 512
+EndPastAddresses: the end is past the last address
+";
+    let named = faults.map(|it| (region_fault_name(it), it));
+    assert_lines(&rt, &named, wanted)
 }

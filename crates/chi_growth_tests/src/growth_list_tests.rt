@@ -1,17 +1,16 @@
 //! The growths of a list of lines: how many lines it has where each growth is refused.
 
-ghost use Rattle.std.specs.Prelude.{◌≡◌};
-ghost use Rattle.chi_history.specs.NumberSets.{below};
+ghost use Rattle.chi_samples.specs.Opened.{IsOfEight};
 
-use crate::additions::additions;
 use crate::comparison::assert_same;
 use crate::growth_tests::{Call, call_on_book, call_on_lock};
-use crate::growth_work_tests::{FETCH_ADD, lanes};
+use crate::growth_work_tests::FETCH_ADD;
 use crate::refusing_allocator::Refusing;
 use chi_fields::Request;
 use chi_history::{Home, Line};
 use chi_lanes::Reply;
 use chi_requester::{Policy, run_serial};
+use chi_samples::{additions, first_lane};
 use std::process::Abort;
 use std::sync::Wait;
 use std::test::Fail;
@@ -24,7 +23,7 @@ const LINES: [(u64, usize); 6] = [(1, 0), (2, 3), (3, 7), (4, 15), (5, 31), (6, 
 fn are_counted(lines: &[Line], requests: &[Request]) -> bool {
     let mut before = 0;
     for (line, request) in lines.iter().zip(requests) {
-        if *line != Line::Completed(*request, Reply::CompData(lanes(before))) {
+        if *line != Line::Completed(*request, Reply::CompData(first_lane(before))) {
             return false;
         }
         before = before.saturating_add(1);
@@ -41,9 +40,7 @@ fn assert_left<H: Home, T: Abort + Wait>(
     count: usize,
     found: (bool, bool, usize, bool),
 )
-    requires own { H.belongs home.now seat.old }
-    requires all { H.held seat.old ≡ below (H.opening home.now).requesters }
-    requires line { (H.opening home.now).region.granules ≡ 8 }
+    requires opened { IsOfEight (H.belongs home.now seat.old) (H.held seat.old) (H.opening home.now) }
 {
     let mut words = [0; 8];
     home.snapshot(rt, seat, &mut words);
@@ -66,10 +63,7 @@ pub(crate) fn add_forty<H: Home, T: AllocGlobal + Abort + Wait>(
     number: u64,
     count: usize,
 ) -> Result<bool, Fail>
-    requires own { H.belongs home.now seat.old }
-    requires all { H.held seat.old ≡ below (H.opening home.now).requesters }
-    requires eight { (H.opening home.now).requesters ≡ 8 }
-    requires line { (H.opening home.now).region.granules ≡ 8 }
+    requires opened { IsOfEight (H.belongs home.now seat.old) (H.held seat.old) (H.opening home.now) }
 {
     let script = additions(rt, FETCH_ADD, &[0], 40, 7)?;
     let requests = script.requests();

@@ -1,25 +1,22 @@
-//! Each growth refused in turn in a race.
+//! Each growth refused in turn in a race of two or of four.
 
-ghost use Rattle.std.specs.Prelude.{◌≡◌};
-ghost use Rattle.chi_history.specs.NumberSets.{below};
+ghost use Rattle.chi_samples.specs.Opened.{IsOfEight};
 
-use crate::additions::additions;
 use crate::comparison::assert_same;
 use crate::growth_tests::{Call, call_in_turn};
 use crate::growth_work_tests::add;
 use crate::refusing_allocator::Refusing;
-use chi_history::{Home, Line, NoGate};
+use chi_history::{Home, Line};
 use chi_lanes::Reply;
-use chi_requester::{Policy, Race, race_two};
+use chi_samples::{STORE_ADD, race_adding};
+use std::alloc::Allocator;
 use std::process::Abort;
 use std::sync::Wait;
 use std::test::Fail;
 use std::thread::Threads;
 
-pub(crate) const STORE_ADD: u8 = 0x28;
-
 // How many requests each requester has.
-pub(crate) const EACH: u8 = 10;
+const EACH: u8 = 10;
 
 // How many of a requester's additions the lines report: the first of them, in order of their identifiers, each
 // completed once, at most after a RetryAck.
@@ -43,26 +40,28 @@ fn reported(src: u8, lines: &[Line]) -> Option<u8> {
     Some(done)
 }
 
-// Asserts that the lines report the first of a requester's additions, and answers how many they are.
-pub(crate) fn assert_told<T: Abort>(rt: &T, src: u8, lines: &[Line]) -> u8 {
-    reported(src, lines).expect(rt, "the lines report the first additions")
+// How many additions each of the requesters from 1 on did, by their lines.
+fn additions_done<T: Abort, A: Allocator>(rt: &T, workers: &[Vec<Line, A>; 4]) -> [u8; 4] {
+    let [one, two, three, four] = workers;
+    [(1, one), (2, two), (3, three), (4, four)].map(|(src, lines)| {
+        reported(src, lines.as_slice()).expect(rt, "the lines report the first additions")
+    })
 }
 
-// Asserts that the words are the sum of the additions that the lines report, that 0 has no line, that the seat holds
-// all, and that a growth was refused unless all were done.
-pub(crate) fn assert_sum<H: Home, T: Abort + Wait>(
+// Races the additions, and answers whether a growth was refused. The words are the sum of the additions that the lines report, 0
+// has no line, the seat holds all, and a growth was refused unless all were done.
+pub(crate) fn race_ten<H: Home + Sync, T: AllocGlobal + Abort + Threads + Wait + Sync>(
     rt: &T,
     home: &H,
     seat: &mut H::Seat,
-    done: &[u8],
-    zero: &[Line],
-    is_ok: bool,
-    has_refused: bool,
-)
-    requires own { H.belongs home.now seat.old }
-    requires all { H.held seat.old ≡ below (H.opening home.now).requesters }
-    requires line { (H.opening home.now).region.granules ≡ 8 }
+    are_four: bool,
+    number: u64,
+) -> Result<bool, Fail>
+    requires opened { IsOfEight (H.belongs home.now seat.old) (H.held seat.old) (H.opening home.now) }
 {
+    let alloc = Refusing::new(rt.alloc(), number);
+    let raced = race_adding(rt, home, seat, are_four, u16::from(EACH), &alloc)?;
+    let done = additions_done(rt, &raced.workers);
     let sum = done
         .iter()
         .fold(0u64, |sum, done| sum.saturating_add(u64::from(*done)));
@@ -71,54 +70,27 @@ pub(crate) fn assert_sum<H: Home, T: Abort + Wait>(
     home.snapshot(rt, seat, &mut words);
     assert_same(
         &rt,
-        (words, zero.len(), holds_all),
+        (words, raced.zero.len(), holds_all),
         ([sum, 0, 0, 0, 0, 0, 0, 0], 0, true),
     );
+    let more = if are_four { EACH } else { 0 };
+    let has_refused = alloc.has_refused();
     assert!(rt;
-        if is_ok {
-            done.iter().all(|done| *done == EACH)
+        if raced.is_done {
+            done == [EACH, EACH, more, more]
         } else {
             has_refused
         }
     );
-}
-
-// Races the additions, and answers whether a growth was refused.
-pub(crate) fn race_ten<H: Home + Sync, T: AllocGlobal + Abort + Threads + Wait + Sync>(
-    rt: &T,
-    home: &H,
-    seat: &mut H::Seat,
-    number: u64,
-) -> Result<bool, Fail>
-    requires own { H.belongs home.now seat.old }
-    requires all { H.held seat.old ≡ below (H.opening home.now).requesters }
-    requires eight { (H.opening home.now).requesters ≡ 8 }
-    requires line { (H.opening home.now).region.granules ≡ 8 }
-{
-    let script = additions(rt, STORE_ADD, &[1, 2], u16::from(EACH), 2)?;
-    let alloc = Refusing::new(rt.alloc(), number);
-    let mut race = Race::new(&alloc);
-    let outcome = race_two(
-        home,
-        rt,
-        seat,
-        script.requests(),
-        Policy::Resend,
-        NoGate,
-        NoGate,
-        &mut race,
-    );
-    let done = [
-        assert_told(rt, 1, race.one.as_slice()),
-        assert_told(rt, 2, race.two.as_slice()),
-    ];
-    let zero = race.zero.as_slice();
-    let has_refused = alloc.has_refused();
-    assert_sum(rt, home, seat, &done, zero, outcome.is_ok(), has_refused);
     Ok(has_refused)
 }
 
 #[test]
 fn growth_refused_in_race(rt: HostRuntime) -> Result<(), Fail> {
     call_in_turn(&rt, Call::RaceOfTwo)
+}
+
+#[test]
+fn growth_refused_in_race_of_four(rt: HostRuntime) -> Result<(), Fail> {
+    call_in_turn(&rt, Call::RaceOfFour)
 }

@@ -1,10 +1,8 @@
 //! Each growth refused in turn: in the opening of a store, and in each call on one.
 
-ghost use Rattle.std.specs.Prelude.{◌≡◌};
-ghost use Rattle.chi_history.specs.NumberSets.{below};
+ghost use Rattle.chi_samples.specs.Opened.{IsOfEight};
 
 use crate::comparison::assert_same;
-use crate::growth_four_tests::race_forty;
 use crate::growth_list_tests::add_forty;
 use crate::growth_race_tests::race_ten;
 use crate::growth_work_tests::add_three;
@@ -46,9 +44,7 @@ fn in_turn<T: Abort, F: Fn(u64) -> Result<bool, Fail>>(rt: &T, run: F) -> Result
 
 // Asserts that nothing was done yet.
 fn assert_opened<H: Home, T: Abort + Wait>(rt: &T, home: &H, seat: &mut H::Seat)
-    requires own { H.belongs home.now seat.old }
-    requires all { H.held seat.old ≡ below (H.opening home.now).requesters }
-    requires line { (H.opening home.now).region.granules ≡ 8 }
+    requires opened { IsOfEight (H.belongs home.now seat.old) (H.held seat.old) (H.opening home.now) }
 {
     let (holds_all, requesters) = (home.holds_all(seat), home.requesters());
     let mut words = [1; 8];
@@ -97,17 +93,14 @@ fn call_on<H: Home + Sync, T: AllocGlobal + Abort + Threads + Wait + Sync>(
     call: Call,
     number: u64,
 ) -> Result<bool, Fail>
-    requires own { H.belongs home.now seat.old }
-    requires all { H.held seat.old ≡ below (H.opening home.now).requesters }
-    requires eight { (H.opening home.now).requesters ≡ 8 }
-    requires line { (H.opening home.now).region.granules ≡ 8 }
+    requires opened { IsOfEight (H.belongs home.now seat.old) (H.held seat.old) (H.opening home.now) }
 {
     match call {
         Call::Work => Ok(add_three(rt, home, seat, false, number)),
         Call::Serial => Ok(add_three(rt, home, seat, true, number)),
         Call::Forty(count) => add_forty(rt, home, seat, number, count),
-        Call::RaceOfTwo => race_ten(rt, home, seat, number),
-        Call::RaceOfFour => race_forty(rt, home, seat, number),
+        Call::RaceOfTwo => race_ten(rt, home, seat, false, number),
+        Call::RaceOfFour => race_ten(rt, home, seat, true, number),
     }
 }
 

@@ -1,7 +1,7 @@
 //! Each growth refused in turn in work and in serial work.
 
 ghost use Rattle.std.specs.Prelude.{◌≡◌};
-ghost use Rattle.chi_history.specs.NumberSets.{below};
+ghost use Rattle.chi_samples.specs.Opened.{IsOfEight};
 
 use crate::comparison::assert_same;
 use crate::growth_tests::{Call, call_in_turn};
@@ -10,19 +10,13 @@ use chi_fields::Request;
 use chi_history::{Home, Line, NoGate};
 use chi_lanes::Reply;
 use chi_requester::{Policy, run_serial, work};
+use chi_samples::{first_lane, plain_request};
 use std::alloc::Allocator;
 use std::process::Abort;
 use std::sync::Wait;
 use std::test::Fail;
 
 pub(crate) const FETCH_ADD: u8 = 0x30;
-
-// A data packet with this byte in its first lane.
-pub(crate) fn lanes(first: u8) -> [u8; 16] {
-    let mut lanes = [0; 16];
-    lanes[0] = first;
-    lanes
-}
 
 // An addition of 1 to the first eight bytes.
 pub(crate) fn add(opcode: u8, src: u8, txn: u8) -> Request
@@ -31,12 +25,7 @@ pub(crate) fn add(opcode: u8, src: u8, txn: u8) -> Request
     Request {
         src,
         txn,
-        opcode,
-        size: 3,
-        addr: 0x1000,
-        endian: false,
-        be: 0x00ff,
-        lanes: lanes(1),
+        ..plain_request(opcode, 3, 0x1000, 0x00ff, first_lane(1))
     }
 }
 
@@ -50,11 +39,9 @@ fn assert_first<H: Home, T: Abort + Wait>(
     is_ok: bool,
     has_refused: bool,
 )
-    requires own { H.belongs home.now seat.old }
-    requires all { H.held seat.old ≡ below (H.opening home.now).requesters }
-    requires line { (H.opening home.now).region.granules ≡ 8 }
+    requires opened { IsOfEight (H.belongs home.now seat.old) (H.held seat.old) (H.opening home.now) }
 {
-    let done = |data: u8| Line::Completed(add(FETCH_ADD, 0, 1), Reply::CompData(lanes(data)));
+    let done = |data: u8| Line::Completed(add(FETCH_ADD, 0, 1), Reply::CompData(first_lane(data)));
     let full = [done(0), done(1), done(2)];
     let holds_all = home.holds_all(seat);
     let mut words = [0; 8];
@@ -80,11 +67,8 @@ fn are_three_done<H: Home, R: Wait, A: Allocator>(
     is_serial: bool,
     lines: &mut Vec<Line, A>,
 ) -> bool
-    requires own { H.belongs home.now seat.old }
-    requires all { H.held seat.old ≡ below (H.opening home.now).requesters }
-    requires eight { (H.opening home.now).requesters ≡ 8 }
-    ensures own { H.belongs home.now seat.new }
-    ensures held { H.held seat.new ≡ H.held seat.old }
+    requires opened { IsOfEight (H.belongs home.now seat.old) (H.held seat.old) (H.opening home.now) }
+    ensures opened { IsOfEight (H.belongs home.now seat.new) (H.held seat.new) (H.opening home.now) }
 {
     let requests = [
         add(FETCH_ADD, 0, 1),
@@ -107,10 +91,7 @@ pub(crate) fn add_three<H: Home, T: AllocGlobal + Abort + Wait>(
     is_serial: bool,
     number: u64,
 ) -> bool
-    requires own { H.belongs home.now seat.old }
-    requires all { H.held seat.old ≡ below (H.opening home.now).requesters }
-    requires eight { (H.opening home.now).requesters ≡ 8 }
-    requires line { (H.opening home.now).region.granules ≡ 8 }
+    requires opened { IsOfEight (H.belongs home.now seat.old) (H.held seat.old) (H.opening home.now) }
 {
     let alloc = Refusing::new(rt.alloc(), number);
     let mut lines = Vec::new(&alloc);

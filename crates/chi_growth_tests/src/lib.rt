@@ -2,11 +2,7 @@
 #![tactic(auto)]
 
 #[cfg(test)]
-mod additions;
-#[cfg(test)]
 mod comparison;
-#[cfg(test)]
-mod growth_four_tests;
 #[cfg(test)]
 mod growth_list_tests;
 #[cfg(test)]

@@ -3,21 +3,13 @@
 use crate::comparison::assert_same;
 use chi_fields::{Region, Request, decode};
 use chi_lanes::{Reply, apply};
+use chi_samples::plain_request;
 use std::process::Abort;
 use std::test::Fail;
 
 // A request of requester 0 with little-endian data. The digits of `lanes` are the packet, lane 0 first.
 fn request(opcode: u8, size: u8, addr: u64, be: u16, lanes: u128) -> Request {
-    Request {
-        src: 0,
-        txn: 0,
-        opcode,
-        size,
-        addr,
-        endian: false,
-        be,
-        lanes: lanes.to_be_bytes(),
-    }
+    plain_request(opcode, size, addr, be, lanes.to_be_bytes())
 }
 
 // The request with big-endian data.

@@ -1,6 +1,6 @@
 //! What races of two and of four did over both stores is explained, and no longer once a reply is changed.
 
-ghost use Rattle.std.specs.Prelude.{◌≡◌, ◌≤◌};
+ghost use Rattle.std.specs.Prelude.{◌≡◌, ◌≤◌, true};
 ghost use Rattle.chi_history.specs.NumberSets.{below};
 
 use crate::clock_gate::{Pauses, observe, observe_after};
@@ -80,13 +80,14 @@ fn assert_explained<T: AllocGlobal + Abort>(
     Ok(())
 }
 
-// The operations of a race, of its workers by their pauses and of 0 after them, in the order of their starts.
+// The operations of a race that has ended, of its workers by their pauses and of 0 after them, in the order of their starts.
 fn operations<T: AllocGlobal>(
     rt: &T,
     workers: &[(&[Line], &Pauses)],
     zero: &[Line],
-    end: u64,
+    clock: &AtomicU64,
 ) -> Result<Vec<Observed>, Fail> {
+    let end = clock.load(Ordering::SeqCst);
     let region = Region::new(0x1000, 2)?;
     let mut ops = Vec::new(rt.alloc());
     for (lines, pauses) in workers {
@@ -115,86 +116,63 @@ fn assert_race<H: Home, T: AllocGlobal + Abort + Wait>(
     assert_explained(rt, &words, ops)
 }
 
-// Four operations by each of 1 and 2, and a read by 0.
-fn assert_two<H: Home + Sync, T: AllocGlobal + Abort + Threads + Wait + Sync>(
+// Four operations by each of 1 and 2, or of 1 to 4, and a read by 0.
+fn assert_race_explained<H: Home + Sync, T: AllocGlobal + Abort + Threads + Wait + Sync>(
     rt: &T,
     home: &H,
     seat: &mut H::Seat,
+    are_four: bool,
 ) -> Result<(), Fail>
     requires own { H.belongs home.now seat.old }
     requires all { H.held seat.old ≡ below (H.opening home.now).requesters }
     requires three { 3 ≤ (H.opening home.now).requesters }
+    requires five { are_four ≡ true → 5 ≤ (H.opening home.now).requesters }
     requires granules { (H.opening home.now).region.granules ≡ 2 }
 {
-    let script = race_of_two(rt)?;
-    let requests = script.requests();
-    let clock = AtomicU64::new(1);
-    let (one, two) = (Pauses::new(), Pauses::new());
-    let (gate1, gate2) = (one.gate(&clock), two.gate(&clock));
-    let mut race = Race::new(rt.alloc());
-    race_two(
-        home,
-        rt,
-        seat,
-        requests,
-        Policy::Resend,
-        gate1,
-        gate2,
-        &mut race,
-    )?;
-    let workers = [(race.one.as_slice(), &one), (race.two.as_slice(), &two)];
-    let end = clock.load(Ordering::SeqCst);
-    let ops = operations(rt, &workers, &race.zero, end)?;
-    assert_race(rt, home, seat, &ops, 9)
-}
-
-// Four operations by each of 1 to 4, and a read by 0.
-fn assert_four<H: Home + Sync, T: AllocGlobal + Abort + Threads + Wait + Sync>(
-    rt: &T,
-    home: &H,
-    seat: &mut H::Seat,
-) -> Result<(), Fail>
-    requires own { H.belongs home.now seat.old }
-    requires all { H.held seat.old ≡ below (H.opening home.now).requesters }
-    requires five { 5 ≤ (H.opening home.now).requesters }
-    requires granules { (H.opening home.now).region.granules ≡ 2 }
-{
-    let script = race_of_four(rt)?;
-    let requests = script.requests();
     let clock = AtomicU64::new(1);
     let (one, two, three, four) = (Pauses::new(), Pauses::new(), Pauses::new(), Pauses::new());
     let (gate1, gate2) = (one.gate(&clock), two.gate(&clock));
-    let (gate3, gate4) = (three.gate(&clock), four.gate(&clock));
-    let mut race = RaceFour::new(rt.alloc());
     let policy = Policy::Resend;
-    race_four(
-        home, rt, seat, requests, policy, gate1, gate2, gate3, gate4, &mut race,
-    )?;
-    let workers = [
-        (race.one.as_slice(), &one),
-        (race.two.as_slice(), &two),
-        (race.three.as_slice(), &three),
-        (race.four.as_slice(), &four),
-    ];
-    let end = clock.load(Ordering::SeqCst);
-    let ops = operations(rt, &workers, &race.zero, end)?;
-    assert_race(rt, home, seat, &ops, 17)
+    if are_four {
+        let script = race_of_four(rt)?;
+        let requests = script.requests();
+        let (gate3, gate4) = (three.gate(&clock), four.gate(&clock));
+        let mut race = RaceFour::new(rt.alloc());
+        race_four(
+            home, rt, seat, requests, policy, gate1, gate2, gate3, gate4, &mut race,
+        )?;
+        let workers = [
+            (race.one.as_slice(), &one),
+            (race.two.as_slice(), &two),
+            (race.three.as_slice(), &three),
+            (race.four.as_slice(), &four),
+        ];
+        let ops = operations(rt, &workers, &race.zero, &clock)?;
+        return assert_race(rt, home, seat, &ops, 17);
+    }
+    let script = race_of_two(rt)?;
+    let requests = script.requests();
+    let mut race = Race::new(rt.alloc());
+    race_two(home, rt, seat, requests, policy, gate1, gate2, &mut race)?;
+    let workers = [(race.one.as_slice(), &one), (race.two.as_slice(), &two)];
+    let ops = operations(rt, &workers, &race.zero, &clock)?;
+    assert_race(rt, home, seat, &ops, 9)
 }
 
 #[test]
 fn race_of_two_is_explained(rt: HostRuntime) -> Result<(), Fail> {
     let region = Region::new(0x1000, 2)?;
     let (home, mut seat) = LockStore::open(rt.alloc(), region, 3, &IMAGE)?;
-    assert_two(&rt, &home, &mut seat)?;
+    assert_race_explained(&rt, &home, &mut seat, false)?;
     let (home, mut seat) = BookStore::open(rt.alloc(), region, 3, 4, &IMAGE)?;
-    assert_two(&rt, &home, &mut seat)
+    assert_race_explained(&rt, &home, &mut seat, false)
 }
 
 #[test]
 fn race_of_four_is_explained(rt: HostRuntime) -> Result<(), Fail> {
     let region = Region::new(0x1000, 2)?;
     let (home, mut seat) = LockStore::open(rt.alloc(), region, 5, &IMAGE)?;
-    assert_four(&rt, &home, &mut seat)?;
+    assert_race_explained(&rt, &home, &mut seat, true)?;
     let (home, mut seat) = BookStore::open(rt.alloc(), region, 5, 4, &IMAGE)?;
-    assert_four(&rt, &home, &mut seat)
+    assert_race_explained(&rt, &home, &mut seat, true)
 }

@@ -5,6 +5,7 @@ use crate::sample_scripts::FETCH_ADD;
 use chi_fields::{RegionFault, Request};
 use chi_script::{Member, Script, ScriptFault, read_script};
 use std::alloc::Global;
+use std::process::Abort;
 use std::test::Fail;
 
 const NO_REQUESTS: &str = ",\"requests\":[]";
@@ -69,31 +70,31 @@ fn no_opening_image(rt: HostRuntime) -> Result<(), Fail> {
     Ok(())
 }
 
+// Compares the fault of a script with an image that is not as stated, whatever its further members are.
+fn assert_not_as_stated<R: AllocGlobal + Abort>(rt: &R, image: &str) -> Result<(), Fail> {
+    for further in [NO_REQUESTS, "", ",\"requests\":7"] {
+        let script = script_of(rt.alloc(), 1, image, further)?;
+        assert_same(
+            rt,
+            ((image, further), script.err()),
+            (
+                (image, further),
+                Some(ScriptFault::BadMember(Member::Image)),
+            ),
+        );
+    }
+    Ok(())
+}
+
+// One granule has 16 digits.
 #[test]
 fn image_not_as_stated(rt: HostRuntime) -> Result<(), Fail> {
-    let images = [
-        "\"001122334455667\"",
-        "\"00112233445566778\"",
-        "\"001122334455667g\"",
-        "\"00112233445566\"",
-        "\"001122334455667788\"",
-        "\"\"",
-        "null",
-        "0",
-        "[]",
-    ];
-    for image in images {
-        for further in [NO_REQUESTS, "", ",\"requests\":7"] {
-            let script = script_of(rt.alloc(), 1, image, further)?;
-            assert_same(
-                &rt,
-                ((image, further), script.err()),
-                (
-                    (image, further),
-                    Some(ScriptFault::BadMember(Member::Image)),
-                ),
-            );
-        }
+    for digits in [0, 14, 15, 17, 18] {
+        let image = image_of_digits(rt.alloc(), digits)?;
+        assert_not_as_stated(&rt, image.as_str())?;
+    }
+    for image in ["\"001122334455667g\"", "null", "0", "[]"] {
+        assert_not_as_stated(&rt, image)?;
     }
     Ok(())
 }

@@ -1,6 +1,7 @@
 //! Tests of the transcript's text, and of writers that fail.
 
 use crate::comparison::assert_same;
+use crate::sample_scripts::FETCH_ADD;
 use chi_fields::{Refusal, Region, Request};
 use chi_history::Line;
 use chi_lanes::Reply;
@@ -9,17 +10,6 @@ use std::alloc::Global;
 use std::io;
 use std::io::Write;
 use std::test::Fail;
-
-const FETCH_ADD: Request = Request {
-    src: 0,
-    txn: 1,
-    opcode: 0x30,
-    size: 3,
-    addr: 0x1000,
-    endian: false,
-    be: 0x00ff,
-    lanes: [1, 0, 0, 0, 0, 0, 0, 0, 0, 0, 0, 0, 0, 0, 0, 0],
-};
 
 const ZEROS: [u8; 16] = [0; 16];
 

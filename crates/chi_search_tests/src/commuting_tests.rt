@@ -2,80 +2,54 @@
 
 use crate::comparison::assert_same;
 use crate::operations::{
-    NOTHING, READ, STORE_ADD, Timed, WRITE, count_and_last, done, done_at, has_order, told,
+    NOTHING, READ, STORE_ADD, WRITE, assert_before_read, done, done_at, has_order, told,
 };
-use std::alloc::Global;
 use std::test::Fail;
 
-// So many additions of 1, 2, 3 and so on that are open at once, and a read after them.
-fn additions_and_read(alloc: Global, count: u64, read: u64) -> Result<Vec<Timed>, Fail> {
-    let mut ops = Vec::new(alloc);
-    for k in 0..count {
-        ops.push(done((0, 10), STORE_ADD, k + 1))?;
-    }
-    ops.push(told((11, 20), READ, 0, read))?;
-    Ok(ops)
-}
-
+// Additions of 1, 2, 3 and so on that are open at once, and a read after them.
 #[test]
 fn additions_of_one_operand(rt: HostRuntime) -> Result<(), Fail> {
-    for (read, budget, wanted) in [(170, 1000, NOTHING), (171, 1000, (19, Some(18)))] {
-        let ops = additions_and_read(rt.alloc(), 18, read)?;
-        let found = count_and_last(rt.alloc(), &ops, budget)?;
-        assert_same(&rt, (read, found), (read, wanted));
+    let mut ops = Vec::new(rt.alloc());
+    for k in 0..18 {
+        ops.push(done((0, 10), STORE_ADD, k + 1))?;
     }
-    Ok(())
+    let answers = [(170, 1000, NOTHING), (171, 1000, (19, Some(18)))];
+    assert_before_read(&rt, &ops, (11, 20), &answers)
 }
 
 // Writes of each byte of the granule that are open at once, additions to each that are, and a read after them.
-fn bytes_and_read(alloc: Global, read: u64) -> Result<Vec<Timed>, Fail> {
-    let mut ops = Vec::new(alloc);
-    for byte in 0..8 {
-        ops.push(done_at((0, 10), WRITE, byte, 0x0706_0504_0302_0100))?;
-    }
-    for byte in 0..8 {
-        ops.push(done_at((11, 20), STORE_ADD, byte, 0x0101_0101_0101_0101))?;
-    }
-    ops.push(told((21, 30), READ, 0, read))?;
-    Ok(ops)
-}
-
 #[test]
 fn bytes_apart(rt: HostRuntime) -> Result<(), Fail> {
-    for (read, budget, wanted) in [
+    let mut ops = Vec::new(rt.alloc());
+    for (times, opcode, word) in [
+        ((0, 10), WRITE, 0x0706_0504_0302_0100),
+        ((11, 20), STORE_ADD, 0x0101_0101_0101_0101),
+    ] {
+        for byte in 0..8 {
+            ops.push(done_at(times, opcode, byte, word))?;
+        }
+    }
+    let answers = [
         (0x0807_0605_0403_0200, 200, NOTHING),
         (0x0807_0605_0403_0201, 1000, (17, Some(16))),
-    ] {
-        let ops = bytes_and_read(rt.alloc(), read)?;
-        let found = count_and_last(rt.alloc(), &ops, budget)?;
-        assert_same(&rt, (read, found), (read, wanted));
-    }
-    Ok(())
+    ];
+    assert_before_read(&rt, &ops, (21, 30), &answers)
 }
 
 // A write of all bytes of a word and one of each of them that are open at once, and a read after them.
-fn parts_and_read(alloc: Global, read: u64) -> Result<Vec<Timed>, Fail> {
+#[test]
+fn writes_that_agree(rt: HostRuntime) -> Result<(), Fail> {
     let word = 0x0706_0504_0302_0100;
-    let mut ops = Vec::new(alloc);
+    let mut ops = Vec::new(rt.alloc());
     ops.push(done((0, 10), WRITE, word))?;
     for byte in 0..8 {
         ops.push(done_at((0, 10), WRITE, byte, word))?;
     }
-    ops.push(told((11, 20), READ, 0, read))?;
-    Ok(ops)
-}
-
-#[test]
-fn writes_that_agree(rt: HostRuntime) -> Result<(), Fail> {
-    for (read, budget, wanted) in [
+    let answers = [
         (0x0706_0504_0302_0000, 200, NOTHING),
         (0x0706_0504_0302_0100, 100, (10, Some(9))),
-    ] {
-        let ops = parts_and_read(rt.alloc(), read)?;
-        let found = count_and_last(rt.alloc(), &ops, budget)?;
-        assert_same(&rt, (read, found), (read, wanted));
-    }
-    Ok(())
+    ];
+    assert_before_read(&rt, &ops, (11, 20), &answers)
 }
 
 #[test]

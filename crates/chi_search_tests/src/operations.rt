@@ -1,10 +1,12 @@
 //! Operations for the tests, all on one granule, and what is found of them.
 
+use crate::comparison::assert_same;
 use chi_fields::{Region, Request, decode};
 use chi_lanes::Reply;
 use chi_search::{Found, NoProgress, Words, are_searchable, order_of, words_of};
 use chi_trace::Observed;
 use std::alloc::Global;
+use std::process::Abort;
 use std::test::Fail;
 
 pub(crate) const READ: u8 = 0x04;
@@ -138,6 +140,23 @@ pub(crate) fn count_and_last(
 
 /// What it is where there is no order.
 pub(crate) const NOTHING: (usize, Option<usize>) = (1, Some(999));
+
+/// Compares what is found of these operations and a read after them at these times, which answers each of these words, within so
+/// many states.
+pub(crate) fn assert_before_read<R: AllocGlobal + Abort>(
+    rt: &R,
+    ops: &[Timed],
+    times: (u64, u64),
+    answers: &[(u64, u64, (usize, Option<usize>))],
+) -> Result<(), Fail> {
+    for (answer, budget, wanted) in answers {
+        let mut all = Vec::from_slice(rt.alloc(), ops)?;
+        all.push(told(times, READ, 0, *answer))?;
+        let found = count_and_last(rt.alloc(), &all, *budget)?;
+        assert_same(rt, (*answer, found), (*answer, *wanted));
+    }
+    Ok(())
+}
 
 /// Whether this is the order that is found within 1,000 states.
 pub(crate) fn has_order(

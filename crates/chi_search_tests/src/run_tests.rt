@@ -2,7 +2,8 @@
 
 use crate::comparison::assert_same;
 use crate::operations::{
-    NOTHING, READ, STORE_ADD, STORE_EOR, Timed, WRITE, count_and_last, done, done_at, told,
+    NOTHING, READ, STORE_ADD, STORE_EOR, Timed, WRITE, assert_before_read, count_and_last, done,
+    done_at, told,
 };
 use std::alloc::Global;
 use std::test::Fail;
@@ -38,29 +39,20 @@ fn odd_number_of_even_ones_and_one_that_is_made(rt: HostRuntime) -> Result<(), F
 }
 
 // Three additions of 1 to each of the two lowest pairs of bytes and nine writes of the highest byte, all open at once, and a read
-// of this word that ends last.
-fn sums_of_two_pairs(alloc: Global, read: u64) -> Result<Vec<Timed>, Fail> {
-    let mut ops = Vec::new(alloc);
+// of a word that ends last.
+#[test]
+fn sum_that_reaches_below_its_bytes(rt: HostRuntime) -> Result<(), Fail> {
+    let mut ops = Vec::new(rt.alloc());
     for _ in 0..3 {
         ops.push(done((0, 10), STORE_ADD, 0x0001_0001))?;
     }
     for number in 1..10 {
         ops.push(done_at((0, 10), WRITE, 7, number << 56))?;
     }
-    ops.push(told((10, 20), READ, 0, read))?;
-    Ok(ops)
-}
-
-#[test]
-fn sum_that_reaches_below_its_bytes(rt: HostRuntime) -> Result<(), Fail> {
     // 107 states: eight for each operation, and three for the additions in the lowest bytes. In the next ones none is looked at.
-    for (read, budget, wanted) in [
+    let answers = [
         ((9 << 56) | 0x7777_0003, 110, NOTHING),
         ((9 << 56) | 0x0003_0003, 1000, (13, Some(12))),
-    ] {
-        let ops = sums_of_two_pairs(rt.alloc(), read)?;
-        let found = count_and_last(rt.alloc(), &ops, budget)?;
-        assert_same(&rt, found, wanted);
-    }
-    Ok(())
+    ];
+    assert_before_read(&rt, &ops, (10, 20), &answers)
 }

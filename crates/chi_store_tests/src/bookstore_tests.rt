@@ -9,6 +9,7 @@ use chi_bookstore::{BookSeat, BookStore};
 use chi_fields::{Refusal, Region, Request, decode};
 use chi_history::{Home, OpenFault, Served};
 use chi_lanes::Reply;
+use chi_samples::{first_lane, plain_request};
 use std::alloc::Allocator;
 use std::test::Fail;
 
@@ -18,17 +19,9 @@ mod threads;
 fn request(src: u8, opcode: u8, size: u8, be: u16, first: u8) -> Request
     ensures { result.src ≡ src }
 {
-    let mut lanes = [0; 16];
-    lanes[0] = first;
     Request {
         src,
-        txn: 0,
-        opcode,
-        size,
-        addr: 0x1000,
-        endian: false,
-        be,
-        lanes,
+        ..plain_request(opcode, size, 0x1000, be, first_lane(first))
     }
 }
 
@@ -57,9 +50,7 @@ fn reply_to<A: Allocator>(
 
 // Returned data with this byte in lane 0.
 fn one_byte(byte: u8) -> Reply {
-    let mut lanes = [0; 16];
-    lanes[0] = byte;
-    Reply::CompData(lanes)
+    Reply::CompData(first_lane(byte))
 }
 
 #[test]

@@ -1,12 +1,10 @@
 //! Both stores, on each of which one of the generic calls of the tests is made.
 
-ghost use Rattle.std.specs.Prelude.{◌≡◌};
-ghost use Rattle.chi_history.specs.NumberSets.{below};
+ghost use Rattle.chi_samples.specs.Opened.{IsOfEight};
 
-use crate::four_workers_tests::assert_four_add;
 use crate::home_tests::{assert_callers, assert_own_lines};
 use crate::opening_tests::assert_begins;
-use crate::work_tests::{assert_adds, assert_other_skipped, assert_two_bytes_written};
+use crate::work_tests::{assert_adds, assert_two_bytes_written};
 use chi_bookstore::BookStore;
 use chi_fields::Region;
 use chi_history::Home;
@@ -35,19 +33,16 @@ fn call_on<H: Home + Sync, T: AllocGlobal + Abort + Threads + Wait + Sync>(
     seat: &mut H::Seat,
     call: Call,
 ) -> Result<(), Fail>
-    requires own { H.belongs home.now seat.old }
-    requires all { H.held seat.old ≡ below (H.opening home.now).requesters }
-    requires eight { (H.opening home.now).requesters ≡ 8 }
-    requires line { (H.opening home.now).region.granules ≡ 8 }
+    requires opened { IsOfEight (H.belongs home.now seat.old) (H.held seat.old) (H.opening home.now) }
 {
     match call {
         Call::Callers => assert_callers(rt, home, seat),
         Call::OwnLines => assert_own_lines(rt, home, seat),
         Call::Begins => assert_begins(rt, home, seat),
-        Call::OtherSkipped => assert_other_skipped(rt, home, seat),
-        Call::TwoBytes => assert_two_bytes_written(rt, home, seat),
-        Call::TwoWorkers => assert_adds(rt, home, seat)?,
-        Call::FourWorkers => assert_four_add(rt, home, seat)?,
+        Call::OtherSkipped => assert_two_bytes_written(rt, home, seat, false),
+        Call::TwoBytes => assert_two_bytes_written(rt, home, seat, true),
+        Call::TwoWorkers => assert_adds(rt, home, seat, false)?,
+        Call::FourWorkers => assert_adds(rt, home, seat, true)?,
     }
     Ok(())
 }

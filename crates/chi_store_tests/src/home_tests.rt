@@ -1,7 +1,7 @@
 //! Both stores by their calls: generic callers of a home, and two threads whose requests differ.
 
 ghost use Rattle.std.specs.Prelude.{◌≡◌};
-ghost use Rattle.chi_history.specs.NumberSets.{below};
+ghost use Rattle.chi_samples.specs.Opened.{IsOfEight};
 
 use crate::both_stores::{Call, call_on_both};
 use crate::comparison::assert_same;
@@ -12,6 +12,7 @@ use chi_history::callers::{serve_alone, serve_apart, serve_until_done};
 use chi_history::{Home, Line, NoGate};
 use chi_lanes::Reply;
 use chi_requester::{Policy, Race, race_two};
+use chi_samples::plain_request;
 use std::process::Abort;
 use std::sync::Wait;
 use std::test::Fail;
@@ -38,22 +39,14 @@ fn request(src: u8, opcode: u8, addr: u64, first: u8) -> Request
     Request {
         src,
         txn: 1,
-        opcode,
-        size: 3,
-        addr,
-        endian: false,
-        be: window,
-        lanes: lanes_of(addr, first),
+        ..plain_request(opcode, 3, addr, window, lanes_of(addr, first))
     }
 }
 
 // Adds 5 and then 2 by requester 0, and then swaps by 1 and reads by 2, each with a seat of its own: the replies in
 // this order are right, and so are the words after them.
 pub(crate) fn assert_callers<H: Home, T: Abort + Wait>(rt: &T, home: &H, seat: &mut H::Seat)
-    requires own { H.belongs home.now seat.old }
-    requires all { H.held seat.old ≡ below (H.opening home.now).requesters }
-    requires eight { (H.opening home.now).requesters ≡ 8 }
-    requires line { (H.opening home.now).region.granules ≡ 8 }
+    requires opened { IsOfEight (H.belongs home.now seat.old) (H.held seat.old) (H.opening home.now) }
 {
     let region = home.region();
     let five = accepted(rt, &request(0, FETCH_ADD, 0x1000, 5), &region);
@@ -96,10 +89,7 @@ pub(crate) fn assert_own_lines<H: Home + Sync, T: AllocGlobal + Abort + Threads 
     home: &H,
     seat: &mut H::Seat,
 )
-    requires own { H.belongs home.now seat.old }
-    requires all { H.held seat.old ≡ below (H.opening home.now).requesters }
-    requires eight { (H.opening home.now).requesters ≡ 8 }
-    requires line { (H.opening home.now).region.granules ≡ 8 }
+    requires opened { IsOfEight (H.belongs home.now seat.old) (H.held seat.old) (H.opening home.now) }
 {
     let requests = [
         request(0, READ, 0x1000, 0),

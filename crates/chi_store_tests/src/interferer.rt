@@ -7,6 +7,7 @@ use chi_bookstore::{BookSeat, BookStore};
 use chi_fields::{Access, Region, Request, decode};
 use chi_history::{Gate, Home, Served};
 use chi_lanes::Reply;
+use chi_samples::{first_lane, plain_request};
 use std::marker::Model;
 use std::process::Abort;
 use std::sync::Wait;
@@ -105,17 +106,10 @@ impl Drop for Interferer<'_> {
 pub(crate) fn request(src: u8, opcode: u8, be: u16, first: u8) -> Request
     ensures { result.src ≡ src }
 {
-    let mut lanes = [0; 16];
-    lanes[0] = first;
     Request {
         src,
         txn: 1,
-        opcode,
-        size: 3,
-        addr: 0x1000,
-        endian: false,
-        be,
-        lanes,
+        ..plain_request(opcode, 3, 0x1000, be, first_lane(first))
     }
 }
 
@@ -133,9 +127,7 @@ pub(crate) fn fetch_add() -> Request
 
 // A data packet with this byte in lane 0.
 pub(crate) fn one_byte(byte: u8) -> Reply {
-    let mut lanes = [0; 16];
-    lanes[0] = byte;
-    Reply::CompData(lanes)
+    Reply::CompData(first_lane(byte))
 }
 
 // The numbers of these tries as a gate keeps them, 0 where there is none.

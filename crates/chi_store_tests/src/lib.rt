@@ -2,15 +2,11 @@
 #![tactic(auto)]
 
 #[cfg(test)]
-mod additions;
-#[cfg(test)]
 mod bookstore_tests;
 #[cfg(test)]
 mod both_stores;
 #[cfg(test)]
 mod comparison;
-#[cfg(test)]
-mod four_workers_tests;
 #[cfg(test)]
 mod home_tests;
 #[cfg(test)]

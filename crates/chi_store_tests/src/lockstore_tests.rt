@@ -8,6 +8,7 @@ use chi_fields::{Access, Region, Request, decode};
 use chi_history::{Gate, Home, NoGate, OpenFault, Served};
 use chi_lanes::Reply;
 use chi_lockstore::LockStore;
+use chi_samples::plain_request;
 use std::process::Abort;
 use std::sync::Wait;
 use std::test::Fail;
@@ -22,16 +23,7 @@ const SWAP: u8 = 0x38;
 
 // A little-endian request of requester 0 at 0x1000.
 fn request(opcode: u8, size: u8, be: u16, lanes: [u8; 16]) -> Request {
-    Request {
-        src: 0,
-        txn: 0,
-        opcode,
-        size,
-        addr: 0x1000,
-        endian: false,
-        be,
-        lanes,
-    }
+    plain_request(opcode, size, 0x1000, be, lanes)
 }
 
 // A data packet with this byte in lane 0.

@@ -1,7 +1,7 @@
 //! Both stores opened on an image that is not zeros.
 
 ghost use Rattle.std.specs.Prelude.{◌≡◌};
-ghost use Rattle.chi_history.specs.NumberSets.{below};
+ghost use Rattle.chi_samples.specs.Opened.{IsOfEight};
 
 use crate::both_stores::{Call, call_on_both};
 use crate::comparison::assert_same;
@@ -9,6 +9,7 @@ use chi_fields::Request;
 use chi_history::{Home, Line};
 use chi_lanes::Reply;
 use chi_requester::{Policy, run_serial};
+use chi_samples::{first_lane, plain_request};
 use std::process::Abort;
 use std::sync::Wait;
 use std::test::Fail;
@@ -20,17 +21,9 @@ const IMAGE: [u64; 8] = [u64::MAX, 0x7766_5544_3322_1100, 0, 0, 0, 0, 0, 1];
 fn fetch_add() -> Request
     ensures { result.src ≡ 0 }
 {
-    let mut lanes = [0; 16];
-    lanes[0] = 1;
     Request {
-        src: 0,
         txn: 1,
-        opcode: 0x30,
-        size: 3,
-        addr: 0x1000,
-        endian: false,
-        be: 0x00ff,
-        lanes,
+        ..plain_request(0x30, 3, 0x1000, 0x00ff, first_lane(1))
     }
 }
 
@@ -48,10 +41,7 @@ pub(crate) fn assert_begins<H: Home, T: AllocGlobal + Abort + Wait>(
     home: &H,
     seat: &mut H::Seat,
 )
-    requires own { H.belongs home.now seat.old }
-    requires all { H.held seat.old ≡ below (H.opening home.now).requesters }
-    requires eight { (H.opening home.now).requesters ≡ 8 }
-    requires line { (H.opening home.now).region.granules ≡ 8 }
+    requires opened { IsOfEight (H.belongs home.now seat.old) (H.held seat.old) (H.opening home.now) }
 {
     let mut first = [0; 8];
     home.snapshot(rt, seat, &mut first);

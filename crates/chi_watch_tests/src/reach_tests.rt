@@ -20,21 +20,26 @@ fn reach_after(alloc: Global, kinds: &[EventKind]) -> Result<Reach, Fail> {
     Ok(watch.reach(alloc, GRANULE, 1_000_000, &mut NoProgress)?)
 }
 
+// A read that answers at this time and is open alone, where a write came before it and only 5 can be there.
+fn read_after_write<'a>(time: u64, read: &'a [u64; 1], write: &'a [u64; 1]) -> Stop<'a> {
+    Stop {
+        time,
+        opcode: 0x04,
+        starts: read,
+        words: &[5],
+        blamed: read[0],
+        before: write,
+        open: read,
+        legal: &[5],
+    }
+}
+
 // The write of 5, which event 1 tells, has ended at 2. The read that starts at 3 answers 0 at 4, and up to 3 only 5 can be there.
 #[test]
 fn a_lost_write(rt: HostRuntime) -> Result<(), Fail> {
     let kinds = [write(1, 5), done(1), read(2), answer(2, 0)];
-    let stop = Stop {
-        time: 4,
-        opcode: 0x04,
-        starts: &[3],
-        words: &[5],
-        blamed: 3,
-        before: &[1],
-        open: &[3],
-        legal: &[5],
-    };
-    assert_stops(&rt, &reach_after(rt.alloc(), &kinds)?, stop)
+    let reach = reach_after(rt.alloc(), &kinds)?;
+    assert_stops(&rt, &reach, read_after_write(4, &[3], &[1]))
 }
 
 // Both of two AtomicLoads that overlap answer 0. The second starts at 2 and answers at 4, where 1 would have been right; up to 3
@@ -67,17 +72,8 @@ fn numbers_that_are_used_again(rt: HostRuntime) -> Result<(), Fail> {
         read(1),
         answer(1, 7),
     ];
-    let stop = Stop {
-        time: 7,
-        opcode: 0x04,
-        starts: &[6],
-        words: &[5],
-        blamed: 6,
-        before: &[3],
-        open: &[6],
-        legal: &[5],
-    };
-    assert_stops(&rt, &reach_after(rt.alloc(), &kinds)?, stop)
+    let reach = reach_after(rt.alloc(), &kinds)?;
+    assert_stops(&rt, &reach, read_after_write(7, &[6], &[3]))
 }
 
 // At time 0 nothing is known before.

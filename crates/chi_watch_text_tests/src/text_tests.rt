@@ -7,48 +7,44 @@ use crate::events::{
 use chi_recent::Reach;
 use chi_watch::{Counts, Ending, FoundAtEnd};
 use chi_watch_text::{Found, WatchOptions, Watched, watched_text};
+use std::process::Abort;
 use std::test::Fail;
+
+// Compares what is found of texts one after the other: its text, with how many operations ended, how many requests are
+// outstanding, how many granules there are, and how many of these are not judged.
+fn assert_answer<R: AllocGlobal + Abort>(
+    rt: &R,
+    texts: &[&str],
+    options: &WatchOptions,
+    found: &str,
+    (ended, outstanding, granules, unjudged): (u64, u64, u64, u64),
+) -> Result<(), Fail> {
+    let text = answer(rt.alloc(), texts, options)?;
+    let wanted = format!(in rt.alloc();
+        "{found}  operations that ended: {ended}
+  requests outstanding: {outstanding}
+  granules: {granules}
+  granules not judged: {unjudged}
+"
+    )?;
+    assert_same(rt, text.as_str(), wanted.as_str());
+    Ok(())
+}
 
 #[test]
 fn what_is_explained(rt: HostRuntime) -> Result<(), Fail> {
-    let text = answer(rt.alloc(), &[WRITE, READ, FIVE], &STOPPING)?;
-    assert_same(
-        &rt,
-        text.as_str(),
-        "explained
-  operations that ended: 2
-  requests outstanding: 0
-  granules: 1
-  granules not judged: 0
-",
-    );
-    Ok(())
+    let texts = [WRITE, READ, FIVE];
+    assert_answer(&rt, &texts, &STOPPING, "explained\n", (2, 0, 1, 0))
 }
 
 #[test]
 fn what_is_outstanding_or_not_judged(rt: HostRuntime) -> Result<(), Fail> {
-    let text = answer(rt.alloc(), &[WRITE, READ, UNKNOWN], &STOPPING)?;
-    assert_same(
-        &rt,
-        text.as_str(),
-        "explained
-  operations that ended: 1
-  requests outstanding: 1
-  granules: 2
-  granules not judged: 1
-",
-    );
-    Ok(())
+    let texts = [WRITE, READ, UNKNOWN];
+    assert_answer(&rt, &texts, &STOPPING, "explained\n", (1, 1, 2, 1))
 }
 
-#[test]
-fn where_it_stops_at_a_line(rt: HostRuntime) -> Result<(), Fail> {
-    let texts = [WRITE, READ, ZERO, "\n", NINE_AND_FIVE, LAST];
-    let text = answer(rt.alloc(), &texts, &STOPPING)?;
-    assert_same(
-        &rt,
-        text.as_str(),
-        "not explained: granule 0000000000001000
+// What is found by the read of 0 where 5 was written.
+const READ_OF_ZERO: &str = "not explained: granule 0000000000001000
 at 4: 0 2 04 ReadNoSnp 3 0000000000001000 answered
   the granule can hold 0500000000000000
   open from 3 to 4: 0 2 04 ReadNoSnp 3 0000000000001000 answered
@@ -58,33 +54,19 @@ at 4: 0 2 04 ReadNoSnp 3 0000000000001000 answered
   > line 3 |                          ##############|  3 to 4  ReadNoSnp      +0 L8  returned 0000000000000000  requester 0 txn 2
     legal would be:  returned 0500000000000000
   at line 4
-  operations that ended: 2
-  requests outstanding: 0
-  granules: 1
-  granules not judged: 0
-",
-    );
-    Ok(())
+";
+
+#[test]
+fn where_it_stops_at_a_line(rt: HostRuntime) -> Result<(), Fail> {
+    let texts = [WRITE, READ, ZERO, "\n", NINE_AND_FIVE, LAST];
+    assert_answer(&rt, &texts, &STOPPING, READ_OF_ZERO, (2, 0, 1, 0))
 }
 
 #[test]
 fn where_it_keeps_going(rt: HostRuntime) -> Result<(), Fail> {
     let texts = [WRITE, READ, ZERO, "\n", NINE_AND_FIVE, LAST];
-    let text = answer(rt.alloc(), &texts, &GOING)?;
-    assert_same(
-        &rt,
-        text.as_str(),
-        "not explained: granule 0000000000001000
-at 4: 0 2 04 ReadNoSnp 3 0000000000001000 answered
-  the granule can hold 0500000000000000
-  open from 3 to 4: 0 2 04 ReadNoSnp 3 0000000000001000 answered
-  explained up to 3
-  the last operations of the granule, from time 1 to 4:
-    line 1 |==============                          |  1 to 2  WriteNoSnpPtl  +0 L8  sent 0500000000000000  comp  requester 0 txn 1
-  > line 3 |                          ##############|  3 to 4  ReadNoSnp      +0 L8  returned 0000000000000000  requester 0 txn 2
-    legal would be:  returned 0500000000000000
-  at line 4
-not explained: granule 0000000000001008
+    let found = format!(in rt.alloc();
+        "{READ_OF_ZERO}not explained: granule 0000000000001008
 at 6: 0 3 04 ReadNoSnp 3 0000000000001008 answered
   the granule can hold 0000000000000000
   open from 5 to 6: 0 3 04 ReadNoSnp 3 0000000000001008 answered
@@ -97,13 +79,9 @@ not explained: granule 0000000000001010
 at the end: 0800000000000000
   the granule can hold 0000000000000000
   at the end
-  operations that ended: 4
-  requests outstanding: 0
-  granules: 3
-  granules not judged: 0
-",
-    );
-    Ok(())
+"
+    )?;
+    assert_answer(&rt, &texts, &GOING, found.as_str(), (4, 0, 3, 0))
 }
 
 // Within a budget of no states a granule that has an operation is not decided, and one with words alone is.
@@ -113,22 +91,13 @@ fn no_budget(rt: HostRuntime) -> Result<(), Fail> {
         budget: 0,
         keep_going: true,
     };
-    let text = answer(rt.alloc(), &[WRITE, LAST], &options)?;
-    assert_same(
-        &rt,
-        text.as_str(),
-        "not explained: granule 0000000000001010
+    let found = "not explained: granule 0000000000001010
 at the end: 0800000000000000
   the granule can hold 0000000000000000
   at the end
 undecided: granule 0000000000001000 after 0 states
-  operations that ended: 1
-  requests outstanding: 0
-  granules: 2
-  granules not judged: 0
-",
-    );
-    Ok(())
+";
+    assert_answer(&rt, &[WRITE, LAST], &options, found, (1, 0, 2, 0))
 }
 
 /// A granule that is found at the end, of which no word is told and it is not found how far it can be explained.

@@ -3,7 +3,6 @@ use Rattle.std.proofs.Common.{◌≡◌, ℕ, ◌+◌, ◌^◌, ◌<◌, Bool, t
 use seplogic.Ra.Ura.{Ura}
 use mir.Syntax.{Ty, Fn, a_type, dnil, dcons}
 use mir.Val.{Val, vbool, vint, vptr}
-use mir.MapTy.{inst_fn}
 use base.Logic.{SProp, ent, sep, ex, guard, id⊢}
 use base.Fml.{Lft, Share, ftrue, fsep, flft}
 use prog.Memory.{Memory, size, align, capped, up}
@@ -18,16 +17,16 @@ use contract.BorrowLft.{◌⊑◌, ⊑_trans}
 use contract.Monad.{Fun, fact}
 use contract.Running.{tables, tables_of}
 use sound.WpLaws.{fm_of, WpFn-mono}
-use denote.Builtin.{bool, usize, RefOf}
+use denote.Builtin.{bool, usize}
 use denote.Exit.{yes}
 use denote.Memory.{hidden_shr}
 use denote.Opens.{unhide}
-use denote.Param.{bounded, param}
+use denote.Param.{bounded}
 use denote.Plain.{uint_vals, uint_Tells}
 use denote.RattleType.{owns}
 use denote.RawPtr.{block_ptr}
 use denote.Ref.{shr_vals}
-use denote.Signature.{Slot, plain, types_at}
+use denote.Signature.{plain, types_at}
 use denote.Steps.{heard, nothing, only}
 use denote.Triple.Call.{calls_at}
 use denote.Triple.Clauses.{Ended, Clauses}
@@ -43,6 +42,7 @@ use Rattle.chi_growth_tests.specs.contracts.refusing_allocator.Refusing as R
 use Rattle.chi_growth_tests.specs.contracts.refusing_allocator.refuses as C
 use Rattle.chi_growth_tests.proofs.refusing_allocator.refuses.Symbol as asked
 use Rattle.chi_growth_tests.proofs.refusing_allocator.refuses.Met as counted
+use Rattle.chi_growth_tests.proofs.RefusingCalls.{at_inner, self_as, word_goes}
 use Rattle.chi_growth_tests.specs.contracts.refusing_allocator.RefusingAllocator.allocate as F
 use Rattle.chi_growth_tests.specs.contracts.refusing_allocator.RefusingAllocator.allocate.Key as key
 use Rattle.chi_growth_tests.proofs.refusing_allocator.RefusingAllocator.allocate.Statement.{statement}
@@ -70,16 +70,13 @@ module _ {M : Type 1} {𝓤 : Ura M} (𝓛 : Logic 𝓤) (at_mem : Memory → SP
 
 module _ (Z : Al) where
   abbrev here : Fn
-  here = inst_fn (bounded (a_type ∷ []) (Z.row, tt) (dcons Z.d (dcons Z.drops dnil))) code.function
-
-  abbrev self : Slot 2
-  self = RefOf (0 ∷ []) tt (plain (λ _. R.the_row (param 0 Z.row))) (λ _. tt)
+  here = at_inner Z code.function
 
   abbrev ended : Ended
   ended = F.ended Z.row Z.g Z.d Z.drops
 
   abbrev stayed : Stays ended.signature.params ended.kept
-  stayed = (stay_dropped self yes, (stay_dropped (plain (λ _. usize)) yes, (stay_dropped (plain (λ _. usize)) yes, tt)))
+  stayed = (stay_dropped (self_as Z R.the_row) yes, (stay_dropped (plain (λ _. usize)) yes, (stay_dropped (plain (λ _. usize)) yes, tt)))
 
 module _ (Z : Al) {M : Type 1} {𝓤 : Ura M} (𝓛 : Logic 𝓤) (at_mem : Memory → SProp 𝓤) (run : Routine → Fun 𝓤) (𝓣 : Tables 𝓤 𝓛.H) (inner : Triple 𝓤 (𝓣.C (takes_key Z)) (Takes Z 𝓛 at_mem run)) (count : Triple 𝓤 (𝓣.C asked.name) (Counts 𝓛 at_mem run))
     (κ ρ : Lft) (q s : Share) (out : κ ⊑ ρ) (r : Bor (R.the_row Z.row).Denot) (n a : ℕ) (τ : Ty) where
@@ -142,9 +139,7 @@ allocate_spec 𝓤 𝓛 𝓜 𝓡 wired Y L g d d' met _ =
     let Z : Al = record { row = Y; laws = L; g = g; d = d; drops = d' } in
     let 𝓣 : Tables 𝓤 𝓛.H = tables_of 𝓤 𝓛.H 𝓜 (tables 𝓤 𝓛.H 𝓜 𝓡 𝓡.env) in
     let c = F.clauses Y g d d' 𝓛 𝓜.mem 𝓡.returns in
-    let wp = WpFn 𝓤 𝓛.H 𝓣.C 𝓣.Λ (here Z) in
-    let word = Goes-dropped 𝓛 2 (plain (λ _. usize)) yes (λ κs x f. refl) in
     entered 𝓤 𝓛.H (triple_of 𝓛 (F.signature Y) (F.spec Y g d d' 𝓛 𝓜.mem 𝓡.returns)) 𝓣.C 𝓣.Λ (key.name (bounded (a_type ∷ []) (Y, tt) (dcons d (dcons d' dnil)))) (here Z) (code.unfolded 𝓤 𝓛.H 𝓜 𝓡 wired (Y, tt) d d')
-    (walk_Meets 𝓛 (ended Z) (stayed Z) (Goes-dropped 𝓛 2 (self Z) yes (λ κs x f. refl), (word, (word, tt))) c wp (WpFn-mono 𝓤 𝓛.H 𝓛.laws 𝓣 (here Z))
-    (walked 𝓛 (ended Z) (stayed Z) c wp (λ κs. (shr_vals, (uint_vals w64, (uint_vals w64, tt)))) (λ κs. ((λ r vs s. s.0), (uint_Tells w64, (uint_Tells w64, tt))))
+    (walk_Meets 𝓛 (ended Z) (stayed Z) (Goes-dropped 𝓛 2 (self_as Z R.the_row) yes (λ κs x f. refl), (word_goes 𝓛, (word_goes 𝓛, tt))) c (WpFn 𝓤 𝓛.H 𝓣.C 𝓣.Λ (here Z)) (WpFn-mono 𝓤 𝓛.H 𝓛.laws 𝓣 (here Z))
+    (walked 𝓛 (ended Z) (stayed Z) c (WpFn 𝓤 𝓛.H 𝓣.C 𝓣.Λ (here Z)) (λ κs. (shr_vals, (uint_vals w64, (uint_vals w64, tt)))) (λ κs. ((λ r vs s. s.0), (uint_Tells w64, (uint_Tells w64, tt))))
     (λ κs qs bounds a τ are. walk Z 𝓛 𝓜.mem 𝓡.returns 𝓣 (met.allocate d') (cited 𝓤 𝓛.H _ 𝓜 𝓡 𝓡.env asked.name (𝓡.env asked.name) refl (counted.met 𝓤 𝓛 𝓜 𝓡 (code.calls-chi_growth_tests::refusing_allocator::refuses 𝓡.env wired))) κs.0 κs.1.0 qs.0 qs.1.0 bounds.0 a.0 a.1.0 a.1.1.0 τ are.1.0.1 are.1.1.0.1)))

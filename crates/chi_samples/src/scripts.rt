@@ -24,10 +24,14 @@ fn push_addition(
     Ok(())
 }
 
-// A script of additions of 1 to the first eight bytes: so many by each of these requesters, in turn. Their
-// identifiers rise from 1, and begin again from 0 after 255. The script is read, so that each requester is known to
-// be at most `top`.
-pub(crate) fn additions(
+/// A script of additions of 1 to the first eight bytes: so many by each of these requesters, in turn. Their
+/// identifiers rise from 1, and begin again from 0 after 255. The script is read, so that each requester is known to
+/// be at most `top`.
+///
+/// ```
+/// let script = additions(&rt, 0x28, &[1, 2], 1000, 2)?;
+/// ```
+pub fn additions(
     rt: &impl AllocGlobal,
     opcode: u8,
     requesters: &[u8],
