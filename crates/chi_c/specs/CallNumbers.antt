@@ -1,11 +1,10 @@
 -- the numbers by which C knows refusals, region faults, kinds and operations
 use Rattle.std.specs.Prelude.{ℕ}
-use Rattle.chi_fields.specs.declared.kind.Op.{Op}
-use Rattle.chi_fields.specs.declared.kind.Op.TheVariants.{Add, Clr, Eor, Set, SMax, SMin, UMax, UMin}
 use Rattle.chi_fields.specs.declared.kind.Kind.{Kind}
 use Rattle.chi_fields.specs.declared.kind.Kind.TheVariants.{Read, Write, Store, Load, Swap, Compare}
 use Rattle.chi_fields.specs.declared.refusal.Refusal.{Refusal}
 use Rattle.chi_fields.specs.declared.refusal.Refusal.TheVariants.{UnknownOpcode, ReservedSize, SizeOutOfProfile, Misaligned, OutOfRegion, BadByteEnable}
+use Rattle.chi_fields.specs.Opcode.{op_number as number_of_op}
 use Rattle.chi_fields.specs.declared.region.RegionFault.{RegionFault}
 use Rattle.chi_fields.specs.declared.region.RegionFault.TheVariants.{BaseNotLineAligned, GranuleCount, EndPastAddresses}
 
@@ -32,18 +31,7 @@ kind_number (Load op) = 3
 kind_number Swap = 4
 kind_number Compare = 5
 
--- an operation by the opcode's low three bits
-abbrev pub number_of_op : Op → ℕ
-number_of_op Add = 0
-number_of_op Clr = 1
-number_of_op Eor = 2
-number_of_op Set = 3
-number_of_op SMax = 4
-number_of_op SMin = 5
-number_of_op UMax = 6
-number_of_op UMin = 7
-
--- the operation of an AtomicStore or AtomicLoad, and 8 of the other kinds
+-- the operation of an AtomicStore or AtomicLoad by the low three bits of its opcode, and 8 of the other kinds
 abbrev pub op_number : Kind → ℕ
 op_number (Store op) = number_of_op op
 op_number (Load op) = number_of_op op

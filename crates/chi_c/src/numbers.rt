@@ -1,9 +1,9 @@
 //! The numbers by which C knows refusals, region faults, kinds and operations.
 
 ghost use Rattle.std.specs.Prelude.{◌≡◌};
-ghost use Rattle.chi_c.specs.CallNumbers.{fault_number, kind_number, number_of_op, op_number, refusal_number};
+ghost use Rattle.chi_c.specs.CallNumbers.{fault_number, kind_number, op_number, refusal_number};
 
-use chi_fields::{Kind, Op, Refusal, RegionFault};
+use chi_fields::{Kind, Refusal, RegionFault};
 
 // The refusals in their order, from 1 on.
 #[inline]
@@ -51,24 +51,7 @@ pub(crate) fn op_number(kind: Kind) -> u8
     ensures { result ≡ op_number kind }
 {
     match kind {
-        Kind::Store(op) => number_of_op(op),
-        Kind::Load(op) => number_of_op(op),
+        Kind::Store(op) | Kind::Load(op) => op.number(),
         _ => 8,
-    }
-}
-
-// An operation by the opcode's low three bits.
-fn number_of_op(op: Op) -> u8
-    ensures { result ≡ number_of_op op }
-{
-    match op {
-        Op::Add => 0,
-        Op::Clr => 1,
-        Op::Eor => 2,
-        Op::Set => 3,
-        Op::SMax => 4,
-        Op::SMin => 5,
-        Op::UMax => 6,
-        Op::UMin => 7,
     }
 }

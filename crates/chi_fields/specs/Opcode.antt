@@ -1,15 +1,34 @@
 -- the opcodes and their names
-use Rattle.std.specs.Prelude.{ℕ, ◌-◌, ◌==◌, nat_le, ◌&&◌, if◌then◌else◌, List, ◌++◌, codes, Option, None, Some}
+use Rattle.std.specs.Prelude.{ℕ, ◌-◌, ◌==◌, nat_le, ◌&&◌, if◌then◌else◌, List, [], ◌∷◌, ◌++◌, codes, slice_index_or, Option, None, Some}
 use Rattle.chi_fields.specs.declared.kind.Op.{Op}
 use Rattle.chi_fields.specs.declared.kind.Op.TheVariants.{Add, Clr, Eor, Set, SMax, SMin, UMax, UMin}
 use Rattle.chi_fields.specs.declared.kind.Kind.{Kind}
 use Rattle.chi_fields.specs.declared.kind.Kind.TheVariants.{Read, Write, Store, Load, Swap, Compare}
 
+-- the number and the name of each operation: the low three bits of its opcode, and how the opcode's name ends
+abbrev pub op_entry : Op → ℕ × List ℕ
+op_entry Add = (0, codes "ADD")
+op_entry Clr = (1, codes "CLR")
+op_entry Eor = (2, codes "EOR")
+op_entry Set = (3, codes "SET")
+op_entry SMax = (4, codes "SMAX")
+op_entry SMin = (5, codes "SMIN")
+op_entry UMax = (6, codes "UMAX")
+op_entry UMin = (7, codes "UMIN")
+
+abbrev pub op_number : Op → ℕ
+op_number op = (op_entry op).0
+
+abbrev pub operation_name : Op → List ℕ
+operation_name op = (op_entry op).1
+
+-- the operations in the order of their numbers
+abbrev pub all_ops : List Op
+all_ops = Add ∷ Clr ∷ Eor ∷ Set ∷ SMax ∷ SMin ∷ UMax ∷ UMin ∷ []
+
 -- the operation that the low three bits of an AtomicStore or AtomicLoad name
 abbrev pub numbered_op : ℕ → Op
-numbered_op n =
-    if n == 0 then Add else if n == 1 then Clr else if n == 2 then Eor else if n == 3 then Set
-    else if n == 4 then SMax else if n == 5 then SMin else if n == 6 then UMax else UMin
+numbered_op n = slice_index_or all_ops n UMin
 
 -- the kind of request that an opcode names
 abbrev pub kind_of : ℕ → Option Kind
@@ -21,16 +40,6 @@ kind_of opcode =
     else if opcode == 0x38 then Some Swap
     else if opcode == 0x39 then Some Compare
     else None
-
-abbrev pub operation_name : Op → List ℕ
-operation_name Add = codes "ADD"
-operation_name Clr = codes "CLR"
-operation_name Eor = codes "EOR"
-operation_name Set = codes "SET"
-operation_name SMax = codes "SMAX"
-operation_name SMin = codes "SMIN"
-operation_name UMax = codes "UMAX"
-operation_name UMin = codes "UMIN"
 
 abbrev pub kind_name : Option Kind → List ℕ
 kind_name None = codes "Unknown"

@@ -10,17 +10,7 @@ fn numbered_op(number: u8) -> Op
     requires { number < 8 }
     ensures { result ≡ numbered_op number }
 {
-    match number {
-        0 => Op::Add,
-        1 => Op::Clr,
-        2 => Op::Eor,
-        3 => Op::Set,
-        4 => Op::SMax,
-        5 => Op::SMin,
-        6 => Op::UMax,
-        7 => Op::UMin,
-        _ => unreachable!(),
-    }
+    Op::ALL[usize::from(number)]
 }
 
 // The kind that an opcode names.
@@ -45,30 +35,7 @@ pub fn op_name(opcode: u8) -> &'static str
     ensures { result.now ≡ opcode_name opcode }
 {
     match kind_of(opcode) {
+        Some(kind) => kind.name(),
         None => "Unknown",
-        Some(Kind::Read) => "ReadNoSnp",
-        Some(Kind::Write) => "WriteNoSnpPtl",
-        Some(Kind::Store(op)) => match op {
-            Op::Add => "AtomicStore.ADD",
-            Op::Clr => "AtomicStore.CLR",
-            Op::Eor => "AtomicStore.EOR",
-            Op::Set => "AtomicStore.SET",
-            Op::SMax => "AtomicStore.SMAX",
-            Op::SMin => "AtomicStore.SMIN",
-            Op::UMax => "AtomicStore.UMAX",
-            Op::UMin => "AtomicStore.UMIN",
-        },
-        Some(Kind::Load(op)) => match op {
-            Op::Add => "AtomicLoad.ADD",
-            Op::Clr => "AtomicLoad.CLR",
-            Op::Eor => "AtomicLoad.EOR",
-            Op::Set => "AtomicLoad.SET",
-            Op::SMax => "AtomicLoad.SMAX",
-            Op::SMin => "AtomicLoad.SMIN",
-            Op::UMax => "AtomicLoad.UMAX",
-            Op::UMin => "AtomicLoad.UMIN",
-        },
-        Some(Kind::Swap) => "AtomicSwap",
-        Some(Kind::Compare) => "AtomicCompare",
     }
 }
