@@ -1,6 +1,6 @@
 //! What an atomic leaves in its operand.
 
-ghost use Rattle.std.specs.Prelude.{◌≡◌, ◌≤◌, ◌<◌, ◌+◌, ◌%◌, ◌^◌, nat_lt, int_lt};
+ghost use Rattle.std.specs.Prelude.{◌≡◌, ◌≤◌, ◌<◌, ◌+◌, ◌%◌, ◌^◌, if◌then◌else◌, nat_lt, int_lt};
 ghost use Rattle.chi_lanes.specs.Bytes.{number_in, signed_number_in, bytes, little_bytes};
 ghost use Rattle.chi_lanes.specs.Combination.{combine};
 
@@ -66,6 +66,14 @@ fn is_less_signed(endian: bool, len: usize, x: u64, y: u64) -> bool
     ordered(endian, len, x) ^ sign < ordered(endian, len, y) ^ sign
 }
 
+/// The operand that was sent, where it is to be left, and else the old one.
+#[inline]
+fn sent_if(is_left: bool, old: u64, sent: u64) -> u64
+    ensures { result ≡ (if is_left then sent else old) }
+{
+    if is_left { sent } else { old }
+}
+
 /// The number that an atomic leaves in an operand of `len` bytes, 1 to 8, that held `old`, where
 /// `sent` was sent. All three are the little-endian numbers of their bytes, whatever `endian` says:
 /// where it is true, the operation adds or compares the big-endian numbers of the same bytes.
@@ -87,25 +95,9 @@ pub(crate) fn combined(op: Op, endian: bool, len: usize, old: u64, sent: u64) ->
         Op::Clr => old & !sent,
         Op::Eor => old ^ sent,
         Op::Set => old | sent,
-        Op::SMax => if is_less_signed(endian, len, old, sent) {
-            sent
-        } else {
-            old
-        },
-        Op::SMin => if is_less_signed(endian, len, sent, old) {
-            sent
-        } else {
-            old
-        },
-        Op::UMax => if is_less(endian, len, old, sent) {
-            sent
-        } else {
-            old
-        },
-        Op::UMin => if is_less(endian, len, sent, old) {
-            sent
-        } else {
-            old
-        },
+        Op::SMax => sent_if(is_less_signed(endian, len, old, sent), old, sent),
+        Op::SMin => sent_if(is_less_signed(endian, len, sent, old), old, sent),
+        Op::UMax => sent_if(is_less(endian, len, old, sent), old, sent),
+        Op::UMin => sent_if(is_less(endian, len, sent, old), old, sent),
     }
 }
