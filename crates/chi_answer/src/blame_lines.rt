@@ -4,7 +4,8 @@ ghost use Rattle.std.specs.Prelude.{◌≡◌, ◌++◌, ◌<◌, All, OnOk, fla
 ghost use Rattle.chi_answer.specs.Lines.{blamed_at, blamed_line, end_line, explained_line, open_at, open_line, until_text};
 
 use crate::lines::add_told;
-use crate::part::{Part, add_parts};
+use crate::part::Part::{Number, Text, Word};
+use crate::part::add_parts;
 use chi_reading::{Asked, Recorded};
 use chi_trace::Observed;
 use std::alloc::AllocError;
@@ -22,10 +23,7 @@ pub fn add_blamed(
 ) -> Result<(), AllocError>
     ensures { OnOk result (to.new.items ≡ to.old.items ++ blamed_line time asked.now op.now) }
 {
-    add_parts(
-        to,
-        &[Part::Text("at "), Part::Number(time), Part::Text(": ")],
-    )?;
+    add_parts(to, &[Text("at "), Number(time), Text(": ")])?;
     add_told(to, asked, op.reply)
 }
 
@@ -48,12 +46,9 @@ fn add_until(to: &mut Vec<u8>, end: u64) -> Result<(), AllocError>
     ensures { OnOk result (to.new.items ≡ to.old.items ++ until_text end) }
 {
     if end == u64::MAX {
-        return add_parts(to, &[Part::Text(" on: ")]);
+        return add_parts(to, &[Text(" on: ")]);
     }
-    add_parts(
-        to,
-        &[Part::Text(" to "), Part::Number(end), Part::Text(": ")],
-    )
+    add_parts(to, &[Text(" to "), Number(end), Text(": ")])
 }
 
 /// Adds the line of an operation that was open, with its times.
@@ -64,7 +59,7 @@ fn add_until(to: &mut Vec<u8>, end: u64) -> Result<(), AllocError>
 pub fn add_open(to: &mut Vec<u8>, asked: &Asked, op: &Observed) -> Result<(), AllocError>
     ensures { OnOk result (to.new.items ≡ to.old.items ++ open_line asked.now op.now) }
 {
-    add_parts(to, &[Part::Text("  open from "), Part::Number(op.start)])?;
+    add_parts(to, &[Text("  open from "), Number(op.start)])?;
     add_until(to, op.end)?;
     add_told(to, asked, op.reply)
 }
@@ -103,11 +98,11 @@ pub(crate) fn add_explained(to: &mut Vec<u8>, time: u64, count: usize) -> Result
     add_parts(
         to,
         &[
-            Part::Text("  explained up to "),
-            Part::Number(time - 1),
-            Part::Text(" (operations: "),
-            Part::Number(count as u64),
-            Part::Text(")\n"),
+            Text("  explained up to "),
+            Number(time - 1),
+            Text(" (operations: "),
+            Number(count as u64),
+            Text(")\n"),
         ],
     )
 }
@@ -120,12 +115,5 @@ pub(crate) fn add_explained(to: &mut Vec<u8>, time: u64, count: usize) -> Result
 pub fn add_end(to: &mut Vec<u8>, word: u64) -> Result<(), AllocError>
     ensures { OnOk result (to.new.items ≡ to.old.items ++ end_line word) }
 {
-    add_parts(
-        to,
-        &[
-            Part::Text("at the end: "),
-            Part::Word(word),
-            Part::Text("\n"),
-        ],
-    )
+    add_parts(to, &[Text("at the end: "), Word(word), Text("\n")])
 }

@@ -4,7 +4,8 @@ ghost use Rattle.std.specs.Prelude.{◌≡◌, ◌++◌, OnOk};
 ghost use Rattle.chi_answer.specs.DoubtLines.{doubt_text, explained_to_line, found_line, most_open_line};
 
 use crate::lines::add_undecided;
-use crate::part::{Part, add_parts};
+use crate::part::Part::{Number, Text};
+use crate::part::add_parts;
 use chi_doubt::Doubt;
 use std::alloc::AllocError;
 
@@ -12,14 +13,7 @@ use std::alloc::AllocError;
 fn add_explained_to(to: &mut Vec<u8>, time: u64) -> Result<(), AllocError>
     ensures { OnOk result (to.new.items ≡ to.old.items ++ explained_to_line time) }
 {
-    add_parts(
-        to,
-        &[
-            Part::Text("  explained up to "),
-            Part::Number(time),
-            Part::Text("\n"),
-        ],
-    )
+    add_parts(to, &[Text("  explained up to "), Number(time), Text("\n")])
 }
 
 /// The same, where one was found.
@@ -39,9 +33,9 @@ fn add_most_open(to: &mut Vec<u8>, count: usize) -> Result<(), AllocError>
     add_parts(
         to,
         &[
-            Part::Text("  operations open at most: "),
-            Part::Number(count as u64),
-            Part::Text("\n"),
+            Text("  operations open at most: "),
+            Number(count as u64),
+            Text("\n"),
         ],
     )
 }

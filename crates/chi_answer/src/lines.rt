@@ -4,7 +4,8 @@ ghost use Rattle.std.specs.Prelude.{◌≡◌, ◌++◌, OnOk, flat_map};
 ghost use Rattle.chi_script.specs.Transcript.{request_text};
 ghost use Rattle.chi_answer.specs.Lines.{answered_text, granule_line, more_line, operation_text, request_in, seen_text, told_text, undecided_line, word_line, word_lines};
 
-use crate::part::{Part, add_parts};
+use crate::part::Part::{Address, Number, Opcode, Packet, Text, Word};
+use crate::part::add_parts;
 use chi_fields::op_name;
 use chi_lanes::Reply;
 use chi_reading::Asked;
@@ -17,18 +18,18 @@ fn add_request(to: &mut Vec<u8>, asked: &Asked) -> Result<(), AllocError>
     add_parts(
         to,
         &[
-            Part::Number(asked.src as u64),
-            Part::Text(" "),
-            Part::Number(asked.txn as u64),
-            Part::Text(" "),
-            Part::Opcode(asked.opcode),
-            Part::Text(" "),
-            Part::Text(op_name(asked.opcode)),
-            Part::Text(" "),
-            Part::Number(asked.size as u64),
-            Part::Text(" "),
-            Part::Address(asked.addr),
-            Part::Text(" "),
+            Number(asked.src as u64),
+            Text(" "),
+            Number(asked.txn as u64),
+            Text(" "),
+            Opcode(asked.opcode),
+            Text(" "),
+            Text(op_name(asked.opcode)),
+            Text(" "),
+            Number(asked.size as u64),
+            Text(" "),
+            Address(asked.addr),
+            Text(" "),
         ],
     )
 }
@@ -38,11 +39,9 @@ fn add_reply(to: &mut Vec<u8>, reply: Option<Reply>) -> Result<(), AllocError>
     ensures { OnOk result (to.new.items ≡ to.old.items ++ seen_text reply) }
 {
     match reply {
-        Some(Reply::Comp) => add_parts(to, &[Part::Text("comp")]),
-        Some(Reply::CompData(lanes)) => {
-            add_parts(to, &[Part::Text("data "), Part::Packet(lanes)])
-        }
-        None => add_parts(to, &[Part::Text("no reply")]),
+        Some(Reply::Comp) => add_parts(to, &[Text("comp")]),
+        Some(Reply::CompData(lanes)) => { add_parts(to, &[Text("data "), Packet(lanes)]) }
+        None => add_parts(to, &[Text("no reply")]),
     }
 }
 
@@ -56,16 +55,17 @@ pub(crate) fn add_operation(
 {
     add_request(to, asked)?;
     add_reply(to, reply)?;
-    add_parts(to, &[Part::Text("\n")])
+    add_parts(to, &[Text("\n")])
 }
 
 /// Whether it was answered.
-fn add_answered(to: &mut Vec<u8>, reply: Option<Reply>) -> Result<(), AllocError>
-    ensures { OnOk result (to.new.items ≡ to.old.items ++ answered_text reply) }
+fn answered_name(reply: Option<Reply>) -> &'static str
+    ensures { result.now ≡ answered_text reply }
 {
-    match reply {
-        Some(_) => add_parts(to, &[Part::Text("answered")]),
-        None => add_parts(to, &[Part::Text("no reply")]),
+    if reply.is_some() {
+        "answered"
+    } else {
+        "no reply"
     }
 }
 
@@ -78,8 +78,7 @@ pub(crate) fn add_told(
     ensures { OnOk result (to.new.items ≡ to.old.items ++ told_text asked.now reply) }
 {
     add_request(to, asked)?;
-    add_answered(to, reply)?;
-    add_parts(to, &[Part::Text("\n")])
+    add_parts(to, &[Text(answered_name(reply)), Text("\n")])
 }
 
 /// Adds the line of a granule that cannot be explained, which has this number.
@@ -93,9 +92,9 @@ pub fn add_granule(to: &mut Vec<u8>, granule: u64) -> Result<(), AllocError>
     add_parts(
         to,
         &[
-            Part::Text("not explained: granule "),
-            Part::Address(granule.wrapping_mul(8)),
-            Part::Text("\n"),
+            Text("not explained: granule "),
+            Address(granule.wrapping_mul(8)),
+            Text("\n"),
         ],
     )
 }
@@ -106,11 +105,7 @@ fn add_word(to: &mut Vec<u8>, word: u64) -> Result<(), AllocError>
 {
     add_parts(
         to,
-        &[
-            Part::Text("  the granule can hold "),
-            Part::Word(word),
-            Part::Text("\n"),
-        ],
+        &[Text("  the granule can hold "), Word(word), Text("\n")],
     )
 }
 
@@ -128,14 +123,7 @@ fn add_each(to: &mut Vec<u8>, words: &[u64]) -> Result<(), AllocError>
 fn add_more(to: &mut Vec<u8>, more: usize) -> Result<(), AllocError>
     ensures { OnOk result (to.new.items ≡ to.old.items ++ more_line more) }
 {
-    add_parts(
-        to,
-        &[
-            Part::Text("  and "),
-            Part::Number(more as u64),
-            Part::Text(" more\n"),
-        ],
-    )
+    add_parts(to, &[Text("  and "), Number(more as u64), Text(" more\n")])
 }
 
 /// Adds the lines of words that the granule can hold: of 16 at most, and how many more there are.
@@ -164,11 +152,11 @@ pub fn add_undecided(to: &mut Vec<u8>, granule: u64, states: u64) -> Result<(), 
     add_parts(
         to,
         &[
-            Part::Text("undecided: granule "),
-            Part::Address(granule.wrapping_mul(8)),
-            Part::Text(" after "),
-            Part::Number(states),
-            Part::Text(" states\n"),
+            Text("undecided: granule "),
+            Address(granule.wrapping_mul(8)),
+            Text(" after "),
+            Number(states),
+            Text(" states\n"),
         ],
     )
 }

@@ -9,7 +9,8 @@ use crate::answer::Answer;
 use crate::blame_lines::{add_blamed_at, add_end, add_explained, add_overlapping};
 use crate::doubt_lines::add_doubt;
 use crate::lines::{add_granule, add_words};
-use crate::part::{Part, add_parts};
+use crate::part::Part::Text;
+use crate::part::add_parts;
 use crate::witness::add_witness;
 use chi_reading::Recorded;
 use chi_search::Words;
@@ -81,7 +82,7 @@ pub fn answer_text(
     let mut text = Vec::new(alloc);
     match answer {
         Answer::Explained { order } => {
-            add_parts(&mut text, &[Part::Text("explained\n")])?;
+            add_parts(&mut text, &[Text("explained\n")])?;
             if witness {
                 add_witness(alloc, &mut text, recorded, order)?;
             }

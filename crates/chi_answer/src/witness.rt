@@ -7,7 +7,8 @@ ghost use Rattle.chi_verdict.specs.Words.{memory_of};
 ghost use Rattle.chi_answer.specs.Witnesses.{IsWitness, memory_line, operation_lines};
 
 use crate::lines::add_operation;
-use crate::part::{Part, add_parts};
+use crate::part::Part::{Address, Text, Word};
+use crate::part::add_parts;
 use chi_lanes::Reply;
 use chi_reading::Recorded;
 use chi_verdict::{GranuleWord, execute};
@@ -38,11 +39,11 @@ fn add_memory_line(to: &mut Vec<u8>, told: &GranuleWord) -> Result<(), AllocErro
     add_parts(
         to,
         &[
-            Part::Text("m "),
-            Part::Address(told.granule.wrapping_mul(8)),
-            Part::Text(" "),
-            Part::Word(told.word),
-            Part::Text("\n"),
+            Text("m "),
+            Address(told.granule.wrapping_mul(8)),
+            Text(" "),
+            Word(told.word),
+            Text("\n"),
         ],
     )
 }

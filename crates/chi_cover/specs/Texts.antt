@@ -1,6 +1,6 @@
 -- the table of a coverage, as a text
 use Rattle.std.specs.Prelude.{ℕ, ◌==◌, Bool, true, false, if◌then◌else◌, List, [], ◌++◌, codes, decimal, flat_map, length, Some}
-use Rattle.chi_fields.specs.Opcode.{kind_name}
+use Rattle.chi_fields.specs.Opcode.{all_ops, kind_name}
 use Rattle.chi_fields.specs.declared.kind.Kind.{Kind}
 use Rattle.chi_fields.specs.declared.kind.Kind.TheVariants.{Load}
 use Rattle.chi_fields.specs.declared.kind.Op.{Op}
@@ -13,7 +13,7 @@ use Rattle.chi_cover.specs.declared.bin.Enabled.{Enabled}
 use Rattle.chi_cover.specs.declared.bin.Enabled.TheVariants.{NoLane, SomeLanes, AllLanes}
 use Rattle.chi_cover.specs.declared.bin.Transaction.{Transaction}
 use Rattle.chi_cover.specs.declared.bin.Transaction.TheVariants.{ReadNoSnp, WriteNoSnpPtl, AtomicStore, AtomicLoad, AtomicSwap, AtomicCompare}
-use Rattle.chi_cover.specs.Bins.{all_bins, all_kinds, all_ops, comparison_bins, enables_bins, lanes_of, lengths, open_bins, operation_bins, overlap_bins, requester_bins, result_bins}
+use Rattle.chi_cover.specs.Bins.{all_bins, all_kinds, comparison_bins, enables_bins, lanes_of, lengths, open_bins, operation_bins, overlap_bins, requester_bins, result_bins}
 use Rattle.chi_cover.specs.Counts.{covered_of, percent_of}
 use Rattle.chi_cover.specs.Operations.{is_add}
 

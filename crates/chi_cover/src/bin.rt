@@ -1,5 +1,7 @@
 //! The bins of a table of coverage.
 
+ghost use Rattle.std.specs.Prelude.{◌≡◌};
+
 use chi_fields::{Kind, Op};
 
 /// How many of the operand's byte enables are 1.
@@ -31,6 +33,24 @@ pub enum Transaction {
     AtomicLoad,
     AtomicSwap,
     AtomicCompare,
+}
+
+impl Transaction {
+    ghost use Rattle.chi_cover.specs.Texts.{transaction_text};
+
+    /// The name of the transaction, as `AtomicLoad`.
+    pub(crate) fn name(self) -> &'static str
+        ensures { result.now ≡ transaction_text self }
+    {
+        match self {
+            Transaction::ReadNoSnp => "ReadNoSnp",
+            Transaction::WriteNoSnpPtl => "WriteNoSnpPtl",
+            Transaction::AtomicStore => "AtomicStore",
+            Transaction::AtomicLoad => "AtomicLoad",
+            Transaction::AtomicSwap => "AtomicSwap",
+            Transaction::AtomicCompare => "AtomicCompare",
+        }
+    }
 }
 
 /// A bin: what an operation has to be for the bin to count it. `len` is the operand's length and `lane` its first lane.

@@ -10,18 +10,6 @@ use std::alloc::{AllocError, Global};
 /// The lengths of an operand.
 pub(crate) const LENGTHS: [u8; 4] = [1, 2, 4, 8];
 
-/// What atomics make of their data.
-pub(crate) const OPS: [Op; 8] = [
-    Op::Add,
-    Op::Clr,
-    Op::Eor,
-    Op::Set,
-    Op::SMax,
-    Op::SMin,
-    Op::UMax,
-    Op::UMin,
-];
-
 /// The kinds of operations.
 pub(crate) const KINDS: [Kind; 20] = [
     Kind::Read,
@@ -178,10 +166,10 @@ pub(crate) fn result_bins(alloc: Global) -> Result<Vec<Bin>, AllocError>
     ensures { IfOk result (λ bins. bins.items ≡ result_bins) }
 {
     let mut bins = Vec::new(alloc);
-    for kept in OPS {
+    for kept in Op::ALL {
         add_kept(&mut bins, kept)?;
     }
-    for changed in OPS {
+    for changed in Op::ALL {
         add_signs(&mut bins, changed)?;
     }
     for len in LENGTHS {

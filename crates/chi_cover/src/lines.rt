@@ -7,7 +7,8 @@ ghost use Rattle.chi_cover.specs.Texts.{missing_line, traffic_row};
 use crate::bin::Bin;
 use crate::covered::Covered;
 use crate::names::{add_bin_name, add_row_name};
-use crate::part::{Part, add_parts};
+use crate::part::Part::{Number, Text};
+use crate::part::add_parts;
 use std::alloc::AllocError;
 
 /// The row of one bin among the others of a granule.
@@ -20,14 +21,7 @@ pub(crate) fn add_traffic_row(
     ensures { OnOk result (to.new.items ≡ to.old.items ++ traffic_row (count_in covered.now) bin) }
 {
     add_row_name(to, bin)?;
-    add_parts(
-        to,
-        &[
-            Part::Text(": "),
-            Part::Number(covered.count(bin)),
-            Part::Text("\n"),
-        ],
-    )
+    add_parts(to, &[Text(": "), Number(covered.count(bin)), Text("\n")])
 }
 
 /// The line of a bin that has counted no operation.
@@ -38,7 +32,7 @@ pub(crate) fn add_missing(to: &mut Vec<u8>, covered: &Covered, bin: Bin) -> Resu
     if covered.count(bin) != 0 {
         return Ok(());
     }
-    add_parts(to, &[Part::Text("missing: ")])?;
+    add_parts(to, &[Text("missing: ")])?;
     add_bin_name(to, bin)?;
-    add_parts(to, &[Part::Text("\n")])
+    add_parts(to, &[Text("\n")])
 }

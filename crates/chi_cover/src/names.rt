@@ -2,27 +2,13 @@
 
 ghost use Rattle.std.specs.Prelude.{◌≡◌, ◌++◌, OnOk, codes};
 ghost use Rattle.chi_fields.specs.Opcode.{kind_name};
-ghost use Rattle.chi_cover.specs.Texts.{bin_name, bytes_text, depth_text, enabled_text, half_text, matched_text, order_text, overlap_text, requester_text, row_name, transaction_text};
+ghost use Rattle.chi_cover.specs.Texts.{bin_name, bytes_text, depth_text, enabled_text, half_text, matched_text, order_text, overlap_text, requester_text, row_name};
 
 use crate::bin::{Bin, Depth, Enabled, Transaction};
-use crate::number::op_number;
-use crate::part::{Part, add_parts};
-use chi_fields::{Kind, Op, op_name};
+use crate::part::Part::{Number, Text};
+use crate::part::add_parts;
+use chi_fields::{Kind, Op};
 use std::alloc::AllocError;
-
-/// The name of a kind, as `AtomicLoad.ADD`.
-pub(crate) fn kind_name(kind: Kind) -> &'static str
-    ensures { result.now ≡ kind_name (Some kind) }
-{
-    match kind {
-        Kind::Read => "ReadNoSnp",
-        Kind::Write => "WriteNoSnpPtl",
-        Kind::Store(op) => op_name(0x28 + op_number(op)),
-        Kind::Load(op) => op_name(0x30 + op_number(op)),
-        Kind::Swap => "AtomicSwap",
-        Kind::Compare => "AtomicCompare",
-    }
-}
 
 fn depth_name(depth: Depth) -> &'static str
     ensures { result.now ≡ depth_text depth }
@@ -44,19 +30,6 @@ fn enabled_name(enabled: Enabled) -> &'static str
         Enabled::NoLane => "none",
         Enabled::SomeLanes => "some",
         Enabled::AllLanes => "all",
-    }
-}
-
-fn transaction_name(transaction: Transaction) -> &'static str
-    ensures { result.now ≡ transaction_text transaction }
-{
-    match transaction {
-        Transaction::ReadNoSnp => "ReadNoSnp",
-        Transaction::WriteNoSnpPtl => "WriteNoSnpPtl",
-        Transaction::AtomicStore => "AtomicStore",
-        Transaction::AtomicLoad => "AtomicLoad",
-        Transaction::AtomicSwap => "AtomicSwap",
-        Transaction::AtomicCompare => "AtomicCompare",
     }
 }
 
@@ -95,9 +68,9 @@ fn add_bytes(to: &mut Vec<u8>, len: u8) -> Result<(), AllocError>
     ensures { OnOk result (to.new.items ≡ to.old.items ++ bytes_text len) }
 {
     if len == 1 {
-        add_parts(to, &[Part::Text("1 byte")])
+        add_parts(to, &[Text("1 byte")])
     } else {
-        add_parts(to, &[Part::Number(u64::from(len)), Part::Text(" bytes")])
+        add_parts(to, &[Number(u64::from(len)), Text(" bytes")])
     }
 }
 
@@ -113,14 +86,14 @@ fn add_operation_name(
     add_parts(
         to,
         &[
-            Part::Text(kind_name(kind)),
-            Part::Text(", "),
-            Part::Text(order_name(endian)),
-            Part::Text("-endian, "),
+            Text(kind.name()),
+            Text(", "),
+            Text(order_name(endian)),
+            Text("-endian, "),
         ],
     )?;
     add_bytes(to, len)?;
-    add_parts(to, &[Part::Text(", lane "), Part::Number(u64::from(lane))])
+    add_parts(to, &[Text(", lane "), Number(u64::from(lane))])
 }
 
 fn add_comparison_name(
@@ -131,15 +104,15 @@ fn add_comparison_name(
 ) -> Result<(), AllocError>
     ensures { OnOk result (to.new.items ≡ to.old.items ++ bin_name (Bin.Comparison len upper matched)) }
 {
-    add_parts(to, &[Part::Text("AtomicCompare, ")])?;
+    add_parts(to, &[Text("AtomicCompare, ")])?;
     add_bytes(to, len)?;
     add_parts(
         to,
         &[
-            Part::Text(", compare value in the "),
-            Part::Text(half_name(upper)),
-            Part::Text(" half, "),
-            Part::Text(matched_name(matched)),
+            Text(", compare value in the "),
+            Text(half_name(upper)),
+            Text(" half, "),
+            Text(matched_name(matched)),
         ],
     )
 }
@@ -147,15 +120,9 @@ fn add_comparison_name(
 fn add_enables_name(to: &mut Vec<u8>, len: u8, enabled: Enabled) -> Result<(), AllocError>
     ensures { OnOk result (to.new.items ≡ to.old.items ++ bin_name (Bin.Enables len enabled)) }
 {
-    add_parts(to, &[Part::Text("WriteNoSnpPtl, ")])?;
+    add_parts(to, &[Text("WriteNoSnpPtl, ")])?;
     add_bytes(to, len)?;
-    add_parts(
-        to,
-        &[
-            Part::Text(", byte enables: "),
-            Part::Text(enabled_name(enabled)),
-        ],
-    )
+    add_parts(to, &[Text(", byte enables: "), Text(enabled_name(enabled))])
 }
 
 /// The name of a result of an AtomicLoad.
@@ -167,12 +134,9 @@ fn add_result_name(
 ) -> Result<(), AllocError>
     ensures { OnOk result (to.new.items ≡ to.old.items ++ (kind_name (Some (Kind.Load op)) ++ (codes ", " ++ (bytes_text len ++ result_name.now)))) }
 {
-    add_parts(
-        to,
-        &[Part::Text(kind_name(Kind::Load(op))), Part::Text(", ")],
-    )?;
+    add_parts(to, &[Text(Kind::Load(op).name()), Text(", ")])?;
     add_bytes(to, len)?;
-    add_parts(to, &[Part::Text(result_name)])
+    add_parts(to, &[Text(result_name)])
 }
 
 fn add_overlap_name(
@@ -185,10 +149,10 @@ fn add_overlap_name(
     add_parts(
         to,
         &[
-            Part::Text(transaction_name(later)),
-            Part::Text(" while "),
-            Part::Text(transaction_name(earlier)),
-            Part::Text(" was open"),
+            Text(later.name()),
+            Text(" while "),
+            Text(earlier.name()),
+            Text(" was open"),
         ],
     )
 }
@@ -213,13 +177,13 @@ pub(crate) fn add_bin_name(to: &mut Vec<u8>, bin: Bin) -> Result<(), AllocError>
         Bin::Kept { op, len } => add_result_name(to, op, len, ", kept"),
         Bin::ChangedSign { op, len } => add_result_name(to, op, len, ", changed sign"),
         Bin::Wrapped { len } => add_result_name(to, Op::Add, len, ", wrapped"),
-        Bin::Open(depth) => add_parts(to, &[Part::Text(depth_name(depth))]),
+        Bin::Open(depth) => add_parts(to, &[Text(depth_name(depth))]),
         Bin::Overlap { earlier, later } => add_overlap_name(to, earlier, later),
         Bin::Requester { same } => add_parts(
             to,
             &[
-                Part::Text("an overlap with an earlier operation "),
-                Part::Text(requester_name(same)),
+                Text("an overlap with an earlier operation "),
+                Text(requester_name(same)),
             ],
         ),
     }
@@ -230,7 +194,7 @@ pub(crate) fn add_row_name(to: &mut Vec<u8>, bin: Bin) -> Result<(), AllocError>
     ensures { OnOk result (to.new.items ≡ to.old.items ++ row_name bin) }
 {
     match bin {
-        Bin::Requester { same } => add_parts(to, &[Part::Text(requester_name(same))]),
+        Bin::Requester { same } => add_parts(to, &[Text(requester_name(same))]),
         _ => add_bin_name(to, bin),
     }
 }

@@ -1,26 +1,10 @@
 //! The number of each bin, from 0 on.
 
 ghost use Rattle.std.specs.Prelude.{◌≡◌};
-ghost use Rattle.chi_cover.specs.Numbers.{bit, depth_number, enabled_number, kind_number, length_number, number_of, op_number, place_number, transaction_number};
+ghost use Rattle.chi_cover.specs.Numbers.{bit, depth_number, enabled_number, kind_number, length_number, number_of, place_number, transaction_number};
 
 use crate::bin::{Bin, Depth, Enabled, Transaction};
-use chi_fields::{Kind, Op};
-
-/// What an atomic makes of its data, by number.
-pub(crate) fn op_number(op: Op) -> u8
-    ensures { result ≡ op_number op }
-{
-    match op {
-        Op::Add => 0,
-        Op::Clr => 1,
-        Op::Eor => 2,
-        Op::Set => 3,
-        Op::SMax => 4,
-        Op::SMin => 5,
-        Op::UMax => 6,
-        Op::UMin => 7,
-    }
-}
+use chi_fields::Kind;
 
 fn kind_number(kind: Kind) -> usize
     ensures { result ≡ kind_number kind }
@@ -28,8 +12,8 @@ fn kind_number(kind: Kind) -> usize
     match kind {
         Kind::Read => 0,
         Kind::Write => 1,
-        Kind::Store(op) => 2 + usize::from(op_number(op)),
-        Kind::Load(op) => 10 + usize::from(op_number(op)),
+        Kind::Store(op) => 2 + usize::from(op.number()),
+        Kind::Load(op) => 10 + usize::from(op.number()),
         Kind::Swap => 18,
         Kind::Compare => 19,
     }
@@ -61,37 +45,20 @@ fn place_number(len: u8, lane: u8) -> usize
 fn enabled_number(enabled: Enabled) -> usize
     ensures { result ≡ enabled_number enabled }
 {
-    match enabled {
-        Enabled::NoLane => 0,
-        Enabled::SomeLanes => 1,
-        Enabled::AllLanes => 2,
-    }
+    enabled as usize
 }
 
 fn depth_number(depth: Depth) -> usize
     ensures { result ≡ depth_number depth }
 {
-    match depth {
-        Depth::One => 0,
-        Depth::Two => 1,
-        Depth::UpToFour => 2,
-        Depth::UpToEight => 3,
-        Depth::More => 4,
-    }
+    depth as usize
 }
 
 /// A transaction, by number.
 pub(crate) fn transaction_number(transaction: Transaction) -> usize
     ensures { result ≡ transaction_number transaction }
 {
-    match transaction {
-        Transaction::ReadNoSnp => 0,
-        Transaction::WriteNoSnpPtl => 1,
-        Transaction::AtomicStore => 2,
-        Transaction::AtomicLoad => 3,
-        Transaction::AtomicSwap => 4,
-        Transaction::AtomicCompare => 5,
-    }
+    transaction as usize
 }
 
 /// The number of a bin.
@@ -113,8 +80,8 @@ pub(crate) fn number(bin: Bin) -> usize
         Bin::Enables { len, enabled } => {
             1216 + (3 * length_number(len) + enabled_number(enabled)).saturating_sub(1)
         }
-        Bin::Kept { op, len } => 1227 + 4 * usize::from(op_number(op)) + length_number(len),
-        Bin::ChangedSign { op, len } => 1259 + 4 * usize::from(op_number(op)) + length_number(len),
+        Bin::Kept { op, len } => 1227 + 4 * usize::from(op.number()) + length_number(len),
+        Bin::ChangedSign { op, len } => 1259 + 4 * usize::from(op.number()) + length_number(len),
         Bin::Wrapped { len } => 1291 + length_number(len),
         Bin::Open(depth) => 1295 + depth_number(depth),
         Bin::Overlap { earlier, later } => {

@@ -137,11 +137,9 @@ fn is_negative(len: u8, number: u64) -> bool
 fn kept_bin(values: Values) -> Option<Bin>
     ensures { result ≡ kept_bin values }
 {
+    let Values { op, len, .. } = values;
     if values.new == values.old {
-        Some(Bin::Kept {
-            op: values.op,
-            len: values.len,
-        })
+        Some(Bin::Kept { op, len })
     } else {
         None
     }
@@ -152,11 +150,9 @@ fn sign_bin(values: Values) -> Option<Bin>
     requires { IsLen values.len }
     ensures { result ≡ sign_bin values }
 {
-    if is_negative(values.len, values.old) != is_negative(values.len, values.new) {
-        Some(Bin::ChangedSign {
-            op: values.op,
-            len: values.len,
-        })
+    let Values { op, len, .. } = values;
+    if is_negative(len, values.old) != is_negative(len, values.new) {
+        Some(Bin::ChangedSign { op, len })
     } else {
         None
     }

@@ -10,24 +10,28 @@ use crate::group::{comparison_bins, enables_bins, operation_bins, result_bins};
 use crate::names::add_bin_name;
 use crate::page_script::SCRIPT;
 use crate::page_style::STYLE;
-use crate::part::{Part, add_parts};
+use crate::part::Part::{Number, Text};
+use crate::part::add_parts;
 use crate::traffic_group::{open_bins, overlap_bins, requester_bins};
 use std::alloc::{AllocError, Global};
+
+/// What stands before the style, and between it and the data.
+const HEAD: &str =
+    "<!DOCTYPE html>\n<html lang=\"en\">\n<head>\n<meta charset=\"utf-8\">\n<title>chicheck cover</title>\n<style>";
+
+const BODY: &str =
+    "</style>\n</head>\n<body>\n<noscript>This page needs JavaScript.</noscript>\n<script type=\"application/json\" id=\"coverage\">\n";
 
 /// A bin: its name, and its count.
 #[tactic(auto, unfolding(crate::specs::Page::bin_json))]
 fn add_bin(to: &mut Vec<u8>, covered: &Covered, bin: Bin) -> Result<(), AllocError>
     ensures { OnOk result (to.new.items ≡ to.old.items ++ bin_json (count_in covered.now) bin) }
 {
-    add_parts(to, &[Part::Text("[\"")])?;
+    add_parts(to, &[Text("[\"")])?;
     add_bin_name(to, bin)?;
     add_parts(
         to,
-        &[
-            Part::Text("\",\""),
-            Part::Number(covered.count(bin)),
-            Part::Text("\"]"),
-        ],
+        &[Text("\",\""), Number(covered.count(bin)), Text("\"]")],
     )
 }
 
@@ -35,7 +39,7 @@ fn add_bin(to: &mut Vec<u8>, covered: &Covered, bin: Bin) -> Result<(), AllocErr
 fn add_further_bin(to: &mut Vec<u8>, covered: &Covered, bin: Bin) -> Result<(), AllocError>
     ensures { OnOk result (to.new.items ≡ to.old.items ++ further (bin_json (count_in covered.now)) bin) }
 {
-    add_parts(to, &[Part::Text(",\n")])?;
+    add_parts(to, &[Text(",\n")])?;
     add_bin(to, covered, bin)
 }
 
@@ -73,14 +77,10 @@ fn add_group(
 {
     add_parts(
         to,
-        &[
-            Part::Text("{\"name\":\""),
-            Part::Text(name),
-            Part::Text("\",\"bins\":["),
-        ],
+        &[Text("{\"name\":\""), Text(name), Text("\",\"bins\":[")],
     )?;
     add_bins(to, covered, bins)?;
-    add_parts(to, &[Part::Text("]}")])
+    add_parts(to, &[Text("]}")])
 }
 
 /// A group after another one.
@@ -92,7 +92,7 @@ fn add_further_group(
 ) -> Result<(), AllocError>
     ensures { OnOk result (to.new.items ≡ to.old.items ++ further (group_json (count_in covered.now)) (name.now, bins.now)) }
 {
-    add_parts(to, &[Part::Text(",\n")])?;
+    add_parts(to, &[Text(",\n")])?;
     add_group(to, covered, name, bins)
 }
 
@@ -117,11 +117,11 @@ fn add_covered(to: &mut Vec<u8>, covered: &Covered) -> Result<(), AllocError>
     add_parts(
         to,
         &[
-            Part::Text("\"covered\":\""),
-            Part::Number(covered.covered() as u64),
-            Part::Text("\",\"bins\":\"1338\",\"percent\":\""),
-            Part::Number(covered.percent() as u64),
-            Part::Text("\""),
+            Text("\"covered\":\""),
+            Number(covered.covered() as u64),
+            Text("\",\"bins\":\"1338\",\"percent\":\""),
+            Number(covered.percent() as u64),
+            Text("\""),
         ],
     )
 }
@@ -131,11 +131,11 @@ fn add_covered(to: &mut Vec<u8>, covered: &Covered) -> Result<(), AllocError>
 fn add_data(alloc: Global, to: &mut Vec<u8>, covered: &Covered) -> Result<(), AllocError>
     ensures { OnOk result (to.new.items ≡ to.old.items ++ cover_json (count_in covered.now)) }
 {
-    add_parts(to, &[Part::Text("{")])?;
+    add_parts(to, &[Text("{")])?;
     add_covered(to, covered)?;
-    add_parts(to, &[Part::Text(",\n\"groups\":[")])?;
+    add_parts(to, &[Text(",\n\"groups\":[")])?;
     add_groups(alloc, to, covered)?;
-    add_parts(to, &[Part::Text("]}\n")])
+    add_parts(to, &[Text("]}\n")])
 }
 
 /// What stands before the data.
@@ -143,18 +143,7 @@ fn add_data(alloc: Global, to: &mut Vec<u8>, covered: &Covered) -> Result<(), Al
 fn add_front(to: &mut Vec<u8>) -> Result<(), AllocError>
     ensures { OnOk result (to.new.items ≡ to.old.items ++ front_text STYLE.now) }
 {
-    add_parts(
-        to,
-        &[
-            Part::Text(
-                "<!DOCTYPE html>\n<html lang=\"en\">\n<head>\n<meta charset=\"utf-8\">\n<title>chicheck cover</title>\n<style>",
-            ),
-            Part::Text(STYLE),
-            Part::Text(
-                "</style>\n</head>\n<body>\n<noscript>This page needs JavaScript.</noscript>\n<script type=\"application/json\" id=\"coverage\">\n",
-            ),
-        ],
-    )
+    add_parts(to, &[Text(HEAD), Text(STYLE), Text(BODY)])
 }
 
 /// What stands after them.
@@ -165,9 +154,9 @@ fn add_back(to: &mut Vec<u8>) -> Result<(), AllocError>
     add_parts(
         to,
         &[
-            Part::Text("</script>\n<script>"),
-            Part::Text(SCRIPT),
-            Part::Text("</script>\n</body>\n</html>\n"),
+            Text("</script>\n<script>"),
+            Text(SCRIPT),
+            Text("</script>\n</body>\n</html>\n"),
         ],
     )
 }

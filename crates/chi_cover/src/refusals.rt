@@ -3,7 +3,8 @@
 ghost use Rattle.std.specs.Prelude.{◌≡◌, ◌++◌, OnOk, flat_map};
 ghost use Rattle.chi_cover.specs.Refusals.{all_refusals, is_refused_for, missing_refusal, reasons_met, refusal_number, refusal_row, refusals_head, refusals_text, refused_times};
 
-use crate::part::{Part, add_parts};
+use crate::part::Part::{Number, Text};
+use crate::part::add_parts;
 use chi_fields::{Refusal, refusal_name};
 use chi_history::Line;
 use std::alloc::AllocError;
@@ -77,11 +78,11 @@ fn add_head(to: &mut Vec<u8>, lines: &[Line]) -> Result<(), AllocError>
     add_parts(
         to,
         &[
-            Part::Text("refusals: "),
-            Part::Number(reasons_met(lines, &REFUSALS) as u64),
-            Part::Text(" of "),
-            Part::Number(REFUSALS.len() as u64),
-            Part::Text("\n"),
+            Text("refusals: "),
+            Number(reasons_met(lines, &REFUSALS) as u64),
+            Text(" of "),
+            Number(REFUSALS.len() as u64),
+            Text("\n"),
         ],
     )
 }
@@ -94,10 +95,10 @@ fn add_row(to: &mut Vec<u8>, lines: &[Line], reason: Refusal) -> Result<(), Allo
     add_parts(
         to,
         &[
-            Part::Text(refusal_name(reason)),
-            Part::Text(": "),
-            Part::Number(refused_times(reason, lines) as u64),
-            Part::Text("\n"),
+            Text(refusal_name(reason)),
+            Text(": "),
+            Number(refused_times(reason, lines) as u64),
+            Text("\n"),
         ],
     )
 }
@@ -112,11 +113,7 @@ fn add_missing(to: &mut Vec<u8>, lines: &[Line], reason: Refusal) -> Result<(), 
     }
     add_parts(
         to,
-        &[
-            Part::Text("missing: "),
-            Part::Text(refusal_name(reason)),
-            Part::Text("\n"),
-        ],
+        &[Text("missing: "), Text(refusal_name(reason)), Text("\n")],
     )
 }
 

@@ -8,8 +8,9 @@ ghost use Rattle.chi_cover.specs.Texts.{comparison_row, enables_row, kind_rows, 
 use crate::bin::{Bin, Enabled};
 use crate::covered::Covered;
 use crate::group::{LENGTHS, is_aligned};
-use crate::names::{kind_name, order_name};
-use crate::part::{Part, add_parts};
+use crate::names::order_name;
+use crate::part::Part::{Number, Text};
+use crate::part::add_parts;
 use chi_fields::{Kind, Op};
 use std::alloc::AllocError;
 
@@ -31,7 +32,7 @@ fn add_lane_counts(
                 len,
                 lane,
             };
-            add_parts(to, &[Part::Text(" "), Part::Number(covered.count(bin))])?;
+            add_parts(to, &[Text(" "), Number(covered.count(bin))])?;
         }
     }
     Ok(())
@@ -51,16 +52,16 @@ fn add_operation_row(
     add_parts(
         to,
         &[
-            Part::Text(kind_name(kind)),
-            Part::Text(" "),
-            Part::Text(order_name(endian)),
-            Part::Text(" "),
-            Part::Number(u64::from(len)),
-            Part::Text(":"),
+            Text(kind.name()),
+            Text(" "),
+            Text(order_name(endian)),
+            Text(" "),
+            Number(u64::from(len)),
+            Text(":"),
         ],
     )?;
     add_lane_counts(to, covered, kind, endian, len)?;
-    add_parts(to, &[Part::Text("\n")])
+    add_parts(to, &[Text("\n")])
 }
 
 /// The rows of a kind and a byte order.
@@ -122,17 +123,17 @@ pub(crate) fn add_comparison_row(
     add_parts(
         to,
         &[
-            Part::Text("AtomicCompare "),
-            Part::Number(u64::from(len)),
-            Part::Text(": lower matched "),
-            Part::Number(comparisons(covered, len, false, true)),
-            Part::Text(", lower failed "),
-            Part::Number(comparisons(covered, len, false, false)),
-            Part::Text(", upper matched "),
-            Part::Number(comparisons(covered, len, true, true)),
-            Part::Text(", upper failed "),
-            Part::Number(comparisons(covered, len, true, false)),
-            Part::Text("\n"),
+            Text("AtomicCompare "),
+            Number(u64::from(len)),
+            Text(": lower matched "),
+            Number(comparisons(covered, len, false, true)),
+            Text(", lower failed "),
+            Number(comparisons(covered, len, false, false)),
+            Text(", upper matched "),
+            Number(comparisons(covered, len, true, true)),
+            Text(", upper failed "),
+            Number(comparisons(covered, len, true, false)),
+            Text("\n"),
         ],
     )
 }
@@ -143,14 +144,8 @@ fn add_some_enables(to: &mut Vec<u8>, covered: &Covered, len: u8) -> Result<(), 
     if len == 1 {
         return Ok(());
     }
-    add_parts(
-        to,
-        &[
-            Part::Text("some "),
-            Part::Number(writes(covered, len, Enabled::SomeLanes)),
-            Part::Text(", "),
-        ],
-    )
+    let some = writes(covered, len, Enabled::SomeLanes);
+    add_parts(to, &[Text("some "), Number(some), Text(", ")])
 }
 
 /// The row of the writes of a length.
@@ -162,39 +157,34 @@ pub(crate) fn add_enables_row(
 ) -> Result<(), AllocError>
     ensures { OnOk result (to.new.items ≡ to.old.items ++ enables_row (count_in covered.now) len) }
 {
+    let none = writes(covered, len, Enabled::NoLane);
     add_parts(
         to,
         &[
-            Part::Text("WriteNoSnpPtl "),
-            Part::Number(u64::from(len)),
-            Part::Text(": none "),
-            Part::Number(writes(covered, len, Enabled::NoLane)),
-            Part::Text(", "),
+            Text("WriteNoSnpPtl "),
+            Number(u64::from(len)),
+            Text(": none "),
+            Number(none),
+            Text(", "),
         ],
     )?;
     add_some_enables(to, covered, len)?;
-    add_parts(
-        to,
-        &[
-            Part::Text("all "),
-            Part::Number(writes(covered, len, Enabled::AllLanes)),
-            Part::Text("\n"),
-        ],
-    )
+    let all = writes(covered, len, Enabled::AllLanes);
+    add_parts(to, &[Text("all "), Number(all), Text("\n")])
 }
 
 fn add_wrapped(to: &mut Vec<u8>, covered: &Covered, op: Op, len: u8) -> Result<(), AllocError>
     ensures { OnOk result (to.new.items ≡ to.old.items ++ wrapped_text (count_in covered.now) op len) }
 {
     if op != Op::Add {
-        return add_parts(to, &[Part::Text("\n")]);
+        return add_parts(to, &[Text("\n")]);
     }
     add_parts(
         to,
         &[
-            Part::Text(", wrapped "),
-            Part::Number(covered.count(Bin::Wrapped { len })),
-            Part::Text("\n"),
+            Text(", wrapped "),
+            Number(covered.count(Bin::Wrapped { len })),
+            Text("\n"),
         ],
     )
 }
@@ -207,13 +197,13 @@ fn add_result_row(to: &mut Vec<u8>, covered: &Covered, op: Op, len: u8) -> Resul
     add_parts(
         to,
         &[
-            Part::Text(kind_name(Kind::Load(op))),
-            Part::Text(" "),
-            Part::Number(u64::from(len)),
-            Part::Text(": kept "),
-            Part::Number(covered.count(Bin::Kept { op, len })),
-            Part::Text(", changed sign "),
-            Part::Number(covered.count(Bin::ChangedSign { op, len })),
+            Text(Kind::Load(op).name()),
+            Text(" "),
+            Number(u64::from(len)),
+            Text(": kept "),
+            Number(covered.count(Bin::Kept { op, len })),
+            Text(", changed sign "),
+            Number(covered.count(Bin::ChangedSign { op, len })),
         ],
     )?;
     add_wrapped(to, covered, op, len)

@@ -1,19 +1,20 @@
 //! The table of a coverage, as a text.
 
 ghost use Rattle.std.specs.Prelude.{◌≡◌, ◌++◌, OnOk, flat_map};
-ghost use Rattle.chi_cover.specs.Bins.{all_bins, all_kinds, all_ops, lengths};
+ghost use Rattle.chi_fields.specs.Opcode.{all_ops};
+ghost use Rattle.chi_cover.specs.Bins.{all_bins, all_kinds, lengths};
 ghost use Rattle.chi_cover.specs.Texts.{comparison_row, covered_line, enables_row, group_text, head_text, kind_rows, missing_line, op_rows, operations_text, table_text, traffic_row, traffic_text};
 ghost use Rattle.chi_cover.specs.Counts.{count_in, covered_of};
 
 use crate::bin::Bin;
 use crate::covered::Covered;
-use crate::group::{
-    KINDS, LENGTHS, OPS, comparison_bins, enables_bins, operation_bins, result_bins,
-};
+use crate::group::{KINDS, LENGTHS, comparison_bins, enables_bins, operation_bins, result_bins};
 use crate::lines::{add_missing, add_traffic_row};
-use crate::part::{Part, add_parts};
+use crate::part::Part::{Number, Text};
+use crate::part::add_parts;
 use crate::rows::{add_comparison_row, add_enables_row, add_kind_rows, add_op_rows};
 use crate::traffic_group::{all_bins, open_bins, overlap_bins, requester_bins};
+use chi_fields::Op;
 use std::alloc::{AllocError, Global};
 
 /// How many of these bins have counted an operation.
@@ -42,12 +43,31 @@ fn add_head(
     add_parts(
         to,
         &[
-            Part::Text(name),
-            Part::Text(": "),
-            Part::Number(covered_of(covered, bins) as u64),
-            Part::Text(" of "),
-            Part::Number(bins.len() as u64),
-            Part::Text("\n"),
+            Text(name),
+            Text(": "),
+            Number(covered_of(covered, bins) as u64),
+            Text(" of "),
+            Number(bins.len() as u64),
+            Text("\n"),
+        ],
+    )
+}
+
+/// How many bins have counted an operation.
+#[tactic(auto, unfolding(crate::specs::Texts::covered_line))]
+fn add_covered(to: &mut Vec<u8>, covered: &Covered) -> Result<(), AllocError>
+    ensures { OnOk result (to.new.items ≡ to.old.items ++ covered_line (count_in covered.now)) }
+{
+    let count = covered.covered() as u64;
+    let percent = covered.percent() as u64;
+    add_parts(
+        to,
+        &[
+            Text("covered: "),
+            Number(count),
+            Text(" of 1338 ("),
+            Number(percent),
+            Text("%)\n"),
         ],
     )
 }
@@ -82,7 +102,7 @@ fn add_all_enables(to: &mut Vec<u8>, covered: &Covered) -> Result<(), AllocError
 fn add_all_results(to: &mut Vec<u8>, covered: &Covered) -> Result<(), AllocError>
     ensures { OnOk result (to.new.items ≡ to.old.items ++ flat_map (op_rows (count_in covered.now)) all_ops) }
 {
-    for op in OPS {
+    for op in Op::ALL {
         add_op_rows(to, covered, op)?;
     }
     Ok(())
@@ -142,23 +162,6 @@ fn add_of_traffic(alloc: Global, to: &mut Vec<u8>, covered: &Covered) -> Result<
     add_group(to, covered, "open at once", &open_bins(alloc)?)?;
     add_group(to, covered, "overlaps", &overlap_bins(alloc)?)?;
     add_group(to, covered, "requesters", &requester_bins(alloc)?)
-}
-
-/// How many bins have counted an operation.
-#[tactic(auto, unfolding(crate::specs::Texts::covered_line))]
-fn add_covered(to: &mut Vec<u8>, covered: &Covered) -> Result<(), AllocError>
-    ensures { OnOk result (to.new.items ≡ to.old.items ++ covered_line (count_in covered.now)) }
-{
-    add_parts(
-        to,
-        &[
-            Part::Text("covered: "),
-            Part::Number(covered.covered() as u64),
-            Part::Text(" of 1338 ("),
-            Part::Number(covered.percent() as u64),
-            Part::Text("%)\n"),
-        ],
-    )
 }
 
 /// The bins that have counted no operation.

@@ -6,7 +6,8 @@ ghost use Rattle.chi_page.specs.Granules.{blame_json, blamed_json, each_word_jso
 
 use crate::granule::{add_granule, add_word};
 use crate::listed::add_comma;
-use chi_answer::{Part, add_parts};
+use chi_answer::Part::{Number, Text};
+use chi_answer::add_parts;
 use chi_search::Words;
 use chi_verdict::Blame;
 use std::alloc::AllocError;
@@ -15,7 +16,7 @@ use std::alloc::AllocError;
 fn add_place(to: &mut Vec<u8>, place: usize) -> Result<(), AllocError>
     ensures { OnOk result (to.new.items ≡ to.old.items ++ decimal place) }
 {
-    add_parts(to, &[Part::Number(place as u64)])
+    add_parts(to, &[Number(place as u64)])
 }
 
 /// The places of operations.
@@ -47,11 +48,11 @@ fn add_words(to: &mut Vec<u8>, words: &Words) -> Result<(), AllocError>
 {
     match words {
         Words::Each(words) => {
-            add_parts(to, &[Part::Text("[")])?;
+            add_parts(to, &[Text("[")])?;
             add_each_word(to, words)?;
-            add_parts(to, &[Part::Text("]")])
+            add_parts(to, &[Text("]")])
         }
-        Words::Unknown => add_parts(to, &[Part::Text("null")]),
+        Words::Unknown => add_parts(to, &[Text("null")]),
     }
 }
 
@@ -60,22 +61,22 @@ fn add_words(to: &mut Vec<u8>, words: &Words) -> Result<(), AllocError>
 fn add_blame(to: &mut Vec<u8>, blame: &Blame) -> Result<(), AllocError>
     ensures { OnOk result (to.new.items ≡ to.old.items ++ blame_json blame.now) }
 {
-    add_parts(to, &[Part::Text("{\"granule\":")])?;
+    add_parts(to, &[Text("{\"granule\":")])?;
     add_granule(to, blame.granule)?;
     add_parts(
         to,
         &[
-            Part::Text(",\"time\":\""),
-            Part::Number(blame.time),
-            Part::Text("\",\"place\":"),
-            Part::Number(blame.op as u64),
-            Part::Text(",\"open\":["),
+            Text(",\"time\":\""),
+            Number(blame.time),
+            Text("\",\"place\":"),
+            Number(blame.op as u64),
+            Text(",\"open\":["),
         ],
     )?;
     add_places(to, &blame.overlapping)?;
-    add_parts(to, &[Part::Text("],\"words\":")])?;
+    add_parts(to, &[Text("],\"words\":")])?;
     add_words(to, &blame.words)?;
-    add_parts(to, &[Part::Text("}")])
+    add_parts(to, &[Text("}")])
 }
 
 /// The same, or null where it does not.
@@ -85,6 +86,6 @@ pub(crate) fn add_blamed(to: &mut Vec<u8>, blame: Option<&Blame>) -> Result<(), 
 {
     match blame {
         Some(blame) => add_blame(to, blame),
-        None => add_parts(to, &[Part::Text("null")]),
+        None => add_parts(to, &[Text("null")]),
     }
 }

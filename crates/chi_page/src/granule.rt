@@ -7,7 +7,8 @@ ghost use Rattle.chi_page.specs.Granules.{AreOfTrace, drawn_at, drawn_json, find
 
 use crate::drawn::{Drawn, Finding};
 use crate::listed::add_comma;
-use chi_answer::{Part, add_parts};
+use chi_answer::Part::{Address, Number, Text, Word};
+use chi_answer::add_parts;
 use chi_lanes::apply;
 use chi_reading::Recorded;
 use chi_trace::Observed;
@@ -19,9 +20,9 @@ fn add_finding(to: &mut Vec<u8>, finding: Finding) -> Result<(), AllocError>
     ensures { OnOk result (to.new.items ≡ to.old.items ++ finding_json finding) }
 {
     match finding {
-        Finding::Explained => add_parts(to, &[Part::Text("\"explained\"")]),
-        Finding::Unexplained => add_parts(to, &[Part::Text("\"not explained\"")]),
-        Finding::Undecided => add_parts(to, &[Part::Text("\"undecided\"")]),
+        Finding::Explained => add_parts(to, &[Text("\"explained\"")]),
+        Finding::Unexplained => add_parts(to, &[Text("\"not explained\"")]),
+        Finding::Undecided => add_parts(to, &[Text("\"undecided\"")]),
     }
 }
 
@@ -32,11 +33,7 @@ pub(crate) fn add_granule(to: &mut Vec<u8>, granule: u64) -> Result<(), AllocErr
 {
     add_parts(
         to,
-        &[
-            Part::Text("\""),
-            Part::Address(granule.wrapping_mul(8)),
-            Part::Text("\""),
-        ],
+        &[Text("\""), Address(granule.wrapping_mul(8)), Text("\"")],
     )
 }
 
@@ -45,7 +42,7 @@ pub(crate) fn add_granule(to: &mut Vec<u8>, granule: u64) -> Result<(), AllocErr
 pub(crate) fn add_word(to: &mut Vec<u8>, word: u64) -> Result<(), AllocError>
     ensures { OnOk result (to.new.items ≡ to.old.items ++ word_json word) }
 {
-    add_parts(to, &[Part::Text("\""), Part::Word(word), Part::Text("\"")])
+    add_parts(to, &[Text("\""), Word(word), Text("\"")])
 }
 
 /// A word, or null where none was told.
@@ -55,7 +52,7 @@ fn add_told(to: &mut Vec<u8>, word: Option<u64>) -> Result<(), AllocError>
 {
     match word {
         Some(word) => add_word(to, word),
-        None => add_parts(to, &[Part::Text("null")]),
+        None => add_parts(to, &[Text("null")]),
     }
 }
 
@@ -64,14 +61,11 @@ fn add_told(to: &mut Vec<u8>, word: Option<u64>) -> Result<(), AllocError>
 fn add_step(to: &mut Vec<u8>, place: usize, before: u64, after: u64) -> Result<(), AllocError>
     ensures { OnOk result (to.new.items ≡ to.old.items ++ step_json place before after) }
 {
-    add_parts(
-        to,
-        &[Part::Text("["), Part::Number(place as u64), Part::Text(",")],
-    )?;
+    add_parts(to, &[Text("["), Number(place as u64), Text(",")])?;
     add_word(to, before)?;
-    add_parts(to, &[Part::Text(",")])?;
+    add_parts(to, &[Text(",")])?;
     add_word(to, after)?;
-    add_parts(to, &[Part::Text("]")])
+    add_parts(to, &[Text("]")])
 }
 
 /// The word that an operation leaves of its granule's word.
@@ -127,13 +121,13 @@ fn add_head(
 ) -> Result<(), AllocError>
     ensures { OnOk result (to.new.items ≡ to.old.items ++ head_json granule finding word last) }
 {
-    add_parts(to, &[Part::Text("{\"granule\":")])?;
+    add_parts(to, &[Text("{\"granule\":")])?;
     add_granule(to, granule)?;
-    add_parts(to, &[Part::Text(",\"finding\":")])?;
+    add_parts(to, &[Text(",\"finding\":")])?;
     add_finding(to, finding)?;
-    add_parts(to, &[Part::Text(",\"opening\":")])?;
+    add_parts(to, &[Text(",\"opening\":")])?;
     add_word(to, word)?;
-    add_parts(to, &[Part::Text(",\"final\":")])?;
+    add_parts(to, &[Text(",\"final\":")])?;
     add_told(to, last)
 }
 
@@ -147,9 +141,9 @@ fn add_drawn(to: &mut Vec<u8>, recorded: &Recorded, drawn: &Drawn) -> Result<(),
     let word = trace.opening().get(drawn.granule).unwrap_or(0);
     let last = recorded.finals().get(drawn.granule);
     add_head(to, drawn.granule, drawn.finding, word, last)?;
-    add_parts(to, &[Part::Text(",\"steps\":[")])?;
+    add_parts(to, &[Text(",\"steps\":[")])?;
     add_steps(to, trace.operations(), word, &drawn.order)?;
-    add_parts(to, &[Part::Text("]}")])
+    add_parts(to, &[Text("]}")])
 }
 
 /// The granule at a place of a list.

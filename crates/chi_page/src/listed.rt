@@ -3,7 +3,8 @@
 ghost use Rattle.std.specs.Prelude.{◌≡◌, ◌++◌, OnOk};
 ghost use Rattle.chi_page.specs.Listed.{comma};
 
-use chi_answer::{Part, add_parts};
+use chi_answer::Part::Text;
+use chi_answer::add_parts;
 use std::alloc::AllocError;
 
 /// What stands before the text with this number, counted from 0.
@@ -13,5 +14,5 @@ pub(crate) fn add_comma(to: &mut Vec<u8>, number: usize) -> Result<(), AllocErro
     if number == 0 {
         return Ok(());
     }
-    add_parts(to, &[Part::Text(",\n")])
+    add_parts(to, &[Text(",\n")])
 }

@@ -4,7 +4,8 @@ ghost use Rattle.std.specs.Prelude.{◌≡◌, ◌<◌, ◌++◌, OnOk, length};
 ghost use Rattle.chi_page.specs.Operations.{end_json, endian_json, header_json, observed_json, operation_at, operation_json, operations_json, packet_json, reply_json, request_json};
 
 use crate::listed::add_comma;
-use chi_answer::{Part, add_parts};
+use chi_answer::Part::{Address, Number, Packet, Text};
+use chi_answer::add_parts;
 use chi_fields::op_name;
 use chi_lanes::Reply;
 use chi_reading::{Asked, Recorded};
@@ -19,18 +20,18 @@ fn add_header(to: &mut Vec<u8>, asked: &Asked) -> Result<(), AllocError>
     add_parts(
         to,
         &[
-            Part::Number(u64::from(asked.src)),
-            Part::Text(","),
-            Part::Number(u64::from(asked.txn)),
-            Part::Text(","),
-            Part::Number(u64::from(asked.opcode)),
-            Part::Text(",\""),
-            Part::Text(op_name(asked.opcode)),
-            Part::Text("\","),
-            Part::Number(u64::from(asked.size)),
-            Part::Text(",\""),
-            Part::Address(asked.addr),
-            Part::Text("\""),
+            Number(u64::from(asked.src)),
+            Text(","),
+            Number(u64::from(asked.txn)),
+            Text(","),
+            Number(u64::from(asked.opcode)),
+            Text(",\""),
+            Text(op_name(asked.opcode)),
+            Text("\","),
+            Number(u64::from(asked.size)),
+            Text(",\""),
+            Address(asked.addr),
+            Text("\""),
         ],
     )
 }
@@ -41,9 +42,9 @@ fn add_endian(to: &mut Vec<u8>, endian: bool) -> Result<(), AllocError>
     ensures { OnOk result (to.new.items ≡ to.old.items ++ endian_json endian) }
 {
     if endian {
-        add_parts(to, &[Part::Text("1")])
+        add_parts(to, &[Text("1")])
     } else {
-        add_parts(to, &[Part::Text("0")])
+        add_parts(to, &[Text("0")])
     }
 }
 
@@ -55,11 +56,11 @@ fn add_packet(to: &mut Vec<u8>, asked: &Asked) -> Result<(), AllocError>
     add_parts(
         to,
         &[
-            Part::Text(","),
-            Part::Number(u64::from(asked.be)),
-            Part::Text(",\""),
-            Part::Packet(asked.lanes),
-            Part::Text("\""),
+            Text(","),
+            Number(u64::from(asked.be)),
+            Text(",\""),
+            Packet(asked.lanes),
+            Text("\""),
         ],
     )
 }
@@ -70,7 +71,7 @@ fn add_request(to: &mut Vec<u8>, asked: &Asked) -> Result<(), AllocError>
     ensures { OnOk result (to.new.items ≡ to.old.items ++ request_json asked.now) }
 {
     add_header(to, asked)?;
-    add_parts(to, &[Part::Text(",")])?;
+    add_parts(to, &[Text(",")])?;
     add_endian(to, asked.endian)?;
     add_packet(to, asked)
 }
@@ -81,9 +82,9 @@ fn add_end(to: &mut Vec<u8>, end: u64) -> Result<(), AllocError>
     ensures { OnOk result (to.new.items ≡ to.old.items ++ end_json end) }
 {
     if end == u64::MAX {
-        add_parts(to, &[Part::Text("null")])
+        add_parts(to, &[Text("null")])
     } else {
-        add_parts(to, &[Part::Text("\""), Part::Number(end), Part::Text("\"")])
+        add_parts(to, &[Text("\""), Number(end), Text("\"")])
     }
 }
 
@@ -93,14 +94,9 @@ fn add_reply(to: &mut Vec<u8>, reply: Option<Reply>) -> Result<(), AllocError>
     ensures { OnOk result (to.new.items ≡ to.old.items ++ reply_json reply) }
 {
     match reply {
-        None => add_parts(to, &[Part::Text("null")]),
-        Some(Reply::Comp) => add_parts(to, &[Part::Text("\"comp\"")]),
-        Some(Reply::CompData(lanes)) => {
-            add_parts(
-                to,
-                &[Part::Text("\""), Part::Packet(lanes), Part::Text("\"")],
-            )
-        }
+        None => add_parts(to, &[Text("null")]),
+        Some(Reply::Comp) => add_parts(to, &[Text("\"comp\"")]),
+        Some(Reply::CompData(lanes)) => { add_parts(to, &[Text("\""), Packet(lanes), Text("\"")]) }
     }
 }
 
@@ -112,15 +108,15 @@ fn add_observed(to: &mut Vec<u8>, op: &Observed) -> Result<(), AllocError>
     add_parts(
         to,
         &[
-            Part::Text(","),
-            Part::Number(op.access.len() as u64),
-            Part::Text(",\""),
-            Part::Number(op.start),
-            Part::Text("\","),
+            Text(","),
+            Number(op.access.len() as u64),
+            Text(",\""),
+            Number(op.start),
+            Text("\","),
         ],
     )?;
     add_end(to, op.end)?;
-    add_parts(to, &[Part::Text(",")])?;
+    add_parts(to, &[Text(",")])?;
     add_reply(to, op.reply)
 }
 
@@ -134,17 +130,10 @@ fn add_operation(
 ) -> Result<(), AllocError>
     ensures { OnOk result (to.new.items ≡ to.old.items ++ operation_json number asked.now op.now) }
 {
-    add_parts(
-        to,
-        &[
-            Part::Text("["),
-            Part::Number(number as u64),
-            Part::Text(","),
-        ],
-    )?;
+    add_parts(to, &[Text("["), Number(number as u64), Text(",")])?;
     add_request(to, asked)?;
     add_observed(to, op)?;
-    add_parts(to, &[Part::Text("]")])
+    add_parts(to, &[Text("]")])
 }
 
 /// The operation at a place of the trace.

@@ -15,10 +15,18 @@ use crate::moving_script::MOVING;
 use crate::operation::add_operations;
 use crate::page_script::PAGE;
 use crate::style::STYLE;
-use chi_answer::{Part, add_parts};
+use chi_answer::Part::Text;
+use chi_answer::add_parts;
 use chi_reading::Recorded;
 use chi_verdict::Blame;
 use std::alloc::AllocError;
+
+/// What stands before the style, and between it and the data.
+const HEAD: &str =
+    "<!DOCTYPE html>\n<html lang=\"en\">\n<head>\n<meta charset=\"utf-8\">\n<title>chicheck explain</title>\n<style>";
+
+const BODY: &str =
+    "</style>\n</head>\n<body>\n<noscript>This page needs JavaScript.</noscript>\n<script type=\"application/json\" id=\"trace\">\n";
 
 /// The data that the script reads.
 #[tactic(auto, unfolding(crate::specs::Pages::data_json))]
@@ -31,13 +39,13 @@ fn add_data(
     requires { AreOfTrace recorded.now granules.now }
     ensures { OnOk result (to.new.items ≡ to.old.items ++ data_json recorded.now granules.now (option_copied blame.entry)) }
 {
-    add_parts(to, &[Part::Text("{\"blame\":")])?;
+    add_parts(to, &[Text("{\"blame\":")])?;
     add_blamed(to, blame)?;
-    add_parts(to, &[Part::Text(",\n\"granules\":[")])?;
+    add_parts(to, &[Text(",\n\"granules\":[")])?;
     add_granules(to, recorded, granules)?;
-    add_parts(to, &[Part::Text("],\n\"operations\":[")])?;
+    add_parts(to, &[Text("],\n\"operations\":[")])?;
     add_operations(to, recorded)?;
-    add_parts(to, &[Part::Text("]}\n")])
+    add_parts(to, &[Text("]}\n")])
 }
 
 /// What stands before the data.
@@ -45,18 +53,7 @@ fn add_data(
 fn add_front(to: &mut Vec<u8>) -> Result<(), AllocError>
     ensures { OnOk result (to.new.items ≡ to.old.items ++ front_text STYLE.now) }
 {
-    add_parts(
-        to,
-        &[
-            Part::Text(
-                "<!DOCTYPE html>\n<html lang=\"en\">\n<head>\n<meta charset=\"utf-8\">\n<title>chicheck explain</title>\n<style>",
-            ),
-            Part::Text(STYLE),
-            Part::Text(
-                "</style>\n</head>\n<body>\n<noscript>This page needs JavaScript.</noscript>\n<script type=\"application/json\" id=\"trace\">\n",
-            ),
-        ],
-    )
+    add_parts(to, &[Text(HEAD), Text(STYLE), Text(BODY)])
 }
 
 /// What stands after them.
@@ -67,13 +64,13 @@ fn add_back(to: &mut Vec<u8>) -> Result<(), AllocError>
     add_parts(
         to,
         &[
-            Part::Text("</script>\n<script>"),
-            Part::Text(LAYOUT),
-            Part::Text(DRAWING),
-            Part::Text(MOVING),
-            Part::Text(DETAILS),
-            Part::Text(PAGE),
-            Part::Text("</script>\n</body>\n</html>\n"),
+            Text("</script>\n<script>"),
+            Text(LAYOUT),
+            Text(DRAWING),
+            Text(MOVING),
+            Text(DETAILS),
+            Text(PAGE),
+            Text("</script>\n</body>\n</html>\n"),
         ],
     )
 }

@@ -5,4 +5,4 @@ use Rattle.chi_answer.proofs.lines.add_told.Goals as goal
 
 pub returns : goal.returns
 unfolding told_text
-returns c = simp (c.in_ok-add_request.ensures, c.in_ok-add_answered.ensures, append_assoc, append-nil) at c.add_parts.ensures
+returns c = simp (c.in_ok-add_request.ensures, c.answered_name.ensures, append_assoc, append-nil) at c.add_parts.ensures

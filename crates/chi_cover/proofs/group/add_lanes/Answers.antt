@@ -19,12 +19,10 @@ loop-lane-preserved c =
           kept_more (map f) (f lane ∷ []) c.args.to.now.items p lane c.loop-lane.to.items c.if-is_aligned.to.items (map-append f (filter p (range_with_len 0 lane)) (lane ∷ []))
           (sym c.is_aligned.ensures ∙ w.if-is_aligned.true) c.loop-lane.invariant (ap (λ v. v.items) w.to-is ∙ w.in_ok-push.ensures.items)
       | else-is_aligned w ↦
-          kept_same (map f) c.args.to.now.items p lane c.loop-lane.to.items c.if-is_aligned.to.items
-          (sym c.is_aligned.ensures ∙ w.if-is_aligned.false) c.loop-lane.invariant (ap (λ v. v.items) w.to-is)
+          kept_same (map f) _ p lane _ _ (sym c.is_aligned.ensures ∙ w.if-is_aligned.false) c.loop-lane.invariant (ap (λ v. v.items) w.to-is)
     ]
 
 pub returns : goal.returns
 unfolding lanes_of
 returns c =
-    let whole : c.loop-lane.lane ≡ 16 = omega (arith, c.loop-lane-test.false) in
-    rw whole at c.loop-lane.invariant
+    let whole : c.loop-lane.lane ≡ 16 = omega (arith, c.loop-lane-test.false) in rw whole at c.loop-lane.invariant

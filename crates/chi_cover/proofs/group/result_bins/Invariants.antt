@@ -1,6 +1,7 @@
 -- those so far
 use Rattle.std.proofs.Common.{◌≡◌, ◌++◌, flat_map, map, take}
-use Rattle.chi_cover.specs.Bins.{all_ops, kept_of, sign_of}
+use Rattle.chi_fields.specs.Opcode.{all_ops}
+use Rattle.chi_cover.specs.Bins.{kept_of, sign_of}
 use Rattle.chi_cover.specs.declared.bin.Bin.TheVariants.{Wrapped}
 use Rattle.chi_cover.proofs.group.result_bins.Given as goal
 

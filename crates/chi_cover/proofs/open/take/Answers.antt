@@ -1,14 +1,31 @@
 -- what is kept of the operation's granule
-use Rattle.std.proofs.Common.{◌≡◌, ℕ, ◌/◌, ◌<◌, ◌==◌, cond, nat_eq, [], ◌∷◌, ◌++◌, All, length, Vec, sym, subst, ap, ◌∙◌, arith}
+use Rattle.std.proofs.Common.{◌≡◌, ℕ, ◌/◌, ◌<◌, ◌==◌, cond, nat_eq, List, [], ◌∷◌, ◌++◌, All, length, Option, unwrap_or, Vec, sym, subst, ap, ◌∙◌, arith}
 use Rattle.std.specs.HashMap.{get}
 use Rattle.std.specs.declared.alloc.Global.{Global}
 use Rattle.chi_trace.specs.declared.observed.Observed.{Observed}
 use Rattle.chi_trace.specs.Explains.{at}
 use Rattle.chi_trace.specs.Granules.{granule_of}
-use Rattle.chi_cover.specs.Open.{ended_after, items_of, places_of}
+use Rattle.chi_cover.specs.Open.{Places, ended_after, items_of, places_of}
 use Rattle.chi_cover.proofs.Kept.{kept_more, looked_up, open_now, there_or_none}
 use Rattle.chi_cover.proofs.Traced.{read_at}
 use Rattle.chi_cover.proofs.open.take.Goals as goal
+
+own_granule : (ops : List Observed) (place : ℕ) (o : Observed) (addr : ℕ) → o ≡ at ops place → addr ≡ o.access.addr → addr / 8 ≡ granule_of (at ops place)
+own_granule ops place o addr read is = ap (λ a. a / 8) (is ∙ ap (λ (o : Observed). o.access.addr) read)
+
+-- what is taken out of the map is what is kept of the granule
+found_places : (kept : Places) (granule key : ℕ) (removed : Option (Vec ℕ Global)) (none before : Vec ℕ Global) (seen : List ℕ) → key ≡ granule
+    → removed ≡ get nat_eq kept key → none.items ≡ [] → before ≡ unwrap_or removed none → seen ≡ before.items → seen ≡ places_of kept granule
+found_places kept granule key removed none before seen same taken empty is read =
+    read ∙ (ap (λ (v : Vec ℕ Global). v.items) is ∙ (there_or_none removed none empty ∙ (ap items_of taken ∙ ap (places_of kept) same)))
+
+-- those of them that are left are still open when the operation starts
+left_places : (ops : List Observed) (place : ℕ) (kept : Places) (o : Observed) (addr : ℕ) (removed : Option (Vec ℕ Global)) (none before : Vec ℕ Global) (seen left : List ℕ)
+    → o ≡ at ops place → addr ≡ o.access.addr → removed ≡ get nat_eq kept (addr / 8) → none.items ≡ [] → before ≡ unwrap_or removed none → seen ≡ before.items
+    → left ≡ ended_after ops o.start seen → left ≡ ended_after ops (at ops place).start (places_of kept (granule_of (at ops place)))
+left_places ops place kept o addr removed none before seen left read is taken empty had looked still =
+    let found = found_places kept (granule_of (at ops place)) (addr / 8) removed none before seen (own_granule ops place o addr read is) taken empty had looked in
+    still ∙ (ap (λ (o : Observed). ended_after ops o.start seen) read ∙ ap (ended_after ops (at ops place).start) found)
 
 pub still_open-requires : goal.still_open-requires
 still_open-requires c =
@@ -16,10 +33,8 @@ still_open-requires c =
     let place = c.args.place in
     let kept = c.args.kept.now in
     let read = read_at ops place c.index-ops-place.result c.requires.place c.index-ops-place.is in
-    let own : c.addr.result / 8 ≡ granule_of (at ops place) = ap (λ a. a / 8) (c.addr.ensures.value ∙ ap (λ (o : Observed). o.access.addr) read) in
-    let found : c.deref.result.now ≡ places_of kept (granule_of (at ops place)) =
-    c.deref.ensures.value ∙ (ap (λ (v : Vec ℕ Global). v.items) c.unwrap_or-before.ensures
-    ∙ (there_or_none c.remove.result c.new.result c.new.ensures.items ∙ (ap items_of c.remove.ensures.value ∙ ap (places_of kept) own))) in
+    let own = own_granule ops place c.index-ops-place.result c.addr.result read c.addr.ensures.value in
+    let found = found_places kept (granule_of (at ops place)) _ _ _ _ _ own c.remove.ensures.value c.new.ensures.items c.unwrap_or-before.ensures c.deref.ensures.value in
     let inside : ℕ → Type 0 = λ j. j < length ops in
     subst (All inside) (sym found) (λ k d under. let first = c.requires.kept.places (granule_of (at ops place)) k d under in omega (arith, first, c.requires.place))
 
@@ -29,12 +44,8 @@ returns-clause-still_open c =
     let place = c.args.place in
     let kept = c.args.kept.now in
     let read = read_at ops place c.index-ops-place.result c.requires.place c.index-ops-place.is in
-    let own : c.addr.result / 8 ≡ granule_of (at ops place) = ap (λ a. a / 8) (c.addr.ensures.value ∙ ap (λ (o : Observed). o.access.addr) read) in
-    let found : c.deref.result.now ≡ places_of kept (granule_of (at ops place)) =
-    c.deref.ensures.value ∙ (ap (λ (v : Vec ℕ Global). v.items) c.unwrap_or-before.ensures
-    ∙ (there_or_none c.remove.result c.new.result c.new.ensures.items ∙ (ap items_of c.remove.ensures.value ∙ ap (places_of kept) own))) in
-    let left : c.in_ok-places.places.items ≡ ended_after ops (at ops place).start (places_of kept (granule_of (at ops place))) =
-    c.in_ok-places.ensures ∙ (ap (λ (o : Observed). ended_after ops o.start c.deref.result.now) read ∙ ap (ended_after ops (at ops place).start) found) in
+    let left = left_places ops place kept c.index-ops-place.result c.addr.result _ _ _ _ c.in_ok-places.places.items read c.addr.ensures.value c.remove.ensures.value
+    c.new.ensures.items c.unwrap_or-before.ensures c.deref.ensures.value c.in_ok-places.ensures in
     left ∙ open_now ops place kept c.requires.traced c.requires.place c.requires.kept
 
 pub returns-clause-kept : goal.returns-clause-kept
@@ -43,12 +54,9 @@ returns-clause-kept c =
     let place = c.args.place in
     let kept = c.args.kept.now in
     let read = read_at ops place c.index-ops-place.result c.requires.place c.index-ops-place.is in
-    let own : c.addr.result / 8 ≡ granule_of (at ops place) = ap (λ a. a / 8) (c.addr.ensures.value ∙ ap (λ (o : Observed). o.access.addr) read) in
-    let found : c.deref.result.now ≡ places_of kept (granule_of (at ops place)) =
-    c.deref.ensures.value ∙ (ap (λ (v : Vec ℕ Global). v.items) c.unwrap_or-before.ensures
-    ∙ (there_or_none c.remove.result c.new.result c.new.ensures.items ∙ (ap items_of c.remove.ensures.value ∙ ap (places_of kept) own))) in
-    let left : c.in_ok-places.places.items ≡ ended_after ops (at ops place).start (places_of kept (granule_of (at ops place))) =
-    c.in_ok-places.ensures ∙ (ap (λ (o : Observed). ended_after ops o.start c.deref.result.now) read ∙ ap (ended_after ops (at ops place).start) found) in
+    let own = own_granule ops place c.index-ops-place.result c.addr.result read c.addr.ensures.value in
+    let left = left_places ops place kept c.index-ops-place.result c.addr.result _ _ _ _ c.in_ok-places.places.items read c.addr.ensures.value c.remove.ensures.value
+    c.new.ensures.items c.unwrap_or-before.ensures c.deref.ensures.value c.in_ok-places.ensures in
     let key = c.addr.result / 8 in
     let after : c.push.new.self.items ≡ c.in_ok-places.places.items ++ place ∷ [] =
     c.in_ok-push.ensures.items ∙ ap (λ l. l ++ place ∷ []) (c.in_ok-after.ensures.items ∙ c.deref-2.ensures.value) in

@@ -22,12 +22,10 @@ loop-lane-preserved c =
           (sym c.is_aligned.ensures ∙ w.if-is_aligned.true) c.loop-lane.invariant
           (ap (λ v. v.items) w.to-is ∙ (w.in_ok-add_parts.ensures ∙ ap (λ t. c.loop-lane.to.items ++ (codes " " ++ t)) (append-nil (decimal w.count.result) ∙ ap decimal w.count.ensures)))
       | else-is_aligned w ↦
-          kept_same (flat_map f) c.args.to.now.items p lane c.loop-lane.to.items c.if-is_aligned.to.items
-          (sym c.is_aligned.ensures ∙ w.if-is_aligned.false) c.loop-lane.invariant (ap (λ v. v.items) w.to-is)
+          kept_same (flat_map f) _ p lane _ _ (sym c.is_aligned.ensures ∙ w.if-is_aligned.false) c.loop-lane.invariant (ap (λ v. v.items) w.to-is)
     ]
 
 pub returns : goal.returns
 unfolding lanes_of
 returns c =
-    let whole : c.loop-lane.lane ≡ 16 = omega (arith, c.loop-lane-test.false) in
-    rw whole at c.loop-lane.invariant
+    let whole : c.loop-lane.lane ≡ 16 = omega (arith, c.loop-lane-test.false) in rw whole at c.loop-lane.invariant

@@ -1,5 +1,5 @@
 -- one operation more
-use Rattle.chi_cover.specs.Bins.{all_ops}
+use Rattle.chi_fields.specs.Opcode.{all_ops}
 use Rattle.chi_cover.specs.Counts.{count_in}
 use Rattle.chi_cover.specs.Texts.{op_rows}
 use Rattle.chi_cover.proofs.Lists.{part_more}
