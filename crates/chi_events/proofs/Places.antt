@@ -63,13 +63,13 @@ placed id requests place o at is =
 not_placed : (id : ℕ) (requests : List Open) → position (λ o. o.id == id) requests ≡ None → open_with id requests ≡ None
 not_placed id requests none = find_none (λ o. o.id == id) requests none
 
--- the same by what the search for a place answered
-pub at_place : (id : ℕ) (seen requests : List Open) (result : Option ℕ) (place : ℕ) (o : Open) → seen ≡ requests → result ≡ position (λ o. o.id == id) seen → result ≡ Some place
-    → o ≡ get_or requests place o → IsAt id requests place o
-at_place id seen requests result place o same is at here = placed id requests place o (ap (position (λ o. o.id == id)) (sym same) ∙ sym is ∙ at) here
+-- the same by a list that was looked through
+pub at_place : (id : ℕ) (seen requests : List Open) (place : ℕ) (o : Open) → seen ≡ requests → position (λ o. o.id == id) seen ≡ Some place → o ≡ get_or requests place o
+    → IsAt id requests place o
+at_place id seen requests place o same at here = placed id requests place o (ap (position (λ o. o.id == id)) (sym same) ∙ at) here
 
-pub no_place : (id : ℕ) (seen requests : List Open) (result : Option ℕ) → seen ≡ requests → result ≡ position (λ o. o.id == id) seen → result ≡ None → open_with id requests ≡ None
-no_place id seen requests result same is none = not_placed id requests (ap (position (λ o. o.id == id)) (sym same) ∙ sym is ∙ none)
+pub no_place : (id : ℕ) (seen requests : List Open) → seen ≡ requests → position (λ o. o.id == id) seen ≡ None → open_with id requests ≡ None
+no_place id seen requests same none = not_placed id requests (ap (position (λ o. o.id == id)) (sym same) ∙ none)
 
 pub not_any : (id : ℕ) (requests : List Open) (place : Option ℕ) → place ≡ position (λ o. o.id == id) requests → is_some place ≡ false → open_with id requests ≡ None
 not_any id requests None is none = not_placed id requests (sym is)

@@ -3,8 +3,8 @@
 ghost use Rattle.std.specs.Prelude.{◌≡◌, ◌≢◌, ◌+◌, ◌<◌, ◌==◌, ◌++◌, [], ◌∷◌, Some, None, IfErr, IfOk, length, take, drop, position};
 ghost use Rattle.chi_reading.specs.Requests.{access_of};
 ghost use Rattle.chi_events.specs.Operations.{is_whole};
-ghost use Rattle.chi_events.specs.Outstanding.{ended_fault, kind_fault, open_with, refusal_fault, request_about, request_fault};
-ghost use Rattle.chi_events.specs.Taking.{Changes, Takes, ended_by, first_access_of, still_open};
+ghost use Rattle.chi_events.specs.Outstanding.{data_fault, ended_fault, kind_fault, open_with, refusal_fault, reply_fault, request_about, request_fault};
+ghost use Rattle.chi_events.specs.Taking.{Takes, ended_by, first_access_of, still_open, with_data, with_reply};
 
 use crate::event::{Completion, EventKind, Packet, Requested};
 use crate::fault::EventFault;
@@ -93,6 +93,17 @@ fn ended_fault(request: &Open) -> Option<EventFault>
     Some(EventFault::Reply(fault))
 }
 
+/// A request, unless it has a reply that no home gives it.
+fn fitting(request: Open) -> Result<Open, EventFault>
+    ensures fits { IfOk result (λ now. (ended_fault request.access request.completion ≡ None) × (now ≡ request)) }
+    ensures fault { IfErr result (λ fault. ended_fault request.access request.completion ≡ Some fault) }
+{
+    match ended_fault(&request) {
+        Some(fault) => Err(fault),
+        None => Ok(request),
+    }
+}
+
 /// The operation of a request that ends at this time, if it does.
 fn operation_by(request: &Open, time: u64) -> Option<Observed>
     ensures { result ≡ ended_by time request.now }
@@ -123,81 +134,51 @@ fn settle(requests: &mut Vec<Open>, place: usize, now: Open, time: u64) -> Optio
     ended
 }
 
-/// Takes the data of a request.
-fn take_data(
-    requests: &mut Vec<Open>,
-    time: u64,
-    packet: &Packet,
-) -> Result<Option<Observed>, EventFault>
-    ensures taken { IfOk result (λ ended. (kind_fault requests.old.items (EventKind.Data packet.now) ≡ None) × Takes (EventKind.Data packet.now) time requests.old.items ended requests.new.items) }
-    ensures fault { IfErr result (λ fault. kind_fault requests.old.items (EventKind.Data packet.now) ≡ Some fault) }
-    ensures failed { IfErr result (λ fault. requests.new.items ≡ requests.old.items) }
+/// The place of the outstanding request with a number, which has to be there.
+fn outstanding_at(requests: &[Open], id: u64) -> Result<usize, EventFault>
+    ensures found { IfOk result (λ place. position (λ o. o.id == id) requests.now ≡ Some place) }
+    ensures none { IfErr result (λ fault. (fault ≡ EventFault.NotOutstanding) × (position (λ o. o.id == id) requests.now ≡ None)) }
 {
-    let Some(place) = place_of(requests, packet.id) else {
-        return Err(EventFault::NotOutstanding);
-    };
-    let open = requests[place];
-    if open.access.is_some() {
+    match place_of(requests, id) {
+        Some(place) => Ok(place),
+        None => Err(EventFault::NotOutstanding),
+    }
+}
+
+/// A request with its data, where it waits for them.
+fn with_data(request: &Open, packet: &Packet) -> Result<Open, EventFault>
+    ensures taken { IfOk result (λ now. (data_fault packet.now (Some request.now) ≡ None) × (now ≡ with_data packet.now request.now)) }
+    ensures fault { IfErr result (λ fault. data_fault packet.now (Some request.now) ≡ Some fault) }
+{
+    if request.access.is_some() {
         return Err(EventFault::DataTwice);
     }
     let asked = Asked {
         be: packet.be,
         lanes: packet.lanes,
-        ..open.asked
+        ..request.asked
     };
     match access(&asked, &None) {
-        Ok(access) => {
-            let now = Open {
-                access: Some(access),
-                ..open
-            };
-            if let Some(fault) = ended_fault(&now) {
-                return Err(fault);
-            }
-            Ok(settle(requests, place, now, time))
-        }
+        Ok(access) => fitting(Open {
+            access: Some(access),
+            ..*request
+        }),
         Err(refusal) => Err(EventFault::Refused(refusal)),
     }
 }
 
-/// Takes the completion of a request.
-fn take_reply(
-    requests: &mut Vec<Open>,
-    time: u64,
-    sent: &Completion,
-) -> Result<Option<Observed>, EventFault>
-    ensures taken { IfOk result (λ ended. (kind_fault requests.old.items (EventKind.Reply sent.now) ≡ None) × Takes (EventKind.Reply sent.now) time requests.old.items ended requests.new.items) }
-    ensures fault { IfErr result (λ fault. kind_fault requests.old.items (EventKind.Reply sent.now) ≡ Some fault) }
-    ensures failed { IfErr result (λ fault. requests.new.items ≡ requests.old.items) }
+/// A request with its completion, where none has left.
+fn with_reply(request: &Open, sent: &Completion) -> Result<Open, EventFault>
+    ensures taken { IfOk result (λ now. (reply_fault sent.now (Some request.now) ≡ None) × (now ≡ with_reply sent.now request.now)) }
+    ensures fault { IfErr result (λ fault. reply_fault sent.now (Some request.now) ≡ Some fault) }
 {
-    let Some(place) = place_of(requests, sent.id) else {
-        return Err(EventFault::NotOutstanding);
-    };
-    let open = requests[place];
-    if open.completion.is_some() {
+    if request.completion.is_some() {
         return Err(EventFault::ReplyTwice);
     }
-    let now = Open {
+    fitting(Open {
         completion: Some(sent.reply),
-        ..open
-    };
-    if let Some(fault) = ended_fault(&now) {
-        return Err(fault);
-    }
-    Ok(settle(requests, place, now, time))
-}
-
-/// Takes out a request that was dropped.
-fn take_out(requests: &mut Vec<Open>, id: u64) -> Result<(), EventFault>
-    ensures taken { IfOk result (λ u. (kind_fault requests.old.items (EventKind.Dropped id) ≡ None) × Changes id (λ o. []) (λ o. None) requests.old.items None requests.new.items) }
-    ensures fault { IfErr result (λ fault. kind_fault requests.old.items (EventKind.Dropped id) ≡ Some fault) }
-    ensures failed { IfErr result (λ fault. requests.new.items ≡ requests.old.items) }
-{
-    let Some(place) = place_of(requests, id) else {
-        return Err(EventFault::NotOutstanding);
-    };
-    requests.remove(place);
-    Ok(())
+        ..*request
+    })
 }
 
 /// Takes what an event tells, and answers the operation that ended by it, if one did.
@@ -215,10 +196,19 @@ pub(crate) fn take_kind(
             take_request(requests, time, requested)?;
             Ok(None)
         }
-        EventKind::Data(packet) => take_data(requests, time, packet),
-        EventKind::Reply(completion) => take_reply(requests, time, completion),
+        EventKind::Data(packet) => {
+            let place = outstanding_at(requests, packet.id)?;
+            let now = with_data(&requests[place], packet)?;
+            Ok(settle(requests, place, now, time))
+        }
+        EventKind::Reply(sent) => {
+            let place = outstanding_at(requests, sent.id)?;
+            let now = with_reply(&requests[place], sent)?;
+            Ok(settle(requests, place, now, time))
+        }
         EventKind::Dropped { id } => {
-            take_out(requests, *id)?;
+            let place = outstanding_at(requests, *id)?;
+            requests.remove(place);
             Ok(None)
         }
         EventKind::Word(_) | EventKind::Final(_) | EventKind::Unknown { .. } => Ok(None),
