@@ -1,4 +1,4 @@
-# What program and shown share: runs of chihome with a time limit, and the count of their cases.
+# What pages, program and shown share: runs of chihome with a time limit, and the count of their cases.
 set -u
 program=crates/chi_home/out/chi_home
 dir=$(mktemp -d)
