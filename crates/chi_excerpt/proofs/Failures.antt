@@ -27,16 +27,7 @@ granule_places t g places all = λ k d below. place_of t.operations g (get_or pl
 
 -- a suspect may be blamed instead
 pub suspect_blamed : (t : TraceValue) (blame : Blame) (i : ℕ) → IsBlame t blame → IsSuspect t blame.granule blame.time i → IsBlame t (record blame { op = i })
-suspect_blamed t blame i is suspect = record {
-  before = is.before;
-  after = is.after;
-  granule = is.granule;
-  here = suspect.here;
-  ends = suspect.ends;
-  answered = suspect.answered;
-  overlapping = is.overlapping;
-  words = is.words;
-}
+suspect_blamed t blame i is suspect = assumption (is, suspect)
 
 -- so may the first of some, or the one that is blamed
 pub first_blamed : (t : TraceValue) (blame : Blame) (places : List ℕ) → IsBlame t blame → All (IsSuspect t blame.granule blame.time) places → IsBlame t (record blame { op = first_or places blame.op })

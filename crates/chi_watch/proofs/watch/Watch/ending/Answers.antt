@@ -37,12 +37,10 @@ returns-clause-explained g c unexplained undecided events has =
     let closes = closes_of _ c.args.self _ new c.self.view_is c.requests-requests.ensures.requests c.in_ok-close_open.ensures.told in
     let are_open = subst (λ (w : WatchValue). All (IsOpen w.outstanding.time) w.outstanding.requests) c.self.view_is c.requests-requests.ensures.are_open in
     let un = c.in_ok-listed.listed.unexplained.items in
-    let dec = c.in_ok-listed.listed.undecided.items in
-    let found = c.in_ok-unexplained.unexplained.items in
-    let same : granules_of found ≡ un = c.in_ok-unexplained.ensures.granules ∙ c.deref.ensures.value in
+    let same : granules_of c.in_ok-unexplained.unexplained.items ≡ un = c.in_ok-unexplained.ensures.granules ∙ c.deref.ensures.value in
     let no_un : un ≡ [] = sym same ∙ ap granules_of unexplained in
     ended_explained c.operations_are_told.ensures c.granules_told.ensures c.granules_explain.ensures c.args.self new are_open closes
-    (λ h. none_listed h un dec no_un undecided (new h) (c.in_ok-listed.ensures.each h)) events has
+    (λ h. none_listed h un c.in_ok-listed.listed.undecided.items no_un undecided (new h) (c.in_ok-listed.ensures.each h)) events has
 
 pub returns-clause-each : goal.returns-clause-each
 returns-clause-each g c h events has known =
@@ -50,11 +48,9 @@ returns-clause-each g c h events has known =
     let closes = closes_of _ c.args.self _ new c.self.view_is c.requests-requests.ensures.requests c.in_ok-close_open.ensures.told in
     let are_open = subst (λ (w : WatchValue). All (IsOpen w.outstanding.time) w.outstanding.requests) c.self.view_is c.requests-requests.ensures.are_open in
     let un = c.in_ok-listed.listed.unexplained.items in
-    let dec = c.in_ok-listed.listed.undecided.items in
-    let found = c.in_ok-unexplained.unexplained.items in
-    let same : granules_of found ≡ un = c.in_ok-unexplained.ensures.granules ∙ c.deref.ensures.value in
-    subst (λ (l : List ℕ). CanBeExplained events h ⊎ IsListed h l dec) (sym same)
-    (ended_each c.operations_are_told.ensures c.granules_told.ensures (IsListed h un dec) c.args.self new are_open closes h (c.in_ok-listed.ensures.each h) events has known)
+    let same : granules_of c.in_ok-unexplained.unexplained.items ≡ un = c.in_ok-unexplained.ensures.granules ∙ c.deref.ensures.value in
+    subst (λ (l : List ℕ). CanBeExplained events h ⊎ IsListed h l c.in_ok-listed.listed.undecided.items) (sym same)
+    (ended_each c.operations_are_told.ensures c.granules_told.ensures (IsListed h un c.in_ok-listed.listed.undecided.items) c.args.self new are_open closes h (c.in_ok-listed.ensures.each h) events has known)
 
 pub returns-clause-unexplained : goal.returns-clause-unexplained
 returns-clause-unexplained g c =
@@ -62,10 +58,8 @@ returns-clause-unexplained g c =
     let closes = closes_of _ c.args.self _ new c.self.view_is c.requests-requests.ensures.requests c.in_ok-close_open.ensures.told in
     let are_open = subst (λ (w : WatchValue). All (IsOpen w.outstanding.time) w.outstanding.requests) c.self.view_is c.requests-requests.ensures.are_open in
     let un = c.in_ok-listed.listed.unexplained.items in
-    let dec = c.in_ok-listed.listed.undecided.items in
-    let found = c.in_ok-unexplained.unexplained.items in
-    let same : granules_of found ≡ un = c.in_ok-unexplained.ensures.granules ∙ c.deref.ensures.value in
-    all_found new (IsFoundIn new) (λ (f : FoundAtEnd). (events : List Event) → HasTaken events c.args.self → IsFoundAtEnd events f) found un same c.in_ok-listed.ensures.unexplained
+    let same : granules_of c.in_ok-unexplained.unexplained.items ≡ un = c.in_ok-unexplained.ensures.granules ∙ c.deref.ensures.value in
+    all_found new (IsFoundIn new) (λ (f : FoundAtEnd). (events : List Event) → HasTaken events c.args.self → IsFoundAtEnd events f) c.in_ok-unexplained.unexplained.items un same c.in_ok-listed.ensures.unexplained
     c.in_ok-unexplained.ensures.found (ended_found c.operations_are_told.ensures c.granules_told.ensures c.parts_explain.ensures c.args.self new are_open closes)
 
 pub returns-clause-unreached : goal.returns-clause-unreached
@@ -74,9 +68,7 @@ returns-clause-unreached g c =
     let closes = closes_of _ c.args.self _ new c.self.view_is c.requests-requests.ensures.requests c.in_ok-close_open.ensures.told in
     let are_open = subst (λ (w : WatchValue). All (IsOpen w.outstanding.time) w.outstanding.requests) c.self.view_is c.requests-requests.ensures.are_open in
     let un = c.in_ok-listed.listed.unexplained.items in
-    let dec = c.in_ok-listed.listed.undecided.items in
-    let found = c.in_ok-unexplained.unexplained.items in
-    let same : granules_of found ≡ un = c.in_ok-unexplained.ensures.granules ∙ c.deref.ensures.value in
+    let same : granules_of c.in_ok-unexplained.unexplained.items ≡ un = c.in_ok-unexplained.ensures.granules ∙ c.deref.ensures.value in
     let looked = g.P.Progress.looked in
     let old = c.args.progress.now in
     let closed = c.close_open.new.progress in
@@ -84,7 +76,7 @@ returns-clause-unreached g c =
     let last = c.each_found_at_end.new.progress in
     let whole = LookedAtLeast looked old last c.args.budget in
     let before : LookedSome looked old judged = some_after looked old closed judged c.in_ok-close_open.ensures.looked c.in_ok-listed.ensures.looked in
-    all_found new (IsUnreachedIn looked judged last c.args.budget new) (λ (f : FoundAtEnd). (events : List Event) → HasTaken events c.args.self → IfUndecided f.reach whole) found un same
+    all_found new (IsUnreachedIn looked judged last c.args.budget new) (λ (f : FoundAtEnd). (events : List Event) → HasTaken events c.args.self → IfUndecided f.reach whole) c.in_ok-unexplained.unexplained.items un same
     c.in_ok-listed.ensures.unexplained c.in_ok-unexplained.ensures.undecided
     (λ f none spent. ended_unreached c.operations_are_told.ensures c.granules_told.ensures c.parts_explain.ensures whole c.args.self new are_open closes f none
     (unreached_after looked old judged last c.args.budget new before f spent))
