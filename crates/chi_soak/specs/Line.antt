@@ -41,9 +41,9 @@ completion_text None = codes "null"
 completion_text (Some Comp) = codes "\"comp\""
 completion_text (Some (CompData lanes)) = quoted_text lanes
 
--- the granule of a word by its address, and its bytes in address order
-unfoldable pub granule_text : GranuleWord → List ℕ
-granule_text w = codes ",\"addr\":" ++ decimal (w.granule * 8 % 2 ^ 64) ++ codes ",\"bytes\":\"" ++ word_text w.word ++ codes "\""
+-- the word of a granule: the granule by its address, the bytes in address order, and what comes after them
+unfoldable pub granule_text : GranuleWord → List ℕ → List ℕ
+granule_text w end = codes "word\",\"addr\":" ++ decimal (w.granule * 8 % 2 ^ 64) ++ codes ",\"bytes\":\"" ++ word_text w.word ++ end
 
 -- a request, and its data
 unfoldable pub request_text : Requested → List ℕ
@@ -61,14 +61,6 @@ reply_text c = codes "reply\",\"id\":" ++ decimal c.id ++ codes ",\"reply\":" ++
 unfoldable pub dropped_text : ℕ → List ℕ
 dropped_text id = codes "dropped\",\"id\":" ++ decimal id
 
--- a word before the first request of its granule
-unfoldable pub first_text : GranuleWord → List ℕ
-first_text w = codes "word\"" ++ granule_text w
-
--- a word after the last one
-unfoldable pub last_text : GranuleWord → List ℕ
-last_text w = codes "word\"" ++ granule_text w ++ codes ",\"final\":true"
-
 -- bytes that something else may have written
 unfoldable pub unknown_text : ℕ → ℕ → List ℕ
 unknown_text addr length = codes "unknown\",\"addr\":" ++ decimal addr ++ codes ",\"length\":" ++ decimal length
@@ -79,8 +71,8 @@ kind_text (kind.Request r) = request_text r
 kind_text (kind.Data p) = late_text p
 kind_text (kind.Reply c) = reply_text c
 kind_text (kind.Dropped id) = dropped_text id
-kind_text (kind.Word w) = first_text w
-kind_text (kind.Final w) = last_text w
+kind_text (kind.Word w) = granule_text w (codes "\"")
+kind_text (kind.Final w) = granule_text w (codes "\",\"final\":true")
 kind_text (kind.Unknown addr length) = unknown_text addr length
 
 -- the line

@@ -55,7 +55,7 @@ fn race_rounds<H: Home + Sync, T: AllocGlobal + Clock + Threads + Wait + Sync, W
         }
         race_round(home, rt, seat, rounds)?;
         if options.plant && round == 1 {
-            lose_exchange(home, rt, seat, &rounds.clock, &mut rounds.told)?;
+            lose_exchange(home, rt, seat, rounds)?;
         }
         rounds.write_told(to)?;
     }

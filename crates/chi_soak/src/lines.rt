@@ -1,7 +1,7 @@
 //! Events as lines of JSON.
 
 ghost use Rattle.std.specs.Prelude.{◌≡◌, ◌++◌, OnOk};
-ghost use Rattle.chi_soak.specs.Line.{byte_order, completion_text, data_text, dropped_text, event_line, fields_text, first_text, granule_text, kind_text, last_text, late_text, packet_text, quoted_text, reply_text, request_text, unknown_text};
+ghost use Rattle.chi_soak.specs.Line.{byte_order, completion_text, data_text, dropped_text, event_line, fields_text, granule_text, kind_text, late_text, packet_text, quoted_text, reply_text, request_text, unknown_text};
 
 use chi_answer::{Part, add_parts};
 use chi_events::{Completion, Event, EventKind, Packet, Requested};
@@ -130,37 +130,20 @@ fn add_dropped(to: &mut Vec<u8>, id: u64) -> Result<(), AllocError>
     add_parts(to, &[Part::Text("dropped\",\"id\":"), Part::Number(id)])
 }
 
-/// The granule of a word, and its bytes.
-fn add_granule(to: &mut Vec<u8>, told: &GranuleWord) -> Result<(), AllocError>
-    ensures { OnOk result (to.new.items ≡ to.old.items ++ granule_text told.now) }
+/// The word of a granule, and what comes after its bytes.
+fn add_word(to: &mut Vec<u8>, told: &GranuleWord, end: &'static str) -> Result<(), AllocError>
+    ensures { OnOk result (to.new.items ≡ to.old.items ++ granule_text told.now end.now) }
 {
     add_parts(
         to,
         &[
-            Part::Text(",\"addr\":"),
+            Part::Text("word\",\"addr\":"),
             Part::Number(told.granule.wrapping_mul(8)),
             Part::Text(",\"bytes\":\""),
             Part::Word(told.word),
-            Part::Text("\""),
+            Part::Text(end),
         ],
     )
-}
-
-/// A word before the first request of its granule.
-fn add_first(to: &mut Vec<u8>, told: &GranuleWord) -> Result<(), AllocError>
-    ensures { OnOk result (to.new.items ≡ to.old.items ++ first_text told.now) }
-{
-    add_parts(to, &[Part::Text("word\"")])?;
-    add_granule(to, told)
-}
-
-/// A word after the last one.
-fn add_last(to: &mut Vec<u8>, told: &GranuleWord) -> Result<(), AllocError>
-    ensures { OnOk result (to.new.items ≡ to.old.items ++ last_text told.now) }
-{
-    add_parts(to, &[Part::Text("word\"")])?;
-    add_granule(to, told)?;
-    add_parts(to, &[Part::Text(",\"final\":true")])
 }
 
 /// Bytes that something else may have written.
@@ -187,8 +170,8 @@ fn add_kind(to: &mut Vec<u8>, kind: &EventKind) -> Result<(), AllocError>
         EventKind::Data(packet) => add_late(to, packet),
         EventKind::Reply(completion) => add_reply(to, completion),
         EventKind::Dropped { id } => add_dropped(to, *id),
-        EventKind::Word(told) => add_first(to, told),
-        EventKind::Final(told) => add_last(to, told),
+        EventKind::Word(told) => add_word(to, told, "\""),
+        EventKind::Final(told) => add_word(to, told, "\",\"final\":true"),
         EventKind::Unknown { addr, length } => add_unknown(to, *addr, *length),
     }
 }

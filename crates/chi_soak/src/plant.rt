@@ -3,15 +3,15 @@
 ghost use Rattle.std.specs.Prelude.{◌≡◌, ◌<◌};
 ghost use Rattle.chi_history.specs.NumberSets.{below};
 
-use crate::events::Told;
 use crate::fault::SoakFault;
 use crate::requests::BASE;
+use crate::rounds::Rounds;
 use chi_fields::{Request, decode};
 use chi_history::Home;
 use chi_history::callers::serve_alone;
 use chi_lanes::Reply;
 use std::sync::Wait;
-use std::sync::atomic::{AtomicU64, Ordering};
+use std::sync::atomic::Ordering;
 
 // The opcodes of a read and of an addition that returns the old bytes.
 const READ: u8 = 0x04;
@@ -57,8 +57,7 @@ fn serve_told<H: Home, R: Wait>(
     rt: &R,
     seat: &mut H::Seat,
     request: &Request,
-    clock: &AtomicU64,
-    told: &mut Told,
+    rounds: &mut Rounds,
 ) -> Result<(), SoakFault>
     requires own { H.belongs home.now seat.old }
     requires all { H.held seat.old ≡ below (H.opening home.now).requesters }
@@ -66,10 +65,10 @@ fn serve_told<H: Home, R: Wait>(
     ensures own { H.belongs home.now seat.new }
     ensures held { H.held seat.new ≡ H.held seat.old }
 {
-    let begun = clock.fetch_add(1, Ordering::SeqCst);
+    let begun = rounds.clock.fetch_add(1, Ordering::SeqCst);
     let reply = serve_zero(home, rt, seat, request);
-    let answered = clock.fetch_add(1, Ordering::SeqCst);
-    told.tell(request, begun, answered, reply)?;
+    let answered = rounds.clock.fetch_add(1, Ordering::SeqCst);
+    rounds.told.tell(request, begun, answered, reply)?;
     Ok(())
 }
 
@@ -79,8 +78,7 @@ pub(crate) fn lose_exchange<H: Home, R: Wait>(
     home: &H,
     rt: &R,
     seat: &mut H::Seat,
-    clock: &AtomicU64,
-    told: &mut Told,
+    rounds: &mut Rounds,
 ) -> Result<(), SoakFault>
     requires own { H.belongs home.now seat.old }
     requires all { H.held seat.old ≡ below (H.opening home.now).requesters }
@@ -90,7 +88,7 @@ pub(crate) fn lose_exchange<H: Home, R: Wait>(
 {
     let mut one = [0; 16];
     one[0] = 1;
-    serve_told(home, rt, seat, &first_granule(ADD, one), clock, told)?;
+    serve_told(home, rt, seat, &first_granule(ADD, one), rounds)?;
     serve_zero(home, rt, seat, &first_granule(ADD, [0xff; 16]));
-    serve_told(home, rt, seat, &first_granule(READ, [0; 16]), clock, told)
+    serve_told(home, rt, seat, &first_granule(READ, [0; 16]), rounds)
 }

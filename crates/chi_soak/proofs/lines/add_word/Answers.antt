@@ -1,7 +1,7 @@
 -- the parts are the text
 use Rattle.std.proofs.Common.{append_assoc, append-nil}
 use Rattle.chi_soak.specs.Line.{granule_text}
-use Rattle.chi_soak.proofs.lines.add_granule.Goals as goal
+use Rattle.chi_soak.proofs.lines.add_word.Goals as goal
 
 pub returns : goal.returns
 unfolding granule_text
