@@ -12,6 +12,7 @@ import subprocess
 import sys
 import tempfile
 import threading
+from collections import Counter
 from concurrent.futures import ThreadPoolExecutor
 from typing import NamedTuple
 
@@ -92,6 +93,12 @@ def size_of(folder):
     return sum(os.path.getsize(it) for ending in ("rt", "antt") for it in glob.glob(f"{folder}/[sp]*/**/*.{ending}", recursive=True))
 
 
+def turns_of(edits):
+    """Returns how many checks, one after another, edits of a crate take at least."""
+    functions = Counter(it.function for it in edits if it.is_of_body)
+    return max(functions.values(), default=0) + sum(not it.is_of_body for it in edits)
+
+
 class Crate:
     """A crate whose libraries are built, and the edits of it."""
 
@@ -152,8 +159,8 @@ class Crate:
 
 
 class Trials:
-    """The edits of a repository's crates, tried while rt ci runs: those of a crate once that is proved, where few provers run, and the
-    largest crate first."""
+    """The edits of a repository's crates, tried while rt ci runs: those of a crate once that is proved, where few provers run, and those
+    first that take longest, by the size of the crate and the checks that follow one another."""
 
     def __init__(self, root, edits):
         self.root, self.edits, self.rtlib = root, edits, kit()
@@ -162,7 +169,7 @@ class Trials:
         self.most = self.processors + self.processors // 2
         self.pool, self.begun = ThreadPoolExecutor(max(1, len(edits))), {}
         self.door, self.stopped, self.waiting, self.trying = threading.Lock(), threading.Event(), set(), set()
-        self.sizes = {it: size_of(f"{root}/crates/{it}") for it in edits}
+        self.work = {it: size_of(f"{root}/crates/{it}") * turns_of(edits[it]) for it in edits}
         # its first call sets a signal's handler, which only the main thread may
         self.rtlib.guarded()
 
@@ -175,7 +182,7 @@ class Trials:
     def may_begin(self, crate):
         """Whether it is the crate's turn, which then has come."""
         with self.door:
-            is_first = crate == max(self.waiting, key=self.sizes.get)
+            is_first = crate == max(self.waiting, key=self.work.get)
             if not is_first or len(self.trying) + provers_of(self.root) >= self.most:
                 return False
             self.waiting.discard(crate)
