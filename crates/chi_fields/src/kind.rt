@@ -66,9 +66,13 @@ pub enum Kind {
 impl Kind {
     ghost use Rattle.chi_fields.specs.Opcode.{kind_name};
 
-    /// The name of the kind's opcode, as `AtomicLoad.ADD`.
+    /// The name of the kind's opcode.
     ///
     /// Source: profile.
+    ///
+    /// ```
+    /// let name = Kind::Load(Op::Add).name(); // AtomicLoad.ADD
+    /// ```
     pub fn name(self) -> &'static str
         ensures { result.now ≡ kind_name (Some self) }
     {
