@@ -92,9 +92,10 @@ install: build checker lib
 dist: build checker lib
 	rm -rf "$(DIST)"
 	$(MAKE) -s -o build -o checker -o lib install DESTDIR= PREFIX="$(CURDIR)/$(DIST)"
-	install -d "$(DIST)/c"
+	install -d "$(DIST)/c" "$(DIST)/dv"
 	cp -r README.md CHANGELOG.md SECURITY.md docs examples "$(DIST)"
 	cp c/fetch_add.c "$(DIST)/c"
+	cp dv/tb.sv dv/home_node.sv "$(DIST)/dv"
 	tar -C out/dist -czf "$(DIST).tar.gz" "$(notdir $(DIST))"
 
 bench: build
