@@ -5,9 +5,13 @@ import os
 import re
 from typing import NamedTuple
 
-# The heads of a function and of an implementation, as rt fmt lays them out.
-FUNCTION = re.compile(r"^( *)(?:pub(?:\([^)]*\))? )?(?:const )?(?:unsafe )?(?:extern \"C\" )?fn (\w+)")
+# The heads of a function, of an implementation, and of what else may hold functions, as rt fmt lays them out.
+FUNCTION = re.compile(r"^( *)(?:pub(?:\([^)]*\))? )?(const )?(?:unsafe )?(?:extern \"C\" )?fn (\w+)")
 OWNER = re.compile(r"impl(?:<.*?>)? (?:(?:\w+::)*(\w+)(?:<(?:\w+::)*(\w+)>)? for )?(?:\w+::)*(\w+)")
+TYPE = re.compile(r"^(?:pub(?:\([^)]*\))? )?(?:struct|enum) (\w+)", re.M)
+ITEM = re.compile(r"(?:pub(?:\([^)]*\))? )?(?:unsafe )?(?:impl|trait|mod|macro_rules!)\b")
+# A function that a trait, a macro or a module within a file holds has no path that its text tells.
+WITHIN = "    "
 
 
 class Edit(NamedTuple):
@@ -15,10 +19,20 @@ class Edit(NamedTuple):
     crate: str
     # each file that it changes, as it leaves it
     texts: dict
-    # the function that it turns, by the end of its path: the one whose body has all of the change, or else the one of its name
+    # the function that it turns, by its path: the one whose body has all of the change, or else the one of its name
     function: str | None
     # whether one body has all of the change
     is_of_body: bool
+
+
+class Function(NamedTuple):
+    """A function in a file: its path, the line of its head, that with the brace before its body, and its last."""
+
+    path: str
+    head: int
+    brace: int
+    last: int
+    is_const: bool
 
 
 class Change(NamedTuple):
@@ -66,54 +80,59 @@ def change_of(text, changed):
     return Change(begin, len(text) - after, changed[begin : len(changed) - after])
 
 
-def end_of(lines, at, indent):
-    """Returns the line at which a function ends."""
-    return next((it for it in range(at + 1, len(lines)) if lines[it] == indent + "}"), at)
+def body_of(lines, head, indent):
+    """Returns the line with the brace before a function's body, and the function's last line."""
+    heads = (f"{indent}{{", f"{indent}) ", lines[head])
+    at = next(it for it in range(head, len(lines)) if lines[it].endswith(("{", "{}")) and lines[it].startswith(heads))
+    return at, at if lines[at].endswith("{}") else lines.index(f"{indent}}}", at)
 
 
-def path_of(lines, at, module):
-    """Returns the function whose head is a line, by its type or its module and its name."""
-    head = FUNCTION.match(lines[at])
-    if not head[1]:
-        return f"{module}::{head[2]}"
-    owner = OWNER.match(next(it for it in reversed(lines[:at]) if it.startswith("impl")))
-    return f"{owner[3]}{owner[1] or ''}{owner[2] or ''}::{head[2]}"
+def module_of(path, crate):
+    """Returns the path of a file's module."""
+    names = path.removeprefix("src/").removesuffix(".rt").split("/")
+    return "::".join([crate] if names in (["lib"], ["main"]) else [crate, *names])
 
 
-def function_around(text, change, module):
-    """Returns the function whose body has all of a change, or nothing."""
-    lines = text.split("\n")
-    first, last = text.count("\n", 0, change.begin), text.count("\n", 0, change.end)
-    at = next((at for at in range(first, -1, -1) if FUNCTION.match(lines[at])), None)
-    is_within = at is not None and at < first and last <= end_of(lines, at, FUNCTION.match(lines[at])[1])
-    return path_of(lines, at, module) if is_within else None
+def sources(folder):
+    """Returns the text of each file of a crate's code, by its path."""
+    files = sorted(glob.glob(f"{folder}/src/**/*.rt", recursive=True))
+    return {os.path.relpath(it, folder): text_of(it) for it in files}
 
 
-def module_of(path, folder):
-    """Returns the name of a file's module, and of the crate for its root."""
-    module = path.removeprefix("src/").removesuffix(".rt").replace("/", "::")
-    return os.path.basename(folder) if module in ("lib", "main") else module
+def functions_of(texts, crate):
+    """Returns the functions in files of a crate, by the file, but those within traits, macros and modules of a file. A method of a type
+    itself stands in the type's module, and one of a trait in that of its file."""
+    modules = {it: module_of(path, crate) for path, text in texts.items() for it in TYPE.findall(text)}
+    found = {}
+    for path, text in texts.items():
+        lines, found[path], item = text.split("\n"), [], ""
+        for at, line in enumerate(lines):
+            item = line if ITEM.match(line) else item
+            head, owner = FUNCTION.match(line), OWNER.match(item.removeprefix("unsafe "))
+            if head and (not head[1] or owner and head[1] == WITHIN):
+                names = [module_of(path, crate), head[3]]
+                if head[1]:
+                    module = names[0] if owner[1] else modules.get(owner[3], names[0])
+                    names = [module, f"{owner[3]}{owner[1] or ''}{owner[2] or ''}", head[3]]
+                found[path].append(Function("::".join(names), at, *body_of(lines, at, head[1]), bool(head[2])))
+    return found
 
 
-def turned_by(texts, folder):
-    """Returns the function that these changes lie in, where it is one."""
+def turned_by(texts, functions, folder):
+    """Returns the function whose body has all of these changes, where it is one."""
     if len(texts) != 1:
         return None
     ((path, changed),) = texts.items()
     text = text_of(f"{folder}/{path}")
-    return function_around(text, change_of(text, changed), module_of(path, folder))
+    change = change_of(text, changed)
+    first, last = text.count("\n", 0, change.begin), text.count("\n", 0, change.end)
+    return next((it.path for it in functions[path] if it.head < first and last <= it.last), None)
 
 
-def named(name, texts, folder):
+def named(name, texts, functions):
     """Returns the function of this name in the files of a crate that are changed, or else in any of its files, where it is one."""
-    files = sorted(os.path.relpath(it, folder) for it in glob.glob(f"{folder}/src/**/*.rt", recursive=True))
-    for them in (texts, files):
-        found = []
-        for path in them:
-            lines = text_of(f"{folder}/{path}").split("\n")
-            heads = ((at, FUNCTION.match(it)) for at, it in enumerate(lines))
-            bodies = (at for at, head in heads if head and head[2] == name and end_of(lines, at, head[1]) > at)
-            found += [path_of(lines, at, module_of(path, folder)) for at in bodies]
+    for files in (texts, functions):
+        found = [it.path for file in files for it in functions[file] if it.path.rsplit("::", 1)[1] == name]
         if len(found) == 1:
             return found[0]
     return None
@@ -122,8 +141,9 @@ def named(name, texts, folder):
 def read_edit(file, folder):
     """Returns an edit of the crate in a folder, or raises ValueError where it fits no more."""
     name, texts = os.path.basename(file), changed_by(file, folder)
-    turned = turned_by(texts, folder)
-    function = turned or named(name.split(".")[0][3:], texts, folder)
+    functions = functions_of(sources(folder), os.path.basename(folder))
+    turned = turned_by(texts, functions, folder)
+    function = turned or named(name.split(".")[0][3:], texts, functions)
     return Edit(name, os.path.basename(folder), texts, function, turned is not None)
 
 

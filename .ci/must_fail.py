@@ -1,8 +1,9 @@
 """Tries edits that the prover has to refuse: those of a crate that turn different functions are tried in one check.
 
-An edit is refused where the function that it turns is not proved, for a goal of its own: that a function which it calls is not
-proved does not count. In the same check each function that no edit turns has to be proved, but for those that call one that is
-not. An edit whose change lies in no one body is tried alone: the function of its name has to be refused."""
+In such a check each other function of the crate is taken by its contract, so that little has to be proved. An edit is refused
+where the function that it turns is not proved, for a goal of its own: that a function which it calls is not proved does not count.
+An edit whose change lies in no one body is tried alone: the function of its name has to be refused. Where it is asked for, it is
+seen first that each of these functions is proved in the same surroundings with its own body."""
 
 import glob
 import os
@@ -16,13 +17,17 @@ from collections import Counter
 from concurrent.futures import ThreadPoolExecutor
 from typing import NamedTuple
 
+from assumed import assume_all_but, changed_in
 from edit import applied
 from watch import provers_of
 
 VERDICT = re.compile(r"fn (\S+): (.*)$")
+# The verdicts of a function that is proved, where what it calls may be taken by its contract.
+PROVED = ("proved", "no holes", "depends on a hole in ")
 # A goal that is open, above the verdict of its function.
 OPEN = re.compile(r"note: src/\S+ it is not proved that ")
 CALLS = re.compile(r"(?:^|; |: )it calls `.*$")
+STANDS = re.compile(r"; it stands on `.*`, which antt refuses$")
 # A proof file that names what an edit took away: that says little of the contract.
 NAMES = re.compile(r"has no field|is not in scope|has no `|was not admitted")
 # A run of the prover that came to its verdict ends so.
@@ -60,9 +65,9 @@ def verdicts_of(said):
 
 def own_reason(path, verdict, goals, said):
     """Returns why a function is not proved, beside what it calls, or nothing."""
-    if verdict.startswith("proved"):
+    if verdict.startswith(PROVED):
         return ""
-    reason = CALLS.sub("", verdict)
+    reason = STANDS.sub("", CALLS.sub("", verdict))
     if reason not in ("no proof", "not proved"):
         return reason
     # what its proof file has was refused, where that is not for what an edit took away
@@ -106,47 +111,62 @@ class Crate:
         self.rtlib = rtlib
         self.crate = next(it for it in rtlib.crates_below(root) if it.name == name)
 
-    def check(self, edits, kept):
-        """Checks a copy of the crate with these edits, over what is kept: what the prover says, and its status."""
-        words = [*self.crate.words(["--jobs", "1"], keeps=False), "--incremental", kept]
-        if all(it.function for it in edits):
-            for it in edits:
-                words += ["--only", it.function]
+    def check(self, functions, edits, kept):
+        """Checks some functions in a copy of the crate with these edits, over what is kept, if anything is. The others are taken by their
+        contracts, but those that the edits change; where no function is named, the whole copy is checked. Returns what the prover says
+        where it came to a verdict, or else its first line, and whether it did."""
+        words = [*self.crate.words(["--jobs", "1"], keeps=False), *(["--incremental", kept] if kept else [])]
+        texts = applied(edits, self.crate.folder)
         with tempfile.TemporaryDirectory(prefix="must-fail-") as room:
             for part in ("src", "specs", "proofs"):
                 if os.path.isdir(f"{self.crate.folder}/{part}"):
                     shutil.copytree(f"{self.crate.folder}/{part}", f"{room}/{part}")
-            for path, text in applied(edits, self.crate.folder).items():
+            for path, text in texts.items():
                 with open(f"{room}/{path}", "w", encoding="utf-8") as file:
                     file.write(text)
+            if functions:
+                assume_all_but({*functions} | changed_in(self.crate.folder, texts), room, self.crate.name)
+                words += ["--allow-holes", *(word for it in functions for word in ("--only", it))]
             how = {"stdin": subprocess.DEVNULL, "stdout": subprocess.PIPE, "stderr": subprocess.STDOUT, "text": True, "errors": "replace"}
             ran = subprocess.run(["nice", *self.rtlib.guarded(), self.rtlib.RATTLE, "check", *words], cwd=room, **how)
-        return ran.stdout, ran.returncode
+        lines = ran.stdout.rstrip("\n").split("\n")
+        has_ended = bool(ENDED.match(lines[-1])) and ran.returncode in (0, 1)
+        return ran.stdout if has_ended else lines[0], has_ended
 
     def try_alone(self, edit, kept):
-        said, status = self.check([edit], kept)
-        lines, why = said.rstrip("\n").split("\n"), reason_of(edit, reasons_of(said))
-        if not ENDED.match(lines[-1]):
-            return Tried(edit, False, f"BAD EDIT: it did not reach the prover: {lines[0]}")
-        if status == 1 and why:
-            return Tried(edit, True, why)
-        return Tried(edit, False, f"NOT REFUSED for a goal of its own: {lines[0]}" if status else "NOT REFUSED: it is proved")
+        said, has_ended = self.check([edit.function] if edit.function else [], [edit], kept)
+        if not has_ended:
+            return Tried(edit, False, f"BAD EDIT: it did not reach the prover: {said}")
+        why = reason_of(edit, reasons_of(said))
+        return Tried(edit, bool(why), why or "NOT REFUSED for a goal of its own")
 
     def try_together(self, edits, kept):
         """Tries edits of different functions in one check. Returns those that are refused, and those to be tried once more."""
-        said, status = self.check(edits, kept)
-        reasons = reasons_of(said)
+        said, has_ended = self.check([it.function for it in edits], edits, kept)
+        reasons = reasons_of(said) if has_ended else {}
         tried = [Tried(it, True, reason_of(it, reasons)) for it in edits]
-        others = [it for it in reasons if not any(is_function(it, edit.function) for edit in edits)]
-        if status != 1 or others:
+        if any(all(not is_function(path, it.function) for it in edits) for path in reasons):
             return [], edits
         return [it for it in tried if it.why], [it.edit for it in tried if not it.why]
 
-    def try_all(self, edits):
-        """Tries edits of the crate, and says of each whether it is refused."""
-        tried, left = [], [it for it in edits if it.is_of_body]
-        alone = [it for it in edits if not it.is_of_body]
+    def not_proved(self, edits, kept):
+        """Returns why functions that edits turn are not proved as they stand, by the function: such an edit shows nothing."""
+        functions = sorted({it.function for it in edits if it.function})
+        said, has_ended = self.check(functions, [], kept) if functions else ("", True)
+        if not has_ended:
+            return dict.fromkeys(functions, said)
+        reasons = reasons_of(said)
+        return {it: why for it in functions for path, why in reasons.items() if is_function(path, it)}
+
+    def try_all(self, edits, are_seen_to_prove):
+        """Tries edits of the crate, and says of each whether it is refused; perhaps once it is seen that what they turn is proved."""
         with tempfile.TemporaryDirectory(prefix="must-fail-kept-") as kept:
+            # to keep what is checked takes time itself, which one check alone would not win back
+            kept = kept if are_seen_to_prove or turns_of(edits) > 1 else None
+            broken = self.not_proved(edits, kept) if are_seen_to_prove else {}
+            tried = [Tried(it, False, f"NOT TRIED, since it is not proved as it stands: {broken[it.function]}") for it in edits if it.function in broken]
+            edits = [it for it in edits if it.function not in broken]
+            left, alone = [it for it in edits if it.is_of_body], [it for it in edits if not it.is_of_body]
             while left:
                 turn = [*{it.function: it for it in reversed(left)}.values()]
                 refused, again = self.try_together(turn, kept) if len(turn) > 1 else ([], turn)
@@ -162,8 +182,8 @@ class Trials:
     """The edits of a repository's crates, tried while rt ci runs: those of a crate once that is proved, where few provers run, and those
     first that take longest, by the size of the crate and the checks that follow one another."""
 
-    def __init__(self, root, edits):
-        self.root, self.edits, self.rtlib = root, edits, kit()
+    def __init__(self, root, edits, are_seen_to_prove=False):
+        self.root, self.edits, self.rtlib, self.are_seen_to_prove = root, edits, kit(), are_seen_to_prove
         self.processors = len(os.sched_getaffinity(0))
         # so many provers may run, those of rt ci among them
         self.most = self.processors + self.processors // 2
@@ -194,7 +214,7 @@ class Trials:
             if self.stopped.wait(0.5):
                 return []
         try:
-            return Crate(self.root, crate, self.rtlib).try_all(self.edits[crate])
+            return Crate(self.root, crate, self.rtlib).try_all(self.edits[crate], self.are_seen_to_prove)
         finally:
             self.trying.discard(crate)
 
