@@ -6,7 +6,7 @@ use crate::check::MOST_BYTES;
 use crate::meter::{Meter, Used};
 use crate::pages::Pages;
 use crate::sources::Sources;
-use chi_script::{InputFault, read_input};
+use chi_json::{InputFault, read_input};
 use std::alloc::Global;
 use std::fs;
 use std::rt::Files;

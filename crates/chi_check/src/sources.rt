@@ -3,7 +3,7 @@
 ghost use Rattle.std.specs.Prelude.{◌≤◌, length, IfOk};
 ghost use Rattle.chi_check.specs.Check.{most_bytes};
 
-use chi_script::InputFault;
+use chi_json::InputFault;
 use std::alloc::Global;
 
 /// What reads files whole.

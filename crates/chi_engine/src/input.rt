@@ -5,7 +5,8 @@ ghost use Rattle.chi_history.specs.NumberSets.{AllFrom, below};
 ghost use Rattle.chi_engine.specs.Engine.{IsInputFault, Yields};
 
 use crate::fault::EngineFault;
-use chi_script::{InputFault, Script, read_input, read_script};
+use chi_json::{InputFault, read_input};
+use chi_script::{Script, read_script};
 use std::alloc::Global;
 use std::io::Read;
 

@@ -4,13 +4,16 @@ use Rattle.std.specs.Option.{ok_or}
 use Rattle.std.specs.Str.{bytes_eq}
 use Rattle.serde_json.specs.Data.{Data}
 use Rattle.serde_json.specs.Find.{as_bool, as_object, as_str, get}
-use Rattle.chi_script.specs.declared.fault.ScriptFault.{ScriptFault}
-use Rattle.chi_script.specs.declared.fault.ScriptFault.TheVariants as script_fault
-use Rattle.chi_script.specs.declared.member.Member.{Member}
-use Rattle.chi_script.specs.declared.member.Member.TheVariants as name
-use Rattle.chi_script.specs.Member.{member_name}
-use Rattle.chi_script.specs.Script.{◌>>=◌, hex_bytes, json_value, member_by, number_of}
-use Rattle.chi_reading.specs.Faults.{faultless, or_else}
+use Rattle.chi_json.specs.declared.member.MemberFault.{MemberFault}
+use Rattle.chi_json.specs.declared.member.MemberFault.TheVariants as member_fault
+use Rattle.chi_json.specs.declared.text.TextFault.{TextFault}
+use Rattle.chi_json.specs.declared.text.TextFault.TheVariants as no_value
+use Rattle.chi_json.specs.Members.{◌>>=◌, member_by, number_of, or_else}
+use Rattle.chi_json.specs.Values.{hex_bytes, json_value}
+use Rattle.chi_reading.specs.declared.member.Member.{Member}
+use Rattle.chi_reading.specs.declared.member.Member.TheVariants as name
+use Rattle.chi_reading.specs.Member.{member_name}
+use Rattle.chi_reading.specs.Faults.{faultless}
 use Rattle.chi_reading.specs.Requests.{asked_of, fields_of, seen_of}
 use Rattle.chi_reading.specs.Told.{start_of, word_of as granule_word}
 use Rattle.chi_reading.specs.Unknown.{unknown_in}
@@ -25,15 +28,16 @@ use Rattle.chi_event_text.specs.declared.fault.LineFault.TheVariants.{NotJson, N
 use Rattle.chi_event_text.specs.declared.kind.LineKind.{LineKind}
 use Rattle.chi_event_text.specs.declared.kind.LineKind.TheVariants as line
 
--- a fault of the walk as a line's: the members of an event have no fault of a list of requests or of a region
-abbrev pub as_line : ScriptFault → LineFault
-as_line script_fault.NotJson = NotJson
-as_line script_fault.NotObject = NotObject
-as_line (script_fault.Missing m) = Missing m
-as_line (script_fault.BadMember m) = BadMember m
-as_line script_fault.TooManyRequests = BadMember name.Requests
-as_line (script_fault.RegionRefused fault) = BadMember name.Base
-as_line script_fault.Memory = Memory
+-- why a text has no value, as the line's fault
+abbrev pub text_as_line : TextFault → LineFault
+text_as_line no_value.NotJson = NotJson
+text_as_line no_value.Memory = Memory
+
+-- a fault of a member, as the line's
+abbrev pub as_line : MemberFault Member → LineFault
+as_line (member_fault.Missing m) = Missing m
+as_line (member_fault.BadMember m) = BadMember m
+as_line member_fault.Memory = Memory
 
 -- ---- kinds
 
@@ -63,9 +67,9 @@ members_of line.Unknown = name.Event ∷ name.Time ∷ name.Addr ∷ name.Length
 -- ---- what is told
 
 -- a request: with its data where `be` or `lanes` is there, and then both have to be
-unfoldable pub requested_of : Data → Result Requested ScriptFault
+unfoldable pub requested_of : Data → Result Requested (MemberFault Member)
 requested_of d = do
-  id ← number_of name.Id (2 ^ 64 - 1) d
+  id ← number_of member_name name.Id (2 ^ 64 - 1) d
   asked ← if has_data then asked_of d else fields_of d
   Ok (record { id = id; asked = asked; has_data = has_data })
   where
@@ -73,46 +77,46 @@ requested_of d = do
     has_data = is_some (get (member_name name.Be) d) || is_some (get (member_name name.Lanes) d)
 
 -- its data
-unfoldable pub packet_of : Data → Result Packet ScriptFault
+unfoldable pub packet_of : Data → Result Packet (MemberFault Member)
 packet_of d = do
-  id ← number_of name.Id (2 ^ 64 - 1) d
-  be ← number_of name.Be 65535 d
-  lanes ← member_by name.Lanes (hex_bytes 16) d
+  id ← number_of member_name name.Id (2 ^ 64 - 1) d
+  be ← number_of member_name name.Be 65535 d
+  lanes ← member_by member_name name.Lanes (hex_bytes 16) d
   Ok (record { id = id; be = be; lanes = lanes })
 
 -- its completion
-unfoldable pub completion_of : Data → Result Completion ScriptFault
+unfoldable pub completion_of : Data → Result Completion (MemberFault Member)
 completion_of d = do
-  id ← number_of name.Id (2 ^ 64 - 1) d
-  reply ← member_by name.Reply seen_of d
+  id ← number_of member_name name.Id (2 ^ 64 - 1) d
+  reply ← member_by member_name name.Reply seen_of d
   Ok (record { id = id; reply = reply })
 
 -- whether a word is one at the end, by the member `final`
-abbrev pub final_by : Option Data → Result Bool ScriptFault
+abbrev pub final_by : Option Data → Result Bool (MemberFault Member)
 final_by None = Ok false
-final_by (Some d) = ok_or (as_bool d) (script_fault.BadMember name.Final)
+final_by (Some d) = ok_or (as_bool d) (member_fault.BadMember name.Final)
 
 -- a word, before the first request of its granule or after the last
-unfoldable pub word_of : Data → Result EventKind ScriptFault
+unfoldable pub word_of : Data → Result EventKind (MemberFault Member)
 word_of d = do
-  addr ← member_by name.Addr start_of d
-  word ← member_by name.Bytes granule_word d
+  addr ← member_by member_name name.Addr start_of d
+  word ← member_by member_name name.Bytes granule_word d
   is_final ← final_by (get (member_name name.Final) d)
   Ok ((if is_final then kind.Final else kind.Word) (record { granule = addr / 8; word = word }))
 
 -- bytes of which nothing is known
-unfoldable pub unknown_of : Data → Result EventKind ScriptFault
+unfoldable pub unknown_of : Data → Result EventKind (MemberFault Member)
 unknown_of d = do
-  addr ← number_of name.Addr (2 ^ 64 - 1) d
-  length ← number_of name.Length 4096 d
-  if nat_le 1 length && nat_le (addr + length) (2 ^ 52) then Ok (kind.Unknown addr length) else Err (script_fault.BadMember name.Length)
+  addr ← number_of member_name name.Addr (2 ^ 64 - 1) d
+  length ← number_of member_name name.Length 4096 d
+  if nat_le 1 length && nat_le (addr + length) (2 ^ 52) then Ok (kind.Unknown addr length) else Err (member_fault.BadMember name.Length)
 
 -- what a line of a kind tells
-unfoldable pub told_of : LineKind → Data → Result EventKind ScriptFault
+unfoldable pub told_of : LineKind → Data → Result EventKind (MemberFault Member)
 told_of line.Request d = requested_of d >>= λ r. Ok (kind.Request r)
 told_of line.Data d = packet_of d >>= λ p. Ok (kind.Data p)
 told_of line.Reply d = completion_of d >>= λ c. Ok (kind.Reply c)
-told_of line.Dropped d = number_of name.Id (2 ^ 64 - 1) d >>= λ id. Ok (kind.Dropped id)
+told_of line.Dropped d = number_of member_name name.Id (2 ^ 64 - 1) d >>= λ id. Ok (kind.Dropped id)
 told_of line.Word d = word_of d
 told_of line.Unknown d = unknown_of d
 
@@ -121,7 +125,7 @@ unfoldable pub event_text : List ℕ → Result Event LineFault
 event_text text = do
   d ← ok_or (json_value text) NotJson
   members ← ok_or (as_object d) NotObject
-  k ← or_else as_line (member_by name.Event kind_of d)
-  time ← or_else as_line (number_of name.Time (2 ^ 64 - 1) d)
+  k ← or_else as_line (member_by member_name name.Event kind_of d)
+  time ← or_else as_line (number_of member_name name.Time (2 ^ 64 - 1) d)
   told ← or_else as_line (told_of k d)
   faultless UnknownMember (unknown_in (members_of k) members) (record { time = time; kind = told })

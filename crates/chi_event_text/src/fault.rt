@@ -1,10 +1,10 @@
 //! Why a line is refused.
 
 ghost use Rattle.std.specs.Prelude.{◌≡◌};
-ghost use Rattle.chi_event_text.specs.EventText.{as_line};
+ghost use Rattle.chi_event_text.specs.EventText.{as_line, text_as_line};
 
-use chi_reading::MemberName;
-use chi_script::{Member, ScriptFault};
+use chi_json::{MemberFault, TextFault};
+use chi_reading::{Member, MemberName};
 use thiserror::Error;
 
 /// Why a line is refused: the first fault that its reading meets, or `Memory` where a growth is refused before.
@@ -33,19 +33,25 @@ pub enum LineFault {
     Memory,
 }
 
-impl From<ScriptFault> for LineFault {
+impl From<TextFault> for LineFault {
+    ghost from_gives = { λ fault result. result ≡ text_as_line fault };
+
+    fn from(fault: TextFault) -> LineFault {
+        match fault {
+            TextFault::NotJson => LineFault::NotJson,
+            TextFault::Memory => LineFault::Memory,
+        }
+    }
+}
+
+impl From<MemberFault<Member>> for LineFault {
     ghost from_gives = { λ fault result. result ≡ as_line fault };
 
-    // A line has no list of requests and no region, so that it has none of the faults of these.
-    fn from(fault: ScriptFault) -> LineFault {
+    fn from(fault: MemberFault<Member>) -> LineFault {
         match fault {
-            ScriptFault::NotJson => LineFault::NotJson,
-            ScriptFault::NotObject => LineFault::NotObject,
-            ScriptFault::Missing(member) => LineFault::Missing(member),
-            ScriptFault::BadMember(member) => LineFault::BadMember(member),
-            ScriptFault::TooManyRequests => LineFault::BadMember(Member::Requests),
-            ScriptFault::RegionRefused(_) => LineFault::BadMember(Member::Base),
-            ScriptFault::Memory => LineFault::Memory,
+            MemberFault::Missing(member) => LineFault::Missing(member),
+            MemberFault::BadMember(member) => LineFault::BadMember(member),
+            MemberFault::Memory => LineFault::Memory,
         }
     }
 }

@@ -3,7 +3,7 @@
 ghost use Rattle.std.specs.Prelude.{◌≡◌};
 ghost use Rattle.chi_event_text.specs.EventText.{kind_named, members_of};
 
-use chi_script::Member;
+use chi_reading::Member;
 
 /// What the member `event` of a line may name. A `Word` is of a granule before its first request, or after its last where
 /// its member `final` says so.

@@ -2,25 +2,26 @@
 
 ghost use Rattle.std.specs.Prelude.{◌≡◌, ◌≢◌, IfErr, IfOk, Ok, Err};
 ghost use Rattle.serde_json.specs.View.{view};
-ghost use Rattle.chi_script.specs.Script.{member_by};
+ghost use Rattle.chi_json.specs.Members.{member_by};
+ghost use Rattle.chi_reading.specs.Member.{member_name};
 ghost use Rattle.chi_event_text.specs.EventText.{event_text, kind_of};
 
 use crate::fault::LineFault;
 use crate::kind::LineKind;
 use crate::told::{stated, told};
 use chi_events::Event;
-use chi_reading::unknown_member;
-use chi_script::{Member, ScriptFault, json, number};
+use chi_json::{MemberFault, json, number};
+use chi_reading::{Member, unknown_member};
 use serde_json::Value;
 use std::alloc::Global;
 
 /// The kind that a line names.
-fn kind_told(object: &Value) -> Result<LineKind, ScriptFault>
-    ensures { result ≡ member_by Member.Event kind_of (view object.now) }
+fn kind_told(object: &Value) -> Result<LineKind, MemberFault<Member>>
+    ensures { result ≡ member_by member_name Member.Event kind_of (view object.now) }
 {
     let name = stated(object, Member::Event)?.as_str();
     name.and_then(LineKind::named)
-        .ok_or(ScriptFault::BadMember(Member::Event))
+        .ok_or(MemberFault::BadMember(Member::Event))
 }
 
 /// The event that a line tells, or the line's first fault.

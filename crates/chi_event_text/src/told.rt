@@ -5,32 +5,34 @@ ghost use Rattle.std.specs.Option.{ok_or};
 ghost use Rattle.std.specs.Result.{result_map_both};
 ghost use Rattle.serde_json.specs.Find.{get};
 ghost use Rattle.serde_json.specs.View.{view};
+ghost use Rattle.chi_json.specs.Members.{member_by};
+ghost use Rattle.chi_reading.specs.Member.{member_name};
 ghost use Rattle.chi_reading.specs.Requests.{seen_of};
 ghost use Rattle.chi_reading.specs.Told.{start_of, word_of as granule_word};
-ghost use Rattle.chi_script.specs.Member.{member_name};
-ghost use Rattle.chi_script.specs.Script.{member_by};
 ghost use Rattle.chi_event_text.specs.EventText.{completion_of, final_by, packet_of, requested_of, told_of, unknown_of, word_of};
 
 use crate::kind::LineKind;
 use chi_events::{Completion, EventKind, Packet, Requested};
+use chi_json::{MemberFault, number};
 use chi_lanes::Reply;
-use chi_reading::{granule_start, granule_word, lanes, request_asked, request_fields, seen_reply};
-use chi_script::{Member, ScriptFault, number};
+use chi_reading::{
+    Member, granule_start, granule_word, lanes, request_asked, request_fields, seen_reply,
+};
 use chi_verdict::GranuleWord;
 use serde_json::Value;
 
 /// The value of a member.
-pub(crate) fn stated(object: &Value, member: Member) -> Result<&Value, ScriptFault>
-    ensures { result_map_both (λ value. view value.now) (λ fault. fault) result ≡ ok_or (get (member_name member) (view object.now)) (ScriptFault.Missing member) }
+pub(crate) fn stated(object: &Value, member: Member) -> Result<&Value, MemberFault<Member>>
+    ensures { result_map_both (λ value. view value.now) (λ fault. fault) result ≡ ok_or (get (member_name member) (view object.now)) (MemberFault.Missing member) }
 {
     object
         .get(member.name())
-        .ok_or(ScriptFault::Missing(member))
+        .ok_or(MemberFault::Missing(member))
 }
 
 /// A request, with its data where `be` and `lanes` are there.
 #[tactic(auto, unfolding(crate::specs::EventText::requested_of))]
-fn requested(object: &Value) -> Result<Requested, ScriptFault>
+fn requested(object: &Value) -> Result<Requested, MemberFault<Member>>
     ensures { result ≡ requested_of (view object.now) }
 {
     let id = number(object, Member::Id, u64::MAX)?;
@@ -50,7 +52,7 @@ fn requested(object: &Value) -> Result<Requested, ScriptFault>
 
 /// The data of a request.
 #[tactic(auto, unfolding(crate::specs::EventText::packet_of))]
-fn packet(object: &Value) -> Result<Packet, ScriptFault>
+fn packet(object: &Value) -> Result<Packet, MemberFault<Member>>
     ensures { result ≡ packet_of (view object.now) }
 {
     let id = number(object, Member::Id, u64::MAX)?;
@@ -64,16 +66,16 @@ fn packet(object: &Value) -> Result<Packet, ScriptFault>
 }
 
 /// What was answered, in the member `reply`.
-fn reply(object: &Value) -> Result<Option<Reply>, ScriptFault>
-    ensures { result ≡ member_by Member.Reply seen_of (view object.now) }
+fn reply(object: &Value) -> Result<Option<Reply>, MemberFault<Member>>
+    ensures { result ≡ member_by member_name Member.Reply seen_of (view object.now) }
 {
     let value = stated(object, Member::Reply)?;
-    seen_reply(value).ok_or(ScriptFault::BadMember(Member::Reply))
+    seen_reply(value).ok_or(MemberFault::BadMember(Member::Reply))
 }
 
 /// The completion of a request.
 #[tactic(auto, unfolding(crate::specs::EventText::completion_of))]
-fn completion(object: &Value) -> Result<Completion, ScriptFault>
+fn completion(object: &Value) -> Result<Completion, MemberFault<Member>>
     ensures { result ≡ completion_of (view object.now) }
 {
     let id = number(object, Member::Id, u64::MAX)?;
@@ -82,23 +84,23 @@ fn completion(object: &Value) -> Result<Completion, ScriptFault>
 }
 
 /// The address of a granule, in the member `addr`.
-fn start(object: &Value) -> Result<u64, ScriptFault>
-    ensures { result ≡ member_by Member.Addr start_of (view object.now) }
+fn start(object: &Value) -> Result<u64, MemberFault<Member>>
+    ensures { result ≡ member_by member_name Member.Addr start_of (view object.now) }
 {
     let value = stated(object, Member::Addr)?;
-    granule_start(value).ok_or(ScriptFault::BadMember(Member::Addr))
+    granule_start(value).ok_or(MemberFault::BadMember(Member::Addr))
 }
 
 /// The word of a granule, in the member `bytes`.
-fn bytes(object: &Value) -> Result<u64, ScriptFault>
-    ensures { result ≡ member_by Member.Bytes granule_word (view object.now) }
+fn bytes(object: &Value) -> Result<u64, MemberFault<Member>>
+    ensures { result ≡ member_by member_name Member.Bytes granule_word (view object.now) }
 {
     let value = stated(object, Member::Bytes)?;
-    granule_word(value).ok_or(ScriptFault::BadMember(Member::Bytes))
+    granule_word(value).ok_or(MemberFault::BadMember(Member::Bytes))
 }
 
 /// Whether a word is one at the end, by the member `final`. Where that is left out it is not.
-fn is_final(object: &Value) -> Result<bool, ScriptFault>
+fn is_final(object: &Value) -> Result<bool, MemberFault<Member>>
     ensures { result ≡ final_by (get (member_name Member.Final) (view object.now)) }
 {
     let Some(value) = object.get(Member::Final.name()) else {
@@ -106,13 +108,13 @@ fn is_final(object: &Value) -> Result<bool, ScriptFault>
     };
     match value.as_bool() {
         Some(is_final) => Ok(is_final),
-        None => Err(ScriptFault::BadMember(Member::Final)),
+        None => Err(MemberFault::BadMember(Member::Final)),
     }
 }
 
 /// The word of a granule, before its first request or after its last.
 #[tactic(auto, unfolding(crate::specs::EventText::word_of))]
-fn word(object: &Value) -> Result<EventKind, ScriptFault>
+fn word(object: &Value) -> Result<EventKind, MemberFault<Member>>
     ensures { result ≡ word_of (view object.now) }
 {
     let addr = start(object)?;
@@ -131,20 +133,20 @@ fn word(object: &Value) -> Result<EventKind, ScriptFault>
 
 /// The bytes that something else may have written: 1 to 4,096, at addresses below 2^52.
 #[tactic(auto, unfolding(crate::specs::EventText::unknown_of))]
-fn unknown(object: &Value) -> Result<EventKind, ScriptFault>
+fn unknown(object: &Value) -> Result<EventKind, MemberFault<Member>>
     ensures { result ≡ unknown_of (view object.now) }
 {
     let addr = number(object, Member::Addr, u64::MAX)?;
     let length = number(object, Member::Length, 4096)?;
     if length == 0 || addr > (1 << 52) - length {
-        return Err(ScriptFault::BadMember(Member::Length));
+        return Err(MemberFault::BadMember(Member::Length));
     }
     Ok(EventKind::Unknown { addr, length })
 }
 
 /// What a line of a kind tells, or the first fault of the members of that kind.
 #[tactic(auto, unfolding(crate::specs::EventText::told_of))]
-pub(crate) fn told(kind: LineKind, object: &Value) -> Result<EventKind, ScriptFault>
+pub(crate) fn told(kind: LineKind, object: &Value) -> Result<EventKind, MemberFault<Member>>
     ensures { result ≡ told_of kind (view object.now) }
 {
     match kind {

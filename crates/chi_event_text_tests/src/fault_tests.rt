@@ -2,8 +2,7 @@
 
 use crate::comparison::assert_fault;
 use chi_event_text::LineFault;
-use chi_reading::MemberName;
-use chi_script::Member;
+use chi_reading::{Member, MemberName};
 use std::process::Abort;
 use std::test::Fail;
 

@@ -3,8 +3,7 @@
 use crate::comparison::{assert_fault, assert_tells};
 use chi_event_text::LineFault;
 use chi_events::{EventKind, Requested};
-use chi_reading::Asked;
-use chi_script::Member;
+use chi_reading::{Asked, Member};
 
 #[test]
 fn requests_with_and_without_data(rt: HostRuntime) {

@@ -12,17 +12,18 @@ use Rattle.chi_fields.specs.declared.kind.Kind.{Kind}
 use Rattle.chi_fields.specs.declared.kind.Kind.TheVariants.{Read, Write, Store, Load, Swap, Compare}
 use Rattle.chi_fields.specs.declared.refusal.Refusal.TheVariants.{BadByteEnable, Misaligned, OutOfRegion, ReservedSize, SizeOutOfProfile}
 use Rattle.chi_fields.specs.declared.request.Request.{Request}
-use Rattle.chi_script.proofs.RequesterBounds.{at_ok, then_ok}
+use Rattle.chi_json.specs.Members.{or_else}
+use Rattle.chi_json.proofs.WalkLemmas.{at_ok, renamed, then_ok}
 use Rattle.chi_trace.specs.declared.observed.Observed.{Observed}
 use Rattle.chi_trace.specs.Explains.{IsObserved, at, nothing}
 use Rattle.chi_reading.specs.declared.asked.Asked.{Asked}
 use Rattle.chi_reading.specs.declared.stated.Stated.{Stated}
 use Rattle.chi_reading.specs.declared.fault.RequestFault.TheVariants.{EndsBeforeStart, Refused, Reply}
 use Rattle.chi_reading.specs.declared.fault.TraceFault.TheVariants.{InRequest, TooManyRequests}
-use Rattle.chi_reading.specs.Faults.{faultless, or_else}
+use Rattle.chi_reading.specs.Faults.{faultless}
 use Rattle.chi_reading.specs.Replies.{reply_fault}
 use Rattle.chi_reading.specs.Requests.{Completed, access_of, all_completed, completed_of, line_of, observed_of, request_of, stated_at}
-use Rattle.chi_reading.proofs.Faultless.{renamed, unless, value_of, without_fault}
+use Rattle.chi_reading.proofs.Faultless.{unless, value_of, without_fault}
 use Rattle.chi_reading.proofs.Packets.{HasPacket, IsPacket, stated_packet}
 use Rattle.chi_reading.proofs.RegionText.{region_lawful}
 

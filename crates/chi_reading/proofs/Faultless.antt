@@ -2,17 +2,12 @@
 use Rattle.std.proofs.Common.{◌≡◌, Bool, true, false, if◌then◌else◌, Option, Some, None, Result, Ok, Err, IfOk, IfSome, refl}
 use Rattle.std.specs.Option.{ok_or}
 use Rattle.std.specs.Result.{result_ok}
-use Rattle.chi_reading.specs.Faults.{faultless, or_else}
+use Rattle.chi_reading.specs.Faults.{faultless}
 
 -- after a test that is to fail
 pub unless : {A E : Type 0} (b : Bool) (e : E) (r : Result A E) (P : A → Type 0) → (b ≡ false → IfOk r P) → IfOk (if b then Err e else r) P
 unless true e r P h = tt
 unless false e r P h = h refl
-
--- where a fault has another name
-pub renamed : {A E D : Type 0} (f : E → D) (r : Result A E) (P : A → Type 0) → IfOk r P → IfOk (or_else f r) P
-renamed f (Ok a) P h = h
-renamed f (Err e) P h = tt
 
 -- where there is no fault
 pub without_fault : {A E D : Type 0} (f : E → D) (fault : Option E) (x : A) (P : A → Type 0) → P x → IfOk (faultless f fault x) P

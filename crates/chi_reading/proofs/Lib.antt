@@ -1,7 +1,6 @@
 mod AnswersLie
 mod ByStart
 pub mod Decided
-mod Decoded
 mod Elements
 mod Faultless
 mod InOrder

@@ -2,9 +2,9 @@
 use Rattle.std.proofs.Common.{◌≡◌, None, Some, Ok, refl, ap, ◌∙◌}
 use Rattle.serde_json.specs.Data.{Data, Items, Members}
 use Rattle.serde_json.specs.Find.{as_array, get}
-use Rattle.chi_script.specs.declared.member.Member.TheVariants as member
-use Rattle.chi_script.specs.Member.{member_name}
 use Rattle.chi_verdict.specs.Words.{told}
+use Rattle.chi_reading.specs.declared.member.Member.TheVariants as member
+use Rattle.chi_reading.specs.Member.{member_name}
 use Rattle.chi_reading.specs.declared.recorded.Memory.{Memory}
 use Rattle.chi_reading.specs.Requests.{Completed, all_completed}
 use Rattle.chi_reading.specs.TraceText.{IsMemoryOf, IsOf, IsRecorded, MemoryText, RecordedValue, memory_text, object_text}

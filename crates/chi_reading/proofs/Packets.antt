@@ -1,26 +1,23 @@
 -- the data packets and byte enables of the requests that a text states
-use Rattle.std.proofs.Common.{◌≡◌, ℕ, ◌-◌, ◌^◌, ◌<◌, ◌≤◌, List, length, get_or, Option, Some, None, Result, Ok, Err, IfOk, IfSome, refl, sym, ◌∙◌, arith}
-use Rattle.std.specs.Prelude.{option_and_then}
+use Rattle.std.proofs.Common.{◌≡◌, ℕ, ◌-◌, ◌^◌, ◌<◌, ◌≤◌, List, length, get_or, Option, Some, None, IfOk, IfSome, arith}
 use Rattle.std.specs.Option.{ok_or}
-use Rattle.std.specs.Result.{result_ok}
-use Rattle.hex.specs.Hex.{decode_sized}
-use Rattle.hex.specs.declared.error.FromHexError.{FromHexError}
-use Rattle.hex.proofs.HexLemmas.{decode_of-ok, decode_sized-ok, decode_sized-twice}
 use Rattle.serde_json.specs.Data.{Data}
-use Rattle.serde_json.specs.Find.{as_object, as_str, get}
-use Rattle.chi_script.specs.declared.fault.ScriptFault.TheVariants.{BadMember, Missing}
-use Rattle.chi_script.specs.declared.member.Member.TheVariants as member
-use Rattle.chi_script.specs.Member.{member_name}
-use Rattle.chi_script.specs.Script.{hex_bytes, member_by, number_of}
-use Rattle.chi_script.proofs.RequesterBounds.{at_ok, number_within, then_ok}
+use Rattle.serde_json.specs.Find.{as_object, get}
+use Rattle.chi_json.specs.declared.member.MemberFault.TheVariants.{BadMember, Missing}
+use Rattle.chi_json.specs.Members.{member_by, number_of, or_else}
+use Rattle.chi_json.specs.Values.{hex_bytes}
+use Rattle.chi_json.proofs.WalkLemmas.{at_ok, number_within, renamed, then_ok}
+use Rattle.chi_json.proofs.WordLemmas.{AreDecoded, AreDecoded-hex_bytes}
+use Rattle.chi_reading.specs.declared.member.Member.TheVariants as member
+use Rattle.chi_reading.specs.Member.{member_name}
 use Rattle.chi_reading.specs.declared.asked.Asked.{Asked}
 use Rattle.chi_reading.specs.declared.fault.RequestFault.TheVariants.{NotObject, UnknownMember}
 use Rattle.chi_reading.specs.declared.fault.TraceFault.TheVariants.{InRequest}
 use Rattle.chi_reading.specs.declared.stated.Stated.{Stated}
-use Rattle.chi_reading.specs.Faults.{fault_in, or_else}
+use Rattle.chi_reading.specs.Faults.{fault_in}
 use Rattle.chi_reading.specs.Requests.{asked_of, end_of, fields_of, reply_by, stated_at, stated_of}
 use Rattle.chi_reading.specs.Unknown.{request_members, unknown_in}
-use Rattle.chi_reading.proofs.Faultless.{present, renamed, value_of, without_fault}
+use Rattle.chi_reading.proofs.Faultless.{present, without_fault}
 
 -- sixteen bytes
 pub record IsPacket (lanes : List ℕ) : Type 0 where
@@ -32,24 +29,14 @@ pub record HasPacket (a : Asked) : Type 0 where
   pub bits : a.be < 2 ^ 16
   pub packet : IsPacket a.lanes
 
-decoded : (text : List ℕ) → IfOk (decode_sized text 16) IsPacket
-decoded text = by_result (decode_sized text 16) refl
-  where
-    by_result : (r : Result (List ℕ) FromHexError) → decode_sized text 16 ≡ r → IfOk r IsPacket
-    by_result (Ok bytes) is =
-        let long = decode_sized-ok text 16 bytes is in
-        let parts = decode_of-ok text bytes (sym (decode_sized-twice text 16 long) ∙ is) in
-        record { whole = omega (arith, long, parts.2); bytes = parts.3 }
-    by_result (Err e) is = tt
-
 hex_packet : (d : Data) → IfSome (hex_bytes 16 d) IsPacket
-hex_packet d = of_text (as_str d)
+hex_packet d = of_bytes (hex_bytes 16 d) (AreDecoded-hex_bytes 16 d)
   where
-    of_text : (text : Option (List ℕ)) → IfSome (option_and_then (λ s. result_ok (decode_sized s 16)) text) IsPacket
-    of_text (Some text) = value_of (decode_sized text 16) IsPacket (decoded text)
-    of_text None = tt
+    of_bytes : (bytes : Option (List ℕ)) → IfSome bytes (AreDecoded 16) → IfSome bytes IsPacket
+    of_bytes (Some bytes) are = record { whole = are.0; bytes = are.1 }
+    of_bytes None are = tt
 
-lanes_within : (d : Data) → IfOk (member_by member.Lanes (hex_bytes 16) d) IsPacket
+lanes_within : (d : Data) → IfOk (member_by member_name member.Lanes (hex_bytes 16) d) IsPacket
 lanes_within d =
     then_ok (ok_or (get (member_name member.Lanes) d) (Missing member.Lanes)) (λ v. ok_or (hex_bytes 16 v) (BadMember member.Lanes)) IsPacket
     (λ v e. present (hex_bytes 16 v) (BadMember member.Lanes) IsPacket (hex_packet v))
@@ -58,17 +45,17 @@ asked_within : (d : Data) → IfOk (asked_of d) HasPacket
 unfolding asked_of
 asked_within d =
     then_ok (fields_of d) _ HasPacket (λ fields e.
-    then_ok (number_of member.Be 65535 d) _ HasPacket (λ be e1.
-    then_ok (member_by member.Lanes (hex_bytes 16) d) _ HasPacket (λ lanes e2.
-    let bits = at_ok (number_of member.Be 65535 d) be (λ n. n ≤ 65535) e1 (number_within member.Be 65535 d) in
-    let packet = at_ok (member_by member.Lanes (hex_bytes 16) d) lanes IsPacket e2 (lanes_within d) in
+    then_ok (number_of member_name member.Be 65535 d) _ HasPacket (λ be e1.
+    then_ok (member_by member_name member.Lanes (hex_bytes 16) d) _ HasPacket (λ lanes e2.
+    let bits = at_ok (number_of member_name member.Be 65535 d) be (λ n. n ≤ 65535) e1 (number_within member_name member.Be 65535 d) in
+    let packet = at_ok (member_by member_name member.Lanes (hex_bytes 16) d) lanes IsPacket e2 (lanes_within d) in
     record { bits = omega (arith, bits); packet = packet })))
 
 stated_within : (d : Data) → IfOk (stated_of d) (λ s. HasPacket s.asked)
 unfolding stated_of
 stated_within d =
     then_ok (asked_of d) _ (λ (s : Stated). HasPacket s.asked) (λ asked e.
-    then_ok (number_of member.Start (2 ^ 64 - 1) d) _ (λ (s : Stated). HasPacket s.asked) (λ start e1.
+    then_ok (number_of member_name member.Start (2 ^ 64 - 1) d) _ (λ (s : Stated). HasPacket s.asked) (λ start e1.
     then_ok (end_of d) _ (λ (s : Stated). HasPacket s.asked) (λ end e2.
     then_ok (reply_by (get (member_name member.Reply) d) (get (member_name member.End) d)) _ (λ (s : Stated). HasPacket s.asked) (λ reply e3.
     at_ok (asked_of d) asked HasPacket e (asked_within d)))))

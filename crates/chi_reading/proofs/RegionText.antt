@@ -7,17 +7,17 @@ use Rattle.serde_json.specs.Data.{Data}
 use Rattle.serde_json.specs.Find.{get}
 use Rattle.chi_fields.specs.Extent.{Extent, IsRegion, region_of}
 use Rattle.chi_fields.specs.declared.region.RegionFault.TheVariants.{BaseNotLineAligned, EndPastAddresses, GranuleCount}
-use Rattle.chi_script.specs.declared.member.Member.TheVariants as member
-use Rattle.chi_script.specs.Member.{member_name}
-use Rattle.chi_script.specs.Script.{number_of, opening_words, stated_words}
-use Rattle.chi_script.proofs.RequesterBounds.{at_ok, then_ok}
+use Rattle.chi_json.specs.Members.{number_of, opening_words, or_else, stated_words}
+use Rattle.chi_json.proofs.WalkLemmas.{at_ok, renamed, then_ok}
 use Rattle.chi_verdict.specs.declared.words.GranuleWord.{GranuleWord}
 use Rattle.chi_verdict.specs.Words.{told}
+use Rattle.chi_reading.specs.declared.member.Member.TheVariants as member
+use Rattle.chi_reading.specs.Member.{member_name}
 use Rattle.chi_reading.specs.declared.fault.TraceFault.TheVariants.{RegionRefused}
-use Rattle.chi_reading.specs.Faults.{as_fault, or_else}
+use Rattle.chi_reading.specs.Faults.{as_fault}
 use Rattle.chi_reading.specs.Told.{region_words, stated_list}
 use Rattle.chi_reading.specs.TraceText.{MemoryText, final_words, memory_text, region_memory, wide_memory}
-use Rattle.chi_reading.proofs.Faultless.{renamed, unless}
+use Rattle.chi_reading.proofs.Faultless.{unless}
 
 -- the list has the words of a region's granules, the first of which has this number
 abbrev pub AreWordsOf : ℕ → List ℕ → List GranuleWord → Type 0
@@ -29,9 +29,9 @@ pub handed_on : {T D E : Type 0} (P : T → Type 0) (Q : D → Type 0) (r : Resu
 handed_on P Q (Ok x) s y same both is holds = let e : x ≡ y = cc in subst P e holds
 handed_on P Q (Err d) s y same both is holds = cc
 
-pub region_text : (d : Data) (base granules : ℕ) (region : Extent) (image : List ℕ) (finals : Option (List ℕ)) → number_of member.Base (2 ^ 64 - 1) d ≡ Ok base
-    → number_of member.Granules 65535 d ≡ Ok granules → region_of base granules ≡ Ok region → opening_words granules d ≡ Ok image
-    → stated_words member.Final granules d ≡ Ok finals
+pub region_text : (d : Data) (base granules : ℕ) (region : Extent) (image : List ℕ) (finals : Option (List ℕ)) → number_of member_name member.Base (2 ^ 64 - 1) d ≡ Ok base
+    → number_of member_name member.Granules 65535 d ≡ Ok granules → region_of base granules ≡ Ok region → opening_words member_name member.Image granules d ≡ Ok image
+    → stated_words member_name member.Final granules d ≡ Ok finals
     → region_memory d ≡ Ok (record { region = Some region; opening = region_words (base / 8) image; finals = final_words (base / 8) finals })
 unfolding region_memory
 region_text d base granules region image finals is_base is_granules is_region is_image is_finals = rw (is_base, is_granules, is_region, is_image, is_finals) refl
@@ -57,11 +57,11 @@ IsOnRegion t = IfSome t.region IsRegion
 of_region : (d : Data) → IfOk (region_memory d) IsOnRegion
 unfolding region_memory
 of_region d =
-    then_ok (or_else as_fault (number_of member.Base (2 ^ 64 - 1) d)) _ IsOnRegion (λ base e.
-    then_ok (or_else as_fault (number_of member.Granules 65535 d)) _ IsOnRegion (λ granules e1.
+    then_ok (or_else as_fault (number_of member_name member.Base (2 ^ 64 - 1) d)) _ IsOnRegion (λ base e.
+    then_ok (or_else as_fault (number_of member_name member.Granules 65535 d)) _ IsOnRegion (λ granules e1.
     then_ok (or_else RegionRefused (region_of base granules)) _ IsOnRegion (λ region e2.
-    then_ok (or_else as_fault (opening_words granules d)) _ IsOnRegion (λ image e3.
-    then_ok (or_else as_fault (stated_words member.Final granules d)) _ IsOnRegion (λ finals e4.
+    then_ok (or_else as_fault (opening_words member_name member.Image granules d)) _ IsOnRegion (λ image e3.
+    then_ok (or_else as_fault (stated_words member_name member.Final granules d)) _ IsOnRegion (λ finals e4.
     at_ok (or_else RegionRefused (region_of base granules)) region IsRegion e2
     (renamed RegionRefused (region_of base granules) IsRegion (region_lawful base granules)))))))
 

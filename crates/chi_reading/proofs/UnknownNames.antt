@@ -3,7 +3,7 @@ use Rattle.std.proofs.Common.{◌≡◌, if◌then◌else◌, List, [], ◌∷�
 use Rattle.std.specs.Map.{keys_of}
 use Rattle.serde_json.specs.View.{members_view}
 use Rattle.serde_json.specs.declared.value.Value.{Value}
-use Rattle.chi_script.specs.declared.member.Member.{Member}
+use Rattle.chi_reading.specs.declared.member.Member.{Member}
 use Rattle.chi_reading.specs.declared.unknown.MemberName.{MemberName}
 use Rattle.chi_reading.specs.Unknown.{is_known, name_of, unknown_in}
 

@@ -1,4 +1,5 @@
 pub mod Faults
+pub mod Member
 pub mod Replies
 pub mod Requests
 pub mod Told

@@ -14,38 +14,40 @@ use Rattle.chi_fields.specs.declared.refusal.Refusal.TheVariants.{OutOfRegion}
 use Rattle.chi_fields.specs.declared.request.Request.{Request}
 use Rattle.chi_lanes.specs.declared.reply.Reply.{Reply}
 use Rattle.chi_lanes.specs.declared.reply.Reply.TheVariants.{Comp, CompData}
+use Rattle.chi_json.specs.declared.member.MemberFault.{MemberFault}
+use Rattle.chi_json.specs.declared.member.MemberFault.TheVariants as member_fault
+use Rattle.chi_json.specs.Members.{◌>>=◌, member_by, number_of, or_else}
+use Rattle.chi_json.specs.Values.{hex_bytes}
 use Rattle.chi_trace.specs.declared.observed.Observed.{Observed}
-use Rattle.chi_script.specs.declared.fault.ScriptFault.{ScriptFault}
-use Rattle.chi_script.specs.declared.fault.ScriptFault.TheVariants as script_fault
-use Rattle.chi_script.specs.declared.member.Member.TheVariants as member
-use Rattle.chi_script.specs.Member.{member_name}
-use Rattle.chi_script.specs.Script.{◌>>=◌, hex_bytes, member_by, number_of}
+use Rattle.chi_reading.specs.declared.member.Member.{Member}
+use Rattle.chi_reading.specs.declared.member.Member.TheVariants as member
+use Rattle.chi_reading.specs.Member.{member_name}
 use Rattle.chi_reading.specs.declared.asked.Asked.{Asked}
 use Rattle.chi_reading.specs.declared.stated.Stated.{Stated}
 use Rattle.chi_reading.specs.declared.fault.RequestFault.TheVariants as request_fault
 use Rattle.chi_reading.specs.declared.fault.TraceFault.{TraceFault}
 use Rattle.chi_reading.specs.declared.fault.TraceFault.TheVariants.{TooManyRequests, InRequest}
-use Rattle.chi_reading.specs.Faults.{fault_in, faultless, or_else}
+use Rattle.chi_reading.specs.Faults.{fault_in, faultless}
 use Rattle.chi_reading.specs.Replies.{reply_fault}
 use Rattle.chi_reading.specs.Unknown.{request_members, unknown_in}
 
 -- the fields of a request that an object states, with no data
-unfoldable pub fields_of : Data → Result Asked ScriptFault
+unfoldable pub fields_of : Data → Result Asked (MemberFault Member)
 fields_of d = do
-  src ← number_of member.Src 65535 d
-  txn ← number_of member.Txn 65535 d
-  opcode ← number_of member.Opcode 255 d
-  size ← number_of member.Size 7 d
-  addr ← number_of member.Addr (2 ^ 64 - 1) d
-  endian ← number_of member.Endian 1 d
+  src ← number_of member_name member.Src 65535 d
+  txn ← number_of member_name member.Txn 65535 d
+  opcode ← number_of member_name member.Opcode 255 d
+  size ← number_of member_name member.Size 7 d
+  addr ← number_of member_name member.Addr (2 ^ 64 - 1) d
+  endian ← number_of member_name member.Endian 1 d
   Ok (record { src = src; txn = txn; opcode = opcode; size = size; addr = addr; endian = endian == 1; be = 0; lanes = replicate 16 0 })
 
 -- the request that an object states, with its data
-unfoldable pub asked_of : Data → Result Asked ScriptFault
+unfoldable pub asked_of : Data → Result Asked (MemberFault Member)
 asked_of d = do
   fields ← fields_of d
-  be ← number_of member.Be 65535 d
-  lanes ← member_by member.Lanes (hex_bytes 16) d
+  be ← number_of member_name member.Be 65535 d
+  lanes ← member_by member_name member.Lanes (hex_bytes 16) d
   Ok (record fields { be = be; lanes = lanes })
 
 -- the request as a home decides it, which does not look at requester and transaction
@@ -53,8 +55,8 @@ abbrev pub request_of : Asked → Request
 request_of a = record { src = 0; txn = 0; opcode = a.opcode; size = a.size; addr = a.addr; endian = a.endian; be = a.be; lanes = a.lanes }
 
 -- when it ended: a request without an end was open when the trace ended
-unfoldable pub end_of : Data → Result ℕ ScriptFault
-end_of d = if is_none (get (member_name member.End) d) then Ok (2 ^ 64 - 1) else number_of member.End (2 ^ 64 - 1) d
+unfoldable pub end_of : Data → Result ℕ (MemberFault Member)
+end_of d = if is_none (get (member_name member.End) d) then Ok (2 ^ 64 - 1) else number_of member_name member.End (2 ^ 64 - 1) d
 
 -- what was answered: `comp`, or the data packet as 32 hex digits, lane 0 first
 abbrev pub answer_of : Data → Option Reply
@@ -65,16 +67,16 @@ abbrev pub seen_of : Data → Option (Option Reply)
 seen_of d = if is_some (as_null d) then Some None else option_map Some (answer_of d)
 
 -- the members `reply` and `end`: where there is no end there need be no reply
-abbrev pub reply_by : Option Data → Option Data → Result (Option Reply) ScriptFault
+abbrev pub reply_by : Option Data → Option Data → Result (Option Reply) (MemberFault Member)
 reply_by None None = Ok None
-reply_by None (Some end) = Err (script_fault.Missing member.Reply)
-reply_by (Some reply) end = ok_or (seen_of reply) (script_fault.BadMember member.Reply)
+reply_by None (Some end) = Err (member_fault.Missing member.Reply)
+reply_by (Some reply) end = ok_or (seen_of reply) (member_fault.BadMember member.Reply)
 
 -- what a request states
-unfoldable pub stated_of : Data → Result Stated ScriptFault
+unfoldable pub stated_of : Data → Result Stated (MemberFault Member)
 stated_of d = do
   asked ← asked_of d
-  start ← number_of member.Start (2 ^ 64 - 1) d
+  start ← number_of member_name member.Start (2 ^ 64 - 1) d
   end ← end_of d
   reply ← reply_by (get (member_name member.Reply) d) (get (member_name member.End) d)
   Ok (record { asked = asked; start = start; end = end; reply = reply })

@@ -4,13 +4,13 @@ use Rattle.std.specs.Option.{ok_or, option_map}
 use Rattle.serde_json.specs.Data.{Data, Items, no_items, item}
 use Rattle.serde_json.specs.Find.{as_array, as_number, as_u64, get}
 use Rattle.chi_lanes.specs.Bytes.{little}
-use Rattle.chi_script.specs.declared.fault.ScriptFault.{ScriptFault}
-use Rattle.chi_script.specs.declared.fault.ScriptFault.TheVariants.{BadMember}
-use Rattle.chi_script.specs.declared.member.Member.{Member}
-use Rattle.chi_script.specs.Member.{member_name}
-use Rattle.chi_script.specs.Script.{hex_bytes}
+use Rattle.chi_json.specs.declared.member.MemberFault.{MemberFault}
+use Rattle.chi_json.specs.declared.member.MemberFault.TheVariants.{BadMember}
+use Rattle.chi_json.specs.Values.{hex_bytes}
 use Rattle.chi_verdict.specs.declared.words.GranuleWord.{GranuleWord}
 use Rattle.chi_verdict.specs.Words.{told}
+use Rattle.chi_reading.specs.declared.member.Member.{Member}
+use Rattle.chi_reading.specs.Member.{member_name}
 
 -- the words of a region's granules, the first of which has this number
 unfoldable pub region_words : ℕ → List ℕ → List GranuleWord
@@ -46,9 +46,9 @@ abbrev pub list_of : Data → Option (List GranuleWord)
 list_of d = option_and_then (told_from []) (as_array d)
 
 -- a member that has such a list, or is left out
-abbrev pub list_by : Member → Option Data → Result (List GranuleWord) ScriptFault
+abbrev pub list_by : Member → Option Data → Result (List GranuleWord) (MemberFault Member)
 list_by m None = Ok []
 list_by m (Some d) = ok_or (list_of d) (BadMember m)
 
-unfoldable pub stated_list : Member → Data → Result (List GranuleWord) ScriptFault
+unfoldable pub stated_list : Member → Data → Result (List GranuleWord) (MemberFault Member)
 stated_list m d = list_by m (get (member_name m) d)

@@ -5,9 +5,8 @@ use Rattle.serde_json.specs.Data.{Data, Members}
 use Rattle.serde_json.specs.Find.{as_array, as_object, get}
 use Rattle.chi_fields.specs.Extent.{Extent, region_of}
 use Rattle.chi_history.specs.History.{one_if}
-use Rattle.chi_script.specs.declared.member.Member.TheVariants as member
-use Rattle.chi_script.specs.Member.{member_name}
-use Rattle.chi_script.specs.Script.{◌>>=◌, json_value, member_by, number_of, opening_words, stated_words}
+use Rattle.chi_json.specs.Members.{◌>>=◌, member_by, number_of, opening_words, or_else, stated_words}
+use Rattle.chi_json.specs.Values.{json_value}
 use Rattle.chi_trace.specs.declared.observed.Observed.{Observed}
 use Rattle.chi_trace.specs.Chosen.{chosen}
 use Rattle.chi_trace.specs.Cuts.{cut}
@@ -15,11 +14,13 @@ use Rattle.chi_trace.specs.Explains.{is_place, times_in}
 use Rattle.chi_verdict.specs.declared.words.GranuleWord.{GranuleWord}
 use Rattle.chi_verdict.specs.Traces.{TraceValue, known_at}
 use Rattle.chi_verdict.specs.Words.{told}
+use Rattle.chi_reading.specs.declared.member.Member.TheVariants as member
+use Rattle.chi_reading.specs.Member.{member_name}
 use Rattle.chi_reading.specs.declared.asked.Asked.{Asked}
 use Rattle.chi_reading.specs.declared.recorded.Memory.{Memory}
 use Rattle.chi_reading.specs.declared.fault.TraceFault.{TraceFault}
 use Rattle.chi_reading.specs.declared.fault.TraceFault.TheVariants.{NotJson, NotObject, RegionRefused, UnknownMember}
-use Rattle.chi_reading.specs.Faults.{as_fault, faultless, or_else}
+use Rattle.chi_reading.specs.Faults.{as_fault, faultless}
 use Rattle.chi_reading.specs.Requests.{Completed, all_completed}
 use Rattle.chi_reading.specs.Told.{region_words, stated_list}
 use Rattle.chi_reading.specs.Unknown.{trace_members, unknown_in}
@@ -39,11 +40,11 @@ final_words first (Some words) = region_words first words
 -- of a region: its base, how many granules it has, and their words
 unfoldable pub region_memory : Data → Result MemoryText TraceFault
 region_memory d = do
-  base ← or_else as_fault (number_of member.Base (2 ^ 64 - 1) d)
-  granules ← or_else as_fault (number_of member.Granules 65535 d)
+  base ← or_else as_fault (number_of member_name member.Base (2 ^ 64 - 1) d)
+  granules ← or_else as_fault (number_of member_name member.Granules 65535 d)
   region ← or_else RegionRefused (region_of base granules)
-  image ← or_else as_fault (opening_words granules d)
-  finals ← or_else as_fault (stated_words member.Final granules d)
+  image ← or_else as_fault (opening_words member_name member.Image granules d)
+  finals ← or_else as_fault (stated_words member_name member.Final granules d)
   Ok (record { region = Some region; opening = region_words (base / 8) image; finals = final_words (base / 8) finals })
 
 -- of all addresses: the words of some granules
@@ -65,7 +66,7 @@ pub record TextValue : Type 0 where
 unfoldable pub object_text : Data → Members → Result TextValue TraceFault
 object_text d members = do
   memory ← memory_text d
-  listed ← or_else as_fault (member_by member.Requests as_array d)
+  listed ← or_else as_fault (member_by member_name member.Requests as_array d)
   elements ← faultless UnknownMember (unknown_in trace_members members) listed
   completed ← all_completed memory.region elements
   Ok (record { memory = memory; completed = completed })

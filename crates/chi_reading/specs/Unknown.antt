@@ -3,9 +3,9 @@ use Rattle.std.specs.Prelude.{ℕ, nat_eq, ◌-◌, ◌||◌, Bool, if◌then◌
 use Rattle.std.specs.List.{list_any, starts_with}
 use Rattle.std.specs.Str.{bytes_eq}
 use Rattle.serde_json.specs.Data.{Members, no_members, member}
-use Rattle.chi_script.specs.declared.member.Member.{Member}
-use Rattle.chi_script.specs.declared.member.Member.TheVariants as name
-use Rattle.chi_script.specs.Member.{member_name}
+use Rattle.chi_reading.specs.declared.member.Member.{Member}
+use Rattle.chi_reading.specs.declared.member.Member.TheVariants as name
+use Rattle.chi_reading.specs.Member.{member_name}
 use Rattle.chi_reading.specs.declared.unknown.MemberName.{MemberName}
 
 -- members whose name begins with `x-` are ignored

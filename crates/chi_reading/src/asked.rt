@@ -2,12 +2,14 @@
 
 ghost use Rattle.std.specs.Prelude.{◌≡◌};
 ghost use Rattle.serde_json.specs.View.{view};
-ghost use Rattle.chi_script.specs.Script.{hex_bytes, member_by};
+ghost use Rattle.chi_json.specs.Members.{member_by};
+ghost use Rattle.chi_json.specs.Values.{hex_bytes};
+ghost use Rattle.chi_reading.specs.Member.{member_name};
 ghost use Rattle.chi_reading.specs.Requests.{asked_of, fields_of, request_of};
 
+use crate::member::Member;
 use chi_fields::Request;
-use chi_script::{Member, ScriptFault, number};
-use hex::FromHex;
+use chi_json::{MemberFault, number, stated_bytes};
 use serde_json::Value;
 
 /// A request of a trace: a request and its data packet as a home takes them, but of any of 65,536 requesters and
@@ -44,14 +46,6 @@ impl Asked {
     }
 }
 
-/// A data packet: a text of 32 hex digits, lane 0 first.
-pub(crate) fn packet(value: &Value) -> Option<[u8; 16]>
-    ensures { result ≡ hex_bytes 16 (view value.now) }
-{
-    let text = value.as_str()?;
-    <[u8; 16] as FromHex>::from_hex(text).ok()
-}
-
 /// The data packet that a request states, or an object like it: the member `lanes`, a text of 32 hex digits.
 ///
 /// Source: profile.
@@ -59,16 +53,10 @@ pub(crate) fn packet(value: &Value) -> Option<[u8; 16]>
 /// ```
 /// let lanes = lanes(&object)?;
 /// ```
-pub fn lanes(object: &Value) -> Result<[u8; 16], ScriptFault>
-    ensures { result ≡ member_by Member.Lanes (hex_bytes 16) (view object.now) }
+pub fn lanes(object: &Value) -> Result<[u8; 16], MemberFault<Member>>
+    ensures { result ≡ member_by member_name Member.Lanes (hex_bytes 16) (view object.now) }
 {
-    let Some(value) = object.get(Member::Lanes.name()) else {
-        return Err(ScriptFault::Missing(Member::Lanes));
-    };
-    match packet(value) {
-        Some(lanes) => Ok(lanes),
-        None => Err(ScriptFault::BadMember(Member::Lanes)),
-    }
+    stated_bytes(object, Member::Lanes)
 }
 
 /// The fields of a request that an object states, with no data: its byte enables and its lanes are 0. They are read in the
@@ -80,7 +68,7 @@ pub fn lanes(object: &Value) -> Result<[u8; 16], ScriptFault>
 /// let asked = request_fields(&object)?;
 /// ```
 #[tactic(auto, unfolding(crate::specs::Requests::fields_of))]
-pub fn request_fields(object: &Value) -> Result<Asked, ScriptFault>
+pub fn request_fields(object: &Value) -> Result<Asked, MemberFault<Member>>
     ensures { result ≡ fields_of (view object.now) }
 {
     let src = number(object, Member::Src, 65535)?;
@@ -110,7 +98,7 @@ pub fn request_fields(object: &Value) -> Result<Asked, ScriptFault>
 /// let asked = request_asked(&object)?;
 /// ```
 #[tactic(auto, unfolding(crate::specs::Requests::asked_of))]
-pub fn request_asked(object: &Value) -> Result<Asked, ScriptFault>
+pub fn request_asked(object: &Value) -> Result<Asked, MemberFault<Member>>
     ensures { result ≡ asked_of (view object.now) }
 {
     let fields = request_fields(object)?;

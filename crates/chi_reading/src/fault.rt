@@ -1,12 +1,13 @@
 //! Why a trace is refused.
 
 ghost use Rattle.std.specs.Prelude.{◌≡◌};
-ghost use Rattle.chi_reading.specs.Faults.{as_fault, fault_in};
+ghost use Rattle.chi_reading.specs.Faults.{as_fault, fault_in, text_fault};
 
+use crate::member::Member;
 use crate::reply::ReplyFault;
 use crate::unknown::MemberName;
 use chi_fields::{Refusal, RegionFault, refusal_name, region_fault_name};
-use chi_script::{Member, ScriptFault};
+use chi_json::{MemberFault, TextFault};
 use thiserror::Error;
 
 /// The greatest number of operations in a trace.
@@ -77,30 +78,37 @@ pub enum TraceFault {
     Memory,
 }
 
-impl From<ScriptFault> for TraceFault {
+impl From<TextFault> for TraceFault {
+    ghost from_gives = { λ fault result. result ≡ text_fault fault };
+
+    fn from(fault: TextFault) -> TraceFault {
+        match fault {
+            TextFault::NotJson => TraceFault::NotJson,
+            TextFault::Memory => TraceFault::Memory,
+        }
+    }
+}
+
+impl From<MemberFault<Member>> for TraceFault {
     ghost from_gives = { λ fault result. result ≡ as_fault fault };
 
-    fn from(fault: ScriptFault) -> TraceFault {
+    fn from(fault: MemberFault<Member>) -> TraceFault {
         match fault {
-            ScriptFault::NotJson => TraceFault::NotJson,
-            ScriptFault::NotObject => TraceFault::NotObject,
-            ScriptFault::Missing(member) => TraceFault::Missing(member),
-            ScriptFault::BadMember(member) => TraceFault::BadMember(member),
-            ScriptFault::TooManyRequests => TraceFault::TooManyRequests,
-            ScriptFault::RegionRefused(fault) => TraceFault::RegionRefused(fault),
-            ScriptFault::Memory => TraceFault::Memory,
+            MemberFault::Missing(member) => TraceFault::Missing(member),
+            MemberFault::BadMember(member) => TraceFault::BadMember(member),
+            MemberFault::Memory => TraceFault::Memory,
         }
     }
 }
 
 // The fault of a trace whose request at a place has a fault: one of its members is the request's.
-pub(crate) fn fault_in(place: usize, fault: ScriptFault) -> TraceFault
+pub(crate) fn fault_in(place: usize, fault: MemberFault<Member>) -> TraceFault
     ensures { result ≡ fault_in place fault }
 {
     let fault = match fault {
-        ScriptFault::Missing(member) => RequestFault::Missing(member),
-        ScriptFault::BadMember(member) => RequestFault::BadMember(member),
-        other => return TraceFault::from(other),
+        MemberFault::Missing(member) => RequestFault::Missing(member),
+        MemberFault::BadMember(member) => RequestFault::BadMember(member),
+        MemberFault::Memory => return TraceFault::Memory,
     };
     TraceFault::InRequest { place, fault }
 }

@@ -4,6 +4,7 @@
 mod asked;
 mod fault;
 pub mod laws;
+mod member;
 mod observed;
 mod recorded;
 mod reply;
@@ -15,6 +16,7 @@ mod unknown;
 
 pub use asked::{Asked, lanes, request_asked, request_fields};
 pub use fault::{MOST_OPERATIONS, RequestFault, TraceFault};
+pub use member::Member;
 pub use observed::access;
 pub use recorded::{Recorded, read_trace};
 pub use reply::{ReplyFault, reply_fault};

@@ -7,12 +7,13 @@ ghost use Rattle.chi_trace.specs.Explains.{IsObserved, at};
 
 use crate::asked::Asked;
 use crate::fault::TraceFault;
+use crate::member::Member;
 use crate::requests::all_completed;
 use crate::sorting::{by_start, operations_at, requests_at};
 use crate::told::{region_words, stated_list};
 use crate::unknown::{trace_members, unknown_member};
 use chi_fields::Region;
-use chi_script::{Member, json, number, opening_words, stated_words};
+use chi_json::{json, number, opening_words, stated_words};
 use chi_trace::Observed;
 use chi_verdict::{GranuleWords, Trace};
 use serde_json::{Map, Value};
@@ -142,7 +143,7 @@ fn region_memory(alloc: Global, object: &Value) -> Result<Memory, TraceFault>
         Ok(region) => region,
         Err(fault) => return Err(TraceFault::RegionRefused(fault)),
     };
-    let image = opening_words(alloc, object, granules)?;
+    let image = opening_words(alloc, object, Member::Image, granules)?;
     let finals = stated_words(alloc, object, Member::Final, granules)?;
     let opening = region_words(alloc, base / 8, &image).map_err(|_| TraceFault::Memory)?;
     let finals = match finals {
@@ -239,7 +240,7 @@ fn object_trace(
 /// The trace that a text is, or its first fault.
 ///
 /// The text is a JSON object in UTF-8. With `base` and `granules`, and perhaps `image` and `final`, its memory is a region, as
-/// `chi_script::read_script` describes it. Where `granules` is left out the memory is all addresses below 2^52, and `image` and
+/// that of a script. Where `granules` is left out the memory is all addresses below 2^52, and `image` and
 /// `final` are lists of objects with `addr`, a multiple of 8, and `bytes`, the eight bytes of that granule as 16 hex digits in
 /// address order; no granule is told twice.
 ///

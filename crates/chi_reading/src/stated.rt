@@ -3,14 +3,15 @@
 ghost use Rattle.std.specs.Prelude.{◌≡◌};
 ghost use Rattle.serde_json.specs.Find.{get};
 ghost use Rattle.serde_json.specs.View.{view};
-ghost use Rattle.chi_script.specs.Member.{member_name};
+ghost use Rattle.chi_reading.specs.Member.{member_name};
 ghost use Rattle.chi_reading.specs.Requests.{answer_of, end_of, reply_by, seen_of, stated_at, stated_of};
 
-use crate::asked::{Asked, packet, request_asked};
+use crate::asked::{Asked, request_asked};
 use crate::fault::{RequestFault, TraceFault, fault_in};
+use crate::member::Member;
 use crate::unknown::{request_members, unknown_member};
+use chi_json::{MemberFault, hex_bytes, number};
 use chi_lanes::Reply;
-use chi_script::{Member, ScriptFault, number};
 use serde_json::Value;
 
 /// A request, its times, and what was answered, where that was seen. The end of one that was open when the trace ended is
@@ -25,7 +26,7 @@ pub(crate) struct Stated {
 
 /// When the request ended.
 #[tactic(auto, unfolding(crate::specs::Requests::end_of))]
-fn end(object: &Value) -> Result<u64, ScriptFault>
+fn end(object: &Value) -> Result<u64, MemberFault<Member>>
     ensures { result ≡ end_of (view object.now) }
 {
     if object.get(Member::End.name()).is_none() {
@@ -42,7 +43,7 @@ fn answer(value: &Value) -> Option<Reply>
     if value.as_str()? == "comp" {
         return Some(Reply::Comp);
     }
-    let lanes = packet(value)?;
+    let lanes = hex_bytes(value)?;
     Some(Reply::CompData(lanes))
 }
 
@@ -65,24 +66,24 @@ pub fn seen_reply(value: &Value) -> Option<Option<Reply>>
 }
 
 /// What was answered, where it was seen: the member `reply`, which may be `null`, and may be left out where the end is.
-fn reply(object: &Value) -> Result<Option<Reply>, ScriptFault>
+fn reply(object: &Value) -> Result<Option<Reply>, MemberFault<Member>>
     ensures { result ≡ reply_by (get (member_name Member.Reply) (view object.now)) (get (member_name Member.End) (view object.now)) }
 {
     let Some(value) = object.get(Member::Reply.name()) else {
         return match object.get(Member::End.name()) {
-            Some(_) => Err(ScriptFault::Missing(Member::Reply)),
+            Some(_) => Err(MemberFault::Missing(Member::Reply)),
             None => Ok(None),
         };
     };
     match seen_reply(value) {
         Some(reply) => Ok(reply),
-        None => Err(ScriptFault::BadMember(Member::Reply)),
+        None => Err(MemberFault::BadMember(Member::Reply)),
     }
 }
 
 /// What an object states, or the first fault of its members.
 #[tactic(auto, unfolding(crate::specs::Requests::stated_of))]
-fn request_stated(object: &Value) -> Result<Stated, ScriptFault>
+fn request_stated(object: &Value) -> Result<Stated, MemberFault<Member>>
     ensures { result ≡ stated_of (view object.now) }
 {
     let asked = request_asked(object)?;

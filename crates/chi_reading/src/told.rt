@@ -6,9 +6,9 @@ ghost use Rattle.chi_reading.specs.Told.{region_words, start_of, stated_list, to
 ghost use Rattle.chi_verdict.specs.declared.words.GranuleWord.{GranuleWord};
 ghost use Rattle.chi_verdict.specs.Words.{told};
 
-use chi_script::{Member, ScriptFault};
+use crate::member::Member;
+use chi_json::{MemberFault, hex_bytes};
 use chi_verdict::{GranuleWord, GranuleWords};
-use hex::FromHex;
 use serde_json::Value;
 use std::alloc::{AllocError, Global};
 use std::collections::BTreeMap;
@@ -59,11 +59,8 @@ pub fn granule_start(value: &Value) -> Option<u64>
 pub fn granule_word(value: &Value) -> Option<u64>
     ensures { result ≡ word_of (view value.now) }
 {
-    let text = value.as_str()?;
-    match <[u8; 8] as FromHex>::from_hex(text) {
-        Ok(bytes) => Some(u64::from_le_bytes(bytes)),
-        Err(_) => None,
-    }
+    let bytes = hex_bytes(value)?;
+    Some(u64::from_le_bytes(bytes))
 }
 
 /// The word of a granule that an object tells: its address, and its eight bytes in address order.
@@ -79,22 +76,26 @@ fn word_told(value: &Value) -> Option<GranuleWord>
 }
 
 /// The words of a list of granules, each told once.
-fn told_list(alloc: Global, list: &[Value], member: Member) -> Result<GranuleWords, ScriptFault>
+fn told_list(
+    alloc: Global,
+    list: &[Value],
+    member: Member,
+) -> Result<GranuleWords, MemberFault<Member>>
     ensures ok { IfOk result (λ words. (each : List GranuleWord) × (told_from [] (items_view list.now) ≡ Some each) × ((g : ℕ) → told words g ≡ told each g)) }
-    ensures fault { IfErr result (λ f. f ≢ ScriptFault.Memory → (f ≡ ScriptFault.BadMember member) × (told_from [] (items_view list.now) ≡ None)) }
+    ensures fault { IfErr result (λ f. f ≢ MemberFault.Memory → (f ≡ MemberFault.BadMember member) × (told_from [] (items_view list.now) ≡ None)) }
 {
     let mut map = BTreeMap::new(alloc);
     for value in list {
         let Some(told) = word_told(value) else {
-            return Err(ScriptFault::BadMember(member));
+            return Err(MemberFault::BadMember(member));
         };
         match map.insert(told.granule, told.word) {
             Ok(None) => {}
-            Ok(Some(_)) => return Err(ScriptFault::BadMember(member)),
-            Err(_) => return Err(ScriptFault::Memory),
+            Ok(Some(_)) => return Err(MemberFault::BadMember(member)),
+            Err(_) => return Err(MemberFault::Memory),
         }
     }
-    GranuleWords::of_map(alloc, &map).map_err(|_| ScriptFault::Memory)
+    GranuleWords::of_map(alloc, &map).map_err(|_| MemberFault::Memory)
 }
 
 /// The words of granules that a member of an object tells: none where the object has no such member.
@@ -103,15 +104,15 @@ pub(crate) fn stated_list(
     alloc: Global,
     object: &Value,
     member: Member,
-) -> Result<GranuleWords, ScriptFault>
+) -> Result<GranuleWords, MemberFault<Member>>
     ensures ok { IfOk result (λ words. (each : List GranuleWord) × (stated_list member (view object.now) ≡ Ok each) × ((g : ℕ) → told words g ≡ told each g)) }
-    ensures fault { IfErr result (λ f. f ≢ ScriptFault.Memory → stated_list member (view object.now) ≡ Err f) }
+    ensures fault { IfErr result (λ f. f ≢ MemberFault.Memory → stated_list member (view object.now) ≡ Err f) }
 {
     let Some(value) = object.get(member.name()) else {
         return Ok(GranuleWords::none(alloc));
     };
     match value.as_array() {
         Some(list) => told_list(alloc, list.as_slice(), member),
-        None => Err(ScriptFault::BadMember(member)),
+        None => Err(MemberFault::BadMember(member)),
     }
 }

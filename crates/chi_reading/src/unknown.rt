@@ -4,7 +4,7 @@ ghost use Rattle.std.specs.Prelude.{◌≡◌};
 ghost use Rattle.serde_json.specs.View.{members_view};
 ghost use Rattle.chi_reading.specs.Unknown.{is_among, is_ignored, is_known, name_of, request_members, trace_members, unknown_in};
 
-use chi_script::Member;
+use crate::member::Member;
 use serde_json::{Map, Value};
 use std::fmt;
 

@@ -4,5 +4,4 @@ pub mod ImageLemmas
 pub mod RequesterBounds
 pub mod ScriptExamples
 pub mod TextExamples
-pub mod ValueLemmas
 pub mod WriterBytesLemmas

@@ -5,9 +5,11 @@ use Rattle.hex.proofs.OnLiterals.{hex_on_literals}
 use Rattle.serde_json.proofs.OnLiterals.{serde_json_on_literals}
 use Rattle.chi_fields.specs.declared.region.RegionFault.TheVariants.{BaseNotLineAligned, GranuleCount, EndPastAddresses}
 use Rattle.chi_lanes.specs.Bytes.{little}
+use Rattle.chi_json.specs.Members.{number_of, opening_words, stated_words}
+use Rattle.chi_json.specs.Values.{json_value}
 use Rattle.chi_script.specs.declared.fault.ScriptFault.TheVariants.{NotJson, NotObject, Missing, BadMember, RegionRefused}
 use Rattle.chi_script.specs.declared.member.Member.TheVariants.{Base, Image, Requests, Src, Txn, Size, Lanes}
-use Rattle.chi_script.specs.Script.{script, json_value, object_script, opening_words, stated_words, requests_of, element_of, request_of, number_of}
+use Rattle.chi_script.specs.Script.{script, object_script, requests_of, element_of, request_of}
 use Rattle.chi_script.proofs.TextExamples.{fetch_add}
 
 -- one fetch and add

@@ -2,7 +2,7 @@
 use Rattle.std.specs.Prelude.{◌≡◌, ℕ, ◌*◌, ◌<◌, List, length, slice_index, Ok}
 use Rattle.hex.specs.Hex.{decode_sized}
 use Rattle.chi_history.specs.History.{image_byte}
-use Rattle.chi_script.specs.Script.{words_of}
+use Rattle.chi_json.specs.Values.{words_of}
 
 -- the words of a text of sixteen hex digits for each granule are as many as the granules, and byte i of them, as the
 -- memory at the opening has it, is byte i of the text

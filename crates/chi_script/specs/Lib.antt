@@ -1,3 +1,4 @@
+pub mod Faults
 pub mod ImageLaws
 pub mod Member
 pub mod Piece

@@ -1,7 +1,7 @@
--- the names of the members of a script, of a trace and of an event
+-- the names of the members of a script
 use Rattle.std.specs.Prelude.{ℕ, List, codes}
 use Rattle.chi_script.specs.declared.member.Member.{Member}
-use Rattle.chi_script.specs.declared.member.Member.TheVariants.{Base, Granules, Image, Requests, Src, Txn, Opcode, Size, Addr, Endian, Be, Lanes, Final, Start, End, Reply, Event, Time, Id, Bytes, Length}
+use Rattle.chi_script.specs.declared.member.Member.TheVariants.{Base, Granules, Image, Requests, Src, Txn, Opcode, Size, Addr, Endian, Be, Lanes}
 
 abbrev pub member_name : Member → List ℕ
 member_name Base = codes "base"
@@ -16,12 +16,3 @@ member_name Addr = codes "addr"
 member_name Endian = codes "endian"
 member_name Be = codes "be"
 member_name Lanes = codes "lanes"
-member_name Final = codes "final"
-member_name Start = codes "start"
-member_name End = codes "end"
-member_name Reply = codes "reply"
-member_name Event = codes "event"
-member_name Time = codes "time"
-member_name Id = codes "id"
-member_name Bytes = codes "bytes"
-member_name Length = codes "length"

@@ -1,7 +1,11 @@
 //! Why a script is refused.
 
+ghost use Rattle.std.specs.Prelude.{◌≡◌};
+ghost use Rattle.chi_script.specs.Faults.{as_fault, text_fault};
+
 use crate::member::Member;
 use chi_fields::{RegionFault, region_fault_name};
+use chi_json::{MemberFault, TextFault};
 use thiserror::Error;
 
 /// Why a script is refused: the first fault that its walk meets, or `Memory` where a growth is refused before.
@@ -31,6 +35,29 @@ pub enum ScriptFault {
     RegionRefused(RegionFault),
     #[error("no memory")]
     Memory,
+}
+
+impl From<TextFault> for ScriptFault {
+    ghost from_gives = { λ fault result. result ≡ text_fault fault };
+
+    fn from(fault: TextFault) -> ScriptFault {
+        match fault {
+            TextFault::NotJson => ScriptFault::NotJson,
+            TextFault::Memory => ScriptFault::Memory,
+        }
+    }
+}
+
+impl From<MemberFault<Member>> for ScriptFault {
+    ghost from_gives = { λ fault result. result ≡ as_fault fault };
+
+    fn from(fault: MemberFault<Member>) -> ScriptFault {
+        match fault {
+            MemberFault::Missing(member) => ScriptFault::Missing(member),
+            MemberFault::BadMember(member) => ScriptFault::BadMember(member),
+            MemberFault::Memory => ScriptFault::Memory,
+        }
+    }
 }
 
 /// The greatest number of requests in a script.

@@ -3,8 +3,6 @@
 
 mod device;
 mod fault;
-mod image;
-mod input;
 pub mod laws;
 mod member;
 mod page;
@@ -15,9 +13,6 @@ mod walk;
 
 pub use device::{WriteFault, write_bytes};
 pub use fault::{MOST_REQUESTS, ScriptFault};
-pub use image::{opening_words, stated_words};
-pub use input::{InputFault, read_input};
 pub use member::Member;
-pub use script::{Script, json, read_script};
+pub use script::{Script, read_script};
 pub use transcript::{write_lines, write_transcript};
-pub use walk::{number, request};

@@ -1,15 +1,14 @@
-//! The members of a script, of a trace and of an event.
+//! The members of a script.
 
 ghost use Rattle.std.specs.Prelude.{◌≡◌};
 ghost use Rattle.chi_script.specs.Member.{member_name};
 
-/// A member of the object that a script, a trace or an event is, or of a request in it.
+use chi_json::Named;
+
+/// A member of the object that a script is, or of a request in it.
 ///
 /// - `Base` to `Requests` are the object's. `Image` may be left out.
 /// - `Src` to `Lanes` are a request's.
-/// - `Final`, of the object, and `Start`, `End` and `Reply`, of a request, are of traces, and `Final` and `Reply` also
-///   of events. `Final` may be left out.
-/// - `Event` to `Length` are of events alone.
 #[derive(Clone, Copy, Debug, PartialEq, Eq)]
 pub enum Member {
     Base,
@@ -24,15 +23,6 @@ pub enum Member {
     Endian,
     Be,
     Lanes,
-    Final,
-    Start,
-    End,
-    Reply,
-    Event,
-    Time,
-    Id,
-    Bytes,
-    Length,
 }
 
 impl Member {
@@ -57,15 +47,14 @@ impl Member {
             Member::Endian => "endian",
             Member::Be => "be",
             Member::Lanes => "lanes",
-            Member::Final => "final",
-            Member::Start => "start",
-            Member::End => "end",
-            Member::Reply => "reply",
-            Member::Event => "event",
-            Member::Time => "time",
-            Member::Id => "id",
-            Member::Bytes => "bytes",
-            Member::Length => "length",
         }
+    }
+}
+
+impl Named for Member {
+    ghost name_of = { member_name };
+
+    fn name(self) -> &'static str {
+        Member::name(self)
     }
 }

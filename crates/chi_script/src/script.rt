@@ -1,15 +1,15 @@
 //! Scripts and how one is read.
 
-ghost use Rattle.std.specs.Prelude.{◌≡◌, ◌≢◌, ◌+◌, Some, None, length, IfOk, IfErr, Ok, Err};
+ghost use Rattle.std.specs.Prelude.{◌≡◌, ◌≢◌, ◌+◌, length, IfOk, IfErr, Ok, Err};
 ghost use Rattle.serde_json.specs.View.{view};
 ghost use Rattle.chi_history.specs.NumberSets.{AllFrom, below};
-ghost use Rattle.chi_script.specs.Script.{json_value, object_script, script};
+ghost use Rattle.chi_script.specs.Script.{object_script, script};
 
 use crate::fault::{MOST_REQUESTS, ScriptFault};
-use crate::image::opening_words;
 use crate::member::Member;
-use crate::walk::{number, requests};
+use crate::walk::requests;
 use chi_fields::{Region, Request};
+use chi_json::{json, number, opening_words};
 use serde_json::Value;
 use std::alloc::Global;
 use std::marker::Model;
@@ -72,30 +72,6 @@ impl Script {
     }
 }
 
-/// The value of a text that is one JSON text in UTF-8.
-///
-/// `NotJson` is answered where it is none or nests more than 127 deep, and `Memory` where a growth is refused.
-///
-/// ```
-/// let value = json(alloc, b"[]")?;
-/// ```
-#[tactic(auto, unfolding(crate::specs::Script::json_value))]
-pub fn json(alloc: Global, text: &[u8]) -> Result<Value, ScriptFault>
-    ensures ok { IfOk result (λ v. json_value text.now ≡ Some (view v)) }
-    ensures fault { IfErr result (λ f. f ≢ ScriptFault.Memory → (f ≡ ScriptFault.NotJson) × (json_value text.now ≡ None)) }
-{
-    match Value::from_slice(alloc, text) {
-        Ok(value) => Ok(value),
-        Err(error) => {
-            if error.is_memory() {
-                Err(ScriptFault::Memory)
-            } else {
-                Err(ScriptFault::NotJson)
-            }
-        }
-    }
-}
-
 // The script that an object is.
 #[tactic(auto, unfolding(crate::specs::Script::object_script))]
 fn object_script(alloc: Global, object: &Value, top: u8) -> Result<Script, ScriptFault>
@@ -104,7 +80,7 @@ fn object_script(alloc: Global, object: &Value, top: u8) -> Result<Script, Scrip
 {
     let base = number(object, Member::Base, u64::MAX)?;
     let granules = number(object, Member::Granules, 65535)? as u16;
-    let image = opening_words(alloc, object, granules)?;
+    let image = opening_words(alloc, object, Member::Image, granules)?;
     let Some(value) = object.get(Member::Requests.name()) else {
         return Err(ScriptFault::Missing(Member::Requests));
     };

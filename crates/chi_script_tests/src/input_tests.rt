@@ -1,7 +1,7 @@
 //! Tests of reading an input up to a limit.
 
 use crate::comparison::assert_same;
-use chi_script::{InputFault, read_input};
+use chi_json::{InputFault, read_input};
 use std::io::{self, Read};
 use std::test::Fail;
 

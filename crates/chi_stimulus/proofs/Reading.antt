@@ -13,15 +13,16 @@ use Rattle.serde_json.specs.Find.{get}
 use Rattle.serde_json.specs.Read.{read}
 use Rattle.chi_fields.specs.Extent.{Extent, IsRegion, region_of}
 use Rattle.chi_fields.specs.declared.request.Request.{Request}
-use Rattle.chi_script.specs.declared.fault.ScriptFault.{ScriptFault}
+use Rattle.chi_json.specs.Members.{number_of, opening_words, stated_words}
+use Rattle.chi_json.specs.Values.{json_value}
 use Rattle.chi_script.specs.declared.member.Member.{Member}
 use Rattle.chi_script.specs.declared.member.Member.TheVariants.{Base, Granules, Src, Txn, Opcode, Size, Addr, Endian, Be, Lanes}
 use Rattle.chi_script.specs.Member.{member_name}
-use Rattle.chi_script.specs.Script.{element_of, json_value, number_of, object_script, opening_words, request_of, requests_of, script, stated_words, words_of}
+use Rattle.chi_script.specs.Script.{element_of, object_script, request_of, requests_of, script}
 use Rattle.chi_stimulus.specs.Object.{IsReadBack, IsWritable, all_data, byte_order, image_words, request_data, script_data, with_array, with_bytes, with_number}
 
 -- a number that is there, and is not too great
-number_here : (m : Member) (top n : ℕ) (d : Data) → get (member_name m) d ≡ Some (number (unsigned n)) → n ≤ top → number_of m top d ≡ Ok n
+number_here : (m : Member) (top n : ℕ) (d : Data) → get (member_name m) d ≡ Some (number (unsigned n)) → n ≤ top → number_of member_name m top d ≡ Ok n
 unfolding number_of
 number_here m top n d at within = rw (at, le-leb n top within) refl
 

@@ -5,7 +5,7 @@ use Rattle.serde_json.specs.Data.{Data, number, unsigned, string, array, object,
 use Rattle.serde_json.specs.View.{items_of}
 use Rattle.chi_fields.specs.Extent.{Extent}
 use Rattle.chi_fields.specs.declared.request.Request.{Request}
-use Rattle.chi_script.specs.Script.{words_of}
+use Rattle.chi_json.specs.Values.{words_of}
 
 -- the members, and a number under this name
 unfoldable pub with_number : List ℕ → ℕ → Members → Members

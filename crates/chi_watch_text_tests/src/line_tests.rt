@@ -4,7 +4,7 @@ use crate::comparison::assert_same;
 use crate::events::{FIVE, LAST, READ, STOPPING, WRITE, WRITE_AT_FOUR, ZERO, places, watched};
 use chi_event_text::LineFault;
 use chi_events::EventFault;
-use chi_script::Member;
+use chi_reading::Member;
 use chi_watch::WatchFault;
 use chi_watch_text::{LinesFault, WatchVerdict};
 use std::test::Fail;

@@ -3,11 +3,11 @@ use Rattle.std.proofs.Common.{◌≡◌, ℕ, ◌<◌, List, length, IfSome, Som
 use Rattle.serde_json.specs.Find.{get}
 use Rattle.serde_json.specs.View.{members_view, view}
 use Rattle.chi_fields.specs.Extent.{IsRegion}
+use Rattle.chi_json.proofs.WalkLemmas.{at_ok}
 use Rattle.chi_trace.specs.declared.observed.Observed.{Observed}
 use Rattle.chi_trace.specs.Explains.{IsObserved, at}
-use Rattle.chi_script.specs.declared.member.Member.TheVariants.{Requests}
-use Rattle.chi_script.specs.Member.{member_name}
-use Rattle.chi_script.proofs.RequesterBounds.{at_ok}
+use Rattle.chi_reading.specs.declared.member.Member.TheVariants.{Requests}
+use Rattle.chi_reading.specs.Member.{member_name}
 use Rattle.chi_reading.specs.TraceText.{memory_text}
 use Rattle.chi_reading.specs.Unknown.{unknown_in}
 use Rattle.chi_reading.proofs.Decided.{all_observed}

@@ -1,0 +1,3 @@
+pub mod ValueLemmas
+pub mod WalkLemmas
+pub mod WordLemmas

@@ -1,0 +1,66 @@
+//! The members of an object: their names, their faults, and those that are whole numbers.
+
+ghost use Rattle.std.specs.Prelude.{◌≡◌, ◌≤◌, IfOk};
+ghost use Rattle.serde_json.specs.View.{view};
+ghost use Rattle.chi_json.specs.Members.{number_of};
+
+use serde_json::Value;
+use thiserror::Error;
+
+/// A member that objects of some kind have.
+pub trait Named: Copy {
+    ghost use Rattle.std.specs.Prelude.{◌≡◌, ℕ, List};
+
+    /// Its name.
+    ghost name_of: { Self → List ℕ };
+
+    /// The member's name in the object.
+    ///
+    /// ```
+    /// let value = object.get(member.name())?;
+    /// ```
+    fn name(self) -> &'static str
+        ensures { result.now ≡ name_of self };
+}
+
+/// Why a member of an object is refused.
+///
+/// - `Missing`: the object has no such member.
+/// - `BadMember`: the member is not as stated.
+/// - `Memory`: no memory for what the member states.
+///
+/// ```
+/// let fault = number(&object, Member::Size, 7).err(); // Some(MemberFault::Missing(Member::Size))
+/// ```
+#[derive(Clone, Copy, Debug, PartialEq, Eq, Error)]
+#[error_bound(M: Named)]
+pub enum MemberFault<M> {
+    #[error("member {} is missing", .0.name())]
+    Missing(M),
+    #[error("member {} is not as stated", .0.name())]
+    BadMember(M),
+    #[error("no memory")]
+    Memory,
+}
+
+/// The member of an object that is a whole number from 0 to `top`.
+///
+/// `Missing` is answered where the object has no such member, and `BadMember` where it has another value: also a
+/// number with a fraction or an exponent.
+///
+/// ```
+/// let start = number(&object, Member::Start, u64::MAX)?;
+/// ```
+#[tactic(auto, unfolding(crate::specs::Members::number_of))]
+pub fn number<M: Named>(object: &Value, member: M, top: u64) -> Result<u64, MemberFault<M>>
+    ensures value { result ≡ number_of M.name_of member top (view object.now) }
+    ensures small { IfOk result (λ n. n ≤ top) }
+{
+    let Some(value) = object.get(member.name()) else {
+        return Err(MemberFault::Missing(member));
+    };
+    match value.as_u64() {
+        Some(n) if n <= top => Ok(n),
+        _ => Err(MemberFault::BadMember(member)),
+    }
+}

@@ -1,0 +1,27 @@
+-- the names of the members of a trace and of an event
+use Rattle.std.specs.Prelude.{ℕ, List, codes}
+use Rattle.chi_reading.specs.declared.member.Member.{Member}
+use Rattle.chi_reading.specs.declared.member.Member.TheVariants.{Base, Granules, Image, Requests, Src, Txn, Opcode, Size, Addr, Endian, Be, Lanes, Final, Start, End, Reply, Event, Time, Id, Bytes, Length}
+
+abbrev pub member_name : Member → List ℕ
+member_name Base = codes "base"
+member_name Granules = codes "granules"
+member_name Image = codes "image"
+member_name Requests = codes "requests"
+member_name Src = codes "src"
+member_name Txn = codes "txn"
+member_name Opcode = codes "op"
+member_name Size = codes "size"
+member_name Addr = codes "addr"
+member_name Endian = codes "endian"
+member_name Be = codes "be"
+member_name Lanes = codes "lanes"
+member_name Final = codes "final"
+member_name Start = codes "start"
+member_name End = codes "end"
+member_name Reply = codes "reply"
+member_name Event = codes "event"
+member_name Time = codes "time"
+member_name Id = codes "id"
+member_name Bytes = codes "bytes"
+member_name Length = codes "length"

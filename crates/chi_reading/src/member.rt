@@ -1,0 +1,80 @@
+//! The members of a trace and of an event.
+
+ghost use Rattle.std.specs.Prelude.{◌≡◌};
+ghost use Rattle.chi_reading.specs.Member.{member_name};
+
+use chi_json::Named;
+
+/// A member of the object that a trace or an event is, or of a request of a trace.
+///
+/// - `Base` to `Requests`, and `Final`, are a trace's. `Granules`, `Image` and `Final` may be left out.
+/// - `Src` to `Lanes` are a request's, of a trace and of an event.
+/// - `Start`, `End` and `Reply` are of a request of a trace, and `Final` and `Reply` also of events.
+/// - `Event` to `Length` are of events alone.
+#[derive(Clone, Copy, Debug, PartialEq, Eq)]
+pub enum Member {
+    Base,
+    Granules,
+    Image,
+    Requests,
+    Src,
+    Txn,
+    Opcode,
+    Size,
+    Addr,
+    Endian,
+    Be,
+    Lanes,
+    Final,
+    Start,
+    End,
+    Reply,
+    Event,
+    Time,
+    Id,
+    Bytes,
+    Length,
+}
+
+impl Member {
+    /// The member's name in the object.
+    ///
+    /// ```
+    /// let name = Member::Opcode.name(); // op
+    /// ```
+    pub fn name(self) -> &'static str
+        ensures { result.now ≡ member_name self }
+    {
+        match self {
+            Member::Base => "base",
+            Member::Granules => "granules",
+            Member::Image => "image",
+            Member::Requests => "requests",
+            Member::Src => "src",
+            Member::Txn => "txn",
+            Member::Opcode => "op",
+            Member::Size => "size",
+            Member::Addr => "addr",
+            Member::Endian => "endian",
+            Member::Be => "be",
+            Member::Lanes => "lanes",
+            Member::Final => "final",
+            Member::Start => "start",
+            Member::End => "end",
+            Member::Reply => "reply",
+            Member::Event => "event",
+            Member::Time => "time",
+            Member::Id => "id",
+            Member::Bytes => "bytes",
+            Member::Length => "length",
+        }
+    }
+}
+
+impl Named for Member {
+    ghost name_of = { member_name };
+
+    fn name(self) -> &'static str {
+        Member::name(self)
+    }
+}
