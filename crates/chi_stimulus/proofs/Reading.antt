@@ -1,14 +1,13 @@
 -- a script that was written is read as what it was written of
-use Rattle.std.proofs.Common.{◌≡◌, ◌<◌, slice_index_or, take, ℕ, ◌+◌, ◌*◌, ◌≤◌, ◌-◌, ◌^◌, ◌==◌, nat_le, nat_lt, Bool, true, false, if◌then◌else◌, List, [], ◌∷◌, length, map, Option, None, Some, Result, Ok, Err, Bor, refl, subst, arith}
-use Rattle.std.specs.Prelude.{codes, ok_or, All, IfSome, max, replicate}
+use Rattle.std.proofs.Common.{◌≡◌, ◌<◌, slice_index_or, take, ℕ, ◌+◌, ◌*◌, ◌≤◌, ◌-◌, ◌^◌, ◌==◌, nat_lt, Bool, true, false, List, [], ◌∷◌, length, Option, None, Some, Ok, Bor, refl, subst, arith}
+use Rattle.std.specs.Prelude.{All, IfSome}
 use Rattle.std.proofs.lemmas.Bool.{le-leb, le-ltb}
-use Rattle.std.proofs.lemmas.List.Elements.{All-nil, All-cons, All-head, All-more, All-tail}
+use Rattle.std.proofs.lemmas.List.Elements.{All-head, All-more, All-tail}
 use Rattle.std.specs.Option.{option_map}
 use Rattle.std.specs.Str.{is_utf8}
-use Rattle.hex.specs.Hex.{IsBytes, decode_sized, encode_lower}
+use Rattle.hex.specs.Hex.{IsBytes}
 use Rattle.hex.proofs.HexLemmas.{decode_sized-encode_lower}
-use Rattle.serde_json.specs.Data.{Data, Items, Members, number, unsigned, depth, items_depth, members_depth}
-use Rattle.serde_json.specs.View.{items_of}
+use Rattle.serde_json.specs.Data.{Data, number, unsigned, depth, items_depth}
 use Rattle.serde_json.specs.Find.{get}
 use Rattle.serde_json.specs.Read.{read}
 use Rattle.chi_fields.specs.Extent.{Extent, IsRegion, region_of}
@@ -16,7 +15,7 @@ use Rattle.chi_fields.specs.declared.request.Request.{Request}
 use Rattle.chi_json.specs.Members.{number_of, opening_words, stated_words}
 use Rattle.chi_json.specs.Values.{json_value}
 use Rattle.chi_script.specs.declared.member.Member.{Member}
-use Rattle.chi_script.specs.declared.member.Member.TheVariants.{Base, Granules, Src, Txn, Opcode, Size, Addr, Endian, Be, Lanes}
+use Rattle.chi_script.specs.declared.member.Member.TheVariants.{Base, Granules, Src, Txn, Opcode, Size, Addr, Endian, Be}
 use Rattle.chi_script.specs.Member.{member_name}
 use Rattle.chi_script.specs.Script.{element_of, object_script, request_of, requests_of, script}
 use Rattle.chi_stimulus.specs.Object.{IsReadBack, IsWritable, all_data, byte_order, image_words, request_data, script_data, with_array, with_bytes, with_number}

@@ -1,5 +1,5 @@
 -- an operand in a data packet
-use Rattle.std.specs.Prelude.{ℕ, ◌≤◌}
+use Rattle.std.specs.Prelude.{◌≤◌}
 use Rattle.chi_stimulus.specs.declared.request.Operand.{Operand}
 
 -- it begins in one of sixteen lanes, and has one to eight

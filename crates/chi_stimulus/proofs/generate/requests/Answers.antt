@@ -1,8 +1,8 @@
 -- one request more
-use Rattle.std.proofs.Common.{rules, arith, ◌≡◌, ◌<◌, ◌++◌, ◌∷◌, [], ◌∙◌, sym, ap, subst, length, All}
+use Rattle.std.proofs.Common.{rules, ◌<◌, ◌∙◌, sym, ap, subst, All}
 use Rattle.chi_stimulus.specs.Generated.{AreDecided, requesters_of}
 use Rattle.chi_stimulus.specs.Object.{IsSmall}
-use Rattle.chi_stimulus.specs.Plan.{refusal_at, refusal_of}
+use Rattle.chi_stimulus.specs.Plan.{refusal_at}
 use Rattle.chi_stimulus.proofs.Pushed.{all_more, decided_more}
 use Rattle.chi_stimulus.proofs.generate.requests.Goals as goal
 
