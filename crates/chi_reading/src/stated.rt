@@ -32,8 +32,7 @@ fn end(object: &Value) -> Result<u64, MemberFault<Member>>
     if object.get(Member::End.name()).is_none() {
         return Ok(u64::MAX);
     }
-    let end = number(object, Member::End, u64::MAX)?;
-    Ok(end)
+    number(object, Member::End, u64::MAX)
 }
 
 /// What was answered: `comp`, or the data packet as 32 hex digits, lane 0 first.
