@@ -1,4 +1,4 @@
-//! Tests of tables of coverage.
+//! Tests of tables of coverage, and of scripts by chance.
 #![tactic(auto)]
 
 #[cfg(test)]

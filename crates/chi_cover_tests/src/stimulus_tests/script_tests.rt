@@ -1,7 +1,7 @@
 //! Tests of scripts by chance as texts.
 
 use crate::comparison::assert_same;
-use crate::executed::{script_of, stimulus};
+use crate::stimulus_tests::executed::{script_of, stimulus};
 use chi_fields::Region;
 use chi_stimulus::{Stimulus, generated_script};
 use std::test::Fail;

@@ -1,8 +1,8 @@
 //! Tests of the requests that are to be refused.
 
 use crate::comparison::assert_same;
-use crate::counts::Counts;
-use crate::executed::{script_of, stimulus};
+use crate::stimulus_tests::counts::Counts;
+use crate::stimulus_tests::executed::{script_of, stimulus};
 use chi_fields::{Refusal, decode};
 use chi_stimulus::Stimulus;
 use std::alloc::Global;

@@ -1,8 +1,10 @@
 //! Tests of what AtomicLoad leaves: the number that was found, one of the other sign, and a sum beyond its bytes.
 
 use crate::comparison::assert_same;
-use crate::counts::Counts;
-use crate::executed::{Executed, bits, number, operations_of, power, script_of, stimulus};
+use crate::stimulus_tests::counts::Counts;
+use crate::stimulus_tests::executed::{
+    Executed, bits, number, operations_of, power, script_of, stimulus,
+};
 use chi_fields::{Kind, Op};
 use std::test::Fail;
 

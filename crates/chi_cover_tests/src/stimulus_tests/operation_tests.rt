@@ -1,8 +1,8 @@
 //! Tests that each operation comes.
 
 use crate::comparison::assert_same;
-use crate::counts::Counts;
-use crate::executed::{number, operations_of, power, script_of, stimulus};
+use crate::stimulus_tests::counts::Counts;
+use crate::stimulus_tests::executed::{number, operations_of, power, script_of, stimulus};
 use chi_fields::Kind;
 use chi_stimulus::{Mix, Stimulus};
 use std::test::Fail;
