@@ -8,6 +8,8 @@ mod image_tests;
 #[cfg(test)]
 mod input_tests;
 #[cfg(test)]
+mod member_tests;
+#[cfg(test)]
 mod sample_scripts;
 #[cfg(test)]
 mod script_tests;
