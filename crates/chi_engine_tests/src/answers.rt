@@ -1,7 +1,7 @@
 //! The engine executed on texts, and what it answers to them.
 
 use crate::comparison::assert_same;
-use crate::scripts::{joined, script};
+use crate::scripts::{BOOK, joined, script};
 use chi_engine::{EngineFault, Options, engine_cover, engine_race, engine_run, status_of};
 use chi_history::NoGate;
 use chi_script::ScriptFault;
@@ -37,16 +37,28 @@ pub(crate) fn execute<T: AllocGlobal + Threads + Wait + Sync, R: Read, W: Write>
     }
 }
 
-// How many bytes are written for a text.
-pub(crate) fn length_written<T: AllocGlobal + Threads + Wait + Sync>(
+// What is written for a text.
+pub(crate) fn written<T: AllocGlobal + Threads + Wait + Sync>(
     rt: &T,
     engine: Engine,
     options: &Options,
     mut text: &[u8],
-) -> Result<usize, EngineFault> {
+) -> Result<Vec<u8>, EngineFault> {
     let mut to: Vec<u8> = Vec::new(rt.alloc());
     execute(rt, engine, options, &mut text, &mut to)?;
-    Ok(to.len())
+    Ok(to)
+}
+
+// So many bytes are written for a text.
+pub(crate) fn assert_length<T: AllocGlobal + Abort + Threads + Wait + Sync>(
+    rt: &T,
+    engine: Engine,
+    text: &[u8],
+    length: usize,
+) -> Result<(), Fail> {
+    let found = written(rt, engine, &BOOK, text)?;
+    assert_same(rt, found.len(), length);
+    Ok(())
 }
 
 // The fault that a text is refused by, with nothing written.
@@ -100,9 +112,8 @@ pub(crate) fn assert_written<T: AllocGlobal + Abort + Threads + Wait + Sync>(
     script: &str,
     want: &str,
 ) -> Result<(), Fail> {
-    let mut to: Vec<u8> = Vec::new(rt.alloc());
-    execute(rt, engine, options, &mut script.as_bytes(), &mut to)?;
-    assert_same(&rt, to.as_slice(), want.as_bytes());
+    let found = written(rt, engine, options, script.as_bytes())?;
+    assert_same(rt, found.as_slice(), want.as_bytes());
     Ok(())
 }
 

@@ -1,6 +1,6 @@
 //! What a small script covers, worked by hand.
 
-use crate::answers::{Engine, execute, refusal_of};
+use crate::answers::{Engine, refusal_of, written};
 use crate::comparison::assert_same;
 use crate::scripts::{BOOK, FETCH_ADD, STORES, script_of};
 use chi_script::ScriptFault;
@@ -75,15 +75,8 @@ fn cover_of_eight_requests(rt: HostRuntime) -> Result<(), Fail> {
     let requests = [FETCH_ADD, REFUSED, FETCH_ADD, WRITE_AND_COMPARE];
     let text = script_of(&rt, "2", &requests)?;
     for options in &STORES {
-        let mut to: Vec<u8> = Vec::new(rt.alloc());
-        execute(
-            &rt,
-            Engine::Cover,
-            options,
-            &mut text.as_str().as_bytes(),
-            &mut to,
-        )?;
-        assert_lines(&rt, to.as_slice(), &WANTED);
+        let found = written(&rt, Engine::Cover, options, text.as_bytes())?;
+        assert_lines(&rt, found.as_slice(), &WANTED);
     }
     Ok(())
 }
@@ -101,15 +94,8 @@ const NOTHING: [(usize, &str); 6] = [
 #[test]
 fn cover_of_no_requests(rt: HostRuntime) -> Result<(), Fail> {
     let text = script_of(&rt, "1", &[])?;
-    let mut to: Vec<u8> = Vec::new(rt.alloc());
-    execute(
-        &rt,
-        Engine::Cover,
-        &BOOK,
-        &mut text.as_str().as_bytes(),
-        &mut to,
-    )?;
-    assert_lines(&rt, to.as_slice(), &NOTHING);
+    let found = written(&rt, Engine::Cover, &BOOK, text.as_bytes())?;
+    assert_lines(&rt, found.as_slice(), &NOTHING);
     Ok(())
 }
 

@@ -1,6 +1,8 @@
 //! The faults of scripts, and the texts and statuses of all.
 
-use crate::answers::{ENGINES, Engine, assert_told, fault_of, length_written, script_fault};
+use crate::answers::{
+    ENGINES, Engine, assert_length, assert_told, fault_of, script_fault, written,
+};
 use crate::comparison::assert_same;
 use crate::scripts::{BOOK, script};
 use chi_engine::EngineFault;
@@ -30,50 +32,54 @@ fn assert_refused<T: AllocGlobal + Abort + Threads + Wait + Sync>(
     assert_told(rt, &fault, text, 3)
 }
 
+const NOT_JSON: &str = "script is not JSON";
+
+const PAST_ADDRESSES: &str = "script region is refused: EndPastAddresses";
+
+// Scripts that are refused, by which fault, and its text.
+const REFUSED: [(&str, ScriptFault, &str); 9] = [
+    (
+        "{\"base\":4096,\"granules\":8,\"requests\":[]",
+        ScriptFault::NotJson,
+        NOT_JSON,
+    ),
+    ("", ScriptFault::NotJson, NOT_JSON),
+    ("[]", ScriptFault::NotObject, "script is not an object"),
+    (
+        "{}",
+        ScriptFault::Missing(Member::Base),
+        "script member base is missing",
+    ),
+    (
+        "{\"base\":\"4096\",\"granules\":8,\"requests\":[]}",
+        ScriptFault::BadMember(Member::Base),
+        "script member base is not as stated",
+    ),
+    (
+        "{\"base\":4096,\"granules\":513,\"requests\":[]}",
+        ScriptFault::RegionRefused(RegionFault::GranuleCount),
+        "script region is refused: GranuleCount",
+    ),
+    (
+        "{\"base\":4097,\"granules\":0,\"requests\":[]}",
+        ScriptFault::RegionRefused(RegionFault::BaseNotLineAligned),
+        "script region is refused: BaseNotLineAligned",
+    ),
+    (
+        "{\"base\":4503599627370496,\"granules\":1,\"requests\":[]}",
+        ScriptFault::RegionRefused(RegionFault::EndPastAddresses),
+        PAST_ADDRESSES,
+    ),
+    (
+        "{\"base\":4503599627370432,\"granules\":9,\"requests\":[]}",
+        ScriptFault::RegionRefused(RegionFault::EndPastAddresses),
+        PAST_ADDRESSES,
+    ),
+];
+
 #[test]
 fn script_faults(rt: HostRuntime) -> Result<(), Fail> {
-    let not_json = "script is not JSON";
-    let past_addresses = "script region is refused: EndPastAddresses";
-    let refused = [
-        (
-            "{\"base\":4096,\"granules\":8,\"requests\":[]",
-            ScriptFault::NotJson,
-            not_json,
-        ),
-        ("", ScriptFault::NotJson, not_json),
-        ("[]", ScriptFault::NotObject, "script is not an object"),
-        (
-            "{}",
-            ScriptFault::Missing(Member::Base),
-            "script member base is missing",
-        ),
-        (
-            "{\"base\":\"4096\",\"granules\":8,\"requests\":[]}",
-            ScriptFault::BadMember(Member::Base),
-            "script member base is not as stated",
-        ),
-        (
-            "{\"base\":4096,\"granules\":513,\"requests\":[]}",
-            ScriptFault::RegionRefused(RegionFault::GranuleCount),
-            "script region is refused: GranuleCount",
-        ),
-        (
-            "{\"base\":4097,\"granules\":0,\"requests\":[]}",
-            ScriptFault::RegionRefused(RegionFault::BaseNotLineAligned),
-            "script region is refused: BaseNotLineAligned",
-        ),
-        (
-            "{\"base\":4503599627370496,\"granules\":1,\"requests\":[]}",
-            ScriptFault::RegionRefused(RegionFault::EndPastAddresses),
-            past_addresses,
-        ),
-        (
-            "{\"base\":4503599627370432,\"granules\":9,\"requests\":[]}",
-            ScriptFault::RegionRefused(RegionFault::EndPastAddresses),
-            past_addresses,
-        ),
-    ];
-    for (script, want, text) in &refused {
+    for (script, want, text) in &REFUSED {
         for engine in &ENGINES {
             assert_refused(&rt, *engine, script, *want, text)?;
         }
@@ -84,15 +90,13 @@ fn script_faults(rt: HostRuntime) -> Result<(), Fail> {
 #[test]
 fn script_faults_of_the_last_line(rt: HostRuntime) -> Result<(), Fail> {
     let last = "{\"base\":4503599627370432,\"granules\":8,\"requests\":[]}";
-    let length = length_written(&rt, Engine::Run, &BOOK, last.as_bytes())?;
-    assert_same(&rt, length, 288);
-    Ok(())
+    assert_length(&rt, Engine::Run, last.as_bytes(), 288)
 }
 
 #[test]
 fn script_faults_of_a_third_requester(rt: HostRuntime) -> Result<(), Fail> {
     let text = script(&rt, &[READ_OF_THREE])?;
-    length_written(&rt, Engine::Run, &BOOK, text.as_bytes())?;
+    written(&rt, Engine::Run, &BOOK, text.as_bytes())?;
     assert_refused(
         &rt,
         Engine::Race,
@@ -106,7 +110,7 @@ fn script_faults_of_a_third_requester(rt: HostRuntime) -> Result<(), Fail> {
 fn script_faults_of_too_many_requests(rt: HostRuntime) -> Result<(), Fail> {
     let requests = [READ_OF_THREE; 4_097];
     let most = script(&rt, &requests[..4_096])?;
-    length_written(&rt, Engine::Run, &BOOK, most.as_bytes())?;
+    written(&rt, Engine::Run, &BOOK, most.as_bytes())?;
     let more = script(&rt, &requests)?;
     assert_refused(
         &rt,

@@ -1,7 +1,7 @@
 //! Scripts that are broken: each is refused by the fault's name, by reading and by both engines.
 
 use crate::answers::{
-    ENGINES, Engine, assert_told, assert_written, fault_of, length_written, refusal_of,
+    ENGINES, Engine, assert_length, assert_told, assert_written, fault_of, refusal_of,
 };
 use crate::comparison::assert_same;
 use crate::scripts::{
@@ -32,8 +32,7 @@ fn assert_refused<T: AllocGlobal + Abort + Threads + Wait + Sync>(
     let [run, race] = ENGINES;
     let run = refusal_of(rt, run, &BOOK, text);
     let race = refusal_of(rt, race, &BOOK, text);
-    let want = Some(want);
-    assert_same(&rt, (what, (read, run, race)), (what, (want, want, want)));
+    assert_same(rt, (what, [read, run, race]), (what, [Some(want); 3]));
 }
 
 // The first fetch-add's script with one part exchanged for another.
@@ -81,7 +80,7 @@ fn hostile_scripts(rt: HostRuntime) -> Result<(), Fail> {
         assert_refused(&rt, prefix, ScriptFault::NotJson, "a proper prefix");
     }
     let mut bytes = text.to_vec(rt.alloc())?;
-    if let Some(digit) = bytes.iter_mut().rev().nth(9) {
+    if let Some(digit) = bytes.get_mut(text.len().saturating_sub(10)) {
         *digit = 0xff;
     }
     let what = "a byte ff in a text";
@@ -98,33 +97,38 @@ fn hostile_scripts_of_many_levels(rt: HostRuntime) -> Result<(), Fail> {
     Ok(())
 }
 
+const BASE: &str = "\"base\":4096";
+
+const LANES: &str = "\"01000000000000000000000000000000\"";
+
+// Parts of the first fetch-add's script, what each is exchanged for, and the member that is not as stated then.
+const EXCHANGED: [(&str, &str, Member); 13] = [
+    (BASE, "\"base\":4096.5", Member::Base),
+    (BASE, "\"base\":-1", Member::Base),
+    (BASE, "\"base\":null", Member::Base),
+    ("\"txn\":1", "\"txn\":256", Member::Txn),
+    ("\"op\":48", "\"op\":256", Member::Opcode),
+    ("\"size\":3", "\"size\":8", Member::Size),
+    ("\"endian\":0", "\"endian\":2", Member::Endian),
+    ("\"endian\":0", "\"endian\":true", Member::Endian),
+    ("\"be\":255", "\"be\":65536", Member::Be),
+    (LANES, "\"0100000000000000000000000000000\"", Member::Lanes),
+    (
+        LANES,
+        "\"010000000000000000000000000000000\"",
+        Member::Lanes,
+    ),
+    (LANES, "\"0100000000000000000000000000000g\"", Member::Lanes),
+    (FETCH_ADD, "7", Member::Requests),
+];
+
 #[test]
 fn hostile_scripts_by_one_member(rt: HostRuntime) -> Result<(), Fail> {
-    let base = "\"base\":4096";
-    let lanes = "\"01000000000000000000000000000000\"";
-    for (part, other, member) in &[
-        (base, "\"base\":4096.5", Member::Base),
-        (base, "\"base\":-1", Member::Base),
-        (base, "\"base\":null", Member::Base),
-        ("\"txn\":1", "\"txn\":256", Member::Txn),
-        ("\"op\":48", "\"op\":256", Member::Opcode),
-        ("\"size\":3", "\"size\":8", Member::Size),
-        ("\"endian\":0", "\"endian\":2", Member::Endian),
-        ("\"endian\":0", "\"endian\":true", Member::Endian),
-        ("\"be\":255", "\"be\":65536", Member::Be),
-        (lanes, "\"0100000000000000000000000000000\"", Member::Lanes),
-        (
-            lanes,
-            "\"010000000000000000000000000000000\"",
-            Member::Lanes,
-        ),
-        (lanes, "\"0100000000000000000000000000000g\"", Member::Lanes),
-        (FETCH_ADD, "7", Member::Requests),
-    ] {
+    for (part, other, member) in &EXCHANGED {
         assert_bad(&rt, part, other, *member)?;
     }
-    assert_accepted(&rt, lanes, "\"010000000000000000ABCDEF00000000\"")?;
-    assert_accepted(&rt, base, "\"x\":[],\"base\":4096")
+    assert_accepted(&rt, LANES, "\"010000000000000000ABCDEF00000000\"")?;
+    assert_accepted(&rt, BASE, "\"x\":[],\"base\":4096")
 }
 
 #[test]
@@ -133,7 +137,7 @@ fn hostile_scripts_too_long(rt: HostRuntime) -> Result<(), Fail> {
     text.resize(40 + 4_194_265, b' ')?;
     let (most, _) = text.as_slice().split_at(40 + 4_194_264);
     for engine in &ENGINES {
-        assert_same(&rt, length_written(&rt, *engine, &BOOK, most)?, 288);
+        assert_length(&rt, *engine, most, 288)?;
         let fault = fault_of(&rt, *engine, &BOOK, text.as_slice());
         assert_told(&rt, &fault, "script is over 4194304 bytes", 3)?;
     }

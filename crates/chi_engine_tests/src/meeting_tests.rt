@@ -194,21 +194,28 @@ fn assert_race_meets<H: Home + Sync, T: AllocGlobal + Abort + Clock + Threads + 
     Ok(())
 }
 
-// The tests open each home for 0 and just the workers.
+// Two or four over both stores, each of which is opened for 0 and just the workers.
+fn assert_both_meet<T: AllocGlobal + Abort + Clock + Threads + Wait + Sync>(
+    rt: &T,
+    workers: u8,
+) -> Result<(), Fail>
+    requires two { 2 ≤ workers }
+    requires room { workers < 8 }
+{
+    let region = Region::new(0x1000, 8)?;
+    let requesters = workers + 1;
+    let (home, mut seat) = LockStore::open(rt.alloc(), region, requesters, &[0; 8])?;
+    assert_race_meets(rt, &home, &mut seat, u64::from(workers))?;
+    let (home, mut seat) = BookStore::open(rt.alloc(), region, requesters, 4, &[0; 8])?;
+    assert_race_meets(rt, &home, &mut seat, u64::from(workers))
+}
+
 #[test]
 fn gates_meet_by_race_two(rt: HostRuntime) -> Result<(), Fail> {
-    let region = Region::new(0x1000, 8)?;
-    let (home, mut seat) = LockStore::open(rt.alloc(), region, 3, &[0; 8])?;
-    assert_race_meets(&rt, &home, &mut seat, 2)?;
-    let (home, mut seat) = BookStore::open(rt.alloc(), region, 3, 4, &[0; 8])?;
-    assert_race_meets(&rt, &home, &mut seat, 2)
+    assert_both_meet(&rt, 2)
 }
 
 #[test]
 fn gates_meet_by_race_four(rt: HostRuntime) -> Result<(), Fail> {
-    let region = Region::new(0x1000, 8)?;
-    let (home, mut seat) = LockStore::open(rt.alloc(), region, 5, &[0; 8])?;
-    assert_race_meets(&rt, &home, &mut seat, 4)?;
-    let (home, mut seat) = BookStore::open(rt.alloc(), region, 5, 4, &[0; 8])?;
-    assert_race_meets(&rt, &home, &mut seat, 4)
+    assert_both_meet(&rt, 4)
 }
