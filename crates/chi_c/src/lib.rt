@@ -13,4 +13,6 @@ pub use names::{chi_op_name, chi_result_name};
 pub use word::{chi_apply, chi_decode};
 
 #[cfg(test)]
+mod comparison;
+#[cfg(test)]
 mod tests;

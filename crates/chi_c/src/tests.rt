@@ -1,6 +1,7 @@
 //! Tests of the calls, by bytes before and after them. Digits of packets and granules are bytes in the order of lanes
 //! and of addresses.
 
+use crate::comparison::assert_same;
 use crate::{chi_apply, chi_decode, chi_op_name, chi_result_name, chi_serve};
 use std::test::Fail;
 
@@ -51,9 +52,10 @@ fn executed(first: u64, asked: Asked) -> ([u64; 8], (u32, u8, u128)) {
 #[test]
 fn first_fetch_add(rt: HostRuntime) {
     let one = 0x01000000000000000000000000000000;
-    assert_eq!(rt;
+    assert_same(
+        &rt,
         executed(0, (0x30, 3, 0x1000, 0, 0x00ff, one)),
-        ([0x0100000000000000, 0, 0, 0, 0, 0, 0, 0], (0, 1, 0))
+        ([0x0100000000000000, 0, 0, 0, 0, 0, 0, 0], (0, 1, 0)),
     );
 }
 
@@ -65,9 +67,9 @@ fn byte_smax_umax_add(rt: HostRuntime) {
         (0x28, 0x80000000000000000000000000000000, 0x0000000000000000),
     ];
     for (opcode, lanes, after) in cases {
-        let (words, answer) = executed(0x8000000000000000, (opcode, 0, 0x1000, 0, 0x0001, lanes));
-        assert_eq!(rt; words, [after, 0, 0, 0, 0, 0, 0, 0], "{opcode}");
-        assert_eq!(rt; answer, (0, 0, 0), "{opcode}");
+        let found = executed(0x8000000000000000, (opcode, 0, 0x1000, 0, 0x0001, lanes));
+        let wanted = ([after, 0, 0, 0, 0, 0, 0, 0], (0, 0, 0));
+        assert_same(&rt, (opcode, found), (opcode, wanted));
     }
 }
 
@@ -80,9 +82,9 @@ fn smin_in_both_byte_orders(rt: HostRuntime) {
         (255, 0x8000000000000000),
         (0, 0x0000008000000000),
     ] {
-        let (words, answer) = executed(0x8000000000000000, (0x35, 2, 0x1000, endian, 0x000f, sent));
-        assert_eq!(rt; words, [after, 0, 0, 0, 0, 0, 0, 0], "{endian}");
-        assert_eq!(rt; answer, (0, 1, old), "{endian}");
+        let found = executed(0x8000000000000000, (0x35, 2, 0x1000, endian, 0x000f, sent));
+        let wanted = ([after, 0, 0, 0, 0, 0, 0, 0], (0, 1, old));
+        assert_same(&rt, (endian, found), (endian, wanted));
     }
 }
 
@@ -90,13 +92,15 @@ fn smin_in_both_byte_orders(rt: HostRuntime) {
 fn compare_in_upper_half(rt: HostRuntime) {
     let eight = 0x11223344556677880000000000000000;
     let four = 0xaabbccdd000000000000000000000000;
-    assert_eq!(rt;
+    assert_same(
+        &rt,
         executed(0, (0x39, 4, 0x1008, 0, 0xffff, eight)),
-        ([0, 0x1122334455667788, 0, 0, 0, 0, 0, 0], (0, 1, 0))
+        ([0, 0x1122334455667788, 0, 0, 0, 0, 0, 0], (0, 1, 0)),
     );
-    assert_eq!(rt;
+    assert_same(
+        &rt,
         executed(0, (0x39, 3, 0x1004, 0, 0x00ff, four)),
-        ([0x00000000aabbccdd, 0, 0, 0, 0, 0, 0, 0], (0, 1, 0))
+        ([0x00000000aabbccdd, 0, 0, 0, 0, 0, 0, 0], (0, 1, 0)),
     );
 }
 
@@ -112,11 +116,9 @@ fn refusals_write_nothing(rt: HostRuntime) {
         (6, (0x28, 1, 0x1000, 0, 0x0001, 0)),
     ];
     for (result, asked) in cases {
-        assert_eq!(rt;
-            executed(0x0102030405060708, asked),
-            ([0x0102030405060708, 0, 0, 0, 0, 0, 0, 0], left(result)),
-            "{result}"
-        );
+        let found = executed(0x0102030405060708, asked);
+        let wanted = ([0x0102030405060708, 0, 0, 0, 0, 0, 0, 0], left(result));
+        assert_same(&rt, (result, found), (result, wanted));
     }
 }
 
@@ -147,20 +149,22 @@ fn faults_of_regions(rt: HostRuntime) {
             &mut reply_lanes,
             &mut has_lanes,
         );
-        assert_eq!(rt; (found, word, has_lanes), (result, 7, 0xee), "{base}");
-        assert_eq!(rt; reply_lanes, LEFT, "{base}");
+        assert_same(
+            &rt,
+            (base, granules, (found, word, has_lanes, reply_lanes)),
+            (base, granules, (result, 7, 0xee, LEFT)),
+        );
     }
-    assert_eq!(rt; served(&mut [], (0x30, 3, 0x1000, 0, 0x00ff, 0)), left(18));
+    let found = served(&mut [], (0x30, 3, 0x1000, 0, 0x00ff, 0));
+    assert_same(&rt, found, left(18));
 }
 
 // More words than a number of granules can say.
 #[test]
 fn too_many_words(rt: HostRuntime) -> Result<(), Fail> {
     let mut words = Vec::from_elem(rt.alloc(), 0, 65537)?;
-    assert_eq!(rt;
-        served(&mut words, (0x30, 3, 0x1000, 0, 0x00ff, 1)),
-        left(18)
-    );
+    let found = served(&mut words, (0x30, 3, 0x1000, 0, 0x00ff, 1));
+    assert_same(&rt, found, left(18));
     Ok(())
 }
 
@@ -188,22 +192,26 @@ fn decoded_requests(rt: HostRuntime) {
             &mut len,
             &mut granule,
         );
-        assert_eq!(rt; (result, (kind, op, len, granule)), (0, want), "{opcode}");
+        assert_same(
+            &rt,
+            (opcode, addr, result, (kind, op, len, granule)),
+            (opcode, addr, 0, want),
+        );
     }
 }
 
 #[test]
 fn names_in_buffers(rt: HostRuntime) {
     let mut buffer = *b"................";
-    assert_eq!(rt; chi_op_name(0x30, &mut buffer), 14);
-    assert_eq!(rt; buffer, *b"AtomicLoad.ADD\0.");
-    assert_eq!(rt; chi_result_name(4, &mut buffer), 10);
-    assert_eq!(rt; buffer, *b"Misaligned\0ADD\0.");
-    assert_eq!(rt; chi_result_name(7, &mut buffer), 0);
-    assert_eq!(rt; buffer, *b"\0isaligned\0ADD\0.");
-    assert_eq!(rt; chi_result_name(17, &mut buffer), 18);
-    assert_eq!(rt; buffer, *b"\0isaligned\0ADD\0.");
+    let length = chi_op_name(0x30, &mut buffer);
+    assert_same(&rt, (length, buffer), (14, *b"AtomicLoad.ADD\0."));
+    let length = chi_result_name(4, &mut buffer);
+    assert_same(&rt, (length, buffer), (10, *b"Misaligned\0ADD\0."));
+    let length = chi_result_name(7, &mut buffer);
+    assert_same(&rt, (length, buffer), (0, *b"\0isaligned\0ADD\0."));
+    let length = chi_result_name(17, &mut buffer);
+    assert_same(&rt, (length, buffer), (18, *b"\0isaligned\0ADD\0."));
     let mut ten = *b"..........";
-    assert_eq!(rt; chi_result_name(4, &mut ten), 10);
-    assert_eq!(rt; ten, *b"..........");
+    let length = chi_result_name(4, &mut ten);
+    assert_same(&rt, (length, ten), (10, *b".........."));
 }
