@@ -61,7 +61,7 @@ at the end: 0400000000000000
 // Within one state; within two, where an operation without an end is open; and where all is explained but the last of four.
 #[test]
 fn undecided_within_so_many_states(rt: HostRuntime) -> Result<(), Fail> {
-    for (trace, states, wanted) in [
+    for (trace, states, wanted) in &[
         (
             FINAL_WORD,
             1,
@@ -86,8 +86,8 @@ fn undecided_within_so_many_states(rt: HostRuntime) -> Result<(), Fail> {
 ",
         ),
     ] {
-        let found = text(rt.alloc(), trace, states, false)?;
-        assert_same(&rt, found.as_str(), wanted);
+        let found = text(rt.alloc(), trace, *states, false)?;
+        assert_same(&rt, found.as_str(), *wanted);
     }
     Ok(())
 }

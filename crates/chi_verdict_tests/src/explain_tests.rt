@@ -2,11 +2,11 @@
 
 use crate::comparison::assert_same;
 use crate::traces::{
-    HIGH, LOW, LOWER, Told, UPPER, WRITE, add, at, read, silent, trace, verdict, verdict_from,
-    write,
+    HIGH, LOW, LOWER, Told, UPPER, WRITE, add, assert_ordered, assert_verdicts, at, read, silent,
+    trace, write,
 };
 use chi_search::NoProgress;
-use chi_verdict::{GranuleWords, Verdict, explain};
+use chi_verdict::{GranuleWord, GranuleWords, Verdict, explain};
 use std::test::Fail;
 
 #[test]
@@ -16,20 +16,13 @@ fn granules_far_apart(rt: HostRuntime) -> Result<(), Fail> {
         read((5, 15), LOW, 0),
         read((11, 20), HIGH, 5),
     ];
-    let found = (
-        verdict(rt.alloc(), &ops, &[])?,
-        verdict(rt.alloc(), &ops, &[at(LOW, 0), at(HIGH, 5)])?,
-        verdict(rt.alloc(), &ops, &[at(LOW, 1), at(HIGH, 5)])?,
-        verdict(rt.alloc(), &ops, &[at(LOW, 0), at(HIGH, 0)])?,
-    );
-    let wanted = (
-        Told::Explained(3),
-        Told::Explained(3),
-        Told::Unexplained(LOWER),
-        Told::Unexplained(UPPER),
-    );
-    assert_same(&rt, found, wanted);
-    Ok(())
+    let wanted: [(&[GranuleWord], Told); 4] = [
+        (&[], Told::Explained(3)),
+        (&[at(LOW, 0), at(HIGH, 5)], Told::Explained(3)),
+        (&[at(LOW, 1), at(HIGH, 5)], Told::Unexplained(LOWER)),
+        (&[at(LOW, 0), at(HIGH, 0)], Told::Unexplained(UPPER)),
+    ];
+    assert_verdicts(&rt, &ops, &wanted)
 }
 
 #[test]
@@ -39,39 +32,29 @@ fn stale_read_in_one_granule(rt: HostRuntime) -> Result<(), Fail> {
         read((5, 15), LOW, 0),
         read((11, 20), HIGH, 0),
     ];
-    let found = verdict(rt.alloc(), &ops, &[])?;
-    assert_same(&rt, found, Told::Unexplained(UPPER));
-    Ok(())
+    assert_verdicts(&rt, &ops, &[(&[], Told::Unexplained(UPPER))])
 }
 
 #[test]
 fn word_of_a_granule_without_operations(rt: HostRuntime) -> Result<(), Fail> {
     let ops = [read((5, 15), LOW, 0)];
-    let found = (
-        verdict(rt.alloc(), &ops, &[at(HIGH, 0)])?,
-        verdict(rt.alloc(), &ops, &[at(HIGH, 7)])?,
-        verdict(rt.alloc(), &[], &[at(LOW, 7)])?,
-        verdict_from(rt.alloc(), &[at(LOW, 4)], &[], &[at(LOW, 4)])?,
-    );
-    let wanted = (
-        Told::Explained(1),
-        Told::Unexplained(UPPER),
-        Told::Unexplained(LOWER),
-        Told::Explained(0),
-    );
-    assert_same(&rt, found, wanted);
-    Ok(())
+    let wanted: [(&[GranuleWord], Told); 2] = [
+        (&[at(HIGH, 0)], Told::Explained(1)),
+        (&[at(HIGH, 7)], Told::Unexplained(UPPER)),
+    ];
+    assert_verdicts(&rt, &ops, &wanted)?;
+    assert_verdicts(&rt, &[], &[(&[at(LOW, 7)], Told::Unexplained(LOWER))])?;
+    assert_ordered(&rt, &[at(LOW, 4)], &[], &[at(LOW, 4)], &[])
 }
 
 #[test]
 fn open_write_that_a_read_found(rt: HostRuntime) -> Result<(), Fail> {
     let ops = [silent((0, u64::MAX), WRITE, LOW, 4), read((5, 10), LOW, 4)];
-    let found = (
-        verdict(rt.alloc(), &ops, &[at(LOW, 4)])?,
-        verdict(rt.alloc(), &ops, &[at(LOW, 0)])?,
-    );
-    assert_same(&rt, found, (Told::Explained(2), Told::Unexplained(LOWER)));
-    Ok(())
+    let wanted: [(&[GranuleWord], Told); 2] = [
+        (&[at(LOW, 4)], Told::Explained(2)),
+        (&[at(LOW, 0)], Told::Unexplained(LOWER)),
+    ];
+    assert_verdicts(&rt, &ops, &wanted)
 }
 
 #[test]
@@ -80,8 +63,7 @@ fn more_granules_than_a_region_has(rt: HostRuntime) -> Result<(), Fail> {
     for granule in 0..600 {
         ops.push(write((granule, granule + 9), HIGH - 64 * granule, granule))?;
     }
-    assert_same(&rt, verdict(rt.alloc(), &ops, &[])?, Told::Explained(600));
-    Ok(())
+    assert_verdicts(&rt, &ops, &[(&[], Told::Explained(600))])
 }
 
 #[test]

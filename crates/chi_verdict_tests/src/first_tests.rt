@@ -2,7 +2,8 @@
 
 use crate::comparison::assert_same;
 use crate::traces::{
-    BUDGET, HIGH, LOW, LOWER, NEXT, Timed, Told, UPPER, add, at, blame, read, trace, verdict, write,
+    BUDGET, HIGH, LOW, LOWER, NEXT, Timed, Told, UPPER, add, assert_blamed, assert_verdicts, at,
+    read, trace, write,
 };
 use chi_search::{NoProgress, Words};
 use chi_verdict::{Blame, First, first_unexplained};
@@ -18,38 +19,27 @@ fn first_of_two_granules(rt: HostRuntime) -> Result<(), Fail> {
         read((12, 20), HIGH, 0),
         read((22, 30), HIGH, 5),
     ];
-    assert_same(&rt, blame(rt.alloc(), &ops)?, Some((UPPER, 20, 3)));
-    Ok(())
+    assert_blamed(&rt, &ops, Some((UPPER, 20, 3)))
 }
 
 #[test]
 fn reply_that_came_later_is_not_known_before(rt: HostRuntime) -> Result<(), Fail> {
     let ops = [add((0, 100), LOW, 7), read((10, 20), LOW, 1)];
-    let found = (verdict(rt.alloc(), &ops, &[])?, blame(rt.alloc(), &ops)?);
-    assert_same(
-        &rt,
-        found,
-        (Told::Unexplained(LOWER), Some((LOWER, 100, 0))),
-    );
-    Ok(())
+    assert_verdicts(&rt, &ops, &[(&[], Told::Unexplained(LOWER))])?;
+    assert_blamed(&rt, &ops, Some((LOWER, 100, 0)))
 }
 
 #[test]
 fn explained_at_each_time(rt: HostRuntime) -> Result<(), Fail> {
     let ops = [write((0, 10), LOW, 5), read((11, 20), LOW, 5)];
-    let found = (
-        verdict(rt.alloc(), &ops, &[at(LOW, 6)])?,
-        blame(rt.alloc(), &ops)?,
-    );
-    assert_same(&rt, found, (Told::Unexplained(LOWER), None));
-    Ok(())
+    assert_verdicts(&rt, &ops, &[(&[at(LOW, 6)], Told::Unexplained(LOWER))])?;
+    assert_blamed(&rt, &ops, None)
 }
 
 #[test]
 fn wrong_at_the_first_time_of_all(rt: HostRuntime) -> Result<(), Fail> {
     let ops = [read((0, 0), LOW, 1)];
-    assert_same(&rt, blame(rt.alloc(), &ops)?, Some((LOWER, 0, 0)));
-    Ok(())
+    assert_blamed(&rt, &ops, Some((LOWER, 0, 0)))
 }
 
 // The order up to the time before the blamed one, and in rising order the operations that were open then and the words that
@@ -131,7 +121,8 @@ fn undecided_at_once(alloc: Global, ops: &[Timed]) -> Result<Option<(u64, u64)>,
 fn nothing_to_blame(rt: HostRuntime) -> Result<(), Fail> {
     let alloc = rt.alloc();
     let ops = [write((0, 10), LOW, 5), read((20, 30), LOW, 5)];
-    assert_same(&rt, (blame(alloc, &ops)?, blame(alloc, &[])?), (None, None));
+    assert_blamed(&rt, &ops, None)?;
+    assert_blamed(&rt, &[], None)?;
     let found = (
         undecided_at_once(alloc, &ops)?,
         undecided_at_once(alloc, &[])?,

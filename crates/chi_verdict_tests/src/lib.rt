@@ -1,4 +1,4 @@
-//! Tests of whole traces.
+//! Tests of the search of one granule, and of whole traces.
 #![tactic(auto)]
 
 #[cfg(test)]
@@ -17,6 +17,8 @@ mod order_tests;
 mod progress_tests;
 #[cfg(test)]
 mod random_tests;
+#[cfg(test)]
+mod search_tests;
 #[cfg(test)]
 mod trace_tests;
 #[cfg(test)]

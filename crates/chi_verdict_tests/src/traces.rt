@@ -243,3 +243,14 @@ pub(crate) fn blame(alloc: Global, ops: &[Timed]) -> Result<Option<(u64, u64, us
         } => Err(Fail::new("the budget was spent")),
     }
 }
+
+/// Compares where these operations stop being explained, if they do.
+pub(crate) fn assert_blamed<R: AllocGlobal + Abort>(
+    rt: &R,
+    ops: &[Timed],
+    wanted: Option<(u64, u64, usize)>,
+) -> Result<(), Fail> {
+    let found = blame(rt.alloc(), ops)?;
+    assert_same(rt, found, wanted);
+    Ok(())
+}

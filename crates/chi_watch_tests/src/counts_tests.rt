@@ -19,7 +19,7 @@ fn a_handful_of_events(rt: HostRuntime) -> Result<(), Fail> {
         length: 1,
     };
     let mut watch = Watch::new(rt.alloc());
-    for (time, kind, ended, outstanding, granules, unjudged) in [
+    for (time, kind, ended, outstanding, granules, unjudged) in &[
         (1, EventKind::Word(word(0)), 0, 0, 1, 0),
         (2, write(1, 5), 0, 1, 1, 0),
         (3, done(1), 1, 0, 1, 0),
@@ -30,16 +30,16 @@ fn a_handful_of_events(rt: HostRuntime) -> Result<(), Fail> {
         (8, EventKind::Dropped { id: 3 }, 2, 0, 4, 2),
         (9, first, 2, 0, 4, 3),
     ] {
-        take(rt.alloc(), &mut watch, time, kind)?;
+        take(rt.alloc(), &mut watch, *time, *kind)?;
         let wanted = Counts {
-            ended,
-            outstanding,
-            granules,
+            ended: *ended,
+            outstanding: *outstanding,
+            granules: *granules,
         };
         assert_same(
             &rt,
-            (time, watch.counts(), watch.unjudged()),
-            (time, wanted, unjudged),
+            (*time, watch.counts(), watch.unjudged()),
+            (*time, wanted, *unjudged),
         );
     }
     Ok(())

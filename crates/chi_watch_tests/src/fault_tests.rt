@@ -30,7 +30,7 @@ fn faults_and_their_texts(rt: HostRuntime) -> Result<(), Fail> {
         addr: 4096,
         length: 0,
     };
-    for (kinds, kind, fault, text) in [
+    for (kinds, kind, fault, text) in &[
         (
             wrote.as_slice(),
             done(1),
@@ -68,9 +68,9 @@ fn faults_and_their_texts(rt: HostRuntime) -> Result<(), Fail> {
             "has no length from 1 to 4096 below 2^52",
         ),
     ] {
-        assert_same(&rt, fault_after(rt.alloc(), kinds, kind)?, Some(fault));
+        assert_same(&rt, fault_after(rt.alloc(), kinds, *kind)?, Some(*fault));
         let shown = format!(in rt.alloc(); "{fault}")?;
-        assert_same(&rt, shown.as_str(), text);
+        assert_same(&rt, shown.as_str(), *text);
     }
     Ok(())
 }

@@ -1,4 +1,4 @@
-//! Tests of how granules are watched while events come.
+//! Tests of events, and of how granules are watched while they come.
 #![tactic(auto)]
 
 #[cfg(test)]
@@ -7,6 +7,8 @@ mod comparison;
 mod counts_tests;
 #[cfg(test)]
 mod ending_tests;
+#[cfg(test)]
+mod event_tests;
 #[cfg(test)]
 mod fault_tests;
 #[cfg(test)]

@@ -52,15 +52,15 @@ fn a_lost_addition(rt: HostRuntime) -> Result<(), Fail> {
 // A write that was dropped took no effect; one that ended with an error may have taken effect or not.
 #[test]
 fn dropped_and_in_error(rt: HostRuntime) -> Result<(), Fail> {
-    for (end, value, is_found) in [
+    for (end, value, is_found) in &[
         (dropped(1), 0, false),
         (dropped(1), 5, true),
         (error(1), 0, false),
         (error(1), 5, false),
         (error(1), 6, true),
     ] {
-        let kinds = [write(1, 5), end, read(2), answer(2, value)];
-        assert_found(&rt, &kinds, granule_if(is_found))?;
+        let kinds = [write(1, 5), *end, read(2), answer(2, *value)];
+        assert_found(&rt, &kinds, granule_if(*is_found))?;
     }
     Ok(())
 }

@@ -158,15 +158,17 @@ pub(crate) fn assert_before_read<R: AllocGlobal + Abort>(
     Ok(())
 }
 
-/// Whether this is the order that is found within 1,000 states.
-pub(crate) fn has_order(
-    alloc: Global,
-    ops: &[Timed],
-    last: Option<u64>,
-    wanted: &[usize],
-) -> Result<bool, Fail> {
-    let mut budget = 1000;
-    Ok(order(alloc, ops, last, &mut budget)?.as_slice() == wanted)
+/// Compares the order that is found of operations within 1,000 states, with this word at the end if one is told, in each case.
+pub(crate) fn assert_orders<R: AllocGlobal + Abort>(
+    rt: &R,
+    cases: &[(&[Timed], Option<u64>, &[usize])],
+) -> Result<(), Fail> {
+    for (ops, last, wanted) in cases {
+        let mut budget = 1000;
+        let found = order(rt.alloc(), ops, *last, &mut budget)?;
+        assert_same(rt, found.as_slice(), *wanted);
+    }
+    Ok(())
 }
 
 /// The words that the operations can leave from these words on, in rising order. In their place stands the number 998 alone
@@ -190,13 +192,15 @@ pub(crate) fn words(
     }
 }
 
-/// Whether these, in rising order, are the words that are found within 1,000 states.
-pub(crate) fn has_words(
-    alloc: Global,
-    ops: &[Timed],
-    opening: &[u64],
-    wanted: &[u64],
-) -> Result<bool, Fail> {
-    let mut budget = 1000;
-    Ok(words(alloc, ops, opening, &mut budget)?.as_slice() == wanted)
+/// Compares the words that are found of operations within 1,000 states, from these words on, in rising order, in each case.
+pub(crate) fn assert_words<R: AllocGlobal + Abort>(
+    rt: &R,
+    cases: &[(&[Timed], &[u64], &[u64])],
+) -> Result<(), Fail> {
+    for (ops, opening, wanted) in cases {
+        let mut budget = 1000;
+        let found = words(rt.alloc(), ops, opening, &mut budget)?;
+        assert_same(rt, found.as_slice(), *wanted);
+    }
+    Ok(())
 }

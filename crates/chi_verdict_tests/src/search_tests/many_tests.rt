@@ -1,7 +1,7 @@
 //! Tests of many operations that are open at once, and of the budget.
 
+use super::operations::{READ, STORE_ADD, Timed, done, order, told};
 use crate::comparison::assert_same;
-use crate::operations::{READ, STORE_ADD, Timed, done, order, told};
 use std::alloc::Global;
 use std::test::Fail;
 

@@ -1,8 +1,7 @@
 //! Tests of operations that can be moved before others.
 
-use crate::comparison::assert_same;
-use crate::operations::{
-    NOTHING, READ, STORE_ADD, WRITE, assert_before_read, done, done_at, has_order, told,
+use super::operations::{
+    NOTHING, READ, STORE_ADD, WRITE, assert_before_read, assert_orders, done, done_at, told,
 };
 use std::test::Fail;
 
@@ -58,10 +57,11 @@ fn operands_that_overlap_may_need_the_other_order(rt: HostRuntime) -> Result<(),
     let byte = done_at((0, 10), WRITE, 0, 0x05);
     let after = told((11, 20), READ, 0, 0x0105);
     let before = told((11, 20), READ, 0, 0x0102);
-    let found = (
-        has_order(rt.alloc(), &[whole, byte, after], None, &[0, 1, 2])?,
-        has_order(rt.alloc(), &[whole, byte, before], None, &[1, 0, 2])?,
-    );
-    assert_same(&rt, found, (true, true));
-    Ok(())
+    assert_orders(
+        &rt,
+        &[
+            (&[whole, byte, after], None, &[0, 1, 2]),
+            (&[whole, byte, before], None, &[1, 0, 2]),
+        ],
+    )
 }

@@ -1,10 +1,10 @@
 //! The operations that end by events.
 
-use crate::comparison::assert_same;
-use crate::home::{
+use super::home::{
     ENABLES, OLD, after, answer, assert_answered, assert_load, data, load_with_data,
     load_without_data, read, reply, take, take_each,
 };
+use crate::comparison::assert_same;
 use chi_events::{EventFault, EventKind};
 use chi_fields::Kind;
 use chi_lanes::Reply;
@@ -23,10 +23,10 @@ fn data_with_the_request(rt: HostRuntime) -> Result<(), Fail> {
 #[test]
 fn data_after_the_request(rt: HostRuntime) -> Result<(), Fail> {
     let (sent, its_data) = (answer(3), data(3, ENABLES));
-    for (first, last) in [(its_data, sent), (sent, its_data)] {
-        let mut outstanding = after(rt.alloc(), &[(10, load_without_data(3)), (20, first)])?;
+    for (first, last) in &[(its_data, sent), (sent, its_data)] {
+        let mut outstanding = after(rt.alloc(), &[(10, load_without_data(3)), (20, *first)])?;
         let open = outstanding.requests().len();
-        let ended = take(&mut outstanding, 35, last)?;
+        let ended = take(&mut outstanding, 35, *last)?;
         assert_load(&rt, ended, (10, 35), Some(Reply::CompData(OLD)));
         assert_same(&rt, (open, outstanding.requests().len()), (1, 0));
     }
@@ -126,13 +126,13 @@ fn words_and_unknown_bytes(rt: HostRuntime) -> Result<(), Fail> {
         length: 8,
     };
     let mut outstanding = after(rt.alloc(), &[(10, load_with_data(3))])?;
-    for (time, kind) in [
+    for event in &[
         (11, EventKind::Word(word)),
         (12, EventKind::Final(word)),
         (13, unknown),
     ] {
-        take_each(&mut outstanding, &[(time, kind)])?;
-        assert_same(&rt, (time, outstanding.requests().len()), (time, 1));
+        take_each(&mut outstanding, &[*event])?;
+        assert_same(&rt, (event.0, outstanding.requests().len()), (event.0, 1));
     }
     Ok(())
 }

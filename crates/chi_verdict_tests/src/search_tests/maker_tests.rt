@@ -1,8 +1,9 @@
 //! Tests of operations that find what nothing leaves, and of last words that nothing leaves.
 
+use super::operations::{READ, Timed, WRITE, assert_orders, done, order, told};
 use crate::comparison::assert_same;
-use crate::operations::{READ, Timed, WRITE, done, has_order, order, told};
 use std::alloc::Global;
+use std::process::Abort;
 use std::test::Fail;
 
 // So many writes, all open at once, each of its own number in the first byte and in the last, and perhaps a read of a word.
@@ -22,35 +23,34 @@ fn writes(
     Ok(ops)
 }
 
-// Whether nothing is found of thirty writes and such a read, with this word at the end.
-fn finds_nothing(
-    alloc: Global,
-    read: Option<((u64, u64), u64)>,
-    last: Option<u64>,
-) -> Result<bool, Fail> {
-    has_order(alloc, &writes(alloc, 30, read)?, last, &[999])
+// Nothing is found of thirty writes and such a read, with this word at the end, in each case.
+fn assert_nothing<R: AllocGlobal + Abort>(
+    rt: &R,
+    cases: &[(Option<((u64, u64), u64)>, Option<u64>)],
+) -> Result<(), Fail> {
+    for (read, last) in cases {
+        let ops = writes(rt.alloc(), 30, *read)?;
+        assert_orders(rt, &[(&ops, *last, &[999])])?;
+    }
+    Ok(())
 }
 
 #[test]
 fn byte_that_none_wrote(rt: HostRuntime) -> Result<(), Fail> {
-    let found = (
-        finds_nothing(rt.alloc(), Some(((0, 20), 77)), None)?,
-        finds_nothing(rt.alloc(), Some(((21, 30), 77)), None)?,
-        finds_nothing(rt.alloc(), None, Some(77))?,
-    );
-    assert_same(&rt, found, (true, true, true));
-    Ok(())
+    assert_nothing(
+        &rt,
+        &[
+            (Some(((0, 20), 77)), None),
+            (Some(((21, 30), 77)), None),
+            (None, Some(77)),
+        ],
+    )
 }
 
 #[test]
 fn bytes_that_two_wrote(rt: HostRuntime) -> Result<(), Fail> {
     let both = 0x0100_0000_0000_0002;
-    let found = (
-        finds_nothing(rt.alloc(), Some(((0, 20), both)), None)?,
-        finds_nothing(rt.alloc(), None, Some(both))?,
-    );
-    assert_same(&rt, found, (true, true));
-    Ok(())
+    assert_nothing(&rt, &[(Some(((0, 20), both)), None), (None, Some(both))])
 }
 
 #[test]
@@ -58,12 +58,10 @@ fn word_that_one_wrote(rt: HostRuntime) -> Result<(), Fail> {
     let ops = writes(rt.alloc(), 3, Some(((0, 20), 0x0200_0000_0000_0002)))?;
     let third = Some(0x0300_0000_0000_0003);
     let first = Some(0x0100_0000_0000_0001);
-    let found = (
-        has_order(rt.alloc(), &ops, third, &[0, 1, 3, 2])?,
-        has_order(rt.alloc(), &ops, first, &[1, 3, 2, 0])?,
-    );
-    assert_same(&rt, found, (true, true));
-    Ok(())
+    assert_orders(
+        &rt,
+        &[(&ops, third, &[0, 1, 3, 2]), (&ops, first, &[1, 3, 2, 0])],
+    )
 }
 
 #[test]

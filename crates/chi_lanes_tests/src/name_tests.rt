@@ -31,8 +31,8 @@ const OPCODES: [(u8, &str); 20] = [
 
 // The name that is listed for an opcode.
 fn listed(opcode: u8) -> &'static str {
-    for (each, name) in OPCODES {
-        if each == opcode {
+    for (each, name) in &OPCODES {
+        if *each == opcode {
             return name;
         }
     }

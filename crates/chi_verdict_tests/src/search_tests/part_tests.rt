@@ -1,6 +1,6 @@
 //! Tests of searches that end since some bytes of the word have no order by themselves, or go on by what they tell.
 
-use crate::operations::{NOTHING, STORE_ADD, Timed, WRITE, assert_before_read, done, done_at};
+use super::operations::{NOTHING, STORE_ADD, Timed, WRITE, assert_before_read, done, done_at};
 use std::alloc::Global;
 use std::test::Fail;
 

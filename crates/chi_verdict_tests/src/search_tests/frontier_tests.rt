@@ -1,7 +1,7 @@
 //! Tests of a search whose operations are told one after the other, which were worked by hand.
 
+use super::operations::{ADD, STORE_ADD, Timed, done, seen, silent, told};
 use crate::comparison::assert_same;
-use crate::operations::{ADD, STORE_ADD, Timed, done, seen, silent, told};
 use chi_search::{Frontier, NoProgress, Words};
 use std::alloc::Global;
 use std::test::Fail;

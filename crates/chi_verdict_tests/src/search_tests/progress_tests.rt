@@ -2,8 +2,8 @@
 
 ghost use Rattle.std.specs.Prelude.{◌≡◌, ◌-◌, ◌^◌, min};
 
+use super::operations::{ADD, observed, silent};
 use crate::comparison::assert_same;
-use crate::operations::{ADD, observed, silent};
 use chi_search::{Progress, are_searchable, order_of, words_of};
 use std::test::Fail;
 

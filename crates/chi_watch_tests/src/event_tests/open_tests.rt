@@ -1,10 +1,10 @@
 //! Requests that are still open.
 
-use crate::comparison::assert_same;
-use crate::home::{
+use super::home::{
     ENABLES, LANES, OLD, after, answer, assert_load, data, load_with_data, load_without_data, read,
     take_each,
 };
+use crate::comparison::assert_same;
 use chi_events::Outstanding;
 use chi_lanes::Reply;
 use std::test::Fail;
@@ -39,16 +39,16 @@ fn open_with_data(rt: HostRuntime) -> Result<(), Fail> {
 fn open_without_data(rt: HostRuntime) -> Result<(), Fail> {
     let sent = Some(Some(Reply::CompData(OLD)));
     let events = [(10, load_without_data(3)), (11, answer(3))];
-    for (count, completion) in [(1, None), (2, sent)] {
+    for (count, completion) in &[(1, None), (2, sent)] {
         let mut outstanding = Outstanding::new(rt.alloc());
-        take_each(&mut outstanding, &events[..count])?;
+        take_each(&mut outstanding, &events[..*count])?;
         let [request] = outstanding.requests() else {
             return Err(Fail::new("there is not one request"));
         };
         assert_same(
             &rt,
-            (count, request.operation().is_none(), request.completion),
-            (count, true, completion),
+            (*count, request.operation().is_none(), request.completion),
+            (*count, true, *completion),
         );
     }
     Ok(())

@@ -1,10 +1,10 @@
 //! The faults of an event, and their texts.
 
-use crate::comparison::assert_same;
-use crate::home::{
+use super::home::{
     ENABLES, LANES, OLD, after, answer, assert_load, data, load_with_data, load_without_data, read,
     reply, take, take_each,
 };
+use crate::comparison::assert_same;
 use chi_events::{EventFault, EventKind, Outstanding, Requested};
 use chi_fields::Refusal;
 use chi_lanes::Reply;
@@ -41,6 +41,17 @@ fn assert_text<R: AllocGlobal + Abort>(
     Ok(())
 }
 
+// Compares the fault that an event met, and its text.
+fn assert_fault<R: AllocGlobal + Abort>(
+    rt: &R,
+    found: Option<EventFault>,
+    wanted: EventFault,
+    text: &str,
+) -> Result<(), Fail> {
+    assert_same(rt, (text, found), (text, Some(wanted)));
+    assert_text(rt, wanted, text)
+}
+
 // Request 1 has its data, request 2 waits for them, and so does request 3, whose completion has left. Request 4 needs none.
 // After a fault nothing has changed.
 #[test]
@@ -54,7 +65,7 @@ fn faults_and_their_texts(rt: HostRuntime) -> Result<(), Fail> {
     ];
     let mut outstanding = after(rt.alloc(), &events)?;
     let before = format!(in rt.alloc(); "{:?}", outstanding.requests())?;
-    for (time, kind, fault, text) in [
+    for (time, kind, fault, text) in &[
         (
             13,
             reply(1, None),
@@ -110,9 +121,8 @@ fn faults_and_their_texts(rt: HostRuntime) -> Result<(), Fail> {
             "is refused: Misaligned",
         ),
     ] {
-        let found = take(&mut outstanding, time, kind).err();
-        assert_same(&rt, (text, found), (text, Some(fault)));
-        assert_text(&rt, fault, text)?;
+        let found = take(&mut outstanding, *time, *kind).err();
+        assert_fault(&rt, found, *fault, text)?;
         let after = format!(in rt.alloc(); "{:?}", outstanding.requests())?;
         assert_same(&rt, after.as_str(), before.as_str());
     }
@@ -124,7 +134,7 @@ fn faults_and_their_texts(rt: HostRuntime) -> Result<(), Fail> {
 fn replies_that_no_home_gives(rt: HostRuntime) -> Result<(), Fail> {
     let mut stray = OLD;
     stray[7] = 1;
-    for (opcode, sent, fault, text) in [
+    for (opcode, sent, fault, text) in &[
         (
             0x28,
             Reply::CompData(OLD),
@@ -144,12 +154,10 @@ fn replies_that_no_home_gives(rt: HostRuntime) -> Result<(), Fail> {
             "ends a request that has a reply with a byte outside its operand",
         ),
     ] {
-        let asked = request(opcode, 3, 4104, ENABLES);
+        let asked = request(*opcode, 3, 4104, ENABLES);
         let mut outstanding = after(rt.alloc(), &[(10, asked)])?;
-        let found = take(&mut outstanding, 11, reply(9, Some(sent))).err();
-        let fault = EventFault::Reply(fault);
-        assert_same(&rt, (opcode, found), (opcode, Some(fault)));
-        assert_text(&rt, fault, text)?;
+        let found = take(&mut outstanding, 11, reply(9, Some(*sent))).err();
+        assert_fault(&rt, found, EventFault::Reply(*fault), text)?;
     }
     Ok(())
 }
@@ -172,7 +180,7 @@ fn data_after_a_reply_that_no_home_gives(rt: HostRuntime) -> Result<(), Fail> {
 #[test]
 fn refusals(rt: HostRuntime) -> Result<(), Fail> {
     let mut outstanding = Outstanding::new(rt.alloc());
-    for (opcode, size, addr, be, refusal, text) in [
+    for (opcode, size, addr, be, refusal, text) in &[
         (
             0x05,
             3,
@@ -222,11 +230,10 @@ fn refusals(rt: HostRuntime) -> Result<(), Fail> {
             "is refused: BadByteEnable",
         ),
     ] {
-        let fault = EventFault::Refused(refusal);
-        let found = take(&mut outstanding, 5, request(opcode, size, addr, be)).err();
-        let left = outstanding.requests().len();
-        assert_same(&rt, (text, found, left), (text, Some(fault), 0));
-        assert_text(&rt, fault, text)?;
+        let asked = request(*opcode, *size, *addr, *be);
+        let found = take(&mut outstanding, 5, asked).err();
+        assert_fault(&rt, found, EventFault::Refused(*refusal), text)?;
+        assert_same(&rt, outstanding.requests().len(), 0);
     }
     Ok(())
 }

@@ -1,7 +1,7 @@
 //! Tests of the words that a few operations can leave, which were worked by hand.
 
+use super::operations::{ADD, READ, STORE_ADD, WRITE, assert_words, done, silent, told, words};
 use crate::comparison::assert_same;
-use crate::operations::{ADD, READ, STORE_ADD, WRITE, done, has_words, silent, told, words};
 use std::test::Fail;
 
 #[test]
@@ -11,13 +11,14 @@ fn answered_adds_leave_one_word(rt: HostRuntime) -> Result<(), Fail> {
     let lost = told((5, 15), ADD, 2, 0);
     let one = done((0, 10), STORE_ADD, 1);
     let two = done((5, 15), STORE_ADD, 2);
-    let found = (
-        has_words(rt.alloc(), &[first, second], &[0], &[3])?,
-        has_words(rt.alloc(), &[first, lost], &[0], &[])?,
-        has_words(rt.alloc(), &[one, two], &[0], &[3])?,
-    );
-    assert_same(&rt, found, (true, true, true));
-    Ok(())
+    assert_words(
+        &rt,
+        &[
+            (&[first, second], &[0], &[3]),
+            (&[first, lost], &[0], &[]),
+            (&[one, two], &[0], &[3]),
+        ],
+    )
 }
 
 #[test]
@@ -25,13 +26,14 @@ fn silent_adds_leave_each_word_once(rt: HostRuntime) -> Result<(), Fail> {
     let add = silent((0, 10), ADD, 1);
     let other = silent((5, 15), ADD, 1);
     let read = told((20, 30), READ, 0, 8);
-    let found = (
-        has_words(rt.alloc(), &[add], &[7], &[7, 8])?,
-        has_words(rt.alloc(), &[add, other], &[7], &[7, 8, 9])?,
-        has_words(rt.alloc(), &[add, other, read], &[7], &[8])?,
-    );
-    assert_same(&rt, found, (true, true, true));
-    Ok(())
+    assert_words(
+        &rt,
+        &[
+            (&[add], &[7], &[7, 8]),
+            (&[add, other], &[7], &[7, 8, 9]),
+            (&[add, other, read], &[7], &[8]),
+        ],
+    )
 }
 
 #[test]
@@ -39,24 +41,20 @@ fn words_from_two_opening_words(rt: HostRuntime) -> Result<(), Fail> {
     let untold = done((0, 10), STORE_ADD, 1);
     let add = told((0, 10), ADD, 1, 5);
     let write = done((0, 10), WRITE, 4);
-    let found = (
-        has_words(rt.alloc(), &[untold], &[0, 5], &[1, 6])?,
-        has_words(rt.alloc(), &[add], &[0, 5], &[6])?,
-        has_words(rt.alloc(), &[write], &[0, 5], &[4])?,
-    );
-    assert_same(&rt, found, (true, true, true));
-    Ok(())
+    assert_words(
+        &rt,
+        &[
+            (&[untold], &[0, 5], &[1, 6]),
+            (&[add], &[0, 5], &[6]),
+            (&[write], &[0, 5], &[4]),
+        ],
+    )
 }
 
 #[test]
 fn no_words_from_none_and_the_opening_ones_without_operations(rt: HostRuntime) -> Result<(), Fail> {
     let add = silent((0, 10), ADD, 1);
-    let found = (
-        has_words(rt.alloc(), &[add], &[], &[])?,
-        has_words(rt.alloc(), &[], &[7, 3, 7], &[3, 7])?,
-    );
-    assert_same(&rt, found, (true, true));
-    Ok(())
+    assert_words(&rt, &[(&[add], &[], &[]), (&[], &[7, 3, 7], &[3, 7])])
 }
 
 #[test]

@@ -1,10 +1,10 @@
 //! Tests of what an operation would have to find before it could leave what another one finds.
 
-use crate::comparison::assert_same;
-use crate::operations::{
+use super::operations::{
     NOTHING, READ, STORE_ADD, STORE_EOR, Timed, WRITE, assert_before_read, count_and_last, done,
     done_at, told,
 };
+use crate::comparison::assert_same;
 use std::alloc::Global;
 use std::test::Fail;
 

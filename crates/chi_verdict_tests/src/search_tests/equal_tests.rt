@@ -1,7 +1,7 @@
 //! Tests of operations that do the same, and were answered the same.
 
+use super::operations::{ADD, SWAP, Timed, assert_orders, order, silent, told};
 use crate::comparison::assert_same;
-use crate::operations::{ADD, READ, SWAP, Timed, has_order, order, silent, told};
 use std::alloc::Global;
 use std::test::Fail;
 
@@ -19,13 +19,14 @@ fn silent_ones(alloc: Global) -> Result<Vec<Timed>, Fail> {
 fn loads_that_answered_the_same(rt: HostRuntime) -> Result<(), Fail> {
     let add = told((0, 10), ADD, 1, 0);
     let back = told((0, 10), SWAP, 0, 1);
-    let found = (
-        has_order(rt.alloc(), &[add, add], None, &[999])?,
-        has_order(rt.alloc(), &[add, add, back], Some(1), &[0, 2, 1])?,
-        has_order(rt.alloc(), &[add, add, back], Some(0), &[999])?,
-    );
-    assert_same(&rt, found, (true, true, true));
-    Ok(())
+    assert_orders(
+        &rt,
+        &[
+            (&[add, add], None, &[999]),
+            (&[add, add, back], Some(1), &[0, 2, 1]),
+            (&[add, add, back], Some(0), &[999]),
+        ],
+    )
 }
 
 #[test]
@@ -33,7 +34,6 @@ fn many_whose_replies_were_not_seen(rt: HostRuntime) -> Result<(), Fail> {
     let ops = silent_ones(rt.alloc())?;
     let mut budget = 1000;
     let found = order(rt.alloc(), &ops, Some(105), &mut budget)?;
-    let nothing = has_order(rt.alloc(), &ops, Some(106), &[999])?;
-    assert_same(&rt, (found.len(), nothing), (6, true));
-    Ok(())
+    assert_same(&rt, found.len(), 6);
+    assert_orders(&rt, &[(&ops, Some(106), &[999])])
 }

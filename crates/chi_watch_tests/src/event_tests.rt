@@ -1,0 +1,6 @@
+//! Tests of events: which operations end by them, and which requests are outstanding.
+
+mod fault_tests;
+mod home;
+mod open_tests;
+mod operation_tests;
