@@ -159,20 +159,28 @@ fn assert_race_explained<H: Home + Sync, T: AllocGlobal + Abort + Threads + Wait
     assert_race(rt, home, seat, &ops, 9)
 }
 
+// The race over both stores, each opened for so many requesters.
+fn assert_both_explained<T: AllocGlobal + Abort + Threads + Wait + Sync>(
+    rt: &T,
+    requesters: u8,
+    are_four: bool,
+) -> Result<(), Fail>
+    requires three { 3 ≤ requesters }
+    requires five { are_four ≡ true → 5 ≤ requesters }
+{
+    let region = Region::new(0x1000, 2)?;
+    let (home, mut seat) = LockStore::open(rt.alloc(), region, requesters, &IMAGE)?;
+    assert_race_explained(rt, &home, &mut seat, are_four)?;
+    let (home, mut seat) = BookStore::open(rt.alloc(), region, requesters, 4, &IMAGE)?;
+    assert_race_explained(rt, &home, &mut seat, are_four)
+}
+
 #[test]
 fn race_of_two_is_explained(rt: HostRuntime) -> Result<(), Fail> {
-    let region = Region::new(0x1000, 2)?;
-    let (home, mut seat) = LockStore::open(rt.alloc(), region, 3, &IMAGE)?;
-    assert_race_explained(&rt, &home, &mut seat, false)?;
-    let (home, mut seat) = BookStore::open(rt.alloc(), region, 3, 4, &IMAGE)?;
-    assert_race_explained(&rt, &home, &mut seat, false)
+    assert_both_explained(&rt, 3, false)
 }
 
 #[test]
 fn race_of_four_is_explained(rt: HostRuntime) -> Result<(), Fail> {
-    let region = Region::new(0x1000, 2)?;
-    let (home, mut seat) = LockStore::open(rt.alloc(), region, 5, &IMAGE)?;
-    assert_race_explained(&rt, &home, &mut seat, true)?;
-    let (home, mut seat) = BookStore::open(rt.alloc(), region, 5, 4, &IMAGE)?;
-    assert_race_explained(&rt, &home, &mut seat, true)
+    assert_both_explained(&rt, 5, true)
 }
