@@ -91,8 +91,8 @@ fn the_page_of_a_small_trace(rt: HostRuntime) -> Result<(), Fail> {
     let alloc = rt.alloc();
     let covered = covered_by(alloc, &small_trace()?)?;
     let page = page(alloc, &covered)?;
-    for wanted in WANTED {
-        assert_same(&rt, (wanted, page.contains(wanted)), (wanted, true));
+    for wanted in &WANTED {
+        assert_same(&rt, (*wanted, page.contains(wanted)), (*wanted, true));
     }
     assert_same(&rt, page.matches("\",\"0\"]").count(), 1329);
     assert_same(&rt, page.matches("\",\"1\"]").count(), 9);

@@ -11,7 +11,7 @@ use std::test::Fail;
 
 #[test]
 fn lines_that_are_explained(rt: HostRuntime) -> Result<(), Fail> {
-    for texts in [
+    for texts in &[
         [].as_slice(),
         &[WRITE],
         &[WRITE, READ],
@@ -31,7 +31,7 @@ fn lines_that_are_explained(rt: HostRuntime) -> Result<(), Fail> {
 // read.
 #[test]
 fn a_lost_write(rt: HostRuntime) -> Result<(), Fail> {
-    for texts in [
+    for texts in &[
         [WRITE, READ, ZERO].as_slice(),
         &[WRITE, READ, ZERO, "\n", LAST, "no event\n"],
     ] {
@@ -49,7 +49,7 @@ fn a_lost_write(rt: HostRuntime) -> Result<(), Fail> {
 // A write that starts as the read ends may stand before it.
 #[test]
 fn a_write_of_the_same_time(rt: HostRuntime) -> Result<(), Fail> {
-    for (texts, wanted) in [
+    for (texts, wanted) in &[
         (
             [READ, FIVE, WRITE_AT_FOUR].as_slice(),
             WatchVerdict::Explained,
@@ -57,14 +57,14 @@ fn a_write_of_the_same_time(rt: HostRuntime) -> Result<(), Fail> {
         (&[READ, FIVE, LAST], WatchVerdict::Unexplained),
     ] {
         let verdict = watched(rt.alloc(), texts, &STOPPING)?.verdict();
-        assert_same(&rt, (texts.len(), verdict), (texts.len(), wanted));
+        assert_same(&rt, (texts.len(), verdict), (texts.len(), *wanted));
     }
     Ok(())
 }
 
 #[test]
 fn faults_and_their_texts(rt: HostRuntime) -> Result<(), Fail> {
-    for (texts, fault, text) in [
+    for (texts, fault, text) in &[
         (
             [WRITE, "\n"],
             LinesFault::Line {
@@ -98,9 +98,9 @@ fn faults_and_their_texts(rt: HostRuntime) -> Result<(), Fail> {
             "line 2 takes a number of an outstanding request",
         ),
     ] {
-        let found = watched(rt.alloc(), &texts, &STOPPING).err();
+        let found = watched(rt.alloc(), texts, &STOPPING).err();
         let told = format!(in rt.alloc(); "{fault}")?;
-        assert_same(&rt, (found, told.as_str()), (Some(fault), text));
+        assert_same(&rt, (found, told.as_str()), (Some(*fault), *text));
     }
     Ok(())
 }

@@ -60,7 +60,7 @@ fn operations_by_their_starts(rt: HostRuntime) -> Result<(), Fail> {
 
 #[test]
 fn lines_that_tell_no_operations(rt: HostRuntime) -> Result<(), Fail> {
-    for (texts, wanted) in [
+    for (texts, wanted) in &[
         ([].as_slice(), Ok(0)),
         (&[WRITE, READ, FIVE], Ok(2)),
         (
@@ -79,7 +79,7 @@ fn lines_that_tell_no_operations(rt: HostRuntime) -> Result<(), Fail> {
         ),
     ] {
         let found = operations(rt.alloc(), texts).map(|ops| ops.len());
-        assert_same(&rt, (texts.len(), found), (texts.len(), wanted));
+        assert_same(&rt, (texts.len(), found), (texts.len(), *wanted));
     }
     Ok(())
 }

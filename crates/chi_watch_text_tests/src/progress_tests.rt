@@ -32,13 +32,13 @@ impl WatchProgress for Kept {
 // A line that tells no event is not told of.
 #[test]
 fn the_last_event(rt: HostRuntime) -> Result<(), Fail> {
-    for (texts, told, ended, outstanding, time) in [
+    for (texts, told, ended, outstanding, time) in &[
         ([WRITE, "", ""], 2, 1, 0, 2),
         ([WRITE, READ, ""], 3, 1, 1, 3),
         ([WRITE, READ, FIVE], 4, 2, 0, 4),
         ([WRITE, READ, "\n"], 3, 1, 1, 3),
     ] {
-        let text = joined(rt.alloc(), &texts)?;
+        let text = joined(rt.alloc(), texts)?;
         let mut from = text.as_slice();
         let mut kept = Kept {
             told: 0,
@@ -46,11 +46,11 @@ fn the_last_event(rt: HostRuntime) -> Result<(), Fail> {
         };
         let _watched = watch_lines(rt.alloc(), &mut from, &STOPPING, &mut kept);
         let counts = Counts {
-            ended,
-            outstanding,
+            ended: *ended,
+            outstanding: *outstanding,
             granules: 1,
         };
-        assert_same(&rt, (kept.told, kept.last), (told, Some((counts, time))));
+        assert_same(&rt, (kept.told, kept.last), (*told, Some((counts, *time))));
     }
     Ok(())
 }

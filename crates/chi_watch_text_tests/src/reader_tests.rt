@@ -29,7 +29,7 @@ impl Read for FailingReader<'_> {
 // A granule is found before the read that fails only if the whole line of a later event was read.
 #[test]
 fn reads_that_fail(rt: HostRuntime) -> Result<(), Fail> {
-    for (texts, wanted) in [
+    for (texts, wanted) in &[
         ([].as_slice(), Err(LinesFault::Read)),
         (&[WRITE], Err(LinesFault::Read)),
         (&[WRITE, "{\"time\":3,"], Err(LinesFault::Read)),
@@ -48,7 +48,11 @@ fn reads_that_fail(rt: HostRuntime) -> Result<(), Fail> {
             let found = watch_lines(rt.alloc(), &mut lines, &STOPPING, &mut NoProgress).map(
                 |it| it.verdict(),
             );
-            assert_same(&rt, (texts.len(), most, found), (texts.len(), most, wanted));
+            assert_same(
+                &rt,
+                (texts.len(), most, found),
+                (texts.len(), most, *wanted),
+            );
         }
     }
     Ok(())
