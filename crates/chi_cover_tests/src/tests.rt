@@ -1,0 +1,11 @@
+//! The tests, and what they share.
+
+mod comparison;
+mod many_tests;
+mod operation_tests;
+mod operations;
+mod page_tests;
+mod script_tests;
+mod stimulus_tests;
+mod table_tests;
+mod traffic_tests;

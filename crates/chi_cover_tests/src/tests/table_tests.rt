@@ -1,0 +1,116 @@
+//! The text of a table.
+
+use crate::tests::comparison::assert_same;
+use crate::tests::operations::{covered_by, small_trace};
+use chi_cover::{Covered, add_table};
+use std::alloc::Global;
+use std::process::Abort;
+use std::test::Fail;
+
+// The lines of a table that are wanted at these places, counted from 0; after the last line there is nothing.
+const WANTED: [(usize, &str); 30] = [
+    (0, "operations: 2 of 1200"),
+    (1, "ReadNoSnp little 1: 0 0 0 0 0 0 0 0 0 0 0 0 0 0 0 0"),
+    (8, "ReadNoSnp big 8: 0 0"),
+    (15, "WriteNoSnpPtl big 4: 0 1 0 0"),
+    (16, "WriteNoSnpPtl big 8: 0 0"),
+    (82, "AtomicLoad.ADD little 2: 0 0 1 0 0 0 0 0"),
+    (160, "AtomicCompare big 8: 0 0"),
+    (161, "compares: 0 of 16"),
+    (
+        162,
+        "AtomicCompare 1: lower matched 0, lower failed 0, upper matched 0, upper failed 0",
+    ),
+    (
+        165,
+        "AtomicCompare 8: lower matched 0, lower failed 0, upper matched 0, upper failed 0",
+    ),
+    (166, "writes: 1 of 11"),
+    (167, "WriteNoSnpPtl 1: none 0, all 0"),
+    (169, "WriteNoSnpPtl 4: none 0, some 1, all 0"),
+    (171, "results: 2 of 68"),
+    (173, "AtomicLoad.ADD 2: kept 0, changed sign 1, wrapped 1"),
+    (203, "AtomicLoad.UMIN 8: kept 0, changed sign 0"),
+    (204, "open at once: 2 of 5"),
+    (205, "open 1: 1"),
+    (206, "open 2: 1"),
+    (207, "open 3 to 4: 0"),
+    (209, "open more than 8: 0"),
+    (210, "overlaps: 1 of 36"),
+    (230, "WriteNoSnpPtl while AtomicLoad was open: 1"),
+    (247, "requesters: 1 of 2"),
+    (248, "of the same requester: 0"),
+    (249, "of another requester: 1"),
+    (250, "covered: 9 of 1338 (0%)"),
+    (251, "missing: ReadNoSnp, little-endian, 1 byte, lane 0"),
+    (
+        1579,
+        "missing: an overlap with an earlier operation of the same requester",
+    ),
+    (1580, ""),
+];
+
+fn table(alloc: Global, covered: &Covered) -> Result<Vec<u8>, Fail> {
+    let mut text = Vec::new(alloc);
+    add_table(alloc, &mut text, covered)?;
+    Ok(text)
+}
+
+// Ends the test where a text has another line at one of these places, or no line there.
+fn assert_lines<R: Abort>(rt: &R, text: &[u8], wanted: &[(usize, &str)]) {
+    let mut seen: usize = 0;
+    for (place, line) in text.split(|byte| *byte == b'\n').enumerate() {
+        for (wanted_place, wanted_line) in wanted {
+            if place == *wanted_place {
+                assert_same(rt, line, wanted_line.as_bytes());
+                seen = seen.saturating_add(1);
+            }
+        }
+    }
+    assert_same(rt, seen, wanted.len());
+}
+
+#[test]
+fn the_table_of_a_small_trace(rt: HostRuntime) -> Result<(), Fail> {
+    let alloc = rt.alloc();
+    let covered = covered_by(alloc, &small_trace()?)?;
+    let text = table(alloc, &covered)?;
+    assert_lines(&rt, text.as_slice(), &WANTED);
+    Ok(())
+}
+
+// Bins that count nothing, by their place among those that count nothing in an empty table.
+const MISSING: [(usize, &str); 8] = [
+    (250, "covered: 0 of 1338 (0%)"),
+    (
+        251 + 719,
+        "missing: AtomicLoad.CLR, big-endian, 8 bytes, lane 8",
+    ),
+    (
+        251 + 1200,
+        "missing: AtomicCompare, 1 byte, compare value in the lower half, matched",
+    ),
+    (
+        251 + 1219,
+        "missing: WriteNoSnpPtl, 2 bytes, byte enables: some",
+    ),
+    (251 + 1227, "missing: AtomicLoad.ADD, 1 byte, kept"),
+    (251 + 1294, "missing: AtomicLoad.ADD, 8 bytes, wrapped"),
+    (251 + 1299, "missing: open more than 8"),
+    (
+        251 + 1301,
+        "missing: WriteNoSnpPtl while ReadNoSnp was open",
+    ),
+];
+
+#[test]
+fn the_bins_that_an_empty_table_misses(rt: HostRuntime) -> Result<(), Fail> {
+    let alloc = rt.alloc();
+    let covered = Covered::new(alloc)?;
+    assert_same(&rt, covered.covered(), 0);
+    assert_same(&rt, Covered::bins(), 1338);
+    assert_same(&rt, covered.percent(), 0);
+    let text = table(alloc, &covered)?;
+    assert_lines(&rt, text.as_slice(), &MISSING);
+    Ok(())
+}

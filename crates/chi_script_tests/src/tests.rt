@@ -1,0 +1,10 @@
+//! The tests, and what they share.
+
+mod comparison;
+mod image_tests;
+mod input_tests;
+mod member_tests;
+mod sample_scripts;
+mod script_tests;
+mod script_text_tests;
+mod transcript_tests;

@@ -1,0 +1,14 @@
+//! The tests, and what they share.
+
+mod byte_tests;
+mod comparison;
+mod execution_tests;
+mod explain_tests;
+mod first_tests;
+mod order_tests;
+mod progress_tests;
+mod random_tests;
+mod search_tests;
+mod trace_tests;
+mod traces;
+mod words_tests;

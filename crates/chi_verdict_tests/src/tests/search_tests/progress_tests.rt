@@ -1,0 +1,37 @@
+//! Tests of what is told of the states that are looked at.
+
+ghost use Rattle.std.specs.Prelude.{◌≡◌, ◌-◌, ◌^◌, min};
+
+use super::operations::{ADD, observed, silent};
+use crate::tests::comparison::assert_same;
+use chi_search::{Progress, are_searchable, order_of, words_of};
+use std::test::Fail;
+
+// Counts the states, up to the largest number.
+#[derive(Drop)]
+struct States(u64);
+
+impl Progress for States {
+    ghost looked = { λ s n. s.0 ≡ min n (2 ^ 64 - 1) };
+
+    fn look(&mut self) {
+        self.0 = self.0.saturating_add(1);
+    }
+}
+
+#[test]
+fn states_are_counted_as_the_budget_is_spent(rt: HostRuntime) -> Result<(), Fail> {
+    let ops = observed(
+        rt.alloc(),
+        &[silent((0, 10), ADD, 1), silent((5, 15), ADD, 1)],
+    )?;
+    let mut budget = 100;
+    let mut states = States(0);
+    if are_searchable(&ops) {
+        let _found = order_of(rt.alloc(), &ops, 0, Some(3), &mut budget, &mut states)?;
+        let _words = words_of(rt.alloc(), &ops, &[0], &mut budget, &mut states)?;
+    }
+    let spent = 100_u64.saturating_sub(budget);
+    assert_same(&rt, (states.0 > 2, states.0), (true, spent));
+    Ok(())
+}

@@ -1,0 +1,11 @@
+//! The tests, and what they share.
+
+mod comparison;
+mod counts_tests;
+mod ending_tests;
+mod event_tests;
+mod fault_tests;
+mod home;
+mod reach_tests;
+mod stop;
+mod watch_tests;

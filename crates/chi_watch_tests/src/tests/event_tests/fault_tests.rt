@@ -1,0 +1,253 @@
+//! The faults of an event, and their texts.
+
+use super::home::{
+    ENABLES, LANES, OLD, after, answer, assert_load, data, load_with_data, load_without_data, read,
+    reply, take, take_each,
+};
+use crate::tests::comparison::assert_same;
+use chi_events::{EventFault, EventKind, Outstanding, Requested};
+use chi_fields::Refusal;
+use chi_lanes::Reply;
+use chi_reading::{Asked, ReplyFault};
+use std::process::Abort;
+use std::test::Fail;
+
+/// A request with its data.
+fn request(opcode: u8, size: u8, addr: u64, be: u16) -> EventKind {
+    EventKind::Request(Requested {
+        id: 9,
+        asked: Asked {
+            src: 1,
+            txn: 0,
+            opcode,
+            size,
+            addr,
+            endian: false,
+            be,
+            lanes: LANES,
+        },
+        has_data: true,
+    })
+}
+
+// Compares the text of a fault.
+fn assert_text<R: AllocGlobal + Abort>(
+    rt: &R,
+    fault: EventFault,
+    wanted: &str,
+) -> Result<(), Fail> {
+    let text = format!(in rt.alloc(); "{fault}")?;
+    assert_same(rt, text.as_str(), wanted);
+    Ok(())
+}
+
+// Compares the fault that an event met, and its text.
+fn assert_fault<R: AllocGlobal + Abort>(
+    rt: &R,
+    found: Option<EventFault>,
+    wanted: EventFault,
+    text: &str,
+) -> Result<(), Fail> {
+    assert_same(rt, (text, found), (text, Some(wanted)));
+    assert_text(rt, wanted, text)
+}
+
+// Request 1 has its data, request 2 waits for them, and so does request 3, whose completion has left. Request 4 needs none.
+// After a fault nothing has changed.
+#[test]
+fn faults_and_their_texts(rt: HostRuntime) -> Result<(), Fail> {
+    let events = [
+        (10, load_with_data(1)),
+        (11, load_without_data(2)),
+        (12, load_without_data(3)),
+        (13, answer(3)),
+        (14, read(4, 4096)),
+    ];
+    let mut outstanding = after(rt.alloc(), &events)?;
+    let before = format!(in rt.alloc(); "{:?}", outstanding.requests())?;
+    for (time, kind, fault, text) in &[
+        (
+            13,
+            reply(1, None),
+            EventFault::TimeFalls,
+            "is earlier than the event before it",
+        ),
+        (
+            15,
+            load_with_data(2),
+            EventFault::NumberTaken,
+            "takes a number of an outstanding request",
+        ),
+        (
+            15,
+            data(5, ENABLES),
+            EventFault::NotOutstanding,
+            "is of no outstanding request",
+        ),
+        (
+            15,
+            reply(5, None),
+            EventFault::NotOutstanding,
+            "is of no outstanding request",
+        ),
+        (
+            15,
+            EventKind::Dropped { id: 5 },
+            EventFault::NotOutstanding,
+            "is of no outstanding request",
+        ),
+        (
+            15,
+            data(1, ENABLES),
+            EventFault::DataTwice,
+            "has data for a request that has them or needs none",
+        ),
+        (
+            15,
+            data(4, ENABLES),
+            EventFault::DataTwice,
+            "has data for a request that has them or needs none",
+        ),
+        (
+            15,
+            reply(3, Some(Reply::CompData(OLD))),
+            EventFault::ReplyTwice,
+            "has a second reply",
+        ),
+        (
+            15,
+            request(0x1c, 1, 4097, 6),
+            EventFault::Refused(Refusal::Misaligned),
+            "is refused: Misaligned",
+        ),
+    ] {
+        let found = take(&mut outstanding, *time, *kind).err();
+        assert_fault(&rt, found, *fault, text)?;
+        let after = format!(in rt.alloc(); "{:?}", outstanding.requests())?;
+        assert_same(&rt, after.as_str(), before.as_str());
+    }
+    assert_text(&rt, EventFault::Memory, "no memory")
+}
+
+// Such a reply is refused where the request has its data, whatever the memory holds. Lane 7 is before the operand.
+#[test]
+fn replies_that_no_home_gives(rt: HostRuntime) -> Result<(), Fail> {
+    let mut stray = OLD;
+    stray[7] = 1;
+    for (opcode, sent, fault, text) in &[
+        (
+            0x28,
+            Reply::CompData(OLD),
+            ReplyFault::WithData,
+            "ends a request that has a reply with data, and its kind has none",
+        ),
+        (
+            0x30,
+            Reply::Comp,
+            ReplyFault::WithoutData,
+            "ends a request that has a reply without data, and its kind has some",
+        ),
+        (
+            0x30,
+            Reply::CompData(stray),
+            ReplyFault::OutsideOperand,
+            "ends a request that has a reply with a byte outside its operand",
+        ),
+    ] {
+        let asked = request(*opcode, 3, 4104, ENABLES);
+        let mut outstanding = after(rt.alloc(), &[(10, asked)])?;
+        let found = take(&mut outstanding, 11, reply(9, Some(*sent))).err();
+        assert_fault(&rt, found, EventFault::Reply(*fault), text)?;
+    }
+    Ok(())
+}
+
+// Where the data come last it is they that are refused. A request that is dropped before has no reply that counts.
+#[test]
+fn data_after_a_reply_that_no_home_gives(rt: HostRuntime) -> Result<(), Fail> {
+    let events = [
+        (10, load_without_data(3)),
+        (11, reply(3, Some(Reply::Comp))),
+    ];
+    let mut outstanding = after(rt.alloc(), &events)?;
+    let found = take(&mut outstanding, 12, data(3, ENABLES)).err();
+    let fault = EventFault::Reply(ReplyFault::WithoutData);
+    assert_same(&rt, found, Some(fault));
+    take_each(&mut outstanding, &[(12, EventKind::Dropped { id: 3 })])
+}
+
+// A request that a home refuses is not taken.
+#[test]
+fn refusals(rt: HostRuntime) -> Result<(), Fail> {
+    let mut outstanding = Outstanding::new(rt.alloc());
+    for (opcode, size, addr, be, refusal, text) in &[
+        (
+            0x05,
+            3,
+            4104,
+            0xff00,
+            Refusal::UnknownOpcode,
+            "is refused: UnknownOpcode",
+        ),
+        (
+            0x30,
+            7,
+            4104,
+            0xff00,
+            Refusal::ReservedSize,
+            "is refused: ReservedSize",
+        ),
+        (
+            0x30,
+            4,
+            4104,
+            0xff00,
+            Refusal::SizeOutOfProfile,
+            "is refused: SizeOutOfProfile",
+        ),
+        (
+            0x30,
+            3,
+            4105,
+            0xff00,
+            Refusal::Misaligned,
+            "is refused: Misaligned",
+        ),
+        (
+            0x30,
+            3,
+            4503599627370496,
+            0x00ff,
+            Refusal::OutOfRegion,
+            "is refused: OutOfRegion",
+        ),
+        (
+            0x30,
+            3,
+            4104,
+            0xfe00,
+            Refusal::BadByteEnable,
+            "is refused: BadByteEnable",
+        ),
+    ] {
+        let asked = request(*opcode, *size, *addr, *be);
+        let found = take(&mut outstanding, 5, asked).err();
+        assert_fault(&rt, found, EventFault::Refused(*refusal), text)?;
+        assert_same(&rt, outstanding.requests().len(), 0);
+    }
+    Ok(())
+}
+
+// The request waits on for its data, where those that came are refused.
+#[test]
+fn refused_data(rt: HostRuntime) -> Result<(), Fail> {
+    let events = [(10, load_without_data(3)), (11, answer(3))];
+    let mut outstanding = after(rt.alloc(), &events)?;
+    let found = take(&mut outstanding, 12, data(3, 0x00ff)).err();
+    let fault = EventFault::Refused(Refusal::BadByteEnable);
+    let left = outstanding.requests().len();
+    assert_same(&rt, (found, left), (Some(fault), 1));
+    let ended = take(&mut outstanding, 13, data(3, ENABLES))?;
+    assert_load(&rt, ended, (10, 13), Some(Reply::CompData(OLD)));
+    Ok(())
+}

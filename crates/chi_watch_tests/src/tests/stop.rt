@@ -1,0 +1,106 @@
+//! Where a granule stops being explained, as tests tell it.
+
+use crate::tests::comparison::assert_same;
+use crate::tests::home::lanes;
+use chi_lanes::Reply;
+use chi_recent::{Reach, Traced};
+use std::process::Abort;
+use std::test::Fail;
+
+/// Where a granule stops being explained: the time, the request that was answered then, the starts of those that were open, and
+/// the words that the granule can hold before; and by the events that told them the operation that is blamed, those before it and
+/// those that were open, and the first bytes of the answers that would have been legal.
+#[derive(Clone, Copy)]
+pub(crate) struct Stop<'a> {
+    pub(crate) time: u64,
+    pub(crate) opcode: u8,
+    pub(crate) starts: &'a [u64],
+    pub(crate) words: &'a [u64],
+    pub(crate) blamed: u64,
+    pub(crate) before: &'a [u64],
+    pub(crate) open: &'a [u64],
+    pub(crate) legal: &'a [u8],
+}
+
+// Compares the events of these operations.
+fn assert_numbers<R: AllocGlobal + Abort>(
+    rt: &R,
+    traced: &[Traced],
+    wanted: &[u64],
+) -> Result<(), Fail> {
+    let numbers: Vec<u64> = traced.iter().map(|it| it.number).collect(rt.alloc())?;
+    assert_same(rt, numbers.as_slice(), wanted);
+    Ok(())
+}
+
+// Compares the first bytes of these answers, in rising order; the others have to be 0.
+fn assert_legal<R: AllocGlobal + Abort>(
+    rt: &R,
+    replies: &[Reply],
+    wanted: &[u8],
+) -> Result<(), Fail> {
+    let mut legal = Vec::new(rt.alloc());
+    for reply in replies {
+        if let Reply::CompData(bytes) = reply {
+            if *bytes == lanes(bytes[0]) {
+                legal.push(bytes[0])?;
+            }
+        }
+    }
+    legal.sort()?;
+    assert_same(rt, legal.as_slice(), wanted);
+    Ok(())
+}
+
+// Compares these words, in rising order.
+fn assert_words<R: AllocGlobal + Abort>(rt: &R, words: &[u64], wanted: &[u64]) -> Result<(), Fail> {
+    let mut words = Vec::from_slice(rt.alloc(), words)?;
+    words.sort()?;
+    assert_same(rt, words.as_slice(), wanted);
+    Ok(())
+}
+
+// Compares the starts of these operations.
+fn assert_starts<R: AllocGlobal + Abort>(
+    rt: &R,
+    traced: &[Traced],
+    wanted: &[u64],
+) -> Result<(), Fail> {
+    let starts: Vec<u64> = traced.iter().map(|it| it.op.start).collect(rt.alloc())?;
+    assert_same(rt, starts.as_slice(), wanted);
+    Ok(())
+}
+
+/// Compares the time at which operations stop being explained, the request that was answered then, those that were open, by their
+/// starts, and the words that the granule can hold before.
+pub(crate) fn assert_stop<R: AllocGlobal + Abort>(
+    rt: &R,
+    reach: &Reach,
+    (time, opcode): (u64, u8),
+    starts: &[u64],
+    words: &[u64],
+) -> Result<(), Fail> {
+    let Reach::Stops(stop) = reach else {
+        return Err(Fail::new("it does not stop"));
+    };
+    assert_same(rt, (stop.time, stop.op.asked.opcode), (time, opcode));
+    assert_starts(rt, &stop.overlapping, starts)?;
+    assert_words(rt, &stop.words, words)
+}
+
+/// Compares where a granule stops being explained.
+pub(crate) fn assert_stops<R: AllocGlobal + Abort>(
+    rt: &R,
+    reach: &Reach,
+    wanted: Stop<'_>,
+) -> Result<(), Fail> {
+    let at = (wanted.time, wanted.opcode);
+    assert_stop(rt, reach, at, wanted.starts, wanted.words)?;
+    let Reach::Stops(stop) = reach else {
+        return Err(Fail::new("it does not stop"));
+    };
+    assert_same(rt, stop.op.number, wanted.blamed);
+    assert_numbers(rt, &stop.before, wanted.before)?;
+    assert_numbers(rt, &stop.overlapping, wanted.open)?;
+    assert_legal(rt, &stop.legal, wanted.legal)
+}

@@ -1,0 +1,12 @@
+//! The tests, and what they share.
+
+mod comparison;
+mod events;
+mod keep_going_tests;
+mod line_tests;
+mod operation_tests;
+mod progress_tests;
+mod reach_text_tests;
+mod reader_tests;
+mod text_tests;
+mod verdict_tests;

@@ -1,0 +1,39 @@
+//! What is found where it keeps going.
+
+use crate::tests::comparison::assert_same;
+use crate::tests::events::{
+    GOING, LAST, NINE_AND_FIVE, READ, WRITE, ZERO, at_end, places, watched,
+};
+use chi_watch_text::LinesFault;
+use std::test::Fail;
+
+// The granules at 4096, 4104 and 4112 have the numbers 512, 513 and 514. That of 4096 is found by line 4, and by line 8 again.
+#[test]
+fn each_granule_at_its_first_line(rt: HostRuntime) -> Result<(), Fail> {
+    let texts = [WRITE, READ, ZERO, "\n", NINE_AND_FIVE, LAST];
+    let watched = watched(rt.alloc(), &texts, &GOING)?;
+    let undecided = watched.ending.as_ref().map(|it| it.undecided.len());
+    let places = places(rt.alloc(), &watched)?;
+    let unexplained = at_end(rt.alloc(), &watched)?;
+    assert_same(
+        &rt,
+        (places.as_slice(), unexplained.as_slice(), undecided),
+        (
+            [(512, 4), (513, 6)].as_slice(),
+            [512, 513, 514].as_slice(),
+            Some(0),
+        ),
+    );
+    Ok(())
+}
+
+// A line that tells no event ends it, although a granule was found.
+#[test]
+fn a_fault_after_a_granule(rt: HostRuntime) {
+    let fault = watched(rt.alloc(), &[WRITE, READ, ZERO, "\n\n"], &GOING).err();
+    let number = match fault {
+        Some(LinesFault::Line { number, .. }) => number,
+        _ => 0,
+    };
+    assert_same(&rt, number, 5);
+}

@@ -1,0 +1,85 @@
+//! The operations that lines tell.
+
+use crate::tests::comparison::assert_same;
+use crate::tests::events::{FIVE, LAST, READ, UNKNOWN, WRITE, WRITE_AT_FOUR, joined};
+use chi_event_text::LineFault;
+use chi_events::EventFault;
+use chi_trace::Observed;
+use chi_watch::WatchFault;
+use chi_watch_text::{LinesFault, read_operations};
+use std::alloc::Global;
+use std::test::Fail;
+
+// The completion of the read that is taken at time 3, after the write that is taken at time 4 has ended.
+const FIVE_AT_SIX: &str =
+    "{\"time\":6,\"event\":\"reply\",\"id\":2,\"reply\":\"05000000000000000000000000000000\"}
+";
+
+// A read that is not answered, and a request that is dropped.
+const OPEN_AND_DROPPED: &str =
+    "{\"time\":7,\"event\":\"request\",\"id\":3,\"src\":1,\"txn\":3,\"op\":4,\"size\":3,\"addr\":4104,\"endian\":0}
+{\"time\":8,\"event\":\"request\",\"id\":4,\"src\":1,\"txn\":4,\"op\":4,\"size\":3,\"addr\":4104,\"endian\":0}
+{\"time\":9,\"event\":\"dropped\",\"id\":4}
+";
+
+// A write whose data have not come.
+const WITHOUT_DATA: &str =
+    "{\"time\":9,\"event\":\"request\",\"id\":5,\"src\":1,\"txn\":5,\"op\":28,\"size\":3,\"addr\":4104,\"endian\":0}
+";
+
+// The operations of texts one after the other.
+fn operations(alloc: Global, texts: &[&str]) -> Result<Vec<Observed>, LinesFault> {
+    let all = joined(alloc, texts)?;
+    let mut from = all.as_slice();
+    read_operations(alloc, &mut from)
+}
+
+// They stand by their starts, though the write ends first. Of what is told of words nothing is an operation.
+#[test]
+fn operations_by_their_starts(rt: HostRuntime) -> Result<(), Fail> {
+    let ops = operations(
+        rt.alloc(),
+        &[
+            READ,
+            WRITE_AT_FOUR,
+            FIVE_AT_SIX,
+            OPEN_AND_DROPPED,
+            WITHOUT_DATA,
+            LAST,
+            UNKNOWN,
+        ],
+    )?;
+    let times: Vec<(u64, u64, u16)> = ops
+        .iter()
+        .map(|op| (op.start, op.end, op.src))
+        .collect(rt.alloc())?;
+    let wanted = [(3, 6, 0), (4, 5, 0), (7, u64::MAX, 1)];
+    assert_same(&rt, times.as_slice(), wanted.as_slice());
+    Ok(())
+}
+
+#[test]
+fn lines_that_tell_no_operations(rt: HostRuntime) -> Result<(), Fail> {
+    for (texts, wanted) in &[
+        ([].as_slice(), Ok(0)),
+        (&[WRITE, READ, FIVE], Ok(2)),
+        (
+            &[WRITE, "no event\n"],
+            Err(LinesFault::Line {
+                number: 3,
+                fault: LineFault::NotJson,
+            }),
+        ),
+        (
+            &[READ, WRITE],
+            Err(LinesFault::Event {
+                number: 2,
+                fault: WatchFault::Event(EventFault::TimeFalls),
+            }),
+        ),
+    ] {
+        let found = operations(rt.alloc(), texts).map(|ops| ops.len());
+        assert_same(&rt, (texts.len(), found), (texts.len(), *wanted));
+    }
+    Ok(())
+}

@@ -1,0 +1,56 @@
+//! What is told of how far a watch is.
+
+ghost use Rattle.std.specs.Prelude.{⊤};
+
+use crate::tests::comparison::assert_same;
+use crate::tests::events::{FIVE, READ, STOPPING, WRITE, joined};
+use chi_search::Progress;
+use chi_watch::Counts;
+use chi_watch_text::{WatchProgress, watch_lines};
+use std::test::Fail;
+
+// Keeps what it was told last, and how often it was told.
+#[derive(Drop)]
+struct Kept {
+    told: u64,
+    last: Option<(Counts, u64)>,
+}
+
+impl Progress for Kept {
+    ghost looked = { λ k n. ⊤ };
+
+    fn look(&mut self) {}
+}
+
+impl WatchProgress for Kept {
+    fn reached(&mut self, counts: Counts, time: u64) {
+        self.told = self.told.saturating_add(1);
+        self.last = Some((counts, time));
+    }
+}
+
+// A line that tells no event is not told of.
+#[test]
+fn the_last_event(rt: HostRuntime) -> Result<(), Fail> {
+    for (texts, told, ended, outstanding, time) in &[
+        ([WRITE, "", ""], 2, 1, 0, 2),
+        ([WRITE, READ, ""], 3, 1, 1, 3),
+        ([WRITE, READ, FIVE], 4, 2, 0, 4),
+        ([WRITE, READ, "\n"], 3, 1, 1, 3),
+    ] {
+        let text = joined(rt.alloc(), texts)?;
+        let mut from = text.as_slice();
+        let mut kept = Kept {
+            told: 0,
+            last: None,
+        };
+        let _watched = watch_lines(rt.alloc(), &mut from, &STOPPING, &mut kept);
+        let counts = Counts {
+            ended: *ended,
+            outstanding: *outstanding,
+            granules: 1,
+        };
+        assert_same(&rt, (kept.told, kept.last), (*told, Some((counts, *time))));
+    }
+    Ok(())
+}

@@ -1,0 +1,156 @@
+//! The texts of what is found.
+
+use crate::tests::comparison::assert_same;
+use crate::tests::events::{
+    FIVE, GOING, LAST, NINE_AND_FIVE, READ, STOPPING, UNKNOWN, WRITE, ZERO, answer,
+};
+use chi_recent::Reach;
+use chi_watch::{Counts, Ending, FoundAtEnd};
+use chi_watch_text::{Found, WatchOptions, Watched, watched_text};
+use std::process::Abort;
+use std::test::Fail;
+
+// Compares what is found of texts one after the other: its text, with how many operations ended, how many requests are
+// outstanding, how many granules there are, and how many of these are not judged.
+fn assert_answer<R: AllocGlobal + Abort>(
+    rt: &R,
+    texts: &[&str],
+    options: &WatchOptions,
+    found: &str,
+    (ended, outstanding, granules, unjudged): (u64, u64, u64, u64),
+) -> Result<(), Fail> {
+    let text = answer(rt.alloc(), texts, options)?;
+    let wanted = format!(in rt.alloc();
+        "{found}  operations that ended: {ended}
+  requests outstanding: {outstanding}
+  granules: {granules}
+  granules not judged: {unjudged}
+"
+    )?;
+    assert_same(rt, text.as_str(), wanted.as_str());
+    Ok(())
+}
+
+#[test]
+fn what_is_explained(rt: HostRuntime) -> Result<(), Fail> {
+    let texts = [WRITE, READ, FIVE];
+    assert_answer(&rt, &texts, &STOPPING, "explained\n", (2, 0, 1, 0))
+}
+
+#[test]
+fn what_is_outstanding_or_not_judged(rt: HostRuntime) -> Result<(), Fail> {
+    let texts = [WRITE, READ, UNKNOWN];
+    assert_answer(&rt, &texts, &STOPPING, "explained\n", (1, 1, 2, 1))
+}
+
+// What is found by the read of 0 where 5 was written.
+const READ_OF_ZERO: &str = "not explained: granule 0000000000001000
+at 4: 0 2 04 ReadNoSnp 3 0000000000001000 answered
+  the granule can hold 0500000000000000
+  open from 3 to 4: 0 2 04 ReadNoSnp 3 0000000000001000 answered
+  explained up to 3
+  the last operations of the granule, from time 1 to 4:
+    line 1 |==============                          |  1 to 2  WriteNoSnpPtl  +0 L8  sent 0500000000000000  comp  requester 0 txn 1
+  > line 3 |                          ##############|  3 to 4  ReadNoSnp      +0 L8  returned 0000000000000000  requester 0 txn 2
+    legal would be:  returned 0500000000000000
+  at line 4
+";
+
+#[test]
+fn where_it_stops_at_a_line(rt: HostRuntime) -> Result<(), Fail> {
+    let texts = [WRITE, READ, ZERO, "\n", NINE_AND_FIVE, LAST];
+    assert_answer(&rt, &texts, &STOPPING, READ_OF_ZERO, (2, 0, 1, 0))
+}
+
+#[test]
+fn where_it_keeps_going(rt: HostRuntime) -> Result<(), Fail> {
+    let texts = [WRITE, READ, ZERO, "\n", NINE_AND_FIVE, LAST];
+    let found = format!(in rt.alloc();
+        "{READ_OF_ZERO}not explained: granule 0000000000001008
+at 6: 0 3 04 ReadNoSnp 3 0000000000001008 answered
+  the granule can hold 0000000000000000
+  open from 5 to 6: 0 3 04 ReadNoSnp 3 0000000000001008 answered
+  explained up to 5
+  the last operations of the granule, from time 5 to 6:
+  > line 5 |########################################|  5 to 6  ReadNoSnp  +0 L8  returned 0900000000000000  requester 0 txn 3
+    legal would be:  returned 0000000000000000
+  at line 6
+not explained: granule 0000000000001010
+at the end: 0800000000000000
+  the granule can hold 0000000000000000
+  at the end
+"
+    )?;
+    assert_answer(&rt, &texts, &GOING, found.as_str(), (4, 0, 3, 0))
+}
+
+// Within a budget of no states a granule that has an operation is not decided, and one with words alone is.
+#[test]
+fn no_budget(rt: HostRuntime) -> Result<(), Fail> {
+    let options = WatchOptions {
+        budget: 0,
+        keep_going: true,
+    };
+    let found = "not explained: granule 0000000000001010
+at the end: 0800000000000000
+  the granule can hold 0000000000000000
+  at the end
+undecided: granule 0000000000001000 after 0 states
+";
+    assert_answer(&rt, &[WRITE, LAST], &options, found, (1, 0, 2, 0))
+}
+
+/// A granule that is found at the end, of which no word is told and it is not found how far it can be explained.
+fn at_end(granule: u64) -> FoundAtEnd {
+    FoundAtEnd {
+        granule,
+        last: None,
+        reach: Reach::Undecided,
+    }
+}
+
+// A granule that was found by a line is not told of at the end. The address of the granule 2^52 / 8 - 1 is 2^52 - 8.
+#[test]
+fn all_there_is_to_tell(rt: HostRuntime) -> Result<(), Fail> {
+    let found = Found {
+        granule: 513,
+        line: 18446744073709551614,
+        reach: Reach::Undecided,
+    };
+    let mut unexplained = Vec::new(rt.alloc());
+    unexplained.push(at_end(0))?;
+    unexplained.push(at_end(513))?;
+    let ending = Ending {
+        unexplained,
+        undecided: vec![in rt.alloc(); 512, 562949953421311]?,
+    };
+    let mut by_line = Vec::new(rt.alloc());
+    by_line.push(found)?;
+    let watched = Watched {
+        found: by_line,
+        ending: Some(ending),
+        counts: Counts {
+            ended: 1000,
+            outstanding: 20,
+            granules: 300,
+        },
+        unjudged: 4,
+    };
+    let text = String::from_utf8(watched_text(rt.alloc(), &watched, 70)?)?;
+    assert_same(
+        &rt,
+        text.as_str(),
+        "not explained: granule 0000000000001008
+  at line 18446744073709551614
+not explained: granule 0000000000000000
+  at the end
+undecided: granule 0000000000001000 after 70 states
+undecided: granule 000ffffffffffff8 after 70 states
+  operations that ended: 1000
+  requests outstanding: 20
+  granules: 300
+  granules not judged: 4
+",
+    );
+    Ok(())
+}

@@ -1,0 +1,70 @@
+//! The verdict on what is found.
+
+use crate::tests::comparison::assert_same;
+use chi_recent::Reach;
+use chi_watch::{Counts, Ending, FoundAtEnd};
+use chi_watch_text::{Found, WatchVerdict, Watched};
+use std::alloc::{AllocError, Global};
+use std::test::Fail;
+
+/// The verdict where so many granules were found by lines, and so many are listed at the end of either kind.
+fn verdict(
+    alloc: Global,
+    found: usize,
+    unexplained: usize,
+    undecided: usize,
+) -> Result<WatchVerdict, AllocError> {
+    let mut by_line = Vec::new(alloc);
+    for _ in 0..found {
+        by_line.push(Found {
+            granule: 512,
+            line: 4,
+            reach: Reach::Undecided,
+        })?;
+    }
+    let mut at_end = Vec::new(alloc);
+    for _ in 0..unexplained {
+        at_end.push(FoundAtEnd {
+            granule: 513,
+            last: None,
+            reach: Reach::Undecided,
+        })?;
+    }
+    let ending = Ending {
+        unexplained: at_end,
+        undecided: vec![in alloc; 514; undecided]?,
+    };
+    let watched = Watched {
+        found: by_line,
+        ending: Some(ending),
+        counts: Counts {
+            ended: 0,
+            outstanding: 0,
+            granules: 3,
+        },
+        unjudged: 0,
+    };
+    Ok(watched.verdict())
+}
+
+// One granule that is not explained decides, whatever else is found.
+#[test]
+fn each_kind(rt: HostRuntime) -> Result<(), Fail> {
+    for (found, unexplained, undecided, wanted) in [
+        (0, 0, 0, WatchVerdict::Explained),
+        (0, 0, 1, WatchVerdict::Undecided),
+        (0, 1, 0, WatchVerdict::Unexplained),
+        (0, 1, 1, WatchVerdict::Unexplained),
+        (1, 0, 0, WatchVerdict::Unexplained),
+        (1, 0, 1, WatchVerdict::Unexplained),
+        (1, 1, 1, WatchVerdict::Unexplained),
+    ] {
+        let verdict = verdict(rt.alloc(), found, unexplained, undecided)?;
+        assert_same(
+            &rt,
+            (found, unexplained, undecided, verdict),
+            (found, unexplained, undecided, wanted),
+        );
+    }
+    Ok(())
+}
