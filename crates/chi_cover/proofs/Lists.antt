@@ -1,7 +1,7 @@
 -- lists that grow by one item
 use Rattle.std.proofs.Common.{◌≡◌, ℕ, zero, suc, ◌+◌, ◌<◌, ◌≤◌, Bool, true, false, cond, List, [], ◌∷◌, ◌++◌, All, Err, Ok, OnOk, Result, append_assoc, append-nil, count_by, drop, filter, flat_map, get_or, length, map, refl, true≢false, replicate, slice_index, sym, take, ap, ◌∙◌, arith, zero-add}
 use Rattle.std.proofs.lemmas.Grind.{flat_map-append}
-use Rattle.std.proofs.lemmas.List.{take-append-le, take_all, take_more}
+use Rattle.std.proofs.lemmas.List.{map-append, take-append-le, take_all, take_more}
 use Rattle.std.proofs.lemmas.List.Elements.{All-cons, All-nil, filter-append}
 use Rattle.std.proofs.lemmas.List.Sums.{sum_by-append, sum_by-cons}
 use Rattle.std.specs.List.{range_with_len}
@@ -43,6 +43,18 @@ part_more f start xs i d before after below so_far part =
 pub all_parts : {X Y : Type 0} (f : X → List Y) (start : List Y) (xs : List X) (i : ℕ) (whole : List Y) → length xs ≤ i
     → whole ≡ start ++ flat_map f (take i xs) → whole ≡ start ++ flat_map f xs
 all_parts f start xs i whole past so_far = so_far ∙ ap (λ l. start ++ flat_map f l) (take_all i xs past)
+
+-- and by one item after the other
+pub item_more : {X Y : Type 0} (f : X → Y) (start : List Y) (xs : List X) (i : ℕ) (d : X) (before after : List Y) → i < length xs
+    → before ≡ start ++ map f (take i xs) → after ≡ before ++ f (get_or xs i d) ∷ [] → after ≡ start ++ map f (take (i + 1) xs)
+item_more f start xs i d before after below so_far last =
+    let x = get_or xs i d in
+    last ∙ (ap (λ l. l ++ f x ∷ []) so_far ∙ (append_assoc start (map f (take i xs)) (f x ∷ [])
+    ∙ ap (λ l. start ++ l) (sym (map-append f (take i xs) (x ∷ [])) ∙ ap (map f) (sym (take_more xs i d below)))))
+
+pub all_items : {X Y : Type 0} (f : X → Y) (start : List Y) (xs : List X) (i : ℕ) (whole : List Y) → length xs ≤ i
+    → whole ≡ start ++ map f (take i xs) → whole ≡ start ++ map f xs
+all_items f start xs i whole past so_far = so_far ∙ ap (λ l. start ++ map f l) (take_all i xs past)
 
 -- what is made of the first numbers that pass a test: the next one passes it
 pub kept_more : {Y : Type 0} (g : List ℕ → List Y) (h start : List Y) (p : ℕ → Bool) (n : ℕ) (before after : List Y) → g (filter p (range_with_len 0 n) ++ n ∷ []) ≡ g (filter p (range_with_len 0 n)) ++ h

@@ -1,0 +1,14 @@
+-- one length more
+use Rattle.chi_cover.specs.Bins.{lengths}
+use Rattle.chi_cover.specs.Counts.{count_in}
+use Rattle.chi_cover.specs.Texts.{operation_row, order_rows}
+use Rattle.chi_cover.proofs.Lists.{all_parts, part_more}
+use Rattle.chi_cover.proofs.rows.add_order_rows.Goals as goal
+
+pub loop-len-preserved : goal.loop-len-preserved
+loop-len-preserved c =
+    part_more (operation_row (count_in c.args.covered.now) c.args.kind c.args.endian) c.args.to.now.items lengths c.loop-len.len-index _ c.loop-len.to.items c.add_operation_row.new.to.items c.loop-len-test.true c.loop-len.invariant c.in_ok-add_operation_row.ensures
+
+pub returns : goal.returns
+unfolding order_rows
+returns c = all_parts (operation_row (count_in c.args.covered.now) c.args.kind c.args.endian) c.args.to.now.items lengths c.loop-len.len-index c.loop-len.to.items c.loop-len-test.false c.loop-len.invariant

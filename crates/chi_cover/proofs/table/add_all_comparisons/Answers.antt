@@ -1,0 +1,13 @@
+-- one length more
+use Rattle.chi_cover.specs.Bins.{lengths}
+use Rattle.chi_cover.specs.Counts.{count_in}
+use Rattle.chi_cover.specs.Texts.{comparison_row}
+use Rattle.chi_cover.proofs.Lists.{all_parts, part_more}
+use Rattle.chi_cover.proofs.table.add_all_comparisons.Goals as goal
+
+pub loop-len-preserved : goal.loop-len-preserved
+loop-len-preserved c =
+    part_more (comparison_row (count_in c.args.covered.now)) c.args.to.now.items lengths c.loop-len.len-index _ c.loop-len.to.items c.add_comparison_row.new.to.items c.loop-len-test.true c.loop-len.invariant c.in_ok-add_comparison_row.ensures
+
+pub returns : goal.returns
+returns c = all_parts (comparison_row (count_in c.args.covered.now)) c.args.to.now.items lengths c.loop-len.len-index c.loop-len.to.items c.loop-len-test.false c.loop-len.invariant

@@ -1,0 +1,12 @@
+-- one bin more
+use Rattle.chi_cover.specs.Counts.{count_in}
+use Rattle.chi_cover.specs.Texts.{traffic_row}
+use Rattle.chi_cover.proofs.Lists.{all_parts, part_more}
+use Rattle.chi_cover.proofs.table.add_each_row.Goals as goal
+
+pub loop-bin-preserved : goal.loop-bin-preserved
+loop-bin-preserved c =
+    part_more (traffic_row (count_in c.args.covered.now)) c.args.to.now.items c.args.bins.now c.loop-bin.bin-index _ c.loop-bin.to.items c.add_traffic_row.new.to.items c.loop-bin-test.true c.loop-bin.invariant c.in_ok-add_traffic_row.ensures
+
+pub returns : goal.returns
+returns c = all_parts (traffic_row (count_in c.args.covered.now)) c.args.to.now.items c.args.bins.now c.loop-bin.bin-index c.loop-bin.to.items c.loop-bin-test.false c.loop-bin.invariant
