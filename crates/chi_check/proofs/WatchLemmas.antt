@@ -1,9 +1,10 @@
 -- what is written of what was found, and what flushing it leaves
-use Rattle.std.proofs.Common.{◌≡◌, ℕ, List, [], ◌∷◌, All, Option, None, Some, Ok, Err, IfSome, sym, subst, ◌∙◌, append-nil}
+use Rattle.std.proofs.Common.{◌≡◌, ℕ, List, [], ◌∷◌, All, Option, None, Some, Ok, Err, IfSome, sym, subst, ◌∙◌, append-nil, ◌⊎◌, inl, inr}
 use Rattle.std.specs.Io.KnownBytes.{Appends, Keeps}
 use Rattle.std.proofs.lemmas.List.Elements.{All-head}
 use Rattle.chi_script.specs.WriterBytes.{AppendsFront}
 use Rattle.chi_script.specs.declared.device.WriteFault.{WriteFault}
+use Rattle.chi_script.specs.declared.device.WriteFault.TheVariants.{Failed}
 use Rattle.chi_search.specs.Looks.{LookedAtLeast}
 use Rattle.chi_watch.specs.declared.ending.Ending.{Ending}
 use Rattle.chi_watch.specs.declared.ending.FoundAtEnd.{FoundAtEnd}
@@ -15,7 +16,8 @@ use Rattle.chi_watch_text.specs.declared.watched.Found.{Found}
 use Rattle.chi_watch_text.specs.declared.watched.Watched.{Watched}
 use Rattle.chi_cover.specs.Counts.{count_in}
 use Rattle.chi_cover.specs.Texts.{table_text}
-use Rattle.chi_check.specs.ProgramOutcome.{TaskOutcome}
+use Rattle.chi_check.specs.CheckStatus.{IsAnswerStatus}
+use Rattle.chi_check.specs.ProgramOutcome.{Ends, TaskOutcome}
 use Rattle.chi_check.specs.Watch.{WatchOutcome, verdict_status}
 use Rattle.chi_check.specs.declared.command.Task.{Task}
 use Rattle.chi_check.specs.declared.command.Task.TheVariants.{Explain, Watch, Cover}
@@ -67,7 +69,7 @@ whole_front old new text appends = record { front = text; rest = []; whole = app
 
 -- and so does the outcome of a task, also where the flush fails
 module _ (holds : List ℕ → List ℕ → Type 0) where
-  pub flushed : (task : Task) (remaining old mid new : Option (List ℕ)) (status : ℕ) → IfSome remaining (λ input. TaskOutcome holds task input old mid (Ok status)) → Keeps mid new
+  flushed : (task : Task) (remaining old mid new : Option (List ℕ)) (status : ℕ) → IfSome remaining (λ input. TaskOutcome holds task input old mid (Ok status)) → Keeps mid new
       → IfSome remaining (λ input. TaskOutcome holds task input old new (Ok status))
   flushed task None old mid new status outcome keeps = tt
   flushed (Explain options) (Some input) old mid new status (answer, text, answers, status_is, appends) keeps =
@@ -77,7 +79,7 @@ module _ (holds : List ℕ → List ℕ → Type 0) where
   flushed (Cover options) (Some input) old mid new status (counts, has, status_is, appends) keeps =
       (counts, has, status_is, appends_kept old mid new (table_text (count_in counts)) appends keeps)
 
-  pub flush_failed : (task : Task) (remaining old mid new : Option (List ℕ)) (status : ℕ) (fault : WriteFault) → IfSome remaining (λ input. TaskOutcome holds task input old mid (Ok status))
+  flush_failed : (task : Task) (remaining old mid new : Option (List ℕ)) (status : ℕ) (fault : WriteFault) → IfSome remaining (λ input. TaskOutcome holds task input old mid (Ok status))
       → Keeps mid new → IfSome remaining (λ input. TaskOutcome holds task input old new (Err (Write fault)))
   flush_failed task None old mid new status fault outcome keeps = tt
   flush_failed (Explain options) (Some input) old mid new status fault (answer, text, answers, status_is, appends) keeps =
@@ -86,3 +88,11 @@ module _ (holds : List ℕ → List ℕ → Type 0) where
       (watched, is, whole_front old new (watched_text options.budget watched) (appends_kept old mid new (watched_text options.budget watched) appends keeps))
   flush_failed (Cover options) (Some input) old mid new status fault (counts, has, status_is, appends) keeps =
       (counts, has, whole_front old new (table_text (count_in counts)) (appends_kept old mid new (table_text (count_in counts)) appends keeps))
+
+  -- a task whose text was flushed, or could not be, came to an outcome of this status
+  pub ended : (task : Task) (remaining old mid new : Option (List ℕ)) (done status : ℕ) → IfSome remaining (λ input. TaskOutcome holds task input old mid (Ok done)) → Keeps mid new
+      → IsAnswerStatus done → (status ≡ done) ⊎ (status ≡ 5) → Ends holds task remaining old new status
+  ended task remaining old mid new done status outcome keeps answers (inl is) =
+      (Ok done, tt, answers, flushed task remaining old mid new done outcome keeps, is)
+  ended task remaining old mid new done status outcome keeps answers (inr is) =
+      (Err (Write Failed), tt, tt, flush_failed task remaining old mid new done Failed outcome keeps, is)

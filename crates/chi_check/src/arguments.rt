@@ -14,8 +14,7 @@ use crate::pages::Pages;
 use crate::progress_line::ShownProgress;
 use crate::sources::Sources;
 use crate::watch::watch;
-use chi_program::{ProgramFault, report_arguments, report_fault};
-use chi_script::WriteFault;
+use chi_program::{ProgramFault, flushed_status, report_arguments, report_fault};
 use std::alloc::Global;
 use std::io::{Read, Write};
 
@@ -36,26 +35,6 @@ fn do_task<R: Read, W: Write, P: ShownProgress, G: Pages + Sources + Meter>(
         Task::Explain(options) => check(alloc, from, to, options, progress, machine),
         Task::Watch(options) => watch(alloc, from, to, options, progress),
         Task::Cover(options) => cover(alloc, from, to, options, machine),
-    }
-}
-
-// Does a task with its input, and flushes what was written. A fault of the flush is one of the writer.
-fn run_task<R: Read, W: Write, P: ShownProgress, G: Pages + Sources + Meter>(
-    alloc: Global,
-    task: &Task<'_>,
-    from: &mut R,
-    to: &mut W,
-    progress: &mut P,
-    machine: &mut G,
-) -> Result<u8, CheckFault>
-    ensures outcome { IfSome (R.remaining from.old) (λ input. TaskOutcome (G.holds machine.old) task.now input (W.contents to.old) (W.contents to.new) result) }
-    ensures unanswered { KeepsUnanswered (W.contents to.old) (W.contents to.new) result }
-    ensures status { IfOk result IsAnswerStatus }
-{
-    let status = do_task(alloc, task, from, to, progress, machine)?;
-    match to.flush() {
-        Ok(()) => Ok(status),
-        Err(_) => Err(CheckFault::Write(WriteFault::Failed)),
     }
 }
 
@@ -81,7 +60,7 @@ fn report_task_fault<E: Write>(task: &Task<'_>, fault: &CheckFault, errors: &mut
     report_fault(PROGRAM, fault, errors)
 }
 
-// Does a task with its input, and reports its fault.
+// Does a task with its input, flushes what was written, and reports a fault of either.
 fn end_task<R: Read, W: Write, E: Write, P: ShownProgress, G: Pages + Sources + Meter>(
     alloc: Global,
     task: &Task<'_>,
@@ -94,8 +73,8 @@ fn end_task<R: Read, W: Write, E: Write, P: ShownProgress, G: Pages + Sources + 
     ensures ends { Ends (G.holds machine.old) task.now (R.remaining from.old) (W.contents to.old) (W.contents to.new) result }
     ensures status { IsStatus result }
 {
-    match run_task(alloc, task, from, to, progress, machine) {
-        Ok(status) => status,
+    match do_task(alloc, task, from, to, progress, machine) {
+        Ok(status) => flushed_status::<CheckFault, _, _>(PROGRAM, status, to, errors),
         Err(fault) => report_task_fault(task, &fault, errors),
     }
 }

@@ -70,7 +70,7 @@ fn judged(alloc: Global, recorded: Recorded, until: Option<u64>) -> Result<Recor
 }
 
 /// The status of an answer, what is written of it, and the page of the trace, where one is asked for.
-#[derive(Debug, Drop)]
+#[derive(Drop)]
 struct Report {
     status: u8,
     text: Vec<u8>,

@@ -1,19 +1,20 @@
 //! The command line.
 
-ghost use Rattle.std.specs.Prelude.{◌≡◌, false, map, string_bytes, IfErr, IfOk};
+ghost use Rattle.std.specs.Prelude.{◌≡◌, map, string_bytes, IfErr, IfOk};
 ghost use Rattle.clap.specs.Matches.{found_of};
 ghost use Rattle.clap.specs.Simple.{app_of};
 ghost use Rattle.clap.specs.Values.{kind_of};
-ghost use Rattle.clap.specs.Walk.{rows_of, rule_of};
+ghost use Rattle.clap.specs.Walk.{rows_of};
 ghost use Rattle.chi_check.specs.Chosen.{Chooses, HasOptions, IsNamed, IsNamedFirst};
-ghost use Rattle.chi_check.specs.CommandLine.{IsArgumentsFault, IsTaken, budget_rule, cover_app, explain_app, files_rule, program_app, watch_app};
+ghost use Rattle.chi_check.specs.CommandLine.{IsArgumentsFault, IsTaken, program_app};
 
 use crate::chosen::{cover_options, explain_options, watch_options};
 use crate::options::{CheckOptions, CoverOptions};
-use chi_program::{bare_command, number_option, number_option_or, switch, text_option};
+use crate::tasks::TASKS;
+use chi_program::program_command;
 use chi_watch_text::WatchOptions;
 use clap::error::ErrorKind;
-use clap::{Arg, ArgAction, ArgMatches, Command, Error};
+use clap::{ArgMatches, Command, Error};
 use std::alloc::{AllocError, Global};
 
 /// What is done: a trace is explained, events are watched, or the operations of traces or of events are counted.
@@ -53,114 +54,11 @@ input, or of all the files that are named (docs/COVERAGE.md).
 Statuses: 0 explained, or covered as required; 1 not explained, or covered less; 2 command line
 refused; 3 trace or event refused; 4 no memory; 5 a read or a write failed; 6 undecided.";
 
-const EXPLAIN_ABOUT: &str = "Looks for an order of the operations that is a legal history";
-
-const WATCH_ABOUT: &str =
-    "Judges events as they come, and stops at the first that cannot be explained";
-
-const COVER_ABOUT: &str = "Counts what the operations of traces or of events covered";
-
-const TRACE_PAGE: &str = "Makes this file a page that shows the trace in a browser";
-
-const COVER_PAGE: &str = "Makes this file a page that shows the counts in a browser";
-
-const WITNESS: &str = "Writes the operations in the order found, and the memory after them";
-
-const SHOWN: &str = "Operations of the granule that are shown before the one blamed";
-
-const KEEP_GOING: &str = "Goes on after a granule that cannot be explained, and lists them all";
-
-const FEWER: &str = "Status 1 where fewer of a hundred bins have counted an operation";
-
-const EVENTS: &str = "Counts what events tell, a line each, and not traces";
-
-const UNTIL: &str = "Judges what had happened by time T, and no words at the end";
-
-const SECONDS: &str = "Begins no larger search that may go on for longer than S seconds";
-
-const MEMORY: &str = "Begins no larger search that may take more than BYTES of memory";
-
-// The option that takes the number of states.
-fn budget_option<'a>(alloc: Global) -> Arg<'a>
-    ensures rule { rule_of result ≡ budget_rule }
-    ensures local { result.global ≡ false }
-{
-    number_option_or(
-        alloc,
-        "budget",
-        "N",
-        "1000000",
-        "States of each granule that are looked at for an answer",
-    )
-}
-
-// The files that are counted.
-fn files_argument<'a>(alloc: Global) -> Arg<'a>
-    ensures rule { rule_of result ≡ files_rule }
-    ensures local { result.global ≡ false }
-{
-    Arg::new(alloc, "file")
-        .value_name("FILE")
-        .action(ArgAction::Append)
-        .help("Counts what these files hold, all added up, and not the standard input")
-}
-
-// The task `explain`.
-fn explain_command<'a>(alloc: Global) -> Result<Command<'a>, Error>
-    ensures app { IfOk result (λ command. app_of command ≡ explain_app) }
-    ensures memory { IfErr result (λ error. kind_of error ≡ ErrorKind.OutOfMemory) }
-{
-    Ok(
-        Command::new(alloc, "explain")
-            .about(EXPLAIN_ABOUT)
-            .arg(switch(alloc, "witness", WITNESS))?
-            .arg(number_option(alloc, "until", "T", UNTIL))?
-            .arg(number_option_or(alloc, "around", "N", "16", SHOWN))?
-            .arg(text_option(alloc, "html", "FILE", TRACE_PAGE))?
-            .arg(budget_option(alloc))?
-            .arg(number_option(alloc, "seconds", "S", SECONDS))?
-            .arg(number_option(alloc, "memory", "BYTES", MEMORY))?,
-    )
-}
-
-// The task `watch`.
-fn watch_command<'a>(alloc: Global) -> Result<Command<'a>, Error>
-    ensures app { IfOk result (λ command. app_of command ≡ watch_app) }
-    ensures memory { IfErr result (λ error. kind_of error ≡ ErrorKind.OutOfMemory) }
-{
-    Ok(
-        Command::new(alloc, "watch")
-            .about(WATCH_ABOUT)
-            .arg(budget_option(alloc))?
-            .arg(switch(alloc, "keep-going", KEEP_GOING))?,
-    )
-}
-
-// The task `cover`.
-fn cover_command<'a>(alloc: Global) -> Result<Command<'a>, Error>
-    ensures app { IfOk result (λ command. app_of command ≡ cover_app) }
-    ensures memory { IfErr result (λ error. kind_of error ≡ ErrorKind.OutOfMemory) }
-{
-    Ok(
-        Command::new(alloc, "cover")
-            .about(COVER_ABOUT)
-            .arg(number_option_or(alloc, "require", "PERCENT", "0", FEWER))?
-            .arg(switch(alloc, "events", EVENTS))?
-            .arg(text_option(alloc, "html", "FILE", COVER_PAGE))?
-            .arg(files_argument(alloc))?,
-    )
-}
-
 fn whole_command<'a>(alloc: Global) -> Result<Command<'a>, Error>
     ensures app { IfOk result (λ command. app_of command ≡ program_app) }
     ensures memory { IfErr result (λ error. kind_of error ≡ ErrorKind.OutOfMemory) }
 {
-    Ok(
-        bare_command(alloc, PROGRAM, VERSION, ABOUT, MORE)?
-            .subcommand(explain_command(alloc)?)?
-            .subcommand(watch_command(alloc)?)?
-            .subcommand(cover_command(alloc)?)?,
-    )
+    program_command(alloc, PROGRAM, VERSION, ABOUT, MORE, &TASKS)
 }
 
 // The task of this name, with its options.

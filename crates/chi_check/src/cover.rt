@@ -49,7 +49,7 @@ fn page_asked(alloc: Global, covered: &Covered, html: Option<&str>) -> Result<Ve
 }
 
 /// What is written of what is covered: the table, and the page where one is asked for.
-#[derive(Debug, Drop)]
+#[derive(Drop)]
 struct CoverReport {
     table: Vec<u8>,
     page: Vec<u8>,

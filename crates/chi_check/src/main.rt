@@ -17,6 +17,7 @@ mod pages;
 mod progress_line;
 mod search;
 mod sources;
+mod tasks;
 mod watch;
 
 use crate::arguments::run_arguments;

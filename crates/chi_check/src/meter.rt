@@ -4,7 +4,7 @@ use crate::options::CheckOptions;
 use std::time::{Duration, Instant};
 
 /// The time, and the most bytes of memory that the program had at one time by then, where they can be told.
-#[derive(Clone, Copy, Debug)]
+#[derive(Clone, Copy)]
 pub struct Used {
     pub time: Option<Instant>,
     pub bytes: Option<u64>,

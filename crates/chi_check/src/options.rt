@@ -7,7 +7,7 @@
 /// that is to be the page of the trace.
 ///
 /// Source: profile.
-#[derive(Clone, Copy, Debug)]
+#[derive(Clone, Copy)]
 pub struct CheckOptions<'a> {
     pub witness: bool,
     pub budget: u64,
@@ -23,7 +23,7 @@ pub struct CheckOptions<'a> {
 /// of a file that is to be the page of the counts.
 ///
 /// Source: profile.
-#[derive(Debug, Drop)]
+#[derive(Drop)]
 pub struct CoverOptions<'a> {
     pub require: u64,
     pub events: bool,

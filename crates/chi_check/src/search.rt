@@ -12,7 +12,7 @@ use chi_search::Progress;
 use std::alloc::{AllocError, Global};
 
 /// An answer, and how many states of each granule were looked at for it at most.
-#[derive(Debug, Drop)]
+#[derive(Drop)]
 pub(crate) struct Searched {
     pub answer: Answer,
     pub budget: u64,

@@ -1,11 +1,12 @@
 -- what the program's command line is to `clap`
-use Rattle.std.proofs.Common.{ap, ap₂, inl, inr, ◌⊎◌, codes, ◌≡◌, ◌∙◌, Bool, true, false, cond, List, [], ◌∷◌, Option, Some, Bor, refl, sym, pos}
+use Rattle.std.proofs.Common.{ap, ap₂, inl, inr, ◌⊎◌, codes, ◌≡◌, ◌∙◌, Bool, true, false, cond, List, [], ◌∷◌, Option, Some, Bor, Result, Ok, Err, IfOk, refl, subst, sym, pos}
 use Rattle.std.specs.Option.{option_map, unwrap_or}
 use Rattle.clap.specs.Faults.{fault_of, is_simple_and_free}
 use Rattle.clap.specs.Kinds.{IsAmong}
 use Rattle.clap.specs.Matches.{subcommand_name_of}
-use Rattle.clap.specs.Simple.{App, HasMatchesOf, built, entered, names_of, new_app, subcommand_of, subcommand_rows_of, with_rule, with_subcommand}
-use Rattle.clap.specs.Walk.{Row, Rule, Text, Walk, nothing_held, walk_from}
+use Rattle.clap.specs.Simple.{App, HasMatchesOf, app_of, built, entered, names_of, new_app, subcommand_of, subcommand_rows_of, with_rule, with_subcommand}
+use Rattle.clap.specs.Walk.{Row, Rule, Text, Walk, nothing_held, texts, walk_from}
+use Rattle.clap.specs.declared.builder.command.Command.{Command}
 use Rattle.clap.specs.declared.error.kind.ErrorKind.{ErrorKind}
 use Rattle.clap.specs.declared.error.kind.ErrorKind.TheVariants as error_kind
 use Rattle.clap.specs.declared.builder.value_parser.ValueParser.TheVariants as value_parser
@@ -24,7 +25,7 @@ use Rattle.chi_engine.specs.declared.options.Options.{Options}
 use Rattle.chi_home.specs.CommandLine.{IsProgram, IsRaceApp, IsRunApp, IsTaken, IsTaskApp, IsArgumentsFault, cover_rule, generate_app, workers_rule}
 
 -- a task with these two options
-task_of : Text → Rule → Rule → App
+unfoldable pub task_of : Text → Rule → Rule → App
 task_of name store policy =
     with_rule (with_rule (with_rule (new_app name) store) (option_rule (codes "attempts") (value_parser.Signed (pos 1) (pos 16)) (codes "4" ∷ []))) policy
 
@@ -35,13 +36,33 @@ abbrev policies_of : Bor (List (Bor Text)) → Rule
 policies_of words = option_rule (codes "policy") (value_parser.Names words) (codes "resend" ∷ [])
 
 -- the three tasks
-both : App → App → App
+unfoldable pub both : App → App → App
 both run race = with_subcommand (with_subcommand (with_subcommand (bare_app (codes "chihome")) run.top) race.top) generate_app.top
 
 -- the program, whose options take these words
-program_of : Bor (List (Bor Text)) → Bor (List (Bor Text)) → Bor (List (Bor Text)) → Bor (List (Bor Text)) → App
+unfoldable pub program_of : Bor (List (Bor Text)) → Bor (List (Bor Text)) → Bor (List (Bor Text)) → Bor (List (Bor Text)) → App
 program_of v w x y =
     both (with_rule (task_of (codes "run") (stores_of v) (policies_of w)) cover_rule) (with_rule (task_of (codes "race") (stores_of x) (policies_of y)) workers_rule)
+
+-- it is the program, where they are the right words
+is_program : (v w x y : Bor (List (Bor Text))) → texts v.now ≡ codes "lock" ∷ codes "book" ∷ [] → texts w.now ≡ codes "resend" ∷ codes "return" ∷ []
+    → texts x.now ≡ codes "lock" ∷ codes "book" ∷ [] → texts y.now ≡ codes "resend" ∷ codes "return" ∷ [] → IsProgram (program_of v w x y)
+unfolding program_of both task_of
+is_program v w x y stores policies other_stores other_policies = (
+  with_rule (task_of (codes "run") (stores_of v) (policies_of w)) cover_rule,
+  with_rule (task_of (codes "race") (stores_of x) (policies_of y)) workers_rule,
+  (task_of (codes "run") (stores_of v) (policies_of w), (stores_of v, policies_of w, (v, stores, refl), (w, policies, refl), refl), refl),
+  (task_of (codes "race") (stores_of x) (policies_of y), (stores_of x, policies_of y, (x, other_stores, refl), (y, other_policies, refl), refl), refl),
+  refl,
+)
+
+-- so is a command that was made like it
+pub program_made : {E : Type 0} (made : Result Command E) (v w x y : Bor (List (Bor Text))) → texts v.now ≡ codes "lock" ∷ codes "book" ∷ []
+    → texts w.now ≡ codes "resend" ∷ codes "return" ∷ [] → texts x.now ≡ codes "lock" ∷ codes "book" ∷ [] → texts y.now ≡ codes "resend" ∷ codes "return" ∷ []
+    → IfOk made (λ command. app_of command ≡ program_of v w x y) → IfOk made (λ command. IsProgram (app_of command))
+program_made (Ok command) v w x y stores policies other_stores other_policies is =
+    subst IsProgram (sym is) (is_program v w x y stores policies other_stores other_policies)
+program_made (Err error) v w x y stores policies other_stores other_policies is = tt
 
 simple_whatever : (v w x y : Bor (List (Bor Text))) → is_simple_and_free (program_of v w x y) ≡ true
 unfolding clap_on_literals program_of both task_of

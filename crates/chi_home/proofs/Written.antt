@@ -1,14 +1,16 @@
 -- what was written, where nothing was executed, where the options are refused and where the flush fails
-use Rattle.std.proofs.Common.{ℕ, List, [], Option, None, Some, Result, Err, Ok, IfSome, append-nil, refl, ◌∙◌}
+use Rattle.std.proofs.Common.{◌≡◌, ℕ, List, [], Option, None, Some, Result, Err, Ok, IfSome, append-nil, refl, ◌∙◌, ◌⊎◌, inl, inr}
 use Rattle.std.specs.Io.KnownBytes.{Appends, Keeps}
 use Rattle.chi_script.specs.WriterBytes.{AppendsFront}
 use Rattle.chi_script.specs.declared.device.WriteFault.{WriteFault}
+use Rattle.chi_script.specs.declared.device.WriteFault.TheVariants.{Failed}
 use Rattle.chi_engine.specs.declared.fault.EngineFault.{EngineFault}
 use Rattle.chi_engine.specs.declared.fault.EngineFault.TheVariants as engine_fault
 use Rattle.chi_engine.specs.declared.options.Options.{Options}
 use Rattle.chi_engine.specs.Cover.{KeepsUnwritten}
 use Rattle.chi_engine.specs.Engine.{KeepsUnexecuted}
-use Rattle.chi_home.specs.Task.{TaskOutcome}
+use Rattle.chi_engine.specs.Store.{Opens}
+use Rattle.chi_home.specs.Task.{Ends, Makes, TaskOutcome}
 use Rattle.chi_home.specs.declared.command.Task.{Task}
 use Rattle.chi_home.specs.declared.command.Task.TheVariants.{Run, Race, Cover}
 use Rattle.chi_home.specs.Generating.{IsRefused, WritesScript}
@@ -22,7 +24,7 @@ appends_kept (Some xs) None new text appends keeps = absurd appends
 appends_kept (Some xs) (Some ys) None text appends keeps = absurd keeps
 appends_kept (Some xs) (Some ys) (Some zs) text appends keeps = keeps ∙ appends
 
-pub flushed_front : (old mid new : Option (List ℕ)) (text : List ℕ) → Appends old mid text → Keeps mid new → AppendsFront old new text
+flushed_front : (old mid new : Option (List ℕ)) (text : List ℕ) → Appends old mid text → Keeps mid new → AppendsFront old new text
 flushed_front old mid new text appends keeps = record { front = text; rest = []; whole = append-nil text; taken = appends_kept old mid new text appends keeps }
 
 keeps_same : (old : Option (List ℕ)) → Keeps old old
@@ -48,20 +50,46 @@ unexecuted old new (Err (engine_fault.Open fault)) keeps = keeps
 unexecuted old new (Err (engine_fault.Work fault)) keeps = tt
 unexecuted old new (Err (engine_fault.Write fault)) keeps = tt
 
--- a task that was done and whose flush fails has written its whole text
-flushed_task : (task : Task) (options : Options) (input : List ℕ) (old mid new : Option (List ℕ)) (done : Unit {0}) (fault : WriteFault) → Keeps mid new
+-- a task that was done has written its whole text, whether that can be flushed or not
+flushed : (task : Task) (options : Options) (input : List ℕ) (old mid new : Option (List ℕ)) (done : Unit {0}) → Keeps mid new
+    → TaskOutcome task options input old mid (Ok done) → TaskOutcome task options input old new (Ok done)
+flushed Run options input old mid new done keeps outcome =
+    let made = outcome.1.2.1 in
+    (outcome.0, (outcome.1.0, outcome.1.1, (outcome.1.2.0, appends_kept old mid new _ made keeps)))
+flushed Race options input old mid new done keeps outcome =
+    let made = outcome.1.2.1 in
+    (outcome.0, (outcome.1.0, outcome.1.1, (outcome.1.2.0, (made.0, made.1, made.2, appends_kept old mid new _ made.3 keeps))))
+flushed Cover options input old mid new done keeps outcome =
+    let made = outcome.1.2.1 in
+    (outcome.0, (outcome.1.0, outcome.1.1, (outcome.1.2.0, (made.0, made.1, appends_kept old mid new _ made.2 keeps))))
+
+flush_failed : (task : Task) (options : Options) (input : List ℕ) (old mid new : Option (List ℕ)) (done : Unit {0}) (fault : WriteFault) → Keeps mid new
     → TaskOutcome task options input old mid (Ok done) → TaskOutcome task options input old new (Err (engine_fault.Write fault))
-flushed_task Run options input old mid new done fault keeps outcome =
+flush_failed Run options input old mid new done fault keeps outcome =
     let made = outcome.1.2.1 in
     (outcome.0, (outcome.1.0, outcome.1.1, (outcome.1.2.0, flushed_front old mid new _ made keeps)))
-flushed_task Race options input old mid new done fault keeps outcome =
+flush_failed Race options input old mid new done fault keeps outcome =
     let made = outcome.1.2.1 in
     (outcome.0, (outcome.1.0, outcome.1.1, (outcome.1.2.0, (made.0, made.1, made.2, flushed_front old mid new _ made.3 keeps))))
-flushed_task Cover options input old mid new done fault keeps outcome =
+flush_failed Cover options input old mid new done fault keeps outcome =
     let made = outcome.1.2.1 in
     (outcome.0, (outcome.1.0, outcome.1.1, (outcome.1.2.0, (made.0, made.1, flushed_front old mid new _ made.2 keeps))))
 
-pub flushed : (task : Task) (options : Options) (remaining old mid new : Option (List ℕ)) (done : Unit {0}) (fault : WriteFault) → Keeps mid new
-    → IfSome remaining (λ input. TaskOutcome task options input old mid (Ok done)) → IfSome remaining (λ input. TaskOutcome task options input old new (Err (engine_fault.Write fault)))
-flushed task options None old mid new done fault keeps outcome = tt
-flushed task options (Some input) old mid new done fault keeps outcome = flushed_task task options input old mid new done fault keeps outcome
+some_kept : {A B : List ℕ → Type 0} (remaining : Option (List ℕ)) → ((input : List ℕ) → A input → B input) → IfSome remaining A → IfSome remaining B
+some_kept None keeps outcome = tt
+some_kept (Some input) keeps outcome = keeps input outcome
+
+-- a task that was done came to an outcome of this status
+pub ended : (task : Task) (options : Options) (remaining old mid new : Option (List ℕ)) (done : Unit {0}) (status : ℕ) → Opens options.store → Keeps mid new
+    → IfSome remaining (λ input. TaskOutcome task options input old mid (Ok done)) → (status ≡ 0) ⊎ (status ≡ 5) → Ends task options remaining old new status
+ended task options remaining old mid new done status opens keeps outcome (inl is) =
+    (Ok done, opens, tt, some_kept remaining (λ input. flushed task options input old mid new done keeps) outcome, is)
+ended task options remaining old mid new done status opens keeps outcome (inr is) =
+    (Err (engine_fault.Write Failed), opens, tt, some_kept remaining (λ input. flush_failed task options input old mid new done Failed keeps) outcome, is)
+
+-- a script that was made is written whole, whether it can be flushed or not
+pub made : (options : GenerateOptions) (old mid new : Option (List ℕ)) (done : Unit {0}) (status : ℕ) → Keeps mid new
+    → WritesScript options old mid (Ok done) → (status ≡ 0) ⊎ (status ≡ 5) → Makes options old new status
+made options old mid new done status keeps (text, asked, appends) (inl is) = (Ok done, (text, asked, appends_kept old mid new text appends keeps), is)
+made options old mid new done status keeps (text, asked, appends) (inr is) =
+    (Err (Write Failed), (text, asked, flushed_front old mid new text appends keeps), is)

@@ -10,8 +10,7 @@ use crate::fault::HomeFault;
 use crate::generation::{GenerateOptions, generate};
 use chi_engine::{EngineFault, Options, engine_cover, engine_race, engine_run};
 use chi_history::NoGate;
-use chi_program::{report_arguments, report_fault};
-use chi_script::WriteFault;
+use chi_program::{flushed_status, report_arguments, report_fault};
 use std::alloc::Global;
 use std::io::{Read, Write};
 use std::sync::Wait;
@@ -37,26 +36,7 @@ fn do_task<T: AllocGlobal + Threads + Wait + Sync, R: Read, W: Write>(
     }
 }
 
-// Does a task with a script, and flushes what was written. A fault of the flush is one of the writer.
-fn run_task<T: AllocGlobal + Threads + Wait + Sync, R: Read, W: Write>(
-    rt: &T,
-    task: Task,
-    options: &Options,
-    from: &mut R,
-    to: &mut W,
-) -> Result<(), EngineFault>
-    ensures outcome { IfSome (R.remaining from.old) (λ input. TaskOutcome task options.now input (W.contents to.old) (W.contents to.new) result) }
-    ensures opening { ReportsOpening options.now.store result }
-    ensures unexecuted { KeepsUnexecuted (W.contents to.old) (W.contents to.new) result }
-{
-    do_task(rt, task, options, from, to)?;
-    match to.flush() {
-        Ok(()) => Ok(()),
-        Err(_) => Err(EngineFault::Write(WriteFault::Failed)),
-    }
-}
-
-// Does a task with a script, and reports its fault. The status is 0 where the task was done.
+// Does a task with a script, flushes what was written, and reports a fault of either. The status is 0 where the task was done.
 fn end_task<T: AllocGlobal + Threads + Wait + Sync, R: Read, W: Write, E: Write>(
     rt: &T,
     task: Task,
@@ -68,13 +48,13 @@ fn end_task<T: AllocGlobal + Threads + Wait + Sync, R: Read, W: Write, E: Write>
     ensures ends { Ends task options.now (R.remaining from.old) (W.contents to.old) (W.contents to.new) result }
     ensures status { IsStatus result }
 {
-    match run_task(rt, task, options, from, to) {
-        Ok(()) => 0,
+    match do_task(rt, task, options, from, to) {
+        Ok(()) => flushed_status::<HomeFault, _, _>(PROGRAM, 0, to, errors),
         Err(fault) => report_fault(PROGRAM, &HomeFault::Engine(fault), errors),
     }
 }
 
-// Makes a script, and reports why that was not done. The status is 0 where it was.
+// Makes a script, flushes it, and reports why that was not done. The status is 0 where it was.
 fn end_generate<W: Write, E: Write>(
     alloc: Global,
     options: &GenerateOptions<'_>,
@@ -85,7 +65,7 @@ fn end_generate<W: Write, E: Write>(
     ensures status { IsStatus result }
 {
     match generate(alloc, options, to) {
-        Ok(()) => 0,
+        Ok(()) => flushed_status::<HomeFault, _, _>(PROGRAM, 0, to, errors),
         Err(fault) => report_fault(PROGRAM, &HomeFault::Generate(fault), errors),
     }
 }

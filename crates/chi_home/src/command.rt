@@ -5,19 +5,18 @@ ghost use Rattle.clap.specs.Matches.{found_of};
 ghost use Rattle.clap.specs.Simple.{app_of};
 ghost use Rattle.clap.specs.Values.{kind_of};
 ghost use Rattle.clap.specs.Walk.{rows_of};
-ghost use Rattle.clap.specs.declared.builder.value_parser.ValueParser.TheVariants as value_parser;
 ghost use Rattle.chi_engine.specs.Store.{Opens};
 ghost use Rattle.chi_home.specs.Chosen.{HasAttempts, HasOptions, IsChosen, IsNamed, IsNamedFirst, attempts_of, options_of_task, policy_of, store_of, task_named, workers_of};
-ghost use Rattle.chi_home.specs.CommandLine.{IsProgram, IsRaceApp, IsRunApp, IsTaken, IsTaskApp, IsArgumentsFault};
+ghost use Rattle.chi_home.specs.CommandLine.{IsProgram, IsTaken, IsArgumentsFault};
 
-use crate::generation::{GenerateOptions, generate_command, generate_options};
+use crate::generation::{GenerateOptions, generate_options};
+use crate::tasks::TASKS;
 use chi_bookstore::MOST_ATTEMPTS;
 use chi_engine::{Options, Store, Workers};
-use chi_program::{bare_command, has_word, is_switched, switch, value_option_or};
+use chi_program::{has_word, is_switched, program_command};
 use chi_requester::Policy;
-use clap::builder::ValueParser;
 use clap::error::ErrorKind;
-use clap::{ArgMatches, Command, Error, value_parser};
+use clap::{ArgMatches, Command, Error};
 use std::alloc::Global;
 
 /// What is done with a script: its requests are executed one after another, or raced; or they are executed one after another for
@@ -57,95 +56,11 @@ region, which begin as the script's image, or as zeros.
 Statuses: 0 done; 2 command line refused; 3 script or opening refused; 4 no memory;
 5 a read or a write failed.";
 
-const RUN_ABOUT: &str = "Executes the requests in the order of the script, by one thread";
-
-const RACE_ABOUT: &str =
-    "Executes the requests of 1 and 2, or of 1 to WORKERS, at the same time, each in order, and then those of 0";
-
-// One of these words.
-fn one_of<'a>(words: &'a [&'a str]) -> ValueParser<'a>
-    ensures { result ≡ value_parser.Names words.entry }
-{
-    words.into()
-}
-
-// A task with the options of both.
-fn task_command<'a>(alloc: Global, name: &'a str, about: &'a str) -> Result<Command<'a>, Error>
-    ensures app { IfOk result (λ command. IsTaskApp name.entry.now (app_of command)) }
-    ensures memory { IfErr result (λ error. kind_of error ≡ ErrorKind.OutOfMemory) }
-{
-    let store = value_option_or(
-        alloc,
-        "store",
-        "STORE",
-        one_of(["lock", "book"].as_slice()),
-        "book",
-        "book: a row of at most 512 words, each changed by one exchange; lock: at most 8 under a lock",
-    );
-    let attempts = value_option_or(
-        alloc,
-        "attempts",
-        "N",
-        value_parser!(u8).range(1..=16),
-        "4",
-        "Tries before RetryAck, 1 to 16; a store with a lock never answers it",
-    );
-    let policy = value_option_or(
-        alloc,
-        "policy",
-        "POLICY",
-        one_of(["resend", "return"].as_slice()),
-        "resend",
-        "After RetryAck: send again on the credit, or give it back",
-    );
-    Ok(
-        Command::new(alloc, name)
-            .about(about)
-            .arg(store)?
-            .arg(attempts)?
-            .arg(policy)?,
-    )
-}
-
-// The task of a run, which may be asked for what is covered too.
-fn run_command<'a>(alloc: Global) -> Result<Command<'a>, Error>
-    ensures app { IfOk result (λ command. IsRunApp (app_of command)) }
-    ensures memory { IfErr result (λ error. kind_of error ≡ ErrorKind.OutOfMemory) }
-{
-    let cover = switch(
-        alloc,
-        "cover",
-        "Writes what the requests covered in place of the transcript",
-    );
-    Ok(task_command(alloc, "run", RUN_ABOUT)?.arg(cover)?)
-}
-
-// The task of a race, which has its workers too.
-fn race_command<'a>(alloc: Global) -> Result<Command<'a>, Error>
-    ensures app { IfOk result (λ command. IsRaceApp (app_of command)) }
-    ensures memory { IfErr result (λ error. kind_of error ≡ ErrorKind.OutOfMemory) }
-{
-    let workers = value_option_or(
-        alloc,
-        "workers",
-        "WORKERS",
-        value_parser!(u8).range(1..=7),
-        "2",
-        "How many requesters work at the same time, 1 to 7: those of the numbers from 1 on",
-    );
-    Ok(task_command(alloc, "race", RACE_ABOUT)?.arg(workers)?)
-}
-
 fn whole_command<'a>(alloc: Global) -> Result<Command<'a>, Error>
     ensures app { IfOk result (λ command. IsProgram (app_of command)) }
     ensures memory { IfErr result (λ error. kind_of error ≡ ErrorKind.OutOfMemory) }
 {
-    Ok(
-        bare_command(alloc, PROGRAM, VERSION, ABOUT, MORE)?
-            .subcommand(run_command(alloc)?)?
-            .subcommand(race_command(alloc)?)?
-            .subcommand(generate_command(alloc)?)?,
-    )
+    program_command(alloc, PROGRAM, VERSION, ABOUT, MORE, &TASKS)
 }
 
 // What requesters do after RetryAck.

@@ -1,25 +1,22 @@
-//! The task `generate`: its options, and what it writes.
+//! The task `generate`: the options that it was given, and what it writes.
 
-ghost use Rattle.std.specs.Prelude.{◌≡◌, false, codes, unwrap_or, IfErr, IfOk};
+ghost use Rattle.std.specs.Prelude.{◌≡◌, codes, unwrap_or, IfErr, IfOk};
 ghost use Rattle.clap.specs.Matches.{found_of};
-ghost use Rattle.clap.specs.Simple.{app_of};
-ghost use Rattle.clap.specs.Values.{kind_of};
-ghost use Rattle.clap.specs.Walk.{first_of, rows_of, rule_of};
-ghost use Rattle.chi_home.specs.CommandLine.{default_mix, generate_app, mix_rule};
+ghost use Rattle.clap.specs.Walk.{first_of, rows_of};
+ghost use Rattle.chi_home.specs.CommandLine.{default_mix};
 ghost use Rattle.chi_home.specs.Generating.{AsksFor, HasGenerateOptions, IsRefused, WritesScript, generate_status};
 
 use chi_fields::{Region, RegionFault, region_fault_name};
-use chi_program::{is_switched, number_option_or, number_or, switch, text_option};
+use chi_program::{is_switched, number_or};
 use chi_script::{WriteFault, write_bytes};
 use chi_stimulus::{Mix, MixFault, Stimulus, generated_script};
-use clap::error::ErrorKind;
-use clap::{Arg, ArgMatches, Command, Error};
+use clap::ArgMatches;
 use std::alloc::Global;
 use std::io::Write;
 use thiserror::Error;
 
 /// What a script by chance is to be, as the command line says it.
-#[derive(Clone, Copy, Debug)]
+#[derive(Clone, Copy)]
 pub struct GenerateOptions<'a> {
     pub requests: u64,
     pub seed: u64,
@@ -39,7 +36,7 @@ pub struct GenerateOptions<'a> {
 /// - `Mix`: the weights are not read.
 /// - `Memory`: a growth was refused.
 /// - `Write`: the script was not written whole.
-#[derive(Clone, Copy, Debug, PartialEq, Eq, Error)]
+#[derive(Clone, Copy, Debug, Error)]
 pub enum GenerateFault {
     #[error("a number is greater than its option takes")]
     Number,
@@ -64,89 +61,8 @@ pub(crate) fn generate_status(fault: &GenerateFault) -> u8
     }
 }
 
-// What the task is for, in one line.
-const GENERATE_ABOUT: &str = "Writes a script of requests by chance";
-
-// The weights where none are given.
-const MIX: &str = "read=1,write=1,store=2,load=3,swap=1,compare=1";
-
-// What the weights are for.
-const MIX_HELP: &str =
-    "How often read, write, store, load, swap and compare are drawn; others never";
-
-// The option that takes the weights.
-fn mix_option<'a>(alloc: Global) -> Arg<'a>
-    ensures rule { rule_of result ≡ mix_rule }
-    ensures local { result.global ≡ false }
-{
-    text_option(alloc, "mix", "KIND=WEIGHT,..", MIX_HELP).default_value(MIX)
-}
-
-/// The task `generate`.
-pub(crate) fn generate_command<'a>(alloc: Global) -> Result<Command<'a>, Error>
-    ensures app { IfOk result (λ command. app_of command ≡ generate_app) }
-    ensures memory { IfErr result (λ error. kind_of error ≡ ErrorKind.OutOfMemory) }
-{
-    Ok(
-        Command::new(alloc, "generate")
-            .about(GENERATE_ABOUT)
-            .arg(number_option_or(
-                alloc,
-                "requests",
-                "N",
-                "1000",
-                "How many requests it has, up to 4096",
-            ))?
-            .arg(number_option_or(
-                alloc,
-                "seed",
-                "N",
-                "1",
-                "What all is drawn from: the same seed makes the same script",
-            ))?
-            .arg(number_option_or(
-                alloc,
-                "base",
-                "N",
-                "4096",
-                "The address of the first granule, a multiple of 64",
-            ))?
-            .arg(number_option_or(
-                alloc,
-                "granules",
-                "N",
-                "8",
-                "How many granules the memory has, 1 to 512",
-            ))?
-            .arg(switch(
-                alloc,
-                "image",
-                "The memory opens with bytes by chance, and else with zeros",
-            ))?
-            .arg(number_option_or(
-                alloc,
-                "requesters",
-                "N",
-                "4",
-                "How many requesters send, 1 to 8: the numbers from 0 on",
-            ))?
-            .arg(number_option_or(
-                alloc,
-                "refused",
-                "N",
-                "0",
-                "How many of a hundred requests are refused, for each reason in turn",
-            ))?
-            .arg(number_option_or(
-                alloc,
-                "hot",
-                "N",
-                "0",
-                "How many of a hundred are of the first granule, before the others are of any",
-            ))?
-            .arg(mix_option(alloc))?,
-    )
-}
+/// The weights where none are given.
+pub(crate) const MIX: &str = "read=1,write=1,store=2,load=3,swap=1,compare=1";
 
 // The weights that were given, or those that stand in for them.
 fn chosen_mix<'a>(chosen: &ArgMatches<'a>) -> &'a str
@@ -221,8 +137,8 @@ fn stimulus_of(options: &GenerateOptions<'_>) -> Result<Stimulus, GenerateFault>
     })
 }
 
-/// Writes the script that the options ask for, and flushes it.
-#[tactic(auto, using(crate::proofs::Written::flushed_front, crate::proofs::Written::refused_keeps))]
+/// Writes the script that the options ask for.
+#[tactic(auto, using(crate::proofs::Written::refused_keeps))]
 pub(crate) fn generate<W: Write>(
     alloc: Global,
     options: &GenerateOptions<'_>,
@@ -237,9 +153,5 @@ pub(crate) fn generate<W: Write>(
     let Ok(text) = generated_script(alloc, &stimulus) else {
         return Err(GenerateFault::Memory);
     };
-    write_bytes(to, text.as_str().as_bytes()).map_err(GenerateFault::Write)?;
-    match to.flush() {
-        Ok(()) => Ok(()),
-        Err(_) => Err(GenerateFault::Write(WriteFault::Failed)),
-    }
+    write_bytes(to, text.as_str().as_bytes()).map_err(GenerateFault::Write)
 }

@@ -5,6 +5,7 @@ mod arguments;
 mod command;
 mod fault;
 mod generation;
+mod tasks;
 
 use crate::arguments::run_words;
 use crate::command::PROGRAM;

@@ -1,3 +1,4 @@
 pub mod Answered
 pub mod Found
 pub mod Rules
+pub mod Tasks

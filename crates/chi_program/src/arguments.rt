@@ -4,7 +4,7 @@ ghost use Rattle.std.specs.Prelude.{◌≡◌, ◌⊎◌};
 ghost use Rattle.clap.specs.Values.{kind_of};
 ghost use Rattle.chi_program.specs.Answered.{IsStatusOfArguments, KeepsButForHelp};
 
-use crate::fault::{ProgramFault, report_fault};
+use crate::fault::{ProgramFault, flushed_status, report_fault};
 use clap::Error;
 use clap::error::ErrorKind;
 use std::env::{self, Env};
@@ -68,8 +68,8 @@ pub fn report_arguments<F: ProgramFault + Drop, W: Write, E: Write>(
         let _written = write!(errors, "{error}");
         return REFUSED;
     }
-    match write!(to, "{error}").and_then(|()| to.flush()) {
-        Ok(()) => 0,
+    match write!(to, "{error}") {
+        Ok(()) => flushed_status::<F, _, _>(program, 0, to, errors),
         Err(_) => report_fault(program, &F::unwritten(), errors),
     }
 }

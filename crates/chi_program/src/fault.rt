@@ -1,6 +1,7 @@
 //! Why a program ends early, and with which status.
 
-ghost use Rattle.std.specs.Prelude.{◌≡◌};
+ghost use Rattle.std.specs.Prelude.{◌≡◌, ◌⊎◌};
+ghost use Rattle.std.specs.Io.KnownBytes.{Keeps};
 
 use std::fmt::Display;
 use std::io::Write;
@@ -35,4 +36,24 @@ pub fn report_fault<F: ProgramFault, E: Write>(program: &str, fault: &F, errors:
 {
     let _written = writeln!(errors, "{program}: {fault}");
     fault.status()
+}
+
+/// Flushes what was written. The answer is this status, or, where it cannot be flushed, that of the fault, which is reported.
+///
+/// ```
+/// let status = flushed_status::<EngineFault, _, _>("chihome", 0, &mut to, &mut errors);
+/// ```
+pub fn flushed_status<F: ProgramFault + Drop, W: Write, E: Write>(
+    program: &str,
+    status: u8,
+    to: &mut W,
+    errors: &mut E,
+) -> u8
+    ensures status { (result ≡ status) ⊎ (result ≡ 5) }
+    ensures kept { Keeps (W.contents to.old) (W.contents to.new) }
+{
+    match to.flush() {
+        Ok(()) => status,
+        Err(_) => report_fault(program, &F::unwritten(), errors),
+    }
 }

@@ -13,7 +13,12 @@ use std::alloc::Global;
 /// ```
 /// let html = text_option(alloc, "html", "FILE", "Makes this file a page");
 /// ```
-pub fn text_option<'a>(alloc: Global, name: &'a str, value: &'a str, help: &'a str) -> Arg<'a>
+pub(crate) fn text_option<'a>(
+    alloc: Global,
+    name: &'a str,
+    value: &'a str,
+    help: &'a str,
+) -> Arg<'a>
     ensures rule { rule_of result ≡ text_rule name.now [] }
     ensures local { result.global ≡ false }
 {
@@ -28,7 +33,7 @@ pub fn text_option<'a>(alloc: Global, name: &'a str, value: &'a str, help: &'a s
 /// ```
 /// let attempts = value_option_or(alloc, "attempts", "N", value_parser!(u8).range(1..=16), "4", "Tries before RetryAck");
 /// ```
-pub fn value_option_or<'a>(
+pub(crate) fn value_option_or<'a>(
     alloc: Global,
     name: &'a str,
     value: &'a str,
@@ -49,7 +54,12 @@ pub fn value_option_or<'a>(
 /// ```
 /// let seconds = number_option(alloc, "seconds", "S", "Begins no larger search that may go on for longer");
 /// ```
-pub fn number_option<'a>(alloc: Global, name: &'a str, value: &'a str, help: &'a str) -> Arg<'a>
+pub(crate) fn number_option<'a>(
+    alloc: Global,
+    name: &'a str,
+    value: &'a str,
+    help: &'a str,
+) -> Arg<'a>
     ensures rule { rule_of result ≡ number_rule name.now }
     ensures local { result.global ≡ false }
 {
@@ -61,7 +71,7 @@ pub fn number_option<'a>(alloc: Global, name: &'a str, value: &'a str, help: &'a
 /// ```
 /// let hot = number_option_or(alloc, "hot", "N", "0", "How many of a hundred are of the first granule");
 /// ```
-pub fn number_option_or<'a>(
+pub(crate) fn number_option_or<'a>(
     alloc: Global,
     name: &'a str,
     value: &'a str,
@@ -79,7 +89,7 @@ pub fn number_option_or<'a>(
 /// ```
 /// let witness = switch(alloc, "witness", "Writes the operations in the order found");
 /// ```
-pub fn switch<'a>(alloc: Global, name: &'a str, help: &'a str) -> Arg<'a>
+pub(crate) fn switch<'a>(alloc: Global, name: &'a str, help: &'a str) -> Arg<'a>
     ensures rule { rule_of result ≡ switch_rule name.now }
     ensures local { result.global ≡ false }
 {

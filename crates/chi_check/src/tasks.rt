@@ -1,0 +1,98 @@
+//! The tasks that the command line names, with their options.
+
+use chi_program::{NamedOption, NamedTask, Takes};
+
+// The number of states.
+const BUDGET: NamedOption<'static> = NamedOption {
+    name: "budget",
+    takes: Takes::NumberOr("N", "1000000"),
+    help: "States of each granule that are looked at for an answer",
+};
+
+// The options of `explain`.
+const EXPLAIN: [NamedOption<'static>; 7] = [
+    NamedOption {
+        name: "witness",
+        takes: Takes::Nothing,
+        help: "Writes the operations in the order found, and the memory after them",
+    },
+    NamedOption {
+        name: "until",
+        takes: Takes::Number("T"),
+        help: "Judges what had happened by time T, and no words at the end",
+    },
+    NamedOption {
+        name: "around",
+        takes: Takes::NumberOr("N", "16"),
+        help: "Operations of the granule that are shown before the one blamed",
+    },
+    NamedOption {
+        name: "html",
+        takes: Takes::Text("FILE"),
+        help: "Makes this file a page that shows the trace in a browser",
+    },
+    BUDGET,
+    NamedOption {
+        name: "seconds",
+        takes: Takes::Number("S"),
+        help: "Begins no larger search that may go on for longer than S seconds",
+    },
+    NamedOption {
+        name: "memory",
+        takes: Takes::Number("BYTES"),
+        help: "Begins no larger search that may take more than BYTES of memory",
+    },
+];
+
+// The options of `watch`.
+const WATCH: [NamedOption<'static>; 2] = [
+    BUDGET,
+    NamedOption {
+        name: "keep-going",
+        takes: Takes::Nothing,
+        help: "Goes on after a granule that cannot be explained, and lists them all",
+    },
+];
+
+// The options of `cover`, and the files that are counted.
+const COVER: [NamedOption<'static>; 4] = [
+    NamedOption {
+        name: "require",
+        takes: Takes::NumberOr("PERCENT", "0"),
+        help: "Status 1 where fewer of a hundred bins have counted an operation",
+    },
+    NamedOption {
+        name: "events",
+        takes: Takes::Nothing,
+        help: "Counts what events tell, a line each, and not traces",
+    },
+    NamedOption {
+        name: "html",
+        takes: Takes::Text("FILE"),
+        help: "Makes this file a page that shows the counts in a browser",
+    },
+    NamedOption {
+        name: "file",
+        takes: Takes::Words("FILE"),
+        help: "Counts what these files hold, all added up, and not the standard input",
+    },
+];
+
+/// The tasks.
+pub(crate) const TASKS: [NamedTask<'static>; 3] = [
+    NamedTask {
+        name: "explain",
+        about: "Looks for an order of the operations that is a legal history",
+        options: &EXPLAIN,
+    },
+    NamedTask {
+        name: "watch",
+        about: "Judges events as they come, and stops at the first that cannot be explained",
+        options: &WATCH,
+    },
+    NamedTask {
+        name: "cover",
+        about: "Counts what the operations of traces or of events covered",
+        options: &COVER,
+    },
+];
