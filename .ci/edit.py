@@ -7,7 +7,8 @@ from typing import NamedTuple
 
 # The heads of a function, of an implementation, and of what else may hold functions, as rt fmt lays them out.
 FUNCTION = re.compile(r"^( *)(?:pub(?:\([^)]*\))? )?(const )?(?:unsafe )?(?:extern \"C\" )?fn (\w+)")
-OWNER = re.compile(r"impl(?:<.*?>)? (?:(?:\w+::)*(\w+)(?:<(?:\w+::)*(\w+)>)? for )?(?:\w+::)*(\w+)")
+OWNER = re.compile(r"(?:unsafe )?impl(?:<.*?>)? (?:([^ ].*) for )?(?:\w+::)*(\w+)")
+NAME = re.compile(r"(?<![\w'])(?:\w+::)*(\w+)")
 TYPE = re.compile(r"^(?:pub(?:\([^)]*\))? )?(?:struct|enum) (\w+)", re.M)
 ITEM = re.compile(r"(?:pub(?:\([^)]*\))? )?(?:unsafe )?(?:impl|trait|mod|macro_rules!)\b")
 # A function that a trait, a macro or a module within a file holds has no path that its text tells.
@@ -108,12 +109,14 @@ def functions_of(texts, crate):
         lines, found[path], item = text.split("\n"), [], ""
         for at, line in enumerate(lines):
             item = line if ITEM.match(line) else item
-            head, owner = FUNCTION.match(line), OWNER.match(item.removeprefix("unsafe "))
+            head, owner = FUNCTION.match(line), OWNER.match(item)
             if head and (not head[1] or owner and head[1] == WITHIN):
                 names = [module_of(path, crate), head[3]]
                 if head[1]:
-                    module = names[0] if owner[1] else modules.get(owner[3], names[0])
-                    names = [module, f"{owner[3]}{owner[1] or ''}{owner[2] or ''}", head[3]]
+                    # what a type does when it is dropped is the type's own
+                    of_trait = NAME.findall(owner[1] or "") if owner[1] != "Drop" else []
+                    module = names[0] if of_trait else modules.get(owner[2], names[0])
+                    names = [module, "".join([owner[2], *of_trait]), head[3]]
                 found[path].append(Function("::".join(names), at, *body_of(lines, at, head[1]), bool(head[2])))
     return found
 

@@ -30,6 +30,8 @@ CALLS = re.compile(r"(?:^|; |: )it calls `.*$")
 STANDS = re.compile(r"; it stands on `.*`, which antt refuses$")
 # A proof file that names what an edit took away: that says little of the contract.
 NAMES = re.compile(r"has no field|is not in scope|has no `|was not admitted")
+# What keeps the prover from a verdict.
+ERROR = re.compile(r"\berror[\[:]")
 # A run of the prover that came to its verdict ends so.
 ENDED = re.compile(r"^(only=|logic=)")
 
@@ -114,7 +116,7 @@ class Crate:
     def check(self, functions, edits, kept):
         """Checks some functions in a copy of the crate with these edits, over what is kept, if anything is. The others are taken by their
         contracts, but those that the edits change; where no function is named, the whole copy is checked. Returns what the prover says
-        where it came to a verdict, or else its first line, and whether it did."""
+        where it came to a verdict, or else its first error, and whether it did."""
         words = [*self.crate.words(["--jobs", "1"], keeps=False), *(["--incremental", kept] if kept else [])]
         texts = applied(edits, self.crate.folder)
         with tempfile.TemporaryDirectory(prefix="must-fail-") as room:
@@ -131,7 +133,7 @@ class Crate:
             ran = subprocess.run(["nice", *self.rtlib.guarded(), self.rtlib.RATTLE, "check", *words], cwd=room, **how)
         lines = ran.stdout.rstrip("\n").split("\n")
         has_ended = bool(ENDED.match(lines[-1])) and ran.returncode in (0, 1)
-        return ran.stdout if has_ended else lines[0], has_ended
+        return ran.stdout if has_ended else next((it for it in lines if ERROR.search(it)), lines[-1]), has_ended
 
     def try_alone(self, edit, kept):
         said, has_ended = self.check([edit.function] if edit.function else [], [edit], kept)
