@@ -19,8 +19,8 @@ narrower true false c = omega arith
 narrower false b c = omega arith
 
 -- those of an order that explains it
-pub order_places : (t : TraceValue) (finals : List GranuleWord) (order : List ℕ) → IsExplained t finals order → ArePlaces t.operations order
-order_places t finals order is = places_of t.operations order is.once
+pub order_places : (t : TraceValue) (final_words : List GranuleWord) (order : List ℕ) → IsExplained t final_words order → ArePlaces t.operations order
+order_places t final_words order is = places_of t.operations order is.once
 
 -- the operation that is blamed
 pub blamed_place : (t : TraceValue) (blame : Blame) → IsBlame t blame → blame.op < length t.operations

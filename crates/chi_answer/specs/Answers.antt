@@ -13,11 +13,11 @@ use Rattle.chi_answer.specs.declared.answer.Answer.TheVariants.{Explained, Blame
 
 -- no order explains the trace
 abbrev pub IsUnexplained : RecordedValue → Type 0
-IsUnexplained r = (order : List ℕ) → IsExplained r.trace r.finals order → ⊥
+IsUnexplained r = (order : List ℕ) → IsExplained r.trace r.final_words order → ⊥
 
 -- no order of the granule's operations alone does
 abbrev pub IsUnexplainedIn : RecordedValue → ℕ → Type 0
-IsUnexplainedIn r granule = (order : List ℕ) → IsExplainedIn r.trace r.finals granule order → ⊥
+IsUnexplainedIn r granule = (order : List ℕ) → IsExplainedIn r.trace r.final_words granule order → ⊥
 
 -- these are the words that the granule can hold at the end of a trace that some order explains, whatever the words there
 abbrev pub AreHeld : RecordedValue → ℕ → List ℕ → Type 0
@@ -26,7 +26,7 @@ AreHeld r granule words = (order : List ℕ) → IsLegal r.trace order → (v : 
 -- the answer is right: its order explains the trace; or no order does, and what else it says holds; or what it says of the granule
 -- that was not decided does
 abbrev pub IsAnswer : RecordedValue → Answer → Type 0
-IsAnswer r (Explained order) = IsExplained r.trace r.finals order.items
+IsAnswer r (Explained order) = IsExplained r.trace r.final_words order.items
 IsAnswer r (Blamed blame) = IsUnexplained r × IsBlame r.trace blame
 IsAnswer r (Unexplained granule words) = IsUnexplained r × IsUnexplainedIn r granule × IfWords words (AreHeld r granule)
 IsAnswer r (Undecided doubt) = IsDoubt r.trace doubt

@@ -24,19 +24,19 @@ blame_text r blame =
 
 -- the word that was observed at the end, and those that could have been there
 abbrev pub end_words : ℕ → List ℕ → List ℕ
-end_words last [] = []
-end_words last (word ∷ words) = end_line last ++ word_lines (word ∷ words)
+end_words final_word [] = []
+end_words final_word (word ∷ words) = end_line final_word ++ word_lines (word ∷ words)
 
 -- the same where a word was observed, and the others were found
 abbrev pub end_text : Option ℕ → Words → List ℕ
 end_text None words = []
-end_text (Some last) Unknown = []
-end_text (Some last) (Each words) = end_words last words.items
+end_text (Some final_word) Unknown = []
+end_text (Some final_word) (Each words) = end_words final_word words.items
 
 -- the text of an answer, with the operations in the order found where a witness is asked for
 abbrev pub IsText : Bool → RecordedValue → Answer → List ℕ → Type 0
 IsText false r (Explained order) text = text ≡ codes "explained\n"
 IsText true r (Explained order) text = (witness : List ℕ) × IsWitness r order.items witness × (text ≡ codes "explained\n" ++ witness)
 IsText witness r (Blamed blame) text = text ≡ blame_text r blame
-IsText witness r (Unexplained granule words) text = text ≡ granule_line granule ++ end_text (told r.finals granule) words
+IsText witness r (Unexplained granule words) text = text ≡ granule_line granule ++ end_text (told r.final_words granule) words
 IsText witness r (Undecided doubt) text = text ≡ doubt_text doubt

@@ -83,7 +83,13 @@ pub fn answer_of<P: Progress>(
     ensures far { IfOk result (λ answer. IfUndecided answer (IsAsFar P.looked progress.old progress.new budget recorded.now.trace)) }
     ensures spent { IfOk result (LookedForAnswer P.looked progress.old progress.new) }
 {
-    match explain(alloc, recorded.trace(), recorded.finals(), budget, progress)? {
+    match explain(
+        alloc,
+        recorded.trace(),
+        recorded.final_words(),
+        budget,
+        progress,
+    )? {
         Verdict::Explained(order) => Ok(Answer::Explained { order }),
         Verdict::Unexplained { granule } => unexplained(alloc, recorded, granule, budget, progress),
         Verdict::Undecided { granule, states: _ } => undecided(

@@ -45,10 +45,14 @@ pub fn add_blame(to: &mut Vec<u8>, recorded: &Recorded, blame: &Blame) -> Result
 }
 
 /// The word that was observed at the end, and those that could have been there.
-fn add_words_at_end(to: &mut Vec<u8>, last: Option<u64>, words: &Words) -> Result<(), AllocError>
-    ensures { OnOk result (to.new.items ≡ to.old.items ++ end_text last words.now) }
+fn add_words_at_end(
+    to: &mut Vec<u8>,
+    final_word: Option<u64>,
+    words: &Words,
+) -> Result<(), AllocError>
+    ensures { OnOk result (to.new.items ≡ to.old.items ++ end_text final_word words.now) }
 {
-    let Some(word) = last else {
+    let Some(word) = final_word else {
         return Ok(());
     };
     match words {
@@ -90,7 +94,7 @@ pub fn answer_text(
         Answer::Blamed(blame) => add_blame(&mut text, recorded, blame)?,
         Answer::Unexplained { granule, words } => {
             add_granule(&mut text, *granule)?;
-            add_words_at_end(&mut text, recorded.finals().get(*granule), words)?;
+            add_words_at_end(&mut text, recorded.final_words().get(*granule), words)?;
         }
         Answer::Undecided(doubt) => add_doubt(&mut text, doubt)?,
     }

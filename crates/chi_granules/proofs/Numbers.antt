@@ -20,16 +20,16 @@ granule_told told = told.granule
 pub has_also : (r : RecordedValue) (xs ys : List ℕ) → ((n : ℕ) → Contains xs n → Contains ys n) → HasGranules r xs → HasGranules r ys
 has_also r xs ys also has = record {
   operations = All-weaker (λ op. Contains xs (granule_of op)) (λ op. Contains ys (granule_of op)) (λ op. also (granule_of op)) r.trace.operations has.operations;
-  finals = All-weaker (λ told. Contains xs told.granule) (λ told. Contains ys told.granule) (λ told. also told.granule) r.finals has.finals;
+  final_words = All-weaker (λ told. Contains xs told.granule) (λ told. Contains ys told.granule) (λ told. also told.granule) r.final_words has.final_words;
 }
 
 -- those of the operations, and those of the words at the end
-pub has_both : (r : RecordedValue) (numbers : List ℕ) → numbers ≡ map granule_of r.trace.operations ++ map granule_told r.finals → HasGranules r numbers
+pub has_both : (r : RecordedValue) (numbers : List ℕ) → numbers ≡ map granule_of r.trace.operations ++ map granule_told r.final_words → HasGranules r numbers
 has_both r numbers are = subst (HasGranules r) (sym are) record {
   operations = All-weaker (Contains ops) (λ op. Contains (first ++ second) (granule_of op))
       (λ op there. Contains-append_left first second (granule_of op) (Contains-map granule_of ops op there)) ops (All-contains_itself ops);
-  finals = All-weaker (Contains r.finals) (λ told. Contains (first ++ second) told.granule)
-      (λ told there. Contains-append_right first second told.granule (Contains-map granule_told r.finals told there)) r.finals (All-contains_itself r.finals);
+  final_words = All-weaker (Contains r.final_words) (λ told. Contains (first ++ second) told.granule)
+      (λ told there. Contains-append_right first second told.granule (Contains-map granule_told r.final_words told there)) r.final_words (All-contains_itself r.final_words);
 }
   where
     ops : List Observed
@@ -39,7 +39,7 @@ has_both r numbers are = subst (HasGranules r) (sym are) record {
     first = map granule_of ops
 
     second : List ℕ
-    second = map granule_told r.finals
+    second = map granule_told r.final_words
 
 -- sorted, and each once
 pub has_sorted : (r : RecordedValue) (numbers sorted once : List ℕ) → HasGranules r numbers → IsPermutation numbers sorted → once ≡ dedup eqb sorted → HasGranules r once

@@ -18,8 +18,8 @@ HasEach granules g places = (i : ℕ) → times_in places i ≡ one_if (nat_lt i
 
 -- a granule's operations are explained by this order; or no order explains them; or neither was found
 abbrev pub IsFound : RecordedValue → ℕ → Finding → List ℕ → Type 0
-IsFound r g Explained order = IsExplainedIn r.trace r.finals g order
-IsFound r g Unexplained order = ((other : List ℕ) → IsExplainedIn r.trace r.finals g other → ⊥) × (order ≡ [])
+IsFound r g Explained order = IsExplainedIn r.trace r.final_words g order
+IsFound r g Unexplained order = ((other : List ℕ) → IsExplainedIn r.trace r.final_words g other → ⊥) × (order ≡ [])
 IsFound r g Undecided order = order ≡ []
 
 -- what is said of the granule holds
@@ -39,7 +39,7 @@ IsShown r blame d = IsBlamed r blame d ⊎ IsJudged r d
 -- the number of each granule that has an operation, or of which a word was observed at the end, is among them
 pub record HasGranules (r : RecordedValue) (numbers : List ℕ) : Type 0 where
   pub operations : All (λ op. Contains numbers (granule_of op)) r.trace.operations
-  pub finals : All (λ told. Contains numbers told.granule) r.finals
+  pub final_words : All (λ told. Contains numbers told.granule) r.final_words
 
 -- what is shown is of each of them
 abbrev pub AreAll : RecordedValue → List Drawn → Type 0

@@ -24,21 +24,21 @@ fn search_granule<P: Progress>(
     granules: &[u64],
     granule: u64,
     word: u64,
-    last: Option<u64>,
+    final_word: Option<u64>,
     budget: &mut u64,
     progress: &mut P,
 ) -> Result<Found, AllocError>
     requires traced { IsTrace ops.now }
     requires granules { granules.now ≡ map granule_of ops.now }
-    ensures order { IfOk result (λ found. IfOrder found (λ order. ExplainsGranule ops.now granule word last order)) }
-    ensures nothing { IfOk result (λ found. IfNothing found ((order : List ℕ) → ExplainsGranule ops.now granule word last order → ⊥)) }
+    ensures order { IfOk result (λ found. IfOrder found (λ order. ExplainsGranule ops.now granule word final_word order)) }
+    ensures nothing { IfOk result (λ found. IfNothing found ((order : List ℕ) → ExplainsGranule ops.now granule word final_word order → ⊥)) }
     ensures undecided { IfOk result (λ found. IfUnfound found (budget.new ≡ 0)) }
     ensures spends { IfOk result (λ found. (budget.new ≤ budget.old) × LookedMore P.looked progress.old progress.new (budget.old - budget.new)) }
 {
     let places = places_by_end(alloc, ops, granules, granule)?;
     let own = chosen(alloc, ops, &places)?;
     places_explain();
-    match order_of(alloc, &own, word, last, budget, progress)? {
+    match order_of(alloc, &own, word, final_word, budget, progress)? {
         Found::Order(found) => {
             let order = moved(alloc, &places, &found)?;
             Ok(Found::Order(order))
@@ -87,8 +87,10 @@ pub fn judged_granule<P: Progress>(
     let trace = recorded.trace();
     let ops = trace.operations();
     let word = trace.opening().get(granule).unwrap_or(0);
-    let last = recorded.finals().get(granule);
-    match search_granule(alloc, ops, granules, granule, word, last, budget, progress)? {
+    let final_word = recorded.final_words().get(granule);
+    match search_granule(
+        alloc, ops, granules, granule, word, final_word, budget, progress,
+    )? {
         Found::Order(order) => Ok(Drawn {
             granule,
             finding: Finding::Explained,

@@ -17,7 +17,7 @@ fn numbers(alloc: Global, recorded: &Recorded) -> Result<Vec<u64>, AllocError>
     ensures { IfOk result (λ numbers. HasGranules recorded.now numbers.items) }
 {
     let mut numbers = granules_of(alloc, recorded.trace().operations())?;
-    for told in recorded.finals().as_slice() {
+    for told in recorded.final_words().as_slice() {
         numbers.push(told.granule)?;
     }
     numbers.sort()?;

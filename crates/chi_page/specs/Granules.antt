@@ -47,15 +47,15 @@ steps_json ops word order = listed (step_at ops word order) (length order)
 
 -- a granule, what was found of it, and its words at the opening and at the end
 unfoldable pub head_json : ℕ → Finding → ℕ → Option ℕ → List ℕ
-head_json granule finding word last =
+head_json granule finding word final_word =
     codes "{\"granule\":" ++ (granule_json granule ++ (codes ",\"finding\":" ++ (finding_json finding ++ (codes ",\"opening\":" ++ (word_json word
-    ++ (codes ",\"final\":" ++ told_json last))))))
+    ++ (codes ",\"final\":" ++ told_json final_word))))))
 
 -- the same with the order found
 unfoldable pub drawn_json : RecordedValue → Drawn → List ℕ
 drawn_json r d =
     let word = word_told r.trace.opening d.granule in
-    head_json d.granule d.finding word (told r.finals d.granule)
+    head_json d.granule d.finding word (told r.final_words d.granule)
     ++ (codes ",\"steps\":[" ++ (steps_json r.trace.operations word d.order.items ++ codes "]}"))
 
 -- the one at a place of a list

@@ -117,9 +117,9 @@ fn add_head(
     granule: u64,
     finding: Finding,
     word: u64,
-    last: Option<u64>,
+    final_word: Option<u64>,
 ) -> Result<(), AllocError>
-    ensures { OnOk result (to.new.items ≡ to.old.items ++ head_json granule finding word last) }
+    ensures { OnOk result (to.new.items ≡ to.old.items ++ head_json granule finding word final_word) }
 {
     add_parts(to, &[Text("{\"granule\":")])?;
     add_granule(to, granule)?;
@@ -128,7 +128,7 @@ fn add_head(
     add_parts(to, &[Text(",\"opening\":")])?;
     add_word(to, word)?;
     add_parts(to, &[Text(",\"final\":")])?;
-    add_told(to, last)
+    add_told(to, final_word)
 }
 
 /// The same with the order found.
@@ -139,8 +139,8 @@ fn add_drawn(to: &mut Vec<u8>, recorded: &Recorded, drawn: &Drawn) -> Result<(),
 {
     let trace = recorded.trace();
     let word = trace.opening().get(drawn.granule).unwrap_or(0);
-    let last = recorded.finals().get(drawn.granule);
-    add_head(to, drawn.granule, drawn.finding, word, last)?;
+    let final_word = recorded.final_words().get(drawn.granule);
+    add_head(to, drawn.granule, drawn.finding, word, final_word)?;
     add_parts(to, &[Text(",\"steps\":[")])?;
     add_steps(to, trace.operations(), word, &drawn.order)?;
     add_parts(to, &[Text("]}")])

@@ -42,11 +42,11 @@ fn granule_words(alloc: Global, words: &[u64; 2]) -> Result<GranuleWords, Fail> 
 // What is found of the operations, from the image to these words.
 fn verdict(alloc: Global, words: &[u64; 2], ops: &[Observed]) -> Result<Verdict, Fail> {
     let opening = granule_words(alloc, &IMAGE)?;
-    let finals = granule_words(alloc, words)?;
+    let final_words = granule_words(alloc, words)?;
     let trace = Trace::new(opening, Vec::from_slice(alloc, ops)?).ok_or(
         "the operations are not those of a trace",
     )?;
-    Ok(explain(alloc, &trace, &finals, 1_000_000, &mut NoProgress)?)
+    Ok(explain(alloc, &trace, &final_words, 1_000_000, &mut NoProgress)?)
 }
 
 // The data with the highest bit of the operand's first byte turned.

@@ -21,7 +21,7 @@ pub recorded_of : (t : MemoryText) (m : Memory) (c : Completed) (r : RecordedVal
 recorded_of t m c r is recorded = record {
   region = recorded.region ∙ is.region;
   opening = λ g. ap (λ words. told words g) recorded.opening ∙ is.opening g;
-  finals = λ g. ap (λ words. told words g) recorded.finals ∙ is.finals g;
+  final_words = λ g. ap (λ words. told words g) recorded.final_words ∙ is.final_words g;
   each = recorded.each;
   requests = recorded.requests_are;
   operations = recorded.operations_are;

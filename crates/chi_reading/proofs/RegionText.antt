@@ -16,7 +16,7 @@ use Rattle.chi_reading.specs.Member.{member_name}
 use Rattle.chi_reading.specs.declared.fault.TraceFault.TheVariants.{RegionRefused}
 use Rattle.chi_reading.specs.Faults.{as_fault}
 use Rattle.chi_reading.specs.Told.{region_words, stated_list}
-use Rattle.chi_reading.specs.TraceText.{MemoryText, final_words, memory_text, region_memory, wide_memory}
+use Rattle.chi_reading.specs.TraceText.{MemoryText, region_final_words, memory_text, region_memory, wide_memory}
 use Rattle.chi_reading.proofs.Faultless.{unless}
 
 -- the list has the words of a region's granules, the first of which has this number
@@ -29,12 +29,12 @@ pub handed_on : {T D E : Type 0} (P : T → Type 0) (Q : D → Type 0) (r : Resu
 handed_on P Q (Ok x) s y same both is holds = let e : x ≡ y = cc in subst P e holds
 handed_on P Q (Err d) s y same both is holds = cc
 
-pub region_text : (d : Data) (base granules : ℕ) (region : Extent) (image : List ℕ) (finals : Option (List ℕ)) → number_of member_name member.Base (2 ^ 64 - 1) d ≡ Ok base
+pub region_text : (d : Data) (base granules : ℕ) (region : Extent) (image : List ℕ) (final_words : Option (List ℕ)) → number_of member_name member.Base (2 ^ 64 - 1) d ≡ Ok base
     → number_of member_name member.Granules 65535 d ≡ Ok granules → region_of base granules ≡ Ok region → opening_words member_name member.Image granules d ≡ Ok image
-    → stated_words member_name member.Final granules d ≡ Ok finals
-    → region_memory d ≡ Ok (record { region = Some region; opening = region_words (base / 8) image; finals = final_words (base / 8) finals })
+    → stated_words member_name member.Final granules d ≡ Ok final_words
+    → region_memory d ≡ Ok (record { region = Some region; opening = region_words (base / 8) image; final_words = region_final_words (base / 8) final_words })
 unfolding region_memory
-region_text d base granules region image finals is_base is_granules is_region is_image is_finals = rw (is_base, is_granules, is_region, is_image, is_finals) refl
+region_text d base granules region image final_words is_base is_granules is_region is_image is_finals = rw (is_base, is_granules, is_region, is_image, is_finals) refl
 
 -- a region that is not refused is one
 pub region_lawful : (base granules : ℕ) → IfOk (region_of base granules) IsRegion
@@ -61,7 +61,7 @@ of_region d =
     then_ok (or_else as_fault (number_of member_name member.Granules 65535 d)) _ IsOnRegion (λ granules e1.
     then_ok (or_else RegionRefused (region_of base granules)) _ IsOnRegion (λ region e2.
     then_ok (or_else as_fault (opening_words member_name member.Image granules d)) _ IsOnRegion (λ image e3.
-    then_ok (or_else as_fault (stated_words member_name member.Final granules d)) _ IsOnRegion (λ finals e4.
+    then_ok (or_else as_fault (stated_words member_name member.Final granules d)) _ IsOnRegion (λ final_words e4.
     at_ok (or_else RegionRefused (region_of base granules)) region IsRegion e2
     (renamed RegionRefused (region_of base granules) IsRegion (region_lawful base granules)))))))
 
@@ -69,7 +69,7 @@ of_all : (d : Data) → IfOk (wide_memory d) IsOnRegion
 unfolding wide_memory
 of_all d =
     then_ok (or_else as_fault (stated_list member.Image d)) _ IsOnRegion (λ opening e.
-    then_ok (or_else as_fault (stated_list member.Final d)) _ IsOnRegion (λ finals e1. tt))
+    then_ok (or_else as_fault (stated_list member.Final d)) _ IsOnRegion (λ final_words e1. tt))
 
 pub memory_on_region : (d : Data) → IfOk (memory_text d) IsOnRegion
 memory_on_region d = by_test (is_some (get (member_name member.Granules) d))

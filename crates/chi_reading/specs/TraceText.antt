@@ -30,12 +30,12 @@ use Rattle.chi_reading.specs.Unknown.{trace_members, unknown_in}
 pub record MemoryText : Type 0 where
   pub region : Option Extent
   pub opening : List GranuleWord
-  pub finals : List GranuleWord
+  pub final_words : List GranuleWord
 
 -- the words at the end that a region's text may tell
-abbrev pub final_words : ℕ → Option (List ℕ) → List GranuleWord
-final_words first None = []
-final_words first (Some words) = region_words first words
+abbrev pub region_final_words : ℕ → Option (List ℕ) → List GranuleWord
+region_final_words first None = []
+region_final_words first (Some words) = region_words first words
 
 -- of a region: its base, how many granules it has, and their words
 unfoldable pub region_memory : Data → Result MemoryText TraceFault
@@ -44,15 +44,15 @@ region_memory d = do
   granules ← or_else as_fault (number_of member_name member.Granules 65535 d)
   region ← or_else RegionRefused (region_of base granules)
   image ← or_else as_fault (opening_words member_name member.Image granules d)
-  finals ← or_else as_fault (stated_words member_name member.Final granules d)
-  Ok (record { region = Some region; opening = region_words (base / 8) image; finals = final_words (base / 8) finals })
+  final_words ← or_else as_fault (stated_words member_name member.Final granules d)
+  Ok (record { region = Some region; opening = region_words (base / 8) image; final_words = region_final_words (base / 8) final_words })
 
 -- of all addresses: the words of some granules
 unfoldable pub wide_memory : Data → Result MemoryText TraceFault
 wide_memory d = do
   opening ← or_else as_fault (stated_list member.Image d)
-  finals ← or_else as_fault (stated_list member.Final d)
-  Ok (record { region = None; opening = opening; finals = finals })
+  final_words ← or_else as_fault (stated_list member.Final d)
+  Ok (record { region = None; opening = opening; final_words = final_words })
 
 -- the memory is a region where its number of granules is told
 abbrev pub memory_text : Data → Result MemoryText TraceFault
@@ -87,7 +87,7 @@ no_request = record { src = 0; txn = 0; opcode = 0; size = 0; addr = 0; endian =
 pub record RecordedValue : Type 0 where
   pub region : Option Extent
   pub trace : TraceValue
-  pub finals : List GranuleWord
+  pub final_words : List GranuleWord
   pub requests : List Asked
   pub places : List ℕ
 
@@ -96,7 +96,7 @@ pub record RecordedValue : Type 0 where
 abbrev pub cut_at : ℕ → RecordedValue → RecordedValue
 cut_at time r = record r {
   trace = known_at time r.trace;
-  finals = [];
+  final_words = [];
   requests = take (length (cut time r.trace.operations)) r.requests;
   places = take (length (cut time r.trace.operations)) r.places;
 }
@@ -105,13 +105,13 @@ cut_at time r = record r {
 pub record IsMemoryOf (t : MemoryText) (m : Memory) : Type 0 where
   pub region : m.region ≡ t.region
   pub opening : (g : ℕ) → told m.opening g ≡ told t.opening g
-  pub finals : (g : ℕ) → told m.finals g ≡ told t.finals g
+  pub final_words : (g : ℕ) → told m.final_words g ≡ told t.final_words g
 
 -- the trace that was read has this memory, and each of these requests and operations once
 pub record IsRecorded (m : Memory) (requests : List Asked) (operations : List Observed) (r : RecordedValue) : Type 0 where
   pub region : r.region ≡ m.region
   pub opening : r.trace.opening ≡ m.opening
-  pub finals : r.finals ≡ m.finals
+  pub final_words : r.final_words ≡ m.final_words
   pub each : (i : ℕ) → times_in r.places i ≡ one_if (is_place operations i)
   pub requests_are : r.requests ≡ map (λ i. slice_index_or requests i no_request) r.places
   pub operations_are : r.trace.operations ≡ chosen operations r.places
@@ -120,7 +120,7 @@ pub record IsRecorded (m : Memory) (requests : List Asked) (operations : List Ob
 pub record IsOf (t : TextValue) (r : RecordedValue) : Type 0 where
   pub region : r.region ≡ t.memory.region
   pub opening : (g : ℕ) → told r.trace.opening g ≡ told t.memory.opening g
-  pub finals : (g : ℕ) → told r.finals g ≡ told t.memory.finals g
+  pub final_words : (g : ℕ) → told r.final_words g ≡ told t.memory.final_words g
   pub each : (i : ℕ) → times_in r.places i ≡ one_if (is_place t.completed.operations i)
   pub requests : r.requests ≡ map (λ i. slice_index_or t.completed.requests i no_request) r.places
   pub operations : r.trace.operations ≡ chosen t.completed.operations r.places

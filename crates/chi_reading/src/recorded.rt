@@ -25,7 +25,7 @@ use std::marker::Model;
 pub struct Recorded {
     region: Option<Region>,
     trace: Trace,
-    finals: GranuleWords,
+    final_words: GranuleWords,
     requests: Vec<Asked>,
     places: Vec<usize>,
 }
@@ -36,7 +36,7 @@ impl Model for Recorded {
 
     ghost Value = { RecordedValue };
 
-    ghost view = { λ r. record { region = r.region; trace = r.trace; finals = r.finals; requests = r.requests.items; places = r.places.items } };
+    ghost view = { λ r. record { region = r.region; trace = r.trace; final_words = r.final_words; requests = r.requests.items; places = r.places.items } };
 
     // Each operation has a request and a place.
     ghost invariant = { λ r. (length r.requests.items ≡ length r.trace.operations) × (length r.places.items ≡ length r.trace.operations) };
@@ -57,7 +57,7 @@ impl Recorded {
     /// The operations that were observed, in the order of their starts, and the words at the opening.
     ///
     /// ```
-    /// let verdict = explain(alloc, recorded.trace(), recorded.finals(), 1_000_000, &mut NoProgress)?;
+    /// let verdict = explain(alloc, recorded.trace(), recorded.final_words(), 1_000_000, &mut NoProgress)?;
     /// ```
     pub fn trace(&self) -> &Trace
         ensures { result.now ≡ self.now.trace }
@@ -68,12 +68,12 @@ impl Recorded {
     /// The words at the end, of the granules of which they are told.
     ///
     /// ```
-    /// let last = recorded.finals().get(0x1000 / 8);
+    /// let final_word = recorded.final_words().get(0x1000 / 8);
     /// ```
-    pub fn finals(&self) -> &GranuleWords
-        ensures { result.now ≡ self.now.finals }
+    pub fn final_words(&self) -> &GranuleWords
+        ensures { result.now ≡ self.now.final_words }
     {
-        &self.finals
+        &self.final_words
     }
 
     /// The request of each operation of the trace, in its order.
@@ -116,7 +116,7 @@ impl Recorded {
         Ok(Recorded {
             region: self.region,
             trace,
-            finals: GranuleWords::none(alloc),
+            final_words: GranuleWords::none(alloc),
             requests,
             places,
         })
@@ -128,7 +128,7 @@ impl Recorded {
 struct Memory {
     region: Option<Region>,
     opening: GranuleWords,
-    finals: GranuleWords,
+    final_words: GranuleWords,
 }
 
 /// The memory of a region.
@@ -144,16 +144,16 @@ fn region_memory(alloc: Global, object: &Value) -> Result<Memory, TraceFault>
         Err(fault) => return Err(TraceFault::RegionRefused(fault)),
     };
     let image = opening_words(alloc, object, Member::Image, granules)?;
-    let finals = stated_words(alloc, object, Member::Final, granules)?;
+    let final_words = stated_words(alloc, object, Member::Final, granules)?;
     let opening = region_words(alloc, base / 8, &image).map_err(|_| TraceFault::Memory)?;
-    let finals = match finals {
+    let final_words = match final_words {
         Some(words) => region_words(alloc, base / 8, &words).map_err(|_| TraceFault::Memory)?,
         None => GranuleWords::none(alloc),
     };
     Ok(Memory {
         region: Some(region),
         opening,
-        finals,
+        final_words,
     })
 }
 
@@ -164,11 +164,11 @@ fn wide_memory(alloc: Global, object: &Value) -> Result<Memory, TraceFault>
     ensures fault { IfErr result (λ f. f ≢ TraceFault.Memory → wide_memory (view object.now) ≡ Err f) }
 {
     let opening = stated_list(alloc, object, Member::Image)?;
-    let finals = stated_list(alloc, object, Member::Final)?;
+    let final_words = stated_list(alloc, object, Member::Final)?;
     Ok(Memory {
         region: None,
         opening,
-        finals,
+        final_words,
     })
 }
 
@@ -202,7 +202,7 @@ fn in_order(
         Some(trace) => Ok(Recorded {
             region: memory.region,
             trace,
-            finals: memory.finals,
+            final_words: memory.final_words,
             requests,
             places,
         }),

@@ -13,7 +13,7 @@ fn words_of_a_region(rt: HostRuntime) -> Result<(), Fail> {
         recorded.trace().opening().get(512),
         recorded.trace().opening().get(513),
         recorded.trace().opening().get(514),
-        recorded.finals().get(512),
+        recorded.final_words().get(512),
     );
     assert_same(&rt, found, (Some(4096), Some(1), Some(2), None, None));
     Ok(())
@@ -30,7 +30,7 @@ fn words_anywhere(rt: HostRuntime) -> Result<(), Fail> {
         recorded.trace().opening().get(562949953421311),
         recorded.trace().opening().get(1),
         recorded.trace().opening().get(2),
-        recorded.finals().get(2),
+        recorded.final_words().get(2),
     );
     assert_same(&rt, found, (true, Some(3), Some(0xff << 56), None, Some(5)));
     Ok(())

@@ -12,10 +12,10 @@ use Rattle.chi_search.proofs.Moves.{by_first, first_ends, from_taken}
 use Rattle.chi_search.proofs.OneMore.{one_more}
 use Rattle.chi_search.proofs.Settling.{left_is}
 
-pub by_equal : (ops : List Observed) (last : Option ℕ) (p : Position) (x y : ℕ) → AreSorted ops → y ≤ x → AreEqual (at ops x) (at ops y)
+pub by_equal : (ops : List Observed) (final_word : Option ℕ) (p : Position) (x y : ℕ) → AreSorted ops → y ≤ x → AreEqual (at ops x) (at ops y)
     → CanCome ops p y
-    → ByTaking ops last p x → ByTaking ops last p y
-by_equal ops last p x y sorted before equal comes taking = by_order (taking.3 q.0 takes)
+    → ByTaking ops final_word p x → ByTaking ops final_word p y
+by_equal ops final_word p x y sorted before equal comes taking = by_order (taking.3 q.0 takes)
   where
     comes_x : CanCome ops p x
     comes_x = taking.0
@@ -29,13 +29,13 @@ by_equal ops last p x y sorted before equal comes taking = by_order (taking.3 q.
     takes : Takes ops p x q.0
     takes = record { fits = taking.1; word = q.2; left = q.1 }
 
-    by_order : Ends ops last q.0 → ByTaking ops last p y
+    by_order : Ends ops final_word q.0 → ByTaking ops final_word p y
     by_order (order, c) =
-        by_first ops last p y _ comes (exchange ops (is_left (length ops) p) p.word last x y (at ops p.first).end order (record {
+        by_first ops final_word p y _ comes (exchange ops (is_left (length ops) p) p.word final_word x y (at ops p.first).end order (record {
           equal = equal;
           x_starts = comes_x.1;
           y_starts = comes.1;
           ends = first_ends ops p y sorted comes.0;
           later = sorted.0 y x before inside.0;
         }) comes_x.0 comes.0 (λ j left. first_ends ops p j sorted left)
-        (from_taken ops last p q.0 x order sorted comes_x takes (subst (λ w. w < 2 ^ 64) (sym q.2) taking.2) c))
+        (from_taken ops final_word p q.0 x order sorted comes_x takes (subst (λ w. w < 2 ^ 64) (sym q.2) taking.2) c))

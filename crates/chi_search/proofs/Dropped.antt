@@ -23,14 +23,14 @@ record IsMove (ts us : List Observed) (s t : ℕ → Bool) (f g : ℕ → ℕ) :
   there : (j : ℕ) → t j ≡ true → f (g j) ≡ j
 
 -- what finishes those of the one finishes those of the other
-finishes_moved : (ts us : List Observed) (s t : ℕ → Bool) (f g : ℕ → ℕ) (w : ℕ) (final : Option ℕ) (x : List ℕ) → IsMove ts us s t f g
-    → Finishes ts s w final x → Finishes us t w final (map f x)
-finishes_moved ts us s t f g w final x m h = record {
+finishes_moved : (ts us : List Observed) (s t : ℕ → Bool) (f g : ℕ → ℕ) (w : ℕ) (final_word : Option ℕ) (x : List ℕ) → IsMove ts us s t f g
+    → Finishes ts s w final_word x → Finishes us t w final_word (map f x)
+finishes_moved ts us s t f g w final_word x m h = record {
   done = λ j. done j (t j) refl;
   once = λ j. once j (t j) refl;
   times = in_time_moved ts us f x moves h.times;
   plays = play_moved ts us f w x moves h.plays;
-  ending = IfSome_then final h.ending (λ v is. last_moved ts us f w x moves ∙ is);
+  ending = IfSome_then final_word h.ending (λ v is. last_moved ts us f w x moves ∙ is);
 }
   where
     left : All (λ i. s i ≡ true) x

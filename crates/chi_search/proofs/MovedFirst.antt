@@ -116,11 +116,11 @@ moved ts l w f i order below left one moves early c =
         by_tests false false most some = absurd (omega (arith, some, most))
 
 -- where an order goes on, one goes on by the operation
-pub by_moved : (ops : List Observed) (last : Option ℕ) (p : Position) (i : ℕ) → AreSorted ops → p.word < 2 ^ 64 → CanCome ops p i
-    → is_answered (at ops i) ≡ true → MovesBeforeAll ops p i → Ends ops last p → ByTaking ops last p i
-by_moved ops last p i sorted below comes answered moves (order, c) =
-    by_first ops last p i (without i order) comes
-    (moved ops (is_left (length ops) p) p.word last i order below comes.0 one each early c)
+pub by_moved : (ops : List Observed) (final_word : Option ℕ) (p : Position) (i : ℕ) → AreSorted ops → p.word < 2 ^ 64 → CanCome ops p i
+    → is_answered (at ops i) ≡ true → MovesBeforeAll ops p i → Ends ops final_word p → ByTaking ops final_word p i
+by_moved ops final_word p i sorted below comes answered moves (order, c) =
+    by_first ops final_word p i (without i order) comes
+    (moved ops (is_left (length ops) p) p.word final_word i order below comes.0 one each early c)
   where
     one : times_in order i ≡ 1
     one =

@@ -19,11 +19,11 @@ pub first_ends : (ops : List Observed) (p : Position) (i : ℕ) → AreSorted op
 first_ends ops p i sorted left = let is = left_is (length ops) p i left in sorted.0 p.first i is.1 is.0
 
 -- an order after an operation was taken
-pub from_taken : (ops : List Observed) (final : Option ℕ) (p q : Position) (i : ℕ) (x : List ℕ) → AreSorted ops → CanCome ops p i → Takes ops p i q → q.word < 2 ^ 64
-    → Finishes ops (is_left (length ops) q) q.word final x → Finishes ops (is_left (length ops) p) p.word final (i ∷ x)
-from_taken ops final p q i x sorted comes takes below c =
-    cons ops (is_left (length ops) p) (is_left (length ops) q) p.word final i x (parts (is_left (length ops) p) (is_left (length ops) q) i comes.0 (left_settles (length ops) p i q takes.left)) takes.fits
-    (subst (λ w. w < 2 ^ 64) takes.word below) early (subst (λ w. Finishes ops (is_left (length ops) q) w final x) takes.word c)
+pub from_taken : (ops : List Observed) (final_word : Option ℕ) (p q : Position) (i : ℕ) (x : List ℕ) → AreSorted ops → CanCome ops p i → Takes ops p i q → q.word < 2 ^ 64
+    → Finishes ops (is_left (length ops) q) q.word final_word x → Finishes ops (is_left (length ops) p) p.word final_word (i ∷ x)
+from_taken ops final_word p q i x sorted comes takes below c =
+    cons ops (is_left (length ops) p) (is_left (length ops) q) p.word final_word i x (parts (is_left (length ops) p) (is_left (length ops) q) i comes.0 (left_settles (length ops) p i q takes.left)) takes.fits
+    (subst (λ w. w < 2 ^ 64) takes.word below) early (subst (λ w. Finishes ops (is_left (length ops) q) w final_word x) takes.word c)
   where
     early : All (λ k. (at ops i).start ≤ (at ops k).end) x
     early k d under =
@@ -35,40 +35,40 @@ from_taken ops final p q i x sorted comes takes below c =
         omega (arith, starts, ends)
 
 -- an order after the first operation was left out
-pub from_dropped : (ops : List Observed) (final : Option ℕ) (p q : Position) (x : List ℕ) → IsReady (length ops) p → p.first < length ops → Drops ops p q
-    → Finishes ops (is_left (length ops) q) q.word final x → Finishes ops (is_left (length ops) p) p.word final x
-from_dropped ops final p q x ready below drops c =
-    without_one ops (is_left (length ops) p) (is_left (length ops) q) p.word final p.first x (parts (is_left (length ops) p) (is_left (length ops) q) p.first (ready.left below) (left_settles (length ops) p p.first q drops.left))
-    drops.unanswered (subst (λ w. Finishes ops (is_left (length ops) q) w final x) drops.word c)
+pub from_dropped : (ops : List Observed) (final_word : Option ℕ) (p q : Position) (x : List ℕ) → IsReady (length ops) p → p.first < length ops → Drops ops p q
+    → Finishes ops (is_left (length ops) q) q.word final_word x → Finishes ops (is_left (length ops) p) p.word final_word x
+from_dropped ops final_word p q x ready below drops c =
+    without_one ops (is_left (length ops) p) (is_left (length ops) q) p.word final_word p.first x (parts (is_left (length ops) p) (is_left (length ops) q) p.first (ready.left below) (left_settles (length ops) p p.first q drops.left))
+    drops.unanswered (subst (λ w. Finishes ops (is_left (length ops) q) w final_word x) drops.word c)
 
 -- An order that goes on begins by an operation, or without the first.
 abbrev pub ByDropping : List Observed → Option ℕ → Position → Type 0
-ByDropping ops final p = ((at ops p.first).reply ≡ None) × ((q : Position) → Drops ops p q → Ends ops final q)
+ByDropping ops final_word p = ((at ops p.first).reply ≡ None) × ((q : Position) → Drops ops p q → Ends ops final_word q)
 
-dropping : (ops : List Observed) (final : Option ℕ) (p : Position) (x : List ℕ) → IsReady (length ops) p → p.first < length ops → times_in x p.first ≡ 0
-    → Finishes ops (is_left (length ops) p) p.word final x → ByDropping ops final p
-dropping ops final p x ready below none c = (
-  absent ops (is_left (length ops) p) p.first x (ready.left below) none (covers_of ops (is_left (length ops) p) p.word final x c),
+dropping : (ops : List Observed) (final_word : Option ℕ) (p : Position) (x : List ℕ) → IsReady (length ops) p → p.first < length ops → times_in x p.first ≡ 0
+    → Finishes ops (is_left (length ops) p) p.word final_word x → ByDropping ops final_word p
+dropping ops final_word p x ready below none c = (
+  absent ops (is_left (length ops) p) p.first x (ready.left below) none (covers_of ops (is_left (length ops) p) p.word final_word x c),
   λ q drops. (
     x,
-    subst (λ w. Finishes ops (is_left (length ops) q) w final x) (sym drops.word)
-        (settled_without ops (is_left (length ops) p) (is_left (length ops) q) p.word final p.first x
+    subst (λ w. Finishes ops (is_left (length ops) q) w final_word x) (sym drops.word)
+        (settled_without ops (is_left (length ops) p) (is_left (length ops) q) p.word final_word p.first x
         (parts (is_left (length ops) p) (is_left (length ops) q) p.first (ready.left below) (left_settles (length ops) p p.first q drops.left)) none c),
   ),
 )
 
 -- an order goes on by the operation with which it begins, where that can come next
-pub by_first : (ops : List Observed) (final : Option ℕ) (p : Position) (i : ℕ) (y : List ℕ) → CanCome ops p i → Finishes ops (is_left (length ops) p) p.word final (i ∷ y)
-    → ByTaking ops final p i
-by_first ops final p i y comes c =
-    let fits = first_fits ops (is_left (length ops) p) p.word final i y c in (
+pub by_first : (ops : List Observed) (final_word : Option ℕ) (p : Position) (i : ℕ) (y : List ℕ) → CanCome ops p i → Finishes ops (is_left (length ops) p) p.word final_word (i ∷ y)
+    → ByTaking ops final_word p i
+by_first ops final_word p i y comes c =
+    let fits = first_fits ops (is_left (length ops) p) p.word final_word i y c in (
       comes,
       fits.0,
       fits.1,
       λ q takes. (
         y,
-        subst (λ w. Finishes ops (is_left (length ops) q) w final y) (sym takes.word)
-            (peel ops (is_left (length ops) p) (is_left (length ops) q) p.word final i y (parts (is_left (length ops) p) (is_left (length ops) q) i comes.0 (left_settles (length ops) p i q takes.left)) c),
+        subst (λ w. Finishes ops (is_left (length ops) q) w final_word y) (sym takes.word)
+            (peel ops (is_left (length ops) p) (is_left (length ops) q) p.word final_word i y (parts (is_left (length ops) p) (is_left (length ops) q) i comes.0 (left_settles (length ops) p i q takes.left)) c),
       ),
     )
 
@@ -86,27 +86,27 @@ begins_early ops p i y sorted left times some = by_test (i == p.first) refl
         let later : 0 < times_in y p.first = omega (arith, some, ap one_if other) in
         of_member (λ k. (at ops i).start ≤ (at ops k).end) y p.first times.0 later
 
-pub goes_on : (ops : List Observed) (final : Option ℕ) (p : Position) (x : List ℕ) → AreSorted ops → IsReady (length ops) p → p.first < length ops
-    → Finishes ops (is_left (length ops) p) p.word final x → ((i : ℕ) × ByTaking ops final p i) ⊎ ByDropping ops final p
+pub goes_on : (ops : List Observed) (final_word : Option ℕ) (p : Position) (x : List ℕ) → AreSorted ops → IsReady (length ops) p → p.first < length ops
+    → Finishes ops (is_left (length ops) p) p.word final_word x → ((i : ℕ) × ByTaking ops final_word p i) ⊎ ByDropping ops final_word p
 unfolding times_in
-goes_on ops final p [] sorted ready below c = inr (dropping ops final p [] ready below refl c)
-goes_on ops final p (i ∷ y) sorted ready below c = by_times (times_in (i ∷ y) p.first) refl
+goes_on ops final_word p [] sorted ready below c = inr (dropping ops final_word p [] ready below refl c)
+goes_on ops final_word p (i ∷ y) sorted ready below c = by_times (times_in (i ∷ y) p.first) refl
   where
     left : is_left (length ops) p i ≡ true
-    left = first_left ops (is_left (length ops) p) p.word final i y c
+    left = first_left ops (is_left (length ops) p) p.word final_word i y c
 
-    by_times : (n : ℕ) → times_in (i ∷ y) p.first ≡ n → ((i : ℕ) × ByTaking ops final p i) ⊎ ByDropping ops final p
-    by_times zero none = inr (dropping ops final p (i ∷ y) ready below none c)
+    by_times : (n : ℕ) → times_in (i ∷ y) p.first ≡ n → ((i : ℕ) × ByTaking ops final_word p i) ⊎ ByDropping ops final_word p
+    by_times zero none = inr (dropping ops final_word p (i ∷ y) ready below none c)
     by_times (suc n) some =
-        inl (i, by_first ops final p i y (left, begins_early ops p i y sorted left c.times (omega (arith, some))) c)
+        inl (i, by_first ops final_word p i y (left, begins_early ops p i y sorted left c.times (omega (arith, some))) c)
 
 -- an operation that changes nothing may come first wherever it can
-pub from_idle : (ops : List Observed) (final : Option ℕ) (p q : Position) (i : ℕ) → p.word < 2 ^ 64 → CanCome ops p i → IsIdle (at ops i) → Takes ops p i q
-    → Ends ops final p → Ends ops final q
-from_idle ops final p q i below comes idle takes (x, c) = (
+pub from_idle : (ops : List Observed) (final_word : Option ℕ) (p q : Position) (i : ℕ) → p.word < 2 ^ 64 → CanCome ops p i → IsIdle (at ops i) → Takes ops p i q
+    → Ends ops final_word p → Ends ops final_word q
+from_idle ops final_word p q i below comes idle takes (x, c) = (
   without i x,
-  subst (λ w. Finishes ops (is_left (length ops) q) w final (without i x)) (sym (takes.word ∙ idle p.word below takes.fits))
-      (idle_first ops (is_left (length ops) p) (is_left (length ops) q) p.word final i x (parts (is_left (length ops) p) (is_left (length ops) q) i comes.0 (left_settles (length ops) p i q takes.left)) idle below c),
+  subst (λ w. Finishes ops (is_left (length ops) q) w final_word (without i x)) (sym (takes.word ∙ idle p.word below takes.fits))
+      (idle_first ops (is_left (length ops) p) (is_left (length ops) q) p.word final_word i x (parts (is_left (length ops) p) (is_left (length ops) q) i comes.0 (left_settles (length ops) p i q takes.left)) idle below c),
 )
 
 -- where none is left the order is done
@@ -122,10 +122,10 @@ none_left n p i past = elim (cases_lt i n) [
     neither true = refl
     neither false = refl
 
-pub ended : (ops : List Observed) (final : Option ℕ) (p : Position) → length ops ≤ p.first → IfSome final (λ v. p.word ≡ v)
-    → Finishes ops (is_left (length ops) p) p.word final []
+pub ended : (ops : List Observed) (final_word : Option ℕ) (p : Position) → length ops ≤ p.first → IfSome final_word (λ v. p.word ≡ v)
+    → Finishes ops (is_left (length ops) p) p.word final_word []
 unfolding IsInTime Play times_in last_word
-ended ops final p past is = record {
+ended ops final_word p past is = record {
   done = λ i. rw (none_left (length ops) p i past) (omega arith);
   once = λ i. omega arith;
   times = tt;
@@ -133,9 +133,9 @@ ended ops final p past is = record {
   ending = is;
 }
 
-pub at_end : (ops : List Observed) (final : Option ℕ) (p : Position) (x : List ℕ) → length ops ≤ p.first → Finishes ops (is_left (length ops) p) p.word final x
-    → IfSome final (λ v. p.word ≡ v)
+pub at_end : (ops : List Observed) (final_word : Option ℕ) (p : Position) (x : List ℕ) → length ops ≤ p.first → Finishes ops (is_left (length ops) p) p.word final_word x
+    → IfSome final_word (λ v. p.word ≡ v)
 unfolding last_word
-at_end ops final p [] past c = c.ending
-at_end ops final p (i ∷ y) past c =
-    let is = left_is (length ops) p i (first_left ops (is_left (length ops) p) p.word final i y c) in absurd (omega (arith, is.0, is.1))
+at_end ops final_word p [] past c = c.ending
+at_end ops final_word p (i ∷ y) past c =
+    let is = left_is (length ops) p i (first_left ops (is_left (length ops) p) p.word final_word i y c) in absurd (omega (arith, is.0, is.1))

@@ -38,60 +38,60 @@ moves_ready ops p q None moves = moves.0
 moves_ready ops p q (Some i) moves = moves.0
 
 -- an order that goes on from where a walk leads goes on from its start, after the operations that were taken
-move_end : (ops : List Observed) (final : Option ℕ) (p q : Position) (op : Option ℕ) (x : List ℕ) → AreSorted ops → Moves ops p op q
-    → Finishes ops (is_left (length ops) q) q.word final x → Finishes ops (is_left (length ops) p) p.word final (after_op op x)
+move_end : (ops : List Observed) (final_word : Option ℕ) (p q : Position) (op : Option ℕ) (x : List ℕ) → AreSorted ops → Moves ops p op q
+    → Finishes ops (is_left (length ops) q) q.word final_word x → Finishes ops (is_left (length ops) p) p.word final_word (after_op op x)
 unfolding Moves
-move_end ops final p q None x sorted moves c = from_dropped ops final p q x moves.0 moves.1 moves.2 c
-move_end ops final p q (Some i) x sorted moves c = from_taken ops final p q i x sorted moves.1 moves.2 moves.3 c
+move_end ops final_word p q None x sorted moves c = from_dropped ops final_word p q x moves.0 moves.1 moves.2 c
+move_end ops final_word p q (Some i) x sorted moves c = from_taken ops final_word p q i x sorted moves.1 moves.2 moves.3 c
 
 after_append : (op : Option ℕ) (x y : List ℕ) → after_op op (x ++ y) ≡ after_op op x ++ y
 after_append None x y = refl
 after_append (Some i) x y = refl
 
-pub walks_end : (ops : List Observed) (final : Option ℕ) (p q : Position) (path : List Step) (x : List ℕ) → AreSorted ops → Walks ops p path q
-    → Finishes ops (is_left (length ops) q) q.word final x → Finishes ops (is_left (length ops) p) p.word final (taken path ++ x)
+pub walks_end : (ops : List Observed) (final_word : Option ℕ) (p q : Position) (path : List Step) (x : List ℕ) → AreSorted ops → Walks ops p path q
+    → Finishes ops (is_left (length ops) q) q.word final_word x → Finishes ops (is_left (length ops) p) p.word final_word (taken path ++ x)
 unfolding Walks taken
-walks_end ops final p q [] x sorted h c = subst (λ (r : Position). Finishes ops (is_left (length ops) r) r.word final x) (sym h) c
-walks_end ops final p q (step ∷ path) x sorted h c =
-    subst (λ (r : Position). Finishes ops (is_left (length ops) r) r.word final (after_op step.op (taken path) ++ x)) (sym h.0)
-    (subst (Finishes ops (is_left (length ops) (position_of step.from)) (position_of step.from).word final) (after_append step.op (taken path) x)
-    (move_end ops final (position_of step.from) h.1.0 step.op (taken path ++ x) sorted h.1.1 (walks_end ops final h.1.0 q path x sorted h.1.2 c)))
+walks_end ops final_word p q [] x sorted h c = subst (λ (r : Position). Finishes ops (is_left (length ops) r) r.word final_word x) (sym h) c
+walks_end ops final_word p q (step ∷ path) x sorted h c =
+    subst (λ (r : Position). Finishes ops (is_left (length ops) r) r.word final_word (after_op step.op (taken path) ++ x)) (sym h.0)
+    (subst (Finishes ops (is_left (length ops) (position_of step.from)) (position_of step.from).word final_word) (after_append step.op (taken path) x)
+    (move_end ops final_word (position_of step.from) h.1.0 step.op (taken path ++ x) sorted h.1.1 (walks_end ops final_word h.1.0 q path x sorted h.1.2 c)))
 
 -- Where the states of a set are dead, no order goes on by an operation before a place.
 abbrev pub Tried : List Observed → Option ℕ → States → Position → ℕ → Type 0
-Tried ops last dead p k = AllDead ops last dead → AreTried ops last p k
+Tried ops final_word dead p k = AllDead ops final_word dead → AreTried ops final_word p k
 
-pub none_tried : (ops : List Observed) (last : Option ℕ) (p : Position) → AreTried ops last p p.first
-none_tried ops last p i before taking = let is = left_is (length ops) p i taken.0 in absurd (omega (arith, is.1))
+pub none_tried : (ops : List Observed) (final_word : Option ℕ) (p : Position) → AreTried ops final_word p p.first
+none_tried ops final_word p i before taking = let is = left_is (length ops) p i taken.0 in absurd (omega (arith, is.1))
   where
     taken : CanCome ops p i
     taken = taking.0
 
 -- one step more, and one less
-pub tried_on : (ops : List Observed) (last : Option ℕ) (path : List Step) (step : Step) → AreTriedBefore ops last path
-    → AreTried ops last (position_of step.from) step.tried → AreTriedBefore ops last (path ++ step ∷ [])
-tried_on ops last path step before tried = All-push (λ s. AreTried ops last (position_of s.from) s.tried) path step before tried
+pub tried_on : (ops : List Observed) (final_word : Option ℕ) (path : List Step) (step : Step) → AreTriedBefore ops final_word path
+    → AreTried ops final_word (position_of step.from) step.tried → AreTriedBefore ops final_word (path ++ step ∷ [])
+tried_on ops final_word path step before tried = All-push (λ s. AreTried ops final_word (position_of s.from) s.tried) path step before tried
 
-pub tried_back : (ops : List Observed) (last : Option ℕ) (path : List Step) (step : Step) → AreTriedBefore ops last (path ++ step ∷ [])
-    → AreTriedBefore ops last path × AreTried ops last (position_of step.from) step.tried
-tried_back ops last path step before = All-pop (λ s. AreTried ops last (position_of s.from) s.tried) (path ++ step ∷ []) path (Some step) refl before
+pub tried_back : (ops : List Observed) (final_word : Option ℕ) (path : List Step) (step : Step) → AreTriedBefore ops final_word (path ++ step ∷ [])
+    → AreTriedBefore ops final_word path × AreTried ops final_word (position_of step.from) step.tried
+tried_back ops final_word path step before = All-pop (λ s. AreTried ops final_word (position_of s.from) s.tried) (path ++ step ∷ []) path (Some step) refl before
 
 -- an operation that fits nothing
-pub refused_more : (ops : List Observed) (last : Option ℕ) (dead : States) (p : Position) (k : ℕ) → Tried ops last dead p k
-    → (CanCome ops p k → Fits (at ops k) p.word → ⊥) → Tried ops last dead p (k + 1)
-refused_more ops last dead p k tried refused all = below_more (λ i. ByTaking ops last p i → ⊥) k (tried all) (λ taking. refused taking.0 taking.1)
+pub refused_more : (ops : List Observed) (final_word : Option ℕ) (dead : States) (p : Position) (k : ℕ) → Tried ops final_word dead p k
+    → (CanCome ops p k → Fits (at ops k) p.word → ⊥) → Tried ops final_word dead p (k + 1)
+refused_more ops final_word dead p k tried refused all = below_more (λ i. ByTaking ops final_word p i → ⊥) k (tried all) (λ taking. refused taking.0 taking.1)
 
 -- and one that leads to a state of the set
-pub dead_more : (ops : List Observed) (last : Option ℕ) (dead : States) (p q : Position) (k : ℕ) → Tried ops last dead p k
-    → Takes ops p k q → Has dead q → Tried ops last dead p (k + 1)
-dead_more ops last dead p q k tried takes has all =
-    below_more (λ i. ByTaking ops last p i → ⊥) k (tried all) (λ taking. all q has (taking.3 q takes))
+pub dead_more : (ops : List Observed) (final_word : Option ℕ) (dead : States) (p q : Position) (k : ℕ) → Tried ops final_word dead p k
+    → Takes ops p k q → Has dead q → Tried ops final_word dead p (k + 1)
+dead_more ops final_word dead p q k tried takes has all =
+    below_more (λ i. ByTaking ops final_word p i → ⊥) k (tried all) (λ taking. all q has (taking.3 q takes))
 
 -- all that can come next were tried, and the first cannot be left out
-pub tried_all : (ops : List Observed) (last : Option ℕ) (dead : States) (p : Position) (k : ℕ) → AreSorted ops → IsReady (length ops) p → p.first < length ops
-    → Tried ops last dead p k → ((i : ℕ) → k ≤ i → i < length ops → (at ops p.first).end < (at ops i).start)
-    → (AllDead ops last dead → ByDropping ops last p → ⊥) → AllDead ops last dead → IsDead ops last p
-tried_all ops last dead p k sorted ready below tried late dropped all (x, c) = elim (goes_on ops last p x sorted ready below c) [
+pub tried_all : (ops : List Observed) (final_word : Option ℕ) (dead : States) (p : Position) (k : ℕ) → AreSorted ops → IsReady (length ops) p → p.first < length ops
+    → Tried ops final_word dead p k → ((i : ℕ) → k ≤ i → i < length ops → (at ops p.first).end < (at ops i).start)
+    → (AllDead ops final_word dead → ByDropping ops final_word p → ⊥) → AllDead ops final_word dead → IsDead ops final_word p
+tried_all ops final_word dead p k sorted ready below tried late dropped all (x, c) = elim (goes_on ops final_word p x sorted ready below c) [
   | inl (i, taking) ↦ elim (cases_lt i k) [
     | inl before ↦ tried all i before taking
     | inr after ↦
@@ -109,22 +109,22 @@ pub all_late : (ops : List Observed) (times : List ℕ) (k end : ℕ) → AreEar
 all_late ops times k end earliest late i from below = let least : slice_index times k ≤ (at ops i).start = earliest.1 k i from below in omega (arith, late, least)
 
 -- where an operation that changes nothing leads to a state of the set
-pub idle_dead : (ops : List Observed) (last : Option ℕ) (dead : States) (p q : Position) (i : ℕ) → p.word < 2 ^ 64 → CanCome ops p i → IsIdle (at ops i) → Takes ops p i q
-    → Has dead q → AllDead ops last dead → IsDead ops last p
-idle_dead ops last dead p q i below comes idle takes has all ends = all q has (from_idle ops last p q i below comes idle takes ends)
+pub idle_dead : (ops : List Observed) (final_word : Option ℕ) (dead : States) (p q : Position) (i : ℕ) → p.word < 2 ^ 64 → CanCome ops p i → IsIdle (at ops i) → Takes ops p i q
+    → Has dead q → AllDead ops final_word dead → IsDead ops final_word p
+idle_dead ops final_word dead p q i below comes idle takes has all ends = all q has (from_idle ops final_word p q i below comes idle takes ends)
 
 -- where an operation by which an order goes on, if any does, leads to a state of the set
-pub first_dead : (ops : List Observed) (last : Option ℕ) (dead : States) (p q : Position) (i : ℕ) → GoesFirst ops p i → Takes ops p i q → Has dead q
-    → AllDead ops last dead → IsDead ops last p
-first_dead ops last dead p q i first takes has all ends = let taking = first last ends in all q has (taking.3 q takes)
+pub first_dead : (ops : List Observed) (final_word : Option ℕ) (dead : States) (p q : Position) (i : ℕ) → GoesFirst ops p i → Takes ops p i q → Has dead q
+    → AllDead ops final_word dead → IsDead ops final_word p
+first_dead ops final_word dead p q i first takes has all ends = let taking = first final_word ends in all q has (taking.3 q takes)
 
 -- and where it does not fit
-pub first_refused : (ops : List Observed) (last : Option ℕ) (p : Position) (i : ℕ) → GoesFirst ops p i
-    → (CanCome ops p i → Fits (at ops i) p.word → ⊥) → IsDead ops last p
-first_refused ops last p i first refused ends = let taking = first last ends in refused taking.0 taking.1
+pub first_refused : (ops : List Observed) (final_word : Option ℕ) (p : Position) (i : ℕ) → GoesFirst ops p i
+    → (CanCome ops p i → Fits (at ops i) p.word → ⊥) → IsDead ops final_word p
+first_refused ops final_word p i first refused ends = let taking = first final_word ends in refused taking.0 taking.1
 
 -- an operation where an order goes on by one before it too, which was tried
-pub equal_more : (ops : List Observed) (last : Option ℕ) (dead : States) (p : Position) (k : ℕ) → Tried ops last dead p k → GoesOnBefore ops p k
-    → Tried ops last dead p (k + 1)
-equal_more ops last dead p k tried equal all =
-    below_more (λ i. ByTaking ops last p i → ⊥) k (tried all) (λ taking. tried all equal.0 equal.1 (equal.2 last taking))
+pub equal_more : (ops : List Observed) (final_word : Option ℕ) (dead : States) (p : Position) (k : ℕ) → Tried ops final_word dead p k → GoesOnBefore ops p k
+    → Tried ops final_word dead p (k + 1)
+equal_more ops final_word dead p k tried equal all =
+    below_more (λ i. ByTaking ops final_word p i → ⊥) k (tried all) (λ taking. tried all equal.0 equal.1 (equal.2 final_word taking))

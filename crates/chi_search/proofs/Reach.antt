@@ -61,11 +61,11 @@ pub both : (m n : ℕ) → IsPart (bit_and m n) n
 both m n k one = (part_of m n k one).1
 
 -- a state is dead in the bits of a mask where what an operation must find there is out of reach
-pub out_of_reach : (mask : ℕ) (ops : List Observed) (last : Option ℕ) (p : Position) (y : ℕ) (e : Effect) → HasEffect (at ops y) e
+pub out_of_reach : (mask : ℕ) (ops : List Observed) (final_word : Option ℕ) (p : Position) (y : ℕ) (e : Effect) → HasEffect (at ops y) e
     → is_left (length ops) p y ≡ true
-    → is_answered (at ops y) ≡ true → IsOutOfReach mask ops p (only_before (Some y)) e.found (bit_and e.found_mask mask) → IsDeadWithin mask ops last p
-out_of_reach mask ops last p y e has left answered out =
-    dead_found mask out.part e.found ops last p y (λ k one. (part_of e.found_mask mask k (out.within k one)).1) left answered
+    → is_answered (at ops y) ≡ true → IsOutOfReach mask ops p (only_before (Some y)) e.found (bit_and e.found_mask mask) → IsDeadWithin mask ops final_word p
+out_of_reach mask ops final_word p y e has left answered out =
+    dead_found mask out.part e.found ops final_word p y (λ k one. (part_of e.found_mask mask k (out.within k one)).1) left answered
     (λ w w_below fits k one. has.finds w w_below fits k (part_of e.found_mask mask k (out.within k one)).0) out.unmade
 
 -- or the word at the end

@@ -92,16 +92,16 @@ of_one ops other run first =
     of_each (λ j. MayPrecedeEach ops j (only_before other)) run (λ j some. (of_member (λ j. MayPrecede ops j other) run j first some, tt, tt, tt))
 
 -- an order has no operation that must find bits to which no run leads
-not_found : (mask bits word : ℕ) (ops : List Observed) (final : Option ℕ) (p : Position) (y : ℕ) → IsPart bits mask
+not_found : (mask bits word : ℕ) (ops : List Observed) (final_word : Option ℕ) (p : Position) (y : ℕ) → IsPart bits mask
     → ((w : ℕ) → w < 2 ^ 64 → Fits (at ops y) w → Agree bits word w) → IsUnmade mask ops p (only_before (Some y)) word bits
     → (x run : List ℕ) (v : ℕ) → IsRunOf ops (is_left (length ops) p) run → LeadsTo mask ops p.word run v → IsBefore ops run x
     → All (λ i. is_left (length ops) p i ≡ true) x → ((i : ℕ) → times_in x i ≤ one_if (is_left (length ops) p i)) → IsInTime ops x
-    → PlayWithin mask ops final v x → 0 < times_in x y → ⊥
+    → PlayWithin mask ops final_word v x → 0 < times_in x y → ⊥
 unfolding times_in IsInTime PlayWithin IsRunOf LeadsTo
-not_found mask bits word ops final p y within finds out [] run v is leads before left once times play some = absurd (omega (arith, some))
-not_found mask bits word ops final p y within finds out (j ∷ x) run v is leads before left once times (u, steps, rest) some =
+not_found mask bits word ops final_word p y within finds out [] run v is leads before left once times play some = absurd (omega (arith, some))
+not_found mask bits word ops final_word p y within finds out (j ∷ x) run v is leads before left once times (u, steps, rest) some =
     by_test (j == y) refl (λ later.
-    not_found mask bits word ops final p y within finds out x (j ∷ run) u
+    not_found mask bits word ops final_word p y within finds out x (j ∷ run) u
     (All-head (λ i. is_left (length ops) p i ≡ true) j x left, early, is) (v, leads, steps)
     (goes_on ops run j x (All-tail (λ k. All (λ i. MayPrecede ops i (Some k)) run) j x before) (first_before ops (is_left (length ops) p) j x once times.0))
     (All-tail (λ i. is_left (length ops) p i ≡ true) j x left) (fewer (is_left (length ops) p) j x once) times.1 rest later)
@@ -139,15 +139,15 @@ at_first : (ops : List Observed) (x : List ℕ) → IsBefore ops [] x
 at_first ops x = of_each (λ k. All (λ i. MayPrecede ops i (Some k)) []) x (λ k some. none (λ i. MayPrecede ops i (Some k)))
 
 -- an operation that was answered, and is left, stands in each order
-pub dead_found : (mask bits word : ℕ) (ops : List Observed) (last : Option ℕ) (p : Position) (y : ℕ) → IsPart bits mask → is_left (length ops) p y ≡ true
+pub dead_found : (mask bits word : ℕ) (ops : List Observed) (final_word : Option ℕ) (p : Position) (y : ℕ) → IsPart bits mask → is_left (length ops) p y ≡ true
     → is_answered (at ops y) ≡ true
     → ((w : ℕ) → w < 2 ^ 64 → Fits (at ops y) w → Agree bits word w) → IsUnmade mask ops p (only_before (Some y)) word bits
-    → IsDeadWithin mask ops last p
+    → IsDeadWithin mask ops final_word p
 unfolding IsRunOf LeadsTo
-dead_found mask bits word ops last p y within left answered finds out (x, c) =
+dead_found mask bits word ops final_word p y within left answered finds out (x, c) =
     let due : one_if (is_left (length ops) p y && is_answered (at ops y)) ≤ times_in x y = c.done y in
     let both : (is_left (length ops) p y && is_answered (at ops y)) ≡ true = ap (λ b. b && is_answered (at ops y)) left ∙ answered in
-    not_found mask bits word ops last p y within finds out x [] p.word tt (λ k one. refl) (at_first ops x) (passes (is_left (length ops) p) x c.once) c.once
+    not_found mask bits word ops final_word p y within finds out x [] p.word tt (λ k one. refl) (at_first ops x) (passes (is_left (length ops) p) x c.once) c.once
     c.times c.plays (omega (arith, due, ap one_if both))
 
 pub dead_at_end : (mask bits seen : ℕ) (ops : List Observed) (p : Position) → IsPart bits mask → IsUnmade mask ops p (only_before None) seen bits

@@ -36,13 +36,13 @@ ready_at_start n w = record {
   later = λ j past. unsettled_at_start w j;
 }
 
-pub from_start : (ops : List Observed) (w : ℕ) (final : Option ℕ) (x : List ℕ) → Finishes ops (is_left (length ops) (start w)) w final x
-    → Finishes ops (is_place ops) w final x
-from_start ops w final x c = stays ops (is_left (length ops) (start w)) (is_place ops) w final x (left_at_start (length ops) w) c
+pub from_start : (ops : List Observed) (w : ℕ) (final_word : Option ℕ) (x : List ℕ) → Finishes ops (is_left (length ops) (start w)) w final_word x
+    → Finishes ops (is_place ops) w final_word x
+from_start ops w final_word x c = stays ops (is_left (length ops) (start w)) (is_place ops) w final_word x (left_at_start (length ops) w) c
 
-pub at_start : (ops : List Observed) (w : ℕ) (final : Option ℕ) (x : List ℕ) → Finishes ops (is_place ops) w final x
-    → Finishes ops (is_left (length ops) (start w)) w final x
-at_start ops w final x c = stays ops (is_place ops) (is_left (length ops) (start w)) w final x (λ i. sym (left_at_start (length ops) w i)) c
+pub at_start : (ops : List Observed) (w : ℕ) (final_word : Option ℕ) (x : List ℕ) → Finishes ops (is_place ops) w final_word x
+    → Finishes ops (is_left (length ops) (start w)) w final_word x
+at_start ops w final_word x c = stays ops (is_place ops) (is_left (length ops) (start w)) w final_word x (λ i. sym (left_at_start (length ops) w i)) c
 
 -- the empty set, and one state more
 pub none_of : (P : Position → Type 0) (states : States) → positions states ≡ [] → (p : Position) → Has states p → P p
@@ -55,9 +55,9 @@ more_of P old new s more all one p has = elim ((more p).0 has) [
   | inr same ↦ subst P (sym same) one
 ]
 
-pub none_dead : (ops : List Observed) (last : Option ℕ) (states : States) → positions states ≡ [] → AllDead ops last states
-none_dead ops last = none_of (IsDead ops last)
+pub none_dead : (ops : List Observed) (final_word : Option ℕ) (states : States) → positions states ≡ [] → AllDead ops final_word states
+none_dead ops final_word = none_of (IsDead ops final_word)
 
-pub more_dead : (ops : List Observed) (last : Option ℕ) (old new : States) (s : Position) → ((p : Position) → Has new p ↔ (Has old p ⊎ (p ≡ s)))
-    → AllDead ops last old → IsDead ops last s → AllDead ops last new
-more_dead ops last = more_of (IsDead ops last)
+pub more_dead : (ops : List Observed) (final_word : Option ℕ) (old new : States) (s : Position) → ((p : Position) → Has new p ↔ (Has old p ⊎ (p ≡ s)))
+    → AllDead ops final_word old → IsDead ops final_word s → AllDead ops final_word new
+more_dead ops final_word = more_of (IsDead ops final_word)

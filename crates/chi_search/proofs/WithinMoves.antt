@@ -17,64 +17,64 @@ use Rattle.chi_search.proofs.Settling.{left_is, left_settles}
 use Rattle.chi_search.proofs.Within.{finishes_without, same_word, turned}
 
 -- how often operations stand in an order that finishes
-covers_of : (mask : ℕ) (ops : List Observed) (l : ℕ → Bool) (v : ℕ) (final : Option ℕ) (x : List ℕ) → FinishesWithin mask ops l v final x → Covers ops l x
-covers_of mask ops l v final x c = record { done = c.done; once = c.once }
+covers_of : (mask : ℕ) (ops : List Observed) (l : ℕ → Bool) (v : ℕ) (final_word : Option ℕ) (x : List ℕ) → FinishesWithin mask ops l v final_word x → Covers ops l x
+covers_of mask ops l v final_word x c = record { done = c.done; once = c.once }
 
-dropping : (mask : ℕ) (ops : List Observed) (final : Option ℕ) (p : Position) (x : List ℕ) → IsReady (length ops) p → p.first < length ops → times_in x p.first ≡ 0
-    → FinishesWithin mask ops (is_left (length ops) p) p.word final x → ByDroppingWithin mask ops final p
-dropping mask ops final p x ready below none c = (absent ops l p.first x (ready.left below) none covers, goes)
+dropping : (mask : ℕ) (ops : List Observed) (final_word : Option ℕ) (p : Position) (x : List ℕ) → IsReady (length ops) p → p.first < length ops → times_in x p.first ≡ 0
+    → FinishesWithin mask ops (is_left (length ops) p) p.word final_word x → ByDroppingWithin mask ops final_word p
+dropping mask ops final_word p x ready below none c = (absent ops l p.first x (ready.left below) none covers, goes)
   where
     l : ℕ → Bool
     l = is_left (length ops) p
 
     covers : Covers ops l x
-    covers = covers_of mask ops l p.word final x c
+    covers = covers_of mask ops l p.word final_word x c
 
-    goes : GoesOnBy mask ops final p p.first p.word
+    goes : GoesOnBy mask ops final_word p p.first p.word
     goes q settles agree =
         let left = covers_settled ops l (is_left (length ops) q) p.first x
         (parts l (is_left (length ops) q) p.first (ready.left below) (left_settles (length ops) p p.first q settles)) none covers in (
           x,
-          same_word mask ops (is_left (length ops) q) p.word q.word final x (turned mask p.word q.word agree)
+          same_word mask ops (is_left (length ops) q) p.word q.word final_word x (turned mask p.word q.word agree)
               (record { done = left.done; once = left.once; times = c.times; plays = c.plays }),
         )
 
-by_first : (mask : ℕ) (ops : List Observed) (final : Option ℕ) (p : Position) (i : ℕ) (y : List ℕ) → CanCome ops p i
-    → FinishesWithin mask ops (is_left (length ops) p) p.word final (i ∷ y) → ByTakingWithin mask ops final p i
+by_first : (mask : ℕ) (ops : List Observed) (final_word : Option ℕ) (p : Position) (i : ℕ) (y : List ℕ) → CanCome ops p i
+    → FinishesWithin mask ops (is_left (length ops) p) p.word final_word (i ∷ y) → ByTakingWithin mask ops final_word p i
 unfolding PlayWithin IsInTime
-by_first mask ops final p i y comes c = record { comes = comes; leaves = c.plays.0; steps = c.plays.1; rest = goes }
+by_first mask ops final_word p i y comes c = record { comes = comes; leaves = c.plays.0; steps = c.plays.1; rest = goes }
   where
-    goes : GoesOnBy mask ops final p i c.plays.0
+    goes : GoesOnBy mask ops final_word p i c.plays.0
     goes q settles agree =
         let left = covers_rest ops (is_left (length ops) p) (is_left (length ops) q) i y
         (parts (is_left (length ops) p) (is_left (length ops) q) i comes.0 (left_settles (length ops) p i q settles))
-        (covers_of mask ops (is_left (length ops) p) p.word final (i ∷ y) c) in (
+        (covers_of mask ops (is_left (length ops) p) p.word final_word (i ∷ y) c) in (
           y,
-          same_word mask ops (is_left (length ops) q) c.plays.0 q.word final y (turned mask c.plays.0 q.word agree)
+          same_word mask ops (is_left (length ops) q) c.plays.0 q.word final_word y (turned mask c.plays.0 q.word agree)
               (record { done = left.done; once = left.once; times = c.times.1; plays = c.plays.2 }),
         )
 
 -- an order goes on by an operation that can come next, or without the first
-goes_on : (mask : ℕ) (ops : List Observed) (final : Option ℕ) (p : Position) (x : List ℕ) → AreSorted ops → IsReady (length ops) p → p.first < length ops
-    → FinishesWithin mask ops (is_left (length ops) p) p.word final x
-    → ((i : ℕ) × ByTakingWithin mask ops final p i) ⊎ ByDroppingWithin mask ops final p
+goes_on : (mask : ℕ) (ops : List Observed) (final_word : Option ℕ) (p : Position) (x : List ℕ) → AreSorted ops → IsReady (length ops) p → p.first < length ops
+    → FinishesWithin mask ops (is_left (length ops) p) p.word final_word x
+    → ((i : ℕ) × ByTakingWithin mask ops final_word p i) ⊎ ByDroppingWithin mask ops final_word p
 unfolding times_in
-goes_on mask ops final p [] sorted ready below c = inr (dropping mask ops final p [] ready below refl c)
-goes_on mask ops final p (i ∷ y) sorted ready below c = by_times (times_in (i ∷ y) p.first) refl
+goes_on mask ops final_word p [] sorted ready below c = inr (dropping mask ops final_word p [] ready below refl c)
+goes_on mask ops final_word p (i ∷ y) sorted ready below c = by_times (times_in (i ∷ y) p.first) refl
   where
     left : is_left (length ops) p i ≡ true
-    left = covers_first ops (is_left (length ops) p) i y (covers_of mask ops (is_left (length ops) p) p.word final (i ∷ y) c)
+    left = covers_first ops (is_left (length ops) p) i y (covers_of mask ops (is_left (length ops) p) p.word final_word (i ∷ y) c)
 
-    by_times : (n : ℕ) → times_in (i ∷ y) p.first ≡ n → ((i : ℕ) × ByTakingWithin mask ops final p i) ⊎ ByDroppingWithin mask ops final p
-    by_times zero none = inr (dropping mask ops final p (i ∷ y) ready below none c)
+    by_times : (n : ℕ) → times_in (i ∷ y) p.first ≡ n → ((i : ℕ) × ByTakingWithin mask ops final_word p i) ⊎ ByDroppingWithin mask ops final_word p
+    by_times zero none = inr (dropping mask ops final_word p (i ∷ y) ready below none c)
     by_times (suc n) some =
-        inl (i, by_first mask ops final p i y (left, begins_early ops p i y sorted left c.times (omega (arith, some))) c)
+        inl (i, by_first mask ops final_word p i y (left, begins_early ops p i y sorted left c.times (omega (arith, some))) c)
 
 -- where all that can come next were tried, and the first cannot be left out, a position is dead
-pub tried_all : (mask : ℕ) (ops : List Observed) (last : Option ℕ) (p : Position) (k : ℕ) → AreSorted ops → IsReady (length ops) p → p.first < length ops
-    → AreTriedWithin mask ops last p k → ((i : ℕ) → k ≤ i → i < length ops → (at ops p.first).end < (at ops i).start)
-    → (ByDroppingWithin mask ops last p → ⊥) → IsDeadWithin mask ops last p
-tried_all mask ops last p k sorted ready below tried late dropped (x, c) = elim (goes_on mask ops last p x sorted ready below c) [
+pub tried_all : (mask : ℕ) (ops : List Observed) (final_word : Option ℕ) (p : Position) (k : ℕ) → AreSorted ops → IsReady (length ops) p → p.first < length ops
+    → AreTriedWithin mask ops final_word p k → ((i : ℕ) → k ≤ i → i < length ops → (at ops p.first).end < (at ops i).start)
+    → (ByDroppingWithin mask ops final_word p → ⊥) → IsDeadWithin mask ops final_word p
+tried_all mask ops final_word p k sorted ready below tried late dropped (x, c) = elim (goes_on mask ops final_word p x sorted ready below c) [
   | inl (i, taking) ↦ elim (cases_lt i k) [
     | inl before ↦ tried i before taking
     | inr after ↦
@@ -87,30 +87,30 @@ tried_all mask ops last p k sorted ready below tried late dropped (x, c) = elim 
 ]
 
 -- each step of a path was made from a position that is ready, and the operations before the place to which it had come were tried
-pub record IsTriedStep (mask : ℕ) (ops : List Observed) (last : Option ℕ) (step : Step) : Type 0 where
+pub record IsTriedStep (mask : ℕ) (ops : List Observed) (final_word : Option ℕ) (step : Step) : Type 0 where
   pub ready : IsReady (length ops) (position_of step.from)
-  pub tried : AreTriedWithin mask ops last (position_of step.from) step.tried
+  pub tried : AreTriedWithin mask ops final_word (position_of step.from) step.tried
 
 -- before the first none can come
-pub none_tried : (mask : ℕ) (ops : List Observed) (last : Option ℕ) (p : Position) (k : ℕ) → k ≤ p.first → AreTriedWithin mask ops last p k
-none_tried mask ops last p k from i before taking = let is = left_is (length ops) p i taking.comes.0 in absurd (omega (arith, is.1))
+pub none_tried : (mask : ℕ) (ops : List Observed) (final_word : Option ℕ) (p : Position) (k : ℕ) → k ≤ p.first → AreTriedWithin mask ops final_word p k
+none_tried mask ops final_word p k from i before taking = let is = left_is (length ops) p i taking.comes.0 in absurd (omega (arith, is.1))
 
 -- where none is left, the word is the one that was observed
-pub at_end : (mask : ℕ) (ops : List Observed) (final : Option ℕ) (p : Position) → length ops ≤ p.first → EndsWithin mask ops final p
-    → IfSome final (λ seen. Agree mask p.word seen)
+pub at_end : (mask : ℕ) (ops : List Observed) (final_word : Option ℕ) (p : Position) → length ops ≤ p.first → EndsWithin mask ops final_word p
+    → IfSome final_word (λ seen. Agree mask p.word seen)
 unfolding PlayWithin
-at_end mask ops final p past ([], c) = c.plays
-at_end mask ops final p past (i ∷ y, c) =
-    let is = left_is (length ops) p i (covers_first ops (is_left (length ops) p) i y (covers_of mask ops (is_left (length ops) p) p.word final (i ∷ y) c)) in
+at_end mask ops final_word p past ([], c) = c.plays
+at_end mask ops final_word p past (i ∷ y, c) =
+    let is = left_is (length ops) p i (covers_first ops (is_left (length ops) p) i y (covers_of mask ops (is_left (length ops) p) p.word final_word (i ∷ y) c)) in
     absurd (omega (arith, is.0, is.1))
 
 -- an operation that keeps the bits may be settled first
 pub settles_kept : (mask : ℕ) (ops : List Observed) (p q : Position) (i : ℕ) → is_left (length ops) p i ≡ true → KeepsWithin mask (at ops i) → Settles p i q
     → q.word ≡ p.word → GoesOnWithin mask ops p q
-settles_kept mask ops p q i left keeps settles same final (x, c) = (
+settles_kept mask ops p q i left keeps settles same final_word (x, c) = (
   without i x,
-  subst (λ w. FinishesWithin mask ops (is_left (length ops) q) w final (without i x)) (sym same)
-      (finishes_without mask ops (is_left (length ops) p) (is_left (length ops) q) p.word final i x
+  subst (λ w. FinishesWithin mask ops (is_left (length ops) q) w final_word (without i x)) (sym same)
+      (finishes_without mask ops (is_left (length ops) p) (is_left (length ops) q) p.word final_word i x
       (parts (is_left (length ops) p) (is_left (length ops) q) i left (left_settles (length ops) p i q settles)) keeps c),
 )
 
@@ -124,12 +124,12 @@ pub agree_and : (mask w : ℕ) → Agree mask w (bit_and w mask)
 agree_and mask w k one = omega (arith, bit_at_and w mask k, one, bit_at-lt w k)
 
 -- a position is dead where one is that was reached from a copy of it, of whose word the bits of the mask were kept
-pub dead_from : (mask : ℕ) (ops : List Observed) (last : Option ℕ) (from copy reached start : Position) → copy ≡ from
-    → GoesOnWithin mask ops (record copy { word = bit_and copy.word mask }) reached → start ≡ reached → IsDeadWithin mask ops last start → IsDeadWithin mask ops last from
-dead_from mask ops last from copy reached start same goes here dead ends =
-    let there : EndsWithin mask ops last copy = subst (EndsWithin mask ops last) (sym same) ends in
-    dead (subst (EndsWithin mask ops last) (sym here) (goes last (
+pub dead_from : (mask : ℕ) (ops : List Observed) (final_word : Option ℕ) (from copy reached start : Position) → copy ≡ from
+    → GoesOnWithin mask ops (record copy { word = bit_and copy.word mask }) reached → start ≡ reached → IsDeadWithin mask ops final_word start → IsDeadWithin mask ops final_word from
+dead_from mask ops final_word from copy reached start same goes here dead ends =
+    let there : EndsWithin mask ops final_word copy = subst (EndsWithin mask ops final_word) (sym same) ends in
+    dead (subst (EndsWithin mask ops final_word) (sym here) (goes final_word (
       there.0,
-      same_word mask ops (is_left (length ops) copy) copy.word (bit_and copy.word mask) last there.0
+      same_word mask ops (is_left (length ops) copy) copy.word (bit_and copy.word mask) final_word there.0
           (turned mask copy.word (bit_and copy.word mask) (agree_and mask copy.word)) there.1,
     )))

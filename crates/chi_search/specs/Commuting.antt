@@ -33,4 +33,4 @@ MovesBeforeAll ops p i = (j : ℕ) → Passes ops p i j
 
 -- where some order goes on, one goes on by the operation
 abbrev pub GoesFirst : List Observed → Position → ℕ → Type 0
-GoesFirst ops p i = (last : Option ℕ) → Ends ops last p → ByTaking ops last p i
+GoesFirst ops p i = (final_word : Option ℕ) → Ends ops final_word p → ByTaking ops final_word p i

@@ -10,4 +10,4 @@ AreEqual x y = (x.access ≡ y.access) × (x.reply ≡ y.reply)
 
 -- where an order goes on by the operation, one goes on by a certain one before it
 abbrev pub GoesOnBefore : List Observed → Position → ℕ → Type 0
-GoesOnBefore ops p place = (i : ℕ) × (i < place) × ((last : Option ℕ) → ByTaking ops last p place → ByTaking ops last p i)
+GoesOnBefore ops p place = (i : ℕ) × (i < place) × ((final_word : Option ℕ) → ByTaking ops final_word p place → ByTaking ops final_word p i)

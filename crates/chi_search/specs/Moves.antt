@@ -7,7 +7,7 @@ use Rattle.chi_search.specs.Positions.{Position, Settles, is_left}
 
 -- some order finishes what is left
 abbrev pub Ends : List Observed → Option ℕ → Position → Type 0
-Ends ops final p = (order : List ℕ) × Finishes ops (is_left (length ops) p) p.word final order
+Ends ops final_word p = (order : List ℕ) × Finishes ops (is_left (length ops) p) p.word final_word order
 
 -- The operation can come next: it is left, and starts no later than the first one ends, which is the first of all that are
 -- left to end.
@@ -28,8 +28,8 @@ pub record Drops (ops : List Observed) (p q : Position) : Type 0 where
 
 -- some order goes on by the operation
 abbrev pub ByTaking : List Observed → Option ℕ → Position → ℕ → Type 0
-ByTaking ops final p i =
-    CanCome ops p i × Fits (at ops i) p.word × (next (at ops i) p.word < 2 ^ 64) × ((q : Position) → Takes ops p i q → Ends ops final q)
+ByTaking ops final_word p i =
+    CanCome ops p i × Fits (at ops i) p.word × (next (at ops i) p.word < 2 ^ 64) × ((q : Position) → Takes ops p i q → Ends ops final_word q)
 
 -- the operation leaves each word that it fits as it is
 abbrev pub IsIdle : Observed → Type 0

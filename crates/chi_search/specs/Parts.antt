@@ -5,6 +5,6 @@ use Rattle.chi_search.specs.declared.part.Part.{Part}
 use Rattle.chi_search.specs.Within.{AllDeadWithin, IsRun}
 
 -- it is a run of bytes, and its dead states are dead
-pub record IsPartOf (ops : List Observed) (last : Option ℕ) (part : Part) : Type 0 where
+pub record IsPartOf (ops : List Observed) (final_word : Option ℕ) (part : Part) : Type 0 where
   pub run : IsRun part.mask
-  pub dead : AllDeadWithin part.mask ops last part.dead
+  pub dead : AllDeadWithin part.mask ops final_word part.dead

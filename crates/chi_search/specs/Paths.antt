@@ -14,18 +14,18 @@ AreEarliest ops times = (length times ≡ length ops) × ((i j : ℕ) → i ≤ 
 
 -- no order goes on from here
 abbrev pub IsDead : List Observed → Option ℕ → Position → Type 0
-IsDead ops last p = Ends ops last p → ⊥
+IsDead ops final_word p = Ends ops final_word p → ⊥
 
 abbrev pub AllDead : List Observed → Option ℕ → States → Type 0
-AllDead ops last states = (p : Position) → Has states p → IsDead ops last p
+AllDead ops final_word states = (p : Position) → Has states p → IsDead ops final_word p
 
 -- The operations before a place were tried: no order goes on by one of them.
 abbrev pub AreTried : List Observed → Option ℕ → Position → ℕ → Type 0
-AreTried ops last p place = (i : ℕ) → i < place → ByTaking ops last p i → ⊥
+AreTried ops final_word p place = (i : ℕ) → i < place → ByTaking ops final_word p i → ⊥
 
 -- and so were those before the place to which each step of a path had come
 abbrev pub AreTriedBefore : List Observed → Option ℕ → List Step → Type 0
-AreTriedBefore ops last path = All (λ step. AreTried ops last (position_of step.from) step.tried) path
+AreTriedBefore ops final_word path = All (λ step. AreTried ops final_word (position_of step.from) step.tried) path
 
 -- one move: an operation is taken, or the first one is left out
 unfoldable pub Moves : List Observed → Position → Option ℕ → Position → Type 0

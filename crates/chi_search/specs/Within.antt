@@ -28,31 +28,31 @@ pub record StepsTo (mask : ℕ) (op : Observed) (v u : ℕ) : Type 0 where
 
 -- Each operation may find what the one before it leaves, and the last leaves what was observed, where it was.
 unfoldable pub PlayWithin : ℕ → List Observed → Option ℕ → ℕ → List ℕ → Type 0
-PlayWithin mask ops final v [] = IfSome final (λ seen. Agree mask v seen)
-PlayWithin mask ops final v (i ∷ order) = (u : ℕ) × StepsTo mask (at ops i) v u × PlayWithin mask ops final u order
+PlayWithin mask ops final_word v [] = IfSome final_word (λ seen. Agree mask v seen)
+PlayWithin mask ops final_word v (i ∷ order) = (u : ℕ) × StepsTo mask (at ops i) v u × PlayWithin mask ops final_word u order
 
 -- The order finishes the operations that are left in the bits of the mask: each whose reply was seen stands in it once, each
 -- other at most once, and none that is not left; none stands before one that ended before it started.
-pub record FinishesWithin (mask : ℕ) (ops : List Observed) (left : ℕ → Bool) (v : ℕ) (final : Option ℕ) (order : List ℕ) : Type 0 where
+pub record FinishesWithin (mask : ℕ) (ops : List Observed) (left : ℕ → Bool) (v : ℕ) (final_word : Option ℕ) (order : List ℕ) : Type 0 where
   pub done : (i : ℕ) → one_if (left i && is_answered (at ops i)) ≤ times_in order i
   pub once : (i : ℕ) → times_in order i ≤ one_if (left i)
   pub times : IsInTime ops order
-  pub plays : PlayWithin mask ops final v order
+  pub plays : PlayWithin mask ops final_word v order
 
 -- some order finishes what is left in these bits
 abbrev pub EndsWithin : ℕ → List Observed → Option ℕ → Position → Type 0
-EndsWithin mask ops final p = (order : List ℕ) × FinishesWithin mask ops (is_left (length ops) p) p.word final order
+EndsWithin mask ops final_word p = (order : List ℕ) × FinishesWithin mask ops (is_left (length ops) p) p.word final_word order
 
 -- and none does
 abbrev pub IsDeadWithin : ℕ → List Observed → Option ℕ → Position → Type 0
-IsDeadWithin mask ops final p = EndsWithin mask ops final p → ⊥
+IsDeadWithin mask ops final_word p = EndsWithin mask ops final_word p → ⊥
 
 abbrev pub AllDeadWithin : ℕ → List Observed → Option ℕ → States → Type 0
-AllDeadWithin mask ops final states = (p : Position) → Has states p → IsDeadWithin mask ops final p
+AllDeadWithin mask ops final_word states = (p : Position) → Has states p → IsDeadWithin mask ops final_word p
 
 -- where an order goes on from one position, one does from the other
 abbrev pub GoesOnWithin : ℕ → List Observed → Position → Position → Type 0
-GoesOnWithin mask ops p q = (final : Option ℕ) → EndsWithin mask ops final p → EndsWithin mask ops final q
+GoesOnWithin mask ops p q = (final_word : Option ℕ) → EndsWithin mask ops final_word p → EndsWithin mask ops final_word q
 
 -- the operation leaves the bits of the mask of each word that it fits
 abbrev pub KeepsWithin : ℕ → Observed → Type 0
@@ -60,19 +60,19 @@ KeepsWithin mask op = (w : ℕ) → w < 2 ^ 64 → Fits op w → Agree mask (nex
 
 -- an order goes on from each position to which settling an operation leads with this word
 abbrev pub GoesOnBy : ℕ → List Observed → Option ℕ → Position → ℕ → ℕ → Type 0
-GoesOnBy mask ops final p i u = (q : Position) → Settles p i q → Agree mask u q.word → EndsWithin mask ops final q
+GoesOnBy mask ops final_word p i u = (q : Position) → Settles p i q → Agree mask u q.word → EndsWithin mask ops final_word q
 
 -- some order goes on by the operation
-pub record ByTakingWithin (mask : ℕ) (ops : List Observed) (final : Option ℕ) (p : Position) (i : ℕ) : Type 0 where
+pub record ByTakingWithin (mask : ℕ) (ops : List Observed) (final_word : Option ℕ) (p : Position) (i : ℕ) : Type 0 where
   pub comes : CanCome ops p i
   pub leaves : ℕ
   pub steps : StepsTo mask (at ops i) p.word leaves
-  pub rest : GoesOnBy mask ops final p i leaves
+  pub rest : GoesOnBy mask ops final_word p i leaves
 
 -- or without the first
 abbrev pub ByDroppingWithin : ℕ → List Observed → Option ℕ → Position → Type 0
-ByDroppingWithin mask ops final p = ((at ops p.first).reply ≡ None) × GoesOnBy mask ops final p p.first p.word
+ByDroppingWithin mask ops final_word p = ((at ops p.first).reply ≡ None) × GoesOnBy mask ops final_word p p.first p.word
 
 -- the operations before a place were tried: no order goes on by one of them
 abbrev pub AreTriedWithin : ℕ → List Observed → Option ℕ → Position → ℕ → Type 0
-AreTriedWithin mask ops final p place = (i : ℕ) → i < place → ByTakingWithin mask ops final p i → ⊥
+AreTriedWithin mask ops final_word p place = (i : ℕ) → i < place → ByTakingWithin mask ops final_word p i → ⊥

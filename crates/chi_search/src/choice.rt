@@ -136,17 +136,17 @@ pub(crate) fn choose(
 ) -> Result<Choice, AllocError>
     requires known { IsKnown known.now }
     requires ready { IsReady (length known.now.ops.now) (position_of state.now) }
-    requires tried { AreTried known.now.ops.now known.now.last (position_of state.now) tried }
-    ensures ended { IfOk result (λ choice. IfEnded choice ((length known.now.ops.now ≤ state.now.first) × IfSome known.now.last (λ seen. state.now.word ≡ seen))) }
+    requires tried { AreTried known.now.ops.now known.now.final_word (position_of state.now) tried }
+    ensures ended { IfOk result (λ choice. IfEnded choice ((length known.now.ops.now ≤ state.now.first) × IfSome known.now.final_word (λ seen. state.now.word ≡ seen))) }
     ensures moves { IfOk result (λ choice. IfStep choice (λ op. Moves known.now.ops.now (position_of state.now) op (position_of next.new))) }
     ensures ready { IfOk result (λ choice. IfStep choice (λ op. IsReady (length known.now.ops.now) (position_of next.new))) }
-    ensures tried { IfOk result (λ choice. IfTried choice (λ place. AllDead known.now.ops.now known.now.last dead.now → AreTried known.now.ops.now known.now.last (position_of state.now) place)) }
-    ensures dead { IfOk result (λ choice. IfDead choice (AllDead known.now.ops.now known.now.last dead.now → IsDead known.now.ops.now known.now.last (position_of state.now))) }
+    ensures tried { IfOk result (λ choice. IfTried choice (λ place. AllDead known.now.ops.now known.now.final_word dead.now → AreTried known.now.ops.now known.now.final_word (position_of state.now) place)) }
+    ensures dead { IfOk result (λ choice. IfDead choice (AllDead known.now.ops.now known.now.final_word dead.now → IsDead known.now.ops.now known.now.final_word (position_of state.now))) }
 {
     let ops = known.ops;
     let earliest = known.earliest;
     if state.first >= ops.len() {
-        return match known.last {
+        return match known.final_word {
             Some(seen) if seen != state.word => Ok(Choice::Dead),
             _ => Ok(Choice::Ended),
         };

@@ -8,7 +8,7 @@ use chi_trace::Observed;
 #[derive(Clone, Copy)]
 pub(crate) struct Known<'a> {
     pub ops: &'a [Observed],
-    pub last: Option<u64>,
+    pub final_word: Option<u64>,
     pub effects: &'a [Effect],
     pub earliest: &'a [u64],
 }

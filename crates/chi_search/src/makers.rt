@@ -79,14 +79,14 @@ pub(crate) fn lacks_maker(
 ) -> bool
     requires known { IsKnown known.now }
     requires run { IsRun mask }
-    ensures { IsTrue result → IsDeadWithin mask known.now.ops.now known.now.last (position_of state.now) }
+    ensures { IsTrue result → IsDeadWithin mask known.now.ops.now known.now.final_word (position_of state.now) }
 {
     let ops = known.ops;
     let effects = known.effects;
     if effects.len() < ops.len() {
         return false;
     }
-    if let Some(seen) = known.last
+    if let Some(seen) = known.final_word
         && is_out_of_reach(known, state, None, seen, mask, mask, depth)
     {
         return true;

@@ -56,7 +56,7 @@ fn most_next(ops: &[Observed], earliest: &[u64]) -> usize {
 // Whether an operation is seen at once to find what no other can leave, or the end to have it.
 fn is_hopeless(alloc: Global, known: &Known, word: u64) -> Result<bool, AllocError>
     requires { IsKnown known.now }
-    ensures { IfOk result (λ is. IsTrue is → (order : List ℕ) → Finishes known.now.ops.now (is_place known.now.ops.now) word known.now.last order → ⊥) }
+    ensures { IfOk result (λ is. IsTrue is → (order : List ℕ) → Finishes known.now.ops.now (is_place known.now.ops.now) word known.now.final_word order → ⊥) }
 {
     let effects = effects_of(alloc, known.ops)?;
     let known = Known {
@@ -77,18 +77,18 @@ fn search_by_rules<P: Progress>(
     progress: &mut P,
 ) -> Result<Found, AllocError>
     requires { IsKnown known.now }
-    ensures order { IfOk result (λ found. IfOrder found (λ order. Finishes known.now.ops.now (is_place known.now.ops.now) word known.now.last order)) }
-    ensures nothing { IfOk result (λ found. IfNothing found ((order : List ℕ) → Finishes known.now.ops.now (is_place known.now.ops.now) word known.now.last order → ⊥)) }
+    ensures order { IfOk result (λ found. IfOrder found (λ order. Finishes known.now.ops.now (is_place known.now.ops.now) word known.now.final_word order)) }
+    ensures nothing { IfOk result (λ found. IfNothing found ((order : List ℕ) → Finishes known.now.ops.now (is_place known.now.ops.now) word known.now.final_word order → ⊥)) }
     ensures undecided { IfOk result (λ found. IfUndecided found (budget.new ≡ 0)) }
     ensures spends { IfOk result (λ found. (budget.new ≤ budget.old) × LookedMore P.looked progress.old progress.new (budget.old - budget.new)) }
 {
-    let (ops, last) = (known.ops, known.last);
+    let (ops, final_word) = (known.ops, known.final_word);
     let effects = effects_of(alloc, ops)?;
     let known = Known {
         effects: &effects,
         ..*known
     };
-    let mut parts = parts_of(alloc, ops, last)?;
+    let mut parts = parts_of(alloc, ops, final_word)?;
     if !are_mostly_writes(ops) {
         return search(alloc, &known, &mut parts, word, u64::MAX, budget, progress);
     }
@@ -108,8 +108,8 @@ fn search_by_rules<P: Progress>(
     if let Found::Order(_) | Found::Nothing = found {
         return Ok(found);
     }
-    let mut more_parts = parts_of(alloc, ops, last)?;
-    add_parts(alloc, ops, last, 4, &mut more_parts)?;
+    let mut more_parts = parts_of(alloc, ops, final_word)?;
+    add_parts(alloc, ops, final_word, 4, &mut more_parts)?;
     search(alloc, &known, &mut more_parts, word, span, budget, progress)
 }
 
@@ -132,21 +132,21 @@ pub fn order_of<P: Progress>(
     alloc: Global,
     ops: &[Observed],
     word: u64,
-    last: Option<u64>,
+    final_word: Option<u64>,
     budget: &mut u64,
     progress: &mut P,
 ) -> Result<Found, AllocError>
     requires sorted { AreSorted ops.now }
     requires within { AreWithin ops.now }
-    ensures order { IfOk result (λ found. IfOrder found (λ order. Finishes ops.now (is_place ops.now) word last order)) }
-    ensures nothing { IfOk result (λ found. IfNothing found ((order : List ℕ) → Finishes ops.now (is_place ops.now) word last order → ⊥)) }
+    ensures order { IfOk result (λ found. IfOrder found (λ order. Finishes ops.now (is_place ops.now) word final_word order)) }
+    ensures nothing { IfOk result (λ found. IfNothing found ((order : List ℕ) → Finishes ops.now (is_place ops.now) word final_word order → ⊥)) }
     ensures undecided { IfOk result (λ found. IfUndecided found (budget.new ≡ 0)) }
     ensures spends { IfOk result (λ found. (budget.new ≤ budget.old) × LookedMore P.looked progress.old progress.new (budget.old - budget.new)) }
 {
     let earliest = earliest_starts(alloc, ops)?;
     let known = Known {
         ops,
-        last,
+        final_word,
         effects: &[],
         earliest: &earliest,
     };

@@ -41,7 +41,7 @@ pub(crate) struct Part {
 pub(crate) fn part_from(alloc: Global, byte: usize, len: usize) -> Part
     requires some { 1 ≤ len }
     requires room { byte + len ≤ 8 }
-    ensures { (ops : List Observed) → (last : Option ℕ) → IsPartOf ops last result }
+    ensures { (ops : List Observed) → (final_word : Option ℕ) → IsPartOf ops final_word result }
 {
     Part {
         mask: lane_mask(byte, len),
@@ -66,7 +66,7 @@ fn leads_by(
     requires ready { IsReady (length known.now.ops.now) (position_of state.now) }
     requires left { IsTrue (Positions.is_left (length known.now.ops.now) (position_of state.now) place) }
     ensures ready { IfOk result (λ is. IsTrue is → IsReady (length known.now.ops.now) (position_of next.new)) }
-    ensures dead { IfOk result (λ is. is ≡ false → (last : Option ℕ) → AllDeadWithin part.now.mask known.now.ops.now last part.now.dead → (u : ℕ) → HasBits part.now.mask u word → GoesOnBy part.now.mask known.now.ops.now last (position_of state.now) place u → ⊥) }
+    ensures dead { IfOk result (λ is. is ≡ false → (final_word : Option ℕ) → AllDeadWithin part.now.mask known.now.ops.now final_word part.now.dead → (u : ℕ) → HasBits part.now.mask u word → GoesOnBy part.now.mask known.now.ops.now final_word (position_of state.now) place u → ⊥) }
 {
     let Some(word) = word else {
         return Ok(false);
@@ -89,7 +89,7 @@ fn leave_out_within(
     requires ready { IsReady (length known.now.ops.now) (position_of state.now) }
     requires first { state.now.first < length known.now.ops.now }
     ensures ready { IfOk result (λ is. IsTrue is → IsReady (length known.now.ops.now) (position_of next.new)) }
-    ensures dead { IfOk result (λ is. is ≡ false → (last : Option ℕ) → AllDeadWithin part.now.mask known.now.ops.now last part.now.dead → ByDroppingWithin part.now.mask known.now.ops.now last (position_of state.now) → ⊥) }
+    ensures dead { IfOk result (λ is. is ≡ false → (final_word : Option ℕ) → AllDeadWithin part.now.mask known.now.ops.now final_word part.now.dead → ByDroppingWithin part.now.mask known.now.ops.now final_word (position_of state.now) → ⊥) }
 {
     match known.ops[state.first].reply {
         Some(_) => Ok(false),
@@ -119,17 +119,17 @@ fn choose_within(
     requires each { length known.now.ops.now ≤ length known.now.effects.now }
     requires run { IsRun part.now.mask }
     requires ready { IsReady (length known.now.ops.now) (position_of state.now) }
-    requires tried { AreTriedWithin part.now.mask known.now.ops.now known.now.last (position_of state.now) tried }
+    requires tried { AreTriedWithin part.now.mask known.now.ops.now known.now.final_word (position_of state.now) tried }
     ensures ready { IfOk result (λ choice. IfStep choice (λ op. IsReady (length known.now.ops.now) (position_of next.new))) }
-    ensures tried { IfOk result (λ choice. IfTried choice (λ place. AllDeadWithin part.now.mask known.now.ops.now known.now.last part.now.dead → AreTriedWithin part.now.mask known.now.ops.now known.now.last (position_of state.now) place)) }
-    ensures dead { IfOk result (λ choice. IfDead choice (AllDeadWithin part.now.mask known.now.ops.now known.now.last part.now.dead → IsDeadWithin part.now.mask known.now.ops.now known.now.last (position_of state.now))) }
+    ensures tried { IfOk result (λ choice. IfTried choice (λ place. AllDeadWithin part.now.mask known.now.ops.now known.now.final_word part.now.dead → AreTriedWithin part.now.mask known.now.ops.now known.now.final_word (position_of state.now) place)) }
+    ensures dead { IfOk result (λ choice. IfDead choice (AllDeadWithin part.now.mask known.now.ops.now known.now.final_word part.now.dead → IsDeadWithin part.now.mask known.now.ops.now known.now.final_word (position_of state.now))) }
 {
     let ops = known.ops;
     if has(&part.alive, state) {
         return Ok(Choice::Ended);
     }
     if state.first >= ops.len() {
-        return match known.last {
+        return match known.final_word {
             Some(seen) if (seen ^ state.word) & part.mask != 0 => Ok(Choice::Dead),
             _ => Ok(Choice::Ended),
         };
@@ -190,9 +190,9 @@ pub(crate) fn lacks_order<P: Progress>(
     requires known { IsKnown known.now }
     requires each { length known.now.ops.now ≤ length known.now.effects.now }
     requires ready { IsReady (length known.now.ops.now) (position_of from.now) }
-    requires part { IsPartOf known.now.ops.now known.now.last part.now }
-    ensures dead { IfOk result (λ is. IsTrue is → IsDeadWithin part.old.mask known.now.ops.now known.now.last (position_of from.now)) }
-    ensures part { OnOk result (IsPartOf known.now.ops.now known.now.last part.new) }
+    requires part { IsPartOf known.now.ops.now known.now.final_word part.now }
+    ensures dead { IfOk result (λ is. IsTrue is → IsDeadWithin part.old.mask known.now.ops.now known.now.final_word (position_of from.now)) }
+    ensures part { OnOk result (IsPartOf known.now.ops.now known.now.final_word part.new) }
     ensures spends { IfOk result (λ is. (budget.new ≤ budget.old) × LookedMore P.looked progress.old progress.new (budget.old - budget.new)) }
 {
     let mut state = copy_of(alloc, from)?;

@@ -41,13 +41,13 @@ pub(crate) fn are_mostly_writes(ops: &[Observed]) -> bool {
 pub(crate) fn add_parts(
     alloc: Global,
     ops: &[Observed],
-    last: Option<u64>,
+    final_word: Option<u64>,
     len: usize,
     parts: &mut Vec<Part>,
 ) -> Result<(), AllocError>
     requires some { 1 ≤ len }
-    requires parts { All (IsPartOf ops.now last) parts.now.items }
-    ensures { OnOk result (All (IsPartOf ops.now last) parts.new.items) }
+    requires parts { All (IsPartOf ops.now final_word) parts.now.items }
+    ensures { OnOk result (All (IsPartOf ops.now final_word) parts.new.items) }
 {
     let mut byte: usize = 0;
     while byte < 8 && len <= 8 - byte {
@@ -62,17 +62,17 @@ pub(crate) fn add_parts(
 pub(crate) fn parts_of(
     alloc: Global,
     ops: &[Observed],
-    last: Option<u64>,
+    final_word: Option<u64>,
 ) -> Result<Vec<Part>, AllocError>
-    ensures { IfOk result (λ parts. All (IsPartOf ops.now last) parts.items) }
+    ensures { IfOk result (λ parts. All (IsPartOf ops.now final_word) parts.items) }
 {
     let mut parts = Vec::new(alloc);
     if ops.len() - ops.len() / 16 <= count_within(ops, 1) {
-        add_parts(alloc, ops, last, 1, &mut parts)?;
+        add_parts(alloc, ops, final_word, 1, &mut parts)?;
         return Ok(parts);
     }
     if count_within(ops, 2) >= ops.len() / 4 {
-        add_parts(alloc, ops, last, 2, &mut parts)?;
+        add_parts(alloc, ops, final_word, 2, &mut parts)?;
     }
     Ok(parts)
 }
@@ -89,9 +89,9 @@ pub(crate) fn has_dead_part<P: Progress>(
     requires known { IsKnown known.now }
     requires each { length known.now.ops.now ≤ length known.now.effects.now }
     requires ready { IsReady (length known.now.ops.now) (position_of state.now) }
-    requires parts { All (IsPartOf known.now.ops.now known.now.last) parts.now }
-    ensures dead { IfOk result (λ is. IsTrue is → IsDead known.now.ops.now known.now.last (position_of state.now)) }
-    ensures parts { OnOk result (All (IsPartOf known.now.ops.now known.now.last) parts.new) }
+    requires parts { All (IsPartOf known.now.ops.now known.now.final_word) parts.now }
+    ensures dead { IfOk result (λ is. IsTrue is → IsDead known.now.ops.now known.now.final_word (position_of state.now)) }
+    ensures parts { OnOk result (All (IsPartOf known.now.ops.now known.now.final_word) parts.new) }
     ensures spends { IfOk result (λ is. (budget.new ≤ budget.old) × LookedMore P.looked progress.old progress.new (budget.old - budget.new)) }
 {
     // That the word is one of 64 bits is known here once it is read.

@@ -39,14 +39,14 @@ fn decide<P: Progress>(
 ) -> Result<Choice, AllocError>
     requires known { IsKnown known.now }
     requires ready { IsReady (length known.now.ops.now) (position_of state.now) }
-    requires tried { AreTried known.now.ops.now known.now.last (position_of state.now) tried }
-    requires parts { All (IsPartOf known.now.ops.now known.now.last) parts.now }
-    ensures ended { IfOk result (λ choice. IfEnded choice ((length known.now.ops.now ≤ state.now.first) × IfSome known.now.last (λ seen. state.now.word ≡ seen))) }
+    requires tried { AreTried known.now.ops.now known.now.final_word (position_of state.now) tried }
+    requires parts { All (IsPartOf known.now.ops.now known.now.final_word) parts.now }
+    ensures ended { IfOk result (λ choice. IfEnded choice ((length known.now.ops.now ≤ state.now.first) × IfSome known.now.final_word (λ seen. state.now.word ≡ seen))) }
     ensures moves { IfOk result (λ choice. IfStep choice (λ op. Moves known.now.ops.now (position_of state.now) op (position_of next.new))) }
     ensures ready { IfOk result (λ choice. IfStep choice (λ op. IsReady (length known.now.ops.now) (position_of next.new))) }
-    ensures tried { IfOk result (λ choice. IfTried choice (λ place. AllDead known.now.ops.now known.now.last dead.now → AreTried known.now.ops.now known.now.last (position_of state.now) place)) }
-    ensures dead { IfOk result (λ choice. IfDead choice (AllDead known.now.ops.now known.now.last dead.now → IsDead known.now.ops.now known.now.last (position_of state.now))) }
-    ensures parts { OnOk result (All (IsPartOf known.now.ops.now known.now.last) parts.new) }
+    ensures tried { IfOk result (λ choice. IfTried choice (λ place. AllDead known.now.ops.now known.now.final_word dead.now → AreTried known.now.ops.now known.now.final_word (position_of state.now) place)) }
+    ensures dead { IfOk result (λ choice. IfDead choice (AllDead known.now.ops.now known.now.final_word dead.now → IsDead known.now.ops.now known.now.final_word (position_of state.now))) }
+    ensures parts { OnOk result (All (IsPartOf known.now.ops.now known.now.final_word) parts.new) }
     ensures spends { IfOk result (λ choice. (budget.new ≤ budget.old) × LookedMore P.looked progress.old progress.new (budget.old - budget.new)) }
 {
     if is_new
@@ -71,9 +71,9 @@ pub(crate) fn search<P: Progress>(
     progress: &mut P,
 ) -> Result<Found, AllocError>
     requires known { IsKnown known.now }
-    requires parts { All (IsPartOf known.now.ops.now known.now.last) parts.now }
-    ensures order { IfOk result (λ found. IfOrder found (λ order. Finishes known.now.ops.now (is_place known.now.ops.now) word known.now.last order)) }
-    ensures nothing { IfOk result (λ found. IfNothing found ((order : List ℕ) → Finishes known.now.ops.now (is_place known.now.ops.now) word known.now.last order → ⊥)) }
+    requires parts { All (IsPartOf known.now.ops.now known.now.final_word) parts.now }
+    ensures order { IfOk result (λ found. IfOrder found (λ order. Finishes known.now.ops.now (is_place known.now.ops.now) word known.now.final_word order)) }
+    ensures nothing { IfOk result (λ found. IfNothing found ((order : List ℕ) → Finishes known.now.ops.now (is_place known.now.ops.now) word known.now.final_word order → ⊥)) }
     ensures undecided { IfOk result (λ found. IfUndecided found (budget.new ≡ 0)) }
     ensures spends { IfOk result (λ found. (budget.new ≤ budget.old) × LookedMore P.looked progress.old progress.new (budget.old - budget.new)) }
 {

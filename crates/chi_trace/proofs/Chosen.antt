@@ -117,14 +117,14 @@ nowhere p x i all out = by_number (times_in x i) refl
     by_number (suc n) is = absurd (true≢false (sym (of_member (λ j. p j ≡ true) x i all (omega (arith, is))) ∙ out))
 
 -- from the operations told by themselves to the trace
-pub told_there : (trace : List Observed) (left : ℕ → Bool) (places : List ℕ) (w : ℕ) (final : Option ℕ) → HasEach left places → (order : List ℕ)
-    → Finishes (chosen trace places) (is_place (chosen trace places)) w final order → Finishes trace left w final (map (slice_index places) order)
-told_there trace left places w final each order h = record {
+pub told_there : (trace : List Observed) (left : ℕ → Bool) (places : List ℕ) (w : ℕ) (final_word : Option ℕ) → HasEach left places → (order : List ℕ)
+    → Finishes (chosen trace places) (is_place (chosen trace places)) w final_word order → Finishes trace left w final_word (map (slice_index places) order)
+told_there trace left places w final_word each order h = record {
   done = λ i. done i (left i) refl;
   once = λ i. once i (left i) refl;
   times = in_time_moved own trace f order moves h.times;
   plays = play_moved own trace f w order moves h.plays;
-  ending = IfSome_then final h.ending (λ v is_v. last_moved own trace f w order moves ∙ is_v);
+  ending = IfSome_then final_word h.ending (λ v is_v. last_moved own trace f w order moves ∙ is_v);
 }
   where
     own : List Observed
@@ -164,17 +164,17 @@ told_there trace left places w final each order h = record {
         omega (arith, moved i is, h.once k, ap one_if (index_place trace places k (place_of left places i each is).0))
 
 -- and back
-pub told_back : (trace : List Observed) (left : ℕ → Bool) (places : List ℕ) (w : ℕ) (final : Option ℕ) → HasEach left places → (order : List ℕ)
-    → Finishes trace left w final order
-    → (own : List ℕ) × Finishes (chosen trace places) (is_place (chosen trace places)) w final own × (order ≡ map (slice_index places) own)
-told_back trace left places w final each order h = (
+pub told_back : (trace : List Observed) (left : ℕ → Bool) (places : List ℕ) (w : ℕ) (final_word : Option ℕ) → HasEach left places → (order : List ℕ)
+    → Finishes trace left w final_word order
+    → (own : List ℕ) × Finishes (chosen trace places) (is_place (chosen trace places)) w final_word own × (order ≡ map (slice_index places) own)
+told_back trace left places w final_word each order h = (
   map g order,
   record {
     done = λ k. done k (is_place own k) refl;
     once = λ k. once k (is_place own k) refl;
     times = in_time_moved trace own g order moves h.times;
     plays = play_moved trace own g w order moves h.plays;
-    ending = IfSome_then final h.ending (λ v is_v. last_moved trace own g w order moves ∙ is_v);
+    ending = IfSome_then final_word h.ending (λ v is_v. last_moved trace own g w order moves ∙ is_v);
   },
   same_order order are_left,
 )

@@ -13,9 +13,9 @@ use Rattle.chi_trace.proofs.Known.{AreKnown, answers_known, in_time_known}
 use Rattle.chi_trace.proofs.Orders.{observed_at, places_of}
 use Rattle.chi_trace.proofs.Places.{of_member}
 
-pub cut_is_explained : (opening : Memory) (final : ℕ → Option ℕ) (ts : List Observed) (x : List ℕ) (time : ℕ) → IsTrace ts
-    → Explains opening final ts x → Explains opening unobserved (cut time ts) (before ts time x)
-cut_is_explained opening final ts x time is e = record {
+pub cut_is_explained : (opening : Memory) (final_words : ℕ → Option ℕ) (ts : List Observed) (x : List ℕ) (time : ℕ) → IsTrace ts
+    → Explains opening final_words ts x → Explains opening unobserved (cut time ts) (before ts time x)
+cut_is_explained opening final_words ts x time is e = record {
   done = done;
   once = once;
   times = in_time_known ts time ys y same (in_time_before ts time x e.times);

@@ -59,18 +59,18 @@ project trace g (i ∷ order) m is is_m places answers =
     by_test false outside d here h = absurd (true≢false (sym place ∙ outside))
 
 -- what an order of the whole trace has of a granule explains it, and leaves its word
-pub part_explains : (opening : Memory) (final : ℕ → Option ℕ) (trace : List Observed) (order : List ℕ) → IsMemory opening → IsTrace trace
-    → Explains opening final trace order → (g : ℕ)
-    → ExplainsGranule trace g (word_of opening g) (final g) (filter (is_of trace g) order)
+pub part_explains : (opening : Memory) (final_words : ℕ → Option ℕ) (trace : List Observed) (order : List ℕ) → IsMemory opening → IsTrace trace
+    → Explains opening final_words trace order → (g : ℕ)
+    → ExplainsGranule trace g (word_of opening g) (final_words g) (filter (is_of trace g) order)
     × (word_of (memory_after trace opening order) g ≡ last_word trace (word_of opening g) (filter (is_of trace g) order))
-part_explains opening final trace order is_m is e g =
+part_explains opening final_words trace order is_m is e g =
     let part = project trace g order opening is is_m (places_of trace order e.once) e.answers in (
       record {
         done = λ i. rw (times_in-filter (is_of trace g) order i) (done i (is_place trace i) (is_answered (at trace i)) (granule_of (at trace i) == g) (e.done i));
         once = λ i. rw (times_in-filter (is_of trace g) order i) (once i (is_place trace i) (granule_of (at trace i) == g) (e.once i));
         times = IsInTime-filter trace (is_of trace g) order e.times;
         plays = part.0;
-        ending = IfSome_then (final g) (e.ending g) (λ w is_w. sym part.1 ∙ is_w);
+        ending = IfSome_then (final_words g) (e.ending g) (λ w is_w. sym part.1 ∙ is_w);
       },
       part.1,
     )

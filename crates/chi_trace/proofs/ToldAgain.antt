@@ -120,15 +120,15 @@ places_told trace ops g moved =
     (own.0, own.1, λ i. times_permuted (places_in trace g) own.0 i own.2 ∙ each_in trace g i)
 
 -- so they can be explained by themselves exactly where they can in the trace
-pub told_again : (trace ops : List Observed) (g w : ℕ) (final : Option ℕ) → IsPermutation (filter (is_in g) trace) ops
-    → ((order : List ℕ) × ExplainsGranule trace g w final order) ↔ ((order : List ℕ) × Finishes ops (is_place ops) w final order)
-told_again trace ops g w final moved = (
-  λ h. let own = told_back trace (is_of trace g) there.0 w final there.2 h.0 h.1 in (own.0, subst (Told own.0) there.1 own.1),
-  λ h. (map (slice_index there.0) h.0, told_there trace (is_of trace g) there.0 w final there.2 h.0 (subst (Told h.0) (sym there.1) h.1)),
+pub told_again : (trace ops : List Observed) (g w : ℕ) (final_word : Option ℕ) → IsPermutation (filter (is_in g) trace) ops
+    → ((order : List ℕ) × ExplainsGranule trace g w final_word order) ↔ ((order : List ℕ) × Finishes ops (is_place ops) w final_word order)
+told_again trace ops g w final_word moved = (
+  λ h. let own = told_back trace (is_of trace g) there.0 w final_word there.2 h.0 h.1 in (own.0, subst (Told own.0) there.1 own.1),
+  λ h. (map (slice_index there.0) h.0, told_there trace (is_of trace g) there.0 w final_word there.2 h.0 (subst (Told h.0) (sym there.1) h.1)),
 )
   where
     there : (places : List ℕ) × (chosen trace places ≡ ops) × ((i : ℕ) → times_in places i ≡ one_if (is_of trace g i))
     there = places_told trace ops g moved
 
     Told : List ℕ → List Observed → Type 0
-    Told order l = Finishes l (is_place l) w final order
+    Told order l = Finishes l (is_place l) w final_word order

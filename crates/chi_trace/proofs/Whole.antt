@@ -29,18 +29,18 @@ times_in-part : (trace : List Observed) (order : List ℕ) (i : ℕ) → is_of t
 times_in-part trace order i own = times_in-filter (is_of trace (granule_of (at trace i))) order i ∙ ap (λ (b : Bool). cond b (times_in order i) 0) own
 
 -- an order in time of places of the trace explains it where each granule's part explains the granule, and leaves its word
-pub parts_join : (opening : Memory) (final : ℕ → Option ℕ) (trace : List Observed) (order : List ℕ) → IsMemory opening → IsTrace trace
+pub parts_join : (opening : Memory) (final_words : ℕ → Option ℕ) (trace : List Observed) (order : List ℕ) → IsMemory opening → IsTrace trace
     → ArePlaces trace order → IsInTime trace order
-    → ((g : ℕ) → ExplainsGranule trace g (word_of opening g) (final g) (filter (is_of trace g) order))
-    → Explains opening final trace order
+    → ((g : ℕ) → ExplainsGranule trace g (word_of opening g) (final_words g) (filter (is_of trace g) order))
+    → Explains opening final_words trace order
     × ((g : ℕ) → word_of (memory_after trace opening order) g ≡ last_word trace (word_of opening g) (filter (is_of trace g) order))
-parts_join opening final trace order is_m is places times each = (
+parts_join opening final_words trace order is_m is places times each = (
   record {
     done = λ i. done i (is_place trace i) refl;
     once = λ i. once i (is_place trace i) refl;
     times = times;
     answers = assemble trace order opening is is_m places plays;
-    ending = λ g. IfSome_then (final g) (each g).ending (λ w is_w. last g ∙ is_w);
+    ending = λ g. IfSome_then (final_words g) (each g).ending (λ w is_w. last g ∙ is_w);
   },
   last,
 )
@@ -68,21 +68,21 @@ parts_join opening final trace order is_m is places times each = (
     once i false place = omega (arith, absent trace order i places place)
 
 -- the same of orders that were given for the granules, where the whole order keeps each
-pub orders_join : (opening : Memory) (final : ℕ → Option ℕ) (trace : List Observed) (orders : ℕ → List ℕ) (order : List ℕ) → IsMemory opening → IsTrace trace
+pub orders_join : (opening : Memory) (final_words : ℕ → Option ℕ) (trace : List Observed) (orders : ℕ → List ℕ) (order : List ℕ) → IsMemory opening → IsTrace trace
     → ArePlaces trace order → IsInTime trace order → ((g : ℕ) → filter (is_of trace g) order ≡ orders g)
-    → ((g : ℕ) → ExplainsGranule trace g (word_of opening g) (final g) (orders g))
-    → Explains opening final trace order
+    → ((g : ℕ) → ExplainsGranule trace g (word_of opening g) (final_words g) (orders g))
+    → Explains opening final_words trace order
     × ((g : ℕ) → (filter (is_of trace g) order ≡ orders g)
     × (word_of (memory_after trace opening order) g ≡ last_word trace (word_of opening g) (orders g)))
-orders_join opening final trace orders order is_m is places times kept each =
+orders_join opening final_words trace orders order is_m is places times kept each =
     let joined =
-    parts_join opening final trace order is_m is places times
-    (λ g. subst (λ (x : List ℕ). ExplainsGranule trace g (word_of opening g) (final g) x) (sym (kept g)) (each g)) in
+    parts_join opening final_words trace order is_m is places times
+    (λ g. subst (λ (x : List ℕ). ExplainsGranule trace g (word_of opening g) (final_words g) x) (sym (kept g)) (each g)) in
     (joined.0, λ g. (kept g, joined.1 g ∙ ap (last_word trace (word_of opening g)) (kept g)))
 
 -- a trace can be explained exactly where each granule's operations can
 pub granules_explained : OrdersOfGranulesExplain → PartsExplain → GranulesExplain
-granules_explained whole parts opening final trace is_m is = (
-  λ each. let explained = whole opening final trace (λ g. (each g).0) is_m is (λ g. (each g).1) in (explained.0, explained.1),
-  λ explained g. (filter (is_of trace g) explained.0, (parts opening final trace explained.0 is_m is explained.1 g).0),
+granules_explained whole parts opening final_words trace is_m is = (
+  λ each. let explained = whole opening final_words trace (λ g. (each g).0) is_m is (λ g. (each g).1) in (explained.0, explained.1),
+  λ explained g. (filter (is_of trace g) explained.0, (parts opening final_words trace explained.0 is_m is explained.1 g).0),
 )

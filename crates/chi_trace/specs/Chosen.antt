@@ -14,11 +14,11 @@ chosen trace places = map (at trace) places
 -- The operations that a test leaves may be told by themselves, in any order: `places` has each place that it leaves once.
 -- What finishes them, by its places, is what finishes them in the trace.
 abbrev pub PlacesExplain : Type 0
-PlacesExplain = (trace : List Observed) (left : ℕ → Bool) (places : List ℕ) (w : ℕ) (final : Option ℕ) → ((i : ℕ) → times_in places i ≡ one_if (left i))
-    → ((order : List ℕ) → Finishes (chosen trace places) (is_place (chosen trace places)) w final order
-    → Finishes trace left w final (map (slice_index places) order))
-    × ((order : List ℕ) → Finishes trace left w final order
-    → (own : List ℕ) × Finishes (chosen trace places) (is_place (chosen trace places)) w final own × (order ≡ map (slice_index places) own))
+PlacesExplain = (trace : List Observed) (left : ℕ → Bool) (places : List ℕ) (w : ℕ) (final_word : Option ℕ) → ((i : ℕ) → times_in places i ≡ one_if (left i))
+    → ((order : List ℕ) → Finishes (chosen trace places) (is_place (chosen trace places)) w final_word order
+    → Finishes trace left w final_word (map (slice_index places) order))
+    × ((order : List ℕ) → Finishes trace left w final_word order
+    → (own : List ℕ) × Finishes (chosen trace places) (is_place (chosen trace places)) w final_word own × (order ≡ map (slice_index places) own))
 
 -- the operation is one of the granule
 abbrev pub is_in : ℕ → Observed → Bool
@@ -26,5 +26,5 @@ is_in g op = granule_of op == g
 
 -- A granule's operations can be explained exactly where they can by themselves, told in any order.
 abbrev pub GranulesTold : Type 0
-GranulesTold = (trace ops : List Observed) (g w : ℕ) (final : Option ℕ) → IsPermutation (filter (is_in g) trace) ops
-    → ((order : List ℕ) × ExplainsGranule trace g w final order) ↔ ((order : List ℕ) × Finishes ops (is_place ops) w final order)
+GranulesTold = (trace ops : List Observed) (g w : ℕ) (final_word : Option ℕ) → IsPermutation (filter (is_in g) trace) ops
+    → ((order : List ℕ) × ExplainsGranule trace g w final_word order) ↔ ((order : List ℕ) × Finishes ops (is_place ops) w final_word order)

@@ -61,12 +61,12 @@ word_of m g = word_at m (8 * g)
 -- The order explains the trace: each operation whose reply was seen stands in it once, and each other at most once, since
 -- it may have taken effect or not; none stands before one that ended before it started; each reply that was seen is the
 -- memory's answer; and the memory is left with the words that were observed at the end.
-pub record Explains (opening : Memory) (final : ℕ → Option ℕ) (trace : List Observed) (order : List ℕ) : Type 0 where
+pub record Explains (opening : Memory) (final_words : ℕ → Option ℕ) (trace : List Observed) (order : List ℕ) : Type 0 where
   pub done : (i : ℕ) → one_if (is_place trace i && is_answered (at trace i)) ≤ times_in order i
   pub once : (i : ℕ) → times_in order i ≤ one_if (is_place trace i)
   pub times : IsInTime trace order
   pub answers : Answers trace opening order
-  pub ending : (g : ℕ) → IfSome (final g) (λ w. word_of (memory_after trace opening order) g ≡ w)
+  pub ending : (g : ℕ) → IfSome (final_words g) (λ w. word_of (memory_after trace opening order) g ≡ w)
 
 -- no words were observed at the end
 abbrev pub unobserved : ℕ → Option ℕ

@@ -36,12 +36,12 @@ last_word trace w (i ∷ order) = last_word trace (next (at trace i) w) order
 -- The order finishes the operations of a trace that are left, from a word on: each whose reply was seen stands in it once,
 -- each other at most once, and none that is not left; none stands before one that ended before it started; each fits; and
 -- the last word is the one that was observed, where one was.
-pub record Finishes (trace : List Observed) (left : ℕ → Bool) (w : ℕ) (final : Option ℕ) (order : List ℕ) : Type 0 where
+pub record Finishes (trace : List Observed) (left : ℕ → Bool) (w : ℕ) (final_word : Option ℕ) (order : List ℕ) : Type 0 where
   pub done : (i : ℕ) → one_if (left i && is_answered (at trace i)) ≤ times_in order i
   pub once : (i : ℕ) → times_in order i ≤ one_if (left i)
   pub times : IsInTime trace order
   pub plays : Play trace w order
-  pub ending : IfSome final (λ v. last_word trace w order ≡ v)
+  pub ending : IfSome final_word (λ v. last_word trace w order ≡ v)
 
 -- the operations of a granule
 abbrev pub is_of : List Observed → ℕ → ℕ → Bool
@@ -49,4 +49,4 @@ is_of trace g i = is_place trace i && (granule_of (at trace i) == g)
 
 -- the order explains the operations of one granule, from its word at the opening on
 abbrev pub ExplainsGranule : List Observed → ℕ → ℕ → Option ℕ → List ℕ → Type 0
-ExplainsGranule trace g w final order = Finishes trace (is_of trace g) w final order
+ExplainsGranule trace g w final_word order = Finishes trace (is_of trace g) w final_word order

@@ -13,8 +13,8 @@ use Rattle.chi_trace.specs.Granules.{ExplainsGranule, is_of, last_word}
 
 -- A trace that is explained is so up to each time.
 abbrev pub CutsAreExplained : Type 0
-CutsAreExplained = (opening : Memory) (final : ℕ → Option ℕ) (trace : List Observed) (order : List ℕ) (time : ℕ) → IsTrace trace
-    → Explains opening final trace order → (before : List ℕ) × Explains opening unobserved (cut time trace) before
+CutsAreExplained = (opening : Memory) (final_words : ℕ → Option ℕ) (trace : List Observed) (order : List ℕ) (time : ℕ) → IsTrace trace
+    → Explains opening final_words trace order → (before : List ℕ) × Explains opening unobserved (cut time trace) before
 
 -- the entries are the operations in this order, each with its reply where that was seen
 unfoldable pub AreEntries : List Observed → List ℕ → List Entry → Type 0
@@ -30,37 +30,37 @@ CouldServe o trace = (i : ℕ) → IsTrue (is_place trace i) → ((at trace i).s
 -- Behind what explains a trace stands a legal history of the home: its operations in this order, with the replies that
 -- were seen, and the memory's where none was. It leaves the same memory.
 abbrev pub ExplanationsAreLegal : Type 0
-ExplanationsAreLegal = (o : Opening) (final : ℕ → Option ℕ) (trace : List Observed) (order : List ℕ) → IsTrace trace → CouldServe o trace
-    → Explains (opening_memory o) final trace order
+ExplanationsAreLegal = (o : Opening) (final_words : ℕ → Option ℕ) (trace : List Observed) (order : List ℕ) → IsTrace trace → CouldServe o trace
+    → Explains (opening_memory o) final_words trace order
     → (h : List Entry) × IsLegal o h × AreEntries trace order h × (end o h ≡ memory_after trace (opening_memory o) order)
 
 -- A trace can be explained exactly where each granule's operations can.
 abbrev pub GranulesExplain : Type 0
-GranulesExplain = (opening : Memory) (final : ℕ → Option ℕ) (trace : List Observed) → IsMemory opening → IsTrace trace
-    → ((g : ℕ) → (order : List ℕ) × ExplainsGranule trace g (word_of opening g) (final g) order)
-    ↔ ((order : List ℕ) × Explains opening final trace order)
+GranulesExplain = (opening : Memory) (final_words : ℕ → Option ℕ) (trace : List Observed) → IsMemory opening → IsTrace trace
+    → ((g : ℕ) → (order : List ℕ) × ExplainsGranule trace g (word_of opening g) (final_words g) order)
+    ↔ ((order : List ℕ) × Explains opening final_words trace order)
 
 -- Orders of the granules' operations make one of the whole trace, in which each keeps its order, and which leaves each
 -- granule's word.
 abbrev pub OrdersOfGranulesExplain : Type 0
-OrdersOfGranulesExplain = (opening : Memory) (final : ℕ → Option ℕ) (trace : List Observed) (orders : ℕ → List ℕ) → IsMemory opening → IsTrace trace
-    → ((g : ℕ) → ExplainsGranule trace g (word_of opening g) (final g) (orders g))
-    → (order : List ℕ) × Explains opening final trace order
+OrdersOfGranulesExplain = (opening : Memory) (final_words : ℕ → Option ℕ) (trace : List Observed) (orders : ℕ → List ℕ) → IsMemory opening → IsTrace trace
+    → ((g : ℕ) → ExplainsGranule trace g (word_of opening g) (final_words g) (orders g))
+    → (order : List ℕ) × Explains opening final_words trace order
     × ((g : ℕ) → (filter (is_of trace g) order ≡ orders g)
     × (word_of (memory_after trace opening order) g ≡ last_word trace (word_of opening g) (orders g)))
 
 -- The other way round: what an order of the whole trace has of a granule explains it, and leaves its word.
 abbrev pub PartsExplain : Type 0
-PartsExplain = (opening : Memory) (final : ℕ → Option ℕ) (trace : List Observed) (order : List ℕ) → IsMemory opening → IsTrace trace
-    → Explains opening final trace order → (g : ℕ)
-    → ExplainsGranule trace g (word_of opening g) (final g) (filter (is_of trace g) order)
+PartsExplain = (opening : Memory) (final_words : ℕ → Option ℕ) (trace : List Observed) (order : List ℕ) → IsMemory opening → IsTrace trace
+    → Explains opening final_words trace order → (g : ℕ)
+    → ExplainsGranule trace g (word_of opening g) (final_words g) (filter (is_of trace g) order)
     × (word_of (memory_after trace opening order) g ≡ last_word trace (word_of opening g) (filter (is_of trace g) order))
 
 -- An order in time of places of the trace explains it where what it has of each granule explains the granule, and it leaves
 -- each granule's word.
 abbrev pub PartsJoin : Type 0
-PartsJoin = (opening : Memory) (final : ℕ → Option ℕ) (trace : List Observed) (order : List ℕ) → IsMemory opening → IsTrace trace
+PartsJoin = (opening : Memory) (final_words : ℕ → Option ℕ) (trace : List Observed) (order : List ℕ) → IsMemory opening → IsTrace trace
     → All (λ i. is_place trace i ≡ true) order → IsInTime trace order
-    → ((g : ℕ) → ExplainsGranule trace g (word_of opening g) (final g) (filter (is_of trace g) order))
-    → Explains opening final trace order
+    → ((g : ℕ) → ExplainsGranule trace g (word_of opening g) (final_words g) (filter (is_of trace g) order))
+    → Explains opening final_words trace order
     × ((g : ℕ) → word_of (memory_after trace opening order) g ≡ last_word trace (word_of opening g) (filter (is_of trace g) order))

@@ -18,27 +18,27 @@ use Rattle.chi_verdict.specs.Walks.{IsPast}
 use Rattle.chi_verdict.specs.Words.{told, word_told}
 
 -- the walk goes past one granule, from the first to the second of two places and of two words
-pub record Passes (places : List Placed) (from to : ℕ) (finals : List GranuleWord) (word next : ℕ) (g : ℕ) : Type 0 where
-  pub least : (h : ℕ) → h < g → IsPast places from finals word h
-  pub there : IsPast places from finals word g → ⊥
+pub record Passes (places : List Placed) (from to : ℕ) (final_words : List GranuleWord) (word next : ℕ) (g : ℕ) : Type 0 where
+  pub least : (h : ℕ) → h < g → IsPast places from final_words word h
+  pub there : IsPast places from final_words word g → ⊥
   pub from_to : from ≤ to
   pub own : All (λ p. p.granule ≡ g) (take (to - from) (drop from places))
   pub later : All (λ p. g < p.granule) (drop to places)
   pub word_next : word ≤ next
-  pub own_words : All (λ w. w.granule ≡ g) (take (next - word) (drop word finals))
-  pub later_words : All (λ w. g < w.granule) (drop next finals)
+  pub own_words : All (λ w. w.granule ≡ g) (take (next - word) (drop word final_words))
+  pub later_words : All (λ w. g < w.granule) (drop next final_words)
 
 -- Each operation that the walk has passed stands at a point between its start and its end, in the order of its granule. Where
 -- none was undecided, those of each granule that was passed are explained.
-pub record Walked (opening finals : List GranuleWord) (ops : List Observed) (places : List Placed) (from word : ℕ) (undecided : Option ℕ) (points : List Point) : Type 0 where
-  pub behind : All (λ p. IsPast places from finals word p.granule) (take from places)
-  pub behind_words : All (λ w. IsPast places from finals word w.granule) (take word finals)
+pub record Walked (opening final_words : List GranuleWord) (ops : List Observed) (places : List Placed) (from word : ℕ) (undecided : Option ℕ) (points : List Point) : Type 0 where
+  pub behind : All (λ p. IsPast places from final_words word p.granule) (take from places)
+  pub behind_words : All (λ w. IsPast places from final_words word w.granule) (take word final_words)
   pub pointed : ArePoints ops points
   pub ordered : AreOrdered ops points
   pub inside : All (λ p. is_place ops p.place ≡ true) points
-  pub past : All (λ p. IsPast places from finals word (granule_of (at ops p.place))) points
-  pub explained : undecided ≡ None → (g : ℕ) → IsPast places from finals word g
-      → ExplainsGranule ops g (word_told opening g) (told finals g) (filter (is_of ops g) (order_of points))
+  pub past : All (λ p. IsPast places from final_words word (granule_of (at ops p.place))) points
+  pub explained : undecided ≡ None → (g : ℕ) → IsPast places from final_words word g
+      → ExplainsGranule ops g (word_told opening g) (told final_words g) (filter (is_of ops g) (order_of points))
 
 -- what is above each number below g is at least g
 pub no_lower : {X : Type 0} (n : X → ℕ) (xs : List X) (g : ℕ) → ((h : ℕ) → h < g → All (λ x. h < n x) xs) → All (λ x. g ≤ n x) xs
@@ -46,11 +46,11 @@ no_lower n xs zero least k d under = omega arith
 no_lower n xs (suc h) least k d under = let above = least h (omega arith) k d under in omega (arith, above)
 
 -- what was passed is below what was not
-pub past_below : (places : List Placed) (from : ℕ) (finals : List GranuleWord) (word g h : ℕ) → (IsPast places from finals word g → ⊥)
-    → IsPast places from finals word h → h < g
-past_below places from finals word g h there past = by_test (nat_lt h g) refl
+pub past_below : (places : List Placed) (from : ℕ) (final_words : List GranuleWord) (word g h : ℕ) → (IsPast places from final_words word g → ⊥)
+    → IsPast places from final_words word h → h < g
+past_below places from final_words word g h there past = by_test (nat_lt h g) refl
   where
-    lower : nat_lt h g ≡ false → IsPast places from finals word g
+    lower : nat_lt h g ≡ false → IsPast places from final_words word g
     lower is = (λ k d under. let above = past.0 k d under in grind (arith, nat_tests, is, above), λ k d under. let above = past.1 k d under in grind (arith, nat_tests, is, above))
 
     by_test : (b : Bool) → nat_lt h g ≡ b → h < g
@@ -58,9 +58,9 @@ past_below places from finals word g h there past = by_test (nat_lt h g) refl
     by_test false is = absurd (there (lower is))
 
 -- the granule and those before it are passed
-pub now_past : (places : List Placed) (from to : ℕ) (finals : List GranuleWord) (word next g h : ℕ) → Passes places from to finals word next g → h ≤ g
-    → IsPast places to finals next h
-now_past places from to finals word next g h passes below =
+pub now_past : (places : List Placed) (from to : ℕ) (final_words : List GranuleWord) (word next g h : ℕ) → Passes places from to final_words word next g → h ≤ g
+    → IsPast places to final_words next h
+now_past places from to final_words word next g h passes below =
     (λ k d under. let above = passes.later k d under in omega (arith, above, below), λ k d under. let above = passes.later_words k d under in omega (arith, above, below))
 
 -- the first of a list and what follows it, up to a later place
@@ -118,9 +118,9 @@ not_there ops places g grouped none i = by_test (is_place ops i) refl (granule_o
     by_test false inside d here = ap (λ b. b && (granule_of (at ops i) == g)) inside
 
 -- where none is left and no word was observed, no operation is the order
-pub untouched : (ops : List Observed) (g w : ℕ) (final : Option ℕ) → ((i : ℕ) → is_of ops g i ≡ false) → final ≡ None → ExplainsGranule ops g w final []
+pub untouched : (ops : List Observed) (g w : ℕ) (final_word : Option ℕ) → ((i : ℕ) → is_of ops g i ≡ false) → final_word ≡ None → ExplainsGranule ops g w final_word []
 unfolding times_in IsInTime Play
-untouched ops g w final none unseen = record {
+untouched ops g w final_word none unseen = record {
   done = λ i. subst (λ b. one_if (b && is_answered (at ops i)) ≤ 0) (sym (none i)) (omega arith);
   once = λ i. omega arith;
   times = tt;
@@ -163,13 +163,13 @@ own_granule ops g i own = by_test (is_place ops i) refl (granule_of (at ops i) =
     by_test false inside d here = absurd (true≢false (sym own ∙ ap (λ b. b && (granule_of (at ops i) == g)) inside))
 
 -- the walk comes further
-pub further : (places : List Placed) (from to : ℕ) (finals : List GranuleWord) (word next g : ℕ) → Passes places from to finals word next g
-    → to ≤ length places → next ≤ length finals
-    → (length places - to) + (length finals - next) < (length places - from) + (length finals - word)
-further places from to finals word next g passes within within_words = by_test (nat_lt from to) refl (nat_lt word next) refl
+pub further : (places : List Placed) (from to : ℕ) (final_words : List GranuleWord) (word next g : ℕ) → Passes places from to final_words word next g
+    → to ≤ length places → next ≤ length final_words
+    → (length places - to) + (length final_words - next) < (length places - from) + (length final_words - word)
+further places from to final_words word next g passes within within_words = by_test (nat_lt from to) refl (nat_lt word next) refl
   where
     by_test : (b : Bool) → nat_lt from to ≡ b → (c : Bool) → nat_lt word next ≡ c
-        → (length places - to) + (length finals - next) < (length places - from) + (length finals - word)
+        → (length places - to) + (length final_words - next) < (length places - from) + (length final_words - word)
     by_test true above c is = let less : from < to = grind (arith, nat_tests, above) in let more = passes.word_next in omega (arith, less, more, within, within_words)
     by_test false is true above = let less : word < next = grind (arith, nat_tests, above) in let more = passes.from_to in omega (arith, less, more, within, within_words)
     by_test false is false stays =
@@ -179,5 +179,5 @@ further places from to finals word next g passes within within_words = by_test (
         let there : next ≡ word = grind (arith, nat_tests, stays, ahead_words) in
         absurd (passes.there (
           subst (λ (n : ℕ). All (λ (p : Placed). g < p.granule) (drop n places)) here passes.later,
-          subst (λ (n : ℕ). All (λ (w : GranuleWord). g < w.granule) (drop n finals)) there passes.later_words,
+          subst (λ (n : ℕ). All (λ (w : GranuleWord). g < w.granule) (drop n final_words)) there passes.later_words,
         ))

@@ -18,11 +18,11 @@ known_at time t = record t { operations = cut time t.operations }
 
 -- the order explains the operations from the words at the opening, and leaves the words that were observed at the end
 abbrev pub IsExplained : TraceValue → List GranuleWord → List ℕ → Type 0
-IsExplained t finals order = Explains (memory_of t.opening) (told finals) t.operations order
+IsExplained t final_words order = Explains (memory_of t.opening) (told final_words) t.operations order
 
 -- the order explains the operations of this granule alone
 abbrev pub IsExplainedIn : TraceValue → List GranuleWord → ℕ → List ℕ → Type 0
-IsExplainedIn t finals g order = ExplainsGranule t.operations g (word_told t.opening g) (told finals g) order
+IsExplainedIn t final_words g order = ExplainsGranule t.operations g (word_told t.opening g) (told final_words g) order
 
 -- the same where no words were observed at the end
 abbrev pub IsLegal : TraceValue → List ℕ → Type 0

@@ -5,4 +5,4 @@ use Rattle.chi_verdict.specs.declared.words.GranuleWord.{GranuleWord}
 
 -- the walk has passed a granule: each operation and each word that is still to come is of a later one
 abbrev pub IsPast : List Placed → ℕ → List GranuleWord → ℕ → ℕ → Type 0
-IsPast places from finals told g = All (λ p. g < p.granule) (drop from places) × All (λ w. g < w.granule) (drop told finals)
+IsPast places from final_words told g = All (λ p. g < p.granule) (drop from places) × All (λ w. g < w.granule) (drop told final_words)

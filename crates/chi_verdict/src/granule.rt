@@ -41,21 +41,21 @@ pub(crate) fn search_granule<P: Progress>(
     ops: &[Observed],
     group: &Group,
     word: u64,
-    last: Option<u64>,
+    final_word: Option<u64>,
     budget: &mut u64,
     progress: &mut P,
 ) -> Result<Found, AllocError>
     requires traced { IsTrace ops.now }
     requires grouped { IsGrouped ops.now (is_of ops.now group.now.granule) group.now.run.now }
-    ensures order { IfOk result (λ found. IfOrder found (λ order. ExplainsGranule ops.now group.now.granule word last order)) }
-    ensures nothing { IfOk result (λ found. IfNothing found ((order : List ℕ) → ExplainsGranule ops.now group.now.granule word last order → ⊥)) }
+    ensures order { IfOk result (λ found. IfOrder found (λ order. ExplainsGranule ops.now group.now.granule word final_word order)) }
+    ensures nothing { IfOk result (λ found. IfNothing found ((order : List ℕ) → ExplainsGranule ops.now group.now.granule word final_word order → ⊥)) }
     ensures undecided { IfOk result (λ found. IfUndecided found (budget.new ≡ 0)) }
     ensures spends { IfOk result (λ found. (budget.new ≤ budget.old) × LookedMore P.looked progress.old progress.new (budget.old - budget.new)) }
 {
     let run = group.run;
     let own = chosen(alloc, ops, run)?;
     places_explain();
-    match order_of(alloc, &own, word, last, budget, progress)? {
+    match order_of(alloc, &own, word, final_word, budget, progress)? {
         Found::Order(places) => {
             let mut order = Vec::with_capacity(alloc, places.len())?;
             for place in &places {

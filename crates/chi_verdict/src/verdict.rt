@@ -34,22 +34,22 @@ pub enum Verdict {
 pub(crate) fn explain_operations<P: Progress>(
     alloc: Global,
     opening: &GranuleWords,
-    finals: &GranuleWords,
+    final_words: &GranuleWords,
     ops: &[Observed],
     budget: u64,
     progress: &mut P,
 ) -> Result<Verdict, AllocError>
     requires words { AreWords opening.now }
     requires traced { IsTrace ops.now }
-    ensures explained { IfOk result (λ verdict. IfExplained verdict (λ order. Explains (memory_of opening.now) (told finals.now) ops.now order)) }
-    ensures unexplained { IfOk result (λ verdict. IfUnexplained verdict (λ granule. (order : List ℕ) → Explains (memory_of opening.now) (told finals.now) ops.now order → ⊥)) }
-    ensures granule { IfOk result (λ verdict. IfUnexplained verdict (λ granule. (order : List ℕ) → ExplainsGranule ops.now granule (word_told opening.now granule) (told finals.now granule) order → ⊥)) }
+    ensures explained { IfOk result (λ verdict. IfExplained verdict (λ order. Explains (memory_of opening.now) (told final_words.now) ops.now order)) }
+    ensures unexplained { IfOk result (λ verdict. IfUnexplained verdict (λ granule. (order : List ℕ) → Explains (memory_of opening.now) (told final_words.now) ops.now order → ⊥)) }
+    ensures granule { IfOk result (λ verdict. IfUnexplained verdict (λ granule. (order : List ℕ) → ExplainsGranule ops.now granule (word_told opening.now granule) (told final_words.now granule) order → ⊥)) }
     ensures undecided { IfOk result (λ verdict. IfUndecided verdict (λ states. states ≡ budget)) }
     ensures spent { IfOk result (λ verdict. LookedForVerdict P.looked progress.old progress.new verdict) }
 {
     let grouped = by_granule(alloc, ops)?;
     let places = grouped.as_slice();
-    let words = finals.as_slice();
+    let words = final_words.as_slice();
     parts_explain();
     parts_join();
     let mut points: Vec<Point> = Vec::with_capacity(alloc, ops.len())?;
@@ -63,13 +63,13 @@ pub(crate) fn explain_operations<P: Progress>(
             run: &places[from..to],
         };
         let mut left = budget;
-        let last = finals.get(granule);
+        let final_word = final_words.get(granule);
         match search_granule(
             alloc,
             ops,
             &group,
             opening.word(granule),
-            last,
+            final_word,
             &mut left,
             progress,
         )? {
@@ -107,20 +107,20 @@ pub(crate) fn explain_operations<P: Progress>(
 pub fn explain<P: Progress>(
     alloc: Global,
     trace: &Trace,
-    finals: &GranuleWords,
+    final_words: &GranuleWords,
     budget: u64,
     progress: &mut P,
 ) -> Result<Verdict, AllocError>
-    ensures explained { IfOk result (λ verdict. IfExplained verdict (IsExplained trace.now finals.now)) }
-    ensures unexplained { IfOk result (λ verdict. IfUnexplained verdict (λ granule. (order : List ℕ) → IsExplained trace.now finals.now order → ⊥)) }
-    ensures granule { IfOk result (λ verdict. IfUnexplained verdict (λ granule. (order : List ℕ) → IsExplainedIn trace.now finals.now granule order → ⊥)) }
+    ensures explained { IfOk result (λ verdict. IfExplained verdict (IsExplained trace.now final_words.now)) }
+    ensures unexplained { IfOk result (λ verdict. IfUnexplained verdict (λ granule. (order : List ℕ) → IsExplained trace.now final_words.now order → ⊥)) }
+    ensures granule { IfOk result (λ verdict. IfUnexplained verdict (λ granule. (order : List ℕ) → IsExplainedIn trace.now final_words.now granule order → ⊥)) }
     ensures undecided { IfOk result (λ verdict. IfUndecided verdict (λ states. states ≡ budget)) }
     ensures spent { IfOk result (λ verdict. LookedForVerdict P.looked progress.old progress.new verdict) }
 {
     explain_operations(
         alloc,
         trace.opening(),
-        finals,
+        final_words,
         trace.operations(),
         budget,
         progress,

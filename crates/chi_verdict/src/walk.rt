@@ -12,16 +12,16 @@ use crate::words::GranuleWord;
 pub(crate) fn next_granule(
     places: &[Placed],
     from: usize,
-    finals: &[GranuleWord],
+    final_words: &[GranuleWord],
     told: usize,
 ) -> Option<u64>
     requires places { IsNonDecreasingBy (λ (p : Placed). p.granule) places.now }
-    requires finals { AreInOrder finals.now }
-    ensures least { IfSome result (λ g. (h : ℕ) → h < g → IsPast places.now from finals.now told h) }
-    ensures there { IfSome result (λ g. IsPast places.now from finals.now told g → ⊥) }
-    ensures none { result ≡ None → (h : ℕ) → IsPast places.now from finals.now told h }
+    requires final_words { AreInOrder final_words.now }
+    ensures least { IfSome result (λ g. (h : ℕ) → h < g → IsPast places.now from final_words.now told h) }
+    ensures there { IfSome result (λ g. IsPast places.now from final_words.now told g → ⊥) }
+    ensures none { result ≡ None → (h : ℕ) → IsPast places.now from final_words.now told h }
 {
-    match (places.get(from), finals.get(told)) {
+    match (places.get(from), final_words.get(told)) {
         (Some(placed), Some(last)) => Some(placed.granule.min(last.granule)),
         (Some(placed), None) => Some(placed.granule),
         (None, Some(last)) => Some(last.granule),
@@ -47,16 +47,16 @@ pub(crate) fn past_granule(places: &[Placed], from: usize, granule: u64) -> usiz
 }
 
 /// The place after the word of a granule, where that is the one that stands here.
-pub(crate) fn past_word(finals: &[GranuleWord], told: usize, granule: u64) -> usize
-    requires finals { AreInOrder finals.now }
-    requires told { told ≤ length finals.now }
-    requires least { All (λ w. granule ≤ w.granule) (drop told finals.now) }
+pub(crate) fn past_word(final_words: &[GranuleWord], told: usize, granule: u64) -> usize
+    requires final_words { AreInOrder final_words.now }
+    requires told { told ≤ length final_words.now }
+    requires least { All (λ w. granule ≤ w.granule) (drop told final_words.now) }
     ensures from { told ≤ result }
-    ensures within { result ≤ length finals.now }
-    ensures own { All (λ w. w.granule ≡ granule) (take (result - told) (drop told finals.now)) }
-    ensures later { All (λ w. granule < w.granule) (drop result finals.now) }
+    ensures within { result ≤ length final_words.now }
+    ensures own { All (λ w. w.granule ≡ granule) (take (result - told) (drop told final_words.now)) }
+    ensures later { All (λ w. granule < w.granule) (drop result final_words.now) }
 {
-    match finals.get(told) {
+    match final_words.get(told) {
         Some(last) => {
             if last.granule == granule {
                 told + 1

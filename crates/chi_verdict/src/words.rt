@@ -41,7 +41,7 @@ impl GranuleWords {
     /// No word of any granule.
     ///
     /// ```
-    /// let finals = GranuleWords::none(alloc);
+    /// let final_words = GranuleWords::none(alloc);
     /// ```
     pub fn none(alloc: Global) -> GranuleWords
         ensures { result ≡ [] }
@@ -106,7 +106,7 @@ impl GranuleWords {
     /// The word that is told of a granule, where one is.
     ///
     /// ```
-    /// let word = finals.get(0x1000 / 8);
+    /// let word = final_words.get(0x1000 / 8);
     /// ```
     pub fn get(&self, granule: u64) -> Option<u64>
         ensures { result ≡ told self.now granule }

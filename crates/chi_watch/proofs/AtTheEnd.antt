@@ -18,7 +18,7 @@ use Rattle.chi_trace.specs.declared.observed.Observed.{Observed}
 use Rattle.chi_verdict.specs.Words.{told, word_told}
 use Rattle.chi_watch.specs.Endings.{AreToldTo, CanClose, IsExplainable, IsInexplicableAt, IsListed}
 use Rattle.chi_watch.specs.Followed.{IsWord}
-use Rattle.chi_watch.specs.Judged.{IsExplained, finals, is_known, openings}
+use Rattle.chi_watch.specs.Judged.{IsExplained, final_words, is_known, openings}
 use Rattle.chi_watch.specs.Quiet.{CanBeExplained}
 use Rattle.chi_watch.specs.Reaching.{IsFoundAtEnd, IsFoundIn, IsOfSomeTrace, ReachesBy, granules_of}
 use Rattle.chi_watch.specs.Watches.{HasTaken, IsGranuleOf, IsUnexplained, Watches, WatchValue, granule}
@@ -39,7 +39,7 @@ operations_of ended w g = filter (is_in g) (ended ++ filter_map open_operation w
 
 -- they lead to a word that may have been its last
 abbrev SomeWordFits : List Event → List Observed → WatchValue → ℕ → Type 0
-SomeWordFits events ended w g = (v : ℕ) × SomeLeads (operations_of ended w g) (word_told (openings events) g ∷ []) v × IsWord (told (finals events) g) v
+SomeWordFits events ended w g = (v : ℕ) × SomeLeads (operations_of ended w g) (word_told (openings events) g ∷ []) v × IsWord (told (final_words events) g) v
 
 module _ (events : List Event) (ended : List Observed) (w : WatchValue) (new : ℕ → Option Followed) (is : Watches events ended w) (closed : AreClosed w new) where
   parted : (g : ℕ) → filter (is_in g) ended ++ own_open g w.outstanding.requests ≡ operations_of ended w g
@@ -50,7 +50,7 @@ module _ (events : List Event) (ended : List Observed) (w : WatchValue) (new : �
     known : f.is_known ≡ is_known events g
     follows : is_known events g ≡ true → Follows (word_told (openings events) g ∷ []) (operations_of ended w g) f.frontier
     recent : is_known events g ≡ true → Keeps (word_told (openings events) g ∷ []) (operations_of ended w g) (2 ^ 64 - 1) f.recent
-    last : f.last ≡ told (finals events) g
+    final_word : f.final_word ≡ told (final_words events) g
 
   followed : (g : ℕ) (a : Option Followed) (f : Followed) → IsGranuleOf events ended w.outstanding g a → AreToldTo (own_open g w.outstanding.requests) a (Some f) → IsFollowed g f
   followed g None f was more = absurd more
@@ -63,7 +63,7 @@ module _ (events : List Event) (ended : List Observed) (w : WatchValue) (new : �
         subst (λ l. Keeps (word_told (openings events) g ∷ []) l (2 ^ 64 - 1) f.recent) (parted g)
         (more.recent (was.known ∙ known) (word_told (openings events) g ∷ []) (filter (is_in g) ended)
         (keeps_later (word_told (openings events) g ∷ []) (filter (is_in g) ended) w.outstanding.time before.recent (was.recent (was.known ∙ known)) (2 ^ 64 - 1) (omega (arith, is.time))));
-    last = more.last ∙ was.last;
+    final_word = more.final_word ∙ was.final_word;
   }
 
   -- and the last of them are kept.
@@ -83,7 +83,7 @@ module _ (events : List Event) (ended : List Observed) (w : WatchValue) (new : �
     word_told (openings events) g,
     subst (λ l. SomeLeads l (word_told (openings events) g ∷ []) (word_told (openings events) g)) (sym (ap (λ l. l ++ own_open g w.outstanding.requests) was.none ∙ more) ∙ parted g)
         (leads_none (word_told (openings events) g)),
-    subst (λ o. IsWord o (word_told (openings events) g)) (sym was.last) tt,
+    subst (λ o. IsWord o (word_told (openings events) g)) (sym was.final_word) tt,
   )
 
   inexplicable : OperationsAreTold → GranulesTold → PartsExplain → (g : ℕ) → IsInexplicableAt (new g) → IsUnexplained events g
@@ -95,19 +95,19 @@ module _ (events : List Event) (ended : List Observed) (w : WatchValue) (new : �
           let own = followed g (granule w g) f (is.each g) more in
           let known : is_known events g ≡ true = sym own.known ∙ not.known in
           unexplained operations_law granules_law parts_law events ended w.outstanding g is.tells known
-          (λ v leads word. not.none (word_told (openings events) g ∷ []) _ (own.follows known) v leads (subst (λ o. IsWord o v) (sym own.last) word))
+          (λ v leads word. not.none (word_told (openings events) g ∷ []) _ (own.follows known) v leads (subst (λ o. IsWord o v) (sym own.final_word) word))
 
   found_here : OperationsAreTold → (found : FoundAtEnd) → IsUnexplained events found.granule → IsInexplicableAt (new found.granule) → IsFoundIn new found → IsFoundAtEnd events found
-  found_here operations_law found not none said = by_case (new found.granule) (closed found.granule) none said.last said.reach
+  found_here operations_law found not none said = by_case (new found.granule) (closed found.granule) none said.final_word said.reach
     where
       by_case : (b : Option Followed) → AreToldTo (own_open found.granule w.outstanding.requests) (granule w found.granule) b → IsInexplicableAt b
-          → IfSome b (λ f. found.last ≡ f.last) → IfSome b (λ f. ReachesBy f.recent found.reach) → IsFoundAtEnd events found
-      by_case None more none last reach = absurd none
-      by_case (Some f) more none last reach =
+          → IfSome b (λ f. found.final_word ≡ f.final_word) → IfSome b (λ f. ReachesBy f.recent found.reach) → IsFoundAtEnd events found
+      by_case None more none final_word reach = absurd none
+      by_case (Some f) more none final_word reach =
           let own = followed found.granule (granule w found.granule) f (is.each found.granule) more in
           record {
             unexplained = not;
-            last = last ∙ own.last;
+            final_word = final_word ∙ own.final_word;
             reach = reach (operations events) found.granule (word_told (openings events) found.granule) (closed_recent operations_law found.granule f own not.known);
           }
 
@@ -128,7 +128,7 @@ module _ (events : List Event) (ended : List Observed) (w : WatchValue) (new : �
   word_fits g known (Some f) more can =
       let own = followed g (granule w g) f (is.each g) more in
       let led = can (own.known ∙ known) (word_told (openings events) g ∷ []) _ (own.follows known) in
-      (led.0, led.1, subst (λ o. IsWord o led.0) own.last led.2)
+      (led.0, led.1, subst (λ o. IsWord o led.0) own.final_word led.2)
 
   explainable : OperationsAreTold → GranulesTold → GranulesExplain → ((g : ℕ) → IfSome (new g) IsExplainable) → IsExplained events
   explainable operations_law granules_law whole_law each =

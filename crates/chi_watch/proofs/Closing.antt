@@ -51,11 +51,11 @@ module _ (events : List Event) (ended : List Observed) (before after : Outstandi
         (keeps_later (word_told (openings events) g ∷ []) (filter (is_in g) ended) before.time f.recent (w.recent known) after.time (omega (arith, later, now)));
     recent_past = omega (arith, w.recent_past, later, now);
     recent_horizon = starts_on g f.recent.horizon w.recent_past w.recent_horizon;
-    last = w.last;
+    final_word = w.final_word;
   }
 
   stays_on : (g : ℕ) (x : Option Followed) (more : List Observed) → filter (is_in g) more ≡ filter (is_in g) ended → IsGranuleOf events ended before g x → IsGranuleOf events more after g x
-  stays_on g None more same w = record { known = w.known; none = same ∙ w.none; opening = w.opening; last = w.last }
+  stays_on g None more same w = record { known = w.known; none = same ∙ w.none; opening = w.opening; final_word = w.final_word }
   stays_on g (Some f) more same w = watched_on g f more same w
 
   -- where an operation of the granule ended
@@ -86,7 +86,7 @@ module _ (events : List Event) (ended : List Observed) (before after : Outstandi
           (keeps_later (word_told (openings events) g ∷ []) (filter (is_in g) ended ++ op ∷ []) op.end new.recent (kept so) after.time (omega (arith, ends.end, now)));
       recent_past = past old.recent.horizon new.recent.horizon w.recent_past t.recent_horizon;
       recent_horizon = starts old.recent.horizon new.recent.horizon w.recent_past w.recent_horizon t.recent_horizon;
-      last = t.last ∙ w.last;
+      final_word = t.final_word ∙ w.final_word;
     }
       where
         past : (from to : ℕ) → from ≤ before.time → (to ≤ horizon) ⊎ (to ≡ from) → to ≤ after.time
@@ -112,7 +112,7 @@ module _ (events : List Event) (ended : List Observed) (before after : Outstandi
       recent = λ known. absurd (true≢false (sym known ∙ unknown));
       recent_past = omega (arith, w.recent_past, later, now);
       recent_horizon = starts_on g old.recent.horizon w.recent_past w.recent_horizon;
-      last = w.last;
+      final_word = w.final_word;
     }
 
     closes_on : (old new : Followed) → IsToldIfKnown op horizon old new → IsWatched events ended before g old → IsWatched events (ended ++ op ∷ []) after g new

@@ -13,7 +13,7 @@ use Rattle.chi_trace.specs.declared.observed.Observed.{Observed}
 use Rattle.chi_verdict.specs.Words.{told, word_told}
 use Rattle.chi_watch.specs.Endings.{IsExplainable}
 use Rattle.chi_watch.specs.Followed.{IsWord}
-use Rattle.chi_watch.specs.Judged.{finals, is_known, openings}
+use Rattle.chi_watch.specs.Judged.{final_words, is_known, openings}
 use Rattle.chi_watch.specs.Quiet.{CanBeExplained}
 use Rattle.chi_watch.specs.Requests.{IsQuiet, granule_asked}
 use Rattle.chi_watch.specs.Watches.{HasTaken, IsFound, IsGranuleOf, IsUnexplained, IsWatched, WatchValue, granule}
@@ -44,7 +44,7 @@ found_is told granules parts events w are_open (ended, is) g found =
     unexplained told granules parts events ended w.outstanding g is.tells (sym watched.known ∙ found.known)
     (λ v leads word. found.none (word_told (openings events) g ∷ []) (filter (is_in g) ended) (watched.follows found.known) v
     (subst (λ (ops : List Observed). SomeLeads ops (word_told (openings events) g ∷ []) v) (alone events ended w are_open g found.quiet) leads)
-    (subst (λ (last : Option ℕ). IsWord last v) (sym watched.last) word))
+    (subst (λ (final_word : Option ℕ). IsWord final_word v) (sym watched.final_word) word))
   where
     watched : IsWatched events ended w.outstanding g found.followed
     watched = subst (IsGranuleOf events ended w.outstanding g) found.is (is.each g)
@@ -57,15 +57,15 @@ not_found_is operations_law granules_law A events w are_open (ended, is) g quiet
     word : ℕ
     word = word_told (openings events) g
 
-    explained : (v : ℕ) → SomeLeads (filter (is_in g) ended) (word ∷ []) v → IsWord (told (finals events) g) v → CanBeExplained events g
-    explained v leads last =
+    explained : (v : ℕ) → SomeLeads (filter (is_in g) ended) (word ∷ []) v → IsWord (told (final_words events) g) v → CanBeExplained events g
+    explained v leads final_word =
         one_explained operations_law granules_law events ended w.outstanding g is.tells known v
-        (subst (λ (ops : List Observed). SomeLeads ops (word ∷ []) v) (sym (alone events ended w are_open g quiet)) leads) last
+        (subst (λ (ops : List Observed). SomeLeads ops (word ∷ []) v) (sym (alone events ended w are_open g quiet)) leads) final_word
 
     by_case : (x : Option Followed) → IsGranuleOf events ended w.outstanding g x → IfSome x (λ f. IsExplainable f ⊎ A) → CanBeExplained events g ⊎ A
     by_case None was said =
-        inl (explained word (subst (λ (ops : List Observed). SomeLeads ops (word ∷ []) word) (sym was.none) (leads_none word)) (subst (λ last. IsWord last word) (sym was.last) tt))
+        inl (explained word (subst (λ (ops : List Observed). SomeLeads ops (word ∷ []) word) (sym was.none) (leads_none word)) (subst (λ final_word. IsWord final_word word) (sym was.final_word) tt))
     by_case (Some f) was (inl can) =
         let led = can (was.known ∙ known) (word ∷ []) (filter (is_in g) ended) (was.follows (was.known ∙ known)) in
-        inl (explained led.0 led.1 (subst (λ last. IsWord last led.0) was.last led.2))
+        inl (explained led.0 led.1 (subst (λ final_word. IsWord final_word led.0) was.final_word led.2))
     by_case (Some f) was (inr looked) = inr looked

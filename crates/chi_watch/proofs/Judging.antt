@@ -123,8 +123,8 @@ module _ {P : Type 0} (looked : P → ℕ → Type 0) (budget : ℕ) (get : ℕ 
 
     -- it was judged, and listed where it is not explained
     module _ (known : IsTrue f.is_known) (later : P) (next : Listed) where
-      pub listed : (s : Standing) → IfExplained s ((words : List ℕ) (told : List Observed) → Follows words told f.frontier → (v : ℕ) × SomeLeads told words v × IsWord f.last v)
-          → IfUnexplained s ((words : List ℕ) (told : List Observed) → Follows words told f.frontier → (v : ℕ) → SomeLeads told words v → IsWord f.last v → ⊥)
+      pub listed : (s : Standing) → IfExplained s ((words : List ℕ) (told : List Observed) → Follows words told f.frontier → (v : ℕ) × SomeLeads told words v × IsWord f.final_word v)
+          → IfUnexplained s ((words : List ℕ) (told : List Observed) → Follows words told f.frontier → (v : ℕ) → SomeLeads told words v → IsWord f.final_word v → ⊥)
           → IfUndecided s (LookedMore looked now later budget) → LookedSome looked now later → IsListedAs s g ending next → AreJudged later next rest
       listed Explained can none whole some (un, dec) = record {
         seen = are.seen ++ (g, f) ∷ [];

@@ -16,7 +16,7 @@ use Rattle.chi_verdict.specs.declared.words.GranuleWord.{GranuleWord}
 use Rattle.chi_verdict.specs.Words.{told, word_told}
 use Rattle.chi_watch.specs.declared.followed.Followed.{Followed}
 use Rattle.chi_watch.specs.Changes.{IsUntouched}
-use Rattle.chi_watch.specs.Judged.{covers, final_in, finals, is_known, opening_in, openings}
+use Rattle.chi_watch.specs.Judged.{covers, final_in, final_words, is_known, opening_in, openings}
 use Rattle.chi_watch.specs.Requests.{StartsBy, granule_asked}
 use Rattle.chi_watch.specs.Watches.{IsGranuleOf, IsWatched}
 
@@ -47,8 +47,8 @@ from_start o g horizon none = All-weaker (λ (p : Open). Unit {0}) (λ (p : Open
 
 -- a granule that is watched from now on
 pub begun : (events : List Event) (ended : List Observed) (o : OutstandingValue) (g word : ℕ) (f : Followed) → is_known events g ≡ true → filter (is_in g) ended ≡ [] → word_told (openings events) g ≡ word
-    → told (finals events) g ≡ None → IsUntouched word f → IsWatched events ended o g f
-begun events ended o g word f known none opening last u = record {
+    → told (final_words events) g ≡ None → IsUntouched word f → IsWatched events ended o g f
+begun events ended o g word f known none opening final_word u = record {
   known = u.known ∙ sym known;
   follows = λ so. subst (λ (w : ℕ). Follows (w ∷ []) (filter (is_in g) ended) f.frontier) (sym opening) (subst (λ (ops : List Observed). Follows (word ∷ []) ops f.frontier) (sym none) u.follows);
   latest = omega (arith, u.latest);
@@ -59,14 +59,14 @@ begun events ended o g word f known none opening last u = record {
       (subst (λ (ops : List Observed). Keeps (word ∷ []) ops o.time f.recent) (sym none) (keeps_later (word ∷ []) [] 0 f.recent u.recent o.time (omega arith)));
   recent_past = omega (arith, u.recent_horizon);
   recent_horizon = from_start o g f.recent.horizon u.recent_horizon;
-  last = u.last ∙ sym last;
+  final_word = u.final_word ∙ sym final_word;
 }
 
 module _ (events : List Event) (e : Event) where
   pub openings_more : openings (events ++ e ∷ []) ≡ openings events ++ openings (e ∷ [])
   openings_more = filter_map-append (λ (x : Event). opening_in x.kind) events (e ∷ [])
 
-  pub finals_more : finals (events ++ e ∷ []) ≡ finals events ++ finals (e ∷ [])
+  pub finals_more : final_words (events ++ e ∷ []) ≡ final_words events ++ final_words (e ∷ [])
   finals_more = filter_map-append (λ (x : Event). final_in x.kind) events (e ∷ [])
 
   known_more : (g : ℕ) (b : Bool) → covers g e.kind ≡ b → is_known (events ++ e ∷ []) g ≡ not (list_any (λ (x : Event). covers g x.kind) events || (b || false))
@@ -89,9 +89,9 @@ module _ (events : List Event) (e : Event) where
   module _ (ended : List Observed) (o : OutstandingValue) where
     -- where the event tells nothing of the granule
     pub retold : (g : ℕ) (x : Option Followed) → is_known (events ++ e ∷ []) g ≡ is_known events g → told (openings (events ++ e ∷ [])) g ≡ told (openings events) g
-        → told (finals (events ++ e ∷ [])) g ≡ told (finals events) g → IsGranuleOf events ended o g x → IsGranuleOf (events ++ e ∷ []) ended o g x
-    retold g None known opening last w = record { known = known ∙ w.known; none = w.none; opening = opening ∙ w.opening; last = last ∙ w.last }
-    retold g (Some f) known opening last w = record {
+        → told (final_words (events ++ e ∷ [])) g ≡ told (final_words events) g → IsGranuleOf events ended o g x → IsGranuleOf (events ++ e ∷ []) ended o g x
+    retold g None known opening final_word w = record { known = known ∙ w.known; none = w.none; opening = opening ∙ w.opening; final_word = final_word ∙ w.final_word }
+    retold g (Some f) known opening final_word w = record {
       known = w.known ∙ sym known;
       follows = λ so. subst (λ (word : Option ℕ). Follows (unwrap_or word 0 ∷ []) (filter (is_in g) ended) f.frontier) (sym opening) (w.follows so);
       latest = w.latest;
@@ -100,5 +100,5 @@ module _ (events : List Event) (e : Event) where
       recent = λ so. subst (λ (word : Option ℕ). Keeps (unwrap_or word 0 ∷ []) (filter (is_in g) ended) o.time f.recent) (sym opening) (w.recent so);
       recent_past = w.recent_past;
       recent_horizon = w.recent_horizon;
-      last = w.last ∙ sym last;
+      final_word = w.final_word ∙ sym final_word;
     }

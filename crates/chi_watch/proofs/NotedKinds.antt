@@ -13,9 +13,9 @@ use Rattle.chi_verdict.specs.declared.words.GranuleWord.{GranuleWord}
 use Rattle.chi_verdict.specs.Words.{told}
 use Rattle.chi_watch.specs.declared.followed.Followed.{Followed}
 use Rattle.chi_watch.specs.Changes.{IsForgotten, IsGone, IsNoted, IsSameOrUntouched, IsTouched, IsTouchedAndMarked}
-use Rattle.chi_watch.specs.Judged.{covers, final_in, finals, opening_in, openings}
+use Rattle.chi_watch.specs.Judged.{covers, final_in, final_words, opening_in, openings}
 use Rattle.chi_watch.specs.Requests.{StartsBy}
-use Rattle.chi_watch.specs.Watches.{IsGranuleOf, IsUntold, IsWatched, has_last}
+use Rattle.chi_watch.specs.Watches.{IsGranuleOf, IsUntold, IsWatched, has_final_word}
 use Rattle.chi_watch.proofs.Noted.{begun, finals_more, from_start, known_gone, known_same, openings_more, retold, told_other, told_own}
 
 one_none : {X Y : Type 0} (h : X → Option Y) (x : X) → h x ≡ None → filter_map h (x ∷ []) ≡ []
@@ -27,21 +27,21 @@ one_some h x y is = rw is refl
 -- what the granules must be for a word to be told
 abbrev pub Fits : EventKind → (ℕ → Option Followed) → Type 0
 Fits (Word told) old = old told.granule ≡ None
-Fits (Final told) old = has_last (old told.granule) ≡ false
+Fits (Final told) old = has_final_word (old told.granule) ≡ false
 Fits _ old = Unit {0}
 
 module _ (events : List Event) (e : Event) (ended : List Observed) (o : OutstandingValue) where
   no_opening : opening_in e.kind ≡ None → (g : ℕ) → told (openings (events ++ e ∷ [])) g ≡ told (openings events) g
   no_opening none g = ap (λ (words : List GranuleWord). told words g) (openings_more events e ∙ (ap (λ words. openings events ++ words) (one_none (λ (x : Event). opening_in x.kind) e none) ∙ append-nil (openings events)))
 
-  no_final : final_in e.kind ≡ None → (g : ℕ) → told (finals (events ++ e ∷ [])) g ≡ told (finals events) g
-  no_final none g = ap (λ (words : List GranuleWord). told words g) (finals_more events e ∙ (ap (λ words. finals events ++ words) (one_none (λ (x : Event). final_in x.kind) e none) ∙ append-nil (finals events)))
+  no_final : final_in e.kind ≡ None → (g : ℕ) → told (final_words (events ++ e ∷ [])) g ≡ told (final_words events) g
+  no_final none g = ap (λ (words : List GranuleWord). told words g) (finals_more events e ∙ (ap (λ words. final_words events ++ words) (one_none (λ (x : Event). final_in x.kind) e none) ∙ append-nil (final_words events)))
 
   one_opening : (w : GranuleWord) → opening_in e.kind ≡ Some w → openings (events ++ e ∷ []) ≡ openings events ++ w ∷ []
   one_opening w some = openings_more events e ∙ ap (λ words. openings events ++ words) (one_some (λ (x : Event). opening_in x.kind) e w some)
 
-  one_final : (w : GranuleWord) → final_in e.kind ≡ Some w → finals (events ++ e ∷ []) ≡ finals events ++ w ∷ []
-  one_final w some = finals_more events e ∙ ap (λ words. finals events ++ words) (one_some (λ (x : Event). final_in x.kind) e w some)
+  one_final : (w : GranuleWord) → final_in e.kind ≡ Some w → final_words (events ++ e ∷ []) ≡ final_words events ++ w ∷ []
+  one_final w some = finals_more events e ∙ ap (λ words. final_words events ++ words) (one_some (λ (x : Event). final_in x.kind) e w some)
 
   abbrev Is : ℕ → Option Followed → Type 0
   Is g x = IsGranuleOf events ended o g x
@@ -56,7 +56,7 @@ module _ (events : List Event) (e : Event) (ended : List Observed) (o : Outstand
   -- a granule that is watched from its first request on
   requested_own : opening_in e.kind ≡ None → final_in e.kind ≡ None → (g : ℕ) → covers g e.kind ≡ false → (x : Option Followed) (f : Followed) → IsSameOrUntouched 0 x f → Is g x → Will g (Some f)
   requested_own none none_final g other None f was w =
-      begun (events ++ e ∷ []) ended o g 0 f (known_same events e g other ∙ w.known) w.none (ap (λ (word : Option ℕ). unwrap_or word 0) (no_opening none g ∙ w.opening)) (no_final none_final g ∙ w.last) was
+      begun (events ++ e ∷ []) ended o g 0 f (known_same events e g other ∙ w.known) w.none (ap (λ (word : Option ℕ). unwrap_or word 0) (no_opening none g ∙ w.opening)) (no_final none_final g ∙ w.final_word) was
   requested_own none none_final g other (Some old) f was w = subst (λ (y : Followed). Will g (Some y)) (sym was) (passes none none_final g (Some old) other w)
 
   module _ (old new : ℕ → Option Followed) (each : (g : ℕ) → Is g (old g)) where
@@ -83,14 +83,14 @@ module _ (events : List Event) (e : Event) (ended : List Observed) (o : Outstand
         (no_final (ap final_in is) g) (each g)))
         (moved w.granule (Some t.followed) t.is (begun (events ++ e ∷ []) ended o w.granule w.word t.followed (known_same events e w.granule (ap (covers w.granule) is) ∙ untold.known) untold.none
         (ap (λ (word : Option ℕ). unwrap_or word 0) (ap (λ (words : List GranuleWord). told words w.granule) (one_opening w (ap opening_in is)) ∙ told_own (openings events) w untold.opening))
-        (no_final (ap final_in is) w.granule ∙ untold.last) (subst (λ (x : Option Followed). IsSameOrUntouched w.word x t.followed) none t.was)))
+        (no_final (ap final_in is) w.granule ∙ untold.final_word) (subst (λ (x : Option Followed). IsSameOrUntouched w.word x t.followed) none t.was)))
       where
         untold : IsUntold events ended w.granule
         untold = subst (Is w.granule) none (each w.granule)
 
     -- a word after the last request
-    last_told : (w : GranuleWord) → e.kind ≡ Final w → (f : Followed) → IsWatched events ended o w.granule f → f.last ≡ None → Will w.granule (Some (record f { last = Some w.word }))
-    last_told w is f base none = record {
+    final_told : (w : GranuleWord) → e.kind ≡ Final w → (f : Followed) → IsWatched events ended o w.granule f → f.final_word ≡ None → Will w.granule (Some (record f { final_word = Some w.word }))
+    final_told w is f base none = record {
       known = base.known ∙ sym (known_same events e w.granule (ap (covers w.granule) is));
       follows = λ so. subst (λ (word : Option ℕ). Follows (unwrap_or word 0 ∷ []) (filter (is_in w.granule) ended) f.frontier) (sym (no_opening (ap opening_in is) w.granule)) (base.follows so);
       latest = base.latest;
@@ -99,30 +99,30 @@ module _ (events : List Event) (e : Event) (ended : List Observed) (o : Outstand
       recent = λ so. subst (λ (word : Option ℕ). Keeps (unwrap_or word 0 ∷ []) (filter (is_in w.granule) ended) o.time f.recent) (sym (no_opening (ap opening_in is) w.granule)) (base.recent so);
       recent_past = base.recent_past;
       recent_horizon = base.recent_horizon;
-      last = sym (ap (λ (words : List GranuleWord). told words w.granule) (one_final w (ap final_in is)) ∙ told_own (finals events) w (sym base.last ∙ none));
+      final_word = sym (ap (λ (words : List GranuleWord). told words w.granule) (one_final w (ap final_in is)) ∙ told_own (final_words events) w (sym base.final_word ∙ none));
     }
 
-    last_own : (w : GranuleWord) → e.kind ≡ Final w → (x : Option Followed) (f : Followed) → IsSameOrUntouched 0 x f → has_last x ≡ false → Is w.granule x
-        → Will w.granule (Some (record f { last = Some w.word }))
-    last_own w is None f u none untold =
-        last_told w is f (begun events ended o w.granule 0 f untold.known untold.none (ap (λ (word : Option ℕ). unwrap_or word 0) untold.opening) untold.last u) u.last
-    last_own w is (Some before) f same none watched =
-        last_told w is f (subst (IsWatched events ended o w.granule) (sym same) watched) (ap (λ (y : Followed). y.last) same ∙ no_last before.last none)
+    final_own : (w : GranuleWord) → e.kind ≡ Final w → (x : Option Followed) (f : Followed) → IsSameOrUntouched 0 x f → has_final_word x ≡ false → Is w.granule x
+        → Will w.granule (Some (record f { final_word = Some w.word }))
+    final_own w is None f u none untold =
+        final_told w is f (begun events ended o w.granule 0 f untold.known untold.none (ap (λ (word : Option ℕ). unwrap_or word 0) untold.opening) untold.final_word u) u.final_word
+    final_own w is (Some before) f same none watched =
+        final_told w is f (subst (IsWatched events ended o w.granule) (sym same) watched) (ap (λ (y : Followed). y.final_word) same ∙ no_final_word before.final_word none)
       where
-        no_last : (x : Option ℕ) → is_some x ≡ false → x ≡ None
-        no_last None so = refl
-        no_last (Some v) so = absurd (true≢false so)
+        no_final_word : (x : Option ℕ) → is_some x ≡ false → x ≡ None
+        no_final_word None so = refl
+        no_final_word (Some v) so = absurd (true≢false so)
 
-    ended_with : (w : GranuleWord) → e.kind ≡ Final w → has_last (old w.granule) ≡ false → IsTouchedAndMarked w.granule (λ f. record f { last = Some w.word }) old new → (g : ℕ) → Will g (new g)
+    ended_with : (w : GranuleWord) → e.kind ≡ Final w → has_final_word (old w.granule) ≡ false → IsTouchedAndMarked w.granule (λ f. record f { final_word = Some w.word }) old new → (g : ℕ) → Will g (new g)
     ended_with w is none t = by_other w.granule
         (λ g other. moved g (old g) (t.others g other) (retold events e ended o g (old g) (known_same events e g (ap (covers g) is)) (no_opening (ap opening_in is) g)
-        (ap (λ (words : List GranuleWord). told words g) (one_final w (ap final_in is)) ∙ told_other (finals events) w g (ne_eqb w.granule g (λ same. other (sym same)))) (each g)))
-        (moved w.granule (Some (record t.followed { last = Some w.word })) t.is (last_own w is (old w.granule) t.followed t.was none (each w.granule)))
+        (ap (λ (words : List GranuleWord). told words g) (one_final w (ap final_in is)) ∙ told_other (final_words events) w g (ne_eqb w.granule g (λ same. other (sym same)))) (each g)))
+        (moved w.granule (Some (record t.followed { final_word = Some w.word })) t.is (final_own w is (old w.granule) t.followed t.was none (each w.granule)))
 
     -- something that is not told
     gone : opening_in e.kind ≡ None → final_in e.kind ≡ None → (g : ℕ) → covers g e.kind ≡ true → (x y : Option Followed) → IsGone x y → Is g x → Will g y
     gone none none_final g covered x None was w = absurd was
-    gone none none_final g covered None (Some f) (unknown, horizon, latest, last, recent) w = record {
+    gone none none_final g covered None (Some f) (unknown, horizon, latest, final_word, recent) w = record {
       known = unknown ∙ sym (known_gone events e g covered);
       follows = λ known. absurd (true≢false (sym known ∙ unknown));
       latest = omega (arith, latest);
@@ -131,9 +131,9 @@ module _ (events : List Event) (e : Event) (ended : List Observed) (o : Outstand
       recent = λ known. absurd (true≢false (sym known ∙ unknown));
       recent_past = omega (arith, recent);
       recent_horizon = from_start o g f.recent.horizon recent;
-      last = last ∙ sym (no_final none_final g ∙ w.last);
+      final_word = final_word ∙ sym (no_final none_final g ∙ w.final_word);
     }
-    gone none none_final g covered (Some before) (Some f) (unknown, frontier, last, recent) w = record {
+    gone none none_final g covered (Some before) (Some f) (unknown, frontier, final_word, recent) w = record {
       known = unknown ∙ sym (known_gone events e g covered);
       follows = λ known. absurd (true≢false (sym known ∙ unknown));
       latest = subst (λ (s : FrontierValue). s.latest ≤ o.time) (sym frontier) w.latest;
@@ -142,7 +142,7 @@ module _ (events : List Event) (e : Event) (ended : List Observed) (o : Outstand
       recent = λ known. absurd (true≢false (sym known ∙ unknown));
       recent_past = subst (λ (r : RecentValue). r.horizon ≤ o.time) (sym recent) w.recent_past;
       recent_horizon = subst (λ (r : RecentValue). StartsBy o.requests g r.horizon) (sym recent) w.recent_horizon;
-      last = last ∙ (w.last ∙ sym (no_final none_final g));
+      final_word = final_word ∙ (w.final_word ∙ sym (no_final none_final g));
     }
 
     forgotten : opening_in e.kind ≡ None → final_in e.kind ≡ None → ((g : ℕ) → IsForgotten (covers g e.kind) (old g) (new g)) → (g : ℕ) → Will g (new g)

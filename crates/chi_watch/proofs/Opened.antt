@@ -47,7 +47,7 @@ module _ (op : Observed) (lasting : op.start ≤ op.end) (within : op.access.add
     follows = λ known. (is.told known (can_end f takes)).follows;
     recent = λ known words told kept.
         subst (λ n. Keeps words (told ++ op ∷ []) n h.recent) end ((is.told known (can_end f takes)).recent words told (subst (λ n. Keeps words told n f.recent) (sym end) kept));
-    last = is.last;
+    final_word = is.final_word;
     known = by_known f.is_known refl;
   }
     where

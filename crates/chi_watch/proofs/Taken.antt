@@ -17,7 +17,7 @@ use Rattle.chi_watch.specs.declared.fault.WatchFault.TheVariants as fault
 use Rattle.chi_watch.specs.Changes.{IsClosed, IsClosedBy, IsGone, IsNoted, OthersStay}
 use Rattle.chi_watch.specs.Judged.{covers}
 use Rattle.chi_watch.specs.Requests.{granule_asked}
-use Rattle.chi_watch.specs.Watches.{WatchValue, Watches, granule, granule_fault, has_last}
+use Rattle.chi_watch.specs.Watches.{WatchValue, Watches, granule, granule_fault, has_final_word}
 use Rattle.chi_watch.proofs.Closing.{closed}
 use Rattle.chi_watch.proofs.NotedKinds.{Fits, noted}
 
@@ -36,18 +36,18 @@ module _ (requests : List Open) (old new : ℕ → Option Followed) where
       by_granule true same = let is : g ≡ granule_of op = eqb-true g (granule_of op) same in rw is (own (old (granule_of op)) (new (granule_of op)) more.own)
       by_granule false other = ap is_some (more.others g (λ same. absurd (true≢false (sym (eq-eqb g (granule_of op) same) ∙ other))))
 
-  same_last : (op : Option Observed) → IsClosedBy op requests old new → (g : ℕ) → has_last (new g) ≡ has_last (old g)
-  same_last None t g = ap has_last (t g)
-  same_last (Some op) (horizon, early, earliest, more) g = by_granule (g == granule_of op) refl
+  same_final_word : (op : Option Observed) → IsClosedBy op requests old new → (g : ℕ) → has_final_word (new g) ≡ has_final_word (old g)
+  same_final_word None t g = ap has_final_word (t g)
+  same_final_word (Some op) (horizon, early, earliest, more) g = by_granule (g == granule_of op) refl
     where
-      own : (x y : Option Followed) → IsClosed op horizon x y → has_last y ≡ has_last x
-      own None y is = ap has_last is
+      own : (x y : Option Followed) → IsClosed op horizon x y → has_final_word y ≡ has_final_word x
+      own None y is = ap has_final_word is
       own (Some x) None is = absurd is
-      own (Some x) (Some y) is = ap is_some is.last
+      own (Some x) (Some y) is = ap is_some is.final_word
 
-      by_granule : (b : Bool) → (g == granule_of op) ≡ b → has_last (new g) ≡ has_last (old g)
+      by_granule : (b : Bool) → (g == granule_of op) ≡ b → has_final_word (new g) ≡ has_final_word (old g)
       by_granule true same = let is : g ≡ granule_of op = eqb-true g (granule_of op) same in rw is (own (old (granule_of op)) (new (granule_of op)) more.own)
-      by_granule false other = ap has_last (more.others g (λ same. absurd (true≢false (sym (eq-eqb g (granule_of op) same) ∙ other))))
+      by_granule false other = ap has_final_word (more.others g (λ same. absurd (true≢false (sym (eq-eqb g (granule_of op) same) ∙ other))))
 
 -- a granule that is watched stays so
 module _ (old new : ℕ → Option Followed) where
@@ -61,7 +61,7 @@ module _ (old new : ℕ → Option Followed) where
   noted_some : (k : EventKind) → IsNoted k old new → (g : ℕ) → IsTrue (is_some (old g)) → IsTrue (is_some (new g))
   noted_some (Request r) t g some = others_some (r.asked.addr / 8) t.followed t.is t.others g some
   noted_some (Word w) t g some = others_some w.granule t.followed t.is t.others g some
-  noted_some (Final w) t g some = others_some w.granule (record t.followed { last = Some w.word }) t.is t.others g some
+  noted_some (Final w) t g some = others_some w.granule (record t.followed { final_word = Some w.word }) t.is t.others g some
   noted_some (Unknown addr len) t g some = by_test (covers g (Unknown addr len)) refl
     where
       is_gone : (x y : Option Followed) → IsGone x y → IsTrue (is_some y)
@@ -94,9 +94,9 @@ none_is : {X : Type 0} (x : Option X) → is_some x ≡ false → x ≡ None
 none_is None is = refl
 none_is (Some x) is = absurd (true≢false is)
 
-module _ (events : List Event) (ended : List Observed) (w : WatchValue) (e : Event) (o : OutstandingValue) (op : Option Observed) (mid : ℕ → Option Followed) (last : List (ℕ × Followed)) (count : ℕ) where
+module _ (events : List Event) (ended : List Observed) (w : WatchValue) (e : Event) (o : OutstandingValue) (op : Option Observed) (mid : ℕ → Option Followed) (final_word : List (ℕ × Followed)) (count : ℕ) where
   abbrev now : WatchValue
-  now = record { outstanding = o; granules = last; ended = count }
+  now = record { outstanding = o; granules = final_word; ended = count }
 
   -- one operation more had ended, if one did
   counted : count ≡ min (w.ended + length (option_to_list op)) (2 ^ 64 - 1) → w.ended ≡ min (length ended) (2 ^ 64 - 1) → count ≡ min (length (ended ++ option_to_list op)) (2 ^ 64 - 1)
@@ -105,8 +105,8 @@ module _ (events : List Event) (ended : List Observed) (w : WatchValue) (e : Eve
   fits : IsClosedBy op o.requests (granule w) mid → (k : EventKind) → granule_fault w k ≡ None → Fits k mid
   fits c (Word told) is = none_is (mid told.granule) (same_some o.requests (granule w) mid op c told.granule ∙ none_of (is_some (granule w told.granule)) fault.WordLate None is)
   fits c (Final told) is =
-      same_last o.requests (granule w) mid op c told.granule
-      ∙ none_of (has_last (granule w told.granule)) fault.FinalTwice (if list_any (λ p. granule_asked p == told.granule) w.outstanding.requests then Some fault.FinalEarly else None) is
+      same_final_word o.requests (granule w) mid op c told.granule
+      ∙ none_of (has_final_word (granule w told.granule)) fault.FinalTwice (if list_any (λ p. granule_asked p == told.granule) w.outstanding.requests then Some fault.FinalEarly else None) is
   fits c (Request r) is = tt
   fits c (Unknown addr len) is = tt
   fits c (Data p) is = tt

@@ -20,7 +20,7 @@ told_none None = refl
 told_none (Some f) = record {
   follows = λ known words told follows. subst (λ l. Follows words l f.frontier) (sym (append-nil told)) follows;
   recent = λ known words told kept. subst (λ l. Keeps words l (2 ^ 64 - 1) f.recent) (sym (append-nil told)) kept;
-  last = refl;
+  final_word = refl;
   known = refl;
 }
 
@@ -37,7 +37,7 @@ told_more xs ys (Some f) (Some g) (Some h) first second = record {
   recent = λ known words told kept.
       subst (λ l. Keeps words l (2 ^ 64 - 1) h.recent) (append_assoc told xs ys)
       (second.recent (first.known ∙ known) words (told ++ xs) (first.recent known words told kept));
-  last = second.last ∙ first.last;
+  final_word = second.final_word ∙ first.final_word;
   known = second.known ∙ first.known;
 }
 

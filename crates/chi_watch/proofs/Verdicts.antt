@@ -22,7 +22,7 @@ use Rattle.chi_trace.specs.declared.observed.Observed.{Observed}
 use Rattle.chi_verdict.specs.Words.{AreWords, memory_of, told, word_told}
 use Rattle.chi_verdict.proofs.Memory.{IsMemory-memory_of, word_of-memory_of}
 use Rattle.chi_watch.specs.Followed.{IsWord}
-use Rattle.chi_watch.specs.Judged.{IsExplained, final_of, finals, is_known, judged, opening_in, openings}
+use Rattle.chi_watch.specs.Judged.{IsExplained, final_of, final_words, is_known, judged, opening_in, openings}
 use Rattle.chi_watch.specs.Quiet.{CanBeExplained}
 use Rattle.chi_watch.specs.Requests.{IsQuiet, granule_asked}
 use Rattle.chi_watch.specs.Watches.{IsUnexplained}
@@ -83,13 +83,13 @@ kept_none q g is (op ∷ ops) = by_tests (q (granule_of op)) (granule_of op == g
     by_tests false b passes own rest = rest
 
 -- an order that explains a granule leads to a word that may have been its last
-leads_from : GranulesTold → (trace ops : List Observed) (g w : ℕ) (last : Option ℕ) → IsPermutation (filter (is_in g) trace) ops
-    → (order : List ℕ) → ExplainsGranule trace g w last order → (v : ℕ) × SomeLeads ops (w ∷ []) v × IsWord last v
-leads_from law trace ops g w last moved order explains =
-    let own = (law trace ops g w last moved).0 (order, explains) in (
+leads_from : GranulesTold → (trace ops : List Observed) (g w : ℕ) (final_word : Option ℕ) → IsPermutation (filter (is_in g) trace) ops
+    → (order : List ℕ) → ExplainsGranule trace g w final_word order → (v : ℕ) × SomeLeads ops (w ∷ []) v × IsWord final_word v
+leads_from law trace ops g w final_word moved order explains =
+    let own = (law trace ops g w final_word moved).0 (order, explains) in (
       last_word ops w own.0,
       (w, Contains-get_or (w ∷ []) 0 0 (omega arith), (own.0, record { done = own.1.done; once = own.1.once; times = own.1.times; plays = own.1.plays; ending = refl })),
-      by_last last (last_word ops w own.0) own.1.ending,
+      by_last final_word (last_word ops w own.0) own.1.ending,
     )
   where
     by_last : (o : Option ℕ) (v : ℕ) → IfSome o (λ u. v ≡ u) → IsWord o v
@@ -97,13 +97,13 @@ leads_from law trace ops g w last moved order explains =
     by_last (Some u) v is = sym is
 
 -- and the other way round
-explains_from : GranulesTold → (trace ops : List Observed) (g w : ℕ) (last : Option ℕ) → IsPermutation (filter (is_in g) trace) ops
-    → (v : ℕ) → SomeLeads ops (w ∷ []) v → IsWord last v → (order : List ℕ) × ExplainsGranule trace g w last order
-explains_from law trace ops g w last moved v (u, one, (order, finishes)) is =
+explains_from : GranulesTold → (trace ops : List Observed) (g w : ℕ) (final_word : Option ℕ) → IsPermutation (filter (is_in g) trace) ops
+    → (v : ℕ) → SomeLeads ops (w ∷ []) v → IsWord final_word v → (order : List ℕ) × ExplainsGranule trace g w final_word order
+explains_from law trace ops g w final_word moved v (u, one, (order, finishes)) is =
     let first = All-contains (λ x. x ≡ w) (w ∷ []) u (All-cons (λ x. x ≡ w) w [] refl (All-nil (λ x. x ≡ w))) one in
     let led : Finishes ops (is_place ops) w (Some v) order = subst (λ x. Finishes ops (is_place ops) x (Some v) order) first finishes in
-    (law trace ops g w last moved).1
-    (order, record { done = led.done; once = led.once; times = led.times; plays = led.plays; ending = by_last last (last_word ops w order) led.ending is })
+    (law trace ops g w final_word moved).1
+    (order, record { done = led.done; once = led.once; times = led.times; plays = led.plays; ending = by_last final_word (last_word ops w order) led.ending is })
   where
     by_last : (o : Option ℕ) (x : ℕ) → x ≡ v → IsWord o v → IfSome o (λ y. x ≡ y)
     by_last None x same last_is = tt
@@ -132,7 +132,7 @@ all_judged law events ended o g tells known =
 -- Where the operations of a granule lead to no word that may have been its last, they are not explained.
 pub unexplained : OperationsAreTold → GranulesTold → PartsExplain → (events : List Event) (ended : List Observed) (o : OutstandingValue) (g : ℕ)
     → Tells events ended o → is_known events g ≡ true
-    → ((v : ℕ) → SomeLeads (filter (is_in g) (ended ++ filter_map open_operation o.requests)) (word_told (openings events) g ∷ []) v → IsWord (told (finals events) g) v → ⊥)
+    → ((v : ℕ) → SomeLeads (filter (is_in g) (ended ++ filter_map open_operation o.requests)) (word_told (openings events) g ∷ []) v → IsWord (told (final_words events) g) v → ⊥)
     → IsUnexplained events g
 unexplained operations_law granules_law parts_law events ended o g tells known none = record {
   known = known;
@@ -148,15 +148,15 @@ unexplained operations_law granules_law parts_law events ended o g tells known n
     refuted : (trace : List Observed) → IsPermutation (filter (is_in g) trace) (filter (is_in g) (ended ++ filter_map open_operation o.requests))
         → (order : List ℕ) → ExplainsGranule trace g (word_told (openings events) g) (final_of events g) order → ⊥
     refuted trace moved order explains =
-        let last : final_of events g ≡ told (finals events) g = ap (λ b. cond b (told (finals events) g) None) known in
-        let led = leads_from granules_law trace _ g (word_told (openings events) g) (told (finals events) g) moved order
-        (subst (λ f. ExplainsGranule trace g (word_told (openings events) g) f order) last explains) in
+        let final_word : final_of events g ≡ told (final_words events) g = ap (λ b. cond b (told (final_words events) g) None) known in
+        let led = leads_from granules_law trace _ g (word_told (openings events) g) (told (final_words events) g) moved order
+        (subst (λ f. ExplainsGranule trace g (word_told (openings events) g) f order) final_word explains) in
         none led.0 led.1 led.2
 
 -- Where those of each granule of which all is told lead to such a word, they all are explained.
 pub explained : OperationsAreTold → GranulesTold → GranulesExplain → (events : List Event) (ended : List Observed) (o : OutstandingValue) → Tells events ended o
     → ((g : ℕ) → is_known events g ≡ true
-    → (v : ℕ) × SomeLeads (filter (is_in g) (ended ++ filter_map open_operation o.requests)) (word_told (openings events) g ∷ []) v × IsWord (told (finals events) g) v)
+    → (v : ℕ) × SomeLeads (filter (is_in g) (ended ++ filter_map open_operation o.requests)) (word_told (openings events) g ∷ []) v × IsWord (told (final_words events) g) v)
     → IsExplained events
 explained operations_law granules_law whole_law events ended o tells each =
     (whole_law (memory_of (openings events)) (final_of events) (judged events) (IsMemory-memory_of (openings events))
@@ -169,19 +169,19 @@ explained operations_law granules_law whole_law events ended o tells each =
         let led = each g known in
         explains_from granules_law (judged events) _ g (word_told (openings events) g) (final_of events g)
         (all_judged operations_law events ended o g tells known) led.0 led.1
-        (subst (λ f. IsWord f led.0) (sym (ap (λ b. cond b (told (finals events) g) None) known)) led.2)
+        (subst (λ f. IsWord f led.0) (sym (ap (λ b. cond b (told (final_words events) g) None) known)) led.2)
     by_known g false unknown =
         let w = word_told (openings events) g in
         explains_from granules_law (judged events) [] g w (final_of events g)
         (subst (λ l. IsPermutation l []) (sym (kept_none (is_known events) g unknown (operations events))) (IsPermutation-refl [])) w (leads_none w)
-        (subst (λ f. IsWord f w) (sym (ap (λ b. cond b (told (finals events) g) None) unknown)) tt)
+        (subst (λ f. IsWord f w) (sym (ap (λ b. cond b (told (final_words events) g) None) unknown)) tt)
 
 -- Where those of one granule of which all is told lead to such a word, some order explains them.
 pub one_explained : OperationsAreTold → GranulesTold → (events : List Event) (ended : List Observed) (o : OutstandingValue) (g : ℕ) → Tells events ended o → is_known events g ≡ true
-    → (v : ℕ) → SomeLeads (filter (is_in g) (ended ++ filter_map open_operation o.requests)) (word_told (openings events) g ∷ []) v → IsWord (told (finals events) g) v → CanBeExplained events g
+    → (v : ℕ) → SomeLeads (filter (is_in g) (ended ++ filter_map open_operation o.requests)) (word_told (openings events) g ∷ []) v → IsWord (told (final_words events) g) v → CanBeExplained events g
 one_explained operations_law granules_law events ended o g tells known v leads word =
     explains_from granules_law (operations events) _ g (word_told (openings events) g) (final_of events g) (all_told operations_law events ended o g tells) v leads
-    (subst (λ f. IsWord f v) (sym (ap (λ b. cond b (told (finals events) g) None) known)) word)
+    (subst (λ f. IsWord f v) (sym (ap (λ b. cond b (told (final_words events) g) None) known)) word)
 
 -- the access of a request, once its data have come, is at its address
 abbrev IsAt : Open → Type 0

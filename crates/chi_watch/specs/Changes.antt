@@ -22,7 +22,7 @@ pub record IsUntouched (word : ℕ) (f : Followed) : Type 0 where
   pub latest : f.frontier.latest ≡ 0
   pub recent : Keeps (word ∷ []) [] 0 f.recent
   pub recent_horizon : f.recent.horizon ≡ 0
-  pub last : f.last ≡ None
+  pub final_word : f.final_word ≡ None
   pub known : IsTrue f.is_known
 
 abbrev pub IsSameOrUntouched : ℕ → Option Followed → Followed → Type 0
@@ -52,14 +52,14 @@ pub record IsTold (op : Observed) (horizon : ℕ) (old new : Followed) : Type 0 
   pub latest : new.frontier.latest ≡ op.end
   pub recent : (words : List ℕ) (told : List Observed) → Keeps words told op.end old.recent → Keeps words (told ++ op ∷ []) op.end new.recent
   pub recent_horizon : (new.recent.horizon ≤ horizon) ⊎ (new.recent.horizon ≡ old.recent.horizon)
-  pub last : new.last ≡ old.last
+  pub final_word : new.final_word ≡ old.final_word
   pub known : new.is_known ≡ old.is_known
 
 -- the operation was told to its granule's search, where all that wrote to the granule is told
 pub record IsToldIfKnown (op : Observed) (horizon : ℕ) (old new : Followed) : Type 0 where
   pub told : IsTrue old.is_known → CanEnd horizon old op → IsTold op horizon old new
   pub unknown : old.is_known ≡ false → new ≡ old
-  pub last : new.last ≡ old.last
+  pub final_word : new.final_word ≡ old.final_word
 
 abbrev pub IsClosed : Observed → ℕ → Option Followed → Option Followed → Type 0
 IsClosed op horizon None new = new ≡ None
@@ -92,8 +92,8 @@ pub record IsTouchedAndMarked (g : ℕ) (change : Followed → Followed) (old ne
 -- something that is not told may have written to the granule: it is watched no further
 abbrev pub IsGone : Option Followed → Option Followed → Type 0
 IsGone old None = ⊥
-IsGone None (Some new) = (new.is_known ≡ false) × (new.frontier.horizon ≡ 0) × (new.frontier.latest ≡ 0) × (new.last ≡ None) × (new.recent.horizon ≡ 0)
-IsGone (Some old) (Some new) = (new.is_known ≡ false) × (new.frontier ≡ old.frontier) × (new.last ≡ old.last) × (new.recent ≡ old.recent)
+IsGone None (Some new) = (new.is_known ≡ false) × (new.frontier.horizon ≡ 0) × (new.frontier.latest ≡ 0) × (new.final_word ≡ None) × (new.recent.horizon ≡ 0)
+IsGone (Some old) (Some new) = (new.is_known ≡ false) × (new.frontier ≡ old.frontier) × (new.final_word ≡ old.final_word) × (new.recent ≡ old.recent)
 
 pub record IsForgotten (covered : Bool) (old new : Option Followed) : Type 0 where
   pub same : covered ≡ false → new ≡ old
@@ -103,7 +103,7 @@ pub record IsForgotten (covered : Bool) (old new : Option Followed) : Type 0 whe
 abbrev pub IsNoted : EventKind → (ℕ → Option Followed) → (ℕ → Option Followed) → Type 0
 IsNoted (Request r) old new = IsTouched old new (r.asked.addr / 8) 0
 IsNoted (Word told) old new = IsTouched old new told.granule told.word
-IsNoted (Final told) old new = IsTouchedAndMarked told.granule (λ f. record f { last = Some told.word }) old new
+IsNoted (Final told) old new = IsTouchedAndMarked told.granule (λ f. record f { final_word = Some told.word }) old new
 IsNoted (Unknown addr len) old new = (g : ℕ) → IsForgotten (covers g (Unknown addr len)) (old g) (new g)
 IsNoted _ old new = (g : ℕ) → new g ≡ old g
 

@@ -30,7 +30,7 @@ pub record CanClose (granules : ℕ → Option Followed) (p : Open) : Type 0 whe
 pub record AreTold (ops : List Observed) (old new : Followed) : Type 0 where
   pub follows : IsTrue old.is_known → (words : List ℕ) (told : List Observed) → Follows words told old.frontier → Follows words (told ++ ops) new.frontier
   pub recent : IsTrue old.is_known → (words : List ℕ) (told : List Observed) → Keeps words told (2 ^ 64 - 1) old.recent → Keeps words (told ++ ops) (2 ^ 64 - 1) new.recent
-  pub last : new.last ≡ old.last
+  pub final_word : new.final_word ≡ old.final_word
   pub known : new.is_known ≡ old.is_known
 
 -- These operations more were told of a granule, where it is watched. There are none where it is not.
@@ -42,12 +42,12 @@ AreToldTo ops (Some old) (Some new) = AreTold ops old new
 
 -- What the search follows leads to a word that may have been the last, where all that wrote to the granule is told.
 abbrev pub IsExplainable : Followed → Type 0
-IsExplainable f = IsTrue f.is_known → (words : List ℕ) (told : List Observed) → Follows words told f.frontier → (v : ℕ) × SomeLeads told words v × IsWord f.last v
+IsExplainable f = IsTrue f.is_known → (words : List ℕ) (told : List Observed) → Follows words told f.frontier → (v : ℕ) × SomeLeads told words v × IsWord f.final_word v
 
 -- All that wrote to the granule is told, and what the search follows leads to no such word.
 pub record IsInexplicable (f : Followed) : Type 0 where
   pub known : IsTrue f.is_known
-  pub none : (words : List ℕ) (told : List Observed) → Follows words told f.frontier → (v : ℕ) → SomeLeads told words v → IsWord f.last v → ⊥
+  pub none : (words : List ℕ) (told : List Observed) → Follows words told f.frontier → (v : ℕ) → SomeLeads told words v → IsWord f.final_word v → ⊥
 
 abbrev pub IsInexplicableAt : Option Followed → Type 0
 IsInexplicableAt None = ⊥

@@ -17,7 +17,7 @@ pub record IsMovedOn (old : Followed) (horizon : ℕ) (new : Followed) : Type 0 
   pub horizon_is : (new.frontier.horizon ≤ horizon) ⊎ (new.frontier.horizon ≡ old.frontier.horizon)
   pub latest : new.frontier.latest ≡ old.frontier.latest
   pub recent : new.recent ≡ old.recent
-  pub last : new.last ≡ old.last
+  pub final_word : new.final_word ≡ old.final_word
   pub known : new.is_known ≡ old.is_known
 
 abbrev pub IfExplained : Standing → Type 0 → Type 0

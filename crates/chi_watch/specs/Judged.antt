@@ -24,8 +24,8 @@ final_in _ = None
 abbrev pub openings : List Event → List GranuleWord
 openings events = filter_map (λ e. opening_in e.kind) events
 
-abbrev pub finals : List Event → List GranuleWord
-finals events = filter_map (λ e. final_in e.kind) events
+abbrev pub final_words : List Event → List GranuleWord
+final_words events = filter_map (λ e. final_in e.kind) events
 
 -- something that is not told may have written to the granule
 abbrev pub covers : ℕ → EventKind → Bool
@@ -41,7 +41,7 @@ judged events = filter (λ op. is_known events (granule_of op)) (operations even
 
 -- the word that was told of a granule at the end
 abbrev pub final_of : List Event → ℕ → Option ℕ
-final_of events g = if is_known events g then told (finals events) g else None
+final_of events g = if is_known events g then told (final_words events) g else None
 
 -- the order explains the operations that are judged, and leaves the words that were told at the end
 abbrev pub IsExplainedBy : List Event → List ℕ → Type 0

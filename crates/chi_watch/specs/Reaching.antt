@@ -9,7 +9,7 @@ use Rattle.chi_recent.specs.declared.reach.Reach.{Reach}
 use Rattle.chi_recent.specs.declared.reach.Reach.TheVariants.{Whole, Stops, Undecided}
 use Rattle.chi_trace.specs.declared.observed.Observed.{Observed}
 use Rattle.chi_verdict.specs.Words.{told, word_told}
-use Rattle.chi_watch.specs.Judged.{finals, openings}
+use Rattle.chi_watch.specs.Judged.{final_words, openings}
 use Rattle.chi_watch.specs.Watches.{IsUnexplained}
 use Rattle.chi_watch.specs.declared.ending.FoundAtEnd.{FoundAtEnd}
 use Rattle.chi_watch.specs.declared.followed.Followed.{Followed}
@@ -34,7 +34,7 @@ IsOfSomeTrace r = (trace : List Observed) × (g : ℕ) × (w : ℕ) × IsRecentO
 
 -- what is said of a granule at the end: its word, and how far its operations can be explained
 pub record IsFoundIn (granules : ℕ → Option Followed) (found : FoundAtEnd) : Type 0 where
-  pub last : IfSome (granules found.granule) (λ f. found.last ≡ f.last)
+  pub final_word : IfSome (granules found.granule) (λ f. found.final_word ≡ f.final_word)
   pub reach : IfSome (granules found.granule) (λ f. ReachesBy f.recent found.reach)
 
 -- where that is not known so many states were looked at
@@ -48,5 +48,5 @@ granules_of found = map (λ f. f.granule) found
 -- No order explains the granule. The word is the one that was told of it at the end, and its operations can be explained so far.
 pub record IsFoundAtEnd (events : List Event) (found : FoundAtEnd) : Type 0 where
   pub unexplained : IsUnexplained events found.granule
-  pub last : found.last ≡ told (finals events) found.granule
+  pub final_word : found.final_word ≡ told (final_words events) found.granule
   pub reach : IsReach events found.granule found.reach

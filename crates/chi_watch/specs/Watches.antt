@@ -23,7 +23,7 @@ use Rattle.chi_watch.specs.declared.fault.WatchFault.TheVariants as fault
 use Rattle.chi_watch.specs.Faults.{as_watch_fault}
 use Rattle.chi_watch.specs.Followed.{IsWord}
 use Rattle.chi_watch.specs.Requests.{StartsBy, granule_asked}
-use Rattle.chi_watch.specs.Judged.{IsExplainedBy, final_of, finals, is_known, openings}
+use Rattle.chi_watch.specs.Judged.{IsExplainedBy, final_of, final_words, is_known, openings}
 
 -- the requests that are outstanding, each granule of which something was told, and how many operations had ended: 2^64 - 1 stands
 -- for that many and more
@@ -47,14 +47,14 @@ pub record IsWatched (events : List Event) (ended : List Observed) (o : Outstand
   pub recent : IsTrue f.is_known → Keeps (word_told (openings events) g ∷ []) (filter (is_in g) ended) o.time f.recent
   pub recent_past : f.recent.horizon ≤ o.time
   pub recent_horizon : StartsBy o.requests g f.recent.horizon
-  pub last : f.last ≡ told (finals events) g
+  pub final_word : f.final_word ≡ told (final_words events) g
 
 -- nothing was told of the granule
 pub record IsUntold (events : List Event) (ended : List Observed) (g : ℕ) : Type 0 where
   pub known : is_known events g ≡ true
   pub none : filter (is_in g) ended ≡ []
   pub opening : told (openings events) g ≡ None
-  pub last : told (finals events) g ≡ None
+  pub final_word : told (final_words events) g ≡ None
 
 abbrev pub IsGranuleOf : List Event → List Observed → OutstandingValue → ℕ → Option Followed → Type 0
 IsGranuleOf events ended o g None = IsUntold events ended g
@@ -84,12 +84,12 @@ pub record IsFound (w : WatchValue) (g : ℕ) : Type 0 where
   pub is : granule w g ≡ Some followed
   pub known : IsTrue followed.is_known
   pub quiet : list_any (λ p. granule_asked p == g) w.outstanding.requests ≡ false
-  pub none : (words : List ℕ) (told : List Observed) → Follows words told followed.frontier → (v : ℕ) → SomeLeads told words v → IsWord followed.last v → ⊥
+  pub none : (words : List ℕ) (told : List Observed) → Follows words told followed.frontier → (v : ℕ) → SomeLeads told words v → IsWord followed.final_word v → ⊥
 
 -- why the granules do not take an event
-abbrev pub has_last : Option Followed → Bool
-has_last None = false
-has_last (Some f) = is_some f.last
+abbrev pub has_final_word : Option Followed → Bool
+has_final_word None = false
+has_final_word (Some f) = is_some f.final_word
 
 abbrev pub final_fault : Bool → Bool → Option WatchFault
 final_fault told outstanding = if told then Some fault.FinalTwice else if outstanding then Some fault.FinalEarly else None
@@ -98,9 +98,9 @@ abbrev pub length_fault : ℕ → ℕ → Option WatchFault
 length_fault addr len = if nat_lt 0 len && nat_le len 4096 && nat_le (addr + len) (2 ^ 52) then None else Some fault.TooLong
 
 abbrev pub granule_fault : WatchValue → EventKind → Option WatchFault
-granule_fault w (Request r) = if has_last (granule w (r.asked.addr / 8)) then Some fault.AfterFinal else None
+granule_fault w (Request r) = if has_final_word (granule w (r.asked.addr / 8)) then Some fault.AfterFinal else None
 granule_fault w (Word told) = if is_some (granule w told.granule) then Some fault.WordLate else None
-granule_fault w (Final told) = final_fault (has_last (granule w told.granule)) (list_any (λ p. granule_asked p == told.granule) w.outstanding.requests)
+granule_fault w (Final told) = final_fault (has_final_word (granule w told.granule)) (list_any (λ p. granule_asked p == told.granule) w.outstanding.requests)
 granule_fault w (Unknown addr len) = length_fault addr len
 granule_fault w _ = None
 

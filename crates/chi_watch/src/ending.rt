@@ -33,7 +33,7 @@ use std::collections::BTreeMap;
 #[derive(Debug, Drop)]
 pub struct FoundAtEnd {
     pub granule: u64,
-    pub last: Option<u64>,
+    pub final_word: Option<u64>,
     pub reach: Reach,
 }
 
@@ -86,14 +86,14 @@ fn found_at_end<P: Progress>(
     let Some(followed) = granules.get(&granule) else {
         return Ok(FoundAtEnd {
             granule,
-            last: None,
+            final_word: None,
             reach: Reach::Undecided,
         });
     };
     let reach = reach_of(alloc, followed, budget, progress)?;
     Ok(FoundAtEnd {
         granule,
-        last: followed.last,
+        final_word: followed.final_word,
         reach,
     })
 }

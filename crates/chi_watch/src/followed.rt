@@ -20,7 +20,7 @@ pub struct Followed {
     pub(crate) frontier: Frontier,
     pub(crate) recent: Recent,
     pub(crate) limit: usize,
-    pub(crate) last: Option<u64>,
+    pub(crate) final_word: Option<u64>,
     pub(crate) is_known: bool,
 }
 
@@ -43,7 +43,7 @@ pub(crate) fn untouched(alloc: Global, word: u64) -> Result<Followed, AllocError
         frontier: Frontier::new(alloc, &[word])?,
         recent: Recent::new(alloc, word)?,
         limit: 1,
-        last: None,
+        final_word: None,
         is_known: true,
     })
 }
@@ -88,7 +88,7 @@ pub(crate) fn tell<P: Progress>(
 ) -> Result<(), AllocError>
     ensures told { IfOk result (λ _. IsTrue followed.old.is_known → CanEnd horizon followed.old traced.now.op → IsTold traced.now.op horizon followed.old followed.new) }
     ensures unknown { followed.old.is_known ≡ false → followed.new ≡ followed.old }
-    ensures last { IfOk result (λ _. followed.new.last ≡ followed.old.last) }
+    ensures final_word { IfOk result (λ _. followed.new.final_word ≡ followed.old.final_word) }
     ensures looked { IfOk result (λ _. LookedSome P.looked progress.old progress.new) }
 {
     if followed.is_known {
@@ -100,18 +100,18 @@ pub(crate) fn tell<P: Progress>(
     Ok(())
 }
 
-/// Whether one of the words is the last, where that was told.
-fn fits(words: &[u64], last: Option<u64>) -> bool
-    ensures some { IsTrue result → (v : ℕ) × Contains words.now v × IsWord last v }
-    ensures none { result ≡ false → (v : ℕ) → Contains words.now v → IsWord last v → ⊥ }
+/// Whether one of the words is the final one, where that was told.
+fn fits(words: &[u64], final_word: Option<u64>) -> bool
+    ensures some { IsTrue result → (v : ℕ) × Contains words.now v × IsWord final_word v }
+    ensures none { result ≡ false → (v : ℕ) → Contains words.now v → IsWord final_word v → ⊥ }
 {
-    match last {
+    match final_word {
         Some(word) => words.contains(&word),
         None => words.len() > 0,
     }
 }
 
-/// Whether the operations that were told can be explained, and leave the last word, where one was told. Undecided where so many
+/// Whether the operations that were told can be explained, and leave the final word, where one was told. Undecided where so many
 /// states as the budget were looked at.
 pub(crate) fn judge<P: Progress>(
     alloc: Global,
@@ -119,8 +119,8 @@ pub(crate) fn judge<P: Progress>(
     budget: u64,
     progress: &mut P,
 ) -> Result<Standing, AllocError>
-    ensures explained { IfOk result (λ s. IfExplained s ((words : List ℕ) (told : List Observed) → Follows words told followed.now.frontier → (v : ℕ) × SomeLeads told words v × IsWord followed.now.last v)) }
-    ensures unexplained { IfOk result (λ s. IfUnexplained s ((words : List ℕ) (told : List Observed) → Follows words told followed.now.frontier → (v : ℕ) → SomeLeads told words v → IsWord followed.now.last v → ⊥)) }
+    ensures explained { IfOk result (λ s. IfExplained s ((words : List ℕ) (told : List Observed) → Follows words told followed.now.frontier → (v : ℕ) × SomeLeads told words v × IsWord followed.now.final_word v)) }
+    ensures unexplained { IfOk result (λ s. IfUnexplained s ((words : List ℕ) (told : List Observed) → Follows words told followed.now.frontier → (v : ℕ) → SomeLeads told words v → IsWord followed.now.final_word v → ⊥)) }
     ensures undecided { IfOk result (λ s. IfUndecided s (LookedMore P.looked progress.old progress.new budget)) }
     ensures looked { IfOk result (λ _. LookedSome P.looked progress.old progress.new) }
 {
@@ -128,7 +128,7 @@ pub(crate) fn judge<P: Progress>(
     match followed.frontier.words(alloc, &mut left, progress)? {
         Words::Unknown => Ok(Standing::Undecided),
         Words::Each(words) => {
-            if fits(&words, followed.last) {
+            if fits(&words, followed.final_word) {
                 Ok(Standing::Explained)
             } else {
                 Ok(Standing::Unexplained)

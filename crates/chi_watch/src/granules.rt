@@ -53,10 +53,10 @@ pub(crate) fn close<P: Progress>(
 /// Notes the word after a granule's last request.
 fn set_last(granules: &mut BTreeMap<u64, Followed>, granule: u64, word: u64)
     requires watched { IsTrue (is_some (get nat_cmp granules.now granule)) }
-    ensures { IsMarked granule (λ f. record f { last = Some word }) (get nat_cmp granules.old) (get nat_cmp granules.new) }
+    ensures { IsMarked granule (λ f. record f { final_word = Some word }) (get nat_cmp granules.old) (get nat_cmp granules.new) }
 {
     if let Some(followed) = granules.get_mut(&granule) {
-        followed.last = Some(word);
+        followed.final_word = Some(word);
     }
 }
 
@@ -77,7 +77,7 @@ pub(crate) fn tell_last(
     granule: u64,
     word: u64,
 ) -> Result<(), AllocError>
-    ensures { IfOk result (λ _. IsTouchedAndMarked granule (λ f. record f { last = Some word }) (get nat_cmp granules.old) (get nat_cmp granules.new)) }
+    ensures { IfOk result (λ _. IsTouchedAndMarked granule (λ f. record f { final_word = Some word }) (get nat_cmp granules.old) (get nat_cmp granules.new)) }
 {
     touch(alloc, granules, granule, 0)?;
     set_last(granules, granule, word);

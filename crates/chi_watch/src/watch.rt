@@ -9,7 +9,7 @@ ghost use Rattle.chi_watch.specs.Judged.{is_known};
 ghost use Rattle.chi_search.specs.Looks.{LookedAtLeast, LookedSome};
 ghost use Rattle.chi_watch.specs.Quiet.{BecomesQuiet, CanBeExplained, granule_about};
 ghost use Rattle.chi_watch.specs.Requests.{granule_asked};
-ghost use Rattle.chi_watch.specs.Watches.{HasTaken, IsFound, IsUnexplained, fault_of, granule as granule_of, granule_fault, has_last};
+ghost use Rattle.chi_watch.specs.Watches.{HasTaken, IsFound, IsUnexplained, fault_of, granule as granule_of, granule_fault, has_final_word};
 
 use crate::ended::{close_ended, traced};
 use crate::fault::WatchFault;
@@ -82,11 +82,11 @@ impl Watch {
     }
 
     /// Whether the granule's word at the end was told.
-    fn has_last(&self, granule: u64) -> bool
-        ensures { result ≡ has_last (granule_of self.now granule) }
+    fn has_final_word(&self, granule: u64) -> bool
+        ensures { result ≡ has_final_word (granule_of self.now granule) }
     {
         match self.granules.get(&granule) {
-            Some(followed) => followed.last.is_some(),
+            Some(followed) => followed.final_word.is_some(),
             None => false,
         }
     }
@@ -106,7 +106,7 @@ impl Watch {
     {
         match kind {
             EventKind::Request(request) => {
-                if self.has_last(request.asked.addr / 8) {
+                if self.has_final_word(request.asked.addr / 8) {
                     return Err(WatchFault::AfterFinal);
                 }
                 Ok(())
@@ -118,7 +118,7 @@ impl Watch {
                 Ok(())
             }
             EventKind::Final(told) => {
-                if self.has_last(told.granule) {
+                if self.has_final_word(told.granule) {
                     return Err(WatchFault::FinalTwice);
                 }
                 if self.is_open(told.granule) {

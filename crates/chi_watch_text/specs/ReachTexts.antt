@@ -20,11 +20,11 @@ abbrev pub stop_text : Stop → List ℕ
 stop_text s = blamed_line s.time s.op.asked s.op.op ++ (word_lines s.words.items ++ (flat_map kept_line s.overlapping.items ++ (up_to_line s.time ++ rows_text s)))
 
 -- the word that was told at the end, and those that could have been there
-abbrev pub last_text : Option ℕ → List ℕ → List ℕ
-last_text None words = []
-last_text (Some last) words = end_line last ++ word_lines words
+abbrev pub final_text : Option ℕ → List ℕ → List ℕ
+final_text None words = []
+final_text (Some final_word) words = end_line final_word ++ word_lines words
 
 abbrev pub reach_text : Option ℕ → Reach → List ℕ
-reach_text last (Whole words) = last_text last words.items
-reach_text last (Stops stop) = stop_text stop
-reach_text last Undecided = []
+reach_text final_word (Whole words) = final_text final_word words.items
+reach_text final_word (Stops stop) = stop_text stop
+reach_text final_word Undecided = []

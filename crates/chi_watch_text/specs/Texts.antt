@@ -17,7 +17,7 @@ found_text f = granule_line f.granule ++ (reach_text None f.reach ++ (codes "  a
 
 -- one that is not explained at the end, where it was not found before
 unfoldable pub end_text : List Found → FoundAtEnd → List ℕ
-end_text found f = if is_found f.granule found then [] else granule_line f.granule ++ (reach_text f.last f.reach ++ codes "  at the end\n")
+end_text found f = if is_found f.granule found then [] else granule_line f.granule ++ (reach_text f.final_word f.reach ++ codes "  at the end\n")
 
 -- one that is not decided
 abbrev pub undecided_text : ℕ → ℕ → List ℕ

@@ -1,7 +1,7 @@
 //! The lines of how far a granule's operations can be explained.
 
 ghost use Rattle.std.specs.Prelude.{◌≡◌, ◌++◌, IfOk, OnOk, flat_map, map};
-ghost use Rattle.chi_watch_text.specs.ReachTexts.{kept_line, last_text, reach_text, stop_text, up_to_line};
+ghost use Rattle.chi_watch_text.specs.ReachTexts.{final_text, kept_line, reach_text, stop_text, up_to_line};
 ghost use Rattle.chi_watch_text.specs.RowTexts.{IsExcerptOf, ended_after, row_of};
 
 use chi_answer::{Part, add_blamed, add_end, add_open, add_parts, add_words};
@@ -98,10 +98,14 @@ fn add_stop(alloc: Global, to: &mut Vec<u8>, stop: &Stop) -> Result<(), AllocErr
 }
 
 /// The lines of the word that was told at the end, where one was, and of those that could have been there.
-fn add_last(to: &mut Vec<u8>, last: Option<u64>, words: &[u64]) -> Result<(), AllocError>
-    ensures { OnOk result (to.new.items ≡ to.old.items ++ last_text last words.now) }
+fn add_final_word(
+    to: &mut Vec<u8>,
+    final_word: Option<u64>,
+    words: &[u64],
+) -> Result<(), AllocError>
+    ensures { OnOk result (to.new.items ≡ to.old.items ++ final_text final_word words.now) }
 {
-    let Some(word) = last else {
+    let Some(word) = final_word else {
         return Ok(());
     };
     add_end(to, word)?;
@@ -112,13 +116,13 @@ fn add_last(to: &mut Vec<u8>, last: Option<u64>, words: &[u64]) -> Result<(), Al
 pub(crate) fn add_reach(
     alloc: Global,
     to: &mut Vec<u8>,
-    last: Option<u64>,
+    final_word: Option<u64>,
     reach: &Reach,
 ) -> Result<(), AllocError>
-    ensures { OnOk result (to.new.items ≡ to.old.items ++ reach_text last reach.now) }
+    ensures { OnOk result (to.new.items ≡ to.old.items ++ reach_text final_word reach.now) }
 {
     match reach {
-        Reach::Whole(words) => add_last(to, last, words),
+        Reach::Whole(words) => add_final_word(to, final_word, words),
         Reach::Stops(stop) => add_stop(alloc, to, stop),
         Reach::Undecided => Ok(()),
     }

@@ -38,7 +38,7 @@ fn add_at_end(
         return Ok(());
     }
     add_granule(to, it.granule)?;
-    add_reach(alloc, to, it.last, &it.reach)?;
+    add_reach(alloc, to, it.final_word, &it.reach)?;
     add_parts(to, &[Part::Text("  at the end\n")])
 }
 

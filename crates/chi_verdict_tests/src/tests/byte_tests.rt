@@ -13,7 +13,7 @@ use std::test::Fail;
 fn big_endian_add(rt: HostRuntime) -> Result<(), Fail> {
     let before = 0xff00_0000_0000_0000;
     let after = 0x0001_0000_0000_0000;
-    for (endian, last, wanted) in [
+    for (endian, final_word, wanted) in [
         (true, after, Told::Explained(1)),
         (true, 0, Told::Unexplained(LOWER)),
         (false, 0, Told::Explained(1)),
@@ -21,8 +21,12 @@ fn big_endian_add(rt: HostRuntime) -> Result<(), Fail> {
         let one = 0x0100_0000_0000_0000;
         let op = sent((0, 10), ADD, 1, LOW + 6, endian, 0x00c0, one);
         let ops = [answered(op, before)];
-        let found = verdict_from(rt.alloc(), &[at(LOW, before)], &ops, &[at(LOW, last)])?;
-        assert_same(&rt, (endian, last, found), (endian, last, wanted));
+        let found = verdict_from(rt.alloc(), &[at(LOW, before)], &ops, &[at(LOW, final_word)])?;
+        assert_same(
+            &rt,
+            (endian, final_word, found),
+            (endian, final_word, wanted),
+        );
     }
     Ok(())
 }
@@ -67,8 +71,8 @@ fn two_granules(rt: HostRuntime) -> Result<(), Fail> {
         read((60, 70), NEXT, 3),
     ];
     let opening = [at(LOW, 0), at(NEXT, 0)];
-    let last = [at(LOW, 2), at(NEXT, 3)];
-    assert_ordered(&rt, &opening, &ops, &last, &[0, 1, 2, 3])?;
+    let final_words = [at(LOW, 2), at(NEXT, 3)];
+    assert_ordered(&rt, &opening, &ops, &final_words, &[0, 1, 2, 3])?;
     let opening = [at(LOW, 0), at(NEXT, 1)];
     let found = verdict_from(rt.alloc(), &opening, &ops, &[at(LOW, 2), at(NEXT, 4)])?;
     assert_same(&rt, found, Told::Unexplained(NEXT / 8));

@@ -184,11 +184,11 @@ pub(crate) fn verdict_from(
     alloc: Global,
     opening: &[GranuleWord],
     ops: &[Timed],
-    finals: &[GranuleWord],
+    final_words: &[GranuleWord],
 ) -> Result<Told, Fail> {
     let trace = trace_from(alloc, opening, ops)?;
-    let finals = words(alloc, finals)?;
-    match explain(alloc, &trace, &finals, BUDGET, &mut NoProgress)? {
+    let final_words = words(alloc, final_words)?;
+    match explain(alloc, &trace, &final_words, BUDGET, &mut NoProgress)? {
         Verdict::Explained(order) => Ok(Told::Explained(order.len())),
         Verdict::Unexplained { granule } => Ok(Told::Unexplained(granule)),
         Verdict::Undecided { granule, states: _ } => Ok(Told::Undecided(granule)),
@@ -196,8 +196,12 @@ pub(crate) fn verdict_from(
 }
 
 /// The same, where each granule holds 0 at the opening.
-pub(crate) fn verdict(alloc: Global, ops: &[Timed], finals: &[GranuleWord]) -> Result<Told, Fail> {
-    verdict_from(alloc, &[], ops, finals)
+pub(crate) fn verdict(
+    alloc: Global,
+    ops: &[Timed],
+    final_words: &[GranuleWord],
+) -> Result<Told, Fail> {
+    verdict_from(alloc, &[], ops, final_words)
 }
 
 /// Compares what is found of these operations where each granule holds 0 at the opening, with each of these words at the end.
@@ -206,8 +210,8 @@ pub(crate) fn assert_verdicts<R: AllocGlobal + Abort>(
     ops: &[Timed],
     wanted: &[(&[GranuleWord], Told)],
 ) -> Result<(), Fail> {
-    for (finals, told) in wanted {
-        let found = verdict(rt.alloc(), ops, finals)?;
+    for (final_words, told) in wanted {
+        let found = verdict(rt.alloc(), ops, final_words)?;
         assert_same(rt, found, *told);
     }
     Ok(())
@@ -218,12 +222,12 @@ pub(crate) fn assert_ordered<R: AllocGlobal + Abort>(
     rt: &R,
     opening: &[GranuleWord],
     ops: &[Timed],
-    finals: &[GranuleWord],
+    final_words: &[GranuleWord],
     wanted: &[usize],
 ) -> Result<(), Fail> {
     let trace = trace_from(rt.alloc(), opening, ops)?;
-    let finals = words(rt.alloc(), finals)?;
-    let found = explain(rt.alloc(), &trace, &finals, BUDGET, &mut NoProgress)?;
+    let final_words = words(rt.alloc(), final_words)?;
+    let found = explain(rt.alloc(), &trace, &final_words, BUDGET, &mut NoProgress)?;
     let Verdict::Explained(order) = found else {
         return Err(Fail::new("no order was found"));
     };

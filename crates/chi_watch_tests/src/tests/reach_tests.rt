@@ -197,7 +197,7 @@ fn at_the_end(rt: HostRuntime) -> Result<(), Fail> {
     };
     assert_same(
         &rt,
-        (first.last, second.granule, second.last, words),
+        (first.final_word, second.granule, second.final_word, words),
         (None, GRANULE + 1, Some(3), [0].as_slice()),
     );
     assert_stops(&rt, &first.reach, stop)

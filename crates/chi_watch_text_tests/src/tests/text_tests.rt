@@ -104,7 +104,7 @@ undecided: granule 0000000000001000 after 0 states
 fn at_end(granule: u64) -> FoundAtEnd {
     FoundAtEnd {
         granule,
-        last: None,
+        final_word: None,
         reach: Reach::Undecided,
     }
 }

@@ -26,7 +26,7 @@ fn verdict(
     for _ in 0..unexplained {
         at_end.push(FoundAtEnd {
             granule: 513,
-            last: None,
+            final_word: None,
             reach: Reach::Undecided,
         })?;
     }

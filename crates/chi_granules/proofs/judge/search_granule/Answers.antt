@@ -29,7 +29,7 @@ moved-requires g c =
     let own : c.deref-2.result.now ≡ chosen c.args.ops.now places = c.deref-2.ensures.value ∙ c.in_ok-own.ensures ∙ ap (chosen c.args.ops.now) c.deref.ensures.value in
     let finishes = rw c.in-Order.is at c.in_ok-found.ensures.order in
     rw (c.deref-in-Order.ensures.value, c.deref-in-Order-2.ensures.value)
-    (indices c.args.ops.now c.deref-2.result.now places c.args.word c.args.last c.in-Order.found.items own finishes)
+    (indices c.args.ops.now c.deref-2.result.now places c.args.word c.args.final_word c.in-Order.found.items own finishes)
 
 pub returns-in-Order-clause-order : goal.returns-in-Order-clause-order
 returns-in-Order-clause-order g c =
@@ -42,8 +42,8 @@ returns-in-Order-clause-order g c =
     c.in_ok-order-in-Order.ensures
     ∙ ap (λ (p : List ℕ). map (slice_index p) c.deref-in-Order-2.result.now) c.deref-in-Order.ensures.value
     ∙ ap (map (slice_index places)) c.deref-in-Order-2.ensures.value in
-    subst (ExplainsGranule ops c.args.granule c.args.word c.args.last) (sym whole)
-    (told_order c.places_explain.ensures ops c.deref-2.result.now c.args.granule places c.args.word c.args.last c.in-Order.found.items own each finishes)
+    subst (ExplainsGranule ops c.args.granule c.args.word c.args.final_word) (sym whole)
+    (told_order c.places_explain.ensures ops c.deref-2.result.now c.args.granule places c.args.word c.args.final_word c.in-Order.found.items own each finishes)
 
 pub returns-in-Nothing-clause-nothing : goal.returns-in-Nothing-clause-nothing
 returns-in-Nothing-clause-nothing g c order explains =
@@ -52,5 +52,5 @@ returns-in-Nothing-clause-nothing g c order explains =
     let each = own_of ops c.args.granules.now c.args.granule places c.requires.granules c.in_ok-places.ensures.each in
     let own : c.deref-2.result.now ≡ chosen ops places = c.deref-2.ensures.value ∙ c.in_ok-own.ensures ∙ ap (chosen ops) c.deref.ensures.value in
     let none = rw c.in-Nothing.is at c.in_ok-found.ensures.nothing in
-    let moved = told_back c.places_explain.ensures ops c.deref-2.result.now c.args.granule places c.args.word c.args.last order own each explains in
+    let moved = told_back c.places_explain.ensures ops c.deref-2.result.now c.args.granule places c.args.word c.args.final_word order own each explains in
     none moved.0 moved.1

@@ -21,7 +21,7 @@ returns c =
     let numbers = c.loop-told.numbers.items in
     let words = c.as_slice-told-items.result.now in
     let first : c.in_ok-numbers.numbers.items ≡ map granule_of r.trace.operations = rw (c.operations.ensures.operations, c.trace.ensures) at c.in_ok-numbers.ensures in
-    let second : words ≡ r.finals = c.as_slice-told-items.ensures.words ∙ c.finals.ensures in
+    let second : words ≡ r.final_words = c.as_slice-told-items.ensures.words ∙ c.final_words.ensures in
     let all : numbers ≡ c.in_ok-numbers.numbers.items ++ map granule_told words =
     c.loop-told.invariant ∙ ap (λ l. c.in_ok-numbers.numbers.items ++ map granule_told l) (take_all c.loop-told.told-index words (omega arith)) in
     has_sorted r numbers c.sort.new.self.items c.dedup.new.self.items

@@ -7,6 +7,6 @@ pub returns-clause-ok : goal.returns-clause-ok
 unfolding wide_memory
 returns-clause-ok c =
     let opening = c.in_ok-opening.ensures.ok in
-    let finals = c.in_ok-finals.ensures.ok in
-    let text : MemoryText = record { region = None; opening = opening.0; finals = finals.0 } in
-    (text, rw (opening.1, finals.1) refl, record { region = refl; opening = opening.2; finals = finals.2 })
+    let final_words = c.in_ok-final_words.ensures.ok in
+    let text : MemoryText = record { region = None; opening = opening.0; final_words = final_words.0 } in
+    (text, rw (opening.1, final_words.1) refl, record { region = refl; opening = opening.2; final_words = final_words.2 })

@@ -14,5 +14,5 @@ loop-preserved c =
     record {
       ready = subst (λ (s : State). IsReady (length c.args.known.now.ops.now) (position_of s)) (sym c.swap.ensures.x_after) c.in_ok-settle-in-Some.ensures.ready;
       goes_on = subst (λ (s : State). GoesOnWithin c.args.mask c.args.known.now.ops.now (position_of c.args.state.now) (position_of s)) (sym c.swap.ensures.x_after)
-          (λ final ends. kept final (c.loop.invariant.goes_on final ends));
+          (λ final_word ends. kept final_word (c.loop.invariant.goes_on final_word ends));
     }

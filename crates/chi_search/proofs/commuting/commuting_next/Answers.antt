@@ -18,7 +18,7 @@ has_reply o some = by_reply o.reply some
     by_reply (Some reply) some = refl
 
 pub returns-in-None-clause-first : goal.returns-in-None-clause-first
-returns-in-None-clause-first c last =
+returns-in-None-clause-first c final_word =
     let ops = c.args.ops.now in
     let p = position_of c.args.state.now in
     let place = c.loop-place.place in
@@ -31,4 +31,4 @@ returns-in-None-clause-first c last =
     let answered : is_answered (at ops place) ≡ true =
     subst (λ (o : Observed). is_answered o ≡ true) op (has_reply c.index-ops-place.result (sym c.is_some.ensures ∙ c.if-is_some.true)) in
     let below : p.word < 2 ^ 64 = search rules in
-    by_moved ops last p place c.requires.sorted below comes answered c.in-None.ensures.none
+    by_moved ops final_word p place c.requires.sorted below comes answered c.in-None.ensures.none

@@ -27,4 +27,4 @@ returns-then-is_left c _ =
     let starts : (at ops before).start ≤ (at ops p.first).end =
     omega (arith, c.if-other-end.true, ap (λ (o : Observed). o.end) first, ap (λ (o : Observed). o.start) other) in
     let comes : CanCome ops p before = (sym c.is_left.ensures ∙ c.if-is_left.true, starts) in
-    (before, below, λ (last : Option ℕ). by_equal ops last p place before c.requires.sorted (omega (arith, below)) equal comes)
+    (before, below, λ (final_word : Option ℕ). by_equal ops final_word p place before c.requires.sorted (omega (arith, below)) equal comes)

@@ -14,7 +14,7 @@ returns c _ =
 pub returns-then-is_out_of_reach-2 : goal.returns-then-is_out_of_reach-2
 returns-then-is_out_of_reach-2 c _ =
     let below : c.loop-place.place < length c.args.known.now.effects.now = omega arith in
-    out_of_reach c.args.mask c.args.known.now.ops.now c.args.known.now.last (position_of c.args.state.now) c.loop-place.place
+    out_of_reach c.args.mask c.args.known.now.ops.now c.args.known.now.final_word (position_of c.args.state.now) c.loop-place.place
     (slice_index_or c.args.known.now.effects.now c.loop-place.place no_effect)
     (c.requires.known.effects c.loop-place.place below) (c.must_find.ensures.left c.if-must_find.true) (c.must_find.ensures.answered c.if-must_find.true)
     (c.is_out_of_reach-then-must_find.ensures c.if-is_out_of_reach-2.true)

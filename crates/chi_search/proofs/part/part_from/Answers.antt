@@ -4,7 +4,7 @@ use Rattle.chi_search.proofs.Start.{none_of}
 use Rattle.chi_search.proofs.part.part_from.Goals as goal
 
 pub returns : goal.returns
-returns c ops last = record {
+returns c ops final_word = record {
   run = record { lane = c.args.byte; len = c.args.len; some = c.requires.some; room = c.requires.room; number = c.lane_mask.ensures.number };
-  dead = none_of (IsDeadWithin c.lane_mask.result ops last) c.no_states.result c.no_states.ensures;
+  dead = none_of (IsDeadWithin c.lane_mask.result ops final_word) c.no_states.result c.no_states.ensures;
 }

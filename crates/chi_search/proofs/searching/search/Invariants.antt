@@ -10,10 +10,10 @@ abbrev pub invariant-loop-budget : goal.invariant-loop-budget
 invariant-loop-budget g l = record {
   walks : Walks l.known.ops.now (start l.fn.word) l.path.items (position_of l.state);
   ready : IsReady (length l.known.ops.now) (position_of l.state);
-  dead : AllDead l.known.ops.now l.known.last l.dead;
-  tried : AreTried l.known.ops.now l.known.last (position_of l.state) l.tried;
-  before : AreTriedBefore l.known.ops.now l.known.last l.path.items;
-  parts : All (IsPartOf l.known.ops.now l.known.last) l.parts;
+  dead : AllDead l.known.ops.now l.known.final_word l.dead;
+  tried : AreTried l.known.ops.now l.known.final_word (position_of l.state) l.tried;
+  before : AreTriedBefore l.known.ops.now l.known.final_word l.path.items;
+  parts : All (IsPartOf l.known.ops.now l.known.final_word) l.parts;
   left : l.budget ≤ l.initial.budget;
   looked : LookedMore g.P.Progress.looked l.initial.progress l.progress (l.initial.budget - l.budget);
 }

@@ -5,7 +5,7 @@ use Rattle.chi_trace.proofs.Orders.{places_of}
 use Rattle.chi_trace.proofs.laws.explanations_are_legal.Goals as goal
 
 pub returns : goal.returns
-returns c o final trace order is could e =
+returns c o final_words trace order is could e =
     let m = opening_memory o in (
       history trace m order,
       is_legal o trace m order is could (places_of trace order e.once),

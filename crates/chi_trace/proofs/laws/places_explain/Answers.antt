@@ -3,5 +3,5 @@ use Rattle.chi_trace.proofs.Chosen.{told_back, told_there}
 use Rattle.chi_trace.proofs.laws.places_explain.Goals as goal
 
 pub returns : goal.returns
-returns c trace left places w final each =
-    (λ order h. told_there trace left places w final each order h, λ order h. told_back trace left places w final each order h)
+returns c trace left places w final_word each =
+    (λ order h. told_there trace left places w final_word each order h, λ order h. told_back trace left places w final_word each order h)

@@ -22,7 +22,7 @@ pub bounds-run-place : goal.bounds-run-place
 bounds-run-place g c =
     let own = c.deref.result.now in
     let finishes = rw c.in-Order.is at c.in_ok-places.ensures.order in
-    let below = indices c.args.ops.now own c.args.group.now.run.now c.args.word c.args.last c.in-Order.places.items (c.deref.ensures.value ∙ c.in_ok-own.ensures) finishes in
+    let below = indices c.args.ops.now own c.args.group.now.run.now c.args.word c.args.final_word c.in-Order.places.items (c.deref.ensures.value ∙ c.in_ok-own.ensures) finishes in
     subst (All (λ k. k < length c.args.group.now.run.now)) (sym c.deref-place-items.ensures.value) below c.loop-place.place-index 0 c.loop-place-test.true
 
 pub offset_bounds-run-place : goal.offset_bounds-run-place
@@ -37,14 +37,14 @@ returns-in-Order-clause-order g c =
     let whole : c.loop-place.order.items ≡ map (slice_index (places_of run)) c.in-Order.places.items =
     c.loop-place.invariant
     ∙ ap (map (slice_index (places_of run))) (take_all c.loop-place.place-index c.deref-place-items.result.now (omega arith) ∙ c.deref-place-items.ensures.value) in
-    subst (ExplainsGranule ops c.args.group.now.granule c.args.word c.args.last) (sym whole)
-    (told_order c.places_explain.ensures ops own c.args.group.now.granule run c.args.word c.args.last c.in-Order.places.items (c.deref.ensures.value ∙ c.in_ok-own.ensures)
+    subst (ExplainsGranule ops c.args.group.now.granule c.args.word c.args.final_word) (sym whole)
+    (told_order c.places_explain.ensures ops own c.args.group.now.granule run c.args.word c.args.final_word c.in-Order.places.items (c.deref.ensures.value ∙ c.in_ok-own.ensures)
     c.requires.grouped.each finishes)
 
 pub returns-in-Nothing-clause-nothing : goal.returns-in-Nothing-clause-nothing
 returns-in-Nothing-clause-nothing g c order explains =
     let own = c.deref.result.now in
     let none = rw c.in-Nothing.is at c.in_ok-places.ensures.nothing in
-    let moved = told_back c.places_explain.ensures c.args.ops.now own c.args.group.now.granule c.args.group.now.run.now c.args.word c.args.last order
+    let moved = told_back c.places_explain.ensures c.args.ops.now own c.args.group.now.granule c.args.group.now.run.now c.args.word c.args.final_word order
     (c.deref.ensures.value ∙ c.in_ok-own.ensures) c.requires.grouped.each explains in
     none moved.0 moved.1

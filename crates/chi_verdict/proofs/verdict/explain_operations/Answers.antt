@@ -47,21 +47,21 @@ search_granule-requires-clause-grouped g c =
 
 pub add_points-requires-clause-places : goal.add_points-requires-clause-places
 add_points-requires-clause-places g c =
-    let explains = subst (λ (f : Found). IfOrder f (λ order. ExplainsGranule c.args.ops.now c.in-Some.granule c.word.result c.get-last.result order)) c.in-Order.is c.in_ok-order.ensures.order in
+    let explains = subst (λ (f : Found). IfOrder f (λ order. ExplainsGranule c.args.ops.now c.in-Some.granule c.word.result c.get-final_word.result order)) c.in-Order.is c.in_ok-order.ensures.order in
     subst (All (λ i. is_place c.args.ops.now i ≡ true)) (sym c.deref.ensures.value)
-    (inside_of c.args.ops.now c.in-Some.granule c.word.result c.get-last.result c.in-Order.order.items explains)
+    (inside_of c.args.ops.now c.in-Some.granule c.word.result c.get-final_word.result c.in-Order.order.items explains)
 
 pub returns-in-Nothing-clause-unexplained : goal.returns-in-Nothing-clause-unexplained
 returns-in-Nothing-clause-unexplained g c order explains =
     let ops = c.args.ops.now in
     let n = c.in-Some.granule in
     let memory = memory_of c.args.opening.now in
-    let none = subst (λ (f : Found). IfNothing f ((x : List ℕ) → ExplainsGranule ops n c.word.result c.get-last.result x → ⊥)) c.in-Nothing.is c.in_ok-order.ensures.nothing in
-    let part = (c.parts_explain.ensures memory (told c.args.finals.now) ops order (IsMemory-memory_of c.args.opening.now) c.requires.traced explains n).0 in
+    let none = subst (λ (f : Found). IfNothing f ((x : List ℕ) → ExplainsGranule ops n c.word.result c.get-final_word.result x → ⊥)) c.in-Nothing.is c.in_ok-order.ensures.nothing in
+    let part = (c.parts_explain.ensures memory (told c.args.final_words.now) ops order (IsMemory-memory_of c.args.opening.now) c.requires.traced explains n).0 in
     let word = word_of-memory_of c.args.opening.now n c.requires.words ∙ sym c.word.ensures in
     none (filter (is_of ops n) order)
-    (subst (λ (w : ℕ). ExplainsGranule ops n w c.get-last.result (filter (is_of ops n) order)) word
-    (subst (λ (f : Option ℕ). ExplainsGranule ops n (word_of memory n) f (filter (is_of ops n) order)) (sym c.get-last.ensures) part))
+    (subst (λ (w : ℕ). ExplainsGranule ops n w c.get-final_word.result (filter (is_of ops n) order)) word
+    (subst (λ (f : Option ℕ). ExplainsGranule ops n (word_of memory n) f (filter (is_of ops n) order)) (sym c.get-final_word.ensures) part))
 
 pub past_word-last_place-requires-clause-told : goal.past_word-last_place-requires-clause-told
 past_word-last_place-requires-clause-told g c = c.loop-granule.invariant.word_in
@@ -111,9 +111,9 @@ loop-granule-preserved g c =
       walked = elim c.match-branch-4.branch [
         | in-Order+in_ok-add_points-in-Order w ↦
             let added = w.in_ok-add_points-in-Order.ensures in
-            let explains = subst (λ (f : Found). IfOrder f (λ order. ExplainsGranule ops n c.word.result c.get-last.result order)) w.in-Order.is c.in_ok-order.ensures.order in
+            let explains = subst (λ (f : Found). IfOrder f (λ order. ExplainsGranule ops n c.word.result c.get-final_word.result order)) w.in-Order.is c.in_ok-order.ensures.order in
             let own = subst (λ (v : ℕ). ExplainsGranule ops n v (told words n) w.in-Order.order.items) c.word.ensures
-            (subst (λ (f : Option ℕ). ExplainsGranule ops n c.word.result f w.in-Order.order.items) (c.get-last.ensures ∙ ap (λ ws. told ws n) (sym c.as_slice-words.ensures.words)) explains) in
+            (subst (λ (f : Option ℕ). ExplainsGranule ops n c.word.result f w.in-Order.order.items) (c.get-final_word.ensures ∙ ap (λ ws. told ws n) (sym c.as_slice-words.ensures.words)) explains) in
             subst (λ (o : Option ℕ). Walked opening words ops places to next o c.match-branch-4.points.items) (sym w.undecided-is)
             (subst (Walked opening words ops places to next undecided) (sym (ap (λ v. v.items) w.points-is ∙ added.1))
             (goes_on opening words ops places from to word next undecided undecided points added.0 n grouped walked (passes g c)
@@ -148,11 +148,11 @@ returns-clause-explained g c =
     let walked = c.loop-granule.invariant.walked in
     let points = c.loop-granule.points.items in
     let places = c.in_ok-order-2.ensures.places (All-map (λ i. is_place ops i ≡ true) (λ (p : Point). p.place) points walked.inside) in
-    let finals = c.as_slice-words.ensures.words in
-    (c.parts_join.ensures (memory_of opening) (told c.args.finals.now) ops order (IsMemory-memory_of opening) c.requires.traced places c.in_ok-order-2.ensures.times
-    (λ n. subst (λ (w : ℕ). ExplainsGranule ops n w (told c.args.finals.now n) (filter (is_of ops n) order)) (sym (word_of-memory_of opening n c.requires.words))
-    (subst (ExplainsGranule ops n (word_told opening n) (told c.args.finals.now n)) (sym (c.in_ok-order-2.ensures.parts n))
-    (subst (λ ws. ExplainsGranule ops n (word_told opening n) (told ws n) (filter (is_of ops n) (order_of points))) finals
+    let final_words = c.as_slice-words.ensures.words in
+    (c.parts_join.ensures (memory_of opening) (told c.args.final_words.now) ops order (IsMemory-memory_of opening) c.requires.traced places c.in_ok-order-2.ensures.times
+    (λ n. subst (λ (w : ℕ). ExplainsGranule ops n w (told c.args.final_words.now n) (filter (is_of ops n) order)) (sym (word_of-memory_of opening n c.requires.words))
+    (subst (ExplainsGranule ops n (word_told opening n) (told c.args.final_words.now n)) (sym (c.in_ok-order-2.ensures.parts n))
+    (subst (λ ws. ExplainsGranule ops n (word_told opening n) (told ws n) (filter (is_of ops n) (order_of points))) final_words
     (walked.explained c.in_default-undecided.is n (c.in_default.ensures.none refl n)))))).0
 
 pub returns-in-Nothing-clause-spent : goal.returns-in-Nothing-clause-spent

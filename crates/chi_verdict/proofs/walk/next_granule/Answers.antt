@@ -9,7 +9,7 @@ pub returns-in-Some-Some-clause-least : goal.returns-in-Some-Some-clause-least
 returns-in-Some-Some-clause-least c h less =
     let below : h < min c.in-Some-Some.placed.now.granule c.in-Some-Some.last.now.granule = omega (arith, less, c.min.ensures) in (
       below_first (λ (p : Placed). p.granule) _ _ _ c.requires.places c.in-Some-Some.ensures.lookup.3 h (omega (arith, below)),
-      below_first (λ (w : GranuleWord). w.granule) _ _ _ (words_up _ c.requires.finals) c.in-Some-Some.ensures'.lookup.3 h (omega (arith, below)),
+      below_first (λ (w : GranuleWord). w.granule) _ _ _ (words_up _ c.requires.final_words) c.in-Some-Some.ensures'.lookup.3 h (omega (arith, below)),
     )
 
 pub returns-in-Some-Some-clause-there : goal.returns-in-Some-Some-clause-there
@@ -33,7 +33,7 @@ returns-in-Some-None-clause-there c past =
 pub returns-in-None-Some-clause-least : goal.returns-in-None-Some-clause-least
 returns-in-None-Some-clause-least c h less = (
   none_left (λ (p : Placed). h < p.granule) _ _ c.in-None-Some.ensures.lookup.3,
-  below_first (λ (w : GranuleWord). w.granule) _ _ _ (words_up _ c.requires.finals) c.in-None-Some.ensures'.lookup.3 h less,
+  below_first (λ (w : GranuleWord). w.granule) _ _ _ (words_up _ c.requires.final_words) c.in-None-Some.ensures'.lookup.3 h less,
 )
 
 pub returns-in-None-Some-clause-there : goal.returns-in-None-Some-clause-there

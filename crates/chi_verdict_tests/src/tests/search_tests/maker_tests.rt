@@ -28,9 +28,9 @@ fn assert_nothing<R: AllocGlobal + Abort>(
     rt: &R,
     cases: &[(Option<((u64, u64), u64)>, Option<u64>)],
 ) -> Result<(), Fail> {
-    for (read, last) in cases {
+    for (read, final_word) in cases {
         let ops = writes(rt.alloc(), 30, *read)?;
-        assert_orders(rt, &[(&ops, *last, &[999])])?;
+        assert_orders(rt, &[(&ops, *final_word, &[999])])?;
     }
     Ok(())
 }

@@ -113,14 +113,14 @@ pub(crate) fn observed(alloc: Global, ops: &[Timed]) -> Result<Vec<Observed>, Fa
 pub(crate) fn order(
     alloc: Global,
     ops: &[Timed],
-    last: Option<u64>,
+    final_word: Option<u64>,
     budget: &mut u64,
 ) -> Result<Vec<usize>, Fail> {
     let ops = observed(alloc, ops)?;
     if !are_searchable(&ops) {
         return Ok(vec![in alloc; 997; 1]?);
     }
-    match order_of(alloc, &ops, 0, last, budget, &mut NoProgress)? {
+    match order_of(alloc, &ops, 0, final_word, budget, &mut NoProgress)? {
         Found::Order(order) => Ok(order),
         Found::Nothing => Ok(vec![in alloc; 999; 1]?),
         Found::Undecided => Ok(vec![in alloc; 998; 1]?),
@@ -163,9 +163,9 @@ pub(crate) fn assert_orders<R: AllocGlobal + Abort>(
     rt: &R,
     cases: &[(&[Timed], Option<u64>, &[usize])],
 ) -> Result<(), Fail> {
-    for (ops, last, wanted) in cases {
+    for (ops, final_word, wanted) in cases {
         let mut budget = 1000;
-        let found = order(rt.alloc(), ops, *last, &mut budget)?;
+        let found = order(rt.alloc(), ops, *final_word, &mut budget)?;
         assert_same(rt, found.as_slice(), *wanted);
     }
     Ok(())

@@ -8,4 +8,4 @@ use Rattle.chi_watch.proofs.followed.fits.Goals as goal
 pub returns-in-None-clause-some : goal.returns-in-None-clause-some
 returns-in-None-clause-some c is =
     let found = some_word c.args.words.now (ltb-true 0 _ is) in
-    subst (λ (last : Option ℕ). (v : ℕ) × Contains c.args.words.now v × IsWord last v) (sym c.in-None.is) (found.0, found.1, _)
+    subst (λ (final_word : Option ℕ). (v : ℕ) × Contains c.args.words.now v × IsWord final_word v) (sym c.in-None.is) (found.0, found.1, _)

@@ -29,7 +29,7 @@ returns-in_ok-add-2-clause-told g c known can =
           (c.in_ok-settle.ensures.keeps words told op.end (omega (arith, can.starts, can.lasting)) (subst (Keeps words told op.end) (sym moved.recent) keeps))
           (record { ends = omega arith; starts = later; lasting = can.lasting; within = can.within });
       recent_horizon = subst (λ n. (n ≤ c.args.horizon) ⊎ (n ≡ old.recent.horizon)) (sym c.in_ok-add-2.ensures.horizon) settled;
-      last = moved.last;
+      final_word = moved.final_word;
       known = moved.known;
     }
 

@@ -14,7 +14,7 @@ pub returns : goal.returns
 unfolding end_text
 returns c =
     let it = c.args.it.now in
-    let reach : List ℕ = reach_text it.last it.reach in
+    let reach : List ℕ = reach_text it.final_word it.reach in
     rw (sym c.is_found.ensures ∙ c.if-is_found.false)
     (part_then c.add_parts.result c.args.to.now.items c.add_granule.new.to.items c.add_parts.new.to.items (granule_line it.granule) (reach ++ codes "  at the end\n") c.in_ok-add_granule.ensures
     (part_then c.add_parts.result c.add_granule.new.to.items c.add_reach.new.to.items c.add_parts.new.to.items reach (codes "  at the end\n") c.in_ok-add_reach.ensures (simp append-nil at c.add_parts.ensures)))
