@@ -1,4 +1,3 @@
-pub mod Growing
 mod Operations
 pub mod Places
 mod Spent

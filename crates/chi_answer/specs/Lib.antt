@@ -1,6 +1,5 @@
 pub mod Answers
 pub mod DoubtLines
 pub mod Lines
-pub mod Part
 pub mod Texts
 pub mod Witnesses

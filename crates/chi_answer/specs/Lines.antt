@@ -4,7 +4,8 @@ use Rattle.chi_fields.specs.declared.request.Request.{Request}
 use Rattle.chi_lanes.specs.declared.reply.Reply.{Reply}
 use Rattle.chi_trace.specs.Explains.{at}
 use Rattle.chi_trace.specs.declared.observed.Observed.{Observed}
-use Rattle.chi_script.specs.Transcript.{address_text, reply_text, request_text, word_text}
+use Rattle.chi_script.specs.Transcript.{reply_text, request_text}
+use Rattle.chi_text.specs.Part.{address_text, word_text}
 use Rattle.chi_reading.specs.declared.asked.Asked.{Asked}
 use Rattle.chi_reading.specs.TraceText.{RecordedValue, no_request}
 

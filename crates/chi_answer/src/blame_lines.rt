@@ -4,9 +4,9 @@ ghost use Rattle.std.specs.Prelude.{◌≡◌, ◌++◌, ◌<◌, All, OnOk, fla
 ghost use Rattle.chi_answer.specs.Lines.{blamed_at, blamed_line, end_line, explained_line, open_at, open_line, until_text};
 
 use crate::lines::add_told;
-use crate::part::Part::{Number, Text, Word};
-use crate::part::add_parts;
 use chi_reading::{Asked, Recorded};
+use chi_text::Part::{Number, Text, Word};
+use chi_text::add_parts;
 use chi_trace::Observed;
 use std::alloc::AllocError;
 

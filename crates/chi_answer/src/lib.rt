@@ -5,12 +5,10 @@ mod answer;
 mod blame_lines;
 mod doubt_lines;
 mod lines;
-mod part;
 mod text;
 mod witness;
 
 pub use answer::{Answer, answer_of};
 pub use blame_lines::{add_blamed, add_end, add_open};
 pub use lines::{add_granule, add_undecided, add_words};
-pub use part::{Part, add_parts};
 pub use text::{add_blame, answer_text};

@@ -4,11 +4,11 @@ ghost use Rattle.std.specs.Prelude.{◌≡◌, ◌++◌, OnOk, flat_map};
 ghost use Rattle.chi_script.specs.Transcript.{request_text};
 ghost use Rattle.chi_answer.specs.Lines.{answered_text, granule_line, more_line, operation_text, request_in, seen_text, told_text, undecided_line, word_line, word_lines};
 
-use crate::part::Part::{Address, Number, Opcode, Packet, Text, Word};
-use crate::part::add_parts;
 use chi_fields::op_name;
 use chi_lanes::Reply;
 use chi_reading::Asked;
+use chi_text::Part::{Address, Number, Opcode, Packet, Text, Word};
+use chi_text::add_parts;
 use std::alloc::AllocError;
 
 /// The fields of a request, each with the space after it.

@@ -9,11 +9,11 @@ use crate::answer::Answer;
 use crate::blame_lines::{add_blamed_at, add_end, add_explained, add_overlapping};
 use crate::doubt_lines::add_doubt;
 use crate::lines::{add_granule, add_words};
-use crate::part::Part::Text;
-use crate::part::add_parts;
 use crate::witness::add_witness;
 use chi_reading::Recorded;
 use chi_search::Words;
+use chi_text::Part::Text;
+use chi_text::add_parts;
 use chi_verdict::Blame;
 use std::alloc::{AllocError, Global};
 

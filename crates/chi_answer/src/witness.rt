@@ -7,10 +7,10 @@ ghost use Rattle.chi_verdict.specs.Words.{memory_of};
 ghost use Rattle.chi_answer.specs.Witnesses.{IsWitness, memory_line, operation_lines};
 
 use crate::lines::add_operation;
-use crate::part::Part::{Address, Text, Word};
-use crate::part::add_parts;
 use chi_lanes::Reply;
 use chi_reading::Recorded;
+use chi_text::Part::{Address, Text, Word};
+use chi_text::add_parts;
 use chi_verdict::{GranuleWord, execute};
 use std::alloc::{AllocError, Global};
 

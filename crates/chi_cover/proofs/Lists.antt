@@ -1,6 +1,5 @@
 -- lists that grow by one item
-use Rattle.std.proofs.Common.{◌≡◌, ℕ, zero, suc, ◌+◌, ◌<◌, ◌≤◌, Bool, true, false, cond, List, [], ◌∷◌, ◌++◌, All, Err, Ok, OnOk, Result, append_assoc, append-nil, count_by, drop, filter, flat_map, get_or, length, map, refl, true≢false, replicate, slice_index, sym, take, ap, ◌∙◌, arith, zero-add}
-use Rattle.std.proofs.lemmas.Grind.{flat_map-append}
+use Rattle.std.proofs.Common.{◌≡◌, ℕ, zero, suc, ◌+◌, ◌<◌, ◌≤◌, Bool, true, false, cond, List, [], ◌∷◌, ◌++◌, All, Err, Ok, OnOk, Result, append_assoc, append-nil, count_by, drop, filter, get_or, length, map, refl, true≢false, replicate, slice_index, sym, take, ap, ◌∙◌, arith, zero-add}
 use Rattle.std.proofs.lemmas.List.{map-append, take-append-le, take_all, take_more}
 use Rattle.std.proofs.lemmas.List.Elements.{All-cons, All-nil, filter-append}
 use Rattle.std.proofs.lemmas.List.Sums.{sum_by-append, sum_by-cons}
@@ -32,19 +31,7 @@ pub filter_more : (p : ℕ → Bool) (n : ℕ) → filter p (range_with_len 0 (n
 filter_more p n =
     ap (filter p) (range_more 0 n) ∙ (filter-append p (range_with_len 0 n) ((0 + n) ∷ []) ∙ ap (λ k. filter p (range_with_len 0 n) ++ filter p (k ∷ [])) (zero-add n))
 
--- a list that grows by what is made of one item after the other
-pub part_more : {X Y : Type 0} (f : X → List Y) (start : List Y) (xs : List X) (i : ℕ) (d : X) (before after : List Y) → i < length xs
-    → before ≡ start ++ flat_map f (take i xs) → after ≡ before ++ f (get_or xs i d) → after ≡ start ++ flat_map f (take (i + 1) xs)
-part_more f start xs i d before after below so_far part =
-    let x = get_or xs i d in
-    part ∙ (ap (λ l. l ++ f x) so_far ∙ (append_assoc start (flat_map f (take i xs)) (f x)
-    ∙ ap (λ l. start ++ l) (ap (λ l. flat_map f (take i xs) ++ l) (sym (append-nil (f x))) ∙ (sym (flat_map-append f (take i xs) (x ∷ [])) ∙ ap (flat_map f) (sym (take_more xs i d below))))))
-
-pub all_parts : {X Y : Type 0} (f : X → List Y) (start : List Y) (xs : List X) (i : ℕ) (whole : List Y) → length xs ≤ i
-    → whole ≡ start ++ flat_map f (take i xs) → whole ≡ start ++ flat_map f xs
-all_parts f start xs i whole past so_far = so_far ∙ ap (λ l. start ++ flat_map f l) (take_all i xs past)
-
--- and by one item after the other
+-- a list that grows by one item after the other
 pub item_more : {X Y : Type 0} (f : X → Y) (start : List Y) (xs : List X) (i : ℕ) (d : X) (before after : List Y) → i < length xs
     → before ≡ start ++ map f (take i xs) → after ≡ before ++ f (get_or xs i d) ∷ [] → after ≡ start ++ map f (take (i + 1) xs)
 item_more f start xs i d before after below so_far last =
@@ -68,10 +55,6 @@ pub kept_same : {Y : Type 0} (g : List ℕ → List Y) (start : List Y) (p : ℕ
     → p n ≡ false → before ≡ start ++ g (filter p (range_with_len 0 n)) → after ≡ before → after ≡ start ++ g (filter p (range_with_len 0 (n + 1)))
 kept_same g start p n before after fails so_far same =
     same ∙ (so_far ∙ ap (λ l. start ++ g l) (sym (filter_more p n ∙ (ap (λ t. filter p (range_with_len 0 n) ++ cond t (n ∷ []) []) fails ∙ append-nil (filter p (range_with_len 0 n))))))
-
--- one piece after the other
-pub joined : {Y : Type 0} (a b c s t : List Y) → b ≡ a ++ s → c ≡ b ++ t → c ≡ a ++ (s ++ t)
-joined a b c s t p q = q ∙ (ap (λ l. l ++ t) p ∙ append_assoc a s t)
 
 -- what holds where a step succeeds
 pub on_ok : {E P Q : Type 0} (r : Result (Unit {0}) E) → OnOk r P → (P → Q) → OnOk r Q

@@ -6,7 +6,6 @@ pub mod Numbers
 pub mod Open
 pub mod Operations
 pub mod Page
-pub mod Part
 pub mod Refusals
 pub mod Texts
 pub mod Traffic

@@ -16,7 +16,6 @@ mod operation;
 mod page;
 mod page_script;
 mod page_style;
-mod part;
 mod refusals;
 mod rows;
 mod table;

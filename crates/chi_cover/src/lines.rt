@@ -7,8 +7,8 @@ ghost use Rattle.chi_cover.specs.Texts.{missing_line, traffic_row};
 use crate::bin::Bin;
 use crate::covered::Covered;
 use crate::names::{add_bin_name, add_row_name};
-use crate::part::Part::{Number, Text};
-use crate::part::add_parts;
+use chi_text::Part::{Number, Text};
+use chi_text::add_parts;
 use std::alloc::AllocError;
 
 /// The row of one bin among the others of a granule.

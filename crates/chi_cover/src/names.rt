@@ -5,9 +5,9 @@ ghost use Rattle.chi_fields.specs.Opcode.{kind_name};
 ghost use Rattle.chi_cover.specs.Texts.{bin_name, bytes_text, depth_text, enabled_text, half_text, matched_text, order_text, overlap_text, requester_text, row_name};
 
 use crate::bin::{Bin, Depth, Enabled, Transaction};
-use crate::part::Part::{Number, Text};
-use crate::part::add_parts;
 use chi_fields::{Kind, Op};
+use chi_text::Part::{Number, Text};
+use chi_text::add_parts;
 use std::alloc::AllocError;
 
 fn depth_name(depth: Depth) -> &'static str

@@ -10,9 +10,9 @@ use crate::group::{comparison_bins, enables_bins, operation_bins, result_bins};
 use crate::names::add_bin_name;
 use crate::page_script::SCRIPT;
 use crate::page_style::STYLE;
-use crate::part::Part::{Number, Text};
-use crate::part::add_parts;
 use crate::traffic_group::{open_bins, overlap_bins, requester_bins};
+use chi_text::Part::{Number, Text};
+use chi_text::add_parts;
 use std::alloc::{AllocError, Global};
 
 /// What stands before the style, and between it and the data.

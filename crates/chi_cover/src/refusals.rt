@@ -3,10 +3,10 @@
 ghost use Rattle.std.specs.Prelude.{◌≡◌, ◌++◌, OnOk, flat_map};
 ghost use Rattle.chi_cover.specs.Refusals.{all_refusals, is_refused_for, missing_refusal, reasons_met, refusal_number, refusal_row, refusals_head, refusals_text, refused_times};
 
-use crate::part::Part::{Number, Text};
-use crate::part::add_parts;
 use chi_fields::{Refusal, refusal_name};
 use chi_history::Line;
+use chi_text::Part::{Number, Text};
+use chi_text::add_parts;
 use std::alloc::AllocError;
 
 /// The reasons, in the order of their type.

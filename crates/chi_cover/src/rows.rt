@@ -9,9 +9,9 @@ use crate::bin::{Bin, Enabled};
 use crate::covered::Covered;
 use crate::group::{LENGTHS, is_aligned};
 use crate::names::order_name;
-use crate::part::Part::{Number, Text};
-use crate::part::add_parts;
 use chi_fields::{Kind, Op};
+use chi_text::Part::{Number, Text};
+use chi_text::add_parts;
 use std::alloc::AllocError;
 
 /// The counts of a kind, a byte order and a length, by the lane.

@@ -10,11 +10,11 @@ use crate::bin::Bin;
 use crate::covered::Covered;
 use crate::group::{KINDS, LENGTHS, comparison_bins, enables_bins, operation_bins, result_bins};
 use crate::lines::{add_missing, add_traffic_row};
-use crate::part::Part::{Number, Text};
-use crate::part::add_parts;
 use crate::rows::{add_comparison_row, add_enables_row, add_kind_rows, add_op_rows};
 use crate::traffic_group::{all_bins, open_bins, overlap_bins, requester_bins};
 use chi_fields::Op;
+use chi_text::Part::{Number, Text};
+use chi_text::add_parts;
 use std::alloc::{AllocError, Global};
 
 /// How many of these bins have counted an operation.

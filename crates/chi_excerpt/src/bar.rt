@@ -3,7 +3,7 @@
 ghost use Rattle.std.specs.Prelude.{◌≡◌, ◌≤◌, ◌++◌, OnOk, replicate};
 ghost use Rattle.chi_excerpt.specs.Bar.{bar_text, column};
 
-use chi_answer::{Part, add_parts};
+use chi_text::{Part, add_parts};
 use std::alloc::AllocError;
 
 /// The last column of a line of time, counted from 0.

@@ -6,8 +6,8 @@ ghost use Rattle.chi_excerpt.specs.Rows.{first_start, widths_of};
 
 use crate::bar::add_repeated;
 use crate::row::Row;
-use chi_answer::{Part, add_parts};
 use chi_fields::op_name;
+use chi_text::{Part, add_parts};
 use itoa::Buffer;
 use std::alloc::AllocError;
 

@@ -8,8 +8,8 @@ use crate::columns::{Widths, first_start, widths_of};
 use crate::line::add_row;
 use crate::operand::add_returned;
 use crate::row::Row;
-use chi_answer::{Part, add_parts};
 use chi_lanes::Reply;
+use chi_text::{Part, add_parts};
 use std::alloc::{AllocError, Global};
 
 /// The operation that is blamed, and replies of it that would have been legal.

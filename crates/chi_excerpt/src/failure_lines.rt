@@ -7,8 +7,9 @@ use crate::chosen::last_ended;
 use crate::excerpt::{Blamed, Excerpt, add_excerpt};
 use crate::failure::Failure;
 use crate::row::Row;
-use chi_answer::{Part, add_blame, add_parts};
+use chi_answer::add_blame;
 use chi_reading::Recorded;
+use chi_text::{Part, add_parts};
 use std::alloc::{AllocError, Global};
 
 /// The row of the operation at a place.

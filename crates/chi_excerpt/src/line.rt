@@ -7,8 +7,8 @@ use crate::bar::add_bar;
 use crate::columns::{Widths, add_left, add_number, add_until};
 use crate::operand::{add_order, add_place, add_returned, add_sent};
 use crate::row::Row;
-use chi_answer::{Part, add_parts};
 use chi_fields::op_name;
+use chi_text::{Part, add_parts};
 use std::alloc::AllocError;
 
 /// When an operation was under way, with a bar of this sign on a line from one time to another.

@@ -4,9 +4,9 @@ ghost use Rattle.std.specs.Prelude.{◌≡◌, ◌++◌, ◌+◌, ◌<◌, OnOk,
 ghost use Rattle.chi_fields.specs.Access.{lane_of};
 ghost use Rattle.chi_excerpt.specs.Operands.{byte_text, bytes_text, enabled_byte, enabled_text, has_order, is_arithmetic, order_text, place_text, returned_text, sent_text, swap_bytes};
 
-use chi_answer::{Part, add_parts};
 use chi_fields::{Access, Kind, Op};
 use chi_lanes::Reply;
+use chi_text::{Part, add_parts};
 use std::alloc::AllocError;
 
 /// A byte, as two hex digits.

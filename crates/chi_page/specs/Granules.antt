@@ -2,7 +2,7 @@
 use Rattle.std.specs.Prelude.{ℕ, ◌+◌, ◌<◌, ◌*◌, ◌^◌, ◌%◌, List, [], ◌++◌, codes, decimal, length, slice_get, slice_index, take, All, Option, None, Some}
 use Rattle.chi_search.specs.declared.words.Words.{Words}
 use Rattle.chi_search.specs.declared.words.Words.TheVariants.{Each, Unknown}
-use Rattle.chi_script.specs.Transcript.{address_text, word_text}
+use Rattle.chi_text.specs.Part.{address_text, word_text}
 use Rattle.chi_trace.specs.declared.observed.Observed.{Observed}
 use Rattle.chi_trace.specs.Granules.{last_word}
 use Rattle.chi_verdict.specs.declared.first.Blame.{Blame}

@@ -4,7 +4,7 @@ use Rattle.hex.specs.Hex.{encode_lower}
 use Rattle.chi_fields.specs.Opcode.{opcode_name}
 use Rattle.chi_lanes.specs.declared.reply.Reply.{Reply}
 use Rattle.chi_lanes.specs.declared.reply.Reply.TheVariants.{Comp, CompData}
-use Rattle.chi_script.specs.Transcript.{address_text}
+use Rattle.chi_text.specs.Part.{address_text}
 use Rattle.chi_trace.specs.Explains.{at}
 use Rattle.chi_trace.specs.declared.observed.Observed.{Observed}
 use Rattle.chi_reading.specs.declared.asked.Asked.{Asked}

@@ -6,9 +6,9 @@ ghost use Rattle.chi_page.specs.Granules.{blame_json, blamed_json, each_word_jso
 
 use crate::granule::{add_granule, add_word};
 use crate::listed::add_comma;
-use chi_answer::Part::{Number, Text};
-use chi_answer::add_parts;
 use chi_search::Words;
+use chi_text::Part::{Number, Text};
+use chi_text::add_parts;
 use chi_verdict::Blame;
 use std::alloc::AllocError;
 

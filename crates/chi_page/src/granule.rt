@@ -7,10 +7,10 @@ ghost use Rattle.chi_page.specs.Granules.{AreOfTrace, drawn_at, drawn_json, find
 
 use crate::drawn::{Drawn, Finding};
 use crate::listed::add_comma;
-use chi_answer::Part::{Address, Number, Text, Word};
-use chi_answer::add_parts;
 use chi_lanes::apply;
 use chi_reading::Recorded;
+use chi_text::Part::{Address, Number, Text, Word};
+use chi_text::add_parts;
 use chi_trace::Observed;
 use std::alloc::AllocError;
 

@@ -3,8 +3,8 @@
 ghost use Rattle.std.specs.Prelude.{◌≡◌, ◌++◌, OnOk};
 ghost use Rattle.chi_page.specs.Listed.{comma};
 
-use chi_answer::Part::Text;
-use chi_answer::add_parts;
+use chi_text::Part::Text;
+use chi_text::add_parts;
 use std::alloc::AllocError;
 
 /// What stands before the text with this number, counted from 0.

@@ -4,11 +4,11 @@ ghost use Rattle.std.specs.Prelude.{◌≡◌, ◌<◌, ◌++◌, OnOk, length};
 ghost use Rattle.chi_page.specs.Operations.{end_json, endian_json, header_json, observed_json, operation_at, operation_json, operations_json, packet_json, reply_json, request_json};
 
 use crate::listed::add_comma;
-use chi_answer::Part::{Address, Number, Packet, Text};
-use chi_answer::add_parts;
 use chi_fields::op_name;
 use chi_lanes::Reply;
 use chi_reading::{Asked, Recorded};
+use chi_text::Part::{Address, Number, Packet, Text};
+use chi_text::add_parts;
 use chi_trace::Observed;
 use std::alloc::AllocError;
 

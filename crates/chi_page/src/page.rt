@@ -15,9 +15,9 @@ use crate::moving_script::MOVING;
 use crate::operation::add_operations;
 use crate::page_script::PAGE;
 use crate::style::STYLE;
-use chi_answer::Part::Text;
-use chi_answer::add_parts;
 use chi_reading::Recorded;
+use chi_text::Part::Text;
+use chi_text::add_parts;
 use chi_verdict::Blame;
 use std::alloc::AllocError;
 

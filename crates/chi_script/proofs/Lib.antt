@@ -1,4 +1,3 @@
-pub mod Decimal
 pub mod GranuleWords
 pub mod ImageLemmas
 pub mod RequesterBounds

@@ -1,7 +1,6 @@
 pub mod Faults
 pub mod ImageLaws
 pub mod Member
-pub mod Piece
 pub mod RunText
 pub mod Script
 pub mod Transcript

@@ -1,7 +1,7 @@
 -- the text of a transcript
 use Rattle.std.specs.Prelude.{ℕ, ◌+◌, List, [], ◌∷◌, ◌++◌, flat_map, codes, decimal}
-use Rattle.std.specs.Int.{w64, to_be_bytes, to_le_bytes}
 use Rattle.hex.specs.Hex.{encode_lower}
+use Rattle.chi_text.specs.Part.{address_text, word_text}
 use Rattle.chi_fields.specs.Opcode.{opcode_name}
 use Rattle.chi_fields.specs.Refusal.{name_of}
 use Rattle.chi_fields.specs.declared.request.Request.{Request}
@@ -9,14 +9,6 @@ use Rattle.chi_lanes.specs.declared.reply.Reply.{Reply}
 use Rattle.chi_lanes.specs.declared.reply.Reply.TheVariants.{Comp, CompData}
 use Rattle.chi_history.specs.declared.line.Line.{Line}
 use Rattle.chi_history.specs.declared.line.Line.TheVariants.{Completed, Refused, Retried}
-
--- an address as sixteen hex digits, the most significant first
-abbrev pub address_text : ℕ → List ℕ
-address_text addr = encode_lower (to_be_bytes w64 addr)
-
--- a granule's word as its eight bytes in address order, two hex digits each
-abbrev pub word_text : ℕ → List ℕ
-word_text word = encode_lower (to_le_bytes w64 word)
 
 -- the request that a line reports
 abbrev pub request_of_line : Line → Request

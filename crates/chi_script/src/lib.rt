@@ -6,7 +6,7 @@ mod fault;
 pub mod laws;
 mod member;
 mod page;
-mod piece;
+mod parts;
 mod script;
 mod transcript;
 mod walk;

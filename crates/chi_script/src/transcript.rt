@@ -6,10 +6,11 @@ ghost use Rattle.chi_script.specs.WriterBytes.{Puts, Writes};
 
 use crate::device::{WriteFault, put_page};
 use crate::page::Page;
-use crate::piece::{Piece, put_pieces};
+use crate::parts::put_parts;
 use chi_fields::{Region, Request, op_name, refusal_name};
 use chi_history::Line;
 use chi_lanes::Reply;
+use chi_text::Part::{Address, Number, Opcode, Packet, Text, Word};
 use std::io::Write;
 
 // The request that a line reports.
@@ -27,22 +28,22 @@ fn request_of_line(line: &Line) -> Request
 fn put_request<W: Write>(to: &mut W, page: &mut Page, request: &Request) -> Result<(), WriteFault>
     ensures { Writes (W.contents to.old) page.old (W.contents to.new) page.new result (request_text request.now) }
 {
-    put_pieces(
+    put_parts(
         to,
         page,
         &[
-            Piece::Decimal(request.src),
-            Piece::Text(" "),
-            Piece::Decimal(request.txn),
-            Piece::Text(" "),
-            Piece::Byte(request.opcode),
-            Piece::Text(" "),
-            Piece::Text(op_name(request.opcode)),
-            Piece::Text(" "),
-            Piece::Decimal(request.size),
-            Piece::Text(" "),
-            Piece::Address(request.addr),
-            Piece::Text(" "),
+            Number(u64::from(request.src)),
+            Text(" "),
+            Number(u64::from(request.txn)),
+            Text(" "),
+            Opcode(request.opcode),
+            Text(" "),
+            Text(op_name(request.opcode)),
+            Text(" "),
+            Number(u64::from(request.size)),
+            Text(" "),
+            Address(request.addr),
+            Text(" "),
         ],
     )
 }
@@ -52,30 +53,18 @@ fn put_outcome<W: Write>(to: &mut W, page: &mut Page, line: &Line) -> Result<(),
     ensures { Writes (W.contents to.old) page.old (W.contents to.new) page.new result (outcome_text line.now ++ codes "\n") }
 {
     match line {
-        Line::Completed(_, Reply::Comp) => put_pieces(to, page, &[Piece::Text("comp\n")]),
+        Line::Completed(_, Reply::Comp) => put_parts(to, page, &[Text("comp\n")]),
         Line::Completed(_, Reply::CompData(lanes)) => {
-            put_pieces(
-                to,
-                page,
-                &[
-                    Piece::Text("data "),
-                    Piece::Lanes(*lanes),
-                    Piece::Text("\n"),
-                ],
-            )
+            put_parts(to, page, &[Text("data "), Packet(*lanes), Text("\n")])
         }
         Line::Refused(_, refusal) => {
-            put_pieces(
+            put_parts(
                 to,
                 page,
-                &[
-                    Piece::Text("refused "),
-                    Piece::Text(refusal_name(*refusal)),
-                    Piece::Text("\n"),
-                ],
+                &[Text("refused "), Text(refusal_name(*refusal)), Text("\n")],
             )
         }
-        Line::Retried(_) => put_pieces(to, page, &[Piece::Text("retry\n")]),
+        Line::Retried(_) => put_parts(to, page, &[Text("retry\n")]),
     }
 }
 
@@ -106,16 +95,10 @@ fn put_granule<W: Write>(
 ) -> Result<(), WriteFault>
     ensures { Writes (W.contents to.old) page.old (W.contents to.new) page.new result (granule_text addr word) }
 {
-    put_pieces(
+    put_parts(
         to,
         page,
-        &[
-            Piece::Text("m "),
-            Piece::Address(addr),
-            Piece::Text(" "),
-            Piece::Word(word),
-            Piece::Text("\n"),
-        ],
+        &[Text("m "), Address(addr), Text(" "), Word(word), Text("\n")],
     )
 }
 

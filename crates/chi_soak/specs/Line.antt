@@ -3,7 +3,7 @@ use Rattle.std.specs.Prelude.{ℕ, ◌*◌, ◌^◌, ◌%◌, List, [], ◌++◌
 use Rattle.hex.specs.Hex.{encode_lower}
 use Rattle.chi_lanes.specs.declared.reply.Reply.{Reply}
 use Rattle.chi_lanes.specs.declared.reply.Reply.TheVariants.{Comp, CompData}
-use Rattle.chi_script.specs.Transcript.{word_text}
+use Rattle.chi_text.specs.Part.{word_text}
 use Rattle.chi_verdict.specs.declared.words.GranuleWord.{GranuleWord}
 use Rattle.chi_reading.specs.declared.asked.Asked.{Asked}
 use Rattle.chi_events.specs.declared.event.Completion.{Completion}

@@ -3,10 +3,10 @@
 ghost use Rattle.std.specs.Prelude.{◌≡◌, ◌++◌, OnOk};
 ghost use Rattle.chi_soak.specs.Line.{byte_order, completion_text, data_text, dropped_text, event_line, fields_text, granule_text, kind_text, late_text, packet_text, quoted_text, reply_text, request_text, unknown_text};
 
-use chi_answer::{Part, add_parts};
 use chi_events::{Completion, Event, EventKind, Packet, Requested};
 use chi_lanes::Reply;
 use chi_reading::Asked;
+use chi_text::{Part, add_parts};
 use chi_verdict::GranuleWord;
 use std::alloc::AllocError;
 

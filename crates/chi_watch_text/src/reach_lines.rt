@@ -4,9 +4,10 @@ ghost use Rattle.std.specs.Prelude.{◌≡◌, ◌++◌, IfOk, OnOk, flat_map, m
 ghost use Rattle.chi_watch_text.specs.ReachTexts.{final_text, kept_line, reach_text, stop_text, up_to_line};
 ghost use Rattle.chi_watch_text.specs.RowTexts.{IsExcerptOf, ended_after, row_of};
 
-use chi_answer::{Part, add_blamed, add_end, add_open, add_parts, add_words};
+use chi_answer::{add_blamed, add_end, add_open, add_words};
 use chi_excerpt::{Blamed, Excerpt, Row, add_excerpt};
 use chi_recent::{Reach, Stop, Traced};
+use chi_text::{Part, add_parts};
 use std::alloc::{AllocError, Global};
 
 /// The lines of the operations that were open.

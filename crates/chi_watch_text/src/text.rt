@@ -5,7 +5,8 @@ ghost use Rattle.chi_watch_text.specs.Texts.{answer_text, counts_text, end_text,
 
 use crate::reach_lines::add_reach;
 use crate::watched::{Found, WatchVerdict, Watched, is_found};
-use chi_answer::{Part, add_granule, add_parts, add_undecided};
+use chi_answer::{add_granule, add_undecided};
+use chi_text::{Part, add_parts};
 use chi_watch::{Counts, Ending, FoundAtEnd};
 use std::alloc::{AllocError, Global};
 

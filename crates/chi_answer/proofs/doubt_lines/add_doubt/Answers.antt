@@ -2,7 +2,7 @@
 use Rattle.std.proofs.Common.{List, ℕ, ◌++◌}
 use Rattle.chi_answer.specs.DoubtLines.{found_line, most_open_line}
 use Rattle.chi_answer.specs.Lines.{undecided_line}
-use Rattle.chi_answer.proofs.Growing.{part_then}
+use Rattle.chi_text.proofs.Growing.{part_then}
 use Rattle.chi_answer.proofs.doubt_lines.add_doubt.Goals as goal
 
 pub returns : goal.returns

@@ -1,6 +1,6 @@
 -- one line more
 use Rattle.chi_answer.specs.Lines.{word_line}
-use Rattle.chi_answer.proofs.Growing.{part_more}
+use Rattle.chi_text.proofs.Growing.{part_more}
 use Rattle.chi_answer.proofs.lines.add_each.Goals as goal
 
 pub loop-word-preserved : goal.loop-word-preserved

@@ -2,7 +2,7 @@
 use Rattle.std.proofs.Common.{List, ℕ, ◌++◌, flat_map, vec_len}
 use Rattle.chi_answer.specs.Lines.{blamed_at, explained_line, granule_line, open_at}
 use Rattle.chi_answer.specs.Texts.{found_words}
-use Rattle.chi_answer.proofs.Growing.{part_then}
+use Rattle.chi_text.proofs.Growing.{part_then}
 use Rattle.chi_answer.proofs.Places.{blamed_place, open_places}
 use Rattle.chi_answer.proofs.text.add_blame.Goals as goal
 

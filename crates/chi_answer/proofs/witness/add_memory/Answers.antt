@@ -1,6 +1,6 @@
 -- one line more
 use Rattle.chi_answer.specs.Witnesses.{memory_line}
-use Rattle.chi_answer.proofs.Growing.{part_more}
+use Rattle.chi_text.proofs.Growing.{part_more}
 use Rattle.chi_answer.proofs.witness.add_memory.Goals as goal
 
 pub loop-told-preserved : goal.loop-told-preserved

@@ -1,6 +1,6 @@
 -- one length more
 use Rattle.chi_cover.specs.Bins.{lane_bins, lengths}
-use Rattle.chi_cover.proofs.Lists.{part_more}
+use Rattle.chi_text.proofs.Growing.{part_more}
 use Rattle.chi_cover.proofs.group.add_lengths.Goals as goal
 
 pub loop-len-preserved : goal.loop-len-preserved

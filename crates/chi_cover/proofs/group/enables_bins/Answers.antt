@@ -1,7 +1,7 @@
 -- one length more
 use Rattle.std.proofs.Common.{[]}
 use Rattle.chi_cover.specs.Bins.{enables_of, lengths}
-use Rattle.chi_cover.proofs.Lists.{all_parts, part_more}
+use Rattle.chi_text.proofs.Growing.{all_parts, part_more}
 use Rattle.chi_cover.proofs.group.enables_bins.Goals as goal
 
 pub loop-len-preserved : goal.loop-len-preserved

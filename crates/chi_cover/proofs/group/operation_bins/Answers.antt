@@ -1,7 +1,7 @@
 -- one kind more
 use Rattle.std.proofs.Common.{[]}
 use Rattle.chi_cover.specs.Bins.{all_kinds, kind_bins, operation_bins}
-use Rattle.chi_cover.proofs.Lists.{all_parts, part_more}
+use Rattle.chi_text.proofs.Growing.{all_parts, part_more}
 use Rattle.chi_cover.proofs.group.operation_bins.Goals as goal
 
 pub loop-kind-preserved : goal.loop-kind-preserved

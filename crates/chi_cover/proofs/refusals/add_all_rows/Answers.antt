@@ -1,6 +1,6 @@
 -- one reason more
 use Rattle.chi_cover.specs.Refusals.{all_refusals, refusal_row}
-use Rattle.chi_cover.proofs.Lists.{all_parts, part_more}
+use Rattle.chi_text.proofs.Growing.{all_parts, part_more}
 use Rattle.chi_cover.proofs.refusals.add_all_rows.Goals as goal
 
 pub loop-reason-preserved : goal.loop-reason-preserved

@@ -4,7 +4,8 @@ use Rattle.chi_cover.specs.declared.bin.Bin.TheVariants.{Enables}
 use Rattle.chi_cover.specs.declared.bin.Enabled.TheVariants.{NoLane}
 use Rattle.chi_cover.specs.Counts.{count_in}
 use Rattle.chi_cover.specs.Texts.{enables_row, some_text}
-use Rattle.chi_cover.proofs.Lists.{joined, on_ok}
+use Rattle.chi_text.proofs.Growing.{joined}
+use Rattle.chi_cover.proofs.Lists.{on_ok}
 use Rattle.chi_cover.proofs.rows.add_enables_row.Goals as goal
 
 pub returns : goal.returns

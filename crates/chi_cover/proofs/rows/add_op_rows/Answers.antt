@@ -2,7 +2,7 @@
 use Rattle.chi_cover.specs.Bins.{lengths}
 use Rattle.chi_cover.specs.Counts.{count_in}
 use Rattle.chi_cover.specs.Texts.{op_rows, result_row}
-use Rattle.chi_cover.proofs.Lists.{all_parts, part_more}
+use Rattle.chi_text.proofs.Growing.{all_parts, part_more}
 use Rattle.chi_cover.proofs.rows.add_op_rows.Goals as goal
 
 pub loop-len-preserved : goal.loop-len-preserved

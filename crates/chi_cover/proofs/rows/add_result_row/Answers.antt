@@ -1,7 +1,8 @@
 -- one piece after the other
 use Rattle.std.proofs.Common.{append-nil}
 use Rattle.chi_cover.specs.Texts.{result_row}
-use Rattle.chi_cover.proofs.Lists.{joined, on_ok}
+use Rattle.chi_text.proofs.Growing.{joined}
+use Rattle.chi_cover.proofs.Lists.{on_ok}
 use Rattle.chi_cover.proofs.rows.add_result_row.Goals as goal
 
 pub returns : goal.returns

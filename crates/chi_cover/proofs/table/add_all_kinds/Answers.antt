@@ -2,7 +2,7 @@
 use Rattle.chi_cover.specs.Bins.{all_kinds}
 use Rattle.chi_cover.specs.Counts.{count_in}
 use Rattle.chi_cover.specs.Texts.{kind_rows}
-use Rattle.chi_cover.proofs.Lists.{all_parts, part_more}
+use Rattle.chi_text.proofs.Growing.{all_parts, part_more}
 use Rattle.chi_cover.proofs.table.add_all_kinds.Goals as goal
 
 pub loop-kind-preserved : goal.loop-kind-preserved

@@ -2,7 +2,7 @@
 use Rattle.chi_fields.specs.Opcode.{all_ops}
 use Rattle.chi_cover.specs.Counts.{count_in}
 use Rattle.chi_cover.specs.Texts.{op_rows}
-use Rattle.chi_cover.proofs.Lists.{part_more}
+use Rattle.chi_text.proofs.Growing.{part_more}
 use Rattle.chi_cover.proofs.table.add_all_results.Goals as goal
 
 pub loop-op-preserved : goal.loop-op-preserved

@@ -1,7 +1,7 @@
 -- one bin more
 use Rattle.chi_cover.specs.Counts.{count_in}
 use Rattle.chi_cover.specs.Texts.{missing_line}
-use Rattle.chi_cover.proofs.Lists.{all_parts, part_more}
+use Rattle.chi_text.proofs.Growing.{all_parts, part_more}
 use Rattle.chi_cover.proofs.table.add_each_missing.Goals as goal
 
 pub loop-bin-preserved : goal.loop-bin-preserved

@@ -3,7 +3,8 @@ use Rattle.std.proofs.Common.{codes, flat_map}
 use Rattle.chi_cover.specs.Bins.{all_kinds, comparison_bins, enables_bins, lengths, operation_bins, result_bins}
 use Rattle.chi_cover.specs.Counts.{count_in}
 use Rattle.chi_cover.specs.Texts.{comparison_row, enables_row, head_text, kind_rows, operations_text}
-use Rattle.chi_cover.proofs.Lists.{joined, on_ok}
+use Rattle.chi_text.proofs.Growing.{joined}
+use Rattle.chi_cover.proofs.Lists.{on_ok}
 use Rattle.chi_cover.proofs.table.add_of_operations.Goals as goal
 
 pub returns : goal.returns

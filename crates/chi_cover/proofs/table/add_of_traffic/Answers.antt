@@ -3,7 +3,8 @@ use Rattle.std.proofs.Common.{codes}
 use Rattle.chi_cover.specs.Bins.{open_bins, overlap_bins}
 use Rattle.chi_cover.specs.Counts.{count_in}
 use Rattle.chi_cover.specs.Texts.{group_text, traffic_text}
-use Rattle.chi_cover.proofs.Lists.{joined, on_ok}
+use Rattle.chi_text.proofs.Growing.{joined}
+use Rattle.chi_cover.proofs.Lists.{on_ok}
 use Rattle.chi_cover.proofs.table.add_of_traffic.Goals as goal
 
 pub returns : goal.returns

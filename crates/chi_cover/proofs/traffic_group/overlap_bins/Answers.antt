@@ -1,7 +1,7 @@
 -- one transaction more
 use Rattle.std.proofs.Common.{[]}
 use Rattle.chi_cover.specs.Bins.{all_transactions, later_bins}
-use Rattle.chi_cover.proofs.Lists.{all_parts, part_more}
+use Rattle.chi_text.proofs.Growing.{all_parts, part_more}
 use Rattle.chi_cover.proofs.traffic_group.overlap_bins.Goals as goal
 
 pub loop-earlier-preserved : goal.loop-earlier-preserved

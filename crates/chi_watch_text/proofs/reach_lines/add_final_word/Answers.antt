@@ -1,6 +1,6 @@
 -- the word, and those that could have been there
 use Rattle.chi_answer.specs.Lines.{end_line, word_lines}
-use Rattle.chi_answer.proofs.Growing.{part_then}
+use Rattle.chi_text.proofs.Growing.{part_then}
 use Rattle.chi_watch_text.proofs.reach_lines.add_final_word.Goals as goal
 
 pub returns : goal.returns

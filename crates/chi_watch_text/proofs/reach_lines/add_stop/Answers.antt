@@ -1,7 +1,7 @@
 -- one line after the other
 use Rattle.std.proofs.Common.{ℕ, List, ◌++◌, OnOk, flat_map, subst}
 use Rattle.chi_answer.specs.Lines.{blamed_line, word_lines}
-use Rattle.chi_answer.proofs.Growing.{part_then}
+use Rattle.chi_text.proofs.Growing.{part_then}
 use Rattle.chi_watch_text.specs.ReachTexts.{kept_line, up_to_line}
 use Rattle.chi_watch_text.specs.RowTexts.{rows_text}
 use Rattle.chi_watch_text.proofs.Rows.{rows_are}

@@ -1,6 +1,6 @@
 -- one granule more
 use Rattle.std.proofs.Common.{◌≡◌, ◌++◌, subst}
-use Rattle.chi_answer.proofs.Growing.{part_more}
+use Rattle.chi_text.proofs.Growing.{part_more}
 use Rattle.chi_watch_text.specs.Texts.{end_text}
 use Rattle.chi_watch.specs.declared.ending.FoundAtEnd.{FoundAtEnd}
 use Rattle.chi_watch_text.proofs.text.add_all_at_end.Goals as goal

@@ -1,6 +1,6 @@
 -- one granule more
 use Rattle.std.proofs.Common.{◌≡◌, ◌++◌, subst}
-use Rattle.chi_answer.proofs.Growing.{part_more}
+use Rattle.chi_text.proofs.Growing.{part_more}
 use Rattle.chi_watch_text.specs.Texts.{found_text}
 use Rattle.chi_watch_text.specs.declared.watched.Found.{Found}
 use Rattle.chi_watch_text.proofs.text.add_all_found.Goals as goal

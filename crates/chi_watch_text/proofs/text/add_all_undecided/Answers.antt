@@ -1,5 +1,5 @@
 -- one granule more
-use Rattle.chi_answer.proofs.Growing.{part_more}
+use Rattle.chi_text.proofs.Growing.{part_more}
 use Rattle.chi_watch_text.specs.Texts.{undecided_text}
 use Rattle.chi_watch_text.proofs.text.add_all_undecided.Goals as goal
 

@@ -1,7 +1,7 @@
 -- nothing is said of a granule that was found before
 use Rattle.std.proofs.Common.{ℕ, List, ◌∙◌, ◌++◌, codes, append-nil, sym}
 use Rattle.chi_answer.specs.Lines.{granule_line}
-use Rattle.chi_answer.proofs.Growing.{part_then}
+use Rattle.chi_text.proofs.Growing.{part_then}
 use Rattle.chi_watch_text.specs.ReachTexts.{reach_text}
 use Rattle.chi_watch_text.specs.Texts.{end_text}
 use Rattle.chi_watch_text.proofs.text.add_at_end.Goals as goal

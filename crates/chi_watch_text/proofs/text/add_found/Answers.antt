@@ -1,7 +1,7 @@
 -- one line after the other
 use Rattle.std.proofs.Common.{ℕ, List, ◌++◌, None, codes, decimal, append_assoc, append-nil}
 use Rattle.chi_answer.specs.Lines.{granule_line}
-use Rattle.chi_answer.proofs.Growing.{part_then}
+use Rattle.chi_text.proofs.Growing.{part_then}
 use Rattle.chi_watch_text.specs.ReachTexts.{reach_text}
 use Rattle.chi_watch_text.specs.Texts.{found_text}
 use Rattle.chi_watch_text.proofs.text.add_found.Goals as goal
