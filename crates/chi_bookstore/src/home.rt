@@ -101,8 +101,4 @@ impl<A: Allocator> Home for BookStore<A> {
             words[granule] = found ^ image[granule];
         }
     }
-
-    fn return_credit(&self, credit: Credit) {
-        credit.spend();
-    }
 }

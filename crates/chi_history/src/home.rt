@@ -118,7 +118,9 @@ pub trait Home {
             → slice_index words.new g ≡ word (end (opening self.now) (seen seat.new)) (opening self.now).region g };
 
     /// Gives a credit back. No seat and no history changes.
-    fn return_credit(&self, credit: Credit);
+    fn return_credit(&self, credit: Credit) {
+        credit.spend();
+    }
 
     /// The opening's region is one, its image has a word for each granule, and its requesters are 1 to 8.
     ghost is_opening: { (home : Self) → IsOpening (opening home) };

@@ -101,10 +101,6 @@ impl<A: Allocator> Home for LockStore<A> {
         }
     }
 
-    fn return_credit(&self, credit: Credit) {
-        credit.spend();
-    }
-
     ghost is_opening = { λ h. h.opening };
 
     ghost seen_is_legal = { λ h s b. b.1.known.legal };
