@@ -1,5 +1,5 @@
 -- what is written of a trace that was read
-use Rattle.std.proofs.Common.{◌≡◌, ℕ, ◌≤◌, List, length, Option, None, Some, Ok, Err, IfSome, refl, subst}
+use Rattle.std.proofs.Common.{◌≡◌, ℕ, ◌≤◌, List, length, Option, None, Some, Result, Ok, Err, IfOk, IfSome, refl, subst}
 use Rattle.std.specs.Io.KnownBytes.{Appends}
 use Rattle.chi_script.specs.WriterBytes.{AppendsFront}
 use Rattle.chi_script.specs.declared.device.WriteFault.{WriteFault}
@@ -65,6 +65,11 @@ spent_where_undecided options (Explained order) count within spent is = cc
 spent_where_undecided options (Blamed blame) count within spent is = cc
 spent_where_undecided options (Unexplained granule words) count within spent is = cc
 spent_where_undecided options (Undecided doubt) count within spent is = (doubt.states, within, spent)
+
+-- two facts of one value
+pub both : {X E : Type 0} (r : Result X E) (P Q : X → Type 0) → IfOk r P → IfOk r Q → IfOk r (λ x. P x × Q x)
+both (Ok x) P Q p q = (p, q)
+both (Err e) P Q p q = tt
 
 -- where a trace stops being explained, the text of the failure is the one of a right answer, and so is its page
 pub blamed_right : (options : CheckOptions) (r : RecordedValue) (failure : Failure) (text page : List ℕ) → IsUnexplained r → IsFailure r failure → IsFailureText r options.around failure text

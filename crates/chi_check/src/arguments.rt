@@ -80,8 +80,8 @@ fn end_task<R: Read, W: Write, E: Write, P: ShownProgress, G: Pages + Sources + 
 }
 
 /// The program: reads the arguments after its name, does the task that they name with what `from` gives, and writes the
-/// answer to `to`. A fault is reported to `errors`, whose own faults are ignored, `progress` is told how far the search is, and `machine`
-/// puts the page of a trace and tells how much was used. The answer is the status to end with.
+/// answer to `to`. A fault is reported to `errors`, whose own faults are ignored. `progress` is told how far the search is, and
+/// `machine` puts the page of a trace and tells how much was used. The answer is the status to end with.
 ///
 /// ```
 /// let status = run_arguments(alloc, &arguments, &mut input, &mut output, &mut errors, &mut progress, &mut machine);

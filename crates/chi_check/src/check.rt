@@ -157,8 +157,7 @@ fn answered<P: ShownProgress, M: Meter>(
     ensures spent { IfOk result (λ report. LookedForStatus P.looked progress.old progress.new options.now report.status) }
 {
     let searched = search(alloc, recorded, options, progress, meter)?;
-    let report = report_of(alloc, recorded, searched, options, progress)?;
-    Ok(report)
+    report_of(alloc, recorded, searched, options, progress)
 }
 
 // What is reported of what is judged of a trace, once what is shown of the progress is taken back.
@@ -173,10 +172,9 @@ fn reported<P: ShownProgress, M: Meter>(
     ensures spent { IfOk result (λ report. LookedForStatus P.looked progress.old progress.new options.now report.status) }
 {
     let part = judged(alloc, recorded, options.until)?;
-    let found = answered(alloc, &part, options, progress, meter);
+    let report = answered(alloc, &part, options, progress, meter);
     progress.clear();
-    let report = found?;
-    Ok(report)
+    report
 }
 
 /// Puts a page where one is asked for, and answers whether it could.

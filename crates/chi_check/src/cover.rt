@@ -69,9 +69,9 @@ fn report_of(
     Ok(CoverReport { table, page })
 }
 
-/// Reads traces or events, counts what their operations covered, and writes the table: of the files that the options name, added up,
-/// or of the standard input where they name none. The answer is a status: 1 where fewer of a hundred bins have counted an operation
-/// than the options want, and else 0.
+/// Reads traces or events, counts what their operations covered, and writes the table: of the files that the options name,
+/// added up, or of the standard input where they name none. The answer is a status: 1 where fewer of a hundred bins have counted
+/// an operation than the options want, and else 0.
 ///
 /// Nothing is written unless all inputs were read and counted. Where a page is asked for, it is made whole and put before the table
 /// is written. After a fault of the writer a prefix of the table has been written. Whether the operations can be explained is not

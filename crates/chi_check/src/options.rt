@@ -18,8 +18,8 @@ pub struct CheckOptions<'a> {
     pub html: Option<&'a str>,
 }
 
-/// What is counted, and how. `require` is how many of a hundred bins have to have counted an operation. With `events` the inputs tell
-/// events, and are no traces. `files` are the paths of the inputs; where there is none it is the standard input. `html` is the path
+/// What is counted, and how. `require` is how many of a hundred bins have to have counted an operation. With `events` the inputs
+/// tell events, and are no traces. `files` are the paths of the inputs; where there is none it is the standard input. `html` is the path
 /// of a file that is to be the page of the counts.
 ///
 /// Source: profile.
