@@ -36,18 +36,18 @@ abbrev policies_of : Bor (List (Bor Text)) → Rule
 policies_of words = option_rule (codes "policy") (value_parser.Names words) (codes "resend" ∷ [])
 
 -- the three tasks
-unfoldable pub both : App → App → App
-both run race = with_subcommand (with_subcommand (with_subcommand (bare_app (codes "chihome")) run.top) race.top) generate_app.top
+unfoldable pub with_tasks : App → App → App
+with_tasks run race = with_subcommand (with_subcommand (with_subcommand (bare_app (codes "chihome")) run.top) race.top) generate_app.top
 
 -- the program, whose options take these words
 unfoldable pub program_of : Bor (List (Bor Text)) → Bor (List (Bor Text)) → Bor (List (Bor Text)) → Bor (List (Bor Text)) → App
 program_of v w x y =
-    both (with_rule (task_of (codes "run") (stores_of v) (policies_of w)) cover_rule) (with_rule (task_of (codes "race") (stores_of x) (policies_of y)) workers_rule)
+    with_tasks (with_rule (task_of (codes "run") (stores_of v) (policies_of w)) cover_rule) (with_rule (task_of (codes "race") (stores_of x) (policies_of y)) workers_rule)
 
 -- it is the program, where they are the right words
 is_program : (v w x y : Bor (List (Bor Text))) → texts v.now ≡ codes "lock" ∷ codes "book" ∷ [] → texts w.now ≡ codes "resend" ∷ codes "return" ∷ []
     → texts x.now ≡ codes "lock" ∷ codes "book" ∷ [] → texts y.now ≡ codes "resend" ∷ codes "return" ∷ [] → IsProgram (program_of v w x y)
-unfolding program_of both task_of
+unfolding program_of with_tasks task_of
 is_program v w x y stores policies other_stores other_policies = (
   with_rule (task_of (codes "run") (stores_of v) (policies_of w)) cover_rule,
   with_rule (task_of (codes "race") (stores_of x) (policies_of y)) workers_rule,
@@ -65,7 +65,7 @@ program_made (Ok command) v w x y stores policies other_stores other_policies is
 program_made (Err error) v w x y stores policies other_stores other_policies is = tt
 
 simple_whatever : (v w x y : Bor (List (Bor Text))) → is_simple_and_free (program_of v w x y) ≡ true
-unfolding clap_on_literals program_of both task_of
+unfolding clap_on_literals program_of with_tasks task_of
 simple_whatever v w x y = refl
 
 -- the name of the subcommand that the arguments name
@@ -74,19 +74,19 @@ name_found app arguments = option_map (λ p. p.0) (subcommand_of app arguments)
 
 -- where the walk has met a subcommand it leaves the other arguments to it
 raced_whatever : (v w x y : Bor (List (Bor Text))) (rest : List Text) → name_found (program_of v w x y) (codes "race" ∷ rest) ≡ Some (codes "race")
-unfolding clap_on_literals name_found program_of both task_of
+unfolding clap_on_literals name_found program_of with_tasks task_of
 raced_whatever v w x y rest =
     let app = built (program_of v w x y) in
     ap (λ (end : Walk). option_map (λ p. p.0) (entered app end.stopped)) (sym (walk_stopped app.top.rules (names_of app) (walk_from nothing_held) (codes "race") [] rest))
 
 run_whatever : (v w x y : Bor (List (Bor Text))) (rest : List Text) → name_found (program_of v w x y) (codes "run" ∷ rest) ≡ Some (codes "run")
-unfolding clap_on_literals name_found program_of both task_of
+unfolding clap_on_literals name_found program_of with_tasks task_of
 run_whatever v w x y rest =
     let app = built (program_of v w x y) in
     ap (λ (end : Walk). option_map (λ p. p.0) (entered app end.stopped)) (sym (walk_stopped app.top.rules (names_of app) (walk_from nothing_held) (codes "run") [] rest))
 
 generate_whatever : (v w x y : Bor (List (Bor Text))) (rest : List Text) → name_found (program_of v w x y) (codes "generate" ∷ rest) ≡ Some (codes "generate")
-unfolding clap_on_literals name_found program_of both task_of
+unfolding clap_on_literals name_found program_of with_tasks task_of
 generate_whatever v w x y rest =
     let app = built (program_of v w x y) in
     ap (λ (end : Walk). option_map (λ p. p.0) (entered app end.stopped)) (sym (walk_stopped app.top.rules (names_of app) (walk_from nothing_held) (codes "generate") [] rest))
@@ -103,8 +103,8 @@ unfolding task_of
 race_is app t = t.2 ∙ ap (λ (task : App). with_rule task workers_rule) (task_is (codes "race") t.0 t.1)
 
 program_is : (app : App) → (p : IsProgram app) → app ≡ program_of p.2.1.2.0 p.2.1.3.0 p.3.1.2.0 p.3.1.3.0
-unfolding program_of both
-program_is app p = p.4 ∙ ap₂ both (run_is p.0 p.2) (race_is p.1 p.3)
+unfolding program_of with_tasks
+program_is app p = p.4 ∙ ap₂ with_tasks (run_is p.0 p.2) (race_is p.1 p.3)
 
 -- `clap` says what it answers to any arguments
 pub program_is_simple : (app : App) → IsProgram app → is_simple_and_free app ≡ true

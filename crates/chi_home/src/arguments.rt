@@ -88,8 +88,8 @@ fn end_asked<T: AllocGlobal + Threads + Wait + Sync, R: Read, W: Write, E: Write
 }
 
 /// The program: reads the arguments after its name, does the task that they name with a script from `from`, and
-/// writes the transcript to `to`, or what the script covered, or makes a script and writes that. A fault is reported to `errors`, whose own faults are ignored. The answer is the
-/// status to end with.
+/// writes the transcript to `to`, or what the script covered, or makes a script and writes that. A fault is
+/// reported to `errors`, whose own faults are ignored. The answer is the status to end with.
 ///
 /// ```
 /// let status = run_words(&rt, &arguments, &mut input, &mut output, &mut errors);

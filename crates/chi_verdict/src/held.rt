@@ -38,8 +38,8 @@ pub(crate) fn words_after_all<P: Progress>(
 }
 
 /// Each word that a granule can hold at the end of a trace that can be explained, whatever the words that were observed there.
-/// `granule` is its number, counted from address 0: its address divided by 8. `budget` is how many states may be looked at, and is left with how many more might have
-/// been.
+/// `granule` is its number, counted from address 0: its address divided by 8. `budget` is how many states may be looked at, and
+/// is left with how many more might have been.
 ///
 /// Source: profile.
 ///
