@@ -3,12 +3,13 @@ PREFIX ?= /usr/local
 PROGRAM := crates/chi_home/out/chi_home
 CHECKER := crates/chi_check/out/chi_check
 SOAK := crates/chi_soak/out/chi_soak
+EXAMPLE := crates/chi_example/out/chi_example
 VERSION := $(shell cat VERSION)
 DIST := out/dist/chi-$(VERSION)
 SCRIPT ?= examples/fetch_add.json
 SECONDS ?= 10
 
-.PHONY: help try build checker run soak test page-test edits lib dv install dist bench bench-c bench-explain corpus
+.PHONY: help try build checker example run soak test page-test edits lib dv install dist bench bench-c bench-explain corpus
 
 help:
 	@echo "make try [SCRIPT=FILE]     build chihome with no proof, and show a script and the transcript of chihome run"
@@ -44,6 +45,9 @@ build:
 
 checker:
 	@$(call quiet,cd crates/chi_check && rt run -- explain < stdin)
+
+example:
+	@$(call quiet,cd crates/chi_example && rt run)
 
 run: build
 	@cat "$(SCRIPT)"; echo; echo
@@ -89,11 +93,12 @@ install: build checker lib
 	sed "s,@VERSION@,$(VERSION)," c/chi.pc.in > "$(DESTDIR)$(PREFIX)/lib/pkgconfig/chi.pc"
 
 # The folder needs nothing of the kit: .ci/c tries it with no rt on the path.
-dist: build checker lib
+dist: build checker example lib
 	rm -rf "$(DIST)"
 	$(MAKE) -s -o build -o checker -o lib install DESTDIR= PREFIX="$(CURDIR)/$(DIST)"
 	install -d "$(DIST)/c" "$(DIST)/dv"
 	cp -r README.md CHANGELOG.md SECURITY.md docs examples "$(DIST)"
+	install -m 755 $(EXAMPLE) "$(DIST)/examples/calling"
 	cp c/fetch_add.c "$(DIST)/c"
 	cp dv/tb.sv dv/home_node.sv "$(DIST)/dv"
 	tar -C out/dist -czf "$(DIST).tar.gz" "$(notdir $(DIST))"
