@@ -104,6 +104,12 @@ static void result_is(uint32_t result, const char *name) {
   wants_name(length, buffer, name);
 }
 
+static void version_is(const char *version) {
+  uint8_t buffer[CHI_NAME_ROOM] = {0};
+  size_t length = chi_version(buffer, sizeof buffer);
+  wants_name(length, buffer, version);
+}
+
 /* A kind and an operation as chi_decode answers them. */
 static void decoded_is(uint8_t opcode, uint8_t kind, uint8_t op) {
   uint8_t found_kind = LEFT, found_op = LEFT, len = LEFT;
@@ -136,6 +142,7 @@ static void header(void) {
   opcode_is(CHI_ATOMIC_COMPARE, "AtomicCompare");
   decoded_is(CHI_ATOMIC_COMPARE, CHI_KIND_COMPARE, CHI_NO_OPERATION);
   opcode_is(0x3a, "Unknown");
+  version_is(CHI_VERSION);
   result_is(CHI_DONE, "Done");
   result_is(CHI_UNKNOWN_OPCODE, "UnknownOpcode");
   result_is(CHI_RESERVED_SIZE, "ReservedSize");

@@ -19,6 +19,9 @@
 extern "C" {
 #endif
 
+/* The version of this header; chi_version answers that of the library. */
+#define CHI_VERSION "0.1.0"
+
 /* Results. The region's fault comes first; of the refusals that a request meets, it is the first in this order. */
 enum {
   CHI_DONE = 0,
@@ -96,6 +99,9 @@ uint32_t chi_decode(uint64_t base, uint16_t granules, uint8_t opcode, uint8_t si
  */
 size_t chi_op_name(uint8_t opcode, uint8_t *buffer, size_t room);
 size_t chi_result_name(uint32_t result, uint8_t *buffer, size_t room);
+
+/* The version of the library, in the same way. */
+size_t chi_version(uint8_t *buffer, size_t room);
 
 #ifdef __cplusplus
 }

@@ -34,6 +34,8 @@ _library.chi_op_name.restype = ctypes.c_size_t
 _library.chi_op_name.argtypes = [ctypes.c_uint8, ctypes.c_char_p, ctypes.c_size_t]
 _library.chi_result_name.restype = ctypes.c_size_t
 _library.chi_result_name.argtypes = [ctypes.c_uint32, ctypes.c_char_p, ctypes.c_size_t]
+_library.chi_version.restype = ctypes.c_size_t
+_library.chi_version.argtypes = [ctypes.c_char_p, ctypes.c_size_t]
 
 
 def _fits(**numbers):
@@ -54,6 +56,17 @@ def result_name(number):
     """The name of a result, as Misaligned."""
     name = ctypes.create_string_buffer(_ROOM)
     _library.chi_result_name(number, name, _ROOM)
+    return name.value.decode()
+
+
+def version():
+    """The version of the library.
+
+    >>> version()
+    '0.1.0'
+    """
+    name = ctypes.create_string_buffer(_ROOM)
+    _library.chi_version(name, _ROOM)
     return name.value.decode()
 
 

@@ -1,4 +1,4 @@
--- names in a buffer of C's, and the name of each result
+-- names in a buffer of C's, the name of each result, and the version
 use Rattle.std.specs.Prelude.{ℕ, ◌+◌, ◌==◌, nat_lt, if◌then◌else◌, List, [], ◌∷◌, ◌++◌, codes, drop, length}
 use Rattle.chi_fields.specs.declared.refusal.Refusal.TheVariants.{UnknownOpcode, ReservedSize, SizeOutOfProfile, Misaligned, OutOfRegion, BadByteEnable}
 use Rattle.chi_fields.specs.declared.region.RegionFault.TheVariants.{BaseNotLineAligned, GranuleCount, EndPastAddresses}
@@ -23,3 +23,7 @@ result_name n =
     else if n == 18 then fault_name GranuleCount
     else if n == 19 then fault_name EndPastAddresses
     else []
+
+-- the version of the library
+abbrev pub version : List ℕ
+version = codes "0.1.0"

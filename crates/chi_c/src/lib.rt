@@ -9,7 +9,7 @@ mod numbers;
 mod word;
 
 pub use memory::chi_serve;
-pub use names::{chi_op_name, chi_result_name};
+pub use names::{chi_op_name, chi_result_name, chi_version};
 pub use word::{chi_apply, chi_decode};
 
 #[cfg(test)]

@@ -2,9 +2,12 @@
 
 ghost use Rattle.std.specs.Prelude.{◌≡◌, length};
 ghost use Rattle.chi_fields.specs.Opcode.{opcode_name};
-ghost use Rattle.chi_c.specs.Names.{result_name, with_name};
+ghost use Rattle.chi_c.specs.Names.{result_name, version, with_name};
 
 use chi_fields::{Refusal, RegionFault, op_name, refusal_name, region_fault_name};
+
+// The version of the library, as in the header.
+const VERSION: &str = "0.1.0";
 
 // Writes a name and the 0 that ends it, where the buffer has room for both, and answers the name's length.
 fn write_name(name: &str, buffer: &mut [u8]) -> usize
@@ -74,4 +77,22 @@ pub extern "C" fn chi_result_name(result_number: u32, buffer: &mut [u8]) -> usiz
     ensures written { buffer.new ≡ with_name (result_name result_number) buffer.old }
 {
     write_name(result_name(result_number), buffer)
+}
+
+/// Writes the version of the library, as `0.1.0`; the header's `CHI_VERSION` is that of the header.
+///
+/// The result is its length in bytes, without the 0 that ends it. Where the buffer is not longer than that, nothing is
+/// written; 20 bytes are enough.
+///
+/// ```
+/// let length = chi_version(&mut buffer);
+/// ```
+///
+/// Source: profile.
+#[unsafe(no_mangle)]
+pub extern "C" fn chi_version(buffer: &mut [u8]) -> usize
+    ensures length { result ≡ length version }
+    ensures written { buffer.new ≡ with_name version buffer.old }
+{
+    write_name(VERSION, buffer)
 }

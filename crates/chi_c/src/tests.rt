@@ -2,7 +2,7 @@
 //! and of addresses.
 
 use crate::comparison::assert_same;
-use crate::{chi_apply, chi_decode, chi_op_name, chi_result_name, chi_serve};
+use crate::{chi_apply, chi_decode, chi_op_name, chi_result_name, chi_serve, chi_version};
 use std::test::Fail;
 
 const BASE: u64 = 0x1000;
@@ -211,6 +211,8 @@ fn names_in_buffers(rt: HostRuntime) {
     assert_same(&rt, (length, buffer), (0, *b"\0isaligned\0ADD\0."));
     let length = chi_result_name(17, &mut buffer);
     assert_same(&rt, (length, buffer), (18, *b"\0isaligned\0ADD\0."));
+    let length = chi_version(&mut buffer);
+    assert_same(&rt, (length, buffer), (5, *b"0.1.0\0gned\0ADD\0."));
     let mut ten = *b"..........";
     let length = chi_result_name(4, &mut ten);
     assert_same(&rt, (length, ten), (10, *b".........."));
