@@ -1,3 +1,4 @@
+pub mod ObjectLemmas
 pub mod ValueLemmas
 pub mod WalkLemmas
 pub mod WordLemmas

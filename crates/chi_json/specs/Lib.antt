@@ -1,2 +1,3 @@
 pub mod Members
+pub mod Object
 pub mod Values

@@ -5,20 +5,19 @@ use Rattle.std.proofs.lemmas.Bool.{le-leb, le-ltb}
 use Rattle.std.proofs.lemmas.List.Elements.{All-head, All-more, All-tail}
 use Rattle.std.specs.Option.{option_map}
 use Rattle.std.specs.Str.{is_utf8}
-use Rattle.hex.specs.Hex.{IsBytes}
-use Rattle.hex.proofs.HexLemmas.{decode_sized-encode_lower}
 use Rattle.serde_json.specs.Data.{Data, number, unsigned, depth, items_depth}
 use Rattle.serde_json.specs.Find.{get}
 use Rattle.serde_json.specs.Read.{read}
 use Rattle.chi_fields.specs.Extent.{Extent, IsRegion, region_of}
 use Rattle.chi_fields.specs.declared.request.Request.{Request}
 use Rattle.chi_json.specs.Members.{number_of, opening_words, stated_words}
+use Rattle.chi_json.specs.Object.{IsReadBack, byte_order, with_array, with_bytes, with_number, with_request}
 use Rattle.chi_json.specs.Values.{json_value}
 use Rattle.chi_script.specs.declared.member.Member.{Member}
 use Rattle.chi_script.specs.declared.member.Member.TheVariants.{Base, Granules, Src, Txn, Opcode, Size, Addr, Endian, Be}
 use Rattle.chi_script.specs.Member.{member_name}
 use Rattle.chi_script.specs.Script.{element_of, object_script, request_of, requests_of, script}
-use Rattle.chi_stimulus.specs.Object.{IsReadBack, IsWritable, all_data, byte_order, image_words, request_data, script_data, with_array, with_bytes, with_number}
+use Rattle.chi_stimulus.specs.Object.{IsWritable, all_data, image_words, request_data, script_data}
 
 -- a number that is there, and is not too great
 number_here : (m : Member) (top n : ℕ) (d : Data) → get (member_name m) d ≡ Some (number (unsigned n)) → n ≤ top → number_of member_name m top d ≡ Ok n
@@ -34,11 +33,8 @@ order_within : (endian : Bool) → byte_order endian ≤ 1
 order_within true = omega arith
 order_within false = omega arith
 
-pub bytes_read : (bytes : List ℕ) (n : ℕ) → length bytes ≡ n → IsBytes bytes → IsReadBack n bytes
-bytes_read bytes n long are = decode_sized-encode_lower bytes n long are
-
 pub element_reads : (q : Request) → IsWritable q → element_of 7 (request_data q) ≡ Ok q
-unfolding request_data with_number with_bytes element_of request_of
+unfolding request_data with_request with_number with_bytes element_of request_of
 element_reads q w =
     let d = request_data q in
     rw (
@@ -61,7 +57,7 @@ requests_read (q ∷ qs) h =
 
 -- a request nests once
 request_depth : (q : Request) → depth (request_data q) ≤ 1
-unfolding request_data with_number with_bytes
+unfolding request_data with_request with_number with_bytes
 request_depth q = omega arith
 
 requests_depth : (qs : List Request) → items_depth (all_data qs) ≤ 1

@@ -1,34 +1,15 @@
 -- a request and a script as values of JSON
-use Rattle.std.specs.Prelude.{◌≡◌, ℕ, ◌-◌, ◌^◌, ◌≤◌, Bool, replicate, Ok, if◌then◌else◌, List, map, Option, None, Some, codes}
-use Rattle.hex.specs.Hex.{decode_sized, encode_lower}
-use Rattle.serde_json.specs.Data.{Data, number, unsigned, string, array, object, Items, Members, no_members, put}
+use Rattle.std.specs.Prelude.{ℕ, ◌-◌, ◌^◌, ◌≤◌, replicate, List, map, Option, None, Some, codes}
+use Rattle.serde_json.specs.Data.{Data, object, Items, Members, no_members}
 use Rattle.serde_json.specs.View.{items_of}
 use Rattle.chi_fields.specs.Extent.{Extent}
 use Rattle.chi_fields.specs.declared.request.Request.{Request}
+use Rattle.chi_json.specs.Object.{IsReadBack, with_array, with_bytes, with_number, with_request}
 use Rattle.chi_json.specs.Values.{words_of}
-
--- the members, and a number under this name
-unfoldable pub with_number : List ℕ → ℕ → Members → Members
-with_number name n members = put name (number (unsigned n)) members
-
--- the members, and a text of two hex digits for each byte under this name
-unfoldable pub with_bytes : List ℕ → List ℕ → Members → Members
-with_bytes name bytes members = put name (string (encode_lower bytes)) members
-
--- the members, and an array under this name
-unfoldable pub with_array : List ℕ → Items → Members → Members
-with_array name items members = put name (array items) members
-
--- the number of a byte order
-abbrev pub byte_order : Bool → ℕ
-byte_order endian = if endian then 1 else 0
 
 -- a request
 unfoldable pub request_data : Request → Data
-request_data q = object (
-    with_bytes (codes "lanes") q.lanes (with_number (codes "be") q.be (with_number (codes "endian") (byte_order q.endian)
-    (with_number (codes "addr") q.addr (with_number (codes "size") q.size (with_number (codes "op") q.opcode
-    (with_number (codes "txn") q.txn (with_number (codes "src") q.src no_members))))))))
+request_data q = object (with_request q no_members)
 
 -- requests
 abbrev pub all_data : List Request → Items
@@ -44,10 +25,6 @@ unfoldable pub script_data : Extent → Option (List ℕ) → List Request → D
 script_data region image requests = object (
     with_array (codes "requests") (all_data requests) (with_image image
     (with_number (codes "granules") region.granules (with_number (codes "base") region.base no_members))))
-
--- bytes that are read as they were written
-abbrev pub IsReadBack : ℕ → List ℕ → Type 0
-IsReadBack count bytes = decode_sized (encode_lower bytes) count ≡ Ok bytes
 
 -- the requester and the size are no greater than a script's
 pub record IsSmall (q : Request) : Type 0 where

@@ -1,46 +1,20 @@
 //! The text of a script.
 
-ghost use Rattle.std.specs.Prelude.{◌≡◌, ◌-◌, ◌*◌, ◌^◌, ◌≤◌, All, Ok, OnOk, IfOk, IfSome, length, map, string_bytes};
+ghost use Rattle.std.specs.Prelude.{◌≡◌, ◌-◌, ◌*◌, ◌^◌, ◌≤◌, All, Ok, IfOk, IfSome, length, map, string_bytes};
 ghost use Rattle.std.specs.Option.{option_map};
-ghost use Rattle.serde_json.specs.View.{members_view, view};
+ghost use Rattle.serde_json.specs.View.{view};
+ghost use Rattle.chi_json.specs.Object.{IsReadBack};
 ghost use Rattle.chi_script.specs.Script.{script};
-ghost use Rattle.chi_stimulus.specs.Object.{IsReadBack, IsSmall, IsWritable, image_words, request_data, script_data, with_bytes, with_number};
+ghost use Rattle.chi_stimulus.specs.Object.{IsSmall, IsWritable, image_words, request_data, script_data};
 
 use chi_fields::laws::region_is_lawful;
 use chi_fields::{Region, Request};
+use chi_json::{put_bytes, put_number, put_request};
 use serde_json::{Map, Value, put};
 use std::alloc::{AllocError, Global};
 
-/// A number under this name.
-#[tactic(auto, unfolding(crate::specs::Object::with_number))]
-fn put_number(
-    alloc: Global,
-    members: &mut Map<String, Value>,
-    name: &str,
-    number: u64,
-) -> Result<(), AllocError>
-    ensures { OnOk result (members_view members.new.entries ≡ with_number name.now number (members_view members.old.entries)) }
-{
-    put(members, alloc, name, Value::from(number))
-}
-
-/// A text of two hex digits for each byte under this name.
-#[tactic(auto, using(crate::proofs::Reading::bytes_read), unfolding(crate::specs::Object::with_bytes))]
-fn put_bytes(
-    alloc: Global,
-    members: &mut Map<String, Value>,
-    name: &str,
-    bytes: &[u8],
-) -> Result<(), AllocError>
-    ensures read { OnOk result (IsReadBack (length bytes.now) bytes.now) }
-    ensures members { OnOk result (members_view members.new.entries ≡ with_bytes name.now bytes.now (members_view members.old.entries)) }
-{
-    let text = hex::encode(alloc, bytes)?;
-    put(members, alloc, name, Value::String(text))
-}
-
 /// What fields hold is within the bounds of their types, and a data packet is read as it was written.
-#[tactic(auto, using(crate::proofs::Reading::bytes_read))]
+#[tactic(auto, using(chi_json::proofs::ObjectLemmas::bytes_read))]
 fn fields_are_writable(txn: u8, opcode: u8, addr: u64, be: u16, lanes: [u8; 16])
     ensures txn { txn ≤ 255 }
     ensures opcode { opcode ≤ 255 }
@@ -64,14 +38,7 @@ fn request_value(alloc: Global, request: &Request) -> Result<Value, AllocError>
         request.lanes,
     );
     let mut members = Map::new(alloc);
-    put_number(alloc, &mut members, "src", u64::from(request.src))?;
-    put_number(alloc, &mut members, "txn", u64::from(request.txn))?;
-    put_number(alloc, &mut members, "op", u64::from(request.opcode))?;
-    put_number(alloc, &mut members, "size", u64::from(request.size))?;
-    put_number(alloc, &mut members, "addr", request.addr)?;
-    put_number(alloc, &mut members, "endian", u64::from(request.endian))?;
-    put_number(alloc, &mut members, "be", u64::from(request.be))?;
-    put_bytes(alloc, &mut members, "lanes", &request.lanes)?;
+    put_request(alloc, &mut members, request)?;
     Ok(Value::Object(members))
 }
 
@@ -90,7 +57,7 @@ fn requests_value(alloc: Global, requests: &[Request]) -> Result<Vec<Value>, All
 }
 
 /// A script as an object.
-#[tactic(auto, unfolding(crate::specs::Object::script_data, crate::specs::Object::with_array))]
+#[tactic(auto, unfolding(crate::specs::Object::script_data, chi_json::specs::Object::with_array))]
 fn script_value(
     alloc: Global,
     region: &Region,

@@ -1,0 +1,18 @@
+-- bytes and words that are read as they were written
+use Rattle.std.proofs.Common.{◌≡◌, ℕ, ◌+◌, ◌<◌, List, [], ◌++◌, length, get_or, take, flat_map, sym, ap, ◌∙◌}
+use Rattle.std.proofs.lemmas.List.{flat_map_more, take_more}
+use Rattle.hex.specs.Hex.{IsBytes}
+use Rattle.hex.proofs.HexLemmas.{decode_sized-encode_lower}
+use Rattle.chi_lanes.specs.Bytes.{little_bytes}
+use Rattle.chi_json.specs.Object.{IsReadBack, word_bytes}
+
+-- the text of some bytes is read as the bytes
+pub bytes_read : (bytes : List ℕ) (n : ℕ) → length bytes ≡ n → IsBytes bytes → IsReadBack n bytes
+bytes_read bytes n long are = decode_sized-encode_lower bytes n long are
+
+-- the bytes of one word more
+pub word_more : (words : List ℕ) (i d : ℕ) (before after : List ℕ) → i < length words → before ≡ word_bytes (take i words)
+    → after ≡ before ++ little_bytes 8 (get_or words i d) → after ≡ word_bytes (take (i + 1) words)
+word_more words i d before after below so_far word =
+    word ∙ (ap (λ l. l ++ little_bytes 8 (get_or words i d)) so_far
+    ∙ (flat_map_more (little_bytes 8) [] (take i words) (get_or words i d) ∙ ap (λ l. flat_map (little_bytes 8) l) (sym (take_more words i d below))))
