@@ -40,21 +40,22 @@ try:
 	@script=$$(realpath "$(SCRIPT)"); log=$$(mktemp); trap "rm -f $$log" EXIT; trap "exit 130" INT TERM; \
 	cd crates/chi_home && rt try -- run < "$$script" 2> $$log || { cat $$log >&2; exit 1; }
 
+# What a program stands on is proved side by side, on all processors.
 build:
-	@$(call quiet,cd crates/chi_home && rt run -- run < stdin)
+	@$(call quiet,.ci/libraries chi_home && cd crates/chi_home && rt run -- run < stdin)
 
 checker:
-	@$(call quiet,cd crates/chi_check && rt run -- explain < stdin)
+	@$(call quiet,.ci/libraries chi_check && cd crates/chi_check && rt run -- explain < stdin)
 
 example:
-	@$(call quiet,cd crates/chi_example && rt run)
+	@$(call quiet,.ci/libraries chi_example && cd crates/chi_example && rt run)
 
 run: build
 	@cat "$(SCRIPT)"; echo; echo
 	@$(PROGRAM) run < "$(SCRIPT)"
 
 soak: checker
-	@$(call quiet,cd crates/chi_soak && rt run -- 0)
+	@$(call quiet,.ci/libraries chi_soak && cd crates/chi_soak && rt run -- 0)
 	$(SOAK) $(SECONDS) | $(CHECKER) watch
 
 test:
@@ -71,6 +72,7 @@ edits:
 	.ci/edits $(CRATES)
 
 lib:
+	@$(call quiet,.ci/libraries chi_c)
 	c/build.sh
 
 dv: lib checker
