@@ -1,4 +1,4 @@
 pub mod WritingLemmas
 pub mod RunLemmas
 pub mod RaceLemmas
-pub mod CoverLemmas
+pub mod TraceLemmas

@@ -1,6 +1,6 @@
 pub mod Store
 pub mod WorkerCount
-pub mod Cover
+pub mod Trace
 pub mod Engine
 pub mod Run
 pub mod RaceTranscript

@@ -1,18 +1,18 @@
-//! From a script's bytes to a transcript's bytes, or to what it covered.
+//! From a script's bytes to a transcript's bytes, or to a trace's.
 
 ghost use Rattle.std.specs.Prelude.{IfSome};
-ghost use Rattle.chi_engine.specs.Cover.{CoverOutcome, KeepsUnwritten};
 ghost use Rattle.chi_engine.specs.Engine.{KeepsUnexecuted, ReportsOpening};
 ghost use Rattle.chi_engine.specs.RaceTranscript.{RaceOutcome};
 ghost use Rattle.chi_engine.specs.Run.{Outcome};
+ghost use Rattle.chi_engine.specs.Trace.{KeepsUnwritten, TraceOutcome};
 
-use crate::cover::cover_over;
 use crate::fault::EngineFault;
 use crate::input::read_whole;
 use crate::options::Options;
 use crate::race::race_script;
 use crate::run::run_over;
 use crate::store::{on_store, room};
+use crate::trace::trace_over;
 use chi_history::Gate;
 use chi_requester::MixedGate;
 use std::alloc::{AllocError, Global};
@@ -56,35 +56,40 @@ pub fn engine_run<T: AllocGlobal + Wait, R: Read, W: Write>(
     )
 }
 
-/// Reads a script, executes its requests in order as `engine_run` does, and writes what they covered in place of the transcript:
-/// the table of coverage of the requests that were completed, and then how many were refused for each reason.
+/// Reads a script, executes its requests in order as `engine_run` does, and writes a trace of that in place of the transcript: the
+/// script with more members, in JSON. Each request has `start` and `end`, which both are its place among the requests, counted
+/// from 0, and `reply`, or `refused` and the reason. `image` and `final` have the bytes of the region before and after.
 ///
 /// It reads, opens and executes as `engine_run` does, with the same faults. Nothing is written unless the whole text was made:
-/// where there is no memory for the work, the counts or the text, nothing is. After a fault of the writer a prefix of the text
-/// has been written.
+/// where there is no memory for the work or the text, nothing is. After a fault of the writer a prefix of the text has been
+/// written.
 ///
 /// Source: profile.
 ///
 /// ```
-/// engine_cover(rt, &mut script.as_bytes(), &mut table, &options)?;
+/// engine_trace(rt, &mut script.as_bytes(), &mut trace, &options)?;
 /// ```
-pub fn engine_cover<T: AllocGlobal + Wait, R: Read, W: Write>(
+pub fn engine_trace<T: AllocGlobal + Wait, R: Read, W: Write>(
     rt: &T,
     from: &mut R,
     to: &mut W,
     options: &Options,
 ) -> Result<(), EngineFault>
-    ensures outcome { IfSome (R.remaining from.old) (λ input. CoverOutcome options.now input (W.contents to.old) (W.contents to.new) result) }
+    ensures outcome { IfSome (R.remaining from.old) (λ input. TraceOutcome options.now input (W.contents to.old) (W.contents to.new) result) }
     ensures opening { ReportsOpening options.now.store result }
     ensures unwritten { KeepsUnwritten (W.contents to.old) (W.contents to.new) result }
 {
     let script = &read_whole(rt.alloc(), from, MOST_SRC)?;
+    let Ok(mut words) = room(rt.alloc(), script.region().granules()) else {
+        return Err(EngineFault::Memory);
+    };
+    let words = words.as_mut_slice();
     let policy = options.policy;
     on_store!(
         rt.alloc(),
         script,
         options,
-        |home, seat| cover_over(&home, rt, &mut seat, script, policy, to)
+        |home, seat| trace_over(&home, rt, &mut seat, script, policy, words, to)
     )
 }
 

@@ -1,7 +1,6 @@
-//! The engine: from a script's bytes to a transcript's bytes, or to what it covered, over the store of the options.
+//! The engine: from a script's bytes to a transcript's bytes, or to a trace's, over the store of the options.
 #![tactic(auto)]
 
-mod cover;
 mod engine;
 mod fault;
 mod input;
@@ -10,9 +9,10 @@ mod options;
 mod race;
 mod run;
 mod store;
+mod trace;
 mod workers;
 
-pub use engine::{engine_cover, engine_race, engine_race_gated, engine_run};
+pub use engine::{engine_race, engine_race_gated, engine_run, engine_trace};
 pub use fault::{EngineFault, status_of};
 pub use input::MOST_BYTES;
 pub use options::{Options, Store};

@@ -16,7 +16,7 @@ use std::io::Write;
 use std::sync::Wait;
 
 // Executes the requests of a script in order: their lines.
-pub(crate) fn execute_all<H: Home, R: Wait>(
+fn execute_all<H: Home, R: Wait>(
     home: &H,
     rt: &R,
     seat: &mut H::Seat,
@@ -38,7 +38,7 @@ pub(crate) fn execute_all<H: Home, R: Wait>(
 }
 
 // Executes the requests of a script in order: their lines, and the words of the memory after them.
-fn work_all<H: Home, R: Wait>(
+pub(crate) fn work_all<H: Home, R: Wait>(
     home: &H,
     rt: &R,
     seat: &mut H::Seat,

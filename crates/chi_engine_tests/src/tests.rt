@@ -3,7 +3,6 @@
 mod answers;
 mod attempt_tests;
 mod comparison;
-mod cover_tests;
 mod device_tests;
 mod devices;
 mod fault_tests;
@@ -15,3 +14,4 @@ mod meeting_tests;
 mod race_tests;
 mod run_tests;
 mod scripts;
+mod trace_tests;

@@ -20,9 +20,9 @@ use Rattle.chi_program.proofs.CommandLemmas.{subcommand_found}
 use Rattle.chi_home.specs.declared.command.Asked.{Asked}
 use Rattle.chi_home.specs.declared.command.Asked.TheVariants.{Work, Script}
 use Rattle.chi_home.specs.declared.command.Task.{Task}
-use Rattle.chi_home.specs.declared.command.Task.TheVariants.{Run, Race, Cover}
+use Rattle.chi_home.specs.declared.command.Task.TheVariants.{Run, Race, Trace}
 use Rattle.chi_engine.specs.declared.options.Options.{Options}
-use Rattle.chi_home.specs.CommandLine.{IsProgram, IsRaceApp, IsRunApp, IsTaken, IsTaskApp, IsArgumentsFault, cover_rule, generate_app, workers_rule}
+use Rattle.chi_home.specs.CommandLine.{IsProgram, IsRaceApp, IsRunApp, IsTaken, IsTaskApp, IsArgumentsFault, trace_rule, generate_app, workers_rule}
 
 -- a task with these two options
 unfoldable pub task_of : Text → Rule → Rule → App
@@ -42,14 +42,14 @@ with_tasks run race = with_subcommand (with_subcommand (with_subcommand (bare_ap
 -- the program, whose options take these words
 unfoldable pub program_of : Bor (List (Bor Text)) → Bor (List (Bor Text)) → Bor (List (Bor Text)) → Bor (List (Bor Text)) → App
 program_of v w x y =
-    with_tasks (with_rule (task_of (codes "run") (stores_of v) (policies_of w)) cover_rule) (with_rule (task_of (codes "race") (stores_of x) (policies_of y)) workers_rule)
+    with_tasks (with_rule (task_of (codes "run") (stores_of v) (policies_of w)) trace_rule) (with_rule (task_of (codes "race") (stores_of x) (policies_of y)) workers_rule)
 
 -- it is the program, where they are the right words
 is_program : (v w x y : Bor (List (Bor Text))) → texts v.now ≡ codes "lock" ∷ codes "book" ∷ [] → texts w.now ≡ codes "resend" ∷ codes "return" ∷ []
     → texts x.now ≡ codes "lock" ∷ codes "book" ∷ [] → texts y.now ≡ codes "resend" ∷ codes "return" ∷ [] → IsProgram (program_of v w x y)
 unfolding program_of with_tasks task_of
 is_program v w x y stores policies other_stores other_policies = (
-  with_rule (task_of (codes "run") (stores_of v) (policies_of w)) cover_rule,
+  with_rule (task_of (codes "run") (stores_of v) (policies_of w)) trace_rule,
   with_rule (task_of (codes "race") (stores_of x) (policies_of y)) workers_rule,
   (task_of (codes "run") (stores_of v) (policies_of w), (stores_of v, policies_of w, (v, stores, refl), (w, policies, refl), refl), refl),
   (task_of (codes "race") (stores_of x) (policies_of y), (stores_of x, policies_of y, (x, other_stores, refl), (y, other_policies, refl), refl), refl),
@@ -95,8 +95,8 @@ task_is : (name : Text) (app : App) → (t : IsTaskApp name app) → app ≡ tas
 unfolding task_of
 task_is name app t = t.4 ∙ ap₂ (task_of name) t.2.2 t.3.2
 
-run_is : (app : App) → (t : IsRunApp app) → app ≡ with_rule (task_of (codes "run") (stores_of t.1.2.0) (policies_of t.1.3.0)) cover_rule
-run_is app t = t.2 ∙ ap (λ (task : App). with_rule task cover_rule) (task_is (codes "run") t.0 t.1)
+run_is : (app : App) → (t : IsRunApp app) → app ≡ with_rule (task_of (codes "run") (stores_of t.1.2.0) (policies_of t.1.3.0)) trace_rule
+run_is app t = t.2 ∙ ap (λ (task : App). with_rule task trace_rule) (task_is (codes "run") t.0 t.1)
 
 race_is : (app : App) → (t : IsRaceApp app) → app ≡ with_rule (task_of (codes "race") (stores_of t.1.2.0) (policies_of t.1.3.0)) workers_rule
 unfolding task_of
@@ -115,15 +115,15 @@ race_named : (name : Text) (found : List Row) (asked : Asked) → IsNamed name a
 race_named name found (Work task options) named has is = has.0 ∙ ap (λ n. task_named n found) is
 race_named name found (Script options) named has is = cc (sym named ∙ ap is_generate is)
 
--- a run has its transcript, or what it covered
+-- a run has its transcript or its trace
 run_named : (name : Text) (found : List Row) (asked : Asked) → IsNamed name asked → HasOptions found name asked → name ≡ codes "run" → IsRun asked
-run_named name found (Work task options) named has is = by_task task options (has_word found (codes "cover") (codes "true")) (has.0 ∙ ap (λ n. task_named n found) is)
+run_named name found (Work task options) named has is = by_task task options (has_word found (codes "trace") (codes "true")) (has.0 ∙ ap (λ n. task_named n found) is)
   where
-    by_task : (task : Task) (options : Options) (cover : Bool) → task ≡ cond cover Cover Run → IsRun (Work task options)
-    by_task Run options cover is = tt
+    by_task : (task : Task) (options : Options) (traced : Bool) → task ≡ cond traced Trace Run → IsRun (Work task options)
+    by_task Run options traced is = tt
     by_task Race options true is = cc
     by_task Race options false is = cc
-    by_task Cover options cover is = tt
+    by_task Trace options traced is = tt
 run_named name found (Script options) named has is = cc (sym named ∙ ap is_generate is)
 
 script_named : (name word : Text) (asked : Asked) → is_generate word ≡ true → IsNamed name asked → name ≡ word → IsScript asked

@@ -7,12 +7,12 @@ use Rattle.chi_script.specs.declared.device.WriteFault.TheVariants.{Failed}
 use Rattle.chi_engine.specs.declared.fault.EngineFault.{EngineFault}
 use Rattle.chi_engine.specs.declared.fault.EngineFault.TheVariants as engine_fault
 use Rattle.chi_engine.specs.declared.options.Options.{Options}
-use Rattle.chi_engine.specs.Cover.{KeepsUnwritten}
+use Rattle.chi_engine.specs.Trace.{KeepsUnwritten}
 use Rattle.chi_engine.specs.Engine.{KeepsUnexecuted}
 use Rattle.chi_engine.specs.Store.{Opens}
 use Rattle.chi_home.specs.Task.{Ends, Makes, TaskOutcome}
 use Rattle.chi_home.specs.declared.command.Task.{Task}
-use Rattle.chi_home.specs.declared.command.Task.TheVariants.{Run, Race, Cover}
+use Rattle.chi_home.specs.declared.command.Task.TheVariants.{Run, Race, Trace}
 use Rattle.chi_home.specs.Generating.{IsRefused, WritesScript}
 use Rattle.chi_home.specs.declared.generation.GenerateFault.{GenerateFault}
 use Rattle.chi_home.specs.declared.generation.GenerateFault.TheVariants.{Number, Region, Mix, Memory, Write}
@@ -59,7 +59,7 @@ flushed Run options input old mid new done keeps outcome =
 flushed Race options input old mid new done keeps outcome =
     let made = outcome.1.2.1 in
     (outcome.0, (outcome.1.0, outcome.1.1, (outcome.1.2.0, (made.0, made.1, made.2, appends_kept old mid new _ made.3 keeps))))
-flushed Cover options input old mid new done keeps outcome =
+flushed Trace options input old mid new done keeps outcome =
     let made = outcome.1.2.1 in
     (outcome.0, (outcome.1.0, outcome.1.1, (outcome.1.2.0, (made.0, made.1, appends_kept old mid new _ made.2 keeps))))
 
@@ -71,7 +71,7 @@ flush_failed Run options input old mid new done fault keeps outcome =
 flush_failed Race options input old mid new done fault keeps outcome =
     let made = outcome.1.2.1 in
     (outcome.0, (outcome.1.0, outcome.1.1, (outcome.1.2.0, (made.0, made.1, made.2, flushed_front old mid new _ made.3 keeps))))
-flush_failed Cover options input old mid new done fault keeps outcome =
+flush_failed Trace options input old mid new done fault keeps outcome =
     let made = outcome.1.2.1 in
     (outcome.0, (outcome.1.0, outcome.1.1, (outcome.1.2.0, (made.0, made.1, flushed_front old mid new _ made.2 keeps))))
 

@@ -15,13 +15,13 @@ use Rattle.chi_home.specs.Generating.{HasGenerateOptions}
 use Rattle.chi_home.specs.declared.command.Asked.{Asked}
 use Rattle.chi_home.specs.declared.command.Asked.TheVariants.{Work, Script}
 use Rattle.chi_home.specs.declared.command.Task.{Task}
-use Rattle.chi_home.specs.declared.command.Task.TheVariants.{Run, Race, Cover}
+use Rattle.chi_home.specs.declared.command.Task.TheVariants.{Run, Race, Trace}
 use Rattle.chi_home.specs.CommandLine.{IsProgram}
 use Rattle.chi_program.specs.Found.{BeginsWith, has_word}
 
--- the task of a subcommand's name and of what was found: a run with `--cover` writes what it covered
+-- the task of a subcommand's name and of what was found: a run with `--trace` writes what was executed as a trace
 abbrev pub task_named : Text → List Row → Task
-task_named name found = if bytes_eq name (codes "race") then Race else if has_word found (codes "cover") (codes "true") then Cover else Run
+task_named name found = if bytes_eq name (codes "race") then Race else if has_word found (codes "trace") (codes "true") then Trace else Run
 
 -- `--policy return`, or any other word
 abbrev pub policy_of : List Row → Policy
@@ -51,7 +51,7 @@ workers_of found = workers_or_two (option_map_or byte_or_zero (one_of (codes "wo
 abbrev pub workers_for : Task → List Row → ℕ
 workers_for Run found = 2
 workers_for Race found = workers_of found
-workers_for Cover found = 2
+workers_for Trace found = 2
 
 -- the options of a task, as they were found
 abbrev pub options_of_task : Task → List Row → Options
@@ -90,11 +90,11 @@ abbrev pub IsWork : Task → Asked → Type 0
 IsWork wanted (Work task options) = task ≡ wanted
 IsWork wanted (Script options) = ⊥
 
--- it is a run that is asked for, with its transcript or with what it covered
+-- it is a run that is asked for, with its transcript or with its trace
 abbrev pub IsRun : Asked → Type 0
 IsRun (Work Run options) = Unit {0}
 IsRun (Work Race options) = ⊥
-IsRun (Work Cover options) = Unit {0}
+IsRun (Work Trace options) = Unit {0}
 IsRun (Script options) = ⊥
 
 -- it is a script that is asked for

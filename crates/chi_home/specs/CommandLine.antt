@@ -32,13 +32,13 @@ workers_rule = option_rule (codes "workers") (value_parser.Signed (pos 1) (pos 7
 abbrev pub IsRaceApp : App → Type 0
 IsRaceApp app = (task : App) × IsTaskApp (codes "race") task × (app ≡ with_rule task workers_rule)
 
--- a run may be asked for what its requests covered
-abbrev pub cover_rule : Rule
-cover_rule = switch_rule (codes "cover")
+-- a run may be asked for its trace
+abbrev pub trace_rule : Rule
+trace_rule = switch_rule (codes "trace")
 
 -- the task of a run: it has that switch, too
 abbrev pub IsRunApp : App → Type 0
-IsRunApp app = (task : App) × IsTaskApp (codes "run") task × (app ≡ with_rule task cover_rule)
+IsRunApp app = (task : App) × IsTaskApp (codes "run") task × (app ≡ with_rule task trace_rule)
 
 -- an image may be asked for
 abbrev pub image_rule : Rule

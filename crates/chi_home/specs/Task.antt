@@ -8,13 +8,13 @@ use Rattle.chi_home.specs.declared.generation.GenerateOptions.{GenerateOptions}
 use Rattle.chi_home.specs.declared.command.Asked.{Asked}
 use Rattle.chi_home.specs.declared.command.Asked.TheVariants.{Work, Script}
 use Rattle.chi_home.specs.declared.command.Task.{Task}
-use Rattle.chi_home.specs.declared.command.Task.TheVariants.{Run, Race, Cover}
+use Rattle.chi_home.specs.declared.command.Task.TheVariants.{Run, Race, Trace}
 use Rattle.chi_engine.specs.declared.fault.EngineFault.{EngineFault}
 use Rattle.chi_engine.specs.declared.fault.EngineFault.TheVariants.{Open}
 use Rattle.chi_engine.specs.declared.options.Options.{Options}
 use Rattle.chi_home.specs.Chosen.{IsChosen}
 use Rattle.chi_home.specs.CommandLine.{IsTaken, IsArgumentsFault}
-use Rattle.chi_engine.specs.Cover.{CoverOutcome}
+use Rattle.chi_engine.specs.Trace.{TraceOutcome}
 use Rattle.chi_engine.specs.Engine.{KeepsUnexecuted, ReportsOpening}
 use Rattle.chi_engine.specs.Store.{Opens}
 use Rattle.chi_engine.specs.RaceTranscript.{RaceOutcome}
@@ -25,7 +25,7 @@ use Rattle.chi_program.specs.Answered.{ReportsArguments}
 abbrev pub TaskOutcome : Task → Options → List ℕ → Option (List ℕ) → Option (List ℕ) → Result (Unit {0}) EngineFault → Type 0
 TaskOutcome Run options input old new result = Outcome options input old new result
 TaskOutcome Race options input old new result = RaceOutcome options input old new result
-TaskOutcome Cover options input old new result = CoverOutcome options input old new result
+TaskOutcome Trace options input old new result = TraceOutcome options input old new result
 
 -- 0 where it is done, else the status of its fault
 abbrev pub end_status : Result (Unit {0}) EngineFault → ℕ

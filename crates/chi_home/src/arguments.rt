@@ -8,7 +8,7 @@ ghost use Rattle.chi_home.specs.Task.{Ends, EndsAsked, Makes, ProgramOutcome, Ta
 use crate::command::{Asked, PROGRAM, Task, asked_of};
 use crate::fault::HomeFault;
 use crate::generation::{GenerateOptions, generate};
-use chi_engine::{EngineFault, Options, engine_cover, engine_race, engine_run};
+use chi_engine::{EngineFault, Options, engine_trace, engine_race, engine_run};
 use chi_history::NoGate;
 use chi_program::{flushed_status, report_arguments, report_fault};
 use std::alloc::Global;
@@ -32,7 +32,7 @@ fn do_task<T: AllocGlobal + Threads + Wait + Sync, R: Read, W: Write>(
     match task {
         Task::Run => engine_run(rt, from, to, options),
         Task::Race => engine_race(rt, from, to, options, NoGate, NoGate, NoGate, NoGate),
-        Task::Cover => engine_cover(rt, from, to, options),
+        Task::Trace => engine_trace(rt, from, to, options),
     }
 }
 
@@ -88,8 +88,8 @@ fn end_asked<T: AllocGlobal + Threads + Wait + Sync, R: Read, W: Write, E: Write
 }
 
 /// The program: reads the arguments after its name, does the task that they name with a script from `from`, and
-/// writes the transcript to `to`, or what the script covered, or makes a script and writes that. A fault is
-/// reported to `errors`, whose own faults are ignored. The answer is the status to end with.
+/// writes the transcript or the trace to `to`, or makes a script and writes that. A fault is reported to `errors`,
+/// whose own faults are ignored. The answer is the status to end with.
 ///
 /// ```
 /// let status = run_words(&rt, &arguments, &mut input, &mut output, &mut errors);

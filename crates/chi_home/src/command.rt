@@ -19,13 +19,12 @@ use clap::error::ErrorKind;
 use clap::{ArgMatches, Command, Error};
 use std::alloc::Global;
 
-/// What is done with a script: its requests are executed one after another, or raced; or they are executed one after another for
-/// what they cover.
+/// What is done with a script: its requests are executed one after another, for a transcript or for a trace, or raced.
 #[derive(Clone, Copy)]
 pub enum Task {
     Run,
     Race,
-    Cover,
+    Trace,
 }
 
 /// What the arguments ask for: that a script is executed, or that one is made.
@@ -113,7 +112,7 @@ fn chosen_options(task: Task, chosen: &ArgMatches<'_>) -> Options
     ensures { result ≡ options_of_task task (rows_of (found_of chosen.now)) }
 {
     let workers = match task {
-        Task::Run | Task::Cover => Workers::TWO,
+        Task::Run | Task::Trace => Workers::TWO,
         Task::Race => chosen_workers(chosen),
     };
     Options {
@@ -129,8 +128,8 @@ fn chosen_task(name: &str, chosen: &ArgMatches<'_>) -> Task
 {
     if name == "race" {
         Task::Race
-    } else if is_switched(chosen, "cover") {
-        Task::Cover
+    } else if is_switched(chosen, "trace") {
+        Task::Trace
     } else {
         Task::Run
     }

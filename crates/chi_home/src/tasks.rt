@@ -27,15 +27,15 @@ const POLICY: NamedOption<'static> = NamedOption {
     help: "After RetryAck: send again on the credit, or give it back",
 };
 
-// The options of `run`, which may be asked for what is covered too.
+// The options of `run`, which may be asked for a trace too.
 const RUN: [NamedOption<'static>; 4] = [
     STORE,
     ATTEMPTS,
     POLICY,
     NamedOption {
-        name: "cover",
+        name: "trace",
         takes: Takes::Nothing,
-        help: "Writes what the requests covered in place of the transcript",
+        help: "Writes what was executed as a trace, in place of the transcript",
     },
 ];
 

@@ -2,7 +2,7 @@
 
 use crate::tests::comparison::assert_same;
 use crate::tests::scripts::{BOOK, joined, script};
-use chi_engine::{EngineFault, Options, engine_cover, engine_race, engine_run, status_of};
+use chi_engine::{EngineFault, Options, engine_race, engine_run, engine_trace, status_of};
 use chi_history::NoGate;
 use chi_script::ScriptFault;
 use std::io::{Read, Write};
@@ -16,13 +16,13 @@ use std::thread::Threads;
 pub(crate) enum Engine {
     Run,
     Race,
-    Cover,
+    Trace,
 }
 
 // Those that write transcripts.
 pub(crate) const ENGINES: [Engine; 2] = [Engine::Run, Engine::Race];
 
-// A run with its transcript or with what it covered, or a race without gates.
+// A run with its transcript or with its trace, or a race without gates.
 pub(crate) fn execute<T: AllocGlobal + Threads + Wait + Sync, R: Read, W: Write>(
     rt: &T,
     engine: Engine,
@@ -33,7 +33,7 @@ pub(crate) fn execute<T: AllocGlobal + Threads + Wait + Sync, R: Read, W: Write>
     match engine {
         Engine::Run => engine_run(rt, from, to, options),
         Engine::Race => engine_race(rt, from, to, options, NoGate, NoGate, NoGate, NoGate),
-        Engine::Cover => engine_cover(rt, from, to, options),
+        Engine::Trace => engine_trace(rt, from, to, options),
     }
 }
 
