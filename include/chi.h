@@ -7,7 +7,8 @@
  * with a piece of memory, no other thread touches it. There is no other condition: every request has an answer. What is
  * promised is the contract in crates/chi_c/src.
  *
- * Each call answers CHI_DONE, or a refusal or fault, and then it has written nothing.
+ * chi_decode, chi_apply and chi_serve answer CHI_DONE, or a refusal or fault, and then they have written nothing.
+ * chi_op_name, chi_result_name and chi_version answer a length.
  */
 #ifndef CHI_H
 #define CHI_H
