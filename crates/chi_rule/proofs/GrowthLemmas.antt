@@ -159,35 +159,36 @@ sees_stays count o id held seen mid h h' words words' views place w sees stands 
     stays o h views id held seen mid h' (grown count o h words views id held seen mid h' words' w (record { place = place; now = sees.now; stands = stands })) sees.free
 
 -- a seat that adds an entry adds it alone
-adds_alone : (count : ℕ) (o : Opening) (id : ℕ) (held : List ℕ) (seen mid : List Entry) (src : ℕ) (access : Access) → has held src ≡ true
+adds_alone : (count : ℕ) (o : Opening) (id : ℕ) (held : List ℕ) (seen mid : List Entry) (src : ℕ) (access : Access)
     → (h h' : List Entry) (words words' : List ℕ) (views : List View) → IsAt count o h words views id (knower o held seen)
-    → (w : View) → Adds (knower o held seen) mid src access w → RuleStands count o h' words' (set views id w) → (h' ≡ with_entry o h src access) × (w.seen ≡ h')
-adds_alone count o id held seen mid src access mine h h' words words' views place w adds stands =
+    → (w : View) → Adds (knower o held seen) mid src access w → RuleStands count o h' words' (set views id w)
+    → (has held src ≡ true) × (h' ≡ with_entry o h src access) × (w.seen ≡ h')
+adds_alone count o id held seen mid src access h h' words words' views place w adds stands =
     let e : Entry = entry src access (answer access (end o (seen ++ mid))) in
     let more : List Entry = mid ++ e ∷ [] in
     let now : w ≡ knower o held (seen ++ more) = adds.now ∙ ap (knower o held) (append_assoc seen mid (e ∷ [])) in
-    let t = adds_one o h views id held seen mid e h' (grown count o h words views id held seen more h' words' w (record { place = place; now = now; stands = stands })) adds.free mine in
-    (t.1 ∙ ap (λ l. h ++ entry src access (answer access (end o l)) ∷ []) (sym t.0), ap (λ (z : View). z.seen) adds.now ∙ (ap (λ l. l ++ e ∷ []) (sym t.0) ∙ sym t.1))
+    let t = adds_one o h views id held seen mid e h' (grown count o h words views id held seen more h' words' w (record { place = place; now = now; stands = stands })) adds.free adds.mine in
+    (adds.mine, t.1 ∙ ap (λ l. h ++ entry src access (answer access (end o l)) ∷ []) (sym t.0), ap (λ (z : View). z.seen) adds.now ∙ (ap (λ l. l ++ e ∷ []) (sym t.0) ∙ sym t.1))
 
 -- an exchange of one word
 pub exchange_adds : ExchangeAdds
-exchange_adds count o id v is first found src access mine h h' words words' views place w exchange stands =
+exchange_adds count o id v is first found src access h h' words words' views place w exchange stands =
     at_knower (subst (λ (z : View). IsAt count o h words views id z) is place) (subst (λ (z : View). Exchanges z first src access found w) is exchange)
   where
     at_knower : IsAt count o h words views id (knower o v.held v.seen) → Exchanges (knower o v.held v.seen) first src access found w
-        → MatchBool (found == first) ((h' ≡ with_entry o h src access) × (w.seen ≡ h')) (h' ≡ h)
+        → MatchBool (found == first) ((has v.held src ≡ true) × (h' ≡ with_entry o h src access) × (w.seen ≡ h')) (h' ≡ h)
     at_knower here x = by_test (found == first) x.done
       where
         by_test : (b : Bool) → MatchBool b (Adds (knower o v.held v.seen) x.mid src access w) (Sees (knower o v.held v.seen) x.mid w)
-            → MatchBool b ((h' ≡ with_entry o h src access) × (w.seen ≡ h')) (h' ≡ h)
-        by_test true adds = adds_alone count o id v.held v.seen x.mid src access mine h h' words words' views here w adds stands
+            → MatchBool b ((has v.held src ≡ true) × (h' ≡ with_entry o h src access) × (w.seen ≡ h')) (h' ≡ h)
+        by_test true adds = adds_alone count o id v.held v.seen x.mid src access h h' words words' views here w adds stands
         by_test false sees = sees_stays count o id v.held v.seen x.mid h h' words words' views here w sees stands
 
 -- an exchange of all words
 pub replace_adds : ReplaceAdds
-replace_adds count o id v is current found src access mine h h' words words' views place w tries stands = (
+replace_adds count o id v is current found src access h h' words words' views place w tries stands = (
   λ same. let x = tries.0 same in
-      adds_alone count o id v.held v.seen x.mid src access mine h h' words words' views (subst (λ (z : View). IsAt count o h words views id z) is place) w
+      adds_alone count o id v.held v.seen x.mid src access h h' words words' views (subst (λ (z : View). IsAt count o h words views id z) is place) w
       (subst (λ (z : View). Adds z x.mid src access w) is x.adds) stands,
   λ differ. read_leaves count o id v w h h' words words' views place (ap (λ (z : View). z.seen) (tries.1 differ)) stands,
 )

@@ -219,6 +219,7 @@ appends count o h words views id held seen s at src access next holds lawful fit
         k.precedes.0,
         whole,
         record {
+          mine = holds;
           region = s.region;
           now = ap (λ l. knower o held (l ++ next_of o l src access ∷ [])) whole;
           free = k.precedes.2;

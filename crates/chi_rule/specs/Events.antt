@@ -29,23 +29,23 @@ pub record IsAt (count : ℕ) (o : Opening) (h : List Entry) (words : List ℕ) 
 abbrev pub with_entry : Opening → List Entry → ℕ → Access → List Entry
 with_entry o h src access = h ++ entry src access (answer access (end o h)) ∷ []
 
--- An exchange of one word, by a seat that holds the number, whatever view it leaves and at whatever history the
--- rule then stands: where the word was the one that was expected, this history is the old one with one entry of
--- the number more, and the seat has seen all of it; else it is the old one.
+-- An exchange of one word, whatever view it leaves and at whatever history the rule then stands: where the word
+-- was the one that was expected, the seat holds the number, this history is the old one with one entry of the
+-- number more, and the seat has seen all of it; else it is the old one.
 abbrev pub ExchangeAdds : Type 0
 ExchangeAdds = (count : ℕ) (o : Opening) (id : ℕ) (v : View) → v ≡ knower o v.held v.seen
-    → (first found src : ℕ) (access : Access) → has v.held src ≡ true
+    → (first found src : ℕ) (access : Access)
     → (h h' : List Entry) (words words' : List ℕ) (views : List View) → IsAt count o h words views id v
     → (w : View) → Exchanges v first src access found w → RuleStands count o h' words' (slice_set views id w)
-    → MatchBool (found == first) ((h' ≡ with_entry o h src access) × (w.seen ≡ h')) (h' ≡ h)
+    → MatchBool (found == first) ((has v.held src ≡ true) × (h' ≡ with_entry o h src access) × (w.seen ≡ h')) (h' ≡ h)
 
 -- the same of an exchange of all words
 abbrev pub ReplaceAdds : Type 0
 ReplaceAdds = (count : ℕ) (o : Opening) (id : ℕ) (v : View) → v ≡ knower o v.held v.seen
-    → (current found : List ℕ) (src : ℕ) (access : Access) → has v.held src ≡ true
+    → (current found : List ℕ) (src : ℕ) (access : Access)
     → (h h' : List Entry) (words words' : List ℕ) (views : List View) → IsAt count o h words views id v
     → (w : View) → Tries v current src access found w → RuleStands count o h' words' (slice_set views id w)
-    → (found ≡ current → (h' ≡ with_entry o h src access) × (w.seen ≡ h')) × ((found ≡ current → ⊥) → h' ≡ h)
+    → (found ≡ current → (has v.held src ≡ true) × (h' ≡ with_entry o h src access) × (w.seen ≡ h')) × ((found ≡ current → ⊥) → h' ≡ h)
 
 -- The load of a try leaves the history, whatever view it leaves.
 abbrev pub LookLeaves : Type 0

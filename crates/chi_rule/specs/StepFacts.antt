@@ -24,8 +24,9 @@ pub record Sees (v : View) (mid : List Entry) (w : View) : Type 0 where
 abbrev pub next_entry : View → List Entry → ℕ → Access → Entry
 next_entry v h src access = entry src access (answer access (end v.opening h))
 
--- the seat has seen these entries more, all of others, and then added its own
+-- the seat has seen these entries more, all of others, and then added its own, of a number that it holds
 pub record Adds (v : View) (mid : List Entry) (src : ℕ) (access : Access) (w : View) : Type 0 where
+  pub mine : has v.held src ≡ true
   pub region : IsRegion v.opening.region
   pub now : w ≡ knower v.opening v.held ((v.seen ++ mid) ++ next_entry v (v.seen ++ mid) src access ∷ [])
   pub free : IsFreeOf (has v.held) mid
