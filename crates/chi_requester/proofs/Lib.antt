@@ -1,4 +1,5 @@
 pub mod ReportLemmas
+pub mod StretchLemmas
 pub mod WorkLemmas
 pub mod RequestLemmas
 pub mod SerialLemmas

@@ -1,5 +1,5 @@
 -- what is reported of requests, and the RetryAcks in it
-use Rattle.std.proofs.Common.{◌≡◌, ℕ, ◌+◌, ◌*◌, ◌≤◌, ◌==◌, List, [], ◌∷◌, ◌++◌, Option, None, Some, Ok, refl, sym, ap, subst, ◌∙◌, eq-eqb, zero-add, arith, append_assoc, append-nil, inl, inr}
+use Rattle.std.proofs.Common.{◌≡◌, ℕ, ◌+◌, ◌*◌, ◌≤◌, ◌==◌, List, [], ◌∷◌, ◌++◌, Option, None, Some, Ok, refl, sym, ap, subst, ◌∙◌, eq-eqb, zero-add, arith, append-nil, inl, inr}
 use Rattle.std.proofs.lemmas.Grind.{common_steps}
 use Rattle.std.proofs.lemmas.List.Sums.{sum_by-append}
 use Rattle.std.specs.Prelude.{option_map}
@@ -18,12 +18,6 @@ use Rattle.chi_requester.specs.declared.policy.Policy.{Policy}
 use Rattle.chi_requester.specs.declared.policy.Policy.TheVariants.{Resend, Return}
 use Rattle.chi_requester.specs.Reports.{Retold, Told, ToldOf}
 
--- what may be reported of one request may be reported of it alone
-pub told_one : (region : Extent) (policy : Policy) (limit : ℕ) (q : Request) (piece : List Line) → ToldOf (decision q region) policy limit q piece
-    → Told region policy limit (q ∷ []) piece
-unfolding Told
-told_one region policy limit q piece told = (piece, [], sym (append-nil piece), told, refl)
-
 -- what is reported of one request alone may be reported of it
 pub told_alone : (region : Extent) (policy : Policy) (limit : ℕ) (q : Request) (piece : List Line) → Told region policy limit (q ∷ []) piece
     → ToldOf (decision q region) policy limit q piece
@@ -32,14 +26,6 @@ told_alone region policy limit q piece told =
     let P : List Line → Type 0 = λ xs. ToldOf (decision q region) policy limit q xs in
     let all : piece ≡ told.0 = told.2 ∙ (ap (λ (xs : List Line). told.0 ++ xs) told.4 ∙ append-nil told.0) in
     subst P (sym all) told.3
-
--- what is reported of some requests, and then of others, is reported of all of them
-pub told-append : (region : Extent) (policy : Policy) (limit : ℕ) (qs rs : List Request) (xs ys : List Line) → Told region policy limit qs xs → Told region policy limit rs ys
-    → Told region policy limit (qs ++ rs) (xs ++ ys)
-unfolding Told
-told-append region policy limit [] rs xs ys first second = let P : List Line → Type 0 = λ z. Told region policy limit rs (z ++ ys) in subst P (sym first) second
-told-append region policy limit (q ∷ qs) rs xs ys first second =
-    (first.0, first.1 ++ ys, ap (λ (z : List Line). z ++ ys) first.2 ∙ append_assoc first.0 first.1 ys, first.3, told-append region policy limit qs rs first.1 ys first.4 second)
 
 -- the RetryAcks of two lists of lines are counted together
 pub retried-append : (region : Extent) (xs ys : List Line) (g : ℕ) → retried region (xs ++ ys) g ≡ retried region xs g + retried region ys g

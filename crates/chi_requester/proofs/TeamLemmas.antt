@@ -18,6 +18,7 @@ use Rattle.chi_requester.specs.declared.fault.WorkFault.{WorkFault}
 use Rattle.chi_requester.specs.declared.policy.Policy.{Policy}
 use Rattle.chi_requester.specs.Team.{AreLeftBy, IsTeamRun}
 use Rattle.chi_requester.specs.Reports.{Told}
+use Rattle.chi_requester.specs.Stretches.{Stretches}
 use Rattle.chi_requester.specs.Work.{AreLeft, IsRacer, IsShare, IsExecuted, IsWorkRun, Share}
 use Rattle.chi_requester.proofs.FamilyLemmas.{one_more, put, put_each, put_other}
 
@@ -34,24 +35,39 @@ racer_more {o = o} {src = src} {seen = seen} {since = since} racer more others =
   mine = racer.mine ∙ sym (of-append since more src ∙ rw others (append-nil (of since src)));
   told = racer.told;
   paid = λ g. let both = hits-append o (end o seen) since more g (union (only 0) (only src)) in let own = racer.paid g in omega arith;
+  first = racer.first;
+  rest = racer.rest ++ more;
+  parts = ap (λ h. h ++ more) racer.parts ∙ append_assoc racer.first racer.rest more;
+  zero_free = racer.zero_free;
+  stretches = racer.stretches;
 }
 
 -- what a requester did by its number alone, where 0 did nothing
 pub racer_alone : {o : Opening} {policy : Policy} {limit src : ℕ} {seen seen' : List Entry} {qs : List Request} {lines : List Line}
     → (w : IsExecuted o policy limit (only src) src seen seen' qs lines) → IsFreeOf (only 0) w.since → IsRacer o policy limit src seen w.since qs lines
-racer_alone {o = o} {src = src} {seen = seen} w free = record {
+racer_alone {o = o} {policy = policy} {limit = limit} {src = src} {seen = seen} {qs = qs} {lines = lines} w free = record {
   mine = w.mine;
   told = w.told;
   paid = λ g. let same = hits_outside o (end o seen) (only 0) (only src) w.since g free in let own = w.paid g in omega arith;
+  first = w.since;
+  rest = [];
+  parts = sym (append-nil w.since);
+  zero_free = free;
+  stretches = let P : List Entry → Type 0 = λ h. Stretches o policy limit (only src) seen h qs lines in subst P w.grown w.stretches;
 }
 
 -- a requester that did nothing
 pub racer_none : (o : Opening) (policy : Policy) (limit src : ℕ) (seen : List Entry) → IsRacer o policy limit src seen [] [] []
-unfolding Told of
+unfolding Told of IsFreeOf Stretches
 racer_none o policy limit src seen = record {
   mine = refl;
   told = refl;
   paid = λ g. omega arith;
+  first = [];
+  rest = [];
+  parts = refl;
+  zero_free = tt;
+  stretches = (refl, append-nil seen);
 }
 
 -- where some of a set are left, some are with one more number

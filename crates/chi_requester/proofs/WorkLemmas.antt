@@ -19,9 +19,10 @@ use Rattle.chi_history.proofs.HeldLemmas.{without-held}
 use Rattle.chi_history.proofs.HistoryLemmas.{end_from-append, free-append, free-within, hits-append, hits-free, of-append, of-free}
 use Rattle.chi_requester.specs.declared.fault.WorkFault.{WorkFault}
 use Rattle.chi_requester.specs.declared.policy.Policy.{Policy}
-use Rattle.chi_requester.specs.Reports.{Told}
+use Rattle.chi_requester.specs.Stretches.{Stretches}
 use Rattle.chi_requester.specs.Work.{AreLeft, IsExecuted}
-use Rattle.chi_requester.proofs.ReportLemmas.{retried-append, retried_one, told-append}
+use Rattle.chi_requester.proofs.ReportLemmas.{retried-append, retried_one}
+use Rattle.chi_requester.proofs.StretchLemmas.{stretches-append, stretches_none, stretches_told}
 
 -- after a fault some requests are left
 pub are_left-err : (result : Result (Unit {0}) WorkFault) (rest : List Request) → IsErr result → rest ≢ [] → AreLeft result rest
@@ -54,11 +55,18 @@ pub record Adds (o : Opening) (limit : ℕ) (held : Held) (src : ℕ) (seen seen
   pub free : IsFreeOf (without src held) since
   pub paid : (g : ℕ) → limit * retried o.region lines g ≤ hits o seen since g held
 
--- the work on requests, from what it adds and what is reported of them
+-- the work on requests, from what it adds and its stretches
 pub executed_from : (o : Opening) (policy : Policy) (limit : ℕ) (held : Held) (src : ℕ) (seen seen' : List Entry) (qs : List Request) (lines : List Line)
-    → Adds o limit held src seen seen' lines → Told o.region policy limit qs lines → IsExecuted o policy limit held src seen seen' qs lines
-executed_from o policy limit held src seen seen' qs lines x told =
-    record { since = x.since; grown = x.grown; mine = x.mine; free = x.free; paid = x.paid; told = told }
+    → Adds o limit held src seen seen' lines → Stretches o policy limit held seen seen' qs lines → IsExecuted o policy limit held src seen seen' qs lines
+executed_from o policy limit held src seen seen' qs lines x stretches = record {
+  since = x.since;
+  grown = x.grown;
+  mine = x.mine;
+  free = x.free;
+  paid = x.paid;
+  told = stretches_told o policy limit held seen seen' qs lines stretches;
+  stretches = stretches;
+}
 
 -- what the work on requests adds
 pub adds_of : (o : Opening) (policy : Policy) (limit : ℕ) (held : Held) (src : ℕ) (seen seen' : List Entry) (qs : List Request) (lines : List Line)
@@ -139,8 +147,8 @@ adds-append o limit held src seen seen' seen'' xs ys first second = record {
 
 -- no request
 pub executed_none : (o : Opening) (policy : Policy) (limit : ℕ) (held : Held) (src : ℕ) (seen : List Entry) → IsExecuted o policy limit held src seen seen [] []
-unfolding Told
-executed_none o policy limit held src seen = executed_from o policy limit held src seen seen [] [] (adds_none o limit held src seen) refl
+executed_none o policy limit held src seen =
+    executed_from o policy limit held src seen seen [] [] (adds_none o limit held src seen) (stretches_none o policy limit held seen)
 
 -- some requests, and then others
 pub executed-append : (o : Opening) (policy : Policy) (limit : ℕ) (held : Held) (src : ℕ) (seen seen' seen'' : List Entry) (qs rs : List Request) (xs ys : List Line)
@@ -149,4 +157,4 @@ pub executed-append : (o : Opening) (policy : Policy) (limit : ℕ) (held : Held
 executed-append o policy limit held src seen seen' seen'' qs rs xs ys first second =
     executed_from o policy limit held src seen seen'' (qs ++ rs) (xs ++ ys)
     (adds-append o limit held src seen seen' seen'' xs ys (adds_of o policy limit held src seen seen' qs xs first) (adds_of o policy limit held src seen' seen'' rs ys second))
-    (told-append o.region policy limit qs rs xs ys first.told second.told)
+    (stretches-append o policy limit held seen seen' seen'' qs rs xs ys first.stretches second.stretches)

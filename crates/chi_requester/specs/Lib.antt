@@ -1,4 +1,5 @@
 pub mod Reports
+pub mod Stretches
 pub mod Work
 pub mod Serial
 pub mod Team

@@ -1,20 +1,16 @@
 -- what a requester's work adds to its lines and to the history
-use Rattle.std.specs.Prelude.{◌≡◌, ◌≢◌, ℕ, ◌*◌, ◌==◌, ◌≤◌, List, [], ◌∷◌, ◌++◌, filter, Result, Ok, Err}
+use Rattle.std.specs.Prelude.{◌≡◌, ◌≢◌, ℕ, ◌*◌, ◌==◌, ◌≤◌, List, [], ◌++◌, filter, Result, Ok, Err}
 use Rattle.chi_fields.specs.declared.request.Request.{Request}
-use Rattle.chi_fields.specs.Access.{Access}
-use Rattle.chi_lanes.specs.declared.reply.Reply.{Reply}
 use Rattle.chi_history.specs.declared.entry.Entry.{Entry}
 use Rattle.chi_history.specs.declared.line.Line.{Line}
-use Rattle.chi_history.specs.declared.line.Line.TheVariants.{Completed}
 use Rattle.chi_history.specs.declared.opening.Opening.{Opening}
 use Rattle.chi_history.specs.NumberSets.{Held, only, union, without}
 use Rattle.chi_history.specs.History.{IsFreeOf, hits, of}
 use Rattle.chi_history.specs.Lines.{entries, retried}
-use Rattle.chi_history.specs.HomeClauses.{Completes}
 use Rattle.chi_requester.specs.declared.fault.WorkFault.{WorkFault}
 use Rattle.chi_requester.specs.declared.policy.Policy.{Policy}
-use Rattle.chi_requester.specs.declared.policy.Policy.TheVariants.{Resend, Return}
 use Rattle.chi_requester.specs.Reports.{Told}
+use Rattle.chi_requester.specs.Stretches.{Stretches}
 
 -- the requests of one requester, in order
 abbrev pub own_requests : List Request → ℕ → List Request
@@ -25,16 +21,9 @@ abbrev pub AreLeft : Result (Unit {0}) WorkFault → List Request → Type 0
 AreLeft (Ok _) rest = rest ≡ []
 AreLeft (Err _) rest = rest ≢ []
 
--- what follows a RetryAck to the requester src: under Resend the request is completed on the credit, and the
--- line of it is appended; under Return nothing more is done
-abbrev pub IsFollowed : Policy → Opening → Held → ℕ → List Entry → List Entry → Request → Access → List Line → List Line → Type 0
-IsFollowed Resend o held src seen seen' q a lines lines' =
-    (reply : Reply) × (lines' ≡ lines ++ Completed q reply ∷ []) × Completes o held seen seen' src a reply 0
-IsFollowed Return o held src seen seen' q a lines lines' = (lines' ≡ lines) × (seen' ≡ seen)
-
 -- The lines report these requests of the requester src, in order. The history went on by the entries of the
--- completed ones, and by entries of numbers that the seat does not hold. Each RetryAck was paid for by as many
--- changes of its granule as the limit says, made by others.
+-- completed ones, and by entries of numbers that the seat does not hold, in one stretch for each request. Each
+-- RetryAck was paid for by as many changes of its granule as the limit says, made by others in its own stretch.
 pub record IsExecuted (o : Opening) (policy : Policy) (limit : ℕ) (held : Held) (src : ℕ) (seen seen' : List Entry) (qs : List Request) (lines : List Line) : Type 0 where
   pub since : List Entry
   pub grown : seen' ≡ seen ++ since
@@ -42,6 +31,7 @@ pub record IsExecuted (o : Opening) (policy : Policy) (limit : ℕ) (held : Held
   pub free : IsFreeOf (without src held) since
   pub paid : (g : ℕ) → limit * retried o.region lines g ≤ hits o seen since g held
   pub told : Told o.region policy limit qs lines
+  pub stretches : Stretches o policy limit held seen seen' qs lines
 
 -- The requests of src were executed, all of them after Ok, and a proper prefix of them after Memory. Earlier
 -- lines stay.
@@ -54,12 +44,18 @@ pub record IsWorkRun (result : Result (Unit {0}) WorkFault) (o : Opening) (polic
   pub kept : lines' ≡ lines ++ appended
   pub executed : IsExecuted o policy limit held src seen seen' done appended
 
--- The lines report these requests of src, and what src did after the history seen is what they report. Each
--- RetryAck was paid for by as many changes of its granule as the limit says, made by others than 0 and src.
+-- The lines report these requests of src, and what src did after the history seen is what they report. Its own seat
+-- saw the first entries, none of which is of 0, in one stretch for each request. Each RetryAck was paid for by as many
+-- changes of its granule as the limit says, made by others than 0 and src in its own stretch.
 pub record IsRacer (o : Opening) (policy : Policy) (limit : ℕ) (src : ℕ) (seen since : List Entry) (qs : List Request) (lines : List Line) : Type 0 where
   pub mine : entries lines ≡ of since src
   pub told : Told o.region policy limit qs lines
   pub paid : (g : ℕ) → limit * retried o.region lines g ≤ hits o seen since g (union (only 0) (only src))
+  pub first : List Entry
+  pub rest : List Entry
+  pub parts : since ≡ first ++ rest
+  pub zero_free : IsFreeOf (only 0) first
+  pub stretches : Stretches o policy limit (only src) seen (seen ++ first) qs lines
 
 -- one requester's requests that were executed and those that were not, and the lines appended
 pub record Share : Type 0 where

@@ -3,7 +3,8 @@
 ghost use Rattle.std.specs.Prelude.{◌≡◌, ◌+◌, ◌≤◌, ◌++◌, List, [], ◌∷◌, true, IsTrue, MatchResult, vec_len, vec_capacity};
 ghost use Rattle.chi_fields.specs.Extent.{lies_in};
 ghost use Rattle.chi_history.specs.declared.line.Line.{Line};
-ghost use Rattle.chi_requester.specs.Work.{IsFollowed, IsExecuted};
+ghost use Rattle.chi_requester.specs.Stretches.{IsFollowed};
+ghost use Rattle.chi_requester.specs.Work.{IsExecuted};
 
 use crate::fault::WorkFault;
 use crate::policy::Policy;

@@ -9,7 +9,7 @@ use Rattle.chi_requester.proofs.single.serve_request.Goals as goal
 pub returns-in-Err-clause-executed : goal.returns-in-Err-clause-executed
 returns-in-Err-clause-executed g c =
     let P : Extent → Type 0 = λ region. Err c.in-Err.refusal ≡ decision c.args.request.now region in
-    (Refused c.args.request.now c.in-Err.refusal ∷ [], c.push_reserved.ensures.items, executed_refused _ _ _ _ _ _ _ (sym (subst P c.region.ensures c.in-Err.ensures.decided)))
+    (Refused c.args.request.now c.in-Err.refusal ∷ [], c.push_reserved.ensures.items, executed_refused _ _ _ _ _ _ _ c.requires.holds (sym (subst P c.region.ensures c.in-Err.ensures.decided)))
 
 pub returns-in-Done-clause-executed : goal.returns-in-Done-clause-executed
 returns-in-Done-clause-executed g c =
