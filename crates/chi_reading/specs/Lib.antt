@@ -1,5 +1,6 @@
 pub mod Faults
 pub mod Member
+pub mod Refused
 pub mod Replies
 pub mod Requests
 pub mod Told

@@ -1,7 +1,7 @@
 -- the names of the members of a trace and of an event
 use Rattle.std.specs.Prelude.{ℕ, List, codes}
 use Rattle.chi_reading.specs.declared.member.Member.{Member}
-use Rattle.chi_reading.specs.declared.member.Member.TheVariants.{Base, Granules, Image, Requests, Src, Txn, Opcode, Size, Addr, Endian, Be, Lanes, Final, Start, End, Reply, Event, Time, Id, Bytes, Length}
+use Rattle.chi_reading.specs.declared.member.Member.TheVariants.{Base, Granules, Image, Requests, Src, Txn, Opcode, Size, Addr, Endian, Be, Lanes, Final, Start, End, Reply, Refused, Event, Time, Id, Bytes, Length}
 
 abbrev pub member_name : Member → List ℕ
 member_name Base = codes "base"
@@ -20,6 +20,7 @@ member_name Final = codes "final"
 member_name Start = codes "start"
 member_name End = codes "end"
 member_name Reply = codes "reply"
+member_name Refused = codes "refused"
 member_name Event = codes "event"
 member_name Time = codes "time"
 member_name Id = codes "id"

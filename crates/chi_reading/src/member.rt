@@ -9,7 +9,7 @@ use chi_json::Named;
 ///
 /// - `Base` to `Requests`, and `Final`, are a trace's. `Granules`, `Image` and `Final` may be left out.
 /// - `Src` to `Lanes` are a request's, of a trace and of an event.
-/// - `Start`, `End` and `Reply` are of a request of a trace, and `Final` and `Reply` also of events.
+/// - `Start`, `End`, `Reply` and `Refused` are of a request of a trace, and `Final` and `Reply` also of events.
 /// - `Event` to `Length` are of events alone.
 #[derive(Clone, Copy, Debug, PartialEq, Eq)]
 pub enum Member {
@@ -29,6 +29,7 @@ pub enum Member {
     Start,
     End,
     Reply,
+    Refused,
     Event,
     Time,
     Id,
@@ -62,6 +63,7 @@ impl Member {
             Member::Start => "start",
             Member::End => "end",
             Member::Reply => "reply",
+            Member::Refused => "refused",
             Member::Event => "event",
             Member::Time => "time",
             Member::Id => "id",
