@@ -1,8 +1,8 @@
 -- the operations that a trace's text tells are such as can be observed
-use Rattle.std.proofs.Common.{◌≡◌, ℕ, zero, suc, ◌+◌, ◌*◌, ◌/◌, ◌%◌, ◌^◌, ◌==◌, ◌<◌, ◌≤◌, nat_le, nat_lt, not, true, All, length, Option, Some, None, Ok, IfOk, IfSome, inl, inr, refl, eqb-true, arith}
+use Rattle.std.proofs.Common.{◌≡◌, ℕ, zero, suc, ◌+◌, ◌*◌, ◌/◌, ◌%◌, ◌^◌, ◌==◌, ◌<◌, ◌≤◌, nat_le, nat_lt, not, true, [], All, length, Option, Some, None, Ok, IfOk, IfSome, inl, inr, refl, eqb-true, arith}
 use Rattle.std.proofs.lemmas.Bool.{and_parts, leb-true, ltb-false, not-false}
-use Rattle.std.proofs.lemmas.List.Elements.{All-cons, All-nil}
-use Rattle.serde_json.specs.Data.{Items, no_items, item}
+use Rattle.std.proofs.lemmas.List.Elements.{All-append, All-cons, All-nil}
+use Rattle.serde_json.specs.Data.{Data, Items, no_items, item}
 use Rattle.serde_json.specs.Events.{items_len}
 use Rattle.chi_fields.specs.Access.{Access, IsLawful, IsLen, enables_fit, lane_of}
 use Rattle.chi_fields.specs.Extent.{Extent, IsRegion, lies_in, region_of}
@@ -14,15 +14,18 @@ use Rattle.chi_fields.specs.declared.refusal.Refusal.TheVariants.{BadByteEnable,
 use Rattle.chi_fields.specs.declared.request.Request.{Request}
 use Rattle.chi_json.specs.Members.{or_else}
 use Rattle.chi_json.proofs.WalkLemmas.{at_ok, renamed, then_ok}
+use Rattle.chi_lanes.specs.declared.reply.Reply.{Reply}
 use Rattle.chi_trace.specs.declared.observed.Observed.{Observed}
 use Rattle.chi_trace.specs.Explains.{IsObserved, at, nothing}
 use Rattle.chi_reading.specs.declared.asked.Asked.{Asked}
+use Rattle.chi_reading.specs.declared.stated.Outcome.{Outcome}
+use Rattle.chi_reading.specs.declared.stated.Outcome.TheVariants.{Accepted, Refused}
 use Rattle.chi_reading.specs.declared.stated.Stated.{Stated}
-use Rattle.chi_reading.specs.declared.fault.RequestFault.TheVariants.{EndsBeforeStart, Refused, Reply}
+use Rattle.chi_reading.specs.declared.fault.RequestFault.TheVariants as request_fault
 use Rattle.chi_reading.specs.declared.fault.TraceFault.TheVariants.{InRequest, TooManyRequests}
 use Rattle.chi_reading.specs.Faults.{faultless}
 use Rattle.chi_reading.specs.Replies.{reply_fault}
-use Rattle.chi_reading.specs.Requests.{Completed, access_of, all_completed, completed_of, line_of, observed_of, request_of, stated_at}
+use Rattle.chi_reading.specs.Requests.{Completed, access_of, all_completed, completed_at, completed_by, completed_of, line_of, observed_of, refused_of, request_of, stated_at}
 use Rattle.chi_reading.proofs.Faultless.{unless, value_of, without_fault}
 use Rattle.chi_reading.proofs.Packets.{HasPacket, IsPacket, stated_packet}
 use Rattle.chi_reading.proofs.RegionText.{region_lawful}
@@ -94,32 +97,45 @@ accessed None a has is = by_line (line_of a.addr) refl (value_of (region_of (a.a
     by_line (Some line) same is = rw same (decided (request_of a) line has.bits has.packet is)
     by_line None same is = rw same tt
 
-observed_within : (place : ℕ) (region : Option Extent) (s : Stated) → HasPacket s.asked → IfSome region IsRegion → IfOk (observed_of place region s) IsObserved
+observed_within : (place : ℕ) (region : Option Extent) (s : Stated) (reply : Option Reply) → HasPacket s.asked → IfSome region IsRegion
+    → IfOk (observed_of place region s reply) IsObserved
 unfolding observed_of
-observed_within place region s has is =
-    then_ok (or_else (λ refusal. InRequest place (Refused refusal)) (access_of region s.asked)) _ IsObserved (λ access e.
-    let operation : Observed = record { start = s.start; end = s.end; src = s.asked.src; access = access; reply = s.reply } in
-    unless (nat_lt s.end s.start) (InRequest place EndsBeforeStart) (faultless (λ fault. InRequest place (Reply fault)) (reply_fault access s.reply) operation) IsObserved (λ lasting.
-    without_fault (λ fault. InRequest place (Reply fault)) (reply_fault access s.reply) operation IsObserved (
-    let within = at_ok (or_else (λ refusal. InRequest place (Refused refusal)) (access_of region s.asked)) access IsWithin e
-    (renamed (λ refusal. InRequest place (Refused refusal)) (access_of region s.asked) IsWithin (accessed region s.asked has is)) in
+observed_within place region s reply has is =
+    then_ok (or_else (λ refusal. InRequest place (request_fault.Refused refusal)) (access_of region s.asked)) _ IsObserved (λ access e.
+    let operation : Observed = record { start = s.start; end = s.end; src = s.asked.src; access = access; reply = reply } in
+    unless (nat_lt s.end s.start) (InRequest place request_fault.EndsBeforeStart) (faultless (λ fault. InRequest place (request_fault.Reply fault)) (reply_fault access reply) operation) IsObserved (λ lasting.
+    without_fault (λ fault. InRequest place (request_fault.Reply fault)) (reply_fault access reply) operation IsObserved (
+    let within = at_ok (or_else (λ refusal. InRequest place (request_fault.Refused refusal)) (access_of region s.asked)) access IsWithin e
+    (renamed (λ refusal. InRequest place (request_fault.Refused refusal)) (access_of region s.asked) IsWithin (accessed region s.asked has is)) in
     record { lawful = within.lawful; within = within.below; lasting = ltb-false s.end s.start lasting })))
 
 -- each operation is such as can be observed
 abbrev AreObserved : Completed → Type 0
 AreObserved c = All IsObserved c.operations
 
+by_within : (place : ℕ) (region : Option Extent) (s : Stated) (outcome : Outcome) → HasPacket s.asked → IfSome region IsRegion
+    → IfOk (completed_by place region s outcome) AreObserved
+by_within place region s (Accepted reply) has is =
+    then_ok (observed_of place region s reply) _ AreObserved (λ op e.
+    let observed = at_ok (observed_of place region s reply) op IsObserved e (observed_within place region s reply has is) in
+    All-cons IsObserved op [] observed (All-nil IsObserved))
+by_within place region s (Refused reason) has is = then_ok (refused_of place region s reason) _ AreObserved (λ refusal e. All-nil IsObserved)
+
+at_within : (place : ℕ) (region : Option Extent) (d : Data) → IfSome region IsRegion → IfOk (completed_at place region d) AreObserved
+unfolding completed_at
+at_within place region d is =
+    then_ok (stated_at place d) _ AreObserved (λ s e.
+    by_within place region s s.outcome (at_ok (stated_at place d) s (λ (t : Stated). HasPacket t.asked) e (stated_packet place d)) is)
+
 completed_within : (place : ℕ) (region : Option Extent) (ds : Items) → IfSome region IsRegion → IfOk (completed_of place region ds) AreObserved
 unfolding completed_of
 completed_within place region no_items is = All-nil IsObserved
 completed_within place region (item d ds) is =
-    then_ok (stated_at place d) _ AreObserved (λ s e.
-    then_ok (observed_of place region s) _ AreObserved (λ op e1.
-    then_ok (completed_of (place + 1) region ds) _ AreObserved (λ rest e2.
-    let has = at_ok (stated_at place d) s (λ (t : Stated). HasPacket t.asked) e (stated_packet place d) in
-    All-cons IsObserved op rest.operations
-    (at_ok (observed_of place region s) op IsObserved e1 (observed_within place region s has is))
-    (at_ok (completed_of (place + 1) region ds) rest AreObserved e2 (completed_within (place + 1) region ds is)))))
+    then_ok (completed_at place region d) _ AreObserved (λ first e.
+    then_ok (completed_of (place + 1) region ds) _ AreObserved (λ rest e1.
+    All-append IsObserved first.operations rest.operations
+    (at_ok (completed_at place region d) first AreObserved e (at_within place region d is))
+    (at_ok (completed_of (place + 1) region ds) rest AreObserved e1 (completed_within (place + 1) region ds is))))
 
 all_within : (region : Option Extent) (elements : Items) → IfSome region IsRegion → IfOk (all_completed region elements) AreObserved
 unfolding all_completed

@@ -14,6 +14,10 @@ use Rattle.chi_verdict.proofs.Traced.{IsTrace-from_places}
 abbrev pub HasEach : List Observed → List ℕ → Type 0
 HasEach ops places = (i : ℕ) → times_in places i ≡ one_if (is_place ops i)
 
+-- those of the same operations
+pub each_of : (seen ops : List Observed) (places : List ℕ) → seen ≡ ops → HasEach seen places → HasEach ops places
+each_of seen ops places same each = subst (λ o. HasEach o places) same each
+
 pub places_inside : (ops : List Observed) (places : List ℕ) → HasEach ops places → All (λ i. i < length ops) places
 places_inside ops places each =
     All-weaker (λ i. is_place ops i ≡ true) (λ i. i < length ops) (λ i inside. ltb-true i (length ops) inside) places

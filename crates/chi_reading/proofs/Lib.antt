@@ -4,6 +4,8 @@ pub mod Decided
 mod Elements
 mod Faultless
 mod InOrder
+mod Joined
+mod Matched
 mod ObjectText
 mod OneMore
 pub mod Packets

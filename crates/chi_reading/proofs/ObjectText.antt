@@ -16,13 +16,16 @@ unfolding object_text
 object_says d value ms elements t c is_memory is_there is_array are_known are_completed = rw (is_memory, is_there, is_array, are_known, are_completed) refl
 
 -- what was read of a text's memory and requests is what the text says
-pub recorded_of : (t : MemoryText) (m : Memory) (c : Completed) (r : RecordedValue) → IsMemoryOf t m → IsRecorded m c.requests c.operations r
+pub recorded_of : (t : MemoryText) (m : Memory) (c : Completed) (r : RecordedValue) → IsMemoryOf t m → IsRecorded m c r
     → IsOf (record { memory = t; completed = c }) r
 recorded_of t m c r is recorded = record {
   region = recorded.region ∙ is.region;
   opening = λ g. ap (λ words. told words g) recorded.opening ∙ is.opening g;
   final_words = λ g. ap (λ words. told words g) recorded.final_words ∙ is.final_words g;
+  order = recorded.order;
   each = recorded.each;
   requests = recorded.requests_are;
   operations = recorded.operations_are;
+  places = recorded.places_are;
+  refusals = recorded.refusals_are;
 }

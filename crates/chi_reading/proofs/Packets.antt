@@ -15,8 +15,8 @@ use Rattle.chi_reading.specs.declared.fault.RequestFault.TheVariants.{NotObject,
 use Rattle.chi_reading.specs.declared.fault.TraceFault.TheVariants.{InRequest}
 use Rattle.chi_reading.specs.declared.stated.Stated.{Stated}
 use Rattle.chi_reading.specs.Faults.{fault_in}
-use Rattle.chi_reading.specs.Requests.{asked_of, end_of, fields_of, reply_by, stated_at, stated_of}
-use Rattle.chi_reading.specs.Unknown.{request_members, unknown_in}
+use Rattle.chi_reading.specs.Requests.{asked_of, end_of, fields_of, members_of, outcome_by, stated_at, stated_of}
+use Rattle.chi_reading.specs.Unknown.{unknown_in}
 use Rattle.chi_reading.proofs.Faultless.{present, without_fault}
 
 -- sixteen bytes
@@ -57,7 +57,7 @@ stated_within d =
     then_ok (asked_of d) _ (λ (s : Stated). HasPacket s.asked) (λ asked e.
     then_ok (number_of member_name member.Start (2 ^ 64 - 1) d) _ (λ (s : Stated). HasPacket s.asked) (λ start e1.
     then_ok (end_of d) _ (λ (s : Stated). HasPacket s.asked) (λ end e2.
-    then_ok (reply_by (get (member_name member.Reply) d) (get (member_name member.End) d)) _ (λ (s : Stated). HasPacket s.asked) (λ reply e3.
+    then_ok (outcome_by (get (member_name member.Refused) d) (get (member_name member.Reply) d) (get (member_name member.End) d)) _ (λ (s : Stated). HasPacket s.asked) (λ outcome e3.
     at_ok (asked_of d) asked HasPacket e (asked_within d)))))
 
 -- what the element at a place states
@@ -66,6 +66,6 @@ unfolding stated_at
 stated_packet place d =
     then_ok (ok_or (as_object d) (InRequest place NotObject)) _ (λ (s : Stated). HasPacket s.asked) (λ members e.
     then_ok (or_else (fault_in place) (stated_of d)) _ (λ (s : Stated). HasPacket s.asked) (λ stated e1.
-    without_fault (λ name. InRequest place (UnknownMember name)) (unknown_in request_members members) stated (λ (s : Stated). HasPacket s.asked)
+    without_fault (λ name. InRequest place (UnknownMember name)) (unknown_in (members_of stated.outcome) members) stated (λ (s : Stated). HasPacket s.asked)
     (at_ok (or_else (fault_in place) (stated_of d)) stated (λ (s : Stated). HasPacket s.asked) e1
     (renamed (fault_in place) (stated_of d) (λ (s : Stated). HasPacket s.asked) (stated_within d)))))

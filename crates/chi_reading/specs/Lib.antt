@@ -1,4 +1,5 @@
 pub mod Faults
+pub mod Found
 pub mod Member
 pub mod Refused
 pub mod Replies

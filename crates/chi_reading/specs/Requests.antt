@@ -1,5 +1,5 @@
--- the requests of a trace's text, and the operation that was observed of each
-use Rattle.std.specs.Prelude.{ℕ, ◌+◌, ◌-◌, ◌*◌, ◌/◌, ◌^◌, ◌==◌, nat_lt, if◌then◌else◌, List, [], ◌∷◌, replicate, codes, Option, None, Some, is_some, is_none, option_and_then, Result, Ok, Err}
+-- the requests of a trace's text: the operation that was observed of each, or why a home refused it
+use Rattle.std.specs.Prelude.{ℕ, ◌+◌, ◌-◌, ◌*◌, ◌/◌, ◌^◌, ◌==◌, nat_lt, not, if◌then◌else◌, List, [], ◌∷◌, ◌++◌, replicate, codes, Option, None, Some, is_some, is_none, option_and_then, Result, Ok, Err}
 use Rattle.std.specs.Option.{ok_or, option_map}
 use Rattle.std.specs.Result.{result_ok}
 use Rattle.std.specs.Str.{bytes_eq}
@@ -23,13 +23,16 @@ use Rattle.chi_reading.specs.declared.member.Member.{Member}
 use Rattle.chi_reading.specs.declared.member.Member.TheVariants as member
 use Rattle.chi_reading.specs.Member.{member_name}
 use Rattle.chi_reading.specs.declared.asked.Asked.{Asked}
+use Rattle.chi_reading.specs.declared.stated.Outcome.{Outcome}
+use Rattle.chi_reading.specs.declared.stated.Outcome.TheVariants.{Accepted, Refused}
 use Rattle.chi_reading.specs.declared.stated.Stated.{Stated}
 use Rattle.chi_reading.specs.declared.fault.RequestFault.TheVariants as request_fault
 use Rattle.chi_reading.specs.declared.fault.TraceFault.{TraceFault}
 use Rattle.chi_reading.specs.declared.fault.TraceFault.TheVariants.{TooManyRequests, InRequest}
 use Rattle.chi_reading.specs.Faults.{fault_in, faultless}
+use Rattle.chi_reading.specs.Refused.{is_refused_so, refusal_of}
 use Rattle.chi_reading.specs.Replies.{reply_fault}
-use Rattle.chi_reading.specs.Unknown.{request_members, unknown_in}
+use Rattle.chi_reading.specs.Unknown.{refused_members, request_members, unknown_in}
 
 -- the fields of a request that an object states, with no data
 unfoldable pub fields_of : Data → Result Asked (MemberFault Member)
@@ -72,21 +75,35 @@ reply_by None None = Ok None
 reply_by None (Some end) = Err (member_fault.Missing member.Reply)
 reply_by (Some reply) end = ok_or (seen_of reply) (member_fault.BadMember member.Reply)
 
+-- what came of a request, by the members `refused`, `reply` and `end`: it was refused where the first is there
+abbrev pub outcome_by : Option Data → Option Data → Option Data → Result Outcome (MemberFault Member)
+outcome_by None reply end = do
+  seen ← reply_by reply end
+  Ok (Accepted seen)
+outcome_by (Some refused) reply end = do
+  reason ← ok_or (refusal_of refused) (member_fault.BadMember member.Refused)
+  Ok (Refused reason)
+
 -- what a request states
 unfoldable pub stated_of : Data → Result Stated (MemberFault Member)
 stated_of d = do
   asked ← asked_of d
   start ← number_of member_name member.Start (2 ^ 64 - 1) d
   end ← end_of d
-  reply ← reply_by (get (member_name member.Reply) d) (get (member_name member.End) d)
-  Ok (record { asked = asked; start = start; end = end; reply = reply })
+  outcome ← outcome_by (get (member_name member.Refused) d) (get (member_name member.Reply) d) (get (member_name member.End) d)
+  Ok (record { asked = asked; start = start; end = end; outcome = outcome })
+
+-- the members that a request of this outcome has
+abbrev pub members_of : Outcome → List Member
+members_of (Accepted reply) = request_members
+members_of (Refused reason) = refused_members
 
 -- the same of the element at a place
 unfoldable pub stated_at : ℕ → Data → Result Stated TraceFault
 stated_at place d = do
   members ← ok_or (as_object d) (InRequest place request_fault.NotObject)
   stated ← or_else (fault_in place) (stated_of d)
-  faultless (λ name. InRequest place (request_fault.UnknownMember name)) (unknown_in request_members members) stated
+  faultless (λ name. InRequest place (request_fault.UnknownMember name)) (unknown_in (members_of stated.outcome) members) stated
 
 -- what a home decides of a request on a line, where there is one
 abbrev decision_on : Option Extent → Asked → Result Access Refusal
@@ -102,27 +119,72 @@ abbrev pub access_of : Option Extent → Asked → Result Access Refusal
 access_of (Some region) a = decision (request_of a) region
 access_of None a = decision_on (line_of a.addr) a
 
--- the operation that was observed of the request at a place
-unfoldable pub observed_of : ℕ → Option Extent → Stated → Result Observed TraceFault
-observed_of place region s = do
+-- the operation that was observed of the request at a place, with this reply
+unfoldable pub observed_of : ℕ → Option Extent → Stated → Option Reply → Result Observed TraceFault
+observed_of place region s reply = do
   access ← or_else (λ refusal. InRequest place (request_fault.Refused refusal)) (access_of region s.asked)
   if nat_lt s.end s.start then Err (InRequest place request_fault.EndsBeforeStart)
-      else faultless (λ fault. InRequest place (request_fault.Reply fault)) (reply_fault access s.reply)
-      (record { start = s.start; end = s.end; src = s.asked.src; access = access; reply = s.reply })
+      else faultless (λ fault. InRequest place (request_fault.Reply fault)) (reply_fault access reply)
+      (record { start = s.start; end = s.end; src = s.asked.src; access = access; reply = reply })
 
--- requests, and the operation of each
+-- why the request at a place was refused, where the home refuses it for this reason
+unfoldable pub refused_of : ℕ → Option Extent → Stated → Refusal → Result Refusal TraceFault
+refused_of place region s reason =
+    if not (is_refused_so reason (access_of region s.asked)) then Err (InRequest place request_fault.NotRefusedSo)
+    else if nat_lt s.end s.start then Err (InRequest place request_fault.EndsBeforeStart)
+    else Ok reason
+
+-- The requests that were accepted, with the operation of each and its place in the text, counted from 0; and why each of the
+-- others was refused.
 pub record Completed : Type 0 where
   pub requests : List Asked
   pub operations : List Observed
+  pub places : List ℕ
+  pub refusals : List Refusal
+
+-- no request
+abbrev pub none_completed : Completed
+none_completed = record { requests = []; operations = []; places = []; refusals = [] }
+
+-- those of some requests, and then those of others
+abbrev pub joined : Completed → Completed → Completed
+joined first rest = record {
+  requests = first.requests ++ rest.requests;
+  operations = first.operations ++ rest.operations;
+  places = first.places ++ rest.places;
+  refusals = first.refusals ++ rest.refusals;
+}
+
+-- one that was accepted, at a place
+abbrev pub one_accepted : ℕ → Asked → Observed → Completed
+one_accepted place asked operation = record { requests = asked ∷ []; operations = operation ∷ []; places = place ∷ []; refusals = [] }
+
+-- one that was refused
+abbrev pub one_refused : Refusal → Completed
+one_refused reason = record { requests = []; operations = []; places = []; refusals = reason ∷ [] }
+
+-- that of one request, by what came of it
+abbrev pub completed_by : ℕ → Option Extent → Stated → Outcome → Result Completed TraceFault
+completed_by place region s (Accepted reply) = do
+  operation ← observed_of place region s reply
+  Ok (one_accepted place s.asked operation)
+completed_by place region s (Refused reason) = do
+  refusal ← refused_of place region s reason
+  Ok (one_refused refusal)
+
+-- that of the element at a place
+unfoldable pub completed_at : ℕ → Option Extent → Data → Result Completed TraceFault
+completed_at place region d = do
+  stated ← stated_at place d
+  completed_by place region stated stated.outcome
 
 -- those of an array's elements, the first of which has this place
 unfoldable pub completed_of : ℕ → Option Extent → Items → Result Completed TraceFault
-completed_of place region no_items = Ok (record { requests = []; operations = [] })
+completed_of place region no_items = Ok none_completed
 completed_of place region (item d ds) = do
-  stated ← stated_at place d
-  operation ← observed_of place region stated
+  first ← completed_at place region d
   rest ← completed_of (place + 1) region ds
-  Ok (record { requests = stated.asked ∷ rest.requests; operations = operation ∷ rest.operations })
+  Ok (joined first rest)
 
 -- those of an array of at most 1,048,576
 unfoldable pub all_completed : Option Extent → Items → Result Completed TraceFault

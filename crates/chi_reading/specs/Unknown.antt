@@ -37,3 +37,8 @@ trace_members = name.Base ∷ name.Granules ∷ name.Image ∷ name.Final ∷ na
 abbrev pub request_members : List Member
 request_members =
     name.Src ∷ name.Txn ∷ name.Opcode ∷ name.Size ∷ name.Addr ∷ name.Endian ∷ name.Be ∷ name.Lanes ∷ name.Start ∷ name.End ∷ name.Reply ∷ []
+
+-- those of a request of it that was refused
+abbrev pub refused_members : List Member
+refused_members =
+    name.Src ∷ name.Txn ∷ name.Opcode ∷ name.Size ∷ name.Addr ∷ name.Endian ∷ name.Be ∷ name.Lanes ∷ name.Start ∷ name.End ∷ name.Refused ∷ []

@@ -19,6 +19,7 @@ pub const MOST_OPERATIONS: usize = 1_048_576;
 /// - `Missing`, `BadMember`: a member is not there, or not as stated.
 /// - `UnknownMember`: it has a member that no request has, and whose name does not begin with `x-`.
 /// - `Refused`: `decode` refuses the request, so that no home can have completed it.
+/// - `NotRefusedSo`: it was refused for a reason for which `decode` does not refuse it.
 /// - `EndsBeforeStart`: its end is below its start.
 /// - `Reply`: it has a reply that no home gives it, whatever the memory holds.
 ///
@@ -37,6 +38,8 @@ pub enum RequestFault {
     UnknownMember(MemberName),
     #[error("is refused: {}", refusal_name(*.0))]
     Refused(Refusal),
+    #[error("is not refused so")]
+    NotRefusedSo,
     #[error("ends before it starts")]
     EndsBeforeStart,
     #[error("{0}")]

@@ -9,6 +9,7 @@ use crate::fault::{RequestFault, TraceFault};
 use crate::reply::reply_fault;
 use crate::stated::Stated;
 use chi_fields::{Access, Refusal, Region, decode};
+use chi_lanes::Reply;
 use chi_trace::Observed;
 
 /// The access that a home decides of a request: of a region, or of all addresses below 2^52, for which the line of 64 bytes
@@ -32,14 +33,15 @@ pub fn access(asked: &Asked, region: &Option<Region>) -> Result<Access, Refusal>
     }
 }
 
-/// The operation that was observed of the request at a place.
+/// The operation that was observed of the request at a place, with this reply.
 #[tactic(auto, unfolding(crate::specs::Requests::observed_of))]
 pub(crate) fn observed(
     place: usize,
     region: &Option<Region>,
     stated: &Stated,
+    reply: Option<Reply>,
 ) -> Result<Observed, TraceFault>
-    ensures { result ≡ observed_of place region.now stated.now }
+    ensures { result ≡ observed_of place region.now stated.now reply }
 {
     let access = match access(&stated.asked, region) {
         Ok(access) => access,
@@ -56,7 +58,7 @@ pub(crate) fn observed(
             fault: RequestFault::EndsBeforeStart,
         });
     }
-    if let Some(fault) = reply_fault(&access, &stated.reply) {
+    if let Some(fault) = reply_fault(&access, &reply) {
         return Err(TraceFault::InRequest {
             place,
             fault: RequestFault::Reply(fault),
@@ -67,6 +69,6 @@ pub(crate) fn observed(
         end: stated.end,
         src: stated.asked.src,
         access,
-        reply: stated.reply,
+        reply,
     })
 }

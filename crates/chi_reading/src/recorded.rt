@@ -2,25 +2,26 @@
 
 ghost use Rattle.std.specs.Prelude.{◌≡◌, ◌≢◌, ℕ, ◌<◌, length, IfErr, IfOk, Ok, Err};
 ghost use Rattle.serde_json.specs.View.{members_view, view};
+ghost use Rattle.chi_reading.specs.Found.{AreMatched, completed_in};
 ghost use Rattle.chi_reading.specs.TraceText.{IsMemoryOf, IsOf, IsRecorded, MemoryText, TextValue, cut_at, memory_text, object_text, region_memory, trace_text, wide_memory};
 ghost use Rattle.chi_trace.specs.Explains.{IsObserved, at};
 
 use crate::asked::Asked;
 use crate::fault::TraceFault;
 use crate::member::Member;
-use crate::requests::all_completed;
-use crate::sorting::{by_start, operations_at, requests_at};
+use crate::requests::{Found, all_completed};
+use crate::sorting::{by_start, numbers_at, operations_at, requests_at};
 use crate::told::{region_words, stated_list};
 use crate::unknown::{trace_members, unknown_member};
-use chi_fields::Region;
+use chi_fields::{Refusal, Region};
 use chi_json::{json, number, opening_words, stated_words};
-use chi_trace::Observed;
 use chi_verdict::{GranuleWords, Trace};
 use serde_json::{Map, Value};
 use std::alloc::{AllocError, Global};
 use std::marker::Model;
 
 /// A trace that was read: its memory is a region or all addresses; each operation of it has a request, and a place in the text.
+/// Its other requests were refused.
 #[derive(Debug, Drop)]
 pub struct Recorded {
     region: Option<Region>,
@@ -28,6 +29,7 @@ pub struct Recorded {
     final_words: GranuleWords,
     requests: Vec<Asked>,
     places: Vec<usize>,
+    refusals: Vec<Refusal>,
 }
 
 impl Model for Recorded {
@@ -36,7 +38,7 @@ impl Model for Recorded {
 
     ghost Value = { RecordedValue };
 
-    ghost view = { λ r. record { region = r.region; trace = r.trace; final_words = r.final_words; requests = r.requests.items; places = r.places.items } };
+    ghost view = { λ r. record { region = r.region; trace = r.trace; final_words = r.final_words; requests = r.requests.items; places = r.places.items; refusals = r.refusals.items } };
 
     // Each operation has a request and a place.
     ghost invariant = { λ r. (length r.requests.items ≡ length r.trace.operations) × (length r.places.items ≡ length r.trace.operations) };
@@ -100,8 +102,20 @@ impl Recorded {
         self.places.as_slice()
     }
 
+    /// Why the requests of the trace that are no operations were refused, in the order of the text.
+    ///
+    /// ```
+    /// let has_misaligned = recorded.refusals().contains(&Refusal::Misaligned);
+    /// ```
+    pub fn refusals(&self) -> &[Refusal]
+        ensures { result.now ≡ self.now.refusals }
+    {
+        self.refusals.as_slice()
+    }
+
     /// What had happened by a time: the operations that had started, with the replies of those that had ended, their requests
-    /// and their places. The words at the end are not those of that time, so none is told.
+    /// and their places. The words at the end are not those of that time, so none is told. The times of refused requests are
+    /// not kept, so none of them is left.
     ///
     /// ```
     /// let before = recorded.cut(alloc, 4711)?;
@@ -119,6 +133,7 @@ impl Recorded {
             final_words: GranuleWords::none(alloc),
             requests,
             places,
+            refusals: Vec::new(alloc),
         })
     }
 }
@@ -184,20 +199,16 @@ fn memory_told(alloc: Global, object: &Value) -> Result<Memory, TraceFault>
     }
 }
 
-/// The trace of a memory, and of requests with the operation of each.
-fn in_order(
-    alloc: Global,
-    memory: Memory,
-    requests: &[Asked],
-    operations: &[Observed],
-) -> Result<Recorded, AllocError>
-    requires matched { length requests.now ≡ length operations.now }
-    requires observed { (i : ℕ) → i < length operations.now → IsObserved (at operations.now i) }
-    ensures { IfOk result (λ r. IsRecorded memory requests.now operations.now r) }
+/// The trace of a memory, and of what was found of its requests.
+fn in_order(alloc: Global, memory: Memory, found: Found) -> Result<Recorded, AllocError>
+    requires matched { AreMatched (completed_in found) }
+    requires observed { (i : ℕ) → i < length found.operations.items → IsObserved (at found.operations.items i) }
+    ensures { IfOk result (λ r. IsRecorded memory (completed_in found) r) }
 {
-    let places = by_start(alloc, operations)?;
-    let ordered = operations_at(alloc, operations, &places)?;
-    let requests = requests_at(alloc, requests, &places)?;
+    let order = by_start(alloc, &found.operations)?;
+    let ordered = operations_at(alloc, &found.operations, &order)?;
+    let requests = requests_at(alloc, &found.requests, &order)?;
+    let places = numbers_at(alloc, &found.places, &order)?;
     match Trace::new(memory.opening, ordered) {
         Some(trace) => Ok(Recorded {
             region: memory.region,
@@ -205,6 +216,7 @@ fn in_order(
             final_words: memory.final_words,
             requests,
             places,
+            refusals: found.refusals,
         }),
         None => unreachable!(),
     }
@@ -230,8 +242,8 @@ fn object_trace(
     if let Some(name) = unknown_member(members, trace_members()) {
         return Err(TraceFault::UnknownMember(name));
     }
-    let (requests, operations) = all_completed(alloc, list.as_slice(), &memory.region)?;
-    match in_order(alloc, memory, &requests, &operations) {
+    let found = all_completed(alloc, list.as_slice(), &memory.region)?;
+    match in_order(alloc, memory, found) {
         Ok(recorded) => Ok(recorded),
         Err(_) => Err(TraceFault::Memory),
     }
@@ -248,7 +260,8 @@ fn object_trace(
 /// `start` and `end`, whole numbers below 2^64, of which the end is not the less; `end` is left out where the operation was
 /// open when the trace ended. `reply` is the text `comp`, one of 32 hex digits, lane 0 first, or `null` where it was not seen;
 /// it may be left out where `end` is. A request that a home refuses is a fault, and so is a reply that it gives to no request
-/// like this one, whatever the memory holds.
+/// like this one, whatever the memory holds. A request that was refused has `refused`, the name of the reason, as `Misaligned`,
+/// and no `reply`: it is no operation, and a fault where a home does not refuse it for just this reason.
 ///
 /// Members whose name begins with `x-` are ignored, in the trace and in its requests, and others than those above are refused.
 ///

@@ -2,9 +2,14 @@
 
 ghost use Rattle.std.specs.Prelude.{◌≡◌};
 ghost use Rattle.serde_json.specs.View.{view};
-ghost use Rattle.chi_reading.specs.Refused.{refusal_of, refusal_with};
+ghost use Rattle.chi_reading.specs.Refused.{is_refused_so, refusal_of, refusal_with};
+ghost use Rattle.chi_reading.specs.Requests.{access_of, refused_of};
 
-use chi_fields::{Refusal, refusal_name};
+use crate::asked::Asked;
+use crate::fault::{RequestFault, TraceFault};
+use crate::observed::access;
+use crate::stated::Stated;
+use chi_fields::{Refusal, Region, refusal_name};
 use serde_json::Value;
 
 /// The reasons, in the order in which a home meets them.
@@ -40,4 +45,39 @@ pub fn refusal_named(value: &Value) -> Option<Refusal>
 {
     let name = value.as_str()?;
     with_name(name, &REFUSALS)
+}
+
+/// Whether a home, of a region or of all addresses, refuses the request for this reason.
+fn is_refused_so(asked: &Asked, region: &Option<Region>, reason: Refusal) -> bool
+    ensures { result ≡ is_refused_so reason (access_of region.now asked.now) }
+{
+    match access(asked, region) {
+        Ok(_) => false,
+        Err(refusal) => refusal_name(refusal) == refusal_name(reason),
+    }
+}
+
+/// Why the request at a place was refused, where the home refuses it for this reason.
+#[tactic(auto, unfolding(crate::specs::Requests::refused_of))]
+pub(crate) fn refused(
+    place: usize,
+    region: &Option<Region>,
+    stated: &Stated,
+    reason: Refusal,
+) -> Result<Refusal, TraceFault>
+    ensures { result ≡ refused_of place region.now stated.now reason }
+{
+    if !is_refused_so(&stated.asked, region, reason) {
+        return Err(TraceFault::InRequest {
+            place,
+            fault: RequestFault::NotRefusedSo,
+        });
+    }
+    if stated.end < stated.start {
+        return Err(TraceFault::InRequest {
+            place,
+            fault: RequestFault::EndsBeforeStart,
+        });
+    }
+    Ok(reason)
 }

@@ -1,55 +1,119 @@
-//! The requests of a trace, and the operation that was observed of each.
+//! The requests of a trace: the operation that was observed of each, or why a home refused it.
 
-ghost use Rattle.std.specs.Prelude.{◌≡◌, ◌≢◌, length, IfOk, IfErr, Ok, Err};
-ghost use Rattle.serde_json.specs.View.{items_view};
-ghost use Rattle.chi_reading.specs.Requests.{all_completed, completed_of};
+ghost use Rattle.std.specs.Prelude.{◌≡◌, ◌≢◌, IfOk, IfErr, OnOk, Ok, Err};
+ghost use Rattle.serde_json.specs.View.{items_view, view};
+ghost use Rattle.chi_reading.specs.Found.{completed_in};
+ghost use Rattle.chi_reading.specs.Requests.{Completed, all_completed, completed_at, completed_of, joined, none_completed, one_accepted, one_refused};
 
 use crate::asked::Asked;
 use crate::fault::{MOST_OPERATIONS, TraceFault};
 use crate::observed::observed;
-use crate::stated::stated_at;
-use chi_fields::Region;
+use crate::refused::refused;
+use crate::stated::{Outcome, stated_at};
+use chi_fields::{Refusal, Region};
 use chi_trace::Observed;
 use serde_json::Value;
-use std::alloc::Global;
+use std::alloc::{AllocError, Global};
 
-/// The requests of some elements, and the operation of each.
-#[tactic(auto, unfolding(crate::specs::Requests::completed_of))]
-fn completed(
-    alloc: Global,
-    list: &[Value],
-    region: &Option<Region>,
-) -> Result<(Vec<Asked>, Vec<Observed>), TraceFault>
-    ensures ok { IfOk result (λ found. completed_of 0 region.now (items_view list.now) ≡ Ok (record { requests = found.0.items; operations = found.1.items })) }
-    ensures fault { IfErr result (λ f. f ≢ TraceFault.Memory → completed_of 0 region.now (items_view list.now) ≡ Err f) }
-    ensures matched { IfOk result (λ found. length found.0.items ≡ length found.1.items) }
-{
-    let mut requests = Vec::new(alloc);
-    let mut operations = Vec::new(alloc);
-    for (place, value) in list.iter().enumerate() {
-        let stated = stated_at(place, value)?;
-        let operation = observed(place, region, &stated)?;
-        if requests.push(stated.asked).is_err() || operations.push(operation).is_err() {
-            return Err(TraceFault::Memory);
-        }
-    }
-    Ok((requests, operations))
+/// The requests that were accepted, with the operation and the place in the text of each, and why the others were refused.
+#[derive(Drop)]
+pub(crate) struct Found {
+    pub requests: Vec<Asked>,
+    pub operations: Vec<Observed>,
+    pub places: Vec<usize>,
+    pub refusals: Vec<Refusal>,
 }
 
-/// The requests of an array of at most 1,048,576, and the operation of each.
+impl Found {
+    /// No request.
+    fn none(alloc: Global) -> Found
+        ensures { completed_in result ≡ none_completed }
+    {
+        Found {
+            requests: Vec::new(alloc),
+            operations: Vec::new(alloc),
+            places: Vec::new(alloc),
+            refusals: Vec::new(alloc),
+        }
+    }
+
+    /// Adds a request that was accepted.
+    fn add_accepted(
+        &mut self,
+        place: usize,
+        asked: Asked,
+        operation: Observed,
+    ) -> Result<(), AllocError>
+        ensures { OnOk result (completed_in self.new ≡ joined (completed_in self.old) (one_accepted place asked operation)) }
+    {
+        self.requests.push(asked)?;
+        self.operations.push(operation)?;
+        self.places.push(place)?;
+        Ok(())
+    }
+
+    /// Adds one that was refused.
+    fn add_refused(&mut self, reason: Refusal) -> Result<(), AllocError>
+        ensures { OnOk result (completed_in self.new ≡ joined (completed_in self.old) (one_refused reason)) }
+    {
+        self.refusals.push(reason)?;
+        Ok(())
+    }
+}
+
+/// Adds what the element at a place is.
+#[tactic(auto, unfolding(crate::specs::Requests::completed_at))]
+fn add_request(
+    found: &mut Found,
+    place: usize,
+    region: &Option<Region>,
+    value: &Value,
+) -> Result<(), TraceFault>
+    ensures ok { OnOk result ((one : Completed) × (completed_at place region.now (view value.now) ≡ Ok one) × (completed_in found.new ≡ joined (completed_in found.old) one)) }
+    ensures fault { IfErr result (λ f. f ≢ TraceFault.Memory → completed_at place region.now (view value.now) ≡ Err f) }
+{
+    let stated = stated_at(place, value)?;
+    let added = match stated.outcome {
+        Outcome::Accepted(reply) => {
+            let operation = observed(place, region, &stated, reply)?;
+            found.add_accepted(place, stated.asked, operation)
+        }
+        Outcome::Refused(reason) => {
+            let refusal = refused(place, region, &stated, reason)?;
+            found.add_refused(refusal)
+        }
+    };
+    match added {
+        Ok(()) => Ok(()),
+        Err(_) => Err(TraceFault::Memory),
+    }
+}
+
+/// What some elements are.
+#[tactic(auto, unfolding(crate::specs::Requests::completed_of))]
+fn completed(alloc: Global, list: &[Value], region: &Option<Region>) -> Result<Found, TraceFault>
+    ensures ok { IfOk result (λ found. completed_of 0 region.now (items_view list.now) ≡ Ok (completed_in found)) }
+    ensures fault { IfErr result (λ f. f ≢ TraceFault.Memory → completed_of 0 region.now (items_view list.now) ≡ Err f) }
+{
+    let mut found = Found::none(alloc);
+    for (place, value) in list.iter().enumerate() {
+        add_request(&mut found, place, region, value)?;
+    }
+    Ok(found)
+}
+
+/// What the elements of an array of at most 1,048,576 are.
 #[tactic(auto, unfolding(crate::specs::Requests::all_completed), using(crate::proofs::Elements::counted, crate::proofs::Elements::within))]
 pub(crate) fn all_completed(
     alloc: Global,
     list: &[Value],
     region: &Option<Region>,
-) -> Result<(Vec<Asked>, Vec<Observed>), TraceFault>
-    ensures ok { IfOk result (λ found. all_completed region.now (items_view list.now) ≡ Ok (record { requests = found.0.items; operations = found.1.items })) }
+) -> Result<Found, TraceFault>
+    ensures ok { IfOk result (λ found. all_completed region.now (items_view list.now) ≡ Ok (completed_in found)) }
     ensures fault { IfErr result (λ f. f ≢ TraceFault.Memory → all_completed region.now (items_view list.now) ≡ Err f) }
-    ensures matched { IfOk result (λ found. length found.0.items ≡ length found.1.items) }
 {
     if list.len() > MOST_OPERATIONS {
         return Err(TraceFault::TooManyRequests);
     }
-    let (requests, operations) = completed(alloc, list, region)?;
-    Ok((requests, operations))
+    completed(alloc, list, region)
 }

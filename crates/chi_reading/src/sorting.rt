@@ -44,6 +44,22 @@ pub(crate) fn operations_at(
     Ok(own)
 }
 
+/// The numbers at these places.
+pub(crate) fn numbers_at(
+    alloc: Global,
+    numbers: &[usize],
+    places: &[usize],
+) -> Result<Vec<usize>, AllocError>
+    requires { All (λ i. i < length numbers.now) places.now }
+    ensures { IfOk result (λ own. own.items ≡ map (λ i. slice_index_or numbers.now i 0) places.now) }
+{
+    let mut own = Vec::with_capacity(alloc, places.len())?;
+    for place in places {
+        own.push(numbers[*place])?;
+    }
+    Ok(own)
+}
+
 /// The requests at these places.
 pub(crate) fn requests_at(
     alloc: Global,

@@ -1,27 +1,50 @@
-//! What a request of a trace states beside its fields: its times, and what was answered.
+//! What a request of a trace states beside its fields: its times, and what was answered or why it was refused.
 
 ghost use Rattle.std.specs.Prelude.{◌≡◌};
 ghost use Rattle.serde_json.specs.Find.{get};
 ghost use Rattle.serde_json.specs.View.{view};
 ghost use Rattle.chi_reading.specs.Member.{member_name};
-ghost use Rattle.chi_reading.specs.Requests.{answer_of, end_of, reply_by, seen_of, stated_at, stated_of};
+ghost use Rattle.chi_reading.specs.Requests.{answer_of, end_of, members_of, outcome_by, reply_by, seen_of, stated_at, stated_of};
 
 use crate::asked::{Asked, request_asked};
 use crate::fault::{RequestFault, TraceFault, fault_in};
 use crate::member::Member;
-use crate::unknown::{request_members, unknown_member};
+use crate::refused::refusal_named;
+use crate::unknown::{refused_members, request_members, unknown_member};
+use chi_fields::Refusal;
 use chi_json::{MemberFault, hex_bytes, number};
 use chi_lanes::Reply;
 use serde_json::Value;
 
-/// A request, its times, and what was answered, where that was seen. The end of one that was open when the trace ended is
-/// 2^64 - 1.
+/// What came of a request.
+///
+/// - `Accepted`: the home took it; its reply, where that was seen.
+/// - `Refused`: the home refused it, for this reason.
+#[derive(Clone, Copy)]
+pub(crate) enum Outcome {
+    Accepted(Option<Reply>),
+    Refused(Refusal),
+}
+
+impl Outcome {
+    /// The members that a request of this outcome has.
+    fn members(self) -> &'static [Member]
+        ensures { result.now ≡ members_of self }
+    {
+        match self {
+            Outcome::Accepted(_) => request_members(),
+            Outcome::Refused(_) => refused_members(),
+        }
+    }
+}
+
+/// A request, its times, and what came of it. The end of one that was open when the trace ended is 2^64 - 1.
 #[derive(Clone, Copy)]
 pub(crate) struct Stated {
     pub asked: Asked,
     pub start: u64,
     pub end: u64,
-    pub reply: Option<Reply>,
+    pub outcome: Outcome,
 }
 
 /// When the request ended.
@@ -80,6 +103,20 @@ fn reply(object: &Value) -> Result<Option<Reply>, MemberFault<Member>>
     }
 }
 
+/// What came of the request: the member `refused` says why it was refused, and where it is left out the request was accepted.
+fn outcome_stated(object: &Value) -> Result<Outcome, MemberFault<Member>>
+    ensures { result ≡ outcome_by (get (member_name Member.Refused) (view object.now)) (get (member_name Member.Reply) (view object.now)) (get (member_name Member.End) (view object.now)) }
+{
+    let Some(value) = object.get(Member::Refused.name()) else {
+        let seen = reply(object)?;
+        return Ok(Outcome::Accepted(seen));
+    };
+    match refusal_named(value) {
+        Some(reason) => Ok(Outcome::Refused(reason)),
+        None => Err(MemberFault::BadMember(Member::Refused)),
+    }
+}
+
 /// What an object states, or the first fault of its members.
 #[tactic(auto, unfolding(crate::specs::Requests::stated_of))]
 fn request_stated(object: &Value) -> Result<Stated, MemberFault<Member>>
@@ -88,12 +125,12 @@ fn request_stated(object: &Value) -> Result<Stated, MemberFault<Member>>
     let asked = request_asked(object)?;
     let start = number(object, Member::Start, u64::MAX)?;
     let end = end(object)?;
-    let reply = reply(object)?;
+    let outcome = outcome_stated(object)?;
     Ok(Stated {
         asked,
         start,
         end,
-        reply,
+        outcome,
     })
 }
 
@@ -112,7 +149,7 @@ pub(crate) fn stated_at(place: usize, value: &Value) -> Result<Stated, TraceFaul
         Ok(stated) => stated,
         Err(fault) => return Err(fault_in(place, fault)),
     };
-    match unknown_member(members, request_members()) {
+    match unknown_member(members, stated.outcome.members()) {
         Some(name) => Err(TraceFault::InRequest {
             place,
             fault: RequestFault::UnknownMember(name),

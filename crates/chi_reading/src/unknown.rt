@@ -2,7 +2,7 @@
 
 ghost use Rattle.std.specs.Prelude.{◌≡◌};
 ghost use Rattle.serde_json.specs.View.{members_view};
-ghost use Rattle.chi_reading.specs.Unknown.{is_among, is_ignored, is_known, name_of, request_members, trace_members, unknown_in};
+ghost use Rattle.chi_reading.specs.Unknown.{is_among, is_ignored, is_known, name_of, refused_members, request_members, trace_members, unknown_in};
 
 use crate::member::Member;
 use serde_json::{Map, Value};
@@ -82,6 +82,25 @@ pub(crate) fn request_members() -> &'static [Member]
         Member::Start,
         Member::End,
         Member::Reply,
+    ]
+}
+
+/// The members of a request of a trace that was refused.
+pub(crate) fn refused_members() -> &'static [Member]
+    ensures { result.now ≡ refused_members }
+{
+    &[
+        Member::Src,
+        Member::Txn,
+        Member::Opcode,
+        Member::Size,
+        Member::Addr,
+        Member::Endian,
+        Member::Be,
+        Member::Lanes,
+        Member::Start,
+        Member::End,
+        Member::Refused,
     ]
 }
 

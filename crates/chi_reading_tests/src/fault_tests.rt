@@ -87,6 +87,71 @@ fn faults_of_a_request(rt: HostRuntime) -> Result<(), Fail> {
     Ok(())
 }
 
+// Each of the six reasons, of a write that a home refuses for it.
+#[test]
+fn reasons_of_refusals(rt: HostRuntime) -> Result<(), Fail> {
+    let cases = [
+        (r#", "op": 0"#, "UnknownOpcode"),
+        (r#", "size": 7"#, "ReservedSize"),
+        (r#", "size": 4"#, "SizeOutOfProfile"),
+        (r#", "addr": 4097"#, "Misaligned"),
+        (r#", "addr": 4503599627370496"#, "OutOfRegion"),
+        (r#", "be": 256"#, "BadByteEnable"),
+    ];
+    for (members, reason) in cases {
+        let refused = format!(in rt.alloc(); "{members}, \"start\": 5, \"refused\": \"{reason}\"")?;
+        let text = write_with(rt.alloc(), &refused)?;
+        let found = fault(rt.alloc(), &text)?;
+        assert_same(&rt, (members, found.as_str()), (members, ""));
+    }
+    Ok(())
+}
+
+#[test]
+fn faults_of_a_refused_request(rt: HostRuntime) -> Result<(), Fail> {
+    let not_so = "request 0 is not refused so";
+    let not_as_stated = "request 0 member refused is not as stated";
+    let cases = [
+        (r#", "start": 5, "refused": "Misaligned""#, not_so),
+        (
+            r#", "addr": 4097, "start": 5, "refused": "OutOfRegion""#,
+            not_so,
+        ),
+        (r#", "start": 5, "end": 4, "refused": "Misaligned""#, not_so),
+        (r#", "start": 5, "refused": "misaligned""#, not_as_stated),
+        (r#", "start": 5, "refused": "Misaligned ""#, not_as_stated),
+        (r#", "start": 5, "refused": """#, not_as_stated),
+        (r#", "start": 5, "refused": null"#, not_as_stated),
+        (r#", "start": 5, "refused": 3"#, not_as_stated),
+        (
+            r#", "addr": 4097, "start": 5, "end": 9, "refused": "Misaligned""#,
+            "",
+        ),
+        (
+            r#", "addr": 4097, "start": 5, "end": 4, "refused": "Misaligned""#,
+            "request 0 ends before it starts",
+        ),
+        (
+            r#", "addr": 4097, "refused": "Misaligned""#,
+            "request 0 member start is missing",
+        ),
+        (
+            r#", "addr": 4097, "start": 5, "refused": "Misaligned", "reply": null"#,
+            "request 0 has an unknown member reply",
+        ),
+        (
+            r#", "addr": 4097, "start": 5, "reply": null"#,
+            "request 0 is refused: Misaligned",
+        ),
+    ];
+    for (members, wanted) in cases {
+        let text = write_with(rt.alloc(), members)?;
+        let found = fault(rt.alloc(), &text)?;
+        assert_same(&rt, (members, found.as_str()), (members, wanted));
+    }
+    Ok(())
+}
+
 // The operand's lanes are 0 to 7, or 8 to 15 at address 4104. An AtomicCompare answers the operand alone, so a byte of its
 // window's other half is as wrong.
 #[test]

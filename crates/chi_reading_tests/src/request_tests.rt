@@ -1,7 +1,8 @@
-//! Tests of the requests of a trace: their order, their times, and what was answered.
+//! Tests of the requests of a trace: their order, their times, what was answered, and those that were refused.
 
 use crate::comparison::assert_same;
 use crate::texts::{WRITE, read, write_with};
+use chi_fields::Refusal;
 use chi_lanes::Reply;
 use std::alloc::Global;
 use std::test::Fail;
@@ -50,5 +51,30 @@ fn ends_and_replies(rt: HostRuntime) -> Result<(), Fail> {
         Some((u64::MAX, false)),
     );
     assert_same(&rt, found, wanted);
+    Ok(())
+}
+
+// The first is not aligned, and no request has the opcode of the last. The one between them is the only operation.
+#[test]
+fn refused_requests(rt: HostRuntime) -> Result<(), Fail> {
+    let text = format!(in rt.alloc();
+        "{{\"requests\": [{{{WRITE}, \"addr\": 4097, \"start\": 50, \"end\": 60, \"refused\": \"Misaligned\"}},
+          {{{WRITE}, \"start\": 30, \"end\": 40, \"reply\": \"comp\"}},
+          {{{WRITE}, \"op\": 0, \"start\": 10, \"refused\": \"UnknownOpcode\"}}]}}"
+    )?;
+    let recorded = read(rt.alloc(), &text)?;
+    let found = (
+        recorded.refusals() == [Refusal::Misaligned, Refusal::UnknownOpcode].as_slice(),
+        recorded.places() == [1].as_slice(),
+        recorded.requests().len(),
+        recorded.trace().operations().len(),
+    );
+    assert_same(&rt, found, (true, true, 1, 1));
+    let cut = recorded.cut(rt.alloc(), 45)?;
+    assert_same(
+        &rt,
+        (cut.refusals().len(), cut.trace().operations().len()),
+        (0, 1),
+    );
     Ok(())
 }

@@ -1,0 +1,78 @@
+-- what was found of requests, one more of them, and those that follow
+use Rattle.std.proofs.Common.{◌≡◌, ℕ, ◌+◌, ◌<◌, ◌≤◌, List, append_assoc, append-nil, drop, get_or, length, Option, Result, Ok, Err, refl, sym, ap, ◌∙◌}
+use Rattle.std.proofs.lemmas.List.{at_drop_all, at_drop_more}
+use Rattle.serde_json.specs.Data.{Data}
+use Rattle.serde_json.specs.View.{items_view, view}
+use Rattle.serde_json.specs.declared.value.Value.{Value}
+use Rattle.chi_fields.specs.Extent.{Extent}
+use Rattle.chi_fields.specs.declared.refusal.Refusal.{Refusal}
+use Rattle.chi_lanes.specs.declared.reply.Reply.{Reply}
+use Rattle.chi_trace.specs.declared.observed.Observed.{Observed}
+use Rattle.chi_reading.specs.declared.stated.Outcome.TheVariants.{Accepted, Refused}
+use Rattle.chi_reading.specs.declared.stated.Stated.{Stated}
+use Rattle.chi_json.specs.Members.{◌>>=◌}
+use Rattle.chi_reading.specs.declared.fault.TraceFault.{TraceFault}
+use Rattle.chi_reading.specs.Requests.{Completed, completed_at, completed_of, joined, none_completed, observed_of, one_accepted, one_refused, refused_of, stated_at}
+
+-- what was found, and then what follows
+abbrev pub after : Completed → Result Completed TraceFault → Result Completed TraceFault
+after found (Ok rest) = Ok (joined found rest)
+after found (Err fault) = Err fault
+
+-- what was found, and then what the elements from a place on are
+abbrev pub rest_of : ℕ → Option Extent → List Value → Completed → Result Completed TraceFault
+rest_of place region values found = after found (completed_of place region (items_view (drop place values)))
+
+joined_assoc : (a b c : Completed) → joined (joined a b) c ≡ joined a (joined b c)
+joined_assoc a b c =
+    rw (append_assoc a.requests b.requests c.requests, append_assoc a.operations b.operations c.operations, append_assoc a.places b.places c.places, append_assoc a.refusals b.refusals c.refusals) refl
+
+joined_none : (a : Completed) → joined a none_completed ≡ a
+joined_none a = rw (append-nil a.requests, append-nil a.operations, append-nil a.places, append-nil a.refusals) refl
+
+none_joined : (r : Result Completed TraceFault) → after none_completed r ≡ r
+none_joined (Ok rest) = refl
+none_joined (Err fault) = refl
+
+-- before the first element
+pub none_found : (region : Option Extent) (values : List Value) (found : Completed) → found ≡ none_completed
+    → rest_of 0 region values found ≡ completed_of 0 region (items_view values)
+none_found region values found is = ap (rest_of 0 region values) is ∙ none_joined (completed_of 0 region (items_view values))
+
+-- past the last one
+pub all_found : (place : ℕ) (region : Option Extent) (values : List Value) (found : Completed) → length values ≤ place
+    → rest_of place region values found ≡ Ok found
+unfolding completed_of
+all_found place region values found past =
+    at_drop_all (λ vs. after found (completed_of place region (items_view vs))) values place past ∙ ap Ok (joined_none found)
+
+module _ (place : ℕ) (region : Option Extent) (values : List Value) (value : Value) (found : Completed) (under : place < length values)
+    (here : value ≡ get_or values place value) where
+  -- the element at the place and those after it
+  next : rest_of place region values found
+      ≡ after found (completed_at place region (view value) >>= (λ first. completed_of (place + 1) region (items_view (drop (place + 1) values)) >>= (λ rest. Ok (joined first rest))))
+  unfolding completed_of
+  next =
+      at_drop_more (λ vs. after found (completed_of place region (items_view vs))) values place value under
+      ∙ ap (λ v. after found (completed_at place region (view v) >>= (λ first. completed_of (place + 1) region (items_view (drop (place + 1) values)) >>= (λ rest. Ok (joined first rest))))) (sym here)
+
+  -- it is one more
+  pub one_found : (one more : Completed) → completed_at place region (view value) ≡ Ok one → more ≡ joined found one
+      → rest_of place region values found ≡ rest_of (place + 1) region values more
+  one_found one more is joins = next ∙ rw (is, joins) (by_rest (completed_of (place + 1) region (items_view (drop (place + 1) values))))
+    where
+      by_rest : (r : Result Completed TraceFault) → after found (r >>= (λ rest. Ok (joined one rest))) ≡ after (joined found one) r
+      by_rest (Ok rest) = ap Ok (sym (joined_assoc found one rest))
+      by_rest (Err fault) = refl
+
+-- what the element at a place is: a request that was accepted
+pub accepted_at : (place : ℕ) (region : Option Extent) (d : Data) (s : Stated) (reply : Option Reply) (operation : Observed) → stated_at place d ≡ Ok s
+    → s.outcome ≡ Accepted reply → observed_of place region s reply ≡ Ok operation → completed_at place region d ≡ Ok (one_accepted place s.asked operation)
+unfolding completed_at observed_of
+accepted_at place region d s reply operation stated outcome observed = rw (stated, outcome, observed) refl
+
+-- or one that was refused
+pub refused_at : (place : ℕ) (region : Option Extent) (d : Data) (s : Stated) (reason refusal : Refusal) → stated_at place d ≡ Ok s → s.outcome ≡ Refused reason
+    → refused_of place region s reason ≡ Ok refusal → completed_at place region d ≡ Ok (one_refused refusal)
+unfolding completed_at refused_of
+refused_at place region d s reason refusal stated outcome refused = rw (stated, outcome, refused) refl
