@@ -1,9 +1,8 @@
 -- the operations of a script's lines, which were executed one after another
-use Rattle.std.specs.Prelude.{ℕ, List, Option, option_map, None, Some, IsOk}
+use Rattle.std.specs.Prelude.{ℕ, List, Option, option_map, None, Some}
 use Rattle.std.specs.List.{enumerate_from, filter_map}
 use Rattle.chi_fields.specs.Access.{Access}
-use Rattle.chi_fields.specs.Extent.{Extent}
-use Rattle.chi_fields.specs.Refusal.{access_of, decision}
+use Rattle.chi_fields.specs.Refusal.{access_of}
 use Rattle.chi_fields.specs.declared.request.Request.{Request}
 use Rattle.chi_lanes.specs.declared.reply.Reply.{Reply}
 use Rattle.chi_history.specs.declared.line.Line.{Line}
@@ -24,9 +23,3 @@ operation_at time (Retried q) = None
 -- has ended before the next one starts.
 abbrev pub executed : List Line → List Observed
 executed lines = filter_map (λ p. operation_at p.0 p.1) (enumerate_from 0 lines)
-
--- a home of this region accepts the request of the line, if it was completed
-abbrev pub IsAcceptedIn : Extent → Line → Type 0
-IsAcceptedIn region (Completed q reply) = IsOk (decision q region)
-IsAcceptedIn region (Refused q refusal) = Unit {0}
-IsAcceptedIn region (Retried q) = Unit {0}

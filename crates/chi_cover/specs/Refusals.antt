@@ -1,12 +1,11 @@
--- how many requests of a script's lines were refused, for each reason
-use Rattle.std.specs.Prelude.{ℕ, ◌==◌, nat_lt, Bool, true, false, if◌then◌else◌, List, [], ◌∷◌, ◌++◌, codes, count_by, decimal, flat_map, length, sum_by}
+-- how many requests were refused, for each reason
+use Rattle.std.specs.Prelude.{◌≡◌, ℕ, ◌+◌, ◌==◌, ◌<◌, nat_lt, if◌then◌else◌, List, [], ◌∷◌, ◌++◌, codes, count_by, decimal, flat_map, length, min, slice_index}
 use Rattle.chi_fields.specs.Refusal.{name_of}
 use Rattle.chi_fields.specs.declared.refusal.Refusal.{Refusal}
 use Rattle.chi_fields.specs.declared.refusal.Refusal.TheVariants.{UnknownOpcode, ReservedSize, SizeOutOfProfile, Misaligned, OutOfRegion, BadByteEnable}
-use Rattle.chi_history.specs.declared.line.Line.{Line}
-use Rattle.chi_history.specs.declared.line.Line.TheVariants.{Completed, Refused, Retried}
+use Rattle.chi_cover.specs.Counts.{most}
 
--- the reasons, in the order of their type
+-- the reasons, in the order in which a home meets them
 abbrev pub all_refusals : List Refusal
 all_refusals = UnknownOpcode ∷ ReservedSize ∷ SizeOutOfProfile ∷ Misaligned ∷ OutOfRegion ∷ BadByteEnable ∷ []
 
@@ -19,46 +18,40 @@ refusal_number Misaligned = 3
 refusal_number OutOfRegion = 4
 refusal_number BadByteEnable = 5
 
--- the line says that a request was refused for this reason
-abbrev pub is_refused_for : Refusal → Line → Bool
-is_refused_for reason (Completed q reply) = false
-is_refused_for reason (Refused q refusal) = refusal_number refusal == refusal_number reason
-is_refused_for reason (Retried q) = false
+-- how many of these requests were refused for a reason
+unfoldable pub refused_times : List Refusal → Refusal → ℕ
+refused_times refusals reason = count_by (λ r. refusal_number r == refusal_number reason) refusals
 
--- how many do
-unfoldable pub refused_times : Refusal → List Line → ℕ
-refused_times reason lines = count_by (is_refused_for reason) lines
+-- The counts of the reasons, in the order of their numbers: the count of a reason.
+unfoldable pub refused_in : List ℕ → Refusal → ℕ
+refused_in counts reason = slice_index counts (refusal_number reason)
 
--- how many say that a request was refused, whatever the reason
-abbrev pub refused_in_all : List Line → ℕ
-refused_in_all lines = sum_by (λ reason. refused_times reason lines) all_refusals
+-- each reason's new count is its old one and how many of these requests were refused for it
+abbrev pub AreRefused : List Refusal → List ℕ → List ℕ → Type 0
+AreRefused refusals old new = (reason : Refusal) → refused_in new reason ≡ min (refused_in old reason + refused_times refusals reason) most
 
--- how many lines say that a request was answered by RetryAck
-abbrev pub is_retry : Line → Bool
-is_retry (Completed q reply) = false
-is_retry (Refused q refusal) = false
-is_retry (Retried q) = true
-
-abbrev pub retried_times : List Line → ℕ
-retried_times lines = count_by is_retry lines
+-- There are as many counts as before, and each is what it was, and one more for each of these reasons that has its number.
+pub record AreRefusalsAdded (refusals : List Refusal) (old new : List ℕ) : Type 0 where
+  pub long : length new ≡ length old
+  pub each : (n : ℕ) → n < length old → slice_index new n ≡ min (slice_index old n + count_by (λ r. refusal_number r == n) refusals) most
 
 -- how many of these reasons there were
-abbrev pub reasons_met : List Line → List Refusal → ℕ
-reasons_met lines reasons = count_by (λ reason. nat_lt 0 (refused_times reason lines)) reasons
+abbrev pub reasons_met : (Refusal → ℕ) → List Refusal → ℕ
+reasons_met counts reasons = count_by (λ reason. nat_lt 0 (counts reason)) reasons
 
 -- how many reasons there were, of how many
-unfoldable pub refusals_head : List Line → List ℕ
-refusals_head lines =
-    codes "refusals: " ++ (decimal (reasons_met lines all_refusals) ++ (codes " of " ++ (decimal (length all_refusals) ++ codes "\n")))
+unfoldable pub refusals_head : (Refusal → ℕ) → List ℕ
+refusals_head counts =
+    codes "refusals: " ++ (decimal (reasons_met counts all_refusals) ++ (codes " of " ++ (decimal (length all_refusals) ++ codes "\n")))
 
 -- how many requests were refused for a reason
-unfoldable pub refusal_row : List Line → Refusal → List ℕ
-refusal_row lines reason = name_of reason ++ (codes ": " ++ (decimal (refused_times reason lines) ++ codes "\n"))
+unfoldable pub refusal_row : (Refusal → ℕ) → Refusal → List ℕ
+refusal_row counts reason = name_of reason ++ (codes ": " ++ (decimal (counts reason) ++ codes "\n"))
 
 -- a reason for which none was
-unfoldable pub missing_refusal : List Line → Refusal → List ℕ
-missing_refusal lines reason = if refused_times reason lines == 0 then codes "missing: " ++ (name_of reason ++ codes "\n") else []
+unfoldable pub missing_refusal : (Refusal → ℕ) → Refusal → List ℕ
+missing_refusal counts reason = if counts reason == 0 then codes "missing: " ++ (name_of reason ++ codes "\n") else []
 
 -- how many reasons there were, the count of each, and those that there were not
-unfoldable pub refusals_text : List Line → List ℕ
-refusals_text lines = refusals_head lines ++ (flat_map (refusal_row lines) all_refusals ++ flat_map (missing_refusal lines) all_refusals)
+unfoldable pub refusals_text : (Refusal → ℕ) → List ℕ
+refusals_text counts = refusals_head counts ++ (flat_map (refusal_row counts) all_refusals ++ flat_map (missing_refusal counts) all_refusals)

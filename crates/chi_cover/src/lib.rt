@@ -1,10 +1,9 @@
-//! What the operations of a trace or of a script covered: functional coverage, counted by definition, and its table and page as texts.
+//! What the operations of traces covered: functional coverage, counted by definition, and its table and page as texts.
 #![tactic(auto)]
 
 mod adding;
 mod bin;
 mod covered;
-mod execution;
 mod group;
 mod lines;
 mod measured;
@@ -16,6 +15,7 @@ mod operation;
 mod page;
 mod page_script;
 mod page_style;
+mod refusal_rows;
 mod refusals;
 mod rows;
 mod table;
@@ -24,7 +24,7 @@ mod traffic_group;
 
 pub use bin::{Bin, Depth, Enabled, Transaction};
 pub use covered::Covered;
-pub use execution::executed;
 pub use page::add_page;
-pub use refusals::add_refusals;
+pub use refusal_rows::add_refusals;
+pub use refusals::Refusals;
 pub use table::add_table;

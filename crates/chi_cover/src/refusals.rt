@@ -1,27 +1,16 @@
-//! How many requests of a script's lines were refused, as a text.
+//! How many requests were refused for each reason.
 
-ghost use Rattle.std.specs.Prelude.{◌≡◌, ◌++◌, OnOk, flat_map};
-ghost use Rattle.chi_cover.specs.Refusals.{all_refusals, is_refused_for, missing_refusal, reasons_met, refusal_number, refusal_row, refusals_head, refusals_text, refused_times};
+ghost use Rattle.std.specs.Prelude.{◌≡◌, ◌<◌, [], ◌∷◌};
+ghost use Rattle.chi_fields.specs.declared.refusal.Refusal.{Refusal};
+ghost use Rattle.chi_cover.specs.Refusals.{AreRefusalsAdded, AreRefused, refusal_number, refused_in};
 
-use chi_fields::{Refusal, refusal_name};
-use chi_history::Line;
-use chi_text::Part::{Number, Text};
-use chi_text::add_parts;
-use std::alloc::AllocError;
-
-/// The reasons, in the order of their type.
-const REFUSALS: [Refusal; 6] = [
-    Refusal::UnknownOpcode,
-    Refusal::ReservedSize,
-    Refusal::SizeOutOfProfile,
-    Refusal::Misaligned,
-    Refusal::OutOfRegion,
-    Refusal::BadByteEnable,
-];
+use chi_fields::Refusal;
+use std::marker::Model;
 
 /// A reason, by number.
-fn refusal_number(refusal: Refusal) -> u8
-    ensures { result ≡ refusal_number refusal }
+fn refusal_number(refusal: Refusal) -> usize
+    ensures number { result ≡ refusal_number refusal }
+    ensures below { result < 6 }
 {
     match refusal {
         Refusal::UnknownOpcode => 0,
@@ -33,122 +22,79 @@ fn refusal_number(refusal: Refusal) -> u8
     }
 }
 
-/// Whether a line says that a request was refused for this reason.
-fn is_refused_for(reason: Refusal, line: &Line) -> bool
-    ensures { result ≡ is_refused_for reason line.now }
+/// One more for a reason.
+fn add_refusal(counts: &mut [u64], refusal: Refusal)
+    ensures { AreRefusalsAdded (refusal ∷ []) counts.old counts.new }
 {
-    match line {
-        Line::Refused(_, refusal) => refusal_number(*refusal) == refusal_number(reason),
-        Line::Completed(..) | Line::Retried(_) => false,
+    let number = refusal_number(refusal);
+    if number < counts.len() {
+        counts[number] = counts[number].saturating_add(1);
     }
 }
 
-/// How many lines say it.
-#[tactic(auto, unfolding(crate::specs::Refusals::refused_times))]
-fn refused_times(reason: Refusal, lines: &[Line]) -> usize
-    ensures { result ≡ refused_times reason lines.now }
+/// One more for each of these reasons.
+fn add_each(counts: &mut [u64], refusals: &[Refusal])
+    ensures { AreRefusalsAdded refusals.now counts.old counts.new }
 {
-    let mut count = 0;
-    for line in lines {
-        if is_refused_for(reason, line) {
-            count += 1;
-        }
+    for refusal in refusals {
+        add_refusal(counts, *refusal);
     }
-    count
 }
 
-/// How many of these reasons there were.
-fn reasons_met(lines: &[Line], reasons: &[Refusal]) -> usize
-    ensures { result ≡ reasons_met lines.now reasons.now }
-{
-    let mut count = 0;
-    for reason in reasons {
-        if refused_times(*reason, lines) > 0 {
-            count += 1;
-        }
+/// How many requests were refused for each reason, of the traces whose refusals were added. 2^64 - 1 stands for that many and
+/// more.
+#[derive(Debug, Drop)]
+pub struct Refusals {
+    counts: [u64; 6],
+}
+
+impl Model for Refusals {
+    ghost use Rattle.std.specs.Prelude.{ℕ, List};
+
+    ghost Value = { List ℕ };
+
+    // The count of each reason stands at its number.
+    ghost view = { λ r. r.counts };
+}
+
+impl Refusals {
+    /// Counts of which each is 0.
+    ///
+    /// Source: profile.
+    ///
+    /// ```
+    /// let mut refusals = Refusals::none();
+    /// ```
+    pub fn none() -> Refusals
+        ensures { (reason : Refusal) → refused_in result reason ≡ 0 }
+    {
+        Refusals { counts: [0; 6] }
     }
-    count
-}
 
-/// How many reasons there were, of how many.
-#[tactic(auto, unfolding(crate::specs::Refusals::refusals_head))]
-fn add_head(to: &mut Vec<u8>, lines: &[Line]) -> Result<(), AllocError>
-    ensures { OnOk result (to.new.items ≡ to.old.items ++ refusals_head lines.now) }
-{
-    add_parts(
-        to,
-        &[
-            Text("refusals: "),
-            Number(reasons_met(lines, &REFUSALS) as u64),
-            Text(" of "),
-            Number(REFUSALS.len() as u64),
-            Text("\n"),
-        ],
-    )
-}
-
-/// How many requests were refused for a reason.
-#[tactic(auto, unfolding(crate::specs::Refusals::refusal_row))]
-fn add_row(to: &mut Vec<u8>, lines: &[Line], reason: Refusal) -> Result<(), AllocError>
-    ensures { OnOk result (to.new.items ≡ to.old.items ++ refusal_row lines.now reason) }
-{
-    add_parts(
-        to,
-        &[
-            Text(refusal_name(reason)),
-            Text(": "),
-            Number(refused_times(reason, lines) as u64),
-            Text("\n"),
-        ],
-    )
-}
-
-/// The line of a reason for which none was refused.
-#[tactic(auto, unfolding(crate::specs::Refusals::missing_refusal))]
-fn add_missing(to: &mut Vec<u8>, lines: &[Line], reason: Refusal) -> Result<(), AllocError>
-    ensures { OnOk result (to.new.items ≡ to.old.items ++ missing_refusal lines.now reason) }
-{
-    if refused_times(reason, lines) != 0 {
-        return Ok(());
+    /// Adds the refusals of a trace: each reason counts the requests that were refused for it.
+    ///
+    /// Source: profile.
+    ///
+    /// ```
+    /// refusals.add(recorded.refusals());
+    /// ```
+    pub fn add(&mut self, refusals: &[Refusal])
+        ensures { AreRefused refusals.now self.old self.new }
+    {
+        add_each(&mut self.counts, refusals);
     }
-    add_parts(
-        to,
-        &[Text("missing: "), Text(refusal_name(reason)), Text("\n")],
-    )
-}
 
-fn add_all_rows(to: &mut Vec<u8>, lines: &[Line]) -> Result<(), AllocError>
-    ensures { OnOk result (to.new.items ≡ to.old.items ++ flat_map (refusal_row lines.now) all_refusals) }
-{
-    for reason in REFUSALS {
-        add_row(to, lines, reason)?;
+    /// How many requests were refused for a reason.
+    ///
+    /// Source: profile.
+    ///
+    /// ```
+    /// let misaligned = refusals.count(Refusal::Misaligned);
+    /// ```
+    #[tactic(auto, unfolding(crate::specs::Refusals::refused_in))]
+    pub fn count(&self, reason: Refusal) -> u64
+        ensures { result ≡ refused_in self.now reason }
+    {
+        self.counts[refusal_number(reason)]
     }
-    Ok(())
-}
-
-fn add_all_missing(to: &mut Vec<u8>, lines: &[Line]) -> Result<(), AllocError>
-    ensures { OnOk result (to.new.items ≡ to.old.items ++ flat_map (missing_refusal lines.now) all_refusals) }
-{
-    for reason in REFUSALS {
-        add_missing(to, lines, reason)?;
-    }
-    Ok(())
-}
-
-/// Adds to a text how many reasons there were for which requests of these lines were refused, the count of each reason, and a
-/// line for each that there was not. RetryAck is no refusal.
-///
-/// Source: profile.
-///
-/// ```
-/// add_table(alloc, &mut text, &covered)?;
-/// add_refusals(&mut text, &lines)?;
-/// ```
-#[tactic(auto, unfolding(crate::specs::Refusals::refusals_text))]
-pub fn add_refusals(to: &mut Vec<u8>, lines: &[Line]) -> Result<(), AllocError>
-    ensures { OnOk result (to.new.items ≡ to.old.items ++ refusals_text lines.now) }
-{
-    add_head(to, lines)?;
-    add_all_rows(to, lines)?;
-    add_all_missing(to, lines)
 }

@@ -5,7 +5,7 @@ mod many_tests;
 mod operation_tests;
 mod operations;
 mod page_tests;
-mod script_tests;
+mod reason_tests;
 mod stimulus_tests;
 mod table_tests;
 mod traffic_tests;
