@@ -29,6 +29,18 @@ SECOND = {**FIRST, "reply": '"00000000000000000001000000000000"'}
 UNEXPLAINED = "not explained: granule 0000000000001008\n"
 
 
+# Each reason for which a home refuses a request, and the opcode, size, address and byte enables of such a request of the sample's
+# two granules.
+REASONS = {
+    "UnknownOpcode": (29, 3, 4096, 255),
+    "ReservedSize": (48, 7, 4096, 255),
+    "SizeOutOfProfile": (57, 0, 4096, 1),
+    "Misaligned": (56, 3, 4092, 255),
+    "OutOfRegion": (56, 3, 4088, 65280),
+    "BadByteEnable": (28, 1, 4096, 4),
+}
+
+
 def members(usual, changed):
     """The members of an object as text, some of them with another value, or left out where that is empty."""
     values = {name: changed.get(name, value) for name, value in usual.items()}
@@ -58,3 +70,11 @@ def adds(count):
     """So many adds of 1 to the eight bytes at 0x1008, one after the other."""
     usual = {name: json.loads(value) for name, value in FIRST.items()}
     return [{**usual, "start": it, "end": it, "reply": f"{0:016x}{it.to_bytes(8, 'little').hex()}"} for it in range(count)]
+
+
+def refused_request(reason, **changed):
+    """A request that was refused for this reason."""
+    op, size, addr, be = REASONS[reason]
+    lanes = json.loads(FIRST["lanes"])
+    usual = {"src": 3, "txn": 4, "op": op, "size": size, "addr": addr, "endian": 0, "be": be, "lanes": lanes, "start": 5, "end": 6}
+    return {**usual, "refused": reason, **changed}

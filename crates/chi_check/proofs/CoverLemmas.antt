@@ -9,49 +9,61 @@ use Rattle.std.proofs.lemmas.List.Sums.{sum_by_push}
 use Rattle.std.proofs.lemmas.Option.{slice_get-get_or, slice_get-map}
 use Rattle.chi_script.specs.WriterBytes.{AppendsFront}
 use Rattle.chi_script.specs.declared.device.WriteFault.{WriteFault}
-use Rattle.chi_trace.specs.declared.observed.Observed.{Observed}
+use Rattle.chi_fields.specs.declared.refusal.Refusal.{Refusal}
 use Rattle.chi_cover.specs.declared.bin.Bin.{Bin}
 use Rattle.chi_cover.specs.Counts.{count_in, count_of, most, percent_of}
-use Rattle.chi_cover.specs.Texts.{table_text}
+use Rattle.chi_cover.specs.Refusals.{refused_in, refused_times}
 use Rattle.chi_check.specs.Check.{most_bytes}
-use Rattle.chi_check.specs.Cover.{Adds, AddsFile, AreCounted, AreFilesFault, AreHeld, AreInputs, AreInputsFault, AreOf, AreOfEach, AreOfFiles, CoverOutcome, HasCounts, IsFileFault, IsInputFault, IsTraceFault, paths_of}
+use Rattle.chi_check.specs.Cover.{Adds, AddsFile, AreCounted, AreFilesFault, AreHeld, AreInputs, AreInputsFault, AreOf, AreOfEach, AreOfFiles, CoverOutcome, HasCounts, Told, cover_text, IsFileFault, IsInputFault, IsTraceFault, paths_of}
+use Rattle.chi_check.specs.declared.inputs.Counted.{Counted}
 use Rattle.chi_check.specs.declared.fault.CheckFault.{CheckFault}
 use Rattle.chi_check.specs.declared.fault.CheckFault.TheVariants.{Input, File, Page, Write}
 use Rattle.chi_check.specs.declared.fault.SourceFault.{SourceFault}
 use Rattle.chi_check.specs.declared.fault.SourceFault.TheVariants as source_fault
 use Rattle.chi_check.specs.declared.options.CoverOptions.{CoverOptions}
 
--- no input was counted
-none_counted : (events : Bool) (counts : List ℕ) → ((bin : Bin) → count_in counts bin ≡ 0) → AreCounted events [] counts
-unfolding AreOfEach
-none_counted events counts none = record { traces = []; of = tt; are = λ bin is. none bin ∙ refl }
+-- nothing was counted
+pub record AreNone (counted : Counted) : Type 0 where
+  pub covered : (bin : Bin) → count_in counted.covered bin ≡ 0
+  pub refused : (reason : Refusal) → refused_in counted.refusals reason ≡ 0
 
-of_more : (events : Bool) (inputs : List (List ℕ)) (traces : List (List Observed)) (input : List ℕ) (ops : List Observed) → AreOfEach events inputs traces → length input ≤ most_bytes
-    → AreOf events input ops → AreOfEach events (inputs ++ input ∷ []) (traces ++ ops ∷ [])
+-- no input was counted
+none_counted : (events : Bool) (counted : Counted) → AreNone counted → AreCounted events [] counted
 unfolding AreOfEach
-of_more events [] [] input ops of within is = (within, is, tt)
-of_more events [] (t ∷ traces) input ops of within is = absurd of
-of_more events (i ∷ inputs) [] input ops of within is = absurd of
-of_more events (i ∷ inputs) (t ∷ traces) input ops (short, here, of) within is = (short, here, of_more events inputs traces input ops of within is)
+none_counted events counted none = record { told = []; of = tt; are = λ bin is. none.covered bin ∙ refl; refused = λ reason. none.refused reason ∙ refl }
+
+of_more : (events : Bool) (inputs : List (List ℕ)) (told : List Told) (input : List ℕ) (one : Told) → AreOfEach events inputs told → length input ≤ most_bytes
+    → AreOf events input one.operations one.refusals → AreOfEach events (inputs ++ input ∷ []) (told ++ one ∷ [])
+unfolding AreOfEach
+of_more events [] [] input one of within is = (within, is, tt)
+of_more events [] (t ∷ told) input one of within is = absurd of
+of_more events (i ∷ inputs) [] input one of within is = absurd of
+of_more events (i ∷ inputs) (t ∷ told) input one (short, here, of) within is = (short, here, of_more events inputs told input one of within is)
 
 -- what one sum and another leave
 two_sums : (b c x y top : ℕ) → b ≡ min x top → c ≡ min (b + y) top → c ≡ min (x + y) top
 two_sums b c x y top first next = omega arith
 
 -- one input more
-counted_more : (events : Bool) (inputs : List (List ℕ)) (input old new : List ℕ) → length input ≤ most_bytes → AreCounted events inputs old → Adds events input old new
+counted_more : (events : Bool) (inputs : List (List ℕ)) (input : List ℕ) (old new : Counted) → length input ≤ most_bytes → AreCounted events inputs old → Adds events input old new
     → AreCounted events (inputs ++ input ∷ []) new
-counted_more events inputs input old new within counted (ops, is, added) = record {
-  traces = counted.traces ++ ops ∷ [];
-  of = of_more events inputs counted.traces input ops counted.of within is;
-  are = λ bin here.
-      let sum = λ (trace : List Observed). count_of trace bin in
-      two_sums (count_in old bin) (count_in new bin) (sum_by sum counted.traces) (count_of ops bin) most (counted.are bin here) (added bin here)
-      ∙ ap (λ n. min n most) (sym (sum_by_push sum counted.traces ops));
-}
+counted_more events inputs input old new within counted (ops, refusals, is, added, refused) =
+    let one : Told = record { operations = ops; refusals = refusals } in
+    record {
+      told = counted.told ++ one ∷ [];
+      of = of_more events inputs counted.told input one counted.of within is;
+      are = λ bin here.
+          let sum = λ (t : Told). count_of t.operations bin in
+          two_sums (count_in old.covered bin) (count_in new.covered bin) (sum_by sum counted.told) (count_of ops bin) most (counted.are bin here) (added bin here)
+          ∙ ap (λ n. min n most) (sym (sum_by_push sum counted.told one));
+      refused = λ reason.
+          let sum = λ (t : Told). refused_times t.refusals reason in
+          two_sums (refused_in old.refusals reason) (refused_in new.refusals reason) (sum_by sum counted.told) (refused_times refusals reason) most (counted.refused reason) (refused reason)
+          ∙ ap (λ n. min n most) (sym (sum_by_push sum counted.told one));
+    }
 
--- where no bin had counted an operation, those of an input are all that it has counted
-pub one_counted : (events : Bool) (input old new : List ℕ) → ((bin : Bin) → count_in old bin ≡ 0) → length input ≤ most_bytes → Adds events input old new
+-- where nothing was counted before, it is what the input tells
+pub one_counted : (events : Bool) (input : List ℕ) (old new : Counted) → AreNone old → length input ≤ most_bytes → Adds events input old new
     → AreCounted events (input ∷ []) new
 one_counted events input old new none within adds = counted_more events [] input old new within (none_counted events old none) adds
 
@@ -64,17 +76,17 @@ module _ (holds : List ℕ → List ℕ → Type 0) (events : Bool) where
   held_more (p ∷ paths) (i ∷ inputs) path input (here, held) is = (here, held_more paths inputs path input held is)
 
   -- no file was counted
-  pub no_file : (counts : List ℕ) → ((bin : Bin) → count_in counts bin ≡ 0) → AreOfFiles holds events [] counts
+  pub no_file : (counted : Counted) → AreNone counted → AreOfFiles holds events [] counted
   unfolding AreHeld
-  no_file counts none = ([], tt, none_counted events counts none)
+  no_file counted none = ([], tt, none_counted events counted none)
 
   -- one file more
-  pub file_more : (paths : List (List ℕ)) (path old new : List ℕ) → AreOfFiles holds events paths old → AddsFile holds events path old new
+  pub file_more : (paths : List (List ℕ)) (path : List ℕ) (old new : Counted) → AreOfFiles holds events paths old → AddsFile holds events path old new
       → AreOfFiles holds events (paths ++ path ∷ []) new
   file_more paths path old new (inputs, held, counted) (input, is, within, adds) =
       (inputs ++ input ∷ [], held_more paths inputs path input held is, counted_more events inputs input old new within counted adds)
 
-  pub next_file : (files : List (Bor (List ℕ))) (n : ℕ) (d : Bor (List ℕ)) (old new : List ℕ) → n < length files
+  pub next_file : (files : List (Bor (List ℕ))) (n : ℕ) (d : Bor (List ℕ)) (old new : Counted) → n < length files
       → AreOfFiles holds events (map (λ path. path.now) (take n files)) old → AddsFile holds events (get_or files n d).now old new
       → AreOfFiles holds events (map (λ path. path.now) (take (n + 1) files)) new
   next_file files n d old new below are adds =
@@ -90,7 +102,7 @@ module _ (holds : List ℕ → List ℕ → Type 0) (events : Bool) where
       ((get_or files n d).now, slice_get-map text files n ∙ ap (option_map text) (slice_get-get_or files n d below), is)
 
   -- where no file is named it is the standard input that is counted
-  pub of_input : (paths : List (List ℕ)) (remaining : Option (List ℕ)) (counts : List ℕ) → paths ≡ [] → IfSome remaining (λ input. AreCounted events (input ∷ []) counts)
+  pub of_input : (paths : List (List ℕ)) (remaining : Option (List ℕ)) (counts : Counted) → paths ≡ [] → IfSome remaining (λ input. AreCounted events (input ∷ []) counts)
       → IfSome remaining (λ input. (inputs : List (List ℕ)) × AreInputs holds paths input inputs × AreCounted events inputs counts)
   of_input paths None counts none counted = tt
   of_input paths (Some input) counts none counted =
@@ -102,7 +114,7 @@ module _ (holds : List ℕ → List ℕ → Type 0) (events : Bool) where
   input_refused paths (Some input) fault none is = subst (λ (l : List (List ℕ)). AreInputsFault holds events l input fault) (sym none) is
 
   -- and where some are named it is they
-  pub of_files : (paths : List (List ℕ)) (remaining : Option (List ℕ)) (counts : List ℕ) → (paths ≡ [] → ⊥) → AreOfFiles holds events paths counts
+  pub of_files : (paths : List (List ℕ)) (remaining : Option (List ℕ)) (counts : Counted) → (paths ≡ [] → ⊥) → AreOfFiles holds events paths counts
       → IfSome remaining (λ input. (inputs : List (List ℕ)) × AreInputs holds paths input inputs × AreCounted events inputs counts)
   of_files paths None counts some are = tt
   of_files [] (Some input) counts some are = absurd (some refl)
@@ -125,23 +137,23 @@ refused_input events (Some bytes) input (source_fault.Trace fault) same is = sub
 refused_input events (Some bytes) input (source_fault.Events fault) same is = subst (λ (l : List ℕ). IsTraceFault events l (source_fault.Events fault)) same is
 
 -- the counts are those of the input
-pub input_counted : (events : Bool) (remaining : Option (List ℕ)) (input counts : List ℕ) → IfSome remaining (λ bytes. input ≡ bytes) → AreCounted events (input ∷ []) counts
+pub input_counted : (events : Bool) (remaining : Option (List ℕ)) (input : List ℕ) (counts : Counted) → IfSome remaining (λ bytes. input ≡ bytes) → AreCounted events (input ∷ []) counts
     → IfSome remaining (λ bytes. AreCounted events (bytes ∷ []) counts)
 input_counted events None input counts same is = tt
 input_counted events (Some bytes) input counts same is = subst (λ (l : List ℕ). AreCounted events (l ∷ []) counts) same is
 
 module _ (holds : List ℕ → List ℕ → Type 0) (options : CoverOptions) where
   -- the whole table was written
-  pub tabled : (remaining old new : Option (List ℕ)) (counts text : List ℕ) (status : ℕ) → IfSome remaining (λ input. HasCounts holds options input counts)
-      → (percent_of (count_in counts) < options.require → status ≡ 1) → (options.require ≤ percent_of (count_in counts) → status ≡ 0)
-      → text ≡ table_text (count_in counts) → Appends old new text → IfSome remaining (λ input. CoverOutcome holds options input old new (Ok status))
+  pub tabled : (remaining old new : Option (List ℕ)) (counts : Counted) (text : List ℕ) (status : ℕ) → IfSome remaining (λ input. HasCounts holds options input counts)
+      → (percent_of (count_in counts.covered) < options.require → status ≡ 1) → (options.require ≤ percent_of (count_in counts.covered) → status ≡ 0)
+      → text ≡ cover_text counts → Appends old new text → IfSome remaining (λ input. CoverOutcome holds options input old new (Ok status))
   tabled None old new counts text status has below reached is appends = tt
   tabled (Some input) old new counts text status has below reached is appends =
       (counts, has, record { below = below; reached = reached }, subst (Appends old new) is appends)
 
   -- the writer failed
-  pub cut : (remaining old new : Option (List ℕ)) (counts text : List ℕ) (fault : WriteFault) → IfSome remaining (λ input. HasCounts holds options input counts)
-      → text ≡ table_text (count_in counts) → AppendsFront old new text → IfSome remaining (λ input. CoverOutcome holds options input old new (Err (Write fault)))
+  pub cut : (remaining old new : Option (List ℕ)) (counts : Counted) (text : List ℕ) (fault : WriteFault) → IfSome remaining (λ input. HasCounts holds options input counts)
+      → text ≡ cover_text counts → AppendsFront old new text → IfSome remaining (λ input. CoverOutcome holds options input old new (Err (Write fault)))
   cut None old new counts text fault has is front = tt
   cut (Some input) old new counts text fault has is front = (counts, has, subst (AppendsFront old new) is front)
 

@@ -14,9 +14,8 @@ use Rattle.chi_watch_text.specs.Texts.{watched_text}
 use Rattle.chi_watch_text.specs.declared.options.WatchOptions.{WatchOptions}
 use Rattle.chi_watch_text.specs.declared.watched.Found.{Found}
 use Rattle.chi_watch_text.specs.declared.watched.Watched.{Watched}
-use Rattle.chi_cover.specs.Counts.{count_in}
-use Rattle.chi_cover.specs.Texts.{table_text}
 use Rattle.chi_check.specs.CheckStatus.{IsAnswerStatus}
+use Rattle.chi_check.specs.Cover.{cover_text}
 use Rattle.chi_check.specs.ProgramOutcome.{Ends, TaskOutcome}
 use Rattle.chi_check.specs.Watch.{WatchOutcome, verdict_status}
 use Rattle.chi_check.specs.declared.command.Task.{Task}
@@ -77,7 +76,7 @@ module _ (holds : List ℕ → List ℕ → Type 0) where
   flushed (Watch options) (Some input) old mid new status (watched, is, status_is, appends) keeps =
       (watched, is, status_is, appends_kept old mid new (watched_text options.budget watched) appends keeps)
   flushed (Cover options) (Some input) old mid new status (counts, has, status_is, appends) keeps =
-      (counts, has, status_is, appends_kept old mid new (table_text (count_in counts)) appends keeps)
+      (counts, has, status_is, appends_kept old mid new (cover_text counts) appends keeps)
 
   flush_failed : (task : Task) (remaining old mid new : Option (List ℕ)) (status : ℕ) (fault : WriteFault) → IfSome remaining (λ input. TaskOutcome holds task input old mid (Ok status))
       → Keeps mid new → IfSome remaining (λ input. TaskOutcome holds task input old new (Err (Write fault)))
@@ -87,7 +86,7 @@ module _ (holds : List ℕ → List ℕ → Type 0) where
   flush_failed (Watch options) (Some input) old mid new status fault (watched, is, status_is, appends) keeps =
       (watched, is, whole_front old new (watched_text options.budget watched) (appends_kept old mid new (watched_text options.budget watched) appends keeps))
   flush_failed (Cover options) (Some input) old mid new status fault (counts, has, status_is, appends) keeps =
-      (counts, has, whole_front old new (table_text (count_in counts)) (appends_kept old mid new (table_text (count_in counts)) appends keeps))
+      (counts, has, whole_front old new (cover_text counts) (appends_kept old mid new (cover_text counts) appends keeps))
 
   -- a task whose text was flushed, or could not be, came to an outcome of this status
   pub ended : (task : Task) (remaining old mid new : Option (List ℕ)) (done status : ℕ) → IfSome remaining (λ input. TaskOutcome holds task input old mid (Ok done)) → Keeps mid new

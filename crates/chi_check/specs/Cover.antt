@@ -1,7 +1,8 @@
--- what a count does: the table of what the operations covered that its inputs tell
-use Rattle.std.specs.Prelude.{◌≡◌, ◌≢◌, ℕ, ◌<◌, ◌≤◌, Bool, true, false, List, [], ◌∷◌, Contains, length, map, min, slice_get, sum_by, Option, Some, IfSome, Result, Ok, Err}
+-- what a count does: the table of what the operations covered that its inputs tell, and how many requests were refused
+use Rattle.std.specs.Prelude.{◌≡◌, ◌≢◌, ℕ, ◌<◌, ◌≤◌, Bool, true, false, List, [], ◌∷◌, ◌++◌, Contains, length, map, min, slice_get, sum_by, Option, Some, IfSome, Result, Ok, Err}
 use Rattle.std.specs.Io.KnownBytes.{Appends}
 use Rattle.chi_script.specs.WriterBytes.{AppendsFront}
+use Rattle.chi_fields.specs.declared.refusal.Refusal.{Refusal}
 use Rattle.chi_trace.specs.declared.observed.Observed.{Observed}
 use Rattle.chi_reading.specs.declared.fault.TraceFault.TheVariants as trace_fault
 use Rattle.chi_reading.specs.TraceText.{IsOf, RecordedValue, TextValue, trace_text}
@@ -10,8 +11,10 @@ use Rattle.chi_cover.specs.declared.bin.Bin.{Bin}
 use Rattle.chi_cover.specs.Bins.{all_bins}
 use Rattle.chi_cover.specs.Counts.{IsAdded, count_in, count_of, most, percent_of}
 use Rattle.chi_cover.specs.Page.{cover_json, page_text}
+use Rattle.chi_cover.specs.Refusals.{AreRefused, refusals_text, refused_in, refused_times}
 use Rattle.chi_cover.specs.Texts.{table_text}
 use Rattle.chi_check.specs.Check.{most_bytes}
+use Rattle.chi_check.specs.declared.inputs.Counted.{Counted}
 use Rattle.chi_check.specs.declared.fault.CheckFault.{CheckFault}
 use Rattle.chi_check.specs.declared.fault.CheckFault.TheVariants.{Input, File, Page, Write}
 use Rattle.chi_check.specs.declared.fault.SourceFault.{SourceFault}
@@ -33,34 +36,50 @@ abbrev pub AreInputs : (List ℕ → List ℕ → Type 0) → List (List ℕ) �
 AreInputs holds [] input inputs = inputs ≡ input ∷ []
 AreInputs holds (path ∷ paths) input inputs = AreHeld holds (path ∷ paths) inputs
 
--- the input is a trace of these operations
-pub record IsTraceOf (input : List ℕ) (ops : List Observed) : Type 0 where
+-- the input is a trace of these operations, whose other requests were refused for these reasons
+pub record IsTraceOf (input : List ℕ) (ops : List Observed) (refusals : List Refusal) : Type 0 where
   pub value : TextValue
   pub read : trace_text input ≡ Ok value
   pub recorded : RecordedValue
   pub is : IsOf value recorded
   pub operations : recorded.trace.operations ≡ ops
+  pub refused : recorded.refusals ≡ refusals
 
--- the operations of an input: those that its events tell, or those of the trace that it is
-abbrev pub AreOf : Bool → List ℕ → List Observed → Type 0
-AreOf true input ops = AreOperations input ops
-AreOf false input ops = IsTraceOf input ops
+-- the operations of an input, and why its other requests were refused: those of the trace that it is, or the operations that its
+-- events tell, which tell no refusal
+abbrev pub AreOf : Bool → List ℕ → List Observed → List Refusal → Type 0
+AreOf true input ops refusals = AreOperations input ops × (refusals ≡ [])
+AreOf false input ops refusals = IsTraceOf input ops refusals
 
--- these are the operations of each input
-unfoldable pub AreOfEach : Bool → List (List ℕ) → List (List Observed) → Type 0
+-- what one input tells
+pub record Told : Type 0 where
+  pub operations : List Observed
+  pub refusals : List Refusal
+
+-- this is what each input tells
+unfoldable pub AreOfEach : Bool → List (List ℕ) → List Told → Type 0
 AreOfEach events [] [] = Unit {0}
-AreOfEach events (input ∷ inputs) (ops ∷ traces) = (length input ≤ most_bytes) × AreOf events input ops × AreOfEach events inputs traces
-AreOfEach events inputs traces = ⊥
+AreOfEach events (input ∷ inputs) (told ∷ others) = (length input ≤ most_bytes) × AreOf events input told.operations told.refusals × AreOfEach events inputs others
+AreOfEach events inputs others = ⊥
 
--- each bin's count is how many operations of these traces it counts, and the greatest count stands for that many and more
-abbrev pub AreCounts : List (List Observed) → List ℕ → Type 0
-AreCounts traces counts = (bin : Bin) → Contains all_bins bin → count_in counts bin ≡ min (sum_by (λ ops. count_of ops bin) traces) most
+-- each bin's count is how many operations of these inputs it counts, and the greatest count stands for that many and more
+abbrev pub AreCounts : List Told → List ℕ → Type 0
+AreCounts told counts = (bin : Bin) → Contains all_bins bin → count_in counts bin ≡ min (sum_by (λ t. count_of t.operations bin) told) most
 
--- these are the counts of the operations of these inputs
-pub record AreCounted (events : Bool) (inputs : List (List ℕ)) (counts : List ℕ) : Type 0 where
-  pub traces : List (List Observed)
-  pub of : AreOfEach events inputs traces
-  pub are : AreCounts traces counts
+-- so is each reason's of the requests of these inputs that were refused for it
+abbrev pub AreRefusalCounts : List Told → List ℕ → Type 0
+AreRefusalCounts told counts = (reason : Refusal) → refused_in counts reason ≡ min (sum_by (λ t. refused_times t.refusals reason) told) most
+
+-- these are the counts of what these inputs tell
+pub record AreCounted (events : Bool) (inputs : List (List ℕ)) (counted : Counted) : Type 0 where
+  pub told : List Told
+  pub of : AreOfEach events inputs told
+  pub are : AreCounts told counted.covered
+  pub refused : AreRefusalCounts told counted.refusals
+
+-- what is written of counts: the table of what was covered, and how many requests were refused
+abbrev pub cover_text : Counted → List ℕ
+cover_text counted = table_text (count_in counted.covered) ++ refusals_text (refused_in counted.refusals)
 
 -- 1 where fewer of a hundred bins have counted an operation than have to, and else 0
 pub record IsCoverStatus (require percent status : ℕ) : Type 0 where
@@ -82,22 +101,23 @@ IsFileFault holds events path source_fault.TooLong = Unit {0}
 IsFileFault holds events path source_fault.Memory = Unit {0}
 IsFileFault holds events path fault = (input : List ℕ) × holds path input × IsTraceFault events input fault
 
--- each bin of the new counts has counted the operations of an input more
-abbrev pub Adds : Bool → List ℕ → List ℕ → List ℕ → Type 0
-Adds events input old new = (ops : List Observed) × AreOf events input ops × IsAdded ops old new
+-- the new counts have counted what an input tells more
+abbrev pub Adds : Bool → List ℕ → Counted → Counted → Type 0
+Adds events input old new =
+    (ops : List Observed) × (refusals : List Refusal) × AreOf events input ops refusals × IsAdded ops old.covered new.covered × AreRefused refusals old.refusals new.refusals
 
 -- the same of what the file of a path holds
-abbrev pub AddsFile : (List ℕ → List ℕ → Type 0) → Bool → List ℕ → List ℕ → List ℕ → Type 0
+abbrev pub AddsFile : (List ℕ → List ℕ → Type 0) → Bool → List ℕ → Counted → Counted → Type 0
 AddsFile holds events path old new = (input : List ℕ) × holds path input × (length input ≤ most_bytes) × Adds events input old new
 
 -- these are the counts of what these files hold
-abbrev pub AreOfFiles : (List ℕ → List ℕ → Type 0) → Bool → List (List ℕ) → List ℕ → Type 0
-AreOfFiles holds events paths counts = (inputs : List (List ℕ)) × AreHeld holds paths inputs × AreCounted events inputs counts
+abbrev pub AreOfFiles : (List ℕ → List ℕ → Type 0) → Bool → List (List ℕ) → Counted → Type 0
+AreOfFiles holds events paths counted = (inputs : List (List ℕ)) × AreHeld holds paths inputs × AreCounted events inputs counted
 
 -- the inputs have these counts
-abbrev pub HasCounts : (List ℕ → List ℕ → Type 0) → CoverOptions → List ℕ → List ℕ → Type 0
-HasCounts holds options input counts =
-    (inputs : List (List ℕ)) × AreInputs holds (paths_of options) input inputs × AreCounted options.events inputs counts
+abbrev pub HasCounts : (List ℕ → List ℕ → Type 0) → CoverOptions → List ℕ → Counted → Type 0
+HasCounts holds options input counted =
+    (inputs : List (List ℕ)) × AreInputs holds (paths_of options) input inputs × AreCounted options.events inputs counted
 
 -- why the standard input was not counted
 abbrev pub IsInputFault : Bool → List ℕ → CheckFault → Type 0
@@ -121,21 +141,21 @@ abbrev pub AreInputsFault : (List ℕ → List ℕ → Type 0) → Bool → List
 AreInputsFault holds events [] input fault = IsInputFault events input fault
 AreInputsFault holds events (path ∷ paths) input fault = AreFilesFault holds events (path ∷ paths) fault
 
--- After Ok the table of the counts was written, and the status is 1 where fewer of a hundred bins have counted an operation than have
+-- After Ok the text of the counts was written, and the status is 1 where fewer of a hundred bins have counted an operation than have
 -- to. What each fault means, and what was written then: nothing but where the writer failed.
 abbrev pub CoverOutcome : (List ℕ → List ℕ → Type 0) → CoverOptions → List ℕ → Option (List ℕ) → Option (List ℕ) → Result ℕ CheckFault → Type 0
 CoverOutcome holds options input old new (Ok status) =
-    (counts : List ℕ) × HasCounts holds options input counts × IsCoverStatus options.require (percent_of (count_in counts)) status × Appends old new (table_text (count_in counts))
+    (counted : Counted) × HasCounts holds options input counted × IsCoverStatus options.require (percent_of (count_in counted.covered)) status × Appends old new (cover_text counted)
 CoverOutcome holds options input old new (Err Page) = Unit {0}
-CoverOutcome holds options input old new (Err (Write fault)) = (counts : List ℕ) × HasCounts holds options input counts × AppendsFront old new (table_text (count_in counts))
+CoverOutcome holds options input old new (Err (Write fault)) = (counted : Counted) × HasCounts holds options input counted × AppendsFront old new (cover_text counted)
 CoverOutcome holds options input old new (Err fault) = AreInputsFault holds options.events (paths_of options) input fault
 
 -- the page of counts
 abbrev pub IsCoverPage : List ℕ → List ℕ → Type 0
 IsCoverPage counts page = (front : List ℕ) × (back : List ℕ) × (page ≡ page_text front (cover_json (count_in counts)) back)
 
--- where one was asked for, the page of the counts whose table was written was put at the path
+-- where one was asked for, the page of the counts whose text was written was put at the path
 abbrev pub IsCoverPut : {P : Type 0} → (List ℕ → List ℕ → Type 0) → (P → List ℕ → List ℕ → Type 0) → CoverOptions → List ℕ → Option (List ℕ) → Option (List ℕ) → P → Type 0
 IsCoverPut holds has_put options input old new pages =
-    IfSome options.html (λ path. (counts : List ℕ) × (page : List ℕ) × HasCounts holds options input counts × IsCoverPage counts page
-    × Appends old new (table_text (count_in counts)) × has_put pages path.now page)
+    IfSome options.html (λ path. (counted : Counted) × (page : List ℕ) × HasCounts holds options input counted × IsCoverPage counted.covered page
+    × Appends old new (cover_text counted) × has_put pages path.now page)

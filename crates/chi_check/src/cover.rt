@@ -1,19 +1,18 @@
-//! What is written of what the operations of traces or of events covered.
+//! What is written of what the operations of traces or of events covered, and of how many requests were refused.
 
 ghost use Rattle.std.specs.Prelude.{◌≡◌, ◌<◌, ◌≤◌, IfOk, IfSome};
 ghost use Rattle.chi_cover.specs.Counts.{count_in, percent_of};
-ghost use Rattle.chi_cover.specs.Texts.{table_text};
 ghost use Rattle.chi_check.specs.Check.{KeepsUnanswered};
 ghost use Rattle.chi_check.specs.CheckStatus.{IsAnswerStatus};
-ghost use Rattle.chi_check.specs.Cover.{CoverOutcome, IsCoverPage, IsCoverPut};
+ghost use Rattle.chi_check.specs.Cover.{CoverOutcome, IsCoverPage, IsCoverPut, cover_text};
 
 use crate::check::put_page;
 use crate::fault::{CheckFault, SourceFault};
-use crate::inputs::inputs_covered;
+use crate::inputs::{Counted, inputs_counted};
 use crate::options::CoverOptions;
 use crate::pages::Pages;
 use crate::sources::Sources;
-use chi_cover::{Covered, add_page, add_table};
+use chi_cover::{Covered, add_page, add_refusals, add_table};
 use chi_script::write_bytes;
 use std::alloc::{AllocError, Global};
 use std::io::{Read, Write};
@@ -28,12 +27,13 @@ fn cover_status(covered: &Covered, options: &CoverOptions<'_>) -> u8
     if percent < options.require { 1 } else { 0 }
 }
 
-// The table of what is covered.
-fn covered_text(alloc: Global, covered: &Covered) -> Result<Vec<u8>, AllocError>
-    ensures { IfOk result (λ text. text.items ≡ table_text (count_in covered.now)) }
+// The table of what is covered, and how many requests were refused.
+fn counted_text(alloc: Global, counted: &Counted) -> Result<Vec<u8>, AllocError>
+    ensures { IfOk result (λ text. text.items ≡ cover_text counted.now) }
 {
     let mut text = Vec::new(alloc);
-    add_table(alloc, &mut text, covered)?;
+    add_table(alloc, &mut text, &counted.covered)?;
+    add_refusals(&mut text, &counted.refusals)?;
     Ok(text)
 }
 
@@ -48,33 +48,33 @@ fn page_asked(alloc: Global, covered: &Covered, html: Option<&str>) -> Result<Ve
     Ok(page)
 }
 
-/// What is written of what is covered: the table, and the page where one is asked for.
+/// What is written of what was counted: the text, and the page where one is asked for.
 #[derive(Drop)]
 struct CoverReport {
-    table: Vec<u8>,
+    text: Vec<u8>,
     page: Vec<u8>,
 }
 
-// What is written of what is covered.
+// What is written of what was counted.
 fn report_of(
     alloc: Global,
-    covered: &Covered,
+    counted: &Counted,
     html: Option<&str>,
 ) -> Result<CoverReport, AllocError>
-    ensures table { IfOk result (λ report. report.table.items ≡ table_text (count_in covered.now)) }
-    ensures page { IfOk result (λ report. IfSome html.entry (λ _. IsCoverPage covered.now report.page.items)) }
+    ensures text { IfOk result (λ report. report.text.items ≡ cover_text counted.now) }
+    ensures page { IfOk result (λ report. IfSome html.entry (λ _. IsCoverPage counted.now.covered report.page.items)) }
 {
-    let table = covered_text(alloc, covered)?;
-    let page = page_asked(alloc, covered, html)?;
-    Ok(CoverReport { table, page })
+    let text = counted_text(alloc, counted)?;
+    let page = page_asked(alloc, &counted.covered, html)?;
+    Ok(CoverReport { text, page })
 }
 
-/// Reads traces or events, counts what their operations covered, and writes the table: of the files that the options name,
-/// added up, or of the standard input where they name none. The answer is a status: 1 where fewer of a hundred bins have counted
-/// an operation than the options want, and else 0.
+/// Reads traces or events, counts what their operations covered and how many requests were refused, and writes the table and then
+/// the refusals: of the files that the options name, added up, or of the standard input where they name none. The answer is a
+/// status: 1 where fewer of a hundred bins have counted an operation than the options want, and else 0.
 ///
 /// Nothing is written unless all inputs were read and counted. Where a page is asked for, it is made whole and put before the table
-/// is written. After a fault of the writer a prefix of the table has been written. Whether the operations can be explained is not
+/// is written. After a fault of the writer a prefix of the text has been written. Whether the operations can be explained is not
 /// looked at. `machine` reads the files and puts the page.
 ///
 /// ```
@@ -92,15 +92,15 @@ pub fn cover<R: Read, W: Write, G: Pages + Sources>(
     ensures status { IfOk result (λ status. IsAnswerStatus status) }
     ensures page { IfOk result (λ status. IfSome (R.remaining from.old) (λ input. IsCoverPut (G.holds machine.old) G.has_put options.now input (W.contents to.old) (W.contents to.new) machine.new)) }
 {
-    let covered = inputs_covered(alloc, from, options, machine)?;
-    let Ok(report) = report_of(alloc, &covered, options.html) else {
+    let counted = inputs_counted(alloc, from, options, machine)?;
+    let Ok(report) = report_of(alloc, &counted, options.html) else {
         return Err(CheckFault::Input(SourceFault::Memory));
     };
     if !put_page(machine, options.html, &report.page) {
         return Err(CheckFault::Page);
     }
-    match write_bytes(to, &report.table) {
-        Ok(()) => Ok(cover_status(&covered, options)),
+    match write_bytes(to, &report.text) {
+        Ok(()) => Ok(cover_status(&counted.covered, options)),
         Err(fault) => Err(CheckFault::Write(fault)),
     }
 }

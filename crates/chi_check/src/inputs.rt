@@ -1,37 +1,64 @@
-//! From traces or events to what their operations covered.
+//! From traces or events to what their operations covered, and how many requests were refused.
 
 ghost use Rattle.std.specs.Prelude.{◌≡◌, ◌<◌, ◌≤◌, [], ◌∷◌, false, true, IfErr, IfOk, IfSome, OnOk};
+ghost use Rattle.chi_cover.specs.declared.bin.Bin.{Bin};
+ghost use Rattle.chi_cover.specs.Counts.{count_in};
+ghost use Rattle.chi_cover.specs.Refusals.{refused_in};
+ghost use Rattle.chi_fields.specs.declared.refusal.Refusal.{Refusal};
 ghost use Rattle.chi_check.specs.Cover.{Adds, AddsFile, AreCounted, AreFilesFault, AreInputsFault, AreOfFiles, HasCounts, IsFileFault, IsInputFault, IsTraceFault, paths_of};
 
 use crate::check::read_bytes;
 use crate::fault::{CheckFault, SourceFault};
 use crate::options::CoverOptions;
 use crate::sources::Sources;
-use chi_cover::Covered;
+use chi_cover::{Covered, Refusals};
 use chi_json::InputFault;
 use chi_reading::read_trace;
 use chi_watch_text::read_operations;
-use std::alloc::Global;
+use std::alloc::{AllocError, Global};
 use std::io::Read;
 
-// Adds the operations of a trace.
-fn add_trace(alloc: Global, covered: &mut Covered, input: &[u8]) -> Result<(), SourceFault>
-    ensures added { OnOk result (Adds false input.now covered.old covered.new) }
+/// What was counted of inputs: what their operations covered, and how many requests were refused for each reason.
+#[derive(Drop)]
+pub(crate) struct Counted {
+    pub covered: Covered,
+    pub refusals: Refusals,
+}
+
+impl Counted {
+    // Of no input.
+    fn none(alloc: Global) -> Result<Counted, AllocError>
+        ensures covered { IfOk result (λ counted. (bin : Bin) → count_in counted.covered bin ≡ 0) }
+        ensures refused { IfOk result (λ counted. (reason : Refusal) → refused_in counted.refusals reason ≡ 0) }
+    {
+        Ok(Counted {
+            covered: Covered::new(alloc)?,
+            refusals: Refusals::none(),
+        })
+    }
+}
+
+// Adds the operations and the refusals of a trace.
+fn add_trace(alloc: Global, counted: &mut Counted, input: &[u8]) -> Result<(), SourceFault>
+    ensures added { OnOk result (Adds false input.now counted.old counted.new) }
     ensures fault { IfErr result (IsTraceFault false input.now) }
 {
     let recorded = match read_trace(alloc, input) {
         Ok(recorded) => recorded,
         Err(fault) => return Err(SourceFault::Trace(fault)),
     };
-    match covered.add(alloc, recorded.trace().operations()) {
-        Ok(()) => Ok(()),
+    match counted.covered.add(alloc, recorded.trace().operations()) {
+        Ok(()) => {
+            counted.refusals.add(recorded.refusals());
+            Ok(())
+        }
         Err(_) => Err(SourceFault::Memory),
     }
 }
 
 // Adds the operations that events tell.
-fn add_events(alloc: Global, covered: &mut Covered, input: &[u8]) -> Result<(), SourceFault>
-    ensures added { OnOk result (Adds true input.now covered.old covered.new) }
+fn add_events(alloc: Global, counted: &mut Counted, input: &[u8]) -> Result<(), SourceFault>
+    ensures added { OnOk result (Adds true input.now counted.old counted.new) }
     ensures fault { IfErr result (IsTraceFault true input.now) }
 {
     let mut lines = input;
@@ -39,38 +66,42 @@ fn add_events(alloc: Global, covered: &mut Covered, input: &[u8]) -> Result<(), 
         Ok(ops) => ops,
         Err(fault) => return Err(SourceFault::Events(fault)),
     };
-    match covered.add(alloc, &ops) {
-        Ok(()) => Ok(()),
+    match counted.covered.add(alloc, &ops) {
+        Ok(()) => {
+            // Events tell no refusal.
+            counted.refusals.add(&[]);
+            Ok(())
+        }
         Err(_) => Err(SourceFault::Memory),
     }
 }
 
-// Adds the operations of an input.
+// Adds what an input tells.
 fn add_input(
     alloc: Global,
-    covered: &mut Covered,
+    counted: &mut Counted,
     input: &[u8],
     events: bool,
 ) -> Result<(), SourceFault>
-    ensures added { OnOk result (Adds events input.now covered.old covered.new) }
+    ensures added { OnOk result (Adds events input.now counted.old counted.new) }
     ensures fault { IfErr result (IsTraceFault events input.now) }
 {
     if events {
-        add_events(alloc, covered, input)
+        add_events(alloc, counted, input)
     } else {
-        add_trace(alloc, covered, input)
+        add_trace(alloc, counted, input)
     }
 }
 
-// Adds the operations of what the file at a path holds.
+// Adds what the file at a path tells.
 fn add_file<S: Sources>(
     alloc: Global,
-    covered: &mut Covered,
+    counted: &mut Counted,
     path: &str,
     events: bool,
     sources: &S,
 ) -> Result<(), SourceFault>
-    ensures added { OnOk result (AddsFile (S.holds sources.now) events path.now covered.old covered.new) }
+    ensures added { OnOk result (AddsFile (S.holds sources.now) events path.now counted.old counted.new) }
     ensures fault { IfErr result (IsFileFault (S.holds sources.now) events path.now) }
 {
     let input = match sources.read_file(alloc, path) {
@@ -79,58 +110,58 @@ fn add_file<S: Sources>(
         Err(InputFault::TooLong) => return Err(SourceFault::TooLong),
         Err(InputFault::Memory) => return Err(SourceFault::Memory),
     };
-    add_input(alloc, covered, &input, events)
+    add_input(alloc, counted, &input, events)
 }
 
-// What the operations of these files covered.
-fn files_covered<S: Sources>(
+// What these files tell, counted.
+fn files_counted<S: Sources>(
     alloc: Global,
     options: &CoverOptions<'_>,
     sources: &S,
-) -> Result<Covered, CheckFault>
-    ensures counts { IfOk result (λ covered. AreOfFiles (S.holds sources.now) options.now.events (paths_of options.now) covered) }
+) -> Result<Counted, CheckFault>
+    ensures counts { IfOk result (λ counted. AreOfFiles (S.holds sources.now) options.now.events (paths_of options.now) counted) }
     ensures fault { IfErr result (AreFilesFault (S.holds sources.now) options.now.events (paths_of options.now)) }
 {
-    let Ok(mut covered) = Covered::new(alloc) else {
+    let Ok(mut counted) = Counted::none(alloc) else {
         return Err(CheckFault::Input(SourceFault::Memory));
     };
     for (place, path) in options.files.iter().enumerate() {
-        match add_file(alloc, &mut covered, path, options.events, sources) {
+        match add_file(alloc, &mut counted, path, options.events, sources) {
             Ok(()) => {}
             Err(fault) => return Err(CheckFault::File { place, fault }),
         }
     }
-    Ok(covered)
+    Ok(counted)
 }
 
-// What the operations of the standard input covered.
-fn input_covered<R: Read>(alloc: Global, from: &mut R, events: bool) -> Result<Covered, CheckFault>
-    ensures counts { IfOk result (λ covered. IfSome (R.remaining from.old) (λ input. AreCounted events (input ∷ []) covered)) }
+// What the standard input tells, counted.
+fn input_counted<R: Read>(alloc: Global, from: &mut R, events: bool) -> Result<Counted, CheckFault>
+    ensures counts { IfOk result (λ counted. IfSome (R.remaining from.old) (λ input. AreCounted events (input ∷ []) counted)) }
     ensures fault { IfErr result (λ fault. IfSome (R.remaining from.old) (λ input. IsInputFault events input fault)) }
 {
     let input = read_bytes(alloc, from)?;
-    let Ok(mut covered) = Covered::new(alloc) else {
+    let Ok(mut counted) = Counted::none(alloc) else {
         return Err(CheckFault::Input(SourceFault::Memory));
     };
-    match add_input(alloc, &mut covered, &input, events) {
-        Ok(()) => Ok(covered),
+    match add_input(alloc, &mut counted, &input, events) {
+        Ok(()) => Ok(counted),
         Err(fault) => Err(CheckFault::Input(fault)),
     }
 }
 
-/// What the operations of the inputs covered: of the files that the options name, or of the standard input where they name none.
-pub(crate) fn inputs_covered<R: Read, S: Sources>(
+/// What the inputs tell, counted: the files that the options name, or the standard input where they name none.
+pub(crate) fn inputs_counted<R: Read, S: Sources>(
     alloc: Global,
     from: &mut R,
     options: &CoverOptions<'_>,
     sources: &S,
-) -> Result<Covered, CheckFault>
-    ensures counts { IfOk result (λ covered. IfSome (R.remaining from.old) (λ input. HasCounts (S.holds sources.now) options.now input covered)) }
+) -> Result<Counted, CheckFault>
+    ensures counts { IfOk result (λ counted. IfSome (R.remaining from.old) (λ input. HasCounts (S.holds sources.now) options.now input counted)) }
     ensures fault { IfErr result (λ fault. IfSome (R.remaining from.old) (λ input. AreInputsFault (S.holds sources.now) options.now.events (paths_of options.now) input fault)) }
 {
     if options.files.is_empty() {
-        input_covered(alloc, from, options.events)
+        input_counted(alloc, from, options.events)
     } else {
-        files_covered(alloc, options, sources)
+        files_counted(alloc, options, sources)
     }
 }
