@@ -1,6 +1,11 @@
 -- what was written, where nothing was executed, where the options are refused and where the flush fails
-use Rattle.std.proofs.Common.{◌≡◌, ℕ, List, [], Option, None, Some, Result, Err, Ok, IfSome, append-nil, refl, ◌∙◌, ◌⊎◌, inl, inr}
+use Rattle.std.proofs.Common.{◌≡◌, ℕ, Bool, true, false, if◌then◌else◌, List, [], Option, None, Some, Result, Err, Ok, IfSome, append-nil, refl, ◌∙◌, ◌⊎◌, inl, inr}
 use Rattle.std.specs.Io.KnownBytes.{Appends, Keeps}
+use Rattle.chi_fields.specs.Extent.{Extent, region_of}
+use Rattle.chi_fields.specs.declared.region.RegionFault.{RegionFault}
+use Rattle.chi_stimulus.specs.Named.{mix_of}
+use Rattle.chi_stimulus.specs.declared.mix.Mix.{Mix as Weights}
+use Rattle.chi_stimulus.specs.declared.mix.MixFault.{MixFault}
 use Rattle.chi_script.specs.WriterBytes.{AppendsFront}
 use Rattle.chi_script.specs.declared.device.WriteFault.{WriteFault}
 use Rattle.chi_script.specs.declared.device.WriteFault.TheVariants.{Failed}
@@ -13,7 +18,7 @@ use Rattle.chi_engine.specs.Store.{Opens}
 use Rattle.chi_home.specs.Task.{Ends, Makes, TaskOutcome}
 use Rattle.chi_home.specs.declared.command.Task.{Task}
 use Rattle.chi_home.specs.declared.command.Task.TheVariants.{Run, Race, Trace}
-use Rattle.chi_home.specs.Generating.{IsRefused, WritesScript}
+use Rattle.chi_home.specs.Generating.{WritesScript, are_in_range, asked_for, on_region, with_mix}
 use Rattle.chi_home.specs.declared.generation.GenerateFault.{GenerateFault}
 use Rattle.chi_home.specs.declared.generation.GenerateFault.TheVariants.{Number, Region, Mix, Memory, Write}
 use Rattle.chi_home.specs.declared.generation.GenerateOptions.{GenerateOptions}
@@ -31,13 +36,29 @@ keeps_same : (old : Option (List ℕ)) → Keeps old old
 keeps_same None = tt
 keeps_same (Some bytes) = refl
 
+-- no options are refused for a write
+no_write : (options : GenerateOptions) (fault : WriteFault) → asked_for options ≡ Err (Write fault) → ⊥
+no_write options fault = by_range (are_in_range options) (region_of options.base options.granules)
+  where
+    by_mix : (region : Extent) (mix : Result Weights MixFault) → with_mix options region mix ≡ Err (Write fault) → ⊥
+    by_mix region (Ok mix) is = cc
+    by_mix region (Err f) is = cc
+
+    by_region : (r : Result Extent RegionFault) → on_region options r ≡ Err (Write fault) → ⊥
+    by_region (Ok region) is = by_mix region (mix_of options.mix.now) is
+    by_region (Err f) is = cc
+
+    by_range : (b : Bool) (r : Result Extent RegionFault) → (if b then on_region options r else Err Number) ≡ Err (Write fault) → ⊥
+    by_range true r is = by_region r is
+    by_range false r is = cc
+
 -- nothing is written where the options are refused
-pub refused_keeps : (options : GenerateOptions) (old : Option (List ℕ)) (fault : GenerateFault) → IsRefused fault → WritesScript options old old (Err fault)
-refused_keeps options old Number refused = keeps_same old
-refused_keeps options old (Region fault) refused = keeps_same old
-refused_keeps options old (Mix fault) refused = keeps_same old
-refused_keeps options old Memory refused = absurd refused
-refused_keeps options old (Write fault) refused = absurd refused
+pub refused_keeps : (options : GenerateOptions) (old : Option (List ℕ)) (fault : GenerateFault) → asked_for options ≡ Err fault → WritesScript options old old (Err fault)
+refused_keeps options old Number refused = (refused, keeps_same old)
+refused_keeps options old (Region fault) refused = (refused, keeps_same old)
+refused_keeps options old (Mix fault) refused = (refused, keeps_same old)
+refused_keeps options old Memory refused = keeps_same old
+refused_keeps options old (Write fault) refused = absurd (no_write options fault refused)
 
 -- where nothing is written but a text that was made, nothing is where no script was executed
 pub unexecuted : (old new : Option (List ℕ)) (result : Result (Unit {0}) EngineFault) → KeepsUnwritten old new result → KeepsUnexecuted old new result

@@ -8,7 +8,7 @@ ghost use Rattle.chi_home.specs.Task.{Ends, EndsAsked, Makes, ProgramOutcome, Ta
 use crate::command::{Asked, PROGRAM, Task, asked_of};
 use crate::fault::HomeFault;
 use crate::generation::{GenerateOptions, generate};
-use chi_engine::{EngineFault, Options, engine_trace, engine_race, engine_run};
+use chi_engine::{EngineFault, Options, engine_race, engine_run, engine_trace};
 use chi_history::NoGate;
 use chi_program::{flushed_status, report_arguments, report_fault};
 use std::alloc::Global;

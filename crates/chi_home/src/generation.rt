@@ -1,10 +1,10 @@
 //! The task `generate`: the options that it was given, and what it writes.
 
-ghost use Rattle.std.specs.Prelude.{◌≡◌, codes, unwrap_or, IfErr, IfOk};
+ghost use Rattle.std.specs.Prelude.{◌≡◌, codes, unwrap_or};
 ghost use Rattle.clap.specs.Matches.{found_of};
 ghost use Rattle.clap.specs.Walk.{first_of, rows_of};
 ghost use Rattle.chi_home.specs.CommandLine.{default_mix};
-ghost use Rattle.chi_home.specs.Generating.{AsksFor, HasGenerateOptions, IsRefused, WritesScript, generate_status};
+ghost use Rattle.chi_home.specs.Generating.{HasGenerateOptions, WritesScript, are_in_range, asked_for, generate_status};
 
 use chi_fields::{Region, RegionFault, region_fault_name};
 use chi_program::{is_switched, number_or};
@@ -31,14 +31,14 @@ pub struct GenerateOptions<'a> {
 
 /// Why no script was written.
 ///
-/// - `Number`: a number is greater than its option takes.
+/// - `Number`: a number is greater than its option takes, or there are no requesters.
 /// - `Region`: `Region::new` refuses the base and the number of granules.
 /// - `Mix`: the weights are not read.
 /// - `Memory`: a growth was refused.
 /// - `Write`: the script was not written whole.
 #[derive(Clone, Copy, Debug, Error)]
 pub enum GenerateFault {
-    #[error("a number is greater than its option takes")]
+    #[error("a number is not one that its option takes")]
     Number,
     #[error("region is refused: {}", region_fault_name(*.0))]
     Region(RegionFault),
@@ -91,48 +91,35 @@ pub(crate) fn generate_options<'a>(chosen: &ArgMatches<'a>) -> GenerateOptions<'
     }
 }
 
-// A number of an option that takes no more than these.
-fn at_most(number: u64, most: u16) -> Result<u16, GenerateFault>
-    ensures ok { IfOk result (λ it. it ≡ number) }
-    ensures fault { IfErr result (λ fault. fault ≡ GenerateFault.Number) }
+// Whether each number is one that its option takes.
+fn are_in_range(options: &GenerateOptions<'_>) -> bool
+    ensures { result ≡ are_in_range options.now }
 {
-    match u16::try_from(number) {
-        Ok(number) if number <= most => Ok(number),
-        _ => Err(GenerateFault::Number),
-    }
-}
-
-// A percentage, or another small number.
-fn at_most_byte(number: u64, most: u8) -> Result<u8, GenerateFault>
-    ensures ok { IfOk result (λ it. it ≡ number) }
-    ensures fault { IfErr result (λ fault. fault ≡ GenerateFault.Number) }
-{
-    match u8::try_from(number) {
-        Ok(number) if number <= most => Ok(number),
-        _ => Err(GenerateFault::Number),
-    }
+    options.requests <= 4096
+        && options.granules <= 65535
+        && 1 <= options.requesters
+        && options.requesters <= 8
+        && options.refused <= 100
+        && options.hot <= 100
 }
 
 // What the options ask for.
 fn stimulus_of(options: &GenerateOptions<'_>) -> Result<Stimulus, GenerateFault>
-    ensures ok { IfOk result (λ stimulus. AsksFor options.now stimulus) }
-    ensures fault { IfErr result IsRefused }
+    ensures { result ≡ asked_for options.now }
 {
-    let requests = at_most(options.requests, 4096)?;
-    let granules = at_most(options.granules, u16::MAX)?;
-    let requesters = at_most_byte(options.requesters, 8)?;
-    let refused = at_most_byte(options.refused, 100)?;
-    let hot = at_most_byte(options.hot, 100)?;
-    let region = Region::new(options.base, granules).map_err(GenerateFault::Region)?;
+    if !are_in_range(options) {
+        return Err(GenerateFault::Number);
+    }
+    let region = Region::new(options.base, options.granules as u16).map_err(GenerateFault::Region)?;
     let mix = Mix::named(options.mix).map_err(GenerateFault::Mix)?;
     Ok(Stimulus {
-        requests,
+        requests: options.requests as u16,
         seed: options.seed,
         region,
         image: options.image,
-        requesters,
-        refused,
-        hot,
+        requesters: options.requesters as u8,
+        refused: options.refused as u8,
+        hot: options.hot as u8,
         mix,
     })
 }

@@ -1,15 +1,15 @@
-mod AnswersLie
+pub mod AnswersLie
 mod ByStart
 pub mod Decided
 mod Elements
-mod Faultless
+pub mod Faultless
 mod InOrder
 mod Joined
 mod Matched
 mod ObjectText
 mod OneMore
 pub mod Packets
-mod RegionText
+pub mod RegionText
 mod Shorter
 mod ShownNames
 mod ToldSoFar

@@ -11,7 +11,7 @@ length-granule_words m start zero = refl
 length-granule_words m start (suc n) = ap suc (length-granule_words m (start + 8) n)
 
 -- one of the words
-get_or-granule_words : (m : Memory) (start n i : ℕ) → i < n → slice_index (granule_words m start n) i ≡ word_at m (start + 8 * i)
+pub get_or-granule_words : (m : Memory) (start n i : ℕ) → i < n → slice_index (granule_words m start n) i ≡ word_at m (start + 8 * i)
 unfolding granule_words
 get_or-granule_words m start zero i below = absurd (omega arith)
 get_or-granule_words m start (suc n) zero below = let at : start + 8 * 0 ≡ start = omega arith in ap (word_at m) (sym at)

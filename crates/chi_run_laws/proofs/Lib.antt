@@ -1,0 +1,12 @@
+pub mod Ranges
+pub mod Executions
+pub mod Words
+pub mod Order
+pub mod Memory
+pub mod Told
+pub mod Reading
+pub mod Accepted
+pub mod Elements
+pub mod Bounds
+pub mod Texts
+pub mod Runs
