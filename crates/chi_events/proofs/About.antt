@@ -30,6 +30,7 @@ ends_about time before after op (event_kind.Request r) takes = none_ended before
 ends_about time before after op (event_kind.Data p) takes = ended before (event_kind.Data p) takes.request takes.found op time (with_data p takes.request) takes.ends refl refl
 ends_about time before after op (event_kind.Reply c) takes = ended before (event_kind.Reply c) takes.request takes.found op time (with_reply c takes.request) takes.ends refl refl
 ends_about time before after op (event_kind.Dropped id) takes = none_ended before (event_kind.Dropped id) op takes.ends
+ends_about time before after op (event_kind.Refused id reason) takes = none_ended before (event_kind.Refused id reason) op takes.ends
 ends_about time before after op (event_kind.Word w) takes = none_ended before (event_kind.Word w) op takes.0
 ends_about time before after op (event_kind.Final w) takes = none_ended before (event_kind.Final w) op takes.0
 ends_about time before after op (event_kind.Unknown addr len) takes = none_ended before (event_kind.Unknown addr len) op takes.0

@@ -7,7 +7,7 @@ use Rattle.chi_trace.specs.Explains.{IsObserved, IsTrace}
 use Rattle.chi_trace.specs.declared.observed.Observed.{Observed}
 use Rattle.chi_events.specs.declared.event.Event.{Event}
 use Rattle.chi_events.specs.declared.event.EventKind.{EventKind}
-use Rattle.chi_events.specs.declared.event.EventKind.TheVariants.{Request, Data, Reply, Dropped, Word, Final, Unknown}
+use Rattle.chi_events.specs.declared.event.EventKind.TheVariants.{Request, Data, Reply, Dropped, Refused, Word, Final, Unknown}
 use Rattle.chi_events.specs.declared.event.Requested.{Requested}
 use Rattle.chi_events.specs.Operations.{operation_of, operations}
 use Rattle.chi_events.specs.Outstanding.{HasPacket, IsEvent, IsPacket}
@@ -31,6 +31,7 @@ requested_packet (Request r) has = has
 requested_packet (Data p) has = tt
 requested_packet (Reply c) has = tt
 requested_packet (Dropped id) has = tt
+requested_packet (Refused id reason) has = tt
 requested_packet (Word w) has = tt
 requested_packet (Final w) has = tt
 requested_packet (Unknown addr len) has = tt

@@ -16,7 +16,7 @@ use Rattle.chi_reading.specs.declared.asked.Asked.{Asked}
 use Rattle.chi_events.specs.declared.event.EventKind.{EventKind}
 use Rattle.chi_events.specs.declared.event.EventKind.TheVariants as event_kind
 use Rattle.chi_events.specs.declared.outstanding.Open.{Open}
-use Rattle.chi_events.specs.Operations.{AccessAt, DataAt, ReplyAt, access_told, data_at, data_told, decided_at, ended_at, first, is_drop, is_dropped, is_outstanding, is_whole, operation_of, reply_at, reply_told, with_packet}
+use Rattle.chi_events.specs.Operations.{AccessAt, DataAt, ReplyAt, access_told, data_at, data_told, decided_at, ended_at, first, is_drop, is_dropped, is_outstanding, is_whole, operation_of, refused_at, refused_told, reply_at, reply_told, with_packet}
 use Rattle.chi_events.specs.Outstanding.{open_of}
 use Rattle.chi_events.specs.Taking.{ended_by, still_open}
 use Rattle.chi_events.specs.Told.{Told}
@@ -48,6 +48,9 @@ reply_more e t = first_more (λ x. reply_at x.time x.kind) t.later e
 
 pub drop_more : (e : Event) (t : Told) → is_dropped (with_event e t) ≡ (is_dropped t || is_drop e.kind)
 drop_more e t = list_any-append (λ x. is_drop x.kind) t.later (e ∷ []) ∙ ap (λ b. is_dropped t || b) (or-false (is_drop e.kind))
+
+pub refused_more : (e : Event) (t : Told) → refused_told (with_event e t) ≡ or_else (refused_told t) (refused_at e.kind)
+refused_more e t = first_more (λ x. refused_at x.kind) t.later e
 
 pub or_none : {X : Type 0} (o : Option X) → or_else o None ≡ o
 or_none None = refl

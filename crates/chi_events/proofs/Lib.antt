@@ -12,3 +12,4 @@ pub mod Observable
 pub mod InTime
 pub mod Parted
 pub mod About
+pub mod Refusals

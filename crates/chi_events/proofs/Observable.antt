@@ -13,7 +13,7 @@ use Rattle.chi_reading.specs.declared.asked.Asked.{Asked}
 use Rattle.chi_reading.proofs.Decided.{IsWithin, accessed}
 use Rattle.chi_events.specs.declared.event.Event.{Event}
 use Rattle.chi_events.specs.declared.event.EventKind.{EventKind}
-use Rattle.chi_events.specs.declared.event.EventKind.TheVariants.{Request, Data, Reply, Dropped, Word, Final, Unknown}
+use Rattle.chi_events.specs.declared.event.EventKind.TheVariants.{Request, Data, Reply, Dropped, Refused, Word, Final, Unknown}
 use Rattle.chi_events.specs.Operations.{AccessAt, DataAt, ReplyAt, access_told, data_at, data_told, decided_at, ended_at, is_dropped, is_whole, operation_of, reply_at, reply_told, with_packet}
 use Rattle.chi_events.specs.Outstanding.{HasPacket, IsPacket}
 use Rattle.chi_events.specs.Told.{Told}
@@ -43,6 +43,7 @@ data_packet time (Request r) has = tt
 data_packet time (Data p) has = has
 data_packet time (Reply c) has = tt
 data_packet time (Dropped id) has = tt
+data_packet time (Refused id reason) has = tt
 data_packet time (Word w) has = tt
 data_packet time (Final w) has = tt
 data_packet time (Unknown addr len) has = tt
@@ -69,6 +70,7 @@ reply_time start time (Request r) later = tt
 reply_time start time (Data p) later = tt
 reply_time start time (Reply c) later = later
 reply_time start time (Dropped id) later = tt
+reply_time start time (Refused id reason) later = tt
 reply_time start time (Word w) later = tt
 reply_time start time (Final w) later = tt
 reply_time start time (Unknown addr len) later = tt

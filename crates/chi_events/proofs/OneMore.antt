@@ -1,41 +1,44 @@
 -- what events and one more tell, by what the one does
 use Rattle.std.proofs.Common.{◌≡◌, ℕ, ◌≤◌, true, List, [], ◌∷◌, ◌++◌, Option, Some, None, option_to_list, append-nil, refl, sym, ap, subst, ◌∙◌}
-use Rattle.chi_reading.specs.Requests.{access_of}
+use Rattle.chi_fields.specs.declared.refusal.Refusal.{Refusal}
 use Rattle.chi_trace.specs.declared.observed.Observed.{Observed}
 use Rattle.chi_events.specs.declared.event.Completion.{Completion}
 use Rattle.chi_events.specs.declared.event.Event.{Event}
 use Rattle.chi_events.specs.declared.event.EventKind.{EventKind}
 use Rattle.chi_events.specs.declared.event.EventKind.TheVariants as event_kind
 use Rattle.chi_events.specs.declared.event.Packet.{Packet}
-use Rattle.chi_events.specs.declared.event.Requested.{Requested}
 use Rattle.chi_events.specs.declared.outstanding.Open.{Open}
-use Rattle.chi_events.specs.Operations.{is_outstanding, is_whole}
-use Rattle.chi_events.specs.Outstanding.{IsAccepted, IsEvent, OutstandingValue, Tells, data_fault, kind_fault, open_of, open_with, refusal_fault, reply_fault, request_fault}
+use Rattle.chi_events.specs.Operations.{is_outstanding}
+use Rattle.chi_events.specs.Outstanding.{IsAccepted, IsEvent, OutstandingValue, Tells, data_fault, kind_fault, open_of, open_with, reply_fault, request_fault}
 use Rattle.chi_events.specs.Taking.{Changes, Takes, ended_by, still_open, with_data, with_reply}
 use Rattle.chi_events.specs.Told.{Told, later_of}
 use Rattle.chi_events.proofs.Extended.{IsAbout, with_event}
 use Rattle.chi_events.proofs.Later.{IsBy, Leaves}
-use Rattle.chi_events.proofs.Steps.{data_leaves, dropped_leaves, reply_leaves}
+use Rattle.chi_events.proofs.Steps.{data_leaves, drop_leaves, reply_leaves}
 use Rattle.chi_events.proofs.Taken.{changed, passed, started}
 
 -- what an event of a kind is about
 module _ (time : ℕ) where
-  data_about : (p : Packet) → IsAbout p.id (record { time = time; kind = event_kind.Data p })
+  pub data_about : (p : Packet) → IsAbout p.id (record { time = time; kind = event_kind.Data p })
   unfolding later_of
   data_about p = record { no_request = refl; about = λ other. refl }
 
-  reply_about : (c : Completion) → IsAbout c.id (record { time = time; kind = event_kind.Reply c })
+  pub reply_about : (c : Completion) → IsAbout c.id (record { time = time; kind = event_kind.Reply c })
   unfolding later_of
   reply_about c = record { no_request = refl; about = λ other. refl }
 
-  drop_about : (id : ℕ) → IsAbout id (record { time = time; kind = event_kind.Dropped id })
+  pub drop_about : (id : ℕ) → IsAbout id (record { time = time; kind = event_kind.Dropped id })
   unfolding later_of
   drop_about id = record { no_request = refl; about = λ other. refl }
 
--- a request that can be taken has a number of its own, and is not refused
-free : (r : Requested) (o : Option Open) → request_fault r o ≡ None → (o ≡ None) × (refusal_fault (is_whole r) (access_of None r.asked) ≡ None)
-free r None none = (refl, none)
-free r (Some o) none = cc
+  pub refused_about : (id : ℕ) (reason : Option Refusal) → IsAbout id (record { time = time; kind = event_kind.Refused id reason })
+  unfolding later_of
+  refused_about id reason = record { no_request = refl; about = λ other. refl }
+
+-- a request that can be taken has a number of its own
+free : (o : Option Open) → request_fault o ≡ None → o ≡ None
+free None none = refl
+free (Some o) none = cc
 
 module _ (events : List Event) (ended : List Observed) (o : OutstandingValue) (time : ℕ) (tells : Tells events ended o) (later : o.time ≤ time) where
   -- the events and one more of a kind
@@ -66,8 +69,7 @@ module _ (events : List Event) (ended : List Observed) (o : OutstandingValue) (t
       → Takes kind time o.requests op after → Tell kind op after
   unfolding later_of
   tells_more (event_kind.Request r) op after is_event fault takes =
-      let may = free r (open_with r.id o.requests) fault in
-      tell_none (event_kind.Request r) op after _ takes.0 takes.1 (started events ended o time r tells later is_event may.0 may.1)
+      tell_none (event_kind.Request r) op after _ takes.0 takes.1 (started events ended o time r tells later is_event (free (open_with r.id o.requests) fault))
   tells_more (event_kind.Data p) op after is_event fault takes =
       tell_change (event_kind.Data p) p.id (λ o. still_open (with_data p o)) (λ o. ended_by time (with_data p o)) op after takes (data_about time p)
       (λ t by accepted outstanding fault found. data_leaves time t by accepted outstanding p (ap (data_fault p) (sym found) ∙ fault)) is_event fault
@@ -76,7 +78,10 @@ module _ (events : List Event) (ended : List Observed) (o : OutstandingValue) (t
       (λ t by accepted outstanding fault found. reply_leaves time t by accepted outstanding c (ap (reply_fault c) (sym found) ∙ fault)) is_event fault
   tells_more (event_kind.Dropped id) op after is_event fault takes =
       tell_change (event_kind.Dropped id) id (λ o. []) (λ o. None) op after takes (drop_about time id)
-      (λ t by accepted outstanding fault found. dropped_leaves time t by accepted outstanding id) is_event fault
+      (λ t by accepted outstanding fault found. drop_leaves time t by accepted outstanding (record { time = time; kind = event_kind.Dropped id }) refl refl refl) is_event fault
+  tells_more (event_kind.Refused id reason) op after is_event fault takes =
+      tell_change (event_kind.Refused id reason) id (λ o. []) (λ o. None) op after takes (refused_about time id reason)
+      (λ t by accepted outstanding fault found. drop_leaves time t by accepted outstanding (record { time = time; kind = event_kind.Refused id reason }) refl refl refl) is_event fault
   tells_more (event_kind.Word w) op after is_event fault takes =
       tell_none (event_kind.Word w) op after o.requests takes.0 takes.1 (passed events ended o (record { time = time; kind = event_kind.Word w }) tells later is_event refl (λ id. refl))
   tells_more (event_kind.Final w) op after is_event fault takes =

@@ -215,6 +215,9 @@ module _ (before : List Open) (first time : ℕ) (open_before : All (IsOpen firs
   stays_more (event_kind.Dropped id) op after takes =
       let e : Event = record { time = time; kind = event_kind.Dropped id } in
       one_changes (event_kind.Dropped id) id (λ o. []) (λ o. None) op after takes (All-nil (IsOpen time)) (All-nil (StaysOrStarts before e)) tt
+  stays_more (event_kind.Refused id reason) op after takes =
+      let e : Event = record { time = time; kind = event_kind.Refused id reason } in
+      one_changes (event_kind.Refused id reason) id (λ o. []) (λ o. None) op after takes (All-nil (IsOpen time)) (All-nil (StaysOrStarts before e)) tt
   stays_more (event_kind.Word w) op after takes = same_as (event_kind.Word w) op after takes.0 takes.1
   stays_more (event_kind.Final w) op after takes = same_as (event_kind.Final w) op after takes.0 takes.1
   stays_more (event_kind.Unknown addr len) op after takes = same_as (event_kind.Unknown addr len) op after takes.0 takes.1

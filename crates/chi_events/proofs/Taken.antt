@@ -8,19 +8,18 @@ use Rattle.std.proofs.lemmas.List.{map-append}
 use Rattle.std.proofs.lemmas.List.Elements.{All-cons, All-head, All-nil, All-push, All-tail, All-weaker, filter-append, filter_map-append}
 use Rattle.std.proofs.lemmas.List.Quantifiers.{all_pairs_push}
 use Rattle.std.proofs.lemmas.List.Sorted.{IsNonDecreasingBy-push}
-use Rattle.chi_reading.specs.Requests.{access_of}
 use Rattle.chi_trace.specs.declared.observed.Observed.{Observed}
 use Rattle.chi_events.specs.declared.event.Event.{Event}
 use Rattle.chi_events.specs.declared.event.EventKind.TheVariants as event_kind
 use Rattle.chi_events.specs.declared.event.Requested.{Requested}
 use Rattle.chi_events.specs.declared.outstanding.Open.{Open}
-use Rattle.chi_events.specs.Operations.{is_outstanding, is_whole, operation_of}
-use Rattle.chi_events.specs.Outstanding.{IsAccepted, IsEvent, OutstandingValue, Tells, open_of, open_with, refusal_fault}
+use Rattle.chi_events.specs.Operations.{is_outstanding, operation_of}
+use Rattle.chi_events.specs.Outstanding.{IsAccepted, IsEvent, OutstandingValue, Tells, open_of, open_with}
 use Rattle.chi_events.specs.Taking.{opened}
 use Rattle.chi_events.specs.Told.{Told, is_about, is_request_of, later_of, requested, told, told_by}
 use Rattle.chi_events.proofs.Extended.{IsAbout, has_id, told_at, told_none, told_request, with_event}
 use Rattle.chi_events.proofs.Later.{IsBy, Leaves}
-use Rattle.chi_events.proofs.Splits.{all_changed, all_item, middle_last, pairs_changed, pairs_item, split_at}
+use Rattle.chi_events.proofs.Splits.{Split, all_changed, all_item, middle_last, pairs_changed, pairs_item, split_at}
 use Rattle.chi_events.proofs.Steps.{new, request_accepted, request_leaves}
 
 -- what is told by a time
@@ -81,21 +80,35 @@ times_more : (events : List Event) (e : Event) (time : ℕ) → All (λ e. e.tim
 times_more events e time all later =
     All-push (λ x. x.time ≤ e.time) events e (All-weaker (λ x. x.time ≤ time) (λ x. x.time ≤ e.time) (λ x before. omega arith) events all) (omega arith)
 
+-- the outstanding request that an event is about, and what the events and this one tell
+pub record IsChanged (events : List Event) (e : Event) (a : List Open) (x : Open) (b : List Open) : Type 0 where
+  pub at : Split is_outstanding open_of (told events) a x b
+  pub apart : All (λ y. at.item.request.id ≡ y.request.id → ⊥) at.after
+  pub is : told (events ++ e ∷ []) ≡ at.before ++ with_event e at.item ∷ at.after
+
+pub changed_at : (events : List Event) (ended : List Observed) (o : OutstandingValue) (e : Event) (a : List Open) (x : Open) (b : List Open)
+    → Tells events ended o → o.requests ≡ a ++ x ∷ b → IsAbout x.id e → IsChanged events e a x b
+changed_at events ended o e a x b tells has about =
+    let s = split_at is_outstanding open_of (told events) a x b (sym tells.requests ∙ has) in
+    let id : s.item.request.id ≡ x.id = ap (λ (o : Open). o.id) s.same in
+    let after = pairs_item Parts s.before s.item s.after (subst (AllPairs Parts) s.is tells.last) in
+    let apart : All (λ y. s.item.request.id ≡ y.request.id → ⊥) s.after = λ k d below same. after k d below s.passes same in
+    let others : All (λ y. x.id ≡ y.request.id → ⊥) s.after = λ k d below same. apart k d below (id ∙ same) in
+    record { at = s; apart = apart; is = told_at x.id e events s.before s.item s.after about s.is id (no_later x.id s.after others) }
+
 -- the event is about an outstanding request
 pub changed : (events : List Event) (ended : List Observed) (o : OutstandingValue) (e : Event) (a : List Open) (x : Open) (b left : List Open) (op : Option Observed)
     → Tells events ended o → o.requests ≡ a ++ x ∷ b → IsAbout x.id e → o.time ≤ e.time → IsEvent e
     → ((t : Told) → IsBy e.time t → IsAccepted t → is_outstanding t ≡ true → open_of t ≡ x → Leaves (with_event e t) left op × IsAccepted (with_event e t))
     → Tells (events ++ e ∷ []) (ended ++ option_to_list op) (record { requests = a ++ (left ++ b); time = e.time })
 changed events ended o e a x b left op tells has about later is_event step =
-    let s = split_at is_outstanding open_of (told events) a x b (sym tells.requests ∙ has) in
+    let there = changed_at events ended o e a x b tells has about in
+    let s = there.at in
     let t = s.item in
-    let id : t.request.id ≡ x.id = ap (λ (o : Open). o.id) s.same in
+    let is = there.is in
     let by = subst (All (IsBy e.time)) s.is (all_by e.time events (All-weaker (λ x. x.time ≤ o.time) (λ x. x.time ≤ e.time) (λ x before. omega arith) events tells.times)) in
     let accepted = subst (All IsAccepted) s.is tells.accepted in
     let last = subst (AllPairs Parts) s.is tells.last in
-    let after = pairs_item Parts s.before t s.after last in
-    let apart : All (λ y. x.id ≡ y.request.id → ⊥) s.after = λ k d below same. after k d below s.passes (id ∙ same) in
-    let is = told_at x.id e events s.before t s.after about s.is id (no_later x.id s.after apart) in
     let done = step t (all_item (IsBy e.time) s.before t s.after by) (all_item IsAccepted s.before t s.after accepted) s.passes s.same in
     let first = filter_map operation_of (filter (λ x. not (is_outstanding x)) s.before) in
     let rest = filter_map operation_of (filter (λ x. not (is_outstanding x)) s.after) in
@@ -115,7 +128,7 @@ changed events ended o e a x b left op tells has about later is_event step =
           (sym (ap (λ (l : List Told). filter_map operation_of (filter (λ x. not (is_outstanding x)) l)) is
           ∙ ended_middle (λ x. not (is_outstanding x)) operation_of s.before (with_event e t) s.after ∙ ap (λ (l : List Observed). first ++ (l ++ rest)) done.0.ends))
           (middle_last first op rest ended ends);
-      last = subst (AllPairs Parts) (sym is) (pairs_changed Parts s.before t (with_event e t) s.after last (λ z apart. apart) (λ k d below outstanding. after k d below s.passes));
+      last = subst (AllPairs Parts) (sym is) (pairs_changed Parts s.before t (with_event e t) s.after last (λ z apart. apart) (λ k d below outstanding. there.apart k d below));
       accepted = subst (All IsAccepted) (sym is) (all_changed IsAccepted s.before t (with_event e t) s.after accepted done.1);
     }
 
@@ -140,10 +153,10 @@ not_open n (t ∷ ts) none =
 -- the event is a request
 pub started : (events : List Event) (ended : List Observed) (o : OutstandingValue) (time : ℕ) (r : Requested) → Tells events ended o → o.time ≤ time
     → IsEvent (record { time = time; kind = event_kind.Request r })
-    → open_with r.id o.requests ≡ None → refusal_fault (is_whole r) (access_of None r.asked) ≡ None
+    → open_with r.id o.requests ≡ None
     → Tells (events ++ record { time = time; kind = event_kind.Request r } ∷ []) ended (record { requests = o.requests ++ opened time r ∷ []; time = time })
 unfolding later_of
-started events ended o time r tells later is_event none free =
+started events ended o time r tells later is_event none =
     let e : Event = record { time = time; kind = event_kind.Request r } in
     let is = told_request e r events refl (λ id. nothing (r.id == id)) in
     let leaves = request_leaves time r in
@@ -160,7 +173,7 @@ started events ended o time r tells later is_event none free =
           ∙ append-nil (filter_map operation_of (filter (λ x. not (is_outstanding x)) (told events))))) tells.ends;
       last = subst (AllPairs Parts) (sym is) (all_pairs_push Parts (told events) (new time r) tells.last
           (not_open r.id (told events) (ap (open_with r.id) (sym tells.requests) ∙ none)));
-      accepted = subst (All IsAccepted) (sym is) (All-push IsAccepted (told events) (new time r) tells.accepted (request_accepted time r free));
+      accepted = subst (All IsAccepted) (sym is) (All-push IsAccepted (told events) (new time r) tells.accepted (request_accepted time r));
     }
   where
     nothing : (b : Bool) → ◌≡◌ {A = List Event} (if b then [] else []) []

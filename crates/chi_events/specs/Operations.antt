@@ -1,9 +1,11 @@
 -- the operations that events tell
-use Rattle.std.specs.Prelude.{ℕ, ◌-◌, ◌^◌, ◌==◌, max, Bool, true, false, not, ◌||◌, if◌then◌else◌, List, [], ◌∷◌, Option, Some, None, is_some, option_map, option_and_then, filter_map}
+use Rattle.std.specs.Prelude.{ℕ, ◌-◌, ◌^◌, ◌==◌, max, Bool, true, false, not, ◌||◌, if◌then◌else◌, List, [], ◌∷◌, Option, Some, None, is_some, option_map, option_and_then, filter_map, Result, Ok, Err}
 use Rattle.std.specs.List.{list_any}
-use Rattle.std.specs.Option.{unwrap_or}
+use Rattle.std.specs.Option.{option_or, unwrap_or}
 use Rattle.std.specs.Result.{result_ok}
 use Rattle.chi_fields.specs.Access.{Access}
+use Rattle.chi_fields.specs.declared.refusal.Refusal.{Refusal}
+use Rattle.chi_fields.specs.declared.refusal.Refusal.TheVariants as refusal
 use Rattle.chi_lanes.specs.declared.reply.Reply.{Reply}
 use Rattle.chi_reading.specs.Requests.{access_of}
 use Rattle.chi_reading.specs.declared.asked.Asked.{Asked}
@@ -38,11 +40,13 @@ abbrev pub reply_at : ℕ → EventKind → Option ReplyAt
 reply_at time (event_kind.Reply c) = Some (record { time = time; reply = c.reply })
 reply_at time _ = None
 
+-- the request took no effect
 abbrev pub is_drop : EventKind → Bool
 is_drop (event_kind.Dropped id) = true
+is_drop (event_kind.Refused id reason) = true
 is_drop _ = false
 
--- what is told of a request: its first data, its first completion, and whether it was dropped
+-- what is told of a request: its first data, its first completion, and whether it was dropped or refused
 abbrev pub data_told : Told → Option DataAt
 data_told t = first (filter_map (λ e. data_at e.time e.kind) t.later)
 
@@ -74,6 +78,20 @@ access_told t =
     if is_whole t.request then decided_at t.time t.request.asked
     else option_and_then (λ d. decided_at d.time (with_packet t.request.asked d.packet)) (data_told t)
 
+-- why a home of all addresses refuses a request, as far as that is decided: not by its byte enables, before its data have come
+abbrev pub refusal_of : Bool → Result Access Refusal → Option Refusal
+refusal_of whole (Ok access) = None
+refusal_of false (Err refusal.BadByteEnable) = None
+refusal_of whole (Err reason) = Some reason
+
+abbrev pub refusal_with : Asked → Option DataAt → Option Refusal
+refusal_with a None = refusal_of false (access_of None a)
+refusal_with a (Some d) = refusal_of true (access_of None (with_packet a d.packet))
+
+-- the same of what is told of a request
+abbrev pub refusal_told : Told → Option Refusal
+refusal_told t = if is_whole t.request then refusal_of true (access_of None t.request.asked) else refusal_with t.request.asked (data_told t)
+
 -- its data are still to be told
 abbrev pub waits_for_data : Told → Bool
 waits_for_data t = not (is_whole t.request || is_some (data_told t))
@@ -86,8 +104,8 @@ ended_at t = option_and_then (λ a. option_map (λ r. max a.time r.time) (reply_
 abbrev pub reply_of : Told → Option Reply
 reply_of t = option_and_then (λ end. option_and_then (λ r. r.reply) (reply_told t)) (ended_at t)
 
--- The operation that a request is: none where it was dropped, or where its data have not come. One that has not ended was open
--- when the events ended.
+-- The operation that a request is: none where it was dropped or refused, where its data have not come, or where a home of all
+-- addresses refuses it. One that has not ended was open when the events ended.
 abbrev pub operation_of : Told → Option Observed
 operation_of t =
     if is_dropped t then None
@@ -97,6 +115,22 @@ operation_of t =
 abbrev pub operations : List Event → List Observed
 operations events = filter_map operation_of (told events)
 
--- the request is outstanding: neither dropped nor ended
+-- the request is outstanding: neither dropped nor refused nor ended
 abbrev pub is_outstanding : Told → Bool
 is_outstanding t = not (is_dropped t || is_some (ended_at t))
+
+-- that the request was refused, and the reason, where it is told
+abbrev pub refused_at : EventKind → Option (Option Refusal)
+refused_at (event_kind.Refused id reason) = Some reason
+refused_at _ = None
+
+abbrev pub refused_told : Told → Option (Option Refusal)
+refused_told t = first (filter_map (λ e. refused_at e.kind) t.later)
+
+-- why a request was refused: for the reason that is told, or else for the one that a home of all addresses has, if it has one
+abbrev pub reason_of : Told → Option Refusal
+reason_of t = option_and_then (λ given. option_or given (refusal_told t)) (refused_told t)
+
+-- why requests were refused, in the order in which they were taken
+abbrev pub refusals_told : List Event → List Refusal
+refusals_told events = filter_map reason_of (told events)

@@ -1,12 +1,16 @@
 -- requests that are outstanding, and why an event cannot come next
-use Rattle.std.specs.Prelude.{◌≡◌, ℕ, ◌+◌, ◌-◌, ◌^◌, ◌<◌, ◌≤◌, ◌==◌, ◌⊎◌, nat_lt, Bool, true, false, not, if◌then◌else◌, List, length, slice_index, map, filter, filter_map, find, All, AllPairs, Contains, Option, Some, None, IfSome, is_some, option_map, Result, Ok, Err, IsPermutation}
+use Rattle.std.specs.Prelude.{◌≡◌, ℕ, ◌+◌, ◌-◌, ◌^◌, ◌<◌, ◌≤◌, ◌==◌, ◌⊎◌, nat_lt, Bool, true, false, not, ◌&&◌, ◌||◌, if◌then◌else◌, List, length, slice_index, map, filter, filter_map, find, All, AllPairs, Contains, Option, Some, None, IfSome, is_some, is_none, option_map, option_and_then, Result, IsPermutation}
 use Rattle.std.specs.List.Sorted.{IsNonDecreasingBy}
+use Rattle.std.specs.Option.{option_or}
+use Rattle.std.specs.Result.{result_err, result_ok}
 use Rattle.chi_fields.specs.Access.{Access}
+use Rattle.chi_fields.specs.Extent.{Extent}
 use Rattle.chi_fields.specs.declared.refusal.Refusal.{Refusal}
 use Rattle.chi_fields.specs.declared.refusal.Refusal.TheVariants as refusal
 use Rattle.chi_lanes.specs.declared.reply.Reply.{Reply}
 use Rattle.chi_reading.specs.Replies.{reply_fault as seen_fault}
 use Rattle.chi_reading.specs.Requests.{access_of}
+use Rattle.chi_reading.specs.declared.asked.Asked.{Asked}
 use Rattle.chi_trace.specs.declared.observed.Observed.{Observed}
 use Rattle.chi_events.specs.declared.event.Completion.{Completion}
 use Rattle.chi_events.specs.declared.event.Event.{Event}
@@ -17,7 +21,7 @@ use Rattle.chi_events.specs.declared.event.Requested.{Requested}
 use Rattle.chi_events.specs.declared.fault.EventFault.{EventFault}
 use Rattle.chi_events.specs.declared.fault.EventFault.TheVariants as fault
 use Rattle.chi_events.specs.declared.outstanding.Open.{Open}
-use Rattle.chi_events.specs.Operations.{access_told, is_outstanding, is_whole, operation_of, reply_told, waits_for_data, with_packet}
+use Rattle.chi_events.specs.Operations.{access_told, is_outstanding, operation_of, refusal_of, refusal_told, reply_told, waits_for_data, with_packet}
 use Rattle.chi_events.specs.Told.{Told, requested, told}
 
 -- the outstanding requests in the order in which they were taken, and the time of the last event
@@ -37,6 +41,8 @@ open_of t = record {
   id = t.request.id;
   start = t.time;
   asked = t.request.asked;
+  is_whole = not (waits_for_data t);
+  refusal = refusal_told t;
   access = option_map (λ a. a.access) (access_told t);
   completion = option_map (λ r. r.reply) (reply_told t);
 }
@@ -69,9 +75,9 @@ pub record IsEvent (e : Event) : Type 0 where
   pub packet : HasPacket e.kind
   pub word : HasWord e.kind
 
--- the request was not refused: it has an access, or waits for its data
+-- a request whose completion has left was accepted: a home of all addresses does not refuse it, as far as that is decided
 pub record IsAccepted (t : Told) : Type 0 where
-  pub decided : access_told t ≡ None → waits_for_data t ≡ true
+  pub decided : is_some (reply_told t) ≡ true → refusal_told t ≡ None
 
 -- These requests are outstanding after the events, and these operations had ended, in some order. An outstanding request is the
 -- last of its number.
@@ -93,48 +99,88 @@ abbrev pub request_about : List Open → EventKind → Option Open
 request_about requests (event_kind.Data p) = open_with p.id requests
 request_about requests (event_kind.Reply c) = open_with c.id requests
 request_about requests (event_kind.Dropped id) = open_with id requests
+request_about requests (event_kind.Refused id reason) = open_with id requests
 request_about requests _ = None
 
--- why a home takes no request: what its data may still mend is no reason before they have come
-abbrev pub refusal_fault : Bool → Result Access Refusal → Option EventFault
-refusal_fault whole (Ok access) = None
-refusal_fault false (Err refusal.BadByteEnable) = None
-refusal_fault whole (Err refused) = Some (fault.Refused refused)
+abbrev pub request_fault : Option Open → Option EventFault
+request_fault (Some o) = Some fault.NumberTaken
+request_fault None = None
 
-abbrev pub request_fault : Requested → Option Open → Option EventFault
-request_fault r (Some o) = Some fault.NumberTaken
-request_fault r None = refusal_fault (is_whole r) (access_of None r.asked)
+-- Why a request has no such completion. Once that has left, a home has accepted the request, and once its data have come too, the
+-- reply is one of its access.
+abbrev pub ended_fault : Option Refusal → Option Access → Option (Option Reply) → Option EventFault
+ended_fault refused access None = None
+ended_fault (Some reason) access (Some seen) = Some (fault.Refused reason)
+ended_fault None None (Some seen) = None
+ended_fault None (Some access) (Some seen) = option_map fault.Reply (seen_fault access seen)
 
--- why a request has no such reply: that is known once its data have come and its completion has left
-abbrev pub ended_fault : Option Access → Option (Option Reply) → Option EventFault
-ended_fault (Some access) (Some seen) = option_map fault.Reply (seen_fault access seen)
-ended_fault access completion = None
-
--- why a request does not end with its data, with which a home decides so
+-- the same with its data, with which a home decides so
 abbrev pub decided_fault : Option (Option Reply) → Result Access Refusal → Option EventFault
-decided_fault completion (Ok access) = ended_fault (Some access) completion
-decided_fault completion (Err refused) = Some (fault.Refused refused)
+decided_fault completion decision = ended_fault (refusal_of true decision) (result_ok decision) completion
 
 abbrev pub data_fault : Packet → Option Open → Option EventFault
 data_fault p None = Some fault.NotOutstanding
-data_fault p (Some o) = if is_some o.access then Some fault.DataTwice else decided_fault o.completion (access_of None (with_packet o.asked p))
+data_fault p (Some o) = if o.is_whole then Some fault.DataTwice else decided_fault o.completion (access_of None (with_packet o.asked p))
 
 abbrev pub reply_fault : Completion → Option Open → Option EventFault
 reply_fault c None = Some fault.NotOutstanding
-reply_fault c (Some o) = if is_some o.completion then Some fault.ReplyTwice else ended_fault o.access (Some c.reply)
+reply_fault c (Some o) = if is_some o.completion then Some fault.ReplyTwice else ended_fault o.refusal o.access (Some c.reply)
 
 abbrev pub drop_fault : Option Open → Option EventFault
 drop_fault None = Some fault.NotOutstanding
 drop_fault (Some o) = None
 
+-- two reasons are one
+abbrev pub is_same : Refusal → Refusal → Bool
+is_same refusal.UnknownOpcode refusal.UnknownOpcode = true
+is_same refusal.ReservedSize refusal.ReservedSize = true
+is_same refusal.SizeOutOfProfile refusal.SizeOutOfProfile = true
+is_same refusal.Misaligned refusal.Misaligned = true
+is_same refusal.OutOfRegion refusal.OutOfRegion = true
+is_same refusal.BadByteEnable refusal.BadByteEnable = true
+is_same reason other = false
+
+abbrev pub is_given : Refusal → Option Refusal → Bool
+is_given reason None = false
+is_given reason (Some other) = is_same reason other
+
+-- a line of 64 bytes that does not hold an address
+abbrev pub line_without : ℕ → Extent
+line_without addr = record { base = if nat_lt addr 64 then 64 else 0; granules = 8 }
+
+-- why a home refuses a request whose operand is not in its region
+abbrev pub refusal_elsewhere : Asked → Option Refusal
+refusal_elsewhere a = result_err (access_of (Some (line_without a.addr)) a)
+
+-- A home may refuse the request for this reason: a home of all addresses, or one of a region without the operand, or either for
+-- byte enables that are still to come.
+abbrev pub is_reason : Open → Refusal → Bool
+is_reason o reason =
+    is_given reason o.refusal || is_given reason (refusal_elsewhere o.asked)
+    || (not o.is_whole && is_none o.refusal && is_same reason refusal.BadByteEnable)
+
+abbrev pub reason_fault : Open → Option Refusal → Option EventFault
+reason_fault o None = None
+reason_fault o (Some reason) = if is_reason o reason then None else Some fault.NotRefusedSo
+
+abbrev pub refused_fault : Option Refusal → Option Open → Option EventFault
+refused_fault reason None = Some fault.NotOutstanding
+refused_fault reason (Some o) = if is_some o.completion then Some fault.RefusedAfterReply else reason_fault o reason
+
 abbrev pub kind_fault : List Open → EventKind → Option EventFault
-kind_fault requests (event_kind.Request r) = request_fault r (open_with r.id requests)
+kind_fault requests (event_kind.Request r) = request_fault (open_with r.id requests)
 kind_fault requests (event_kind.Data p) = data_fault p (open_with p.id requests)
 kind_fault requests (event_kind.Reply c) = reply_fault c (open_with c.id requests)
 kind_fault requests (event_kind.Dropped id) = drop_fault (open_with id requests)
+kind_fault requests (event_kind.Refused id reason) = refused_fault reason (open_with id requests)
 kind_fault requests (event_kind.Word w) = None
 kind_fault requests (event_kind.Final w) = None
 kind_fault requests (event_kind.Unknown addr len) = None
+
+-- why a home refused a request, where the event tells that it did
+abbrev pub refusal_by : List Open → EventKind → Option Refusal
+refusal_by requests (event_kind.Refused id reason) = option_or reason (option_and_then (λ o. o.refusal) (open_with id requests))
+refusal_by requests _ = None
 
 -- why the event cannot come next, if it cannot
 abbrev pub fault_of : OutstandingValue → Event → Option EventFault

@@ -1,5 +1,5 @@
 -- what an event does to the outstanding requests
-use Rattle.std.specs.Prelude.{◌≡◌, ℕ, ◌&&◌, if◌then◌else◌, List, [], ◌∷◌, ◌++◌, Option, Some, None, is_some, option_map, option_and_then}
+use Rattle.std.specs.Prelude.{◌≡◌, ℕ, ◌&&◌, if◌then◌else◌, true, List, [], ◌∷◌, ◌++◌, Option, Some, None, is_some, option_map, option_and_then}
 use Rattle.std.specs.Result.{result_ok}
 use Rattle.chi_fields.specs.Access.{Access}
 use Rattle.chi_reading.specs.Requests.{access_of}
@@ -10,7 +10,7 @@ use Rattle.chi_events.specs.declared.event.Completion.{Completion}
 use Rattle.chi_events.specs.declared.event.Packet.{Packet}
 use Rattle.chi_events.specs.declared.event.Requested.{Requested}
 use Rattle.chi_events.specs.declared.outstanding.Open.{Open}
-use Rattle.chi_events.specs.Operations.{is_whole, with_packet}
+use Rattle.chi_events.specs.Operations.{is_whole, refusal_of, with_packet}
 use Rattle.chi_events.specs.Outstanding.{open_with}
 
 -- the access of a request that comes with all the data that it needs
@@ -23,13 +23,16 @@ opened time r = record {
   id = r.id;
   start = time;
   asked = r.asked;
+  is_whole = is_whole r;
+  refusal = refusal_of (is_whole r) (access_of None r.asked);
   access = first_access_of r;
   completion = None;
 }
 
 -- the request with its data, or with its completion
 abbrev pub with_data : Packet → Open → Open
-with_data p o = record o { access = result_ok (access_of None (with_packet o.asked p)) }
+with_data p o =
+    record o { is_whole = true; refusal = refusal_of true (access_of None (with_packet o.asked p)); access = result_ok (access_of None (with_packet o.asked p)) }
 
 abbrev pub with_reply : Completion → Open → Open
 with_reply c o = record o { completion = Some c.reply }
@@ -60,6 +63,7 @@ Takes (event_kind.Request r) time before ended after = (ended ≡ None) × (afte
 Takes (event_kind.Data p) time before ended after = Changes p.id (λ o. still_open (with_data p o)) (λ o. ended_by time (with_data p o)) before ended after
 Takes (event_kind.Reply c) time before ended after = Changes c.id (λ o. still_open (with_reply c o)) (λ o. ended_by time (with_reply c o)) before ended after
 Takes (event_kind.Dropped id) time before ended after = Changes id (λ o. []) (λ o. None) before ended after
+Takes (event_kind.Refused id reason) time before ended after = Changes id (λ o. []) (λ o. None) before ended after
 Takes (event_kind.Word w) time before ended after = (ended ≡ None) × (after ≡ before)
 Takes (event_kind.Final w) time before ended after = (ended ≡ None) × (after ≡ before)
 Takes (event_kind.Unknown addr len) time before ended after = (ended ≡ None) × (after ≡ before)

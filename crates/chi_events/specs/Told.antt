@@ -2,7 +2,7 @@
 use Rattle.std.specs.Prelude.{ℕ, ◌==◌, ◌++◌, Bool, false, if◌then◌else◌, List, [], ◌∷◌, Option, Some, None}
 use Rattle.chi_events.specs.declared.event.Event.{Event}
 use Rattle.chi_events.specs.declared.event.EventKind.{EventKind}
-use Rattle.chi_events.specs.declared.event.EventKind.TheVariants.{Request, Data, Reply, Dropped, Word, Final, Unknown}
+use Rattle.chi_events.specs.declared.event.EventKind.TheVariants.{Request, Data, Reply, Dropped, Refused, Word, Final, Unknown}
 use Rattle.chi_events.specs.declared.event.Requested.{Requested}
 
 -- the request that was taken, where one was
@@ -11,6 +11,7 @@ requested (Request r) = Some r
 requested (Data p) = None
 requested (Reply c) = None
 requested (Dropped id) = None
+requested (Refused id reason) = None
 requested (Word w) = None
 requested (Final w) = None
 requested (Unknown addr len) = None
@@ -29,6 +30,7 @@ kind_is_about id (Request r) = false
 kind_is_about id (Data p) = p.id == id
 kind_is_about id (Reply c) = c.id == id
 kind_is_about id (Dropped other) = other == id
+kind_is_about id (Refused other reason) = other == id
 kind_is_about id (Word w) = false
 kind_is_about id (Final w) = false
 kind_is_about id (Unknown addr len) = false

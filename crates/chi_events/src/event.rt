@@ -1,5 +1,6 @@
 //! What a monitor tells of a home while a simulation runs.
 
+use chi_fields::Refusal;
 use chi_lanes::Reply;
 use chi_reading::Asked;
 use chi_verdict::GranuleWord;
@@ -39,7 +40,8 @@ pub struct Completion {
 /// - `Request`: a request was taken.
 /// - `Data`: its data have come.
 /// - `Reply`: its completion has left.
-/// - `Dropped`: the request with this number took no effect. It was refused or retried, or its data were cancelled.
+/// - `Dropped`: the request with this number took no effect. It was retried, or its data were cancelled.
+/// - `Refused`: it took no effect, since the home refused it, for this reason where one is told.
 /// - `Word`: the word of a granule before its first request.
 /// - `Final`: the word of a granule after its last request.
 /// - `Unknown`: something that these events do not tell may have written the `length` bytes from `addr` on.
@@ -49,6 +51,7 @@ pub enum EventKind {
     Data(Packet),
     Reply(Completion),
     Dropped { id: u64 },
+    Refused { id: u64, reason: Option<Refusal> },
     Word(GranuleWord),
     Final(GranuleWord),
     Unknown { addr: u64, length: u64 },

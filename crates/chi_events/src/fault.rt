@@ -11,7 +11,9 @@ use thiserror::Error;
 /// - `NotOutstanding`: no request with this number is outstanding.
 /// - `DataTwice`: the request has its data already, or needs none.
 /// - `ReplyTwice`: its completion has left already.
-/// - `Refused`: `decode` refuses the request, so that no home can have taken it.
+/// - `Refused`: the request's completion has left, and `decode` refuses it, so that no home can have accepted it.
+/// - `NotRefusedSo`: no home refuses the request for this reason.
+/// - `RefusedAfterReply`: the home has accepted the request, since its completion has left.
 /// - `Reply`: by it the data of a request have come and its completion has left, and no home gives that request this reply,
 ///   whatever the memory holds.
 ///
@@ -32,6 +34,10 @@ pub enum EventFault {
     ReplyTwice,
     #[error("is refused: {}", refusal_name(*.0))]
     Refused(Refusal),
+    #[error("is not refused so")]
+    NotRefusedSo,
+    #[error("refuses a request that has a reply")]
+    RefusedAfterReply,
     #[error("ends a request that {0}")]
     Reply(ReplyFault),
     #[error("no memory")]

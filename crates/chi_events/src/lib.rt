@@ -2,6 +2,7 @@
 #![tactic(auto)]
 
 mod bounds;
+mod deciding;
 mod event;
 mod fault;
 pub mod laws;

@@ -1,34 +1,38 @@
 //! The requests that are outstanding, as events come.
 
-ghost use Rattle.std.specs.Prelude.{◌≡◌, ◌≢◌, ℕ, [], ◌∷◌, ◌++◌, List, All, None, Some, IfErr, IfOk, IfSome, option_map, option_to_list, filter_map};
+ghost use Rattle.std.specs.Prelude.{◌≡◌, ◌≢◌, ℕ, [], ◌∷◌, ◌++◌, List, All, None, Some, IfErr, IfOk, IfSome, option_map, option_to_list, filter_map, IsPermutation};
 ghost use Rattle.chi_trace.specs.declared.observed.Observed.{Observed};
 ghost use Rattle.chi_events.specs.declared.event.Event.{Event};
-ghost use Rattle.chi_events.specs.Outstanding.{IsEndOf, IsEndOfAbout, IsOpen, StaysOrStarts, Tells, fault_of, open_operation, request_about};
+ghost use Rattle.chi_events.specs.Operations.{refusals_told};
+ghost use Rattle.chi_events.specs.Outstanding.{IsEndOf, IsEndOfAbout, IsOpen, StaysOrStarts, Tells, fault_of, open_operation, refusal_by, request_about};
 
 use crate::bounds::event_fits;
 use crate::event::Event;
 use crate::fault::EventFault;
-use crate::taking::{request_about, take_kind};
-use chi_fields::Access;
+use crate::taking::{refusal_by, request_about, take_kind};
+use chi_fields::{Access, Refusal};
 use chi_lanes::Reply;
 use chi_reading::Asked;
 use chi_trace::Observed;
 use std::alloc::Global;
 use std::marker::Model;
 
-/// An outstanding request: its access, once its data have come, and its completion, once that has left. `completion` is
-/// `Some(None)` where it does not say what was done.
+/// An outstanding request. `is_whole` says that its data have come, or that it needs none; `access` is its access from then on.
+/// `refusal` is why a home of all addresses refuses it, as far as that is decided: not by its byte enables, before its data have
+/// come. `completion` is there once it has left, and `Some(None)` where it does not say what was done.
 #[derive(Clone, Copy, Debug)]
 pub struct Open {
     pub id: u64,
     pub start: u64,
     pub asked: Asked,
+    pub is_whole: bool,
+    pub refusal: Option<Refusal>,
     pub access: Option<Access>,
     pub completion: Option<Option<Reply>>,
 }
 
 impl Open {
-    /// The operation that it is, if its data have come: one that is open.
+    /// The operation that it is, if its data have come and no home refuses it: one that is open.
     ///
     /// ```
     /// let op = open.operation();
@@ -101,6 +105,7 @@ impl Outstanding {
     /// ```
     pub fn take(&mut self, event: &Event) -> Result<Option<Observed>, EventFault>
         ensures tells { IfOk result (λ ended. (events : List Event) (past : List Observed) → Tells events past self.old → Tells (events ++ event.now ∷ []) (past ++ option_to_list ended) self.new) }
+        ensures refusals { IfOk result (λ ended. (events : List Event) (past : List Observed) → Tells events past self.old → IsPermutation (refusals_told (events ++ event.now ∷ [])) (refusals_told events ++ option_to_list (refusal_by self.old.requests event.now.kind))) }
         ensures taken { IfOk result (λ ended. fault_of self.old event.now ≡ None) }
         ensures fault { IfErr result (λ fault. fault ≢ EventFault.Memory → fault_of self.old event.now ≡ Some fault) }
         ensures failed { IfErr result (λ fault. self.new ≡ self.old) }
@@ -128,6 +133,20 @@ impl Outstanding {
     {
         let request = request_about(&self.requests, &event.kind)?;
         Some(request.asked)
+    }
+
+    /// Why a home refused a request, where the event tells that one did: the reason that is told, or else the one for which a
+    /// home of all addresses refuses the request.
+    ///
+    /// ```
+    /// if let Some(reason) = outstanding.refusal(&event) {
+    ///     count(reason);
+    /// }
+    /// ```
+    pub fn refusal(&self, event: &Event) -> Option<Refusal>
+        ensures { result ≡ refusal_by self.now.requests event.now.kind }
+    {
+        refusal_by(&self.requests, &event.kind)
     }
 
     /// The requests that are outstanding, in the order in which they were taken.

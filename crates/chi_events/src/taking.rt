@@ -1,16 +1,15 @@
 //! What an event does to the outstanding requests.
 
 ghost use Rattle.std.specs.Prelude.{◌≡◌, ◌≢◌, ◌+◌, ◌<◌, ◌==◌, ◌++◌, [], ◌∷◌, Some, None, IfErr, IfOk, length, take, drop, position};
-ghost use Rattle.chi_reading.specs.Requests.{access_of};
-ghost use Rattle.chi_events.specs.Operations.{is_whole};
-ghost use Rattle.chi_events.specs.Outstanding.{data_fault, ended_fault, kind_fault, open_with, refusal_fault, reply_fault, request_about, request_fault};
-ghost use Rattle.chi_events.specs.Taking.{Takes, ended_by, first_access_of, still_open, with_data, with_reply};
+ghost use Rattle.chi_events.specs.Outstanding.{data_fault, ended_fault, kind_fault, open_with, refusal_by, refused_fault, reply_fault, request_about};
+ghost use Rattle.chi_events.specs.Taking.{Takes, ended_by, still_open, with_data, with_reply};
 
+use crate::deciding::{is_reason, opened, with_data};
 use crate::event::{Completion, EventKind, Packet, Requested};
 use crate::fault::EventFault;
 use crate::outstanding::Open;
-use chi_fields::{Access, Refusal};
-use chi_reading::{Asked, access, reply_fault};
+use chi_fields::Refusal;
+use chi_reading::reply_fault;
 use chi_trace::Observed;
 
 /// The place of the outstanding request with a number.
@@ -35,32 +34,23 @@ pub(crate) fn request_about(requests: &[Open], kind: &EventKind) -> Option<Open>
         EventKind::Data(packet) => request_with(requests, packet.id),
         EventKind::Reply(completion) => request_with(requests, completion.id),
         EventKind::Dropped { id } => request_with(requests, *id),
+        EventKind::Refused { id, reason: _ } => request_with(requests, *id),
         _ => None,
     }
 }
 
-/// The access of a request that comes with all the data that it needs; none, where they are still to come.
-fn first_access(requested: &Requested) -> Result<Option<Access>, EventFault>
-    ensures accepted { IfOk result (λ found. (refusal_fault (is_whole requested.now) (access_of None requested.now.asked) ≡ None) × (found ≡ first_access_of requested.now)) }
-    ensures refused { IfErr result (λ fault. refusal_fault (is_whole requested.now) (access_of None requested.now.asked) ≡ Some fault) }
+/// Why a home refused a request, where the event tells that one did.
+pub(crate) fn refusal_by(requests: &[Open], kind: &EventKind) -> Option<Refusal>
+    ensures { result ≡ refusal_by requests.now kind.now }
 {
-    let whole = requested.has_data || requested.asked.opcode == 0x04;
-    match access(&requested.asked, &None) {
-        Ok(access) => Ok(if whole { Some(access) } else { None }),
-        Err(Refusal::BadByteEnable) if !whole => Ok(None),
-        Err(refusal) => Err(EventFault::Refused(refusal)),
+    match kind {
+        EventKind::Refused {
+            id: _,
+            reason: Some(reason),
+        } => Some(*reason),
+        EventKind::Refused { id, reason: None } => request_with(requests, *id)?.refusal,
+        _ => None,
     }
-}
-
-/// The same, where no outstanding request has its number.
-fn accepted(requests: &[Open], requested: &Requested) -> Result<Option<Access>, EventFault>
-    ensures accepted { IfOk result (λ found. (request_fault requested.now (open_with requested.now.id requests.now) ≡ None) × (found ≡ first_access_of requested.now)) }
-    ensures refused { IfErr result (λ fault. request_fault requested.now (open_with requested.now.id requests.now) ≡ Some fault) }
-{
-    if place_of(requests, requested.id).is_some() {
-        return Err(EventFault::NumberTaken);
-    }
-    first_access(requested)
 }
 
 /// Takes a request.
@@ -69,34 +59,32 @@ fn take_request(requests: &mut Vec<Open>, time: u64, request: &Requested) -> Res
     ensures fault { IfErr result (λ fault. fault ≢ EventFault.Memory → kind_fault requests.old.items (EventKind.Request request.now) ≡ Some fault) }
     ensures failed { IfErr result (λ fault. requests.new.items ≡ requests.old.items) }
 {
-    let access = accepted(requests, request)?;
-    let open = Open {
-        id: request.id,
-        start: time,
-        asked: request.asked,
-        access,
-        completion: None,
-    };
-    match requests.push(open) {
+    if place_of(requests, request.id).is_some() {
+        return Err(EventFault::NumberTaken);
+    }
+    match requests.push(opened(request, time)) {
         Ok(()) => Ok(()),
         Err(_) => Err(EventFault::Memory),
     }
 }
 
-/// Why a request has no such reply, where its data have come and its completion has left.
+/// Why a request has no such completion, where that has left.
 fn ended_fault(request: &Open) -> Option<EventFault>
-    ensures { result ≡ ended_fault request.now.access request.now.completion }
+    ensures { result ≡ ended_fault request.now.refusal request.now.access request.now.completion }
 {
-    let access = request.access?;
     let seen = request.completion?;
+    if let Some(refusal) = request.refusal {
+        return Some(EventFault::Refused(refusal));
+    }
+    let access = request.access?;
     let fault = reply_fault(&access, &seen)?;
     Some(EventFault::Reply(fault))
 }
 
-/// A request, unless it has a reply that no home gives it.
+/// A request, unless it has a completion that no home gives it.
 fn fitting(request: Open) -> Result<Open, EventFault>
-    ensures fits { IfOk result (λ now. (ended_fault request.access request.completion ≡ None) × (now ≡ request)) }
-    ensures fault { IfErr result (λ fault. ended_fault request.access request.completion ≡ Some fault) }
+    ensures fits { IfOk result (λ now. (ended_fault request.refusal request.access request.completion ≡ None) × (now ≡ request)) }
+    ensures fault { IfErr result (λ fault. ended_fault request.refusal request.access request.completion ≡ Some fault) }
 {
     match ended_fault(&request) {
         Some(fault) => Err(fault),
@@ -146,29 +134,18 @@ fn outstanding_at(requests: &[Open], id: u64) -> Result<usize, EventFault>
 }
 
 /// A request with its data, where it waits for them.
-fn with_data(request: &Open, packet: &Packet) -> Result<Open, EventFault>
+fn data_taken(request: &Open, packet: &Packet) -> Result<Open, EventFault>
     ensures taken { IfOk result (λ now. (data_fault packet.now (Some request.now) ≡ None) × (now ≡ with_data packet.now request.now)) }
     ensures fault { IfErr result (λ fault. data_fault packet.now (Some request.now) ≡ Some fault) }
 {
-    if request.access.is_some() {
+    if request.is_whole {
         return Err(EventFault::DataTwice);
     }
-    let asked = Asked {
-        be: packet.be,
-        lanes: packet.lanes,
-        ..request.asked
-    };
-    match access(&asked, &None) {
-        Ok(access) => fitting(Open {
-            access: Some(access),
-            ..*request
-        }),
-        Err(refusal) => Err(EventFault::Refused(refusal)),
-    }
+    fitting(with_data(request, packet))
 }
 
 /// A request with its completion, where none has left.
-fn with_reply(request: &Open, sent: &Completion) -> Result<Open, EventFault>
+fn reply_taken(request: &Open, sent: &Completion) -> Result<Open, EventFault>
     ensures taken { IfOk result (λ now. (reply_fault sent.now (Some request.now) ≡ None) × (now ≡ with_reply sent.now request.now)) }
     ensures fault { IfErr result (λ fault. reply_fault sent.now (Some request.now) ≡ Some fault) }
 {
@@ -179,6 +156,20 @@ fn with_reply(request: &Open, sent: &Completion) -> Result<Open, EventFault>
         completion: Some(sent.reply),
         ..*request
     })
+}
+
+/// That a home may have refused a request, for this reason where one is told.
+fn refusable(request: &Open, reason: Option<Refusal>) -> Result<(), EventFault>
+    ensures fits { IfOk result (λ _. refused_fault reason (Some request.now) ≡ None) }
+    ensures fault { IfErr result (λ fault. refused_fault reason (Some request.now) ≡ Some fault) }
+{
+    if request.completion.is_some() {
+        return Err(EventFault::RefusedAfterReply);
+    }
+    match reason {
+        Some(reason) if !is_reason(request, reason) => Err(EventFault::NotRefusedSo),
+        _ => Ok(()),
+    }
 }
 
 /// Takes what an event tells, and answers the operation that ended by it, if one did.
@@ -198,16 +189,22 @@ pub(crate) fn take_kind(
         }
         EventKind::Data(packet) => {
             let place = outstanding_at(requests, packet.id)?;
-            let now = with_data(&requests[place], packet)?;
+            let now = data_taken(&requests[place], packet)?;
             Ok(settle(requests, place, now, time))
         }
         EventKind::Reply(sent) => {
             let place = outstanding_at(requests, sent.id)?;
-            let now = with_reply(&requests[place], sent)?;
+            let now = reply_taken(&requests[place], sent)?;
             Ok(settle(requests, place, now, time))
         }
         EventKind::Dropped { id } => {
             let place = outstanding_at(requests, *id)?;
+            requests.remove(place);
+            Ok(None)
+        }
+        EventKind::Refused { id, reason } => {
+            let place = outstanding_at(requests, *id)?;
+            refusable(&requests[place], *reason)?;
             requests.remove(place);
             Ok(None)
         }

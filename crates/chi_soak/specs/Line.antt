@@ -1,6 +1,8 @@
 -- the line of JSON that tells an event
 use Rattle.std.specs.Prelude.{ℕ, ◌*◌, ◌^◌, ◌%◌, List, [], ◌++◌, Bool, if◌then◌else◌, codes, decimal, Option, None, Some}
 use Rattle.hex.specs.Hex.{encode_lower}
+use Rattle.chi_fields.specs.Refusal.{name_of}
+use Rattle.chi_fields.specs.declared.refusal.Refusal.{Refusal}
 use Rattle.chi_lanes.specs.declared.reply.Reply.{Reply}
 use Rattle.chi_lanes.specs.declared.reply.Reply.TheVariants.{Comp, CompData}
 use Rattle.chi_text.specs.Part.{word_text}
@@ -61,6 +63,15 @@ reply_text c = codes "reply\",\"id\":" ++ decimal c.id ++ codes ",\"reply\":" ++
 unfoldable pub dropped_text : ℕ → List ℕ
 dropped_text id = codes "dropped\",\"id\":" ++ decimal id
 
+-- why a request was refused, after a comma, where that is told
+abbrev pub reason_text : Option Refusal → List ℕ
+reason_text None = []
+reason_text (Some reason) = codes ",\"reason\":\"" ++ name_of reason ++ codes "\""
+
+-- the end of a request that was refused
+unfoldable pub refused_text : ℕ → Option Refusal → List ℕ
+refused_text id reason = codes "refused\",\"id\":" ++ decimal id ++ reason_text reason
+
 -- bytes that something else may have written
 unfoldable pub unknown_text : ℕ → ℕ → List ℕ
 unknown_text addr length = codes "unknown\",\"addr\":" ++ decimal addr ++ codes ",\"length\":" ++ decimal length
@@ -71,6 +82,7 @@ kind_text (kind.Request r) = request_text r
 kind_text (kind.Data p) = late_text p
 kind_text (kind.Reply c) = reply_text c
 kind_text (kind.Dropped id) = dropped_text id
+kind_text (kind.Refused id reason) = refused_text id reason
 kind_text (kind.Word w) = granule_text w (codes "\"")
 kind_text (kind.Final w) = granule_text w (codes "\",\"final\":true")
 kind_text (kind.Unknown addr length) = unknown_text addr length

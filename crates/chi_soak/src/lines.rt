@@ -1,9 +1,10 @@
 //! Events as lines of JSON.
 
 ghost use Rattle.std.specs.Prelude.{◌≡◌, ◌++◌, OnOk};
-ghost use Rattle.chi_soak.specs.Line.{byte_order, completion_text, data_text, dropped_text, event_line, fields_text, granule_text, kind_text, late_text, packet_text, quoted_text, reply_text, request_text, unknown_text};
+ghost use Rattle.chi_soak.specs.Line.{byte_order, completion_text, data_text, dropped_text, event_line, fields_text, granule_text, kind_text, late_text, packet_text, quoted_text, reason_text, refused_text, reply_text, request_text, unknown_text};
 
 use chi_events::{Completion, Event, EventKind, Packet, Requested};
+use chi_fields::{Refusal, refusal_name};
 use chi_lanes::Reply;
 use chi_reading::Asked;
 use chi_text::{Part, add_parts};
@@ -130,6 +131,31 @@ fn add_dropped(to: &mut Vec<u8>, id: u64) -> Result<(), AllocError>
     add_parts(to, &[Part::Text("dropped\",\"id\":"), Part::Number(id)])
 }
 
+/// Why a request was refused, where that is told.
+fn add_reason(to: &mut Vec<u8>, reason: Option<Refusal>) -> Result<(), AllocError>
+    ensures { OnOk result (to.new.items ≡ to.old.items ++ reason_text reason) }
+{
+    let Some(reason) = reason else {
+        return Ok(());
+    };
+    add_parts(
+        to,
+        &[
+            Part::Text(",\"reason\":\""),
+            Part::Text(refusal_name(reason)),
+            Part::Text("\""),
+        ],
+    )
+}
+
+/// The end of a request that was refused.
+fn add_refused(to: &mut Vec<u8>, id: u64, reason: Option<Refusal>) -> Result<(), AllocError>
+    ensures { OnOk result (to.new.items ≡ to.old.items ++ refused_text id reason) }
+{
+    add_parts(to, &[Part::Text("refused\",\"id\":"), Part::Number(id)])?;
+    add_reason(to, reason)
+}
+
 /// The word of a granule, and what comes after its bytes.
 fn add_word(to: &mut Vec<u8>, told: &GranuleWord, end: &'static str) -> Result<(), AllocError>
     ensures { OnOk result (to.new.items ≡ to.old.items ++ granule_text told.now end.now) }
@@ -170,6 +196,7 @@ fn add_kind(to: &mut Vec<u8>, kind: &EventKind) -> Result<(), AllocError>
         EventKind::Data(packet) => add_late(to, packet),
         EventKind::Reply(completion) => add_reply(to, completion),
         EventKind::Dropped { id } => add_dropped(to, *id),
+        EventKind::Refused { id, reason } => add_refused(to, *id, *reason),
         EventKind::Word(told) => add_word(to, told, "\""),
         EventKind::Final(told) => add_word(to, told, "\",\"final\":true"),
         EventKind::Unknown { addr, length } => add_unknown(to, *addr, *length),

@@ -3,7 +3,7 @@ use Rattle.std.proofs.Common.{◌≡◌, ℕ, ◌/◌, ◌==◌, ◌≤◌, Bool
 use Rattle.std.specs.Option.{unwrap_or}
 use Rattle.chi_events.specs.declared.event.Event.{Event}
 use Rattle.chi_events.specs.declared.event.EventKind.{EventKind}
-use Rattle.chi_events.specs.declared.event.EventKind.TheVariants.{Request, Data, Reply, Dropped, Word, Final, Unknown}
+use Rattle.chi_events.specs.declared.event.EventKind.TheVariants.{Request, Data, Reply, Dropped, Refused, Word, Final, Unknown}
 use Rattle.chi_events.specs.Outstanding.{OutstandingValue}
 use Rattle.chi_recent.specs.Recent.{Keeps, RecentValue}
 use Rattle.chi_search.specs.Frontiers.{Follows, FrontierValue}
@@ -163,3 +163,4 @@ module _ (events : List Event) (e : Event) (ended : List Observed) (o : Outstand
     noted (Data p) is fits t = stays (ap opening_in is) (ap final_in is) (λ g. ap (covers g) is) t
     noted (Reply c) is fits t = stays (ap opening_in is) (ap final_in is) (λ g. ap (covers g) is) t
     noted (Dropped id) is fits t = stays (ap opening_in is) (ap final_in is) (λ g. ap (covers g) is) t
+    noted (Refused id reason) is fits t = stays (ap opening_in is) (ap final_in is) (λ g. ap (covers g) is) t

@@ -11,7 +11,7 @@ use Rattle.chi_events.specs.Operations.{operations}
 use Rattle.chi_events.specs.Outstanding.{HasWord, IsEvent, OutstandingValue, Tells, open_operation}
 use Rattle.chi_events.specs.declared.event.Event.{Event}
 use Rattle.chi_events.specs.declared.event.EventKind.{EventKind}
-use Rattle.chi_events.specs.declared.event.EventKind.TheVariants.{Request, Data, Reply, Dropped, Word, Final, Unknown}
+use Rattle.chi_events.specs.declared.event.EventKind.TheVariants.{Request, Data, Reply, Dropped, Refused, Word, Final, Unknown}
 use Rattle.chi_events.specs.declared.outstanding.Open.{Open}
 use Rattle.chi_search.specs.Layers.{SomeLeads}
 use Rattle.chi_trace.specs.Chosen.{GranulesTold, is_in}
@@ -40,6 +40,7 @@ openings_are_words events are =
     by_kind (Data p) is = tt
     by_kind (Reply c) is = tt
     by_kind (Dropped id) is = tt
+    by_kind (Refused id reason) is = tt
     by_kind (Word w) is = is
     by_kind (Final w) is = tt
     by_kind (Unknown addr len) is = tt

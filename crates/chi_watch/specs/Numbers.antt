@@ -2,13 +2,14 @@
 use Rattle.std.specs.Prelude.{◌≡◌, ℕ, Bool, true, false, Option, None, Some}
 use Rattle.std.specs.Option.{unwrap_or}
 use Rattle.chi_events.specs.declared.event.EventKind.{EventKind}
-use Rattle.chi_events.specs.declared.event.EventKind.TheVariants.{Request, Data, Reply, Dropped}
+use Rattle.chi_events.specs.declared.event.EventKind.TheVariants.{Request, Data, Reply, Dropped, Refused}
 
 -- the outstanding request that an event of this kind is about, where it is about one
 abbrev pub id_about : EventKind → Option ℕ
 id_about (Data p) = Some p.id
 id_about (Reply c) = Some c.id
 id_about (Dropped id) = Some id
+id_about (Refused id reason) = Some id
 id_about _ = None
 
 -- the number of the event that told this request
@@ -30,6 +31,7 @@ IsKnownAfter id false old new = (other : ℕ) → new other ≡ old other
 abbrev pub IsCounted : EventKind → Bool → ℕ → (ℕ → Option ℕ) → (ℕ → Option ℕ) → Type 0
 IsCounted (Request r) ended number old new = IsKnownOf r.id (Some number) old new
 IsCounted (Dropped id) ended number old new = IsKnownOf id None old new
+IsCounted (Refused id reason) ended number old new = IsKnownOf id None old new
 IsCounted (Data p) ended number old new = IsKnownAfter p.id ended old new
 IsCounted (Reply c) ended number old new = IsKnownAfter c.id ended old new
 IsCounted _ ended number old new = (other : ℕ) → new other ≡ old other

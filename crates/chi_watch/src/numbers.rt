@@ -26,6 +26,7 @@ fn id_about(kind: &EventKind) -> Option<u64>
         EventKind::Data(packet) => Some(packet.id),
         EventKind::Reply(completion) => Some(completion.id),
         EventKind::Dropped { id } => Some(*id),
+        EventKind::Refused { id, reason: _ } => Some(*id),
         _ => None,
     }
 }
@@ -72,6 +73,9 @@ impl Numbers {
                 self.requests.insert(request.id, self.taken)?;
             }
             EventKind::Dropped { id } => {
+                self.requests.remove(id);
+            }
+            EventKind::Refused { id, reason: _ } => {
                 self.requests.remove(id);
             }
             EventKind::Data(packet) => {

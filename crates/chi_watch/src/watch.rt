@@ -227,7 +227,7 @@ impl Watch {
     /// Takes an event, where it can come next, and answers the granule, where by this event it was seen that no order explains
     /// its operations. `budget` is how many states may be looked at for an answer.
     ///
-    /// A granule is judged when its last outstanding request has ended or was dropped.
+    /// A granule is judged when its last outstanding request has ended, or was dropped or refused.
     ///
     /// ```
     /// let found = watch.take(alloc, &event, 1_000_000, &mut NoProgress)?;

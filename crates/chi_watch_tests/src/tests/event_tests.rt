@@ -4,3 +4,4 @@ mod fault_tests;
 mod home;
 mod open_tests;
 mod operation_tests;
+mod refused_tests;

@@ -1,6 +1,6 @@
 -- each kind of event takes the request at its place further
 use Rattle.std.proofs.Common.{[], None, refl, ap, ◌∙◌}
-use Rattle.chi_events.specs.Outstanding.{data_fault, drop_fault, reply_fault}
+use Rattle.chi_events.specs.Outstanding.{data_fault, drop_fault, refused_fault, reply_fault}
 use Rattle.chi_events.specs.Taking.{with_data, with_reply}
 use Rattle.chi_events.proofs.ByKind.{not_there, of_kind, passed_on, taken_further}
 use Rattle.chi_events.proofs.Places.{at_place, changes}
@@ -53,3 +53,25 @@ returns-in_ok-place-in-Dropped-clause-taken c =
     let at = at_place c.in-Dropped.id c.deref-in-Dropped.result.now requests c.in_ok-place-in-Dropped.place c.remove.result c.deref-in-Dropped.ensures.value c.in_ok-place-in-Dropped.ensures.found c.remove.ensures.value in
     of_kind requests c.args.time _ _ _ _ c.in-Dropped.is
     (ap drop_fault at.found, changes c.in-Dropped.id (λ o. []) (λ o. None) requests None c.remove.new.self.items c.in_ok-place-in-Dropped.place c.remove.result at c.remove.ensures.by_index.2 refl)
+
+pub returns-in_err-place-in-Refused-clause-fault : goal.returns-in_err-place-in-Refused-clause-fault
+returns-in_err-place-in-Refused-clause-fault c =
+    let none = not_there (refused_fault c.in-Refused.reason) c.in-Refused.id c.deref-in-Refused.result.now c.args.requests.now.items c.in_err-place-in-Refused.field-0.0 refl c.deref-in-Refused.ensures.value c.in_err-place-in-Refused.ensures.none in
+    passed_on _ _ c.args.requests.now.items _ _ c.from_residual-in_err-place-in-Refused.ensures.1 c.in-Refused.is none
+
+pub returns-in_err-refusable-in-Refused-clause-fault : goal.returns-in_err-refusable-in-Refused-clause-fault
+returns-in_err-refusable-in-Refused-clause-fault c =
+    let at = at_place c.in-Refused.id c.deref-in-Refused.result.now c.args.requests.now.items c.in_ok-place-in-Refused.place c.index-in-Refused.result.now c.deref-in-Refused.ensures.value c.in_ok-place-in-Refused.ensures.found c.index-in-Refused.ensures in
+    passed_on _ _ c.args.requests.now.items _ _ c.from_residual-in_err-refusable-in-Refused.ensures.1 c.in-Refused.is
+    (ap (refused_fault c.in-Refused.reason) at.found ∙ c.in_err-refusable-in-Refused.ensures.fault)
+
+pub returns-in_ok-refusable-in-Refused-clause-taken : goal.returns-in_ok-refusable-in-Refused-clause-taken
+returns-in_ok-refusable-in-Refused-clause-taken c =
+    let requests = c.args.requests.now.items in
+    let place = c.in_ok-place-in-Refused.place in
+    let seen = at_place c.in-Refused.id c.deref-in-Refused.result.now requests place c.index-in-Refused.result.now c.deref-in-Refused.ensures.value c.in_ok-place-in-Refused.ensures.found c.index-in-Refused.ensures in
+    let at = at_place c.in-Refused.id c.deref-in-Refused.result.now requests place c.remove-in-Refused.result c.deref-in-Refused.ensures.value c.in_ok-place-in-Refused.ensures.found c.remove-in-Refused.ensures.value in
+    of_kind requests c.args.time _ _ _ _ c.in-Refused.is (
+      ap (refused_fault c.in-Refused.reason) seen.found ∙ c.in_ok-refusable-in-Refused.ensures.fits,
+      changes c.in-Refused.id (λ o. []) (λ o. None) requests None c.remove-in-Refused.new.self.items place c.remove-in-Refused.result at c.remove-in-Refused.ensures.by_index.2 refl,
+    )

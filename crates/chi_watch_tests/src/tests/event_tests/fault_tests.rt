@@ -1,34 +1,16 @@
 //! The faults of an event, and their texts.
 
 use super::home::{
-    ENABLES, LANES, OLD, after, answer, assert_load, data, load_with_data, load_without_data, read,
-    reply, take, take_each,
+    ENABLES, OLD, after, answer, assert_load, data, load_with_data, load_without_data, read,
+    refused, reply, request, take, take_each,
 };
 use crate::tests::comparison::assert_same;
-use chi_events::{EventFault, EventKind, Outstanding, Requested};
+use chi_events::{EventFault, EventKind};
 use chi_fields::Refusal;
 use chi_lanes::Reply;
-use chi_reading::{Asked, ReplyFault};
+use chi_reading::ReplyFault;
 use std::process::Abort;
 use std::test::Fail;
-
-/// A request with its data.
-fn request(opcode: u8, size: u8, addr: u64, be: u16) -> EventKind {
-    EventKind::Request(Requested {
-        id: 9,
-        asked: Asked {
-            src: 1,
-            txn: 0,
-            opcode,
-            size,
-            addr,
-            endian: false,
-            be,
-            lanes: LANES,
-        },
-        has_data: true,
-    })
-}
 
 // Compares the text of a fault.
 fn assert_text<R: AllocGlobal + Abort>(
@@ -116,9 +98,21 @@ fn faults_and_their_texts(rt: HostRuntime) -> Result<(), Fail> {
         ),
         (
             15,
-            request(0x1c, 1, 4097, 6),
-            EventFault::Refused(Refusal::Misaligned),
-            "is refused: Misaligned",
+            refused(5, None),
+            EventFault::NotOutstanding,
+            "is of no outstanding request",
+        ),
+        (
+            15,
+            refused(3, None),
+            EventFault::RefusedAfterReply,
+            "refuses a request that has a reply",
+        ),
+        (
+            15,
+            refused(1, Some(Refusal::Misaligned)),
+            EventFault::NotRefusedSo,
+            "is not refused so",
         ),
     ] {
         let found = take(&mut outstanding, *time, *kind).err();
@@ -176,10 +170,9 @@ fn data_after_a_reply_that_no_home_gives(rt: HostRuntime) -> Result<(), Fail> {
     take_each(&mut outstanding, &[(12, EventKind::Dropped { id: 3 })])
 }
 
-// A request that a home refuses is not taken.
+// A request that a home refuses is taken, and its completion is refused.
 #[test]
-fn refusals(rt: HostRuntime) -> Result<(), Fail> {
-    let mut outstanding = Outstanding::new(rt.alloc());
+fn completions_of_refused_requests(rt: HostRuntime) -> Result<(), Fail> {
     for (opcode, size, addr, be, refusal, text) in &[
         (
             0x05,
@@ -230,15 +223,22 @@ fn refusals(rt: HostRuntime) -> Result<(), Fail> {
             "is refused: BadByteEnable",
         ),
     ] {
-        let asked = request(*opcode, *size, *addr, *be);
-        let found = take(&mut outstanding, 5, asked).err();
+        let mut outstanding = after(rt.alloc(), &[(5, request(*opcode, *size, *addr, *be))])?;
+        let found = take(&mut outstanding, 6, reply(9, None)).err();
         assert_fault(&rt, found, EventFault::Refused(*refusal), text)?;
-        assert_same(&rt, outstanding.requests().len(), 0);
+        let [open] = outstanding.requests() else {
+            return Err(Fail::new("there is not one request"));
+        };
+        assert_same(
+            &rt,
+            (open.refusal, open.operation().is_none()),
+            (Some(*refusal), true),
+        );
     }
     Ok(())
 }
 
-// The request waits on for its data, where those that came are refused.
+// The request waits on for its data, where those that came are refused after its completion.
 #[test]
 fn refused_data(rt: HostRuntime) -> Result<(), Fail> {
     let events = [(10, load_without_data(3)), (11, answer(3))];

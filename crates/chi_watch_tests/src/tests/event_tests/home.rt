@@ -2,7 +2,7 @@
 
 use crate::tests::comparison::assert_same;
 use chi_events::{Completion, Event, EventFault, EventKind, Outstanding, Packet, Requested};
-use chi_fields::{Access, Kind, Op};
+use chi_fields::{Access, Kind, Op, Refusal};
 use chi_lanes::Reply;
 use chi_reading::Asked;
 use chi_trace::Observed;
@@ -66,6 +66,29 @@ pub(crate) fn read(id: u64, addr: u64) -> EventKind {
         },
         has_data: false,
     })
+}
+
+/// A request with its data.
+pub(crate) fn request(opcode: u8, size: u8, addr: u64, be: u16) -> EventKind {
+    EventKind::Request(Requested {
+        id: 9,
+        asked: Asked {
+            src: 1,
+            txn: 0,
+            opcode,
+            size,
+            addr,
+            endian: false,
+            be,
+            lanes: LANES,
+        },
+        has_data: true,
+    })
+}
+
+/// That a request was refused.
+pub(crate) fn refused(id: u64, reason: Option<Refusal>) -> EventKind {
+    EventKind::Refused { id, reason }
 }
 
 /// The data of the load.

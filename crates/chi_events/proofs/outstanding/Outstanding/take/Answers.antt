@@ -1,9 +1,11 @@
 -- one event more is taken
-use Rattle.std.proofs.Common.{◌≤◌, IfSome, All, sym, subst, arith}
-use Rattle.chi_events.specs.Outstanding.{IsEndOf, IsEndOfAbout, OutstandingValue, StaysOrStarts, Tells}
+use Rattle.std.proofs.Common.{◌≤◌, IfSome, All, IsPermutation, [], ◌∷◌, ◌++◌, option_to_list, sym, subst, arith}
+use Rattle.chi_events.specs.Operations.{refusals_told}
+use Rattle.chi_events.specs.Outstanding.{IsEndOf, IsEndOfAbout, OutstandingValue, StaysOrStarts, Tells, refusal_by}
 use Rattle.chi_events.proofs.About.{ends_about}
 use Rattle.chi_events.proofs.OneMore.{tells_more}
 use Rattle.chi_events.proofs.Opens.{stays_more}
+use Rattle.chi_events.proofs.Refusals.{refusals_more}
 use Rattle.chi_events.proofs.outstanding.Outstanding.take.Goals as goal
 
 pub invariant_of-self-2 : goal.invariant_of-self-2
@@ -44,3 +46,11 @@ returns-clause-about c =
     let s = c.self.inside in
     subst (λ (o : OutstandingValue). IfSome c.in_ok-ended.ended (IsEndOfAbout o.requests e.kind)) c.self.view_is
     (ends_about e.time s.requests.items c.take_kind.new.requests.items c.in_ok-ended.ended e.kind c.in_ok-ended.ensures.taken.1)
+
+pub returns-clause-refusals : goal.returns-clause-refusals
+returns-clause-refusals c events before tells =
+    let e = c.args.event.now in
+    let s = c.self.inside in
+    let o : OutstandingValue = record { requests = s.requests.items; time = s.time } in
+    subst (λ (o : OutstandingValue). IsPermutation (refusals_told (events ++ e ∷ [])) (refusals_told events ++ option_to_list (refusal_by o.requests e.kind))) c.self.view_is
+    (refusals_more events before o (subst (Tells events before) (sym c.self.view_is) tells) e.time e.kind c.in_ok-ended.ended c.take_kind.new.requests.items c.in_ok-ended.ensures.taken.1)
