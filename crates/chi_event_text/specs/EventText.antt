@@ -1,9 +1,12 @@
 -- the event that a line tells, or its first fault
-use Rattle.std.specs.Prelude.{ℕ, false, ◌+◌, ◌-◌, ◌/◌, ◌^◌, nat_le, ◌&&◌, ◌||◌, Bool, if◌then◌else◌, List, [], ◌∷◌, codes, Option, None, Some, is_some, option_and_then, Result, Ok, Err}
+use Rattle.std.specs.Prelude.{ℕ, false, ◌+◌, ◌-◌, ◌/◌, ◌^◌, nat_le, ◌&&◌, ◌||◌, Bool, if◌then◌else◌, List, [], ◌∷◌, codes, find, Option, None, Some, is_some, option_and_then, option_map, Result, Ok, Err}
 use Rattle.std.specs.Option.{ok_or}
 use Rattle.std.specs.Str.{bytes_eq}
 use Rattle.serde_json.specs.Data.{Data}
 use Rattle.serde_json.specs.Find.{as_bool, as_object, as_str, get}
+use Rattle.chi_fields.specs.Refusal.{name_of}
+use Rattle.chi_fields.specs.declared.refusal.Refusal.{Refusal}
+use Rattle.chi_fields.specs.declared.refusal.Refusal.TheVariants.{UnknownOpcode, ReservedSize, SizeOutOfProfile, Misaligned, OutOfRegion, BadByteEnable}
 use Rattle.chi_json.specs.declared.member.MemberFault.{MemberFault}
 use Rattle.chi_json.specs.declared.member.MemberFault.TheVariants as member_fault
 use Rattle.chi_json.specs.declared.text.TextFault.{TextFault}
@@ -48,8 +51,9 @@ kind_named s =
     if bytes_eq s (codes "data") then Some line.Data else (
     if bytes_eq s (codes "reply") then Some line.Reply else (
     if bytes_eq s (codes "dropped") then Some line.Dropped else (
+    if bytes_eq s (codes "refused") then Some line.Refused else (
     if bytes_eq s (codes "word") then Some line.Word else (
-    if bytes_eq s (codes "unknown") then Some line.Unknown else None)))))
+    if bytes_eq s (codes "unknown") then Some line.Unknown else None))))))
 
 abbrev pub kind_of : Data → Option LineKind
 kind_of d = option_and_then kind_named (as_str d)
@@ -61,6 +65,7 @@ members_of line.Request =
 members_of line.Data = name.Event ∷ name.Time ∷ name.Id ∷ name.Be ∷ name.Lanes ∷ []
 members_of line.Reply = name.Event ∷ name.Time ∷ name.Id ∷ name.Reply ∷ []
 members_of line.Dropped = name.Event ∷ name.Time ∷ name.Id ∷ []
+members_of line.Refused = name.Event ∷ name.Time ∷ name.Id ∷ name.Reason ∷ []
 members_of line.Word = name.Event ∷ name.Time ∷ name.Addr ∷ name.Bytes ∷ name.Final ∷ []
 members_of line.Unknown = name.Event ∷ name.Time ∷ name.Addr ∷ name.Length ∷ []
 
@@ -91,6 +96,22 @@ completion_of d = do
   reply ← member_by member_name name.Reply seen_of d
   Ok (record { id = id; reply = reply })
 
+-- the refusal of this name
+abbrev pub refusal_named : List ℕ → Option Refusal
+refusal_named s = find (λ reason. bytes_eq s (name_of reason)) (UnknownOpcode ∷ ReservedSize ∷ SizeOutOfProfile ∷ Misaligned ∷ OutOfRegion ∷ BadByteEnable ∷ [])
+
+-- why a request was refused, by the member `reason`, where it is there
+abbrev pub reason_by : Option Data → Result (Option Refusal) (MemberFault Member)
+reason_by None = Ok None
+reason_by (Some d) = ok_or (option_map Some (option_and_then refusal_named (as_str d))) (member_fault.BadMember name.Reason)
+
+-- a request that was refused
+unfoldable pub refused_of : Data → Result EventKind (MemberFault Member)
+refused_of d = do
+  id ← number_of member_name name.Id (2 ^ 64 - 1) d
+  reason ← reason_by (get (member_name name.Reason) d)
+  Ok (kind.Refused id reason)
+
 -- whether a word is one at the end, by the member `final`
 abbrev pub final_by : Option Data → Result Bool (MemberFault Member)
 final_by None = Ok false
@@ -117,6 +138,7 @@ told_of line.Request d = requested_of d >>= λ r. Ok (kind.Request r)
 told_of line.Data d = packet_of d >>= λ p. Ok (kind.Data p)
 told_of line.Reply d = completion_of d >>= λ c. Ok (kind.Reply c)
 told_of line.Dropped d = number_of member_name name.Id (2 ^ 64 - 1) d >>= λ id. Ok (kind.Dropped id)
+told_of line.Refused d = refused_of d
 told_of line.Word d = word_of d
 told_of line.Unknown d = unknown_of d
 

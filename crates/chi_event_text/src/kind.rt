@@ -13,6 +13,7 @@ pub(crate) enum LineKind {
     Data,
     Reply,
     Dropped,
+    Refused,
     Word,
     Unknown,
 }
@@ -27,6 +28,7 @@ impl LineKind {
             "data" => Some(LineKind::Data),
             "reply" => Some(LineKind::Reply),
             "dropped" => Some(LineKind::Dropped),
+            "refused" => Some(LineKind::Refused),
             "word" => Some(LineKind::Word),
             "unknown" => Some(LineKind::Unknown),
             _ => None,
@@ -60,6 +62,7 @@ impl LineKind {
             ],
             LineKind::Reply => &[Member::Event, Member::Time, Member::Id, Member::Reply],
             LineKind::Dropped => &[Member::Event, Member::Time, Member::Id],
+            LineKind::Refused => &[Member::Event, Member::Time, Member::Id, Member::Reason],
             LineKind::Word => &[
                 Member::Event,
                 Member::Time,

@@ -35,6 +35,7 @@ fn kind_told(object: &Value) -> Result<LineKind, MemberFault<Member>>
 /// - `data`: `id`, `be` and `lanes`.
 /// - `reply`: `id`, and `reply`: the text `comp`, one of 32 hex digits, lane 0 first, or `null`.
 /// - `dropped`: `id`.
+/// - `refused`: `id`, and `reason`: the name of a refusal, as `Misaligned`; it may be left out.
 /// - `word`: `addr`, a multiple of 8 below 2^52, and `bytes`, 16 hex digits: the eight bytes in address order. Where `final`
 ///   is `true` the word is one at the end; it may be left out.
 /// - `unknown`: `addr`, and `length`, 1 to 4,096. Where their sum is over 2^52, `length` is the bad member.

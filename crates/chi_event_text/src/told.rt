@@ -9,10 +9,11 @@ ghost use Rattle.chi_json.specs.Members.{member_by};
 ghost use Rattle.chi_reading.specs.Member.{member_name};
 ghost use Rattle.chi_reading.specs.Requests.{seen_of};
 ghost use Rattle.chi_reading.specs.Told.{start_of, word_of as granule_word};
-ghost use Rattle.chi_event_text.specs.EventText.{completion_of, final_by, packet_of, requested_of, told_of, unknown_of, word_of};
+ghost use Rattle.chi_event_text.specs.EventText.{completion_of, final_by, packet_of, reason_by, refusal_named, refused_of, requested_of, told_of, unknown_of, word_of};
 
 use crate::kind::LineKind;
 use chi_events::{Completion, EventKind, Packet, Requested};
+use chi_fields::Refusal;
 use chi_json::{MemberFault, number};
 use chi_lanes::Reply;
 use chi_reading::{
@@ -81,6 +82,44 @@ fn completion(object: &Value) -> Result<Completion, MemberFault<Member>>
     let id = number(object, Member::Id, u64::MAX)?;
     let reply = reply(object)?;
     Ok(Completion { id, reply })
+}
+
+/// The refusal of this name.
+fn refusal_named(name: &str) -> Option<Refusal>
+    ensures { result ≡ refusal_named name.now }
+{
+    match name {
+        "UnknownOpcode" => Some(Refusal::UnknownOpcode),
+        "ReservedSize" => Some(Refusal::ReservedSize),
+        "SizeOutOfProfile" => Some(Refusal::SizeOutOfProfile),
+        "Misaligned" => Some(Refusal::Misaligned),
+        "OutOfRegion" => Some(Refusal::OutOfRegion),
+        "BadByteEnable" => Some(Refusal::BadByteEnable),
+        _ => None,
+    }
+}
+
+/// Why a request was refused, in the member `reason`, where it is there.
+fn reason(object: &Value) -> Result<Option<Refusal>, MemberFault<Member>>
+    ensures { result ≡ reason_by (get (member_name Member.Reason) (view object.now)) }
+{
+    let Some(value) = object.get(Member::Reason.name()) else {
+        return Ok(None);
+    };
+    match value.as_str().and_then(refusal_named) {
+        Some(reason) => Ok(Some(reason)),
+        None => Err(MemberFault::BadMember(Member::Reason)),
+    }
+}
+
+/// A request that was refused.
+#[tactic(auto, unfolding(crate::specs::EventText::refused_of))]
+fn refused(object: &Value) -> Result<EventKind, MemberFault<Member>>
+    ensures { result ≡ refused_of (view object.now) }
+{
+    let id = number(object, Member::Id, u64::MAX)?;
+    let reason = reason(object)?;
+    Ok(EventKind::Refused { id, reason })
 }
 
 /// The address of a granule, in the member `addr`.
@@ -156,6 +195,7 @@ pub(crate) fn told(kind: LineKind, object: &Value) -> Result<EventKind, MemberFa
         LineKind::Dropped => Ok(EventKind::Dropped {
             id: number(object, Member::Id, u64::MAX)?,
         }),
+        LineKind::Refused => refused(object),
         LineKind::Word => word(object),
         LineKind::Unknown => unknown(object),
     }

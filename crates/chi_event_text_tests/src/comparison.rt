@@ -35,6 +35,13 @@ fn same_kind(kind: &EventKind, want: &EventKind) -> bool {
             told.id == want.id && told.reply == want.reply
         }
         (EventKind::Dropped { id }, EventKind::Dropped { id: want }) => id == want,
+        (
+            EventKind::Refused { id, reason },
+            EventKind::Refused {
+                id: want_id,
+                reason: want_reason,
+            },
+        ) => id == want_id && reason == want_reason,
         (EventKind::Word(told), EventKind::Word(want)) => same_word(told, want),
         (EventKind::Final(told), EventKind::Final(want)) => same_word(told, want),
         (

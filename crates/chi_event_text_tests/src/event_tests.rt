@@ -3,6 +3,7 @@
 use crate::comparison::assert_tells;
 use chi_event_text::read_event;
 use chi_events::{Completion, EventKind, Packet};
+use chi_fields::Refusal;
 use chi_lanes::Reply;
 use chi_verdict::GranuleWord;
 use std::test::Fail;
@@ -40,6 +41,39 @@ fn completions(rt: HostRuntime) {
 fn dropped_request(rt: HostRuntime) {
     let line = r#"{"time":70,"event":"dropped","id":0}"#;
     assert_tells(&rt, line, EventKind::Dropped { id: 0 });
+}
+
+#[test]
+fn refused_request(rt: HostRuntime) {
+    for (line, reason) in [
+        (r#"{"time":70,"event":"refused","id":3}"#, None),
+        (
+            r#"{"time":70,"event":"refused","id":3,"reason":"UnknownOpcode"}"#,
+            Some(Refusal::UnknownOpcode),
+        ),
+        (
+            r#"{"time":70,"event":"refused","id":3,"reason":"ReservedSize"}"#,
+            Some(Refusal::ReservedSize),
+        ),
+        (
+            r#"{"time":70,"event":"refused","id":3,"reason":"SizeOutOfProfile"}"#,
+            Some(Refusal::SizeOutOfProfile),
+        ),
+        (
+            r#"{"time":70,"event":"refused","id":3,"reason":"Misaligned"}"#,
+            Some(Refusal::Misaligned),
+        ),
+        (
+            r#"{"time":70,"event":"refused","id":3,"reason":"OutOfRegion"}"#,
+            Some(Refusal::OutOfRegion),
+        ),
+        (
+            r#"{"time":70,"event":"refused","id":3,"reason":"BadByteEnable"}"#,
+            Some(Refusal::BadByteEnable),
+        ),
+    ] {
+        assert_tells(&rt, line, EventKind::Refused { id: 3, reason });
+    }
 }
 
 // The bytes are in address order, so the first is the least of the word.

@@ -93,6 +93,14 @@ fn bad_members(rt: HostRuntime) {
             Member::Reply,
         ),
         (
+            r#"{"event":"refused","time":70,"id":3,"reason":"misaligned"}"#,
+            Member::Reason,
+        ),
+        (
+            r#"{"event":"refused","time":70,"id":3,"reason":null}"#,
+            Member::Reason,
+        ),
+        (
             r#"{"event":"word","time":70,"addr":4,"bytes":"0000000000000000"}"#,
             Member::Addr,
         ),
@@ -134,6 +142,7 @@ fn missing_members(rt: HostRuntime) {
         (r#"{"event":"data","time":70,"id":3,"be":1}"#, Member::Lanes),
         (r#"{"event":"reply","time":70}"#, Member::Id),
         (r#"{"event":"reply","time":70,"id":3}"#, Member::Reply),
+        (r#"{"event":"refused","time":70}"#, Member::Id),
         (r#"{"event":"word","time":70}"#, Member::Addr),
         (r#"{"event":"unknown","time":70}"#, Member::Addr),
     ] {
@@ -164,6 +173,10 @@ fn members_of_other_events(rt: HostRuntime) {
         (
             r#"{"event":"unknown","time":70,"addr":0,"length":1,"bytes":"00"}"#,
             "bytes",
+        ),
+        (
+            r#"{"event":"dropped","time":70,"id":3,"reason":"Misaligned"}"#,
+            "reason",
         ),
         (
             r#"{"event":"dropped","time":70,"id":3,"X-note":0}"#,

@@ -1,7 +1,7 @@
 -- the names of the members of a trace and of an event
 use Rattle.std.specs.Prelude.{ℕ, List, codes}
 use Rattle.chi_reading.specs.declared.member.Member.{Member}
-use Rattle.chi_reading.specs.declared.member.Member.TheVariants.{Base, Granules, Image, Requests, Src, Txn, Opcode, Size, Addr, Endian, Be, Lanes, Final, Start, End, Reply, Refused, Event, Time, Id, Bytes, Length}
+use Rattle.chi_reading.specs.declared.member.Member.TheVariants.{Base, Granules, Image, Requests, Src, Txn, Opcode, Size, Addr, Endian, Be, Lanes, Final, Start, End, Reply, Refused, Event, Time, Id, Bytes, Length, Reason}
 
 abbrev pub member_name : Member → List ℕ
 member_name Base = codes "base"
@@ -26,3 +26,4 @@ member_name Time = codes "time"
 member_name Id = codes "id"
 member_name Bytes = codes "bytes"
 member_name Length = codes "length"
+member_name Reason = codes "reason"

@@ -10,7 +10,7 @@ use chi_json::Named;
 /// - `Base` to `Requests`, and `Final`, are a trace's. `Granules`, `Image` and `Final` may be left out.
 /// - `Src` to `Lanes` are a request's, of a trace and of an event.
 /// - `Start`, `End`, `Reply` and `Refused` are of a request of a trace, and `Final` and `Reply` also of events.
-/// - `Event` to `Length` are of events alone.
+/// - `Event` to `Reason` are of events alone.
 #[derive(Clone, Copy, Debug, PartialEq, Eq)]
 pub enum Member {
     Base,
@@ -35,6 +35,7 @@ pub enum Member {
     Id,
     Bytes,
     Length,
+    Reason,
 }
 
 impl Member {
@@ -69,6 +70,7 @@ impl Member {
             Member::Id => "id",
             Member::Bytes => "bytes",
             Member::Length => "length",
+            Member::Reason => "reason",
         }
     }
 }
