@@ -63,7 +63,7 @@ fn add_events(alloc: Global, counted: &mut Counted, input: &[u8]) -> Result<(), 
 {
     let mut lines = input;
     let ops = match read_operations(alloc, &mut lines) {
-        Ok(ops) => ops,
+        Ok(told) => told.operations,
         Err(fault) => return Err(SourceFault::Events(fault)),
     };
     match counted.covered.add(alloc, &ops) {

@@ -1,10 +1,11 @@
 -- what comes of events that are read line by line as a trace
 use Rattle.std.specs.Prelude.{◌≡◌, ℕ, ◌+◌, List, [], Some, Ok, Err, IsPermutation}
 use Rattle.std.specs.Io.BufRead.{take_through}
+use Rattle.chi_fields.specs.declared.refusal.Refusal.{Refusal}
 use Rattle.chi_trace.specs.declared.observed.Observed.{Observed}
 use Rattle.chi_trace.specs.Explains.{IsTrace}
 use Rattle.chi_events.specs.declared.event.Event.{Event}
-use Rattle.chi_events.specs.Operations.{operations}
+use Rattle.chi_events.specs.Operations.{operations, refusals_told}
 use Rattle.chi_events.specs.Outstanding.{OutstandingValue, Tells, fault_of}
 use Rattle.chi_event_text.specs.EventText.{event_text}
 use Rattle.chi_event_text.specs.declared.fault.LineFault.{LineFault}
@@ -22,6 +23,10 @@ pub record AreInOrder (events : List Event) (ops : List Observed) : Type 0 where
 -- all lines of the text tell events, and these are their operations
 abbrev pub AreOperations : List ℕ → List Observed → Type 0
 AreOperations text ops = (events : List Event) × (count : ℕ) × AreTold text count events [] × AreInOrder events ops
+
+-- all lines of the text tell events, and these are the reasons for which requests were refused, in some order
+abbrev pub AreRefusals : List ℕ → List Refusal → Type 0
+AreRefusals text refusals = (events : List Event) × (count : ℕ) × AreTold text count events [] × IsPermutation (refusals_told events) refusals
 
 -- the line with this number is the first that tells no event, for this reason
 abbrev pub IsNoEvent : List ℕ → ℕ → LineFault → Type 0

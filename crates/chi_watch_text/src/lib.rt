@@ -13,7 +13,7 @@ mod watched;
 mod watching;
 
 pub use fault::LinesFault;
-pub use operations::read_operations;
+pub use operations::{OperationsTold, read_operations};
 pub use options::WatchOptions;
 pub use progress::WatchProgress;
 pub use text::watched_text;

@@ -1,19 +1,28 @@
-//! Events that are read line by line, and the operations that they tell.
+//! Events that are read line by line, and the operations and the refusals that they tell.
 
-ghost use Rattle.std.specs.Prelude.{◌≡◌, [], ◌∷◌, ◌++◌, List, Some, IfErr, IfOk, IfSome, OnOk, filter_map, option_to_list};
+ghost use Rattle.std.specs.Prelude.{◌≡◌, [], ◌∷◌, ◌++◌, List, Some, IfErr, IfOk, IfSome, IsPermutation, OnOk, filter_map, option_to_list};
 ghost use Rattle.chi_trace.specs.declared.observed.Observed.{Observed};
 ghost use Rattle.chi_events.specs.declared.event.Event.{Event};
-ghost use Rattle.chi_events.specs.Outstanding.{Tells, open_operation};
-ghost use Rattle.chi_watch_text.specs.Operations.{AreInOrder, AreOperations, IsOperationsFault, IsTakingFault};
+ghost use Rattle.chi_events.specs.Operations.{refusals_told};
+ghost use Rattle.chi_events.specs.Outstanding.{Tells, open_operation, refusal_by};
+ghost use Rattle.chi_watch_text.specs.Operations.{AreInOrder, AreOperations, AreRefusals, IsOperationsFault, IsTakingFault};
 
 use crate::fault::LinesFault;
 use crate::lines::next_event;
 use chi_events::laws::operations_are_told;
 use chi_events::{Event, EventFault, Open, Outstanding};
+use chi_fields::Refusal;
 use chi_trace::Observed;
 use chi_watch::WatchFault;
 use std::alloc::{AllocError, Global};
 use std::io::BufRead;
+
+/// What events tell: the operations, in the order of their starts, and why requests were refused, where that is known.
+#[derive(Debug, Drop)]
+pub struct OperationsTold {
+    pub operations: Vec<Observed>,
+    pub refusals: Vec<Refusal>,
+}
 
 /// Has the event of the line with this number come next: the operation that ended by it, if one did.
 fn take_event(
@@ -22,6 +31,7 @@ fn take_event(
     number: u64,
 ) -> Result<Option<Observed>, LinesFault>
     ensures tells { IfOk result (λ ended. (events : List Event) (past : List Observed) → Tells events past outstanding.old → Tells (events ++ event.now ∷ []) (past ++ option_to_list ended) outstanding.new) }
+    ensures refusals { IfOk result (λ ended. (events : List Event) (past : List Observed) → Tells events past outstanding.old → IsPermutation (refusals_told (events ++ event.now ∷ [])) (refusals_told events ++ option_to_list (refusal_by outstanding.old.requests event.now.kind))) }
     ensures fault { IfErr result (IsTakingFault outstanding.old event.now number) }
 {
     match outstanding.take(event) {
@@ -34,12 +44,12 @@ fn take_event(
     }
 }
 
-/// Adds an operation, where there is one.
-fn add_some(ops: &mut Vec<Observed>, op: Option<Observed>) -> Result<(), AllocError>
-    ensures { OnOk result (ops.new.items ≡ ops.old.items ++ option_to_list op) }
+/// Adds an item, where there is one.
+fn add_some<T: Drop>(items: &mut Vec<T>, item: Option<T>) -> Result<(), AllocError>
+    ensures { OnOk result (items.new.items ≡ items.old.items ++ option_to_list item) }
 {
-    if let Some(op) = op {
-        ops.push(op)?;
+    if let Some(item) = item {
+        items.push(item)?;
     }
     Ok(())
 }
@@ -64,29 +74,41 @@ fn in_order(mut ops: Vec<Observed>, outstanding: &Outstanding) -> Result<Vec<Obs
     Ok(ops)
 }
 
-/// Reads events line by line: the operations that they tell, in the order of their starts. A request that was dropped, or whose
-/// data never came, is none; one that was outstanding at the end is open. Words are read, and nothing is said of them.
+/// Reads events line by line: the operations that they tell, in the order of their starts, and why requests were refused: for
+/// the reason that is told, or else for the one that a home of all addresses has, if it has one. A request that was dropped or
+/// refused, or whose data never came, is no operation; one that was outstanding at the end is open, unless a home of all
+/// addresses refuses it. Words are read, and nothing is said of them.
 ///
 /// The last line needs no line feed. Operations that start at the same time stand in some order.
 ///
 /// Source: profile.
 ///
 /// ```
-/// let ops = read_operations(alloc, &mut reader)?;
+/// let ops = read_operations(alloc, &mut reader)?.operations;
 /// ```
-pub fn read_operations<R: BufRead>(alloc: Global, from: &mut R) -> Result<Vec<Observed>, LinesFault>
-    ensures told { IfSome (R.remaining from.old) (λ text. IfOk result (λ ops. AreOperations text ops.items)) }
+pub fn read_operations<R: BufRead>(
+    alloc: Global,
+    from: &mut R,
+) -> Result<OperationsTold, LinesFault>
+    ensures told { IfSome (R.remaining from.old) (λ text. IfOk result (λ told. AreOperations text told.operations.items)) }
+    ensures refusals { IfSome (R.remaining from.old) (λ text. IfOk result (λ told. AreRefusals text told.refusals.items)) }
     ensures fault { IfSome (R.remaining from.old) (λ text. IfErr result (IsOperationsFault text)) }
 {
     let mut outstanding = Outstanding::new(alloc);
     let mut ops = Vec::new(alloc);
+    let mut refusals = Vec::new(alloc);
     let mut line = Vec::new(alloc);
     for number in 1..u64::MAX {
         let Some(event) = next_event(alloc, from, &mut line, number)? else {
-            return Ok(in_order(ops, &outstanding)?);
+            return Ok(OperationsTold {
+                operations: in_order(ops, &outstanding)?,
+                refusals,
+            });
         };
+        let refusal = outstanding.refusal(&event);
         let ended = take_event(&mut outstanding, &event, number)?;
         add_some(&mut ops, ended)?;
+        add_some(&mut refusals, refusal)?;
     }
     Err(LinesFault::TooManyLines)
 }

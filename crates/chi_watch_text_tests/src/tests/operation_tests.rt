@@ -1,12 +1,12 @@
-//! The operations that lines tell.
+//! The operations and the refusals that lines tell.
 
 use crate::tests::comparison::assert_same;
 use crate::tests::events::{FIVE, LAST, READ, UNKNOWN, WRITE, WRITE_AT_FOUR, joined};
 use chi_event_text::LineFault;
 use chi_events::EventFault;
-use chi_trace::Observed;
+use chi_fields::Refusal;
 use chi_watch::WatchFault;
-use chi_watch_text::{LinesFault, read_operations};
+use chi_watch_text::{LinesFault, OperationsTold, read_operations};
 use std::alloc::Global;
 use std::test::Fail;
 
@@ -27,8 +27,24 @@ const WITHOUT_DATA: &str =
     "{\"time\":9,\"event\":\"request\",\"id\":5,\"src\":1,\"txn\":5,\"op\":28,\"size\":3,\"addr\":4104,\"endian\":0}
 ";
 
-// The operations of texts one after the other.
-fn operations(alloc: Global, texts: &[&str]) -> Result<Vec<Observed>, LinesFault> {
+// Three requests that a home refuses: one at 4105 without a reason, one with the reason of another region, and one whose reason
+// is not known.
+const REFUSED: &str =
+    "{\"time\":9,\"event\":\"request\",\"id\":6,\"src\":1,\"txn\":6,\"op\":4,\"size\":3,\"addr\":4105,\"endian\":0}
+{\"time\":9,\"event\":\"request\",\"id\":7,\"src\":1,\"txn\":7,\"op\":4,\"size\":3,\"addr\":4104,\"endian\":0}
+{\"time\":9,\"event\":\"request\",\"id\":8,\"src\":1,\"txn\":8,\"op\":4,\"size\":3,\"addr\":4104,\"endian\":0}
+{\"time\":9,\"event\":\"refused\",\"id\":8}
+{\"time\":9,\"event\":\"refused\",\"id\":7,\"reason\":\"OutOfRegion\"}
+{\"time\":9,\"event\":\"refused\",\"id\":6}
+";
+
+// A request that a home would refuse, which is outstanding at the end.
+const MISALIGNED: &str =
+    "{\"time\":9,\"event\":\"request\",\"id\":9,\"src\":1,\"txn\":9,\"op\":4,\"size\":3,\"addr\":4105,\"endian\":0}
+";
+
+// The operations of texts one after the other, and the refusals.
+fn operations(alloc: Global, texts: &[&str]) -> Result<OperationsTold, LinesFault> {
     let all = joined(alloc, texts)?;
     let mut from = all.as_slice();
     read_operations(alloc, &mut from)
@@ -37,7 +53,7 @@ fn operations(alloc: Global, texts: &[&str]) -> Result<Vec<Observed>, LinesFault
 // They stand by their starts, though the write ends first. Of what is told of words nothing is an operation.
 #[test]
 fn operations_by_their_starts(rt: HostRuntime) -> Result<(), Fail> {
-    let ops = operations(
+    let told = operations(
         rt.alloc(),
         &[
             READ,
@@ -45,16 +61,21 @@ fn operations_by_their_starts(rt: HostRuntime) -> Result<(), Fail> {
             FIVE_AT_SIX,
             OPEN_AND_DROPPED,
             WITHOUT_DATA,
+            REFUSED,
+            MISALIGNED,
             LAST,
             UNKNOWN,
         ],
     )?;
-    let times: Vec<(u64, u64, u16)> = ops
+    let times: Vec<(u64, u64, u16)> = told
+        .operations
         .iter()
         .map(|op| (op.start, op.end, op.src))
         .collect(rt.alloc())?;
     let wanted = [(3, 6, 0), (4, 5, 0), (7, u64::MAX, 1)];
     assert_same(&rt, times.as_slice(), wanted.as_slice());
+    let reasons = [Refusal::OutOfRegion, Refusal::Misaligned];
+    assert_same(&rt, told.refusals.as_slice(), reasons.as_slice());
     Ok(())
 }
 
@@ -78,7 +99,7 @@ fn lines_that_tell_no_operations(rt: HostRuntime) -> Result<(), Fail> {
             }),
         ),
     ] {
-        let found = operations(rt.alloc(), texts).map(|ops| ops.len());
+        let found = operations(rt.alloc(), texts).map(|told| told.operations.len());
         assert_same(&rt, (texts.len(), found), (texts.len(), *wanted));
     }
     Ok(())
