@@ -6,7 +6,7 @@ use Rattle.chi_fields.specs.declared.refusal.Refusal.{Refusal}
 use Rattle.chi_trace.specs.declared.observed.Observed.{Observed}
 use Rattle.chi_reading.specs.declared.fault.TraceFault.TheVariants as trace_fault
 use Rattle.chi_reading.specs.TraceText.{IsOf, RecordedValue, TextValue, trace_text}
-use Rattle.chi_watch_text.specs.Operations.{AreOperations, IsOperationsFault}
+use Rattle.chi_watch_text.specs.Operations.{AreOperations, AreRefusals, IsOperationsFault}
 use Rattle.chi_cover.specs.declared.bin.Bin.{Bin}
 use Rattle.chi_cover.specs.Bins.{all_bins}
 use Rattle.chi_cover.specs.Counts.{IsAdded, count_in, count_of, most, percent_of}
@@ -45,10 +45,9 @@ pub record IsTraceOf (input : List ℕ) (ops : List Observed) (refusals : List R
   pub operations : recorded.trace.operations ≡ ops
   pub refused : recorded.refusals ≡ refusals
 
--- the operations of an input, and why its other requests were refused: those of the trace that it is, or the operations that its
--- events tell, which tell no refusal
+-- the operations of an input, and why its other requests were refused: those of the trace that it is, or those that its events tell
 abbrev pub AreOf : Bool → List ℕ → List Observed → List Refusal → Type 0
-AreOf true input ops refusals = AreOperations input ops × (refusals ≡ [])
+AreOf true input ops refusals = AreOperations input ops × AreRefusals input refusals
 AreOf false input ops refusals = IsTraceOf input ops refusals
 
 -- what one input tells

@@ -56,20 +56,19 @@ fn add_trace(alloc: Global, counted: &mut Counted, input: &[u8]) -> Result<(), S
     }
 }
 
-// Adds the operations that events tell.
+// Adds the operations and the refusals that events tell.
 fn add_events(alloc: Global, counted: &mut Counted, input: &[u8]) -> Result<(), SourceFault>
     ensures added { OnOk result (Adds true input.now counted.old counted.new) }
     ensures fault { IfErr result (IsTraceFault true input.now) }
 {
     let mut lines = input;
-    let ops = match read_operations(alloc, &mut lines) {
-        Ok(told) => told.operations,
+    let told = match read_operations(alloc, &mut lines) {
+        Ok(told) => told,
         Err(fault) => return Err(SourceFault::Events(fault)),
     };
-    match counted.covered.add(alloc, &ops) {
+    match counted.covered.add(alloc, &told.operations) {
         Ok(()) => {
-            // Events tell no refusal.
-            counted.refusals.add(&[]);
+            counted.refusals.add(&told.refusals);
             Ok(())
         }
         Err(_) => Err(SourceFault::Memory),

@@ -1,12 +1,10 @@
 -- the event that a line tells, or its first fault
-use Rattle.std.specs.Prelude.{ℕ, false, ◌+◌, ◌-◌, ◌/◌, ◌^◌, nat_le, ◌&&◌, ◌||◌, Bool, if◌then◌else◌, List, [], ◌∷◌, codes, find, Option, None, Some, is_some, option_and_then, option_map, Result, Ok, Err}
+use Rattle.std.specs.Prelude.{ℕ, false, ◌+◌, ◌-◌, ◌/◌, ◌^◌, nat_le, ◌&&◌, ◌||◌, Bool, if◌then◌else◌, List, [], ◌∷◌, codes, Option, None, Some, is_some, option_and_then, option_map, Result, Ok, Err}
 use Rattle.std.specs.Option.{ok_or}
 use Rattle.std.specs.Str.{bytes_eq}
 use Rattle.serde_json.specs.Data.{Data}
 use Rattle.serde_json.specs.Find.{as_bool, as_object, as_str, get}
-use Rattle.chi_fields.specs.Refusal.{name_of}
 use Rattle.chi_fields.specs.declared.refusal.Refusal.{Refusal}
-use Rattle.chi_fields.specs.declared.refusal.Refusal.TheVariants.{UnknownOpcode, ReservedSize, SizeOutOfProfile, Misaligned, OutOfRegion, BadByteEnable}
 use Rattle.chi_json.specs.declared.member.MemberFault.{MemberFault}
 use Rattle.chi_json.specs.declared.member.MemberFault.TheVariants as member_fault
 use Rattle.chi_json.specs.declared.text.TextFault.{TextFault}
@@ -17,6 +15,7 @@ use Rattle.chi_reading.specs.declared.member.Member.{Member}
 use Rattle.chi_reading.specs.declared.member.Member.TheVariants as name
 use Rattle.chi_reading.specs.Member.{member_name}
 use Rattle.chi_reading.specs.Faults.{faultless}
+use Rattle.chi_reading.specs.Refused.{refusal_of}
 use Rattle.chi_reading.specs.Requests.{asked_of, fields_of, seen_of}
 use Rattle.chi_reading.specs.Told.{start_of, word_of as granule_word}
 use Rattle.chi_reading.specs.Unknown.{unknown_in}
@@ -96,14 +95,10 @@ completion_of d = do
   reply ← member_by member_name name.Reply seen_of d
   Ok (record { id = id; reply = reply })
 
--- the refusal of this name
-abbrev pub refusal_named : List ℕ → Option Refusal
-refusal_named s = find (λ reason. bytes_eq s (name_of reason)) (UnknownOpcode ∷ ReservedSize ∷ SizeOutOfProfile ∷ Misaligned ∷ OutOfRegion ∷ BadByteEnable ∷ [])
-
 -- why a request was refused, by the member `reason`, where it is there
 abbrev pub reason_by : Option Data → Result (Option Refusal) (MemberFault Member)
 reason_by None = Ok None
-reason_by (Some d) = ok_or (option_map Some (option_and_then refusal_named (as_str d))) (member_fault.BadMember name.Reason)
+reason_by (Some d) = ok_or (option_map Some (refusal_of d)) (member_fault.BadMember name.Reason)
 
 -- a request that was refused
 unfoldable pub refused_of : Data → Result EventKind (MemberFault Member)

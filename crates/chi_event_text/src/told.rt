@@ -9,7 +9,7 @@ ghost use Rattle.chi_json.specs.Members.{member_by};
 ghost use Rattle.chi_reading.specs.Member.{member_name};
 ghost use Rattle.chi_reading.specs.Requests.{seen_of};
 ghost use Rattle.chi_reading.specs.Told.{start_of, word_of as granule_word};
-ghost use Rattle.chi_event_text.specs.EventText.{completion_of, final_by, packet_of, reason_by, refusal_named, refused_of, requested_of, told_of, unknown_of, word_of};
+ghost use Rattle.chi_event_text.specs.EventText.{completion_of, final_by, packet_of, reason_by, refused_of, requested_of, told_of, unknown_of, word_of};
 
 use crate::kind::LineKind;
 use chi_events::{Completion, EventKind, Packet, Requested};
@@ -17,7 +17,8 @@ use chi_fields::Refusal;
 use chi_json::{MemberFault, number};
 use chi_lanes::Reply;
 use chi_reading::{
-    Member, granule_start, granule_word, lanes, request_asked, request_fields, seen_reply,
+    Member, granule_start, granule_word, lanes, refusal_named, request_asked, request_fields,
+    seen_reply,
 };
 use chi_verdict::GranuleWord;
 use serde_json::Value;
@@ -84,21 +85,6 @@ fn completion(object: &Value) -> Result<Completion, MemberFault<Member>>
     Ok(Completion { id, reply })
 }
 
-/// The refusal of this name.
-fn refusal_named(name: &str) -> Option<Refusal>
-    ensures { result ≡ refusal_named name.now }
-{
-    match name {
-        "UnknownOpcode" => Some(Refusal::UnknownOpcode),
-        "ReservedSize" => Some(Refusal::ReservedSize),
-        "SizeOutOfProfile" => Some(Refusal::SizeOutOfProfile),
-        "Misaligned" => Some(Refusal::Misaligned),
-        "OutOfRegion" => Some(Refusal::OutOfRegion),
-        "BadByteEnable" => Some(Refusal::BadByteEnable),
-        _ => None,
-    }
-}
-
 /// Why a request was refused, in the member `reason`, where it is there.
 fn reason(object: &Value) -> Result<Option<Refusal>, MemberFault<Member>>
     ensures { result ≡ reason_by (get (member_name Member.Reason) (view object.now)) }
@@ -106,7 +92,7 @@ fn reason(object: &Value) -> Result<Option<Refusal>, MemberFault<Member>>
     let Some(value) = object.get(Member::Reason.name()) else {
         return Ok(None);
     };
-    match value.as_str().and_then(refusal_named) {
+    match refusal_named(value) {
         Some(reason) => Ok(Some(reason)),
         None => Err(MemberFault::BadMember(Member::Reason)),
     }
