@@ -27,9 +27,10 @@ def below(crate, uses):
 
 
 @contextlib.contextmanager
-def moved(libraries, room):
-    """What was built of the libraries stands in the room meanwhile, so that rt goes on from it."""
+def copied(libraries, room):
+    """The libraries stand in the room, with what was built of them meanwhile, so that rt goes on from it."""
     for it in libraries:
+        shutil.copytree(f"crates/{it}", f"{room}/crates/{it}", ignore=shutil.ignore_patterns("out", "must-fail"))
         if os.path.isdir(f"crates/{it}/out"):
             os.rename(f"crates/{it}/out", f"{room}/crates/{it}/out")
     try:
@@ -40,25 +41,49 @@ def moved(libraries, room):
                 os.rename(f"{room}/crates/{it}/out", f"crates/{it}/out")
 
 
+def in_two(libraries, uses):
+    """Returns the libraries that can be proved side by side, and then those that have to wait for all of them, in their order."""
+    heights = {}
+    for it in sorted(libraries, key=lambda it: len(below(it, uses))):
+        heights[it] = 1 + max((heights[other] for other in uses[it]), default=0)
+    beside, after = set(libraries), []
+    while True:
+        tops = [it for it in beside if heights[it] == max(heights[other] for other in beside)]
+        if len(tops) > 1 or len(beside) < 2:
+            return sorted(beside), after
+        beside -= {*tops}
+        after[:0] = tops
+
+
+def run(words, folder):
+    """Runs rt, and ends the program with what it said where it fails."""
+    how = {"stdout": subprocess.PIPE, "stderr": subprocess.STDOUT, "text": True, "errors": "replace"}
+    ran = subprocess.run(words, cwd=folder, timeout=LIMIT, **how)
+    if ran.returncode:
+        sys.exit(f"{ran.stdout[-3000:]}\n{' '.join(words)} failed in {folder}")
+
+
 def build(crates):
-    """Proves and builds the libraries below these crates, as many side by side as can be, and ends the program where one is not proved."""
+    """Proves and builds the libraries below these crates, as many side by side as can be."""
     lines, uses = crates_txt()
     libraries = sorted(set().union(*(below(it, uses) for it in crates)))
+    beside, after = in_two(libraries, uses)
     room = f"out/{TOP}"
     shutil.rmtree(room, ignore_errors=True)
     # rt builds side by side only what another crate uses
     os.makedirs(f"{room}/crates/{TOP}/src")
     with open(f"{room}/crates/{TOP}/src/lib.rt", "w", encoding="utf-8") as file:
         file.write("//! Stands on the libraries that are to be built.\n#![tactic(auto)]\n")
-    with open(f"{room}/crates.txt", "w", encoding="utf-8") as file:
-        file.writelines([lines[it] for it in libraries] + [f"{TOP}: {' '.join(libraries)}\n"])
     shutil.copy("HANDLES", room)
-    for it in libraries:
-        shutil.copytree(f"crates/{it}", f"{room}/crates/{it}", ignore=shutil.ignore_patterns("out", "must-fail"))
-    # those that wait for others take no processor
-    words = ["rt", "all", "check", "--jobs", str(len(libraries) + 1)]
-    with moved(libraries, room):
-        ran = subprocess.run(words, cwd=f"{room}/crates", stdout=subprocess.PIPE, stderr=subprocess.STDOUT, text=True, errors="replace", timeout=LIMIT)
+    with open(f"{room}/crates.txt", "w", encoding="utf-8") as file:
+        file.writelines([lines[it] for it in beside] + [f"{TOP}: {' '.join(beside)}\n"])
+    with copied(beside, room):
+        # those that wait for others take no processor
+        run(["rt", "all", "check", "--jobs", str(len(beside) + 1)], f"{room}/crates")
+        with open(f"{room}/crates.txt", "a", encoding="utf-8") as file:
+            file.writelines(lines[it] for it in after)
+        with copied(after, room):
+            for it in after:
+                # with nothing beside it, one library takes several processors
+                run(["rt", "lib"], f"{room}/crates/{it}")
     shutil.rmtree(room)
-    if ran.returncode:
-        sys.exit(f"{ran.stdout[-3000:]}\n{' '.join(crates)}: a library below is not proved")
