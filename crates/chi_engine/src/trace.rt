@@ -1,6 +1,6 @@
 //! A script's requests executed one after another, and the trace that they are.
 
-ghost use Rattle.std.specs.Prelude.{◌≡◌, ◌+◌, OnOk, IfOk, Some, filter_map, length, map, string_bytes};
+ghost use Rattle.std.specs.Prelude.{◌≡◌, ◌+◌, OnOk, IfOk, Some, length, map, string_bytes};
 ghost use Rattle.std.specs.Option.{option_map};
 ghost use Rattle.serde_json.specs.View.{members_view, view};
 ghost use Rattle.chi_history.specs.NumberSets.{AllFrom, below};

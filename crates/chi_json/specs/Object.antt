@@ -1,7 +1,7 @@
 -- objects of JSON, by the members that are put into them one after another
 use Rattle.std.specs.Prelude.{◌≡◌, ℕ, Bool, if◌then◌else◌, List, flat_map, Ok, codes}
 use Rattle.hex.specs.Hex.{decode_sized, encode_lower}
-use Rattle.serde_json.specs.Data.{Data, number, unsigned, string, array, Items, Members, put}
+use Rattle.serde_json.specs.Data.{number, unsigned, string, array, Items, Members, put}
 use Rattle.chi_fields.specs.declared.request.Request.{Request}
 use Rattle.chi_lanes.specs.Bytes.{little_bytes}
 

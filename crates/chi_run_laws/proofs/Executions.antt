@@ -4,7 +4,7 @@ use Rattle.std.proofs.Math.Seq.{get_or-append_seam}
 use Rattle.std.proofs.lemmas.Grind.{common_steps}
 use Rattle.std.proofs.lemmas.List.{get_or-append-add}
 use Rattle.std.specs.List.{cons_option, enumerate_from, filter_map, range_with_len}
-use Rattle.std.specs.Prelude.{nat_lt, option_map}
+use Rattle.std.specs.Prelude.{option_map}
 use Rattle.chi_fields.specs.Access.{Access}
 use Rattle.chi_fields.specs.Extent.{Extent}
 use Rattle.chi_fields.specs.Opcode.{kind_of}
@@ -15,7 +15,6 @@ use Rattle.chi_fields.specs.declared.request.Request.{Request}
 use Rattle.chi_lanes.specs.After.{after, answer}
 use Rattle.chi_lanes.specs.Memory.{Memory}
 use Rattle.chi_history.specs.declared.line.Line.{Line}
-use Rattle.chi_history.specs.declared.line.Line.TheVariants.{Completed, Refused}
 use Rattle.chi_history.specs.History.{one_if}
 use Rattle.chi_history.specs.Lines.{serial, serial_after, serial_end, serial_line}
 use Rattle.chi_trace.specs.declared.observed.Observed.{Observed}

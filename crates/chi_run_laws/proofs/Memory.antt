@@ -1,5 +1,5 @@
 -- the memory of a region's words
-use Rattle.std.proofs.Common.{◌≡◌, ℕ, zero, suc, ◌+◌, ◌-◌, ◌*◌, ◌/◌, ◌%◌, ◌^◌, ◌<◌, ◌≤◌, ◌==◌, ◌&&◌, nat_le, nat_lt, Bool, true, false, if◌then◌else◌, List, [], ◌∷◌, length, slice_index, Option, None, Some, IfSome, refl, sym, ap, subst, ◌∙◌, arith, ltb-true}
+use Rattle.std.proofs.Common.{◌≡◌, ℕ, zero, suc, ◌+◌, ◌-◌, ◌*◌, ◌/◌, ◌%◌, ◌^◌, ◌<◌, ◌≤◌, ◌==◌, nat_le, nat_lt, Bool, true, false, List, [], ◌∷◌, length, slice_index, Option, None, Some, IfSome, refl, sym, ap, subst, ◌∙◌, arith, ltb-true}
 use Rattle.std.proofs.Math.Nat.{zero-div}
 use Rattle.std.proofs.Math.Path.{fun_ext}
 use Rattle.std.proofs.lemmas.Bool.{le-leb, ltb-false}
@@ -13,7 +13,7 @@ use Rattle.chi_script.specs.RunText.{granule_words}
 use Rattle.chi_script.proofs.GranuleWords.{get_or-granule_words, length-granule_words}
 use Rattle.chi_trace.specs.Explains.{word_of}
 use Rattle.chi_verdict.specs.declared.words.GranuleWord.{GranuleWord}
-use Rattle.chi_verdict.specs.Words.{memory_of, told, word_told}
+use Rattle.chi_verdict.specs.Words.{memory_of, told}
 use Rattle.chi_reading.specs.Told.{region_words}
 
 -- no word is told of a granule before a region's first

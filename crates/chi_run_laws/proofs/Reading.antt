@@ -1,9 +1,8 @@
 -- the requests of a run's trace, as they are read
-use Rattle.std.proofs.Common.{◌≡◌, ℕ, zero, suc, ◌+◌, ◌-◌, ◌*◌, ◌^◌, ◌<◌, ◌≤◌, ◌==◌, nat_lt, Bool, true, false, List, [], ◌∷◌, ◌++◌, All, length, Option, None, Some, Result, Ok, Err, refl, sym, ap, subst, ◌∙◌, arith, true≢false}
+use Rattle.std.proofs.Common.{◌≡◌, ℕ, ◌-◌, ◌^◌, ◌≤◌, ◌==◌, nat_lt, Bool, true, false, List, length, Option, None, Some, Ok, Err, refl, ap, ◌∙◌, arith}
 use Rattle.std.specs.Prelude.{codes}
 use Rattle.std.specs.Str.{bytes_eq}
 use Rattle.std.proofs.lemmas.Bool.{le-leb, le-ltb}
-use Rattle.std.proofs.lemmas.List.Elements.{All-head, All-tail}
 use Rattle.std.proofs.lemmas.Slice.Eq.{bytes_eq-Decides}
 use Rattle.hex.specs.Hex.{encode_lower}
 use Rattle.hex.proofs.HexLemmas.{decode_sized-ok}
@@ -17,7 +16,7 @@ use Rattle.chi_fields.specs.declared.kind.Kind.{Kind}
 use Rattle.chi_fields.specs.declared.refusal.Refusal.{Refusal}
 use Rattle.chi_fields.specs.declared.refusal.Refusal.TheVariants.{UnknownOpcode, ReservedSize, SizeOutOfProfile, Misaligned, OutOfRegion, BadByteEnable}
 use Rattle.chi_fields.specs.declared.request.Request.{Request}
-use Rattle.chi_lanes.specs.After.{after, answer}
+use Rattle.chi_lanes.specs.After.{answer}
 use Rattle.chi_lanes.specs.Memory.{Memory}
 use Rattle.chi_lanes.specs.declared.reply.Reply.{Reply}
 use Rattle.chi_lanes.specs.declared.reply.Reply.TheVariants.{Comp, CompData}
@@ -156,8 +155,16 @@ answered_reads : (region : Extent) (place : ℕ) (q : Request) (a : Access) (rep
 unfolding completed_at stated_at stated_of end_of observed_of unknown_in is_known taken_at with_request with_number with_bytes
 answered_reads region place q a reply x told within seen is faultless =
     let d : Data = object (put (codes "reply") x (taken_at place q)) in
-    rw (asked_answered place q x told, number_here Start (2 ^ 64 - 1) place d refl within, number_here End (2 ^ 64 - 1) place d refl within, seen,
-    same_decision region q, is, no_later place, faultless) refl
+    rw (
+      asked_answered place q x told,
+      number_here Start (2 ^ 64 - 1) place d refl within,
+      number_here End (2 ^ 64 - 1) place d refl within,
+      seen,
+      same_decision region q,
+      is,
+      no_later place,
+      faultless,
+    ) refl
 
 -- so does one that was completed
 pub completed_reads : (region : Extent) (place : ℕ) (q : Request) (a : Access) (m : Memory) → IsTold q → place ≤ 2 ^ 64 - 1 → IsReply (answer a m) → decision q region ≡ Ok a
@@ -173,5 +180,13 @@ unfolding completed_at stated_at stated_of end_of refused_of unknown_in is_known
 refused_reads region place q refusal told within is =
     let x : Data = string (name_of refusal) in
     let d : Data = object (put (codes "refused") x (taken_at place q)) in
-    rw (asked_refused place q x told, number_here Start (2 ^ 64 - 1) place d refl within, number_here End (2 ^ 64 - 1) place d refl within, reason_read refusal,
-    same_decision region q, is, refused_so refusal, no_later place) refl
+    rw (
+      asked_refused place q x told,
+      number_here Start (2 ^ 64 - 1) place d refl within,
+      number_here End (2 ^ 64 - 1) place d refl within,
+      reason_read refusal,
+      same_decision region q,
+      is,
+      refused_so refusal,
+      no_later place,
+    ) refl

@@ -1,5 +1,5 @@
 -- the run of a script that is read
-use Rattle.std.proofs.Common.{◌≡◌, ℕ, zero, suc, ◌+◌, ◌-◌, ◌/◌, ◌^◌, ◌<◌, ◌≤◌, List, [], ◌∷◌, All, length, Option, Some, IfSome, Result, Ok, Err, refl, sym, ap, subst, ◌∙◌, arith}
+use Rattle.std.proofs.Common.{◌≡◌, ℕ, zero, suc, ◌+◌, ◌-◌, ◌^◌, ◌<◌, ◌≤◌, List, [], ◌∷◌, All, length, Option, IfSome, Result, Ok, Err, refl, sym, ap, subst, ◌∙◌, arith}
 use Rattle.std.proofs.lemmas.List.Elements.{All-cons, All-head, All-nil, All-tail}
 use Rattle.std.specs.List.{range_with_len}
 use Rattle.serde_json.specs.Events.{items_len}
@@ -14,26 +14,23 @@ use Rattle.chi_lanes.specs.Memory.{IsMemory, Memory, word_at}
 use Rattle.chi_lanes.proofs.AfterLemmas.{IsMemory-after}
 use Rattle.chi_lanes.proofs.MemoryLemmas.{word_at-below}
 use Rattle.chi_history.specs.History.{one_if, opening_memory}
-use Rattle.chi_history.specs.Lines.{serial, serial_after, serial_end}
+use Rattle.chi_history.specs.Lines.{serial_after, serial_end}
 use Rattle.chi_history.proofs.WordLemmas.{IsMemory-opening_memory}
 use Rattle.chi_trace.specs.declared.observed.Observed.{Observed}
 use Rattle.chi_trace.specs.Chosen.{chosen}
 use Rattle.chi_trace.specs.Explains.{Explains, IsTrace, is_place, times_in, word_of}
 use Rattle.chi_verdict.specs.Words.{memory_of, told}
-use Rattle.chi_verdict.specs.Traces.{IsExplained}
-use Rattle.chi_reading.specs.Told.{region_words}
-use Rattle.chi_reading.specs.TraceText.{IsOf, RecordedValue, TextValue, trace_text}
 use Rattle.chi_script.specs.RunText.{granule_words}
 use Rattle.chi_script.specs.Script.{ScriptValue, script}
 use Rattle.chi_script.proofs.GranuleWords.{length-granule_words}
 use Rattle.chi_engine.specs.Store.{opening_of, requester_count}
-use Rattle.chi_engine.specs.Trace.{IsTraceText, final_words_of, lines_of}
+use Rattle.chi_engine.specs.Trace.{final_words_of, lines_of}
 use Rattle.chi_run_laws.specs.Executed.{executed}
-use Rattle.chi_run_laws.specs.RunLaws.{IsRunOf, RunIsExplained, RunIsReadInOrder, TraceOfRunIsRead}
+use Rattle.chi_run_laws.specs.RunLaws.{RunIsExplained, RunIsReadInOrder, TraceOfRunIsRead}
 use Rattle.chi_run_laws.proofs.Accepted.{lawful}
 use Rattle.chi_run_laws.proofs.Bounds.{IsImage, IsSound, script_sound}
 use Rattle.chi_run_laws.proofs.Elements.{count_of_data, requests_read}
-use Rattle.chi_run_laws.proofs.Executions.{explained, ran, ran_apart}
+use Rattle.chi_run_laws.proofs.Executions.{explained, ran_apart}
 use Rattle.chi_run_laws.proofs.Memory.{ending_is, memory_is}
 use Rattle.chi_run_laws.proofs.Order.{in_order}
 use Rattle.chi_run_laws.proofs.Told.{IsTold}
@@ -75,10 +72,11 @@ trace_is_read input text s read value =
     let within : 0 + length s.requests ≤ 2 ^ 64 - 1 = omega (arith, sound.few) in
     let elements = requests_read s.region sound.region s.requests 0 (start s) (IsMemory-opening_memory (opening_of s)) sound.requests within in
     let count = count_of_data s.region s.requests 0 (start s) in
-    let few : items_len (items_of _) ≤ 1048576 = omega (arith, count, sound.few) in
-    (read_value s.region s.image (final_words_of s) elements.completed,
-    text_reads s.region s.image (final_words_of s) (lines_of s) elements.completed text sound.region sound.image (final_sound s sound) few elements.read value,
-    record { region = refl; opening = refl; final_words = refl; operations = elements.operations; refusals = elements.refusals })
+    let few : items_len (items_of _) ≤ 1048576 = omega (arith, count, sound.few) in (
+      read_value s.region s.image (final_words_of s) elements.completed,
+      text_reads s.region s.image (final_words_of s) (lines_of s) elements.completed text sound.region sound.image (final_sound s sound) few elements.read value,
+      record { region = refl; opening = refl; final_words = refl; operations = elements.operations; refusals = elements.refusals },
+    )
 
 pub read_in_order : RunIsReadInOrder
 read_in_order s t r is recorded sorted =

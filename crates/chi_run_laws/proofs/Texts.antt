@@ -1,21 +1,18 @@
 -- the text of a run's trace, as it is read
-use Rattle.std.proofs.Common.{◌≡◌, ℕ, zero, suc, ◌+◌, ◌-◌, ◌*◌, ◌/◌, ◌^◌, ◌<◌, ◌≤◌, nat_lt, false, List, [], ◌∷◌, All, length, Some, Result, Ok, Err, refl, sym, ap, ◌∙◌, arith}
-use Rattle.std.proofs.lemmas.Bool.{le-leb, le-ltb}
-use Rattle.serde_json.specs.Data.{Data, number, unsigned}
+use Rattle.std.proofs.Common.{◌≡◌, ℕ, ◌-◌, ◌/◌, ◌^◌, ◌≤◌, nat_lt, false, List, Some, Ok, refl, arith}
+use Rattle.std.proofs.lemmas.Bool.{le-ltb}
 use Rattle.serde_json.specs.Events.{items_len}
-use Rattle.serde_json.specs.Find.{get}
 use Rattle.serde_json.specs.View.{items_of}
 use Rattle.chi_fields.specs.Extent.{Extent, IsRegion, region_of}
 use Rattle.chi_history.specs.declared.line.Line.{Line}
 use Rattle.chi_json.specs.Members.{number_of, opening_words, stated_words}
-use Rattle.chi_json.specs.Object.{with_array, with_bytes, with_number, word_bytes}
+use Rattle.chi_json.specs.Object.{with_array, with_bytes, with_number}
 use Rattle.chi_json.specs.Values.{json_value}
 use Rattle.chi_reading.specs.Member.{member_name}
 use Rattle.chi_reading.specs.Requests.{Completed, all_completed, completed_of}
 use Rattle.chi_reading.specs.Told.{region_words}
-use Rattle.chi_reading.specs.TraceText.{TextValue, object_text, region_memory, trace_text}
+use Rattle.chi_reading.specs.TraceText.{TextValue, object_text, trace_text}
 use Rattle.chi_reading.specs.Unknown.{is_known, unknown_in}
-use Rattle.chi_reading.specs.declared.member.Member.{Member}
 use Rattle.chi_reading.specs.declared.member.Member.TheVariants.{Base, Granules, Image, Final}
 use Rattle.chi_engine.specs.Trace.{lines_data, trace_data}
 use Rattle.chi_run_laws.proofs.Bounds.{IsImage}

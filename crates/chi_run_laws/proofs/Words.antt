@@ -1,10 +1,9 @@
 -- words of granules that are read as they were written
-use Rattle.std.proofs.Common.{◌≡◌, ℕ, zero, suc, ◌+◌, ◌*◌, ◌/◌, ◌%◌, ◌^◌, ◌<◌, List, [], ◌∷◌, ◌++◌, All, drop, length, length-append, take, refl, sym, ap, ◌∙◌, arith, lit< , mod-eq_of_lt}
+use Rattle.std.proofs.Common.{◌≡◌, ℕ, zero, suc, ◌+◌, ◌*◌, ◌/◌, ◌^◌, ◌<◌, List, [], ◌∷◌, ◌++◌, All, drop, length, length-append, take, refl, sym, ap, ◌∙◌, arith, lit<, mod-eq_of_lt}
 use Rattle.std.proofs.Math.Seq.{take-append_seam}
 use Rattle.std.proofs.lemmas.List.Elements.{All-head, All-tail}
 use Rattle.std.specs.Prelude.{map}
 use Rattle.std.specs.Simd.{first_chunks}
-use Rattle.hex.specs.Hex.{IsBytes}
 use Rattle.chi_lanes.specs.Bytes.{AreBytes, little, little_bytes}
 use Rattle.chi_lanes.proofs.ByteLists.{AreBytes-append, AreBytes-little_bytes}
 use Rattle.chi_lanes.proofs.Digits.{length-little_bytes, little_little_bytes}

@@ -1,5 +1,5 @@
 -- one line more
-use Rattle.std.proofs.Common.{refl, sym, ap, ◌∙◌}
+use Rattle.std.proofs.Common.{sym, ap, ◌∙◌}
 use Rattle.std.specs.Prelude.{option_map}
 use Rattle.serde_json.specs.View.{view}
 use Rattle.chi_engine.proofs.TraceLemmas.{all_told, told_none, told_some}
