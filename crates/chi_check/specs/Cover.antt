@@ -4,6 +4,7 @@ use Rattle.std.specs.Io.KnownBytes.{Appends}
 use Rattle.chi_script.specs.WriterBytes.{AppendsFront}
 use Rattle.chi_fields.specs.declared.refusal.Refusal.{Refusal}
 use Rattle.chi_trace.specs.declared.observed.Observed.{Observed}
+use Rattle.chi_trace.specs.Explains.{IsTrace}
 use Rattle.chi_reading.specs.declared.fault.TraceFault.TheVariants as trace_fault
 use Rattle.chi_reading.specs.TraceText.{IsOf, RecordedValue, TextValue, trace_text}
 use Rattle.chi_watch_text.specs.Operations.{AreOperations, AreRefusals, IsOperationsFault}
@@ -36,13 +37,14 @@ abbrev pub AreInputs : (List ℕ → List ℕ → Type 0) → List (List ℕ) �
 AreInputs holds [] input inputs = inputs ≡ input ∷ []
 AreInputs holds (path ∷ paths) input inputs = AreHeld holds (path ∷ paths) inputs
 
--- the input is a trace of these operations, whose other requests were refused for these reasons
+-- the input is a trace of these operations, by their starts, whose other requests were refused for these reasons
 pub record IsTraceOf (input : List ℕ) (ops : List Observed) (refusals : List Refusal) : Type 0 where
   pub value : TextValue
   pub read : trace_text input ≡ Ok value
   pub recorded : RecordedValue
   pub is : IsOf value recorded
   pub operations : recorded.trace.operations ≡ ops
+  pub sorted : IsTrace ops
   pub refused : recorded.refusals ≡ refusals
 
 -- the operations of an input, and why its other requests were refused: those of the trace that it is, or those that its events tell

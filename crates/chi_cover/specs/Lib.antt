@@ -1,7 +1,6 @@
 pub mod Added
 pub mod Bins
 pub mod Counts
-pub mod Executed
 pub mod Numbers
 pub mod Open
 pub mod Operations
