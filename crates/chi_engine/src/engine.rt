@@ -26,7 +26,7 @@ const MOST_SRC: u8 = 7;
 /// Reads a script, executes its requests in order on the memory that it opens with, and writes the transcript.
 ///
 /// Nothing is written unless the whole script was read and the store was opened. Where there is no memory for
-/// the work, the lines of the requests before it are written, without memory lines. After a fault of the
+/// the work, a prefix of the requests' lines is written, without memory lines. After a fault of the
 /// writer a prefix of the transcript has been written.
 ///
 /// ```

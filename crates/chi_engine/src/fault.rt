@@ -14,7 +14,8 @@ use thiserror::Error;
 /// - `TooLong`: the input has more than 4,194,304 bytes.
 /// - `Memory`: no memory for the input, for the racers or for the words of the memory lines.
 /// - `Script`, `Open`: the script or the opening of the store was refused. Up to here nothing is written.
-/// - `Work`: no memory for a request's lines. The lines before it are written, and no memory lines.
+/// - `Work`: no memory for a request's lines. A prefix of the requests' lines is written (of a race, one of each
+///   requester's), and no memory lines.
 /// - `Write`: the transcript was not written whole.
 #[derive(Debug, Drop, Error)]
 pub enum EngineFault {

@@ -96,7 +96,7 @@ const GENERATE: [NamedOption<'static>; 9] = [
     NamedOption {
         name: "mix",
         takes: Takes::TextOr("KIND=WEIGHT,..", MIX),
-        help: "How often read, write, store, load, swap and compare are drawn; others never",
+        help: "How often read, write, store, load, swap and compare are drawn",
     },
 ];
 

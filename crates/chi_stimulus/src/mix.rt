@@ -59,7 +59,7 @@ fn entry_in(part: &str) -> Option<Entry>
 
 impl Mix {
     /// The weights that a text names, as `load=3,store=2`. An entry is KIND=WEIGHT, with a weight of 0 to 1000 that may
-    /// follow a `+`. Of a kind the last entry counts; one that is not named is not drawn. The text is refused where a part
+    /// follow a `+`. Of a kind the last entry counts; one that is not named has the weight 0. The text is refused where a part
     /// between commas is no entry, or where all weights are 0.
     ///
     /// Source: profile.
