@@ -1,5 +1,6 @@
 """The libraries below crates, proved and built side by side: `.ci/libraries`, and what `.ci/edits` stands on."""
 
+import concurrent.futures
 import contextlib
 import os
 import shutil
@@ -42,17 +43,21 @@ def copied(libraries, room):
 
 
 def in_two(libraries, uses):
-    """Returns the libraries that can be proved side by side, and then those that have to wait for all of them, in their order."""
+    """Returns the libraries that are proved first, side by side, and then the others by what they wait for: those that the tallest
+    stand on one after the other, and those that stand on some of the first and that the tallest do not need."""
     heights = {}
     for it in sorted(libraries, key=lambda it: len(below(it, uses))):
         heights[it] = 1 + max((heights[other] for other in uses[it]), default=0)
-    beside, after = set(libraries), []
+    first, tallest = set(libraries), []
     while True:
-        tops = [it for it in beside if heights[it] == max(heights[other] for other in beside)]
-        if len(tops) > 1 or len(beside) < 2:
-            return sorted(beside), after
-        beside -= {*tops}
-        after[:0] = tops
+        tops = [it for it in first if heights[it] == max(heights[other] for other in first)]
+        if len(tops) > 1 or len(first) < 2:
+            break
+        first -= {*tops}
+        tallest[:0] = tops
+    needed = set().union(*(below(it, uses) for it in tallest))
+    aside = [it for it in first if tallest and uses[it] and it not in needed]
+    return sorted(first - {*aside}), [tallest, *([it] for it in aside)]
 
 
 def run(words, folder):
@@ -63,11 +68,17 @@ def run(words, folder):
         sys.exit(f"{ran.stdout[-3000:]}\n{' '.join(words)} failed in {folder}")
 
 
+def build_each(crates, room):
+    """Builds these libraries one after the other; with nothing beside it, one takes several processors."""
+    for it in crates:
+        run(["rt", "lib"], f"{room}/crates/{it}")
+
+
 def build(crates):
     """Proves and builds the libraries below these crates, as many side by side as can be."""
     lines, uses = crates_txt()
     libraries = sorted(set().union(*(below(it, uses) for it in crates)))
-    beside, after = in_two(libraries, uses)
+    first, then = in_two(libraries, uses)
     room = f"out/{TOP}"
     shutil.rmtree(room, ignore_errors=True)
     # rt builds side by side only what another crate uses
@@ -76,14 +87,14 @@ def build(crates):
         file.write("//! Stands on the libraries that are to be built.\n#![tactic(auto)]\n")
     shutil.copy("HANDLES", room)
     with open(f"{room}/crates.txt", "w", encoding="utf-8") as file:
-        file.writelines([lines[it] for it in beside] + [f"{TOP}: {' '.join(beside)}\n"])
-    with copied(beside, room):
+        file.writelines([lines[it] for it in first] + [f"{TOP}: {' '.join(first)}\n"])
+    with copied(first, room):
         # those that wait for others take no processor
-        run(["rt", "all", "check", "--jobs", str(len(beside) + 1)], f"{room}/crates")
+        run(["rt", "all", "check", "--jobs", str(len(first) + 1)], f"{room}/crates")
+        others = [it for wave in then for it in wave]
         with open(f"{room}/crates.txt", "a", encoding="utf-8") as file:
-            file.writelines(lines[it] for it in after)
-        with copied(after, room):
-            for it in after:
-                # with nothing beside it, one library takes several processors
-                run(["rt", "lib"], f"{room}/crates/{it}")
+            file.writelines(lines[it] for it in others)
+        with copied(others, room), concurrent.futures.ThreadPoolExecutor() as pool:
+            for built in [pool.submit(build_each, wave, room) for wave in then]:
+                built.result()
     shutil.rmtree(room)
