@@ -4,9 +4,9 @@ use Rattle.chi_history.specs.History.{one_if}
 use Rattle.chi_trace.specs.Explains.{is_place}
 use Rattle.chi_trace.proofs.Orders.{ArePlaces, places_of}
 use Rattle.chi_verdict.specs.declared.first.Blame.{Blame}
-use Rattle.chi_verdict.specs.declared.words.GranuleWord.{GranuleWord}
+use Rattle.chi_trace.specs.declared.words.GranuleWord.{GranuleWord}
 use Rattle.chi_verdict.specs.Blames.{IsBlame}
-use Rattle.chi_verdict.specs.Traces.{IsExplained, TraceValue}
+use Rattle.chi_trace.specs.Traces.{IsExplained, TraceValue}
 
 first_of : (a b : Bool) → (a && b) ≡ true → a ≡ true
 first_of true b h = refl

@@ -3,7 +3,7 @@ use Rattle.std.proofs.Common.{◌≡◌, ℕ, ◌+◌, ◌≤◌, ◌⊎◌, inl
 use Rattle.chi_doubt.specs.Doubts.{IsAsFar}
 use Rattle.chi_search.specs.Looks.{LookedAtLeast, LookedMore, LookedSome}
 use Rattle.chi_search.proofs.Looking.{at_least_after, more_after, some_after}
-use Rattle.chi_verdict.specs.Traces.{TraceValue}
+use Rattle.chi_trace.specs.Traces.{TraceValue}
 use Rattle.chi_answer.specs.declared.answer.Answer.{Answer}
 use Rattle.chi_answer.specs.declared.answer.Answer.TheVariants.{Explained, Blamed, Unexplained, Undecided}
 use Rattle.chi_answer.specs.Answers.{IfUndecided, LookedForAnswer}

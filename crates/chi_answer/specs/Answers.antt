@@ -6,7 +6,7 @@ use Rattle.chi_doubt.specs.declared.doubt.Doubt.{Doubt}
 use Rattle.chi_search.specs.Found.{IfWords}
 use Rattle.chi_search.specs.Looks.{LookedMore}
 use Rattle.chi_verdict.specs.Blames.{IsBlame}
-use Rattle.chi_verdict.specs.Traces.{CanHold, IsExplained, IsExplainedIn, IsLegal}
+use Rattle.chi_trace.specs.Traces.{CanHold, IsExplained, IsExplainedIn, IsLegal}
 use Rattle.chi_reading.specs.TraceText.{RecordedValue}
 use Rattle.chi_answer.specs.declared.answer.Answer.{Answer}
 use Rattle.chi_answer.specs.declared.answer.Answer.TheVariants.{Explained, Blamed, Unexplained, Undecided}

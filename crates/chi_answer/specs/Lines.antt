@@ -1,17 +1,12 @@
 -- the lines of an answer
-use Rattle.std.specs.Prelude.{ℕ, ◌-◌, ◌*◌, ◌^◌, ◌%◌, ◌==◌, nat_lt, if◌then◌else◌, List, [], ◌++◌, codes, decimal, flat_map, length, slice_index_or, take, Option, None, Some}
-use Rattle.chi_fields.specs.declared.request.Request.{Request}
+use Rattle.std.specs.Prelude.{ℕ, ◌-◌, ◌*◌, ◌^◌, ◌%◌, ◌==◌, nat_lt, if◌then◌else◌, List, [], ◌++◌, codes, decimal, flat_map, length, take, Option, None, Some}
 use Rattle.chi_lanes.specs.declared.reply.Reply.{Reply}
 use Rattle.chi_trace.specs.Explains.{at}
-use Rattle.chi_trace.specs.declared.observed.Observed.{Observed}
+use Rattle.chi_trace.specs.Fields.{request_in}
+use Rattle.chi_trace.specs.declared.operation.Operation.{Operation}
 use Rattle.chi_script.specs.Transcript.{reply_text, request_text}
 use Rattle.chi_text.specs.Part.{address_text, word_text}
-use Rattle.chi_reading.specs.declared.asked.Asked.{Asked}
-use Rattle.chi_reading.specs.TraceText.{RecordedValue, no_request}
-
--- the request with the numbers of its requester and transaction
-abbrev pub request_in : Asked → Request
-request_in a = record { src = a.src; txn = a.txn; opcode = a.opcode; size = a.size; addr = a.addr; endian = a.endian; be = a.be; lanes = a.lanes }
+use Rattle.chi_reading.specs.TraceText.{RecordedValue}
 
 -- what was answered, where it was seen
 abbrev pub seen_text : Option Reply → List ℕ
@@ -19,8 +14,8 @@ seen_text None = codes "no reply"
 seen_text (Some reply) = reply_text reply
 
 -- the line of an operation: its request, and what was answered
-unfoldable pub operation_text : Asked → Option Reply → List ℕ
-operation_text a reply = request_text (request_in a) ++ (seen_text reply ++ codes "\n")
+unfoldable pub operation_text : Operation → Option Reply → List ℕ
+operation_text op reply = request_text (request_in op) ++ (seen_text reply ++ codes "\n")
 
 -- whether it was answered
 abbrev pub answered_text : Option Reply → List ℕ
@@ -28,12 +23,8 @@ answered_text None = codes "no reply"
 answered_text (Some reply) = codes "answered"
 
 -- the line of an operation whose data are told elsewhere
-unfoldable pub told_text : Asked → Option Reply → List ℕ
-told_text a reply = request_text (request_in a) ++ (answered_text reply ++ codes "\n")
-
--- the request at a place of the trace, the places counted from 0
-abbrev pub asked_at : RecordedValue → ℕ → Asked
-asked_at r i = slice_index_or r.requests i no_request
+unfoldable pub told_text : Operation → List ℕ
+told_text op = request_text (request_in op) ++ (answered_text op.reply ++ codes "\n")
 
 -- the granule of which no order explains the operations, by its address
 unfoldable pub granule_line : ℕ → List ℕ
@@ -57,20 +48,20 @@ abbrev pub until_text : ℕ → List ℕ
 until_text end = if end == 2 ^ 64 - 1 then codes " on: " else codes " to " ++ decimal end ++ codes ": "
 
 -- an operation that was open, with its times
-unfoldable pub open_line : Asked → Observed → List ℕ
-open_line a op = codes "  open from " ++ decimal op.start ++ until_text op.end ++ told_text a op.reply
+unfoldable pub open_line : Operation → List ℕ
+open_line op = codes "  open from " ++ decimal op.start ++ until_text op.end ++ told_text op
 
 -- the one at a place of the trace
 abbrev pub open_at : RecordedValue → ℕ → List ℕ
-open_at r i = open_line (asked_at r i) (at r.trace.operations i)
+open_at r i = open_line (at r.trace.operations i)
 
 -- the operation that ended at the time up to which they cannot be explained
-unfoldable pub blamed_line : ℕ → Asked → Observed → List ℕ
-blamed_line time a op = codes "at " ++ decimal time ++ codes ": " ++ told_text a op.reply
+unfoldable pub blamed_line : ℕ → Operation → List ℕ
+blamed_line time op = codes "at " ++ decimal time ++ codes ": " ++ told_text op
 
 -- the one at a place of the trace
 abbrev pub blamed_at : RecordedValue → ℕ → ℕ → List ℕ
-blamed_at r time i = blamed_line time (asked_at r i) (at r.trace.operations i)
+blamed_at r time i = blamed_line time (at r.trace.operations i)
 
 -- the time up to which they can, where there is one
 unfoldable pub explained_line : ℕ → ℕ → List ℕ

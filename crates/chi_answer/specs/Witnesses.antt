@@ -4,18 +4,18 @@ use Rattle.chi_lanes.specs.After.{after, answer}
 use Rattle.chi_lanes.specs.Memory.{Memory}
 use Rattle.chi_script.specs.Transcript.{granule_text}
 use Rattle.chi_trace.specs.Explains.{at}
-use Rattle.chi_verdict.specs.declared.words.GranuleWord.{GranuleWord}
-use Rattle.chi_verdict.specs.Executions.{told_after}
-use Rattle.chi_verdict.specs.Traces.{TraceValue}
-use Rattle.chi_verdict.specs.Words.{AreInOrder, memory_of, told}
+use Rattle.chi_trace.specs.declared.words.GranuleWord.{GranuleWord}
+use Rattle.chi_trace.specs.Executions.{told_after}
+use Rattle.chi_trace.specs.Traces.{TraceValue}
+use Rattle.chi_trace.specs.Words.{AreInOrder, memory_of, told}
 use Rattle.chi_reading.specs.TraceText.{RecordedValue}
-use Rattle.chi_answer.specs.Lines.{asked_at, operation_text}
+use Rattle.chi_answer.specs.Lines.{operation_text}
 
 -- the lines of the operations in an order, from a memory on: each with the answer of the memory that those before it leave
 unfoldable pub operation_lines : RecordedValue → Memory → List ℕ → List ℕ
 operation_lines r m [] = []
 operation_lines r m (i ∷ order) =
-    operation_text (asked_at r i) (Some (answer (at r.trace.operations i).access m)) ++ operation_lines r (after (at r.trace.operations i).access m) order
+    operation_text (at r.trace.operations i) (Some (answer (at r.trace.operations i).access m)) ++ operation_lines r (after (at r.trace.operations i).access m) order
 
 -- the line of a granule of the memory
 abbrev pub memory_line : GranuleWord → List ℕ

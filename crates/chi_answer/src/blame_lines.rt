@@ -4,27 +4,22 @@ ghost use Rattle.std.specs.Prelude.{◌≡◌, ◌++◌, ◌<◌, All, OnOk, fla
 ghost use Rattle.chi_answer.specs.Lines.{blamed_at, blamed_line, end_line, explained_line, open_at, open_line, until_text};
 
 use crate::lines::add_told;
-use chi_reading::{Asked, Recorded};
+use chi_reading::Recorded;
 use chi_text::Part::{Number, Text, Word};
 use chi_text::add_parts;
-use chi_trace::Observed;
+use chi_trace::Operation;
 use std::alloc::AllocError;
 
 /// Adds the line of an operation that was answered at a time up to which its granule's operations cannot be explained.
 ///
 /// ```
-/// add_blamed(&mut text, 40, &asked, &op)?; // at 40: 2 1 30 AtomicLoad.ADD 3 0000000000001008 answered
+/// add_blamed(&mut text, 40, &op)?; // at 40: 2 1 30 AtomicLoad.ADD 3 0000000000001008 answered
 /// ```
-pub fn add_blamed(
-    to: &mut Vec<u8>,
-    time: u64,
-    asked: &Asked,
-    op: &Observed,
-) -> Result<(), AllocError>
-    ensures { OnOk result (to.new.items ≡ to.old.items ++ blamed_line time asked.now op.now) }
+pub fn add_blamed(to: &mut Vec<u8>, time: u64, op: &Operation) -> Result<(), AllocError>
+    ensures { OnOk result (to.new.items ≡ to.old.items ++ blamed_line time op.now) }
 {
     add_parts(to, &[Text("at "), Number(time), Text(": ")])?;
-    add_told(to, asked, op.reply)
+    add_told(to, op)
 }
 
 /// The line of the operation at a place of the trace that was answered at the time.
@@ -37,8 +32,7 @@ pub(crate) fn add_blamed_at(
     requires { place < length recorded.now.trace.operations }
     ensures { OnOk result (to.new.items ≡ to.old.items ++ blamed_at recorded.now time place) }
 {
-    let op = &recorded.trace().operations()[place];
-    add_blamed(to, time, &recorded.requests()[place], op)
+    add_blamed(to, time, &recorded.trace().operations()[place])
 }
 
 /// Until when an operation was open.
@@ -54,14 +48,14 @@ fn add_until(to: &mut Vec<u8>, end: u64) -> Result<(), AllocError>
 /// Adds the line of an operation that was open, with its times.
 ///
 /// ```
-/// add_open(&mut text, &asked, &op)?; //   open from 30 to 40: 2 1 30 AtomicLoad.ADD 3 0000000000001008 answered
+/// add_open(&mut text, &op)?; //   open from 30 to 40: 2 1 30 AtomicLoad.ADD 3 0000000000001008 answered
 /// ```
-pub fn add_open(to: &mut Vec<u8>, asked: &Asked, op: &Observed) -> Result<(), AllocError>
-    ensures { OnOk result (to.new.items ≡ to.old.items ++ open_line asked.now op.now) }
+pub fn add_open(to: &mut Vec<u8>, op: &Operation) -> Result<(), AllocError>
+    ensures { OnOk result (to.new.items ≡ to.old.items ++ open_line op.now) }
 {
     add_parts(to, &[Text("  open from "), Number(op.start)])?;
     add_until(to, op.end)?;
-    add_told(to, asked, op.reply)
+    add_told(to, op)
 }
 
 /// The line of the operation at a place of the trace, which was open.
@@ -69,8 +63,7 @@ fn add_open_at(to: &mut Vec<u8>, recorded: &Recorded, place: usize) -> Result<()
     requires { place < length recorded.now.trace.operations }
     ensures { OnOk result (to.new.items ≡ to.old.items ++ open_at recorded.now place) }
 {
-    let op = &recorded.trace().operations()[place];
-    add_open(to, &recorded.requests()[place], op)
+    add_open(to, &recorded.trace().operations()[place])
 }
 
 /// The lines of the operations that were open.

@@ -2,33 +2,35 @@
 
 ghost use Rattle.std.specs.Prelude.{◌≡◌, ◌++◌, OnOk, flat_map};
 ghost use Rattle.chi_script.specs.Transcript.{request_text};
-ghost use Rattle.chi_answer.specs.Lines.{answered_text, granule_line, more_line, operation_text, request_in, seen_text, told_text, undecided_line, word_line, word_lines};
+ghost use Rattle.chi_trace.specs.Fields.{request_in};
+ghost use Rattle.chi_answer.specs.Lines.{answered_text, granule_line, more_line, operation_text, seen_text, told_text, undecided_line, word_line, word_lines};
 
 use chi_fields::op_name;
 use chi_lanes::Reply;
-use chi_reading::Asked;
 use chi_text::Part::{Address, Number, Opcode, Packet, Text, Word};
 use chi_text::add_parts;
+use chi_trace::Operation;
 use std::alloc::AllocError;
 
-/// The fields of a request, each with the space after it.
-fn add_request(to: &mut Vec<u8>, asked: &Asked) -> Result<(), AllocError>
-    ensures { OnOk result (to.new.items ≡ to.old.items ++ request_text (request_in asked.now)) }
+/// The fields of an operation's request, each with the space after it.
+fn add_request(to: &mut Vec<u8>, op: &Operation) -> Result<(), AllocError>
+    ensures { OnOk result (to.new.items ≡ to.old.items ++ request_text (request_in op.now)) }
 {
+    let opcode = op.opcode();
     add_parts(
         to,
         &[
-            Number(asked.src as u64),
+            Number(op.src as u64),
             Text(" "),
-            Number(asked.txn as u64),
+            Number(op.txn as u64),
             Text(" "),
-            Opcode(asked.opcode),
+            Opcode(opcode),
             Text(" "),
-            Text(op_name(asked.opcode)),
+            Text(op_name(opcode)),
             Text(" "),
-            Number(asked.size as u64),
+            Number(op.size() as u64),
             Text(" "),
-            Address(asked.addr),
+            Address(op.access.addr()),
             Text(" "),
         ],
     )
@@ -48,12 +50,12 @@ fn add_reply(to: &mut Vec<u8>, reply: Option<Reply>) -> Result<(), AllocError>
 /// The line of an operation: its request, and what was answered, where that was seen.
 pub(crate) fn add_operation(
     to: &mut Vec<u8>,
-    asked: &Asked,
+    op: &Operation,
     reply: Option<Reply>,
 ) -> Result<(), AllocError>
-    ensures { OnOk result (to.new.items ≡ to.old.items ++ operation_text asked.now reply) }
+    ensures { OnOk result (to.new.items ≡ to.old.items ++ operation_text op.now reply) }
 {
-    add_request(to, asked)?;
+    add_request(to, op)?;
     add_reply(to, reply)?;
     add_parts(to, &[Text("\n")])
 }
@@ -70,15 +72,11 @@ fn answered_name(reply: Option<Reply>) -> &'static str
 }
 
 /// The line of an operation whose data are told elsewhere: its request, and whether it was answered.
-pub(crate) fn add_told(
-    to: &mut Vec<u8>,
-    asked: &Asked,
-    reply: Option<Reply>,
-) -> Result<(), AllocError>
-    ensures { OnOk result (to.new.items ≡ to.old.items ++ told_text asked.now reply) }
+pub(crate) fn add_told(to: &mut Vec<u8>, op: &Operation) -> Result<(), AllocError>
+    ensures { OnOk result (to.new.items ≡ to.old.items ++ told_text op.now) }
 {
-    add_request(to, asked)?;
-    add_parts(to, &[Text(answered_name(reply)), Text("\n")])
+    add_request(to, op)?;
+    add_parts(to, &[Text(answered_name(op.reply)), Text("\n")])
 }
 
 /// Adds the line of a granule that cannot be explained, which has this number.

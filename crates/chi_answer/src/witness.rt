@@ -2,8 +2,8 @@
 
 ghost use Rattle.std.specs.Prelude.{◌≡◌, ℕ, ◌++◌, List, All, true, OnOk, flat_map, length};
 ghost use Rattle.chi_trace.specs.Explains.{is_place};
-ghost use Rattle.chi_verdict.specs.Executions.{replies_in};
-ghost use Rattle.chi_verdict.specs.Words.{memory_of};
+ghost use Rattle.chi_trace.specs.Executions.{replies_in};
+ghost use Rattle.chi_trace.specs.Words.{memory_of};
 ghost use Rattle.chi_answer.specs.Witnesses.{IsWitness, memory_line, operation_lines};
 
 use crate::lines::add_operation;
@@ -11,7 +11,7 @@ use chi_lanes::Reply;
 use chi_reading::Recorded;
 use chi_text::Part::{Address, Text, Word};
 use chi_text::add_parts;
-use chi_verdict::{GranuleWord, execute};
+use chi_trace::{GranuleWord, execute};
 use std::alloc::{AllocError, Global};
 
 /// The lines of the operations in an order, each with the reply that it gets in it.
@@ -25,9 +25,9 @@ fn add_operations(
     requires replies { replies.now ≡ replies_in recorded.now.trace.operations (memory_of recorded.now.trace.opening) order.now }
     ensures { OnOk result (to.new.items ≡ to.old.items ++ operation_lines recorded.now (memory_of recorded.now.trace.opening) order.now) }
 {
-    let requests = recorded.requests();
+    let ops = recorded.trace().operations();
     for at in 0..replies.len() {
-        add_operation(to, &requests[order[at]], Some(replies[at]))?;
+        add_operation(to, &ops[order[at]], Some(replies[at]))?;
     }
     Ok(())
 }

@@ -1,32 +1,22 @@
 //! The text of an excerpt, worked by hand.
 
 use crate::comparison::assert_same;
-use chi_excerpt::{Blamed, Excerpt, Row, add_excerpt};
+use chi_excerpt::{Blamed, Excerpt, add_excerpt};
 use chi_lanes::Reply;
-use chi_reading::{Asked, access};
-use chi_trace::Observed;
+use chi_trace::{Asked, Operation, access};
 use std::alloc::Global;
 use std::test::Fail;
 
-// A request of eight bytes or four, and what was observed of it.
-fn row(number: u64, asked: Asked, start: u64, end: u64, reply: Option<Reply>) -> Option<Row> {
+// What was observed of a request of eight bytes or four.
+fn row(asked: Asked, start: u64, end: u64, reply: Option<Reply>) -> Option<Operation> {
     let access = access(&asked, &None).ok()?;
-    Some(Row {
-        number,
-        asked,
-        op: Observed {
-            start,
-            end,
-            src: asked.src,
-            access,
-            reply,
-        },
-    })
+    Some(asked.operation(access, start, end, reply))
 }
 
 // An AtomicLoad ADD of 1 to the granule at 0x1008.
-fn addition(src: u16) -> Asked {
+fn addition(number: u64, src: u16) -> Asked {
     Asked {
+        number,
         src,
         txn: 1,
         opcode: 0x30,
@@ -41,6 +31,7 @@ fn addition(src: u16) -> Asked {
 // A write of three of the four bytes at 0x100c.
 fn writing() -> Asked {
     Asked {
+        number: 17,
         src: 3,
         txn: 4,
         opcode: 0x1c,
@@ -57,9 +48,9 @@ fn lost_addition(alloc: Global) -> Result<Option<Excerpt>, Fail> {
     let zero = Reply::CompData([0; 16]);
     let one = Reply::CompData([0, 0, 0, 0, 0, 0, 0, 0, 1, 0, 0, 0, 0, 0, 0, 0]);
     let (Some(first), Some(second), Some(third)) = (
-        row(0, addition(1), 0, 10, Some(zero)),
-        row(2, addition(2), 30, 40, Some(zero)),
-        row(17, writing(), 35, u64::MAX, None),
+        row(addition(0, 1), 0, 10, Some(zero)),
+        row(addition(2, 2), 30, 40, Some(zero)),
+        row(writing(), 35, u64::MAX, None),
     ) else {
         return Ok(None);
     };

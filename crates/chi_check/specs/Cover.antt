@@ -3,7 +3,7 @@ use Rattle.std.specs.Prelude.{◌≡◌, ◌≢◌, ℕ, ◌<◌, ◌≤◌, Boo
 use Rattle.std.specs.Io.KnownBytes.{Appends}
 use Rattle.chi_script.specs.WriterBytes.{AppendsFront}
 use Rattle.chi_fields.specs.declared.refusal.Refusal.{Refusal}
-use Rattle.chi_trace.specs.declared.observed.Observed.{Observed}
+use Rattle.chi_trace.specs.declared.operation.Operation.{Operation}
 use Rattle.chi_trace.specs.Explains.{IsTrace}
 use Rattle.chi_reading.specs.declared.fault.TraceFault.TheVariants as trace_fault
 use Rattle.chi_reading.specs.TraceText.{IsOf, RecordedValue, TextValue, trace_text}
@@ -38,7 +38,7 @@ AreInputs holds [] input inputs = inputs ≡ input ∷ []
 AreInputs holds (path ∷ paths) input inputs = AreHeld holds (path ∷ paths) inputs
 
 -- the input is a trace of these operations, by their starts, whose other requests were refused for these reasons
-pub record IsTraceOf (input : List ℕ) (ops : List Observed) (refusals : List Refusal) : Type 0 where
+pub record IsTraceOf (input : List ℕ) (ops : List Operation) (refusals : List Refusal) : Type 0 where
   pub value : TextValue
   pub read : trace_text input ≡ Ok value
   pub recorded : RecordedValue
@@ -48,13 +48,13 @@ pub record IsTraceOf (input : List ℕ) (ops : List Observed) (refusals : List R
   pub refused : recorded.refusals ≡ refusals
 
 -- the operations of an input, and why its other requests were refused: those of the trace that it is, or those that its events tell
-abbrev pub AreOf : Bool → List ℕ → List Observed → List Refusal → Type 0
+abbrev pub AreOf : Bool → List ℕ → List Operation → List Refusal → Type 0
 AreOf true input ops refusals = AreOperations input ops × AreRefusals input refusals
 AreOf false input ops refusals = IsTraceOf input ops refusals
 
 -- what one input tells
 pub record Told : Type 0 where
-  pub operations : List Observed
+  pub operations : List Operation
   pub refusals : List Refusal
 
 -- this is what each input tells
@@ -105,7 +105,7 @@ IsFileFault holds events path fault = (input : List ℕ) × holds path input × 
 -- the new counts have counted what an input tells more
 abbrev pub Adds : Bool → List ℕ → Counted → Counted → Type 0
 Adds events input old new =
-    (ops : List Observed) × (refusals : List Refusal) × AreOf events input ops refusals × IsAdded ops old.covered new.covered × AreRefused refusals old.refusals new.refusals
+    (ops : List Operation) × (refusals : List Refusal) × AreOf events input ops refusals × IsAdded ops old.covered new.covered × AreRefused refusals old.refusals new.refusals
 
 -- the same of what the file of a path holds
 abbrev pub AddsFile : (List ℕ → List ℕ → Type 0) → Bool → List ℕ → Counted → Counted → Type 0

@@ -3,7 +3,7 @@ use Rattle.std.proofs.Common.{◌≡◌, ℕ, ◌+◌, ◌<◌, ◌≤◌, ◌==
 use Rattle.std.specs.declared.alloc.Global.{Global}
 use Rattle.std.proofs.lemmas.Bool.{le-leb, leb-true}
 use Rattle.std.proofs.lemmas.List.Elements.{All-append, All-cons, All-filter, All-nil, filter-append}
-use Rattle.chi_trace.specs.declared.observed.Observed.{Observed}
+use Rattle.chi_trace.specs.declared.operation.Operation.{Operation}
 use Rattle.chi_trace.specs.Explains.{IsTrace, at}
 use Rattle.chi_trace.specs.Granules.{granule_of}
 use Rattle.chi_cover.specs.Open.{AreKept, Places, ended_after, items_of, places_of}
@@ -12,7 +12,7 @@ use Rattle.chi_cover.proofs.Lists.{filter_more, filter_twice}
 use Rattle.chi_cover.proofs.Traced.{started}
 
 -- none of a map without entries
-pub none_kept : (trace : List Observed) (kept : Places) → kept.entries ≡ [] → AreKept trace 0 kept
+pub none_kept : (trace : List Operation) (kept : Places) → kept.entries ≡ [] → AreKept trace 0 kept
 unfolding open_among
 none_kept trace kept empty =
     let none : (granule : ℕ) → places_of kept granule ≡ [] = λ granule. rw empty refl in
@@ -22,24 +22,24 @@ none_kept trace kept empty =
     }
 
 -- those that are open when an operation starts
-pub open_now : (trace : List Observed) (i : ℕ) (kept : Places) → IsTrace trace → i < length trace → AreKept trace i kept
+pub open_now : (trace : List Operation) (i : ℕ) (kept : Places) → IsTrace trace → i < length trace → AreKept trace i kept
     → ended_after trace (at trace i).start (places_of kept (granule_of (at trace i))) ≡ open_before trace i
 open_now trace i kept is below before =
     before.still_open (granule_of (at trace i)) (at trace i).start (λ j earlier. let first : j ≤ i = omega arith in started trace j i is first below)
 
-ended_twice : (trace : List Observed) (from to : ℕ) (places : List ℕ) → from ≤ to → ended_after trace to (ended_after trace from places) ≡ ended_after trace to places
+ended_twice : (trace : List Operation) (from to : ℕ) (places : List ℕ) → from ≤ to → ended_after trace to (ended_after trace from places) ≡ ended_after trace to places
 ended_twice trace from to places later =
     filter_twice (λ j. nat_le from (at trace j).end) (λ j. nat_le to (at trace j).end)
     (λ j open_then. let ends : to ≤ (at trace j).end = leb-true to (at trace j).end open_then in le-leb from (at trace j).end (omega arith)) places
 
 -- one operation more is among the first
-open_more : (trace : List Observed) (i granule time : ℕ)
+open_more : (trace : List Operation) (i granule time : ℕ)
     → open_among trace (i + 1) granule time ≡ open_among trace i granule time ++ cond (is_open granule time (at trace i)) (i ∷ []) []
 unfolding open_among
 open_more trace i granule time = filter_more (λ j. is_open granule time (at trace j)) i
 
 -- of an operation's granule those that are open are kept, and itself; and of each other one what was
-pub kept_more : (trace : List Observed) (i : ℕ) (old new : Places) (left : List ℕ) → AreKept trace i old
+pub kept_more : (trace : List Operation) (i : ℕ) (old new : Places) (left : List ℕ) → AreKept trace i old
     → left ≡ ended_after trace (at trace i).start (places_of old (granule_of (at trace i)))
     → ((granule : ℕ) → places_of new granule ≡ cond (granule_of (at trace i) == granule) (left ++ i ∷ []) (places_of old granule))
     → AreKept trace (i + 1) new

@@ -3,7 +3,7 @@ use Rattle.std.proofs.Common.{◌≡◌, ℕ, ◌+◌, ◌^◌, ◌<◌, ◌==�
 use Rattle.std.proofs.lemmas.Grind.{flat_map-append}
 use Rattle.std.proofs.lemmas.List.{map-append}
 use Rattle.std.specs.List.{range_with_len}
-use Rattle.chi_trace.specs.declared.observed.Observed.{Observed}
+use Rattle.chi_trace.specs.declared.operation.Operation.{Operation}
 use Rattle.std.proofs.lemmas.List.Elements.{filter_more}
 use Rattle.std.proofs.lemmas.List.Sums.{sum_by-append}
 use Rattle.chi_cover.specs.declared.bin.Bin.{Bin}
@@ -57,7 +57,7 @@ more_no f p xs i d {a} {b} below fails first =
     subst (λ bins. AreAdded bins a b) (sym (ap (map f) same)) first
 
 -- the bins of one operation more
-pub place_more : (trace : List Observed) (i : ℕ) → flat_map (bins_at trace) (range_with_len 0 (i + 1)) ≡ flat_map (bins_at trace) (range_with_len 0 i) ++ bins_at trace i
+pub place_more : (trace : List Operation) (i : ℕ) → flat_map (bins_at trace) (range_with_len 0 (i + 1)) ≡ flat_map (bins_at trace) (range_with_len 0 i) ++ bins_at trace i
 place_more trace i =
     ap (flat_map (bins_at trace)) (range_more 0 i) ∙ (flat_map-append (bins_at trace) (range_with_len 0 i) ((0 + i) ∷ [])
     ∙ ap (λ l. flat_map (bins_at trace) (range_with_len 0 i) ++ l) (append-nil (bins_at trace (0 + i)) ∙ ap (bins_at trace) (zero-add i)))

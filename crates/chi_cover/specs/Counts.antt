@@ -1,7 +1,7 @@
 -- how many operations of a trace each bin counts
 use Rattle.std.specs.Prelude.{◌≡◌, ℕ, ◌+◌, ◌-◌, ◌*◌, ◌/◌, ◌^◌, ◌==◌, nat_lt, List, ◌++◌, Contains, count_by, flat_map, length, min, slice_index}
 use Rattle.std.specs.List.{range_with_len}
-use Rattle.chi_trace.specs.declared.observed.Observed.{Observed}
+use Rattle.chi_trace.specs.declared.operation.Operation.{Operation}
 use Rattle.chi_trace.specs.Explains.{at}
 use Rattle.chi_cover.specs.declared.bin.Bin.{Bin}
 use Rattle.chi_cover.specs.Bins.{all_bins}
@@ -10,7 +10,7 @@ use Rattle.chi_cover.specs.Operations.{own_bins}
 use Rattle.chi_cover.specs.Traffic.{traffic_bins}
 
 -- the bins that count the operation at a place, each once
-abbrev pub bins_at : List Observed → ℕ → List Bin
+abbrev pub bins_at : List Operation → ℕ → List Bin
 bins_at trace i = own_bins (at trace i) ++ traffic_bins trace i
 
 -- how often a bin stands in a list
@@ -18,7 +18,7 @@ abbrev pub times_of : Bin → List Bin → ℕ
 times_of bin bins = count_by (λ b. number_of b == number_of bin) bins
 
 -- how many operations of a trace a bin counts
-unfoldable pub count_of : List Observed → Bin → ℕ
+unfoldable pub count_of : List Operation → Bin → ℕ
 count_of trace bin = times_of bin (flat_map (bins_at trace) (range_with_len 0 (length trace)))
 
 -- the greatest count, which stands for that many and more
@@ -30,7 +30,7 @@ unfoldable pub count_in : List ℕ → Bin → ℕ
 count_in counts bin = slice_index counts (number_of bin)
 
 -- each bin's new count is its old one and how many operations of the trace it counts
-abbrev pub IsAdded : List Observed → List ℕ → List ℕ → Type 0
+abbrev pub IsAdded : List Operation → List ℕ → List ℕ → Type 0
 IsAdded trace old new = (bin : Bin) → Contains all_bins bin → count_in new bin ≡ min (count_in old bin + count_of trace bin) most
 
 -- how many of these bins have counted an operation

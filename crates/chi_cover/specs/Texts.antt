@@ -6,7 +6,7 @@ use Rattle.chi_fields.specs.declared.kind.Kind.TheVariants.{Load}
 use Rattle.chi_fields.specs.declared.kind.Op.{Op}
 use Rattle.chi_fields.specs.declared.kind.Op.TheVariants.{Add}
 use Rattle.chi_cover.specs.declared.bin.Bin.{Bin}
-use Rattle.chi_cover.specs.declared.bin.Bin.TheVariants.{Operation, Comparison, Enables, Kept, ChangedSign, Wrapped, Open, Overlap, Requester}
+use Rattle.chi_cover.specs.declared.bin.Bin.TheVariants.{Operand, Comparison, Enables, Kept, ChangedSign, Wrapped, Open, Overlap, Requester}
 use Rattle.chi_cover.specs.declared.bin.Depth.{Depth}
 use Rattle.chi_cover.specs.declared.bin.Depth.TheVariants.{One, Two, UpToFour, UpToEight, More}
 use Rattle.chi_cover.specs.declared.bin.Enabled.{Enabled}
@@ -62,7 +62,7 @@ head_text counts name bins = name ++ (codes ": " ++ (decimal (covered_of counts 
 
 -- the counts of a kind, a byte order and a length, by the lane
 abbrev pub lane_text : (Bin → ℕ) → Kind → Bool → ℕ → ℕ → List ℕ
-lane_text counts kind endian len lane = codes " " ++ decimal (counts (Operation kind endian len lane))
+lane_text counts kind endian len lane = codes " " ++ decimal (counts (Operand kind endian len lane))
 
 unfoldable pub operation_row : (Bin → ℕ) → Kind → Bool → ℕ → List ℕ
 operation_row counts kind endian len =
@@ -108,7 +108,7 @@ op_rows counts op = flat_map (result_row counts op) lengths
 
 -- the name of a bin by itself
 abbrev pub bin_name : Bin → List ℕ
-bin_name (Operation kind endian len lane) =
+bin_name (Operand kind endian len lane) =
     kind_name (Some kind) ++ (codes ", " ++ (order_text endian ++ (codes "-endian, " ++ (bytes_text len ++ (codes ", lane " ++ decimal lane)))))
 bin_name (Comparison len upper matched) =
     codes "AtomicCompare, " ++ (bytes_text len ++ (codes ", compare value in the " ++ (half_text upper ++ (codes " half, " ++ matched_text matched))))

@@ -55,7 +55,7 @@ impl Transaction {
 
 /// A bin: what an operation has to be for the bin to count it. `len` is the operand's length and `lane` its first lane.
 ///
-/// - `Operation`: of this kind, byte order (`endian` is true of big-endian), length and lane.
+/// - `Operand`: of this kind, byte order (`endian` is true of big-endian), length and lane.
 /// - `Comparison`: an AtomicCompare that returned data, by the half of its window in which the compare value stands, and by
 ///   whether the operand's old bytes are the compare value.
 /// - `Enables`: a WriteNoSnpPtl with so many of its operand's byte enables.
@@ -66,7 +66,7 @@ impl Transaction {
 /// - `Requester`: one that started while such an earlier one of the `same` requester was open, or of another.
 #[derive(Clone, Copy, Debug)]
 pub enum Bin {
-    Operation {
+    Operand {
         kind: Kind,
         endian: bool,
         len: u8,

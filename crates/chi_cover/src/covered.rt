@@ -8,7 +8,7 @@ ghost use Rattle.chi_cover.specs.Counts.{IsAdded, count_in, covered_of, percent_
 use crate::bin::Bin;
 use crate::measured::add_operations;
 use crate::number::number;
-use chi_trace::Observed;
+use chi_trace::Operation;
 use std::alloc::{AllocError, Global};
 use std::marker::Model;
 
@@ -62,7 +62,7 @@ impl Covered {
     /// ```
     /// covered.add(alloc, recorded.trace().operations())?;
     /// ```
-    pub fn add(&mut self, alloc: Global, ops: &[Observed]) -> Result<(), AllocError>
+    pub fn add(&mut self, alloc: Global, ops: &[Operation]) -> Result<(), AllocError>
         requires { IsTrace ops.now }
         ensures ok { OnOk result (IsAdded ops.now self.old self.new) }
         ensures err { OnErr result (self.new ≡ self.old) }

@@ -46,7 +46,7 @@ fn add_lanes(to: &mut Vec<Bin>, kind: Kind, endian: bool, len: u8) -> Result<(),
 {
     for lane in 0..16 {
         if is_aligned(lane, len) {
-            to.push(Bin::Operation {
+            to.push(Bin::Operand {
                 kind,
                 endian,
                 len,

@@ -10,7 +10,7 @@ ghost use Rattle.chi_cover.specs.Open.{AreKept};
 use crate::open::{OpenPlaces, take};
 use crate::operation::add_own;
 use crate::traffic::add_traffic;
-use chi_trace::Observed;
+use chi_trace::Operation;
 use std::alloc::{AllocError, Global};
 use std::collections::HashMap;
 
@@ -18,7 +18,7 @@ use std::collections::HashMap;
 fn add_operation(
     alloc: Global,
     counts: &mut [u64],
-    ops: &[Observed],
+    ops: &[Operation],
     kept: &mut OpenPlaces,
     place: usize,
 ) -> Result<(), AllocError>
@@ -37,7 +37,7 @@ fn add_operation(
 pub(crate) fn add_operations(
     alloc: Global,
     counts: &mut [u64],
-    ops: &[Observed],
+    ops: &[Operation],
 ) -> Result<(), AllocError>
     requires { IsTrace ops.now }
     ensures { OnOk result (AreAdded (flat_map (bins_at ops.now) (range_with_len 0 (length ops.now))) counts.old counts.new) }

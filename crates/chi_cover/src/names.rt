@@ -81,7 +81,7 @@ fn add_operation_name(
     len: u8,
     lane: u8,
 ) -> Result<(), AllocError>
-    ensures { OnOk result (to.new.items ≡ to.old.items ++ bin_name (Bin.Operation kind endian len lane)) }
+    ensures { OnOk result (to.new.items ≡ to.old.items ++ bin_name (Bin.Operand kind endian len lane)) }
 {
     add_parts(
         to,
@@ -162,7 +162,7 @@ pub(crate) fn add_bin_name(to: &mut Vec<u8>, bin: Bin) -> Result<(), AllocError>
     ensures { OnOk result (to.new.items ≡ to.old.items ++ bin_name bin) }
 {
     match bin {
-        Bin::Operation {
+        Bin::Operand {
             kind,
             endian,
             len,

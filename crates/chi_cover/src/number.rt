@@ -66,7 +66,7 @@ pub(crate) fn number(bin: Bin) -> usize
     ensures { result ≡ number_of bin }
 {
     match bin {
-        Bin::Operation {
+        Bin::Operand {
             kind,
             endian,
             len,

@@ -5,7 +5,7 @@ ghost use Rattle.chi_trace.specs.Explains.{IsTrace};
 ghost use Rattle.chi_cover.specs.Open.{AreKept, ended_after};
 ghost use Rattle.chi_cover.specs.Traffic.{open_before};
 
-use chi_trace::Observed;
+use chi_trace::Operation;
 use std::alloc::{AllocError, Global};
 use std::collections::HashMap;
 
@@ -15,7 +15,7 @@ pub(crate) type OpenPlaces = HashMap<u64, Vec<usize>>;
 /// Those of these places whose operations had not ended before a time.
 fn still_open(
     alloc: Global,
-    ops: &[Observed],
+    ops: &[Operation],
     places: &[usize],
     time: u64,
 ) -> Result<Vec<usize>, AllocError>
@@ -34,7 +34,7 @@ fn still_open(
 /// Takes the operation at a place, where those before it were taken: the places of those of its granule that are open.
 pub(crate) fn take(
     alloc: Global,
-    ops: &[Observed],
+    ops: &[Operation],
     kept: &mut OpenPlaces,
     place: usize,
 ) -> Result<Vec<usize>, AllocError>
@@ -45,7 +45,7 @@ pub(crate) fn take(
     ensures kept { OnOk result (AreKept ops.now (place + 1) kept.new) }
 {
     let op = &ops[place];
-    let granule = op.access.addr() / 8;
+    let granule = op.granule();
     let before = kept.remove(&granule).unwrap_or(Vec::new(alloc));
     let places = still_open(alloc, ops, &before, op.start)?;
     let mut after = Vec::from_slice(alloc, &places)?;

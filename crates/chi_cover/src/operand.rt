@@ -9,7 +9,7 @@ ghost use Rattle.chi_cover.specs.Operations.{operand_in, values_as, values_of};
 
 use chi_fields::{Access, Kind, Op};
 use chi_lanes::{Reply, apply, compare_half, extract, insert, swap_order};
-use chi_trace::Observed;
+use chi_trace::Operation;
 
 /// The values of an AtomicLoad that returned data, in its byte order.
 #[derive(Clone, Copy)]
@@ -80,7 +80,7 @@ fn values_at(op: Op, access: &Access, returned: &[u8; 16]) -> Values
 
 /// The values of an operation, where it is an AtomicLoad that returned data.
 #[tactic(auto, unfolding(crate::specs::Operations::values_of))]
-pub(crate) fn values_of(op: &Observed) -> Option<Values>
+pub(crate) fn values_of(op: &Operation) -> Option<Values>
     requires { op.now.access.addr + op.now.access.len ≤ 2 ^ 52 }
     ensures value { result ≡ values_of op.now }
     ensures length { IfSome result (λ values. IsLen values.len) }

@@ -13,7 +13,7 @@ use crate::bin::{Bin, Enabled};
 use crate::operand::{Values, operand_in, values_of};
 use chi_fields::{Access, Kind, Op};
 use chi_lanes::Reply;
-use chi_trace::Observed;
+use chi_trace::Operation;
 
 /// The operand's length, in a byte.
 fn length(access: &Access) -> u8
@@ -23,10 +23,10 @@ fn length(access: &Access) -> u8
 }
 
 /// The bin of the operation's kind, byte order, length and lane.
-fn operation_bin(op: &Observed) -> Bin
+fn operation_bin(op: &Operation) -> Bin
     ensures { result ≡ operation_bin op.now }
 {
-    Bin::Operation {
+    Bin::Operand {
         kind: op.access.kind(),
         endian: op.access.endian(),
         len: length(&op.access),
@@ -53,7 +53,7 @@ fn has_sent(access: &Access, returned: &[u8; 16]) -> bool
 
 /// The bin of an AtomicCompare that returned data.
 #[tactic(auto, unfolding(crate::specs::Operations::comparison_bin))]
-fn comparison_bin(op: &Observed) -> Option<Bin>
+fn comparison_bin(op: &Operation) -> Option<Bin>
     ensures { result ≡ comparison_bin op.now }
 {
     match (op.access.kind(), op.reply) {
@@ -91,7 +91,7 @@ fn enabled_lanes(access: &Access) -> usize
 
 /// The bin of a write.
 #[tactic(auto, unfolding(crate::specs::Operations::enables_bin))]
-fn enables_bin(op: &Observed) -> Option<Bin>
+fn enables_bin(op: &Operation) -> Option<Bin>
     ensures { result ≡ enables_bin op.now }
 {
     if op.access.kind() != Kind::Write {
@@ -185,7 +185,7 @@ fn add_results(counts: &mut [u64], values: Option<Values>)
 
 /// One more for each bin of an operation by itself.
 #[tactic(auto, unfolding(crate::specs::Operations::own_bins))]
-pub(crate) fn add_own(counts: &mut [u64], op: &Observed)
+pub(crate) fn add_own(counts: &mut [u64], op: &Operation)
     requires { op.now.access.addr + op.now.access.len ≤ 2 ^ 52 }
     ensures { AreAdded (own_bins op.now) counts.old counts.new }
 {

@@ -26,7 +26,7 @@ fn add_lane_counts(
 {
     for lane in 0..16 {
         if is_aligned(lane, len) {
-            let bin = Bin::Operation {
+            let bin = Bin::Operand {
                 kind,
                 endian,
                 len,

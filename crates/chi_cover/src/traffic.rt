@@ -11,7 +11,7 @@ use crate::bin::{Bin, Depth, Transaction};
 use crate::number::transaction_number;
 use crate::traffic_group::TRANSACTIONS;
 use chi_fields::{Access, Kind};
-use chi_trace::Observed;
+use chi_trace::Operation;
 use std::alloc::{AllocError, Global};
 
 /// The transaction of a kind.
@@ -54,9 +54,9 @@ fn have_common_byte(access: &Access, other: &Access) -> bool
 /// Those of these places whose operations' operands have a byte in common with that of the operation at a place.
 fn with_common_byte(
     alloc: Global,
-    ops: &[Observed],
+    ops: &[Operation],
     places: &[usize],
-    op: &Observed,
+    op: &Operation,
 ) -> Result<Vec<usize>, AllocError>
     requires traced { IsTrace ops.now }
     requires within { op.now.access.addr + op.now.access.len ≤ 2 ^ 52 }
@@ -73,7 +73,7 @@ fn with_common_byte(
 }
 
 /// Whether some operation at these places is of a transaction.
-fn has_transaction(ops: &[Observed], places: &[usize], transaction: Transaction) -> bool
+fn has_transaction(ops: &[Operation], places: &[usize], transaction: Transaction) -> bool
     requires { All (λ j. j < length ops.now) places.now }
     ensures { result ≡ has_transaction ops.now places.now transaction }
 {
@@ -87,7 +87,7 @@ fn has_transaction(ops: &[Observed], places: &[usize], transaction: Transaction)
 }
 
 /// Whether some operation at these places is of a requester, or some is of another.
-fn has_requester(ops: &[Observed], places: &[usize], src: u16, same: bool) -> bool
+fn has_requester(ops: &[Operation], places: &[usize], src: u16, same: bool) -> bool
     requires { All (λ j. j < length ops.now) places.now }
     ensures { result ≡ has_requester ops.now places.now src same }
 {
@@ -100,7 +100,7 @@ fn has_requester(ops: &[Observed], places: &[usize], src: u16, same: bool) -> bo
 }
 
 /// One more for the bin of each transaction that one of the operations at these places is of.
-fn add_overlaps(counts: &mut [u64], ops: &[Observed], places: &[usize], place: usize)
+fn add_overlaps(counts: &mut [u64], ops: &[Operation], places: &[usize], place: usize)
     requires place { place < length ops.now }
     requires places { All (λ j. j < length ops.now) places.now }
     ensures { AreAdded (overlap_bins_at ops.now place places.now) counts.old counts.new }
@@ -114,7 +114,7 @@ fn add_overlaps(counts: &mut [u64], ops: &[Observed], places: &[usize], place: u
 }
 
 /// One more for the bins of the requesters of the operations at these places.
-fn add_requesters(counts: &mut [u64], ops: &[Observed], places: &[usize], place: usize)
+fn add_requesters(counts: &mut [u64], ops: &[Operation], places: &[usize], place: usize)
     requires place { place < length ops.now }
     requires places { All (λ j. j < length ops.now) places.now }
     ensures { AreAdded (requester_bins_at ops.now place places.now) counts.old counts.new }
@@ -131,7 +131,7 @@ fn add_requesters(counts: &mut [u64], ops: &[Observed], places: &[usize], place:
 pub(crate) fn add_traffic(
     alloc: Global,
     counts: &mut [u64],
-    ops: &[Observed],
+    ops: &[Operation],
     before: &[usize],
     place: usize,
 ) -> Result<(), AllocError>

@@ -2,8 +2,8 @@
 use Rattle.std.specs.Prelude.{◌≡◌, ℕ, ◌⊎◌, IfSome}
 use Rattle.std.specs.List.{filter}
 use Rattle.chi_trace.specs.Chosen.{is_in}
-use Rattle.chi_verdict.specs.Traces.{TraceValue}
-use Rattle.chi_verdict.specs.Words.{word_told}
+use Rattle.chi_trace.specs.Traces.{TraceValue}
+use Rattle.chi_trace.specs.Words.{word_told}
 use Rattle.chi_doubt.specs.declared.doubt.Doubt.{Doubt}
 use Rattle.chi_doubt.specs.Explained.{AreAnsweredBeside, AreAnsweredBy, IsExplainedTo}
 use Rattle.chi_search.specs.Looks.{LookedAtLeast}

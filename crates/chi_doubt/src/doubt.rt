@@ -8,7 +8,7 @@ use crate::explained::latest_explained;
 use crate::open::most_at_once;
 use crate::own::own_operations;
 use chi_search::Progress;
-use chi_verdict::Trace;
+use chi_trace::Trace;
 use std::alloc::{AllocError, Global};
 
 /// What is said of a granule of which it was not found whether its operations can be explained.

@@ -9,11 +9,11 @@ ghost use Rattle.chi_search.specs.Looks.{LookedAtLeast, LookedSome};
 
 use crate::known::is_explained;
 use chi_search::Progress;
-use chi_trace::Observed;
+use chi_trace::Operation;
 use std::alloc::{AllocError, Global};
 
 /// The ends of the operations that were answered, sorted.
-fn answered_ends(alloc: Global, own: &[Observed]) -> Result<Vec<u64>, AllocError>
+fn answered_ends(alloc: Global, own: &[Operation]) -> Result<Vec<u64>, AllocError>
     ensures each { IfOk result (λ ends. All (λ op. is_answered op ≡ true → Contains ends.items op.end) own.now) }
     ensures sorted { IfOk result (λ ends. IsNonDecreasing ends.items) }
 {
@@ -31,7 +31,7 @@ fn answered_ends(alloc: Global, own: &[Observed]) -> Result<Vec<u64>, AllocError
 /// were answered. A bisection tries these ends, each within so many states.
 pub(crate) fn latest_explained<P: Progress>(
     alloc: Global,
-    own: &[Observed],
+    own: &[Operation],
     word: u64,
     budget: u64,
     progress: &mut P,

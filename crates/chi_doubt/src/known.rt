@@ -8,13 +8,12 @@ ghost use Rattle.chi_doubt.specs.Explained.{CanBe, CannotBe};
 ghost use Rattle.chi_search.specs.Looks.{LookedAtLeast, LookedSome};
 
 use chi_search::{Found, Progress, order_of};
-use chi_trace::Observed;
 use chi_trace::laws::granules_told;
-use chi_verdict::cut;
+use chi_trace::{Operation, cut};
 use std::alloc::{AllocError, Global};
 
 /// What had happened of these operations by a time, sorted by their ends.
-fn known_by(alloc: Global, own: &[Observed], time: u64) -> Result<Vec<Observed>, AllocError>
+fn known_by(alloc: Global, own: &[Operation], time: u64) -> Result<Vec<Operation>, AllocError>
     requires traced { IsTrace own.now }
     ensures known { IfOk result (λ known. IsPermutation (cut time own.now) known.items) }
     ensures sorted { IfOk result (λ known. AreSorted known.items) }
@@ -29,7 +28,7 @@ fn known_by(alloc: Global, own: &[Observed], time: u64) -> Result<Vec<Observed>,
 /// states.
 pub(crate) fn is_explained<P: Progress>(
     alloc: Global,
-    own: &[Observed],
+    own: &[Operation],
     word: u64,
     time: u64,
     budget: u64,

@@ -4,11 +4,11 @@ ghost use Rattle.std.specs.Prelude.{◌≡◌, IfOk};
 ghost use Rattle.chi_trace.specs.Explains.{IsTrace};
 ghost use Rattle.chi_doubt.specs.Open.{most_at_once};
 
-use chi_trace::Observed;
+use chi_trace::Operation;
 use std::alloc::{AllocError, Global};
 
 /// How many of these operations were open at one time, at most.
-pub(crate) fn most_at_once(alloc: Global, ops: &[Observed]) -> Result<usize, AllocError>
+pub(crate) fn most_at_once(alloc: Global, ops: &[Operation]) -> Result<usize, AllocError>
     requires traced { IsTrace ops.now }
     ensures { IfOk result (λ most. most ≡ most_at_once ops.now) }
 {

@@ -70,11 +70,11 @@ members_of line.Unknown = name.Event ∷ name.Time ∷ name.Addr ∷ name.Length
 
 -- ---- what is told
 
--- a request: with its data where `be` or `lanes` is there, and then both have to be
-unfoldable pub requested_of : Data → Result Requested (MemberFault Member)
-requested_of d = do
+-- the request that the line with this number tells: with its data where `be` or `lanes` is there, and then both have to be
+unfoldable pub requested_of : ℕ → Data → Result Requested (MemberFault Member)
+requested_of number d = do
   id ← number_of member_name name.Id (2 ^ 64 - 1) d
-  asked ← if has_data then asked_of d else fields_of d
+  asked ← if has_data then asked_of number d else fields_of number d
   Ok (record { id = id; asked = asked; has_data = has_data })
   where
     has_data : Bool
@@ -127,22 +127,22 @@ unknown_of d = do
   length ← number_of member_name name.Length 4096 d
   if nat_le 1 length && nat_le (addr + length) (2 ^ 52) then Ok (kind.Unknown addr length) else Err (member_fault.BadMember name.Length)
 
--- what a line of a kind tells
-unfoldable pub told_of : LineKind → Data → Result EventKind (MemberFault Member)
-told_of line.Request d = requested_of d >>= λ r. Ok (kind.Request r)
-told_of line.Data d = packet_of d >>= λ p. Ok (kind.Data p)
-told_of line.Reply d = completion_of d >>= λ c. Ok (kind.Reply c)
-told_of line.Dropped d = number_of member_name name.Id (2 ^ 64 - 1) d >>= λ id. Ok (kind.Dropped id)
-told_of line.Refused d = refused_of d
-told_of line.Word d = word_of d
-told_of line.Unknown d = unknown_of d
+-- what the line with a number, which is of a kind, tells
+unfoldable pub told_of : ℕ → LineKind → Data → Result EventKind (MemberFault Member)
+told_of number line.Request d = requested_of number d >>= λ r. Ok (kind.Request r)
+told_of number line.Data d = packet_of d >>= λ p. Ok (kind.Data p)
+told_of number line.Reply d = completion_of d >>= λ c. Ok (kind.Reply c)
+told_of number line.Dropped d = number_of member_name name.Id (2 ^ 64 - 1) d >>= λ id. Ok (kind.Dropped id)
+told_of number line.Refused d = refused_of d
+told_of number line.Word d = word_of d
+told_of number line.Unknown d = unknown_of d
 
--- the event of a line: its kind, its time, what it tells, and that it has no other members
-unfoldable pub event_text : List ℕ → Result Event LineFault
-event_text text = do
+-- the event of the line with a number: its kind, its time, what it tells, and that it has no other members
+unfoldable pub event_text : ℕ → List ℕ → Result Event LineFault
+event_text number text = do
   d ← ok_or (json_value text) NotJson
   members ← ok_or (as_object d) NotObject
   k ← or_else as_line (member_by member_name name.Event kind_of d)
   time ← or_else as_line (number_of member_name name.Time (2 ^ 64 - 1) d)
-  told ← or_else as_line (told_of k d)
+  told ← or_else as_line (told_of number k d)
   faultless UnknownMember (unknown_in (members_of k) members) (record { time = time; kind = told })

@@ -24,7 +24,8 @@ fn kind_told(object: &Value) -> Result<LineKind, MemberFault<Member>>
         .ok_or(MemberFault::BadMember(Member::Event))
 }
 
-/// The event that a line tells, or the line's first fault.
+/// The event that a line tells, or the line's first fault. `number_of_line` says which line it is; a request has it as its
+/// number.
 ///
 /// The line is a JSON object in UTF-8. Its member `event` names what is told, and `time` is a whole number below 2^64, as
 /// `id` and `addr` are. The members beside these are, by the kind of event:
@@ -48,12 +49,12 @@ fn kind_told(object: &Value) -> Result<LineKind, MemberFault<Member>>
 /// Source: profile.
 ///
 /// ```
-/// let event = read_event(alloc, b"{\"time\":70,\"event\":\"dropped\",\"id\":3}")?;
+/// let event = read_event(alloc, 1, b"{\"time\":70,\"event\":\"dropped\",\"id\":3}")?;
 /// ```
 #[tactic(auto, unfolding(crate::specs::EventText::event_text))]
-pub fn read_event(alloc: Global, line: &[u8]) -> Result<Event, LineFault>
-    ensures ok { IfOk result (λ event. event_text line.now ≡ Ok event) }
-    ensures fault { IfErr result (λ fault. fault ≢ LineFault.Memory → event_text line.now ≡ Err fault) }
+pub fn read_event(alloc: Global, number_of_line: u64, line: &[u8]) -> Result<Event, LineFault>
+    ensures ok { IfOk result (λ event. event_text number_of_line line.now ≡ Ok event) }
+    ensures fault { IfErr result (λ fault. fault ≢ LineFault.Memory → event_text number_of_line line.now ≡ Err fault) }
 {
     let object = json(alloc, line)?;
     let Some(members) = object.as_object() else {
@@ -61,7 +62,7 @@ pub fn read_event(alloc: Global, line: &[u8]) -> Result<Event, LineFault>
     };
     let kind = kind_told(&object)?;
     let time = number(&object, Member::Time, u64::MAX)?;
-    let told = told(kind, &object)?;
+    let told = told(number_of_line, kind, &object)?;
     match unknown_member(members, kind.members()) {
         Some(name) => Err(LineFault::UnknownMember(name)),
         None => Ok(Event { time, kind: told }),

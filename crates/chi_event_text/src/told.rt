@@ -20,7 +20,7 @@ use chi_reading::{
     Member, granule_start, granule_word, lanes, refusal_named, request_asked, request_fields,
     seen_reply,
 };
-use chi_verdict::GranuleWord;
+use chi_trace::GranuleWord;
 use serde_json::Value;
 
 /// The value of a member.
@@ -32,18 +32,18 @@ pub(crate) fn stated(object: &Value, member: Member) -> Result<&Value, MemberFau
         .ok_or(MemberFault::Missing(member))
 }
 
-/// A request, with its data where `be` and `lanes` are there.
+/// The request that the line with this number tells, with its data where `be` and `lanes` are there.
 #[tactic(auto, unfolding(crate::specs::EventText::requested_of))]
-fn requested(object: &Value) -> Result<Requested, MemberFault<Member>>
-    ensures { result ≡ requested_of (view object.now) }
+fn requested(number_of_line: u64, object: &Value) -> Result<Requested, MemberFault<Member>>
+    ensures { result ≡ requested_of number_of_line (view object.now) }
 {
     let id = number(object, Member::Id, u64::MAX)?;
     let has_data = object.get(Member::Be.name()).is_some()
         || object.get(Member::Lanes.name()).is_some();
     let asked = if has_data {
-        request_asked(object)?
+        request_asked(number_of_line, object)?
     } else {
-        request_fields(object)?
+        request_fields(number_of_line, object)?
     };
     Ok(Requested {
         id,
@@ -169,13 +169,17 @@ fn unknown(object: &Value) -> Result<EventKind, MemberFault<Member>>
     Ok(EventKind::Unknown { addr, length })
 }
 
-/// What a line of a kind tells, or the first fault of the members of that kind.
+/// What the line with this number, which is of a kind, tells, or the first fault of the members of that kind.
 #[tactic(auto, unfolding(crate::specs::EventText::told_of))]
-pub(crate) fn told(kind: LineKind, object: &Value) -> Result<EventKind, MemberFault<Member>>
-    ensures { result ≡ told_of kind (view object.now) }
+pub(crate) fn told(
+    number_of_line: u64,
+    kind: LineKind,
+    object: &Value,
+) -> Result<EventKind, MemberFault<Member>>
+    ensures { result ≡ told_of number_of_line kind (view object.now) }
 {
     match kind {
-        LineKind::Request => Ok(EventKind::Request(requested(object)?)),
+        LineKind::Request => Ok(EventKind::Request(requested(number_of_line, object)?)),
         LineKind::Data => Ok(EventKind::Data(packet(object)?)),
         LineKind::Reply => Ok(EventKind::Reply(completion(object)?)),
         LineKind::Dropped => Ok(EventKind::Dropped {

@@ -2,12 +2,12 @@
 
 use chi_event_text::{LineFault, read_event};
 use chi_events::EventKind;
-use chi_reading::Asked;
-use chi_verdict::GranuleWord;
+use chi_trace::{Asked, GranuleWord};
 use std::process::Abort;
 
 fn same_asked(asked: &Asked, want: &Asked) -> bool {
-    asked.src == want.src
+    asked.number == want.number
+        && asked.src == want.src
         && asked.txn == want.txn
         && asked.opcode == want.opcode
         && asked.size == want.size
@@ -55,17 +55,17 @@ fn same_kind(kind: &EventKind, want: &EventKind) -> bool {
     }
 }
 
-/// Compares what a line tells, at time 70.
+/// Compares what line 4 tells, at time 70.
 pub(crate) fn assert_tells<R: AllocGlobal + Abort>(rt: &R, line: &str, want: EventKind) {
-    let is_told = match read_event(rt.alloc(), line.as_bytes()) {
+    let is_told = match read_event(rt.alloc(), 4, line.as_bytes()) {
         Ok(event) => event.time == 70 && same_kind(&event.kind, &want),
         Err(_) => false,
     };
     assert!(*rt; is_told, "{line}");
 }
 
-/// Compares the fault of a line.
+/// Compares the fault of line 4.
 pub(crate) fn assert_fault<R: AllocGlobal + Abort>(rt: &R, line: &str, want: LineFault) {
-    let fault = read_event(rt.alloc(), line.as_bytes()).err();
+    let fault = read_event(rt.alloc(), 4, line.as_bytes()).err();
     assert_eq!(*rt; fault, Some(want), "{line}");
 }

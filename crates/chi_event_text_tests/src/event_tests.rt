@@ -5,7 +5,7 @@ use chi_event_text::read_event;
 use chi_events::{Completion, EventKind, Packet};
 use chi_fields::Refusal;
 use chi_lanes::Reply;
-use chi_verdict::GranuleWord;
+use chi_trace::GranuleWord;
 use std::test::Fail;
 
 #[test]
@@ -149,7 +149,7 @@ fn member_told_twice(rt: HostRuntime) {
 #[test]
 fn greatest_time(rt: HostRuntime) -> Result<(), Fail> {
     let line = b"{\"time\":18446744073709551615,\"event\":\"dropped\",\"id\":3}\r\n";
-    let event = read_event(rt.alloc(), line)?;
+    let event = read_event(rt.alloc(), 1, line)?;
     assert_eq!(rt; event.time, 18446744073709551615);
     Ok(())
 }

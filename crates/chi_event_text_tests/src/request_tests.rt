@@ -3,7 +3,8 @@
 use crate::comparison::{assert_fault, assert_tells};
 use chi_event_text::LineFault;
 use chi_events::{EventKind, Requested};
-use chi_reading::{Asked, Member};
+use chi_reading::Member;
+use chi_trace::Asked;
 
 #[test]
 fn requests_with_and_without_data(rt: HostRuntime) {
@@ -12,6 +13,7 @@ fn requests_with_and_without_data(rt: HostRuntime) {
             r#"{"time":70,"event":"request","id":3,"src":513,"txn":65535,"op":48,"size":3,"addr":4096,"endian":1,"be":255,"lanes":"01000000000000000000000000000000"}"#,
             true,
             Asked {
+                number: 4,
                 src: 513,
                 txn: 65535,
                 opcode: 48,
@@ -26,6 +28,7 @@ fn requests_with_and_without_data(rt: HostRuntime) {
             r#"{"time":70,"event":"request","id":3,"src":65535,"txn":0,"op":255,"size":7,"addr":18446744073709551615,"endian":0}"#,
             false,
             Asked {
+                number: 4,
                 src: 65535,
                 txn: 0,
                 opcode: 255,

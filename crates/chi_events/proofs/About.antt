@@ -2,7 +2,7 @@
 use Rattle.std.proofs.Common.{◌≡◌, ℕ, List, Option, Some, None, IfSome, refl, sym, subst}
 use Rattle.chi_fields.specs.Access.{Access}
 use Rattle.chi_lanes.specs.declared.reply.Reply.{Reply}
-use Rattle.chi_trace.specs.declared.observed.Observed.{Observed}
+use Rattle.chi_trace.specs.declared.operation.Operation.{Operation}
 use Rattle.chi_events.specs.declared.event.EventKind.{EventKind}
 use Rattle.chi_events.specs.declared.event.EventKind.TheVariants as event_kind
 use Rattle.chi_events.specs.declared.outstanding.Open.{Open}
@@ -19,13 +19,13 @@ module _ (before : List Open) (kind : EventKind) (request : Open) (is : request_
       by_parts (Some a) None = tt
       by_parts (Some a) (Some r) = record { request = request; is = is; start = start; src = src }
 
-  ended : (op : Option Observed) (time : ℕ) (now : Open) → op ≡ ended_by time now → now.start ≡ request.start → now.asked.src ≡ request.asked.src → IfSome op (IsEndOfAbout before kind)
-  ended op time now same start src = subst (λ (o : Option Observed). IfSome o (IsEndOfAbout before kind)) (sym same) (ends time now start src)
+  ended : (op : Option Operation) (time : ℕ) (now : Open) → op ≡ ended_by time now → now.start ≡ request.start → now.asked.src ≡ request.asked.src → IfSome op (IsEndOfAbout before kind)
+  ended op time now same start src = subst (λ (o : Option Operation). IfSome o (IsEndOfAbout before kind)) (sym same) (ends time now start src)
 
-none_ended : (before : List Open) (kind : EventKind) (op : Option Observed) → op ≡ None → IfSome op (IsEndOfAbout before kind)
-none_ended before kind op none = subst (λ (o : Option Observed). IfSome o (IsEndOfAbout before kind)) (sym none) tt
+none_ended : (before : List Open) (kind : EventKind) (op : Option Operation) → op ≡ None → IfSome op (IsEndOfAbout before kind)
+none_ended before kind op none = subst (λ (o : Option Operation). IfSome o (IsEndOfAbout before kind)) (sym none) tt
 
-pub ends_about : (time : ℕ) (before after : List Open) (op : Option Observed) (kind : EventKind) → Takes kind time before op after → IfSome op (IsEndOfAbout before kind)
+pub ends_about : (time : ℕ) (before after : List Open) (op : Option Operation) (kind : EventKind) → Takes kind time before op after → IfSome op (IsEndOfAbout before kind)
 ends_about time before after op (event_kind.Request r) takes = none_ended before (event_kind.Request r) op takes.0
 ends_about time before after op (event_kind.Data p) takes = ended before (event_kind.Data p) takes.request takes.found op time (with_data p takes.request) takes.ends refl refl
 ends_about time before after op (event_kind.Reply c) takes = ended before (event_kind.Reply c) takes.request takes.found op time (with_reply c takes.request) takes.ends refl refl

@@ -5,7 +5,7 @@ use Rattle.std.specs.List.{position}
 use Rattle.std.proofs.lemmas.Bool.{true≢false}
 use Rattle.chi_fields.specs.Access.{Access}
 use Rattle.chi_lanes.specs.declared.reply.Reply.{Reply}
-use Rattle.chi_trace.specs.declared.observed.Observed.{Observed}
+use Rattle.chi_trace.specs.declared.operation.Operation.{Operation}
 use Rattle.chi_events.specs.declared.event.EventKind.{EventKind}
 use Rattle.chi_events.specs.declared.fault.EventFault.{EventFault}
 use Rattle.chi_events.specs.declared.fault.EventFault.TheVariants as fault
@@ -26,12 +26,12 @@ passed_on (Ok a) f requests k kind is same fails = tt
 passed_on (Err y) f requests k kind is same fails = λ no. ap (kind_fault requests) same ∙ fails ∙ ap Some (sym is)
 
 -- what an event does is what one of its kind does
-pub of_kind : (requests : List Open) (time : ℕ) (ended : Option Observed) (after : List Open) (k kind : EventKind) → k ≡ kind
+pub of_kind : (requests : List Open) (time : ℕ) (ended : Option Operation) (after : List Open) (k kind : EventKind) → k ≡ kind
     → (kind_fault requests kind ≡ None) × Takes kind time requests ended after → (kind_fault requests k ≡ None) × Takes k time requests ended after
 of_kind requests time ended after k kind same takes = subst (λ k. (kind_fault requests k ≡ None) × Takes k time requests ended after) (sym same) takes
 
 -- the request at a place is taken further: it is left as it is now, or has ended
-pub taken_further : (why : Option Open → Option EventFault) (id : ℕ) (next : Open → Open) (time : ℕ) (requests : List Open) (ended : Option Observed) (after : List Open)
+pub taken_further : (why : Option Open → Option EventFault) (id : ℕ) (next : Open → Open) (time : ℕ) (requests : List Open) (ended : Option Operation) (after : List Open)
     (place : ℕ) (o now : Open) → IsAt id requests place o → (why (Some o) ≡ None) × (now ≡ next o)
     → after ≡ take place requests ++ (still_open now ++ drop (place + 1) requests) → ended ≡ ended_by time now
     → (why (open_with id requests) ≡ None) × Changes id (λ o. still_open (next o)) (λ o. ended_by time (next o)) requests ended after

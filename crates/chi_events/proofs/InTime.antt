@@ -3,14 +3,15 @@ use Rattle.std.proofs.Common.{◌≡◌, ℕ, suc, ◌≤◌, Bool, true, false,
 use Rattle.std.specs.Prelude.{filter_map}
 use Rattle.std.specs.List.Sorted.{IsNonDecreasingBy}
 use Rattle.std.proofs.lemmas.List.Elements.{All-cons, All-head, All-nil, All-tail}
-use Rattle.chi_trace.specs.Explains.{IsObserved, IsTrace}
-use Rattle.chi_trace.specs.declared.observed.Observed.{Observed}
+use Rattle.chi_trace.specs.Explains.{IsOperation, IsTrace}
+use Rattle.chi_trace.specs.declared.operation.Operation.{Operation}
 use Rattle.chi_events.specs.declared.event.Event.{Event}
 use Rattle.chi_events.specs.declared.event.EventKind.{EventKind}
 use Rattle.chi_events.specs.declared.event.EventKind.TheVariants.{Request, Data, Reply, Dropped, Refused, Word, Final, Unknown}
 use Rattle.chi_events.specs.declared.event.Requested.{Requested}
 use Rattle.chi_events.specs.Operations.{operation_of, operations}
-use Rattle.chi_events.specs.Outstanding.{HasPacket, IsEvent, IsPacket}
+use Rattle.chi_trace.specs.Asked.{IsPacket}
+use Rattle.chi_events.specs.Outstanding.{HasPacket, IsEvent}
 use Rattle.chi_events.specs.Told.{Told, is_about, is_request_of, later_of, requested, told, told_by}
 use Rattle.chi_events.proofs.Observable.{IsAfter, IsTold, operation_observed, operation_start}
 
@@ -39,17 +40,17 @@ requested_packet (Unknown addr len) has = tt
 -- no operation starts before the first event
 start_after : (time : ℕ) (events : List Event) → All (λ e. time ≤ e.time) events → All (λ op. time ≤ op.start) (operations events)
 unfolding told
-start_after time [] all = All-nil (λ (op : Observed). time ≤ op.start)
+start_after time [] all = All-nil (λ (op : Operation). time ≤ op.start)
 start_after time (e ∷ events) all = by_request (requested e.kind) (start_after time events (All-tail (λ (x : Event). time ≤ x.time) e events all))
   where
-    Starts : List Observed → Type 0
+    Starts : List Operation → Type 0
     Starts ops = All (λ op. time ≤ op.start) ops
 
-    by_operation : (t : Told) (o : Option Observed) → operation_of t ≡ o → IfSome o (λ op. op.start ≡ e.time) → Starts (operations events)
+    by_operation : (t : Told) (o : Option Operation) → operation_of t ≡ o → IfSome o (λ op. op.start ≡ e.time) → Starts (operations events)
         → Starts (filter_map operation_of (t ∷ told events))
     by_operation t (Some op) is start rest =
         let first : time ≤ e.time = All-head (λ (x : Event). time ≤ x.time) e events all in
-        rw is (All-cons (λ (x : Observed). time ≤ x.start) op (operations events) (omega (arith, first, start)) rest)
+        rw is (All-cons (λ (x : Operation). time ≤ x.start) op (operations events) (omega (arith, first, start)) rest)
     by_operation t None is start rest = rw is rest
 
     by_request : (o : Option Requested) → Starts (operations events) → Starts (filter_map operation_of (told_by e.time o events ++ told events))
@@ -74,10 +75,10 @@ operations_trace (e ∷ events) all up =
     follow : All (IsAfter e.time) events
     follow i d below = record { later = after i d below; packet = (all (suc i) d (omega arith)).packet }
 
-    by_operation : (t : Told) (o : Option Observed) → operation_of t ≡ o → IfSome o (λ op. op.start ≡ e.time) → IfSome o IsObserved → IsTrace (operations events)
+    by_operation : (t : Told) (o : Option Operation) → operation_of t ≡ o → IfSome o (λ op. op.start ≡ e.time) → IfSome o IsOperation → IsTrace (operations events)
         → IsTrace (filter_map operation_of (t ∷ told events))
     by_operation t (Some op) is start observed rest =
-        rw is (observed, subst (λ n. All (λ (x : Observed). n ≤ x.start) (operations events)) (sym start) (start_after e.time events after), rest)
+        rw is (observed, subst (λ n. All (λ (x : Operation). n ≤ x.start) (operations events)) (sym start) (start_after e.time events after), rest)
     by_operation t None is start observed rest = rw is rest
 
     by_request : (o : Option Requested) → IfSome o (λ r. IsPacket r.asked.be r.asked.lanes) → IsTrace (operations events)

@@ -9,10 +9,10 @@ use Rattle.std.proofs.lemmas.List.Elements.{All-head, All-tail}
 use Rattle.std.proofs.lemmas.List.Folds.{list_any-append}
 use Rattle.std.proofs.Math.Bool.{or-false}
 use Rattle.chi_fields.specs.Access.{Access}
-use Rattle.chi_reading.specs.Requests.{access_of}
-use Rattle.chi_trace.specs.declared.observed.Observed.{Observed}
+use Rattle.chi_trace.specs.Asked.{access_of, as_operation}
+use Rattle.chi_trace.specs.declared.operation.Operation.{Operation}
 use Rattle.chi_events.specs.declared.event.Event.{Event}
-use Rattle.chi_reading.specs.declared.asked.Asked.{Asked}
+use Rattle.chi_trace.specs.declared.asked.Asked.{Asked}
 use Rattle.chi_events.specs.declared.event.EventKind.{EventKind}
 use Rattle.chi_events.specs.declared.event.EventKind.TheVariants as event_kind
 use Rattle.chi_events.specs.declared.outstanding.Open.{Open}
@@ -124,17 +124,12 @@ end_by a r = option_and_then (λ (x : AccessAt). option_map (λ (y : ReplyAt). m
 abbrev outstanding_by : Bool → Option AccessAt → Option ReplyAt → Bool
 outstanding_by dropped a r = not (dropped || is_some (end_by a r))
 
-abbrev operation_by : Told → Option AccessAt → Option ReplyAt → Option Observed
-operation_by t a r = option_map (λ (x : AccessAt). record {
-  start = t.time;
-  end = unwrap_or (end_by a r) (2 ^ 64 - 1);
-  src = t.request.asked.src;
-  access = x.access;
-  reply = option_and_then (λ end. option_and_then (λ (y : ReplyAt). y.reply) r) (end_by a r);
-}) a
+abbrev operation_by : Told → Option AccessAt → Option ReplyAt → Option Operation
+operation_by t a r = option_map (λ (x : AccessAt). as_operation t.request.asked x.access t.time (unwrap_or (end_by a r) (2 ^ 64 - 1))
+    (option_and_then (λ end. option_and_then (λ (y : ReplyAt). y.reply) r) (end_by a r))) a
 
 -- what is left of a request, and the operation that it was, where it has ended
-pub record Leaves (t : Told) (left : List Open) (ended : Option Observed) : Type 0 where
+pub record Leaves (t : Told) (left : List Open) (ended : Option Operation) : Type 0 where
   pub keeps : map open_of (filter is_outstanding (t ∷ [])) ≡ left
   pub ends : filter_map operation_of (filter (λ x. not (is_outstanding x)) (t ∷ [])) ≡ option_to_list ended
 
@@ -147,12 +142,12 @@ keeps_by t (Some a) (Some r) = refl
 
 ends_by : (t : Told) (time : ℕ) (a : Option AccessAt) (r : Option ReplyAt) → ((x : AccessAt) (y : ReplyAt) → a ≡ Some x → r ≡ Some y → max x.time y.time ≡ time)
     → operation_of t ≡ operation_by t a r → filter_map operation_of (cond (not (outstanding_by false a r)) (t ∷ []) [])
-    ≡ option_to_list (option_and_then (λ access. option_map (λ reply. record { start = t.time; end = time; src = t.request.asked.src; access = access; reply = reply })
+    ≡ option_to_list (option_and_then (λ access. option_map (λ reply. as_operation t.request.asked access t.time time reply)
     (option_map (λ (y : ReplyAt). y.reply) r)) (option_map (λ (x : AccessAt). x.access) a))
 ends_by t time None r last same = refl
 ends_by t time (Some a) None last same = refl
 ends_by t time (Some a) (Some r) last same =
-    let ended : ℕ → Observed = λ end. record { start = t.time; end = end; src = t.request.asked.src; access = a.access; reply = r.reply } in
+    let ended : ℕ → Operation = λ end. as_operation t.request.asked a.access t.time end r.reply in
     ap (λ o. cons_option o []) same ∙ ap (λ n. ended n ∷ []) (last a r refl refl)
 
 -- a request that was not dropped ends by its access and its completion, the later of which was told at this time

@@ -6,16 +6,17 @@ use Rattle.std.specs.Result.{result_ok}
 use Rattle.std.proofs.Math.Nat.{le-max_right}
 use Rattle.chi_fields.specs.Access.{Access}
 use Rattle.chi_fields.specs.declared.refusal.Refusal.{Refusal}
-use Rattle.chi_trace.specs.Explains.{IsObserved}
-use Rattle.chi_trace.specs.declared.observed.Observed.{Observed}
-use Rattle.chi_reading.specs.Requests.{access_of}
-use Rattle.chi_reading.specs.declared.asked.Asked.{Asked}
-use Rattle.chi_reading.proofs.Decided.{IsWithin, accessed}
+use Rattle.chi_trace.specs.Explains.{IsOperation}
+use Rattle.chi_trace.specs.declared.operation.Operation.{Operation}
+use Rattle.chi_trace.specs.Asked.{access_of, as_operation}
+use Rattle.chi_trace.specs.declared.asked.Asked.{Asked}
+use Rattle.chi_trace.proofs.Decided.{IsWithin, accessed}
 use Rattle.chi_events.specs.declared.event.Event.{Event}
 use Rattle.chi_events.specs.declared.event.EventKind.{EventKind}
 use Rattle.chi_events.specs.declared.event.EventKind.TheVariants.{Request, Data, Reply, Dropped, Refused, Word, Final, Unknown}
 use Rattle.chi_events.specs.Operations.{AccessAt, DataAt, ReplyAt, access_told, data_at, data_told, decided_at, ended_at, is_dropped, is_whole, operation_of, reply_at, reply_told, with_packet}
-use Rattle.chi_events.specs.Outstanding.{HasPacket, IsPacket}
+use Rattle.chi_trace.specs.Asked.{IsPacket}
+use Rattle.chi_events.specs.Outstanding.{HasPacket}
 use Rattle.chi_events.specs.Told.{Told}
 use Rattle.chi_events.proofs.Lists.{first_taken}
 
@@ -32,7 +33,7 @@ pub record IsTold (t : Told) : Type 0 where
 
 decided_within : (time : ℕ) (a : Asked) → IsPacket a.be a.lanes → IfSome (decided_at time a) (λ x. IsWithin x.access)
 decided_within time a packet =
-    by_result (access_of None a) (accessed None a (record { bits = packet.bits; packet = record { whole = packet.whole; bytes = packet.bytes } }) tt)
+    by_result (access_of None a) (accessed None a packet tt)
   where
     by_result : (r : Result Access Refusal) → IfOk r IsWithin → IfSome (option_map {U = AccessAt} (λ access. record { time = time; access = access }) (result_ok r)) (λ x. IsWithin x.access)
     by_result (Ok access) within = within
@@ -90,20 +91,15 @@ told_end t is = by_case (access_told t) (reply_told t) (told_reply t is)
     by_case (Some a) (Some r) later = omega (arith, later, le-max_right a.time r.time)
 
 -- the operation of a request with this access, which ended then or was open
-abbrev pub operation_as : Told → Option ℕ → AccessAt → Observed
-operation_as t end a = record {
-  start = t.time;
-  end = unwrap_or end (2 ^ 64 - 1);
-  src = t.request.asked.src;
-  access = a.access;
-  reply = option_and_then (λ n. option_and_then (λ r. r.reply) (reply_told t)) end;
-}
+abbrev pub operation_as : Told → Option ℕ → AccessAt → Operation
+operation_as t end a =
+    as_operation t.request.asked a.access t.time (unwrap_or end (2 ^ 64 - 1)) (option_and_then (λ n. option_and_then (λ r. r.reply) (reply_told t)) end)
 
-pub operation_observed : (t : Told) → IsTold t → IfSome (operation_of t) IsObserved
+pub operation_observed : (t : Told) → IsTold t → IfSome (operation_of t) IsOperation
 operation_observed t is = by_test (is_dropped t) (access_told t) (told_within t is)
   where
     by_test : (b : Bool) (o : Option AccessAt) → IfSome o (λ x. IsWithin x.access)
-        → IfSome (if b then None else option_map (operation_as t (ended_at t)) o) IsObserved
+        → IfSome (if b then None else option_map (operation_as t (ended_at t)) o) IsOperation
     by_test true o within = tt
     by_test false None within = tt
     by_test false (Some a) within = record { lawful = within.lawful; within = within.below; lasting = told_end t is }

@@ -1,7 +1,7 @@
 -- what events and one more tell, by what the one does
 use Rattle.std.proofs.Common.{◌≡◌, ℕ, ◌≤◌, true, List, [], ◌∷◌, ◌++◌, Option, Some, None, option_to_list, append-nil, refl, sym, ap, subst, ◌∙◌}
 use Rattle.chi_fields.specs.declared.refusal.Refusal.{Refusal}
-use Rattle.chi_trace.specs.declared.observed.Observed.{Observed}
+use Rattle.chi_trace.specs.declared.operation.Operation.{Operation}
 use Rattle.chi_events.specs.declared.event.Completion.{Completion}
 use Rattle.chi_events.specs.declared.event.Event.{Event}
 use Rattle.chi_events.specs.declared.event.EventKind.{EventKind}
@@ -40,32 +40,32 @@ free : (o : Option Open) → request_fault o ≡ None → o ≡ None
 free None none = refl
 free (Some o) none = cc
 
-module _ (events : List Event) (ended : List Observed) (o : OutstandingValue) (time : ℕ) (tells : Tells events ended o) (later : o.time ≤ time) where
+module _ (events : List Event) (ended : List Operation) (o : OutstandingValue) (time : ℕ) (tells : Tells events ended o) (later : o.time ≤ time) where
   -- the events and one more of a kind
-  abbrev Tell : EventKind → Option Observed → List Open → Type 0
+  abbrev Tell : EventKind → Option Operation → List Open → Type 0
   Tell kind op after = Tells (events ++ record { time = time; kind = kind } ∷ []) (ended ++ option_to_list op) (record { requests = after; time = time })
 
-  tell_none : (kind : EventKind) (op : Option Observed) (after requests : List Open) → op ≡ None → after ≡ requests
+  tell_none : (kind : EventKind) (op : Option Operation) (after requests : List Open) → op ≡ None → after ≡ requests
       → Tells (events ++ record { time = time; kind = kind } ∷ []) ended (record { requests = requests; time = time }) → Tell kind op after
   tell_none kind op after requests none is tells =
-      subst (λ (op : Option Observed). Tell kind op after) (sym none)
-      (subst (λ (all : List Observed). Tells (events ++ record { time = time; kind = kind } ∷ []) all (record { requests = after; time = time })) (sym (append-nil ended))
+      subst (λ (op : Option Operation). Tell kind op after) (sym none)
+      (subst (λ (all : List Operation). Tells (events ++ record { time = time; kind = kind } ∷ []) all (record { requests = after; time = time })) (sym (append-nil ended))
       (subst (λ (l : List Open). Tells (events ++ record { time = time; kind = kind } ∷ []) ended (record { requests = l; time = time })) (sym is) tells))
 
-  tell_change : (kind : EventKind) (id : ℕ) (left : Open → List Open) (end : Open → Option Observed) (op : Option Observed) (after : List Open)
+  tell_change : (kind : EventKind) (id : ℕ) (left : Open → List Open) (end : Open → Option Operation) (op : Option Operation) (after : List Open)
       → Changes id left end o.requests op after → IsAbout id (record { time = time; kind = kind })
       → ((t : Told) → IsBy time t → IsAccepted t → is_outstanding t ≡ true → kind_fault o.requests kind ≡ None → open_with id o.requests ≡ Some (open_of t)
       → Leaves (with_event (record { time = time; kind = kind }) t) (left (open_of t)) (end (open_of t)) × IsAccepted (with_event (record { time = time; kind = kind }) t))
       → IsEvent (record { time = time; kind = kind }) → kind_fault o.requests kind ≡ None → Tell kind op after
   tell_change kind id left end op after k about step is_event fault =
       let e : Event = record { time = time; kind = kind } in
-      subst (λ (op : Option Observed). Tell kind op after) (sym k.ends)
+      subst (λ (op : Option Operation). Tell kind op after) (sym k.ends)
       (subst (Tell kind (end k.request)) (sym k.is)
       (changed events ended o e k.first k.request k.rest (left k.request) (end k.request) tells k.was (subst (λ n. IsAbout n e) (sym k.number) about) later is_event
       (λ t by accepted outstanding same. subst (λ (x : Open). Leaves (with_event e t) (left x) (end x) × IsAccepted (with_event e t)) same
       (step t by accepted outstanding fault (k.found ∙ ap Some (sym same))))))
 
-  pub tells_more : (kind : EventKind) (op : Option Observed) (after : List Open) → IsEvent (record { time = time; kind = kind }) → kind_fault o.requests kind ≡ None
+  pub tells_more : (kind : EventKind) (op : Option Operation) (after : List Open) → IsEvent (record { time = time; kind = kind }) → kind_fault o.requests kind ≡ None
       → Takes kind time o.requests op after → Tell kind op after
   unfolding later_of
   tells_more (event_kind.Request r) op after is_event fault takes =

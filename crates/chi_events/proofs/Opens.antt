@@ -14,9 +14,9 @@ use Rattle.chi_fields.specs.declared.refusal.Refusal.TheVariants.{BadByteEnable,
 use Rattle.chi_fields.specs.declared.region.RegionFault.TheVariants.{BaseNotLineAligned, EndPastAddresses, GranuleCount}
 use Rattle.chi_fields.specs.declared.request.Request.{Request}
 use Rattle.chi_lanes.specs.declared.reply.Reply.{Reply}
-use Rattle.chi_reading.specs.Requests.{access_of, line_of, request_of}
-use Rattle.chi_reading.specs.declared.asked.Asked.{Asked}
-use Rattle.chi_trace.specs.declared.observed.Observed.{Observed}
+use Rattle.chi_trace.specs.Asked.{access_of, line_of, request_of}
+use Rattle.chi_trace.specs.declared.asked.Asked.{Asked}
+use Rattle.chi_trace.specs.declared.operation.Operation.{Operation}
 use Rattle.chi_events.specs.declared.event.Event.{Event}
 use Rattle.chi_events.specs.declared.event.EventKind.{EventKind}
 use Rattle.chi_events.specs.declared.event.EventKind.TheVariants as event_kind
@@ -122,7 +122,7 @@ ends_at before time request now is follows = by_parts now.access now.completion 
     }
 
 -- what is true after an event
-pub record Stays (before : List Open) (e : Event) (op : Option Observed) (after : List Open) : Type 0 where
+pub record Stays (before : List Open) (e : Event) (op : Option Operation) (after : List Open) : Type 0 where
   pub are_open : All (IsOpen e.time) after
   pub ended : IfSome op (IsEndOf before e.time)
   pub requests : All (StaysOrStarts before e) after
@@ -149,11 +149,11 @@ module _ (before : List Open) (first time : ℕ) (open_before : All (IsOpen firs
     same : Stays before e None before
     same = record { are_open = open_later before (λ o has. has); ended = tt; requests = stay before (λ o has. has) }
 
-    same_as : (op : Option Observed) (after : List Open) → op ≡ None → after ≡ before → Stays before e op after
-    same_as op after none is = subst (λ (o : Option Observed). Stays before e o after) (sym none) (subst (Stays before e None) (sym is) same)
+    same_as : (op : Option Operation) (after : List Open) → op ≡ None → after ≡ before → Stays before e op after
+    same_as op after none is = subst (λ (o : Option Operation). Stays before e o after) (sym none) (subst (Stays before e None) (sym is) same)
 
     -- one request changes
-    module _ (id : ℕ) (left : Open → List Open) (end : Open → Option Observed) (op : Option Observed) (after : List Open) (k : Changes id left end before op after) where
+    module _ (id : ℕ) (left : Open → List Open) (end : Open → Option Operation) (op : Option Operation) (after : List Open) (k : Changes id left end before op after) where
       has_request : Contains before k.request
       has_request = subst (λ (l : List Open). Contains l k.request) (sym k.was) (Contains-append_right k.first (k.request ∷ k.rest) k.request (0, omega arith, refl))
 
@@ -168,7 +168,7 @@ module _ (before : List Open) (first time : ℕ) (open_before : All (IsOpen firs
       one_changes are_open stays ends = record {
         are_open = subst (All (IsOpen time)) (sym k.is) (All-append (IsOpen time) k.first (left k.request ++ k.rest) (open_later k.first has_first)
             (All-append (IsOpen time) (left k.request) k.rest are_open (open_later k.rest has_rest)));
-        ended = subst (λ (o : Option Observed). IfSome o (IsEndOf before time)) (sym k.ends) ends;
+        ended = subst (λ (o : Option Operation). IfSome o (IsEndOf before time)) (sym k.ends) ends;
         requests = subst (All (StaysOrStarts before e)) (sym k.is) (All-append (StaysOrStarts before e) k.first (left k.request ++ k.rest) (stay k.first has_first)
             (All-append (StaysOrStarts before e) (left k.request) k.rest stays (stay k.rest has_rest)));
       }
@@ -178,7 +178,7 @@ module _ (before : List Open) (first time : ℕ) (open_before : All (IsOpen firs
           (subst (All (IsOpen time)) (sym leaves) (left_all (IsOpen time) (is_some now.access && is_some now.completion) now (open_from time now follows.before follows.has)))
           (subst (All (StaysOrStarts before e)) (sym leaves)
           (left_all (StaysOrStarts before e) (is_some now.access && is_some now.completion) now (inr (k.request, has_request, follows.start, follows.asked))))
-          (subst (λ (o : Option Observed). IfSome o (IsEndOf before time)) (sym ends) (ends_at before time k.request now has_request follows))
+          (subst (λ (o : Option Operation). IfSome o (IsEndOf before time)) (sym ends) (ends_at before time k.request now has_request follows))
 
   -- a request is taken
   new_one : (r : Requested) → Stays before (record { time = time; kind = event_kind.Request r }) None (before ++ opened time r ∷ [])
@@ -196,10 +196,10 @@ module _ (before : List Open) (first time : ℕ) (open_before : All (IsOpen firs
       by_whole true = accessed r.asked
       by_whole false = tt
 
-  pub stays_more : (kind : EventKind) (op : Option Observed) (after : List Open) → Takes kind time before op after → Stays before (record { time = time; kind = kind }) op after
+  pub stays_more : (kind : EventKind) (op : Option Operation) (after : List Open) → Takes kind time before op after → Stays before (record { time = time; kind = kind }) op after
   stays_more (event_kind.Request r) op after takes =
       let e : Event = record { time = time; kind = event_kind.Request r } in
-      subst (λ (o : Option Observed). Stays before e o after) (sym takes.0) (subst (Stays before e None) (sym takes.1) (new_one r))
+      subst (λ (o : Option Operation). Stays before e o after) (sym takes.0) (subst (Stays before e None) (sym takes.1) (new_one r))
   stays_more (event_kind.Data p) op after takes =
       let left = λ (o : Open). still_open (with_data p o) in
       let end = λ (o : Open). ended_by time (with_data p o) in

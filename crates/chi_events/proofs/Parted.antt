@@ -2,7 +2,7 @@
 use Rattle.std.proofs.Common.{◌≡◌, ℕ, Bool, true, false, cond, not, ◌||◌, if◌then◌else◌, List, [], ◌∷◌, ◌++◌, map, Option, Some, None, refl, sym, ap, ◌∙◌, subst}
 use Rattle.std.specs.Prelude.{IsPermutation, filter, filter_map, is_some, option_map}
 use Rattle.std.proofs.lemmas.List.Sorted.{IsPermutation-append, IsPermutation-append_comm, IsPermutation-refl, IsPermutation-trans}
-use Rattle.chi_trace.specs.declared.observed.Observed.{Observed}
+use Rattle.chi_trace.specs.declared.operation.Operation.{Operation}
 use Rattle.chi_events.specs.declared.event.Event.{Event}
 use Rattle.chi_events.specs.Operations.{AccessAt, access_told, ended_at, is_dropped, is_outstanding, operation_of, operations}
 use Rattle.chi_events.specs.Outstanding.{OutstandingValue, Tells, open_of, open_operation}
@@ -33,7 +33,7 @@ same_operations (t ∷ ts) = by_test (is_outstanding t) (same_operation t) (same
     by_test true same rest = rw (same refl, rest) refl
     by_test false same rest = rest
 
-pub operations_parted : (events : List Event) (ended : List Observed) (o : OutstandingValue) → Tells events ended o
+pub operations_parted : (events : List Event) (ended : List Operation) (o : OutstandingValue) → Tells events ended o
     → IsPermutation (operations events) (ended ++ filter_map open_operation o.requests)
 operations_parted events ended o tells =
     IsPermutation-trans _ _ _ (taken_of_both operation_of is_outstanding (told events))
@@ -41,10 +41,10 @@ operations_parted events ended o tells =
     (IsPermutation-append ends ended opens (filter_map open_operation o.requests) tells.ends
     (subst (IsPermutation opens) same (IsPermutation-refl opens))))
   where
-    opens : List Observed
+    opens : List Operation
     opens = filter_map operation_of (filter is_outstanding (told events))
 
-    ends : List Observed
+    ends : List Operation
     ends = filter_map operation_of (filter (λ t. not (is_outstanding t)) (told events))
 
     same : opens ≡ filter_map open_operation o.requests

@@ -6,7 +6,7 @@ use Rattle.std.proofs.lemmas.List.{take-append-drop}
 use Rattle.std.proofs.lemmas.List.Folds.{find_at}
 use Rattle.std.proofs.lemmas.List.Quantifiers.{position-Some}
 use Rattle.std.proofs.lemmas.Option.{slice_get_past}
-use Rattle.chi_trace.specs.declared.observed.Observed.{Observed}
+use Rattle.chi_trace.specs.declared.operation.Operation.{Operation}
 use Rattle.chi_events.specs.declared.outstanding.Open.{Open}
 use Rattle.chi_events.specs.Outstanding.{open_with}
 use Rattle.chi_events.specs.Taking.{Changes}
@@ -79,7 +79,7 @@ pub is_placed : (id : ℕ) (requests : List Open) (place : Option ℕ) → place
 is_placed id requests None is some = absurd (true≢false (sym some))
 is_placed id requests (Some i) is some = find_some (λ o. o.id == id) requests i (sym is)
 
-pub changes : (id : ℕ) (left : Open → List Open) (end : Open → Option Observed) (requests : List Open) (ended : Option Observed) (after : List Open) (place : ℕ) (o : Open)
+pub changes : (id : ℕ) (left : Open → List Open) (end : Open → Option Operation) (requests : List Open) (ended : Option Operation) (after : List Open) (place : ℕ) (o : Open)
     → IsAt id requests place o → after ≡ take place requests ++ (left o ++ drop (place + 1) requests) → ended ≡ end o → Changes id left end requests ended after
 changes id left end requests ended after place o at is ends = record {
   request = o;

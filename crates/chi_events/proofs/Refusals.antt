@@ -7,7 +7,7 @@ use Rattle.std.proofs.lemmas.Bool.{or_parts, true≢false}
 use Rattle.std.proofs.lemmas.List.Elements.{filter_map-append}
 use Rattle.std.proofs.lemmas.List.Sorted.{IsPermutation-refl}
 use Rattle.chi_fields.specs.declared.refusal.Refusal.{Refusal}
-use Rattle.chi_trace.specs.declared.observed.Observed.{Observed}
+use Rattle.chi_trace.specs.declared.operation.Operation.{Operation}
 use Rattle.chi_events.specs.declared.event.Event.{Event}
 use Rattle.chi_events.specs.declared.event.EventKind.{EventKind}
 use Rattle.chi_events.specs.declared.event.EventKind.TheVariants as event_kind
@@ -55,7 +55,7 @@ taken_middle f xs t ys = filter_map-append f xs (t ∷ ys) ∙ ap (λ l. filter_
     one None l = refl
     one (Some u) l = refl
 
-module _ (events : List Event) (ended : List Observed) (o : OutstandingValue) (tells : Tells events ended o) where
+module _ (events : List Event) (ended : List Operation) (o : OutstandingValue) (tells : Tells events ended o) where
   -- these are the refusals that the events and one more tell
   abbrev Refuses : Event → Option Refusal → Type 0
   Refuses e reason = IsPermutation (refusals_told (events ++ e ∷ [])) (refusals_told events ++ option_to_list reason)
@@ -80,12 +80,12 @@ module _ (events : List Event) (ended : List Observed) (o : OutstandingValue) (t
       subst (λ (l : List Refusal). IsPermutation l (refusals_told events ++ option_to_list reason)) (sym now)
       (middle_last first reason rest (refusals_told events) (subst (IsPermutation (first ++ rest)) (sym before) (IsPermutation-refl (first ++ rest))))
 
-  changed_by : (e : Event) (id : ℕ) (left : Open → List Open) (end : Open → Option Observed) (op : Option Observed) (after : List Open) (reason : Option Refusal)
+  changed_by : (e : Event) (id : ℕ) (left : Open → List Open) (end : Open → Option Operation) (op : Option Operation) (after : List Open) (reason : Option Refusal)
       → (k : Changes id left end o.requests op after) → IsAbout id e
       → ((t : Told) → open_of t ≡ k.request → given_by e.kind (refusal_told (with_event e t)) ≡ reason) → Refuses e reason
   changed_by e id left end op after reason k about given = changed e k.first k.request k.rest reason k.was (subst (λ n. IsAbout n e) (sym k.number) about) given
 
-  pub refusals_more : (time : ℕ) (kind : EventKind) (op : Option Observed) (after : List Open) → Takes kind time o.requests op after
+  pub refusals_more : (time : ℕ) (kind : EventKind) (op : Option Operation) (after : List Open) → Takes kind time o.requests op after
       → Refuses (record { time = time; kind = kind }) (refusal_by o.requests kind)
   unfolding later_of
   refusals_more time (event_kind.Request r) op after takes =

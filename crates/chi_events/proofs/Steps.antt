@@ -7,8 +7,8 @@ use Rattle.std.proofs.Math.Bool.{or-false}
 use Rattle.chi_fields.specs.Access.{Access}
 use Rattle.chi_fields.specs.declared.refusal.Refusal.{Refusal}
 use Rattle.chi_lanes.specs.declared.reply.Reply.{Reply}
-use Rattle.chi_reading.specs.Requests.{access_of}
-use Rattle.chi_trace.specs.declared.observed.Observed.{Observed}
+use Rattle.chi_trace.specs.Asked.{access_of}
+use Rattle.chi_trace.specs.declared.operation.Operation.{Operation}
 use Rattle.chi_events.specs.declared.event.Completion.{Completion}
 use Rattle.chi_events.specs.declared.event.Event.{Event}
 use Rattle.chi_events.specs.declared.event.EventKind.TheVariants as event_kind
@@ -173,7 +173,7 @@ none_ended time (Some a) o access completion =
 pub request_leaves : (time : ℕ) (r : Requested) → Leaves (new time r) (opened time r ∷ []) None
 request_leaves time r =
     let o = opened time r in
-    subst (λ (ended : Option Observed). Leaves (new time r) (o ∷ []) ended) (none_ended time o.access o refl refl)
+    subst (λ (ended : Option Operation). Leaves (new time r) (o ∷ []) ended) (none_ended time o.access o refl refl)
     (subst (λ (left : List Open). Leaves (new time r) left (ended_by time o)) (open_left o.access o refl refl)
     (subst (λ (x : Open). Leaves (new time r) (still_open x) (ended_by time x)) (open_first time r (is_whole r)) (settled (new time r) time refl (λ x y access reply. cc))))
 

@@ -8,7 +8,7 @@ use Rattle.std.proofs.lemmas.List.{map-append}
 use Rattle.std.proofs.lemmas.List.Elements.{All-cons, All-head, All-nil, All-push, All-tail, All-weaker, filter-append, filter_map-append}
 use Rattle.std.proofs.lemmas.List.Quantifiers.{all_pairs_push}
 use Rattle.std.proofs.lemmas.List.Sorted.{IsNonDecreasingBy-push}
-use Rattle.chi_trace.specs.declared.observed.Observed.{Observed}
+use Rattle.chi_trace.specs.declared.operation.Operation.{Operation}
 use Rattle.chi_events.specs.declared.event.Event.{Event}
 use Rattle.chi_events.specs.declared.event.EventKind.TheVariants as event_kind
 use Rattle.chi_events.specs.declared.event.Requested.{Requested}
@@ -86,7 +86,7 @@ pub record IsChanged (events : List Event) (e : Event) (a : List Open) (x : Open
   pub apart : All (λ y. at.item.request.id ≡ y.request.id → ⊥) at.after
   pub is : told (events ++ e ∷ []) ≡ at.before ++ with_event e at.item ∷ at.after
 
-pub changed_at : (events : List Event) (ended : List Observed) (o : OutstandingValue) (e : Event) (a : List Open) (x : Open) (b : List Open)
+pub changed_at : (events : List Event) (ended : List Operation) (o : OutstandingValue) (e : Event) (a : List Open) (x : Open) (b : List Open)
     → Tells events ended o → o.requests ≡ a ++ x ∷ b → IsAbout x.id e → IsChanged events e a x b
 changed_at events ended o e a x b tells has about =
     let s = split_at is_outstanding open_of (told events) a x b (sym tells.requests ∙ has) in
@@ -97,7 +97,7 @@ changed_at events ended o e a x b tells has about =
     record { at = s; apart = apart; is = told_at x.id e events s.before s.item s.after about s.is id (no_later x.id s.after others) }
 
 -- the event is about an outstanding request
-pub changed : (events : List Event) (ended : List Observed) (o : OutstandingValue) (e : Event) (a : List Open) (x : Open) (b left : List Open) (op : Option Observed)
+pub changed : (events : List Event) (ended : List Operation) (o : OutstandingValue) (e : Event) (a : List Open) (x : Open) (b left : List Open) (op : Option Operation)
     → Tells events ended o → o.requests ≡ a ++ x ∷ b → IsAbout x.id e → o.time ≤ e.time → IsEvent e
     → ((t : Told) → IsBy e.time t → IsAccepted t → is_outstanding t ≡ true → open_of t ≡ x → Leaves (with_event e t) left op × IsAccepted (with_event e t))
     → Tells (events ++ e ∷ []) (ended ++ option_to_list op) (record { requests = a ++ (left ++ b); time = e.time })
@@ -113,7 +113,7 @@ changed events ended o e a x b left op tells has about later is_event step =
     let first = filter_map operation_of (filter (λ x. not (is_outstanding x)) s.before) in
     let rest = filter_map operation_of (filter (λ x. not (is_outstanding x)) s.after) in
     let ends : IsPermutation (first ++ rest) ended =
-    subst (λ (l : List Observed). IsPermutation l ended)
+    subst (λ (l : List Operation). IsPermutation l ended)
     (ap (λ (l : List Told). filter_map operation_of (filter (λ x. not (is_outstanding x)) l)) s.is ∙ ended_middle (λ x. not (is_outstanding x)) operation_of s.before t s.after
     ∙ ap (λ (c : Bool). first ++ (filter_map operation_of (cond (not c) (t ∷ []) []) ++ rest)) s.passes) tells.ends in
     record {
@@ -124,9 +124,9 @@ changed events ended o e a x b left op tells has about later is_event step =
           ∙ ap (λ (l : List Open). l ++ (map open_of (filter is_outstanding (with_event e t ∷ [])) ++ map open_of (filter is_outstanding s.after))) s.first
           ∙ ap (λ (l : List Open). a ++ (l ++ map open_of (filter is_outstanding s.after))) done.0.keeps
           ∙ ap (λ (l : List Open). a ++ (left ++ l)) s.rest);
-      ends = subst (λ (l : List Observed). IsPermutation l (ended ++ option_to_list op))
+      ends = subst (λ (l : List Operation). IsPermutation l (ended ++ option_to_list op))
           (sym (ap (λ (l : List Told). filter_map operation_of (filter (λ x. not (is_outstanding x)) l)) is
-          ∙ ended_middle (λ x. not (is_outstanding x)) operation_of s.before (with_event e t) s.after ∙ ap (λ (l : List Observed). first ++ (l ++ rest)) done.0.ends))
+          ∙ ended_middle (λ x. not (is_outstanding x)) operation_of s.before (with_event e t) s.after ∙ ap (λ (l : List Operation). first ++ (l ++ rest)) done.0.ends))
           (middle_last first op rest ended ends);
       last = subst (AllPairs Parts) (sym is) (pairs_changed Parts s.before t (with_event e t) s.after last (λ z apart. apart) (λ k d below outstanding. there.apart k d below));
       accepted = subst (All IsAccepted) (sym is) (all_changed IsAccepted s.before t (with_event e t) s.after accepted done.1);
@@ -151,7 +151,7 @@ not_open n (t ∷ ts) none =
     by_test false none = (λ is same. true≢false (sym is), none)
 
 -- the event is a request
-pub started : (events : List Event) (ended : List Observed) (o : OutstandingValue) (time : ℕ) (r : Requested) → Tells events ended o → o.time ≤ time
+pub started : (events : List Event) (ended : List Operation) (o : OutstandingValue) (time : ℕ) (r : Requested) → Tells events ended o → o.time ≤ time
     → IsEvent (record { time = time; kind = event_kind.Request r })
     → open_with r.id o.requests ≡ None
     → Tells (events ++ record { time = time; kind = event_kind.Request r } ∷ []) ended (record { requests = o.requests ++ opened time r ∷ []; time = time })
@@ -167,9 +167,9 @@ started events ended o time r tells later is_event none =
       requests = sym (ap (λ (l : List Told). map open_of (filter is_outstanding l)) is ∙ kept_middle is_outstanding open_of (told events) (new time r) []
           ∙ ap (λ (l : List Open). map open_of (filter is_outstanding (told events)) ++ (l ++ [])) leaves.keeps
           ∙ ap (λ (l : List Open). l ++ opened time r ∷ []) (sym tells.requests));
-      ends = subst (λ (l : List Observed). IsPermutation l ended)
+      ends = subst (λ (l : List Operation). IsPermutation l ended)
           (sym (ap (λ (l : List Told). filter_map operation_of (filter (λ x. not (is_outstanding x)) l)) is ∙ ended_middle (λ x. not (is_outstanding x)) operation_of (told events) (new time r) []
-          ∙ ap (λ (l : List Observed). filter_map operation_of (filter (λ x. not (is_outstanding x)) (told events)) ++ (l ++ [])) leaves.ends
+          ∙ ap (λ (l : List Operation). filter_map operation_of (filter (λ x. not (is_outstanding x)) (told events)) ++ (l ++ [])) leaves.ends
           ∙ append-nil (filter_map operation_of (filter (λ x. not (is_outstanding x)) (told events))))) tells.ends;
       last = subst (AllPairs Parts) (sym is) (all_pairs_push Parts (told events) (new time r) tells.last
           (not_open r.id (told events) (ap (open_with r.id) (sym tells.requests) ∙ none)));
@@ -181,7 +181,7 @@ started events ended o time r tells later is_event none =
     nothing false = refl
 
 -- the event is about no request
-pub passed : (events : List Event) (ended : List Observed) (o : OutstandingValue) (e : Event) → Tells events ended o → o.time ≤ e.time → IsEvent e
+pub passed : (events : List Event) (ended : List Operation) (o : OutstandingValue) (e : Event) → Tells events ended o → o.time ≤ e.time → IsEvent e
     → requested e.kind ≡ None → ((id : ℕ) → later_of id (e ∷ []) ≡ []) → Tells (events ++ e ∷ []) ended (record { requests = o.requests; time = e.time })
 passed events ended o e tells later is_event no_request none =
     let is = told_none e events no_request none in

@@ -7,9 +7,9 @@ use Rattle.chi_fields.specs.Access.{Access}
 use Rattle.chi_fields.specs.declared.refusal.Refusal.{Refusal}
 use Rattle.chi_fields.specs.declared.refusal.Refusal.TheVariants as refusal
 use Rattle.chi_lanes.specs.declared.reply.Reply.{Reply}
-use Rattle.chi_reading.specs.Requests.{access_of}
-use Rattle.chi_reading.specs.declared.asked.Asked.{Asked}
-use Rattle.chi_trace.specs.declared.observed.Observed.{Observed}
+use Rattle.chi_trace.specs.Asked.{access_of, as_operation}
+use Rattle.chi_trace.specs.declared.asked.Asked.{Asked}
+use Rattle.chi_trace.specs.declared.operation.Operation.{Operation}
 use Rattle.chi_events.specs.declared.event.Event.{Event}
 use Rattle.chi_events.specs.declared.event.EventKind.{EventKind}
 use Rattle.chi_events.specs.declared.event.EventKind.TheVariants as event_kind
@@ -106,13 +106,13 @@ reply_of t = option_and_then (λ end. option_and_then (λ r. r.reply) (reply_tol
 
 -- The operation that a request is: none where it was dropped or refused, where its data have not come, or where a home of all
 -- addresses refuses it. One that has not ended was open when the events ended.
-abbrev pub operation_of : Told → Option Observed
+abbrev pub operation_of : Told → Option Operation
 operation_of t =
     if is_dropped t then None
-    else option_map (λ a. record { start = t.time; end = unwrap_or (ended_at t) (2 ^ 64 - 1); src = t.request.asked.src; access = a.access; reply = reply_of t }) (access_told t)
+    else option_map (λ a. as_operation t.request.asked a.access t.time (unwrap_or (ended_at t) (2 ^ 64 - 1)) (reply_of t)) (access_told t)
 
 -- the operations that the events tell, in the order in which their requests were taken
-abbrev pub operations : List Event → List Observed
+abbrev pub operations : List Event → List Operation
 operations events = filter_map operation_of (told events)
 
 -- the request is outstanding: neither dropped nor refused nor ended

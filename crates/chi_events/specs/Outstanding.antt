@@ -1,5 +1,5 @@
 -- requests that are outstanding, and why an event cannot come next
-use Rattle.std.specs.Prelude.{◌≡◌, ℕ, ◌+◌, ◌-◌, ◌^◌, ◌<◌, ◌≤◌, ◌==◌, ◌⊎◌, nat_lt, Bool, true, false, not, ◌&&◌, ◌||◌, if◌then◌else◌, List, length, slice_index, map, filter, filter_map, find, All, AllPairs, Contains, Option, Some, None, IfSome, is_some, is_none, option_map, option_and_then, Result, IsPermutation}
+use Rattle.std.specs.Prelude.{◌≡◌, ℕ, ◌+◌, ◌-◌, ◌^◌, ◌<◌, ◌≤◌, ◌==◌, ◌⊎◌, nat_lt, Bool, true, false, not, ◌&&◌, ◌||◌, if◌then◌else◌, List, map, filter, filter_map, find, All, AllPairs, Contains, Option, Some, None, IfSome, is_some, is_none, option_map, option_and_then, Result, IsPermutation}
 use Rattle.std.specs.List.Sorted.{IsNonDecreasingBy}
 use Rattle.std.specs.Option.{option_or}
 use Rattle.std.specs.Result.{result_err, result_ok}
@@ -8,10 +8,10 @@ use Rattle.chi_fields.specs.Extent.{Extent}
 use Rattle.chi_fields.specs.declared.refusal.Refusal.{Refusal}
 use Rattle.chi_fields.specs.declared.refusal.Refusal.TheVariants as refusal
 use Rattle.chi_lanes.specs.declared.reply.Reply.{Reply}
-use Rattle.chi_reading.specs.Replies.{reply_fault as seen_fault}
-use Rattle.chi_reading.specs.Requests.{access_of}
-use Rattle.chi_reading.specs.declared.asked.Asked.{Asked}
-use Rattle.chi_trace.specs.declared.observed.Observed.{Observed}
+use Rattle.chi_trace.specs.Replies.{reply_fault as seen_fault}
+use Rattle.chi_trace.specs.Asked.{IsPacket, access_of, as_operation}
+use Rattle.chi_trace.specs.declared.asked.Asked.{Asked}
+use Rattle.chi_trace.specs.declared.operation.Operation.{Operation}
 use Rattle.chi_events.specs.declared.event.Completion.{Completion}
 use Rattle.chi_events.specs.declared.event.Event.{Event}
 use Rattle.chi_events.specs.declared.event.EventKind.{EventKind}
@@ -48,14 +48,8 @@ open_of t = record {
 }
 
 -- the operation that an outstanding request is, once its data have come: it is open
-abbrev pub open_operation : Open → Option Observed
-open_operation o = option_map (λ access. record { start = o.start; end = 2 ^ 64 - 1; src = o.asked.src; access = access; reply = None }) o.access
-
--- sixteen byte enables and sixteen bytes
-pub record IsPacket (be : ℕ) (lanes : List ℕ) : Type 0 where
-  pub bits : be < 2 ^ 16
-  pub whole : length lanes ≡ 16
-  pub bytes : (i : ℕ) → slice_index lanes i < 256
+abbrev pub open_operation : Open → Option Operation
+open_operation o = option_map (λ access. as_operation o.asked access o.start (2 ^ 64 - 1) None) o.access
 
 -- the data that an event tells are a packet
 abbrev pub HasPacket : EventKind → Type 0
@@ -81,7 +75,7 @@ pub record IsAccepted (t : Told) : Type 0 where
 
 -- These requests are outstanding after the events, and these operations had ended, in some order. An outstanding request is the
 -- last of its number.
-pub record Tells (events : List Event) (ended : List Observed) (o : OutstandingValue) : Type 0 where
+pub record Tells (events : List Event) (ended : List Operation) (o : OutstandingValue) : Type 0 where
   pub bounds : All IsEvent events
   pub in_time : IsNonDecreasingBy (λ (e : Event). e.time) events
   pub times : All (λ e. e.time ≤ o.time) events
@@ -195,7 +189,7 @@ abbrev pub StaysOrStarts : List Open → Event → Open → Type 0
 StaysOrStarts before e o = IsTakenBy e o ⊎ ((p : Open) × Contains before p × (o.start ≡ p.start) × (o.asked ≡ p.asked))
 
 -- the operation is one of these requests, and ended at this time
-pub record IsEndOf (before : List Open) (time : ℕ) (op : Observed) : Type 0 where
+pub record IsEndOf (before : List Open) (time : ℕ) (op : Operation) : Type 0 where
   pub request : Open
   pub is : Contains before request
   pub start : op.start ≡ request.start
@@ -205,7 +199,7 @@ pub record IsEndOf (before : List Open) (time : ℕ) (op : Observed) : Type 0 wh
   pub lasting : op.start ≤ op.end
 
 -- the operation is that of the request that the event is about
-pub record IsEndOfAbout (before : List Open) (kind : EventKind) (op : Observed) : Type 0 where
+pub record IsEndOfAbout (before : List Open) (kind : EventKind) (op : Operation) : Type 0 where
   pub request : Open
   pub is : request_about before kind ≡ Some request
   pub start : op.start ≡ request.start

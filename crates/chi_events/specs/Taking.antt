@@ -2,8 +2,8 @@
 use Rattle.std.specs.Prelude.{◌≡◌, ℕ, ◌&&◌, if◌then◌else◌, true, List, [], ◌∷◌, ◌++◌, Option, Some, None, is_some, option_map, option_and_then}
 use Rattle.std.specs.Result.{result_ok}
 use Rattle.chi_fields.specs.Access.{Access}
-use Rattle.chi_reading.specs.Requests.{access_of}
-use Rattle.chi_trace.specs.declared.observed.Observed.{Observed}
+use Rattle.chi_trace.specs.Asked.{access_of, as_operation}
+use Rattle.chi_trace.specs.declared.operation.Operation.{Operation}
 use Rattle.chi_events.specs.declared.event.EventKind.{EventKind}
 use Rattle.chi_events.specs.declared.event.EventKind.TheVariants as event_kind
 use Rattle.chi_events.specs.declared.event.Completion.{Completion}
@@ -42,12 +42,12 @@ abbrev pub still_open : Open → List Open
 still_open o = if is_some o.access && is_some o.completion then [] else o ∷ []
 
 -- its operation, where it ends at this time
-abbrev pub ended_by : ℕ → Open → Option Observed
+abbrev pub ended_by : ℕ → Open → Option Operation
 ended_by time o =
-    option_and_then (λ access. option_map (λ reply. record { start = o.start; end = time; src = o.asked.src; access = access; reply = reply }) o.completion) o.access
+    option_and_then (λ access. option_map (λ reply. as_operation o.asked access o.start time reply) o.completion) o.access
 
 -- The request with a number changes: what is left of it stays in its place, and its operation has ended, where it does.
-pub record Changes (id : ℕ) (left : Open → List Open) (end : Open → Option Observed) (before : List Open) (ended : Option Observed) (after : List Open) : Type 0 where
+pub record Changes (id : ℕ) (left : Open → List Open) (end : Open → Option Operation) (before : List Open) (ended : Option Operation) (after : List Open) : Type 0 where
   pub request : Open
   pub first : List Open
   pub rest : List Open
@@ -58,7 +58,7 @@ pub record Changes (id : ℕ) (left : Open → List Open) (end : Open → Option
   pub ends : ended ≡ end request
 
 -- what an event of this kind at this time does
-abbrev pub Takes : EventKind → ℕ → List Open → Option Observed → List Open → Type 0
+abbrev pub Takes : EventKind → ℕ → List Open → Option Operation → List Open → Type 0
 Takes (event_kind.Request r) time before ended after = (ended ≡ None) × (after ≡ before ++ opened time r ∷ [])
 Takes (event_kind.Data p) time before ended after = Changes p.id (λ o. still_open (with_data p o)) (λ o. ended_by time (with_data p o)) before ended after
 Takes (event_kind.Reply c) time before ended after = Changes c.id (λ o. still_open (with_reply c o)) (λ o. ended_by time (with_reply c o)) before ended after

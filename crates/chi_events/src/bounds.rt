@@ -1,7 +1,8 @@
 //! What is true of every event, since its numbers fit their types. Each function does nothing: its contract is for proofs.
 
 ghost use Rattle.std.specs.Prelude.{◌^◌, ◌<◌};
-ghost use Rattle.chi_events.specs.Outstanding.{HasPacket, HasWord, IsEvent, IsPacket};
+ghost use Rattle.chi_trace.specs.Asked.{IsPacket};
+ghost use Rattle.chi_events.specs.Outstanding.{HasPacket, HasWord, IsEvent};
 
 use crate::event::{Event, EventKind};
 

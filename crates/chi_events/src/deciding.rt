@@ -8,7 +8,7 @@ ghost use Rattle.chi_events.specs.Taking.{opened, with_data};
 use crate::event::{Packet, Requested};
 use crate::outstanding::Open;
 use chi_fields::{Access, Refusal, Region};
-use chi_reading::{Asked, access};
+use chi_trace::{Asked, access};
 
 /// Why a home of all addresses refuses a request, as far as that is decided: not by its byte enables, before its data have come.
 fn refusal_of(is_whole: bool, decision: &Result<Access, Refusal>) -> Option<Refusal>

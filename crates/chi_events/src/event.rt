@@ -2,8 +2,7 @@
 
 use chi_fields::Refusal;
 use chi_lanes::Reply;
-use chi_reading::Asked;
-use chi_verdict::GranuleWord;
+use chi_trace::{Asked, GranuleWord};
 
 /// A request that a home has taken. `id` is a number that no other outstanding request has. Its data have come with it, or are
 /// told by a later event; until then its byte enables and lanes are 0.

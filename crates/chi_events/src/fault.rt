@@ -1,7 +1,7 @@
 //! Why an event cannot come next.
 
 use chi_fields::{Refusal, refusal_name};
-use chi_reading::ReplyFault;
+use chi_trace::ReplyFault;
 use thiserror::Error;
 
 /// Why an event cannot come after those before it.

@@ -1,7 +1,7 @@
 //! The requests that are outstanding, as events come.
 
 ghost use Rattle.std.specs.Prelude.{◌≡◌, ◌≢◌, ℕ, [], ◌∷◌, ◌++◌, List, All, None, Some, IfErr, IfOk, IfSome, option_map, option_to_list, filter_map, IsPermutation};
-ghost use Rattle.chi_trace.specs.declared.observed.Observed.{Observed};
+ghost use Rattle.chi_trace.specs.declared.operation.Operation.{Operation};
 ghost use Rattle.chi_events.specs.declared.event.Event.{Event};
 ghost use Rattle.chi_events.specs.Operations.{refusals_told};
 ghost use Rattle.chi_events.specs.Outstanding.{IsEndOf, IsEndOfAbout, IsOpen, StaysOrStarts, Tells, fault_of, open_operation, refusal_by, request_about};
@@ -12,8 +12,7 @@ use crate::fault::EventFault;
 use crate::taking::{refusal_by, request_about, take_kind};
 use chi_fields::{Access, Refusal};
 use chi_lanes::Reply;
-use chi_reading::Asked;
-use chi_trace::Observed;
+use chi_trace::{Asked, Operation};
 use std::alloc::Global;
 use std::marker::Model;
 
@@ -37,17 +36,11 @@ impl Open {
     /// ```
     /// let op = open.operation();
     /// ```
-    pub fn operation(&self) -> Option<Observed>
+    pub fn operation(&self) -> Option<Operation>
         ensures { result ≡ open_operation self.now }
     {
         let access = self.access?;
-        Some(Observed {
-            start: self.start,
-            end: u64::MAX,
-            src: self.asked.src,
-            access,
-            reply: None,
-        })
+        Some(self.asked.operation(access, self.start, u64::MAX, None))
     }
 }
 
@@ -103,9 +96,9 @@ impl Outstanding {
     ///     show(&op);
     /// }
     /// ```
-    pub fn take(&mut self, event: &Event) -> Result<Option<Observed>, EventFault>
-        ensures tells { IfOk result (λ ended. (events : List Event) (past : List Observed) → Tells events past self.old → Tells (events ++ event.now ∷ []) (past ++ option_to_list ended) self.new) }
-        ensures refusals { IfOk result (λ ended. (events : List Event) (past : List Observed) → Tells events past self.old → IsPermutation (refusals_told (events ++ event.now ∷ [])) (refusals_told events ++ option_to_list (refusal_by self.old.requests event.now.kind))) }
+    pub fn take(&mut self, event: &Event) -> Result<Option<Operation>, EventFault>
+        ensures tells { IfOk result (λ ended. (events : List Event) (past : List Operation) → Tells events past self.old → Tells (events ++ event.now ∷ []) (past ++ option_to_list ended) self.new) }
+        ensures refusals { IfOk result (λ ended. (events : List Event) (past : List Operation) → Tells events past self.old → IsPermutation (refusals_told (events ++ event.now ∷ [])) (refusals_told events ++ option_to_list (refusal_by self.old.requests event.now.kind))) }
         ensures taken { IfOk result (λ ended. fault_of self.old event.now ≡ None) }
         ensures fault { IfErr result (λ fault. fault ≢ EventFault.Memory → fault_of self.old event.now ≡ Some fault) }
         ensures failed { IfErr result (λ fault. self.new ≡ self.old) }

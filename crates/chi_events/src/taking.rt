@@ -9,8 +9,7 @@ use crate::event::{Completion, EventKind, Packet, Requested};
 use crate::fault::EventFault;
 use crate::outstanding::Open;
 use chi_fields::Refusal;
-use chi_reading::reply_fault;
-use chi_trace::Observed;
+use chi_trace::{Operation, reply_fault};
 
 /// The place of the outstanding request with a number.
 fn place_of(requests: &[Open], id: u64) -> Option<usize>
@@ -93,22 +92,16 @@ fn fitting(request: Open) -> Result<Open, EventFault>
 }
 
 /// The operation of a request that ends at this time, if it does.
-fn operation_by(request: &Open, time: u64) -> Option<Observed>
+fn operation_by(request: &Open, time: u64) -> Option<Operation>
     ensures { result ≡ ended_by time request.now }
 {
     let access = request.access?;
     let reply = request.completion?;
-    Some(Observed {
-        start: request.start,
-        end: time,
-        src: request.asked.src,
-        access,
-        reply,
-    })
+    Some(request.asked.operation(access, request.start, time, reply))
 }
 
 /// Keeps the request at a place as it is now, or takes it out and answers its operation, where it has ended.
-fn settle(requests: &mut Vec<Open>, place: usize, now: Open, time: u64) -> Option<Observed>
+fn settle(requests: &mut Vec<Open>, place: usize, now: Open, time: u64) -> Option<Operation>
     requires { place < length requests.old.items }
     ensures left { requests.new.items ≡ take place requests.old.items ++ (still_open now ++ drop (place + 1) requests.old.items) }
     ensures ended { result ≡ ended_by time now }
@@ -177,7 +170,7 @@ pub(crate) fn take_kind(
     requests: &mut Vec<Open>,
     time: u64,
     kind: &EventKind,
-) -> Result<Option<Observed>, EventFault>
+) -> Result<Option<Operation>, EventFault>
     ensures taken { IfOk result (λ ended. (kind_fault requests.old.items kind.now ≡ None) × Takes kind.now time requests.old.items ended requests.new.items) }
     ensures fault { IfErr result (λ fault. fault ≢ EventFault.Memory → kind_fault requests.old.items kind.now ≡ Some fault) }
     ensures failed { IfErr result (λ fault. requests.new.items ≡ requests.old.items) }

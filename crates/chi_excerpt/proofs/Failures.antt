@@ -2,19 +2,19 @@
 use Rattle.std.proofs.Common.{◌≡◌, ℕ, ◌<◌, ◌==◌, Bool, true, false, cond, List, [], ◌∷◌, ◌++◌, All, IfSome, length, get_or, slice_get, ltb-true, refl, ap, ◌∙◌, append_assoc}
 use Rattle.std.proofs.lemmas.List.Elements.{All-cons, All-head, All-nil}
 use Rattle.std.proofs.lemmas.Bool.{and_parts}
-use Rattle.chi_trace.specs.declared.observed.Observed.{Observed}
+use Rattle.chi_trace.specs.declared.operation.Operation.{Operation}
 use Rattle.std.specs.List.{filter}
 use Rattle.chi_trace.specs.Explains.{at, is_place}
 use Rattle.chi_trace.specs.Granules.{granule_of, is_of}
 use Rattle.chi_verdict.specs.declared.first.Blame.{Blame}
 use Rattle.chi_verdict.specs.Blames.{IsBlame}
-use Rattle.chi_verdict.specs.Traces.{TraceValue}
+use Rattle.chi_trace.specs.Traces.{TraceValue}
 use Rattle.chi_reading.specs.TraceText.{RecordedValue}
 use Rattle.chi_excerpt.specs.Failures.{first_or, order_in}
 use Rattle.chi_excerpt.specs.Suspects.{IsSuspect}
 
 -- an operation of a granule is one of the trace
-pub place_of : (ops : List Observed) (g i : ℕ) → is_of ops g i ≡ true → i < length ops
+pub place_of : (ops : List Operation) (g i : ℕ) → is_of ops g i ≡ true → i < length ops
 place_of ops g i is =
     let parts = and_parts (is_place ops i) (granule_of (at ops i) == g) is in
     ltb-true i (length ops) parts.0

@@ -1,11 +1,11 @@
 -- the operations that may be the ones whose answer is wrong, while they are looked for
-use Rattle.std.proofs.Common.{◌≡◌, ℕ, ◌+◌, ◌<◌, ◌⊎◌, List, [], ◌∷◌, ◌++◌, inl, inr, sym, subst, arith}
+use Rattle.std.proofs.Common.{ℕ, ◌+◌, ◌<◌, ◌⊎◌, List, [], ◌∷◌, ◌++◌, inl, inr, subst, arith}
 use Rattle.std.specs.List.{Contains}
 use Rattle.std.proofs.lemmas.Bool.{cases_lt}
 use Rattle.std.proofs.lemmas.List.Elements.{Contains-append_left, Contains-push}
 use Rattle.chi_search.specs.Looks.{LookedAtLeast, LookedSome}
 use Rattle.chi_search.proofs.Looking.{at_least_after, at_least_before}
-use Rattle.chi_verdict.specs.Traces.{TraceValue}
+use Rattle.chi_trace.specs.Traces.{TraceValue}
 use Rattle.chi_excerpt.specs.Suspects.{AreAll, IsSuspect}
 
 -- each before a place that is one is among these, or as many states as the budget were looked at

@@ -1,20 +1,20 @@
 -- the last of the operations that a test leaves, while the operations are gone through
 use Rattle.std.proofs.Common.{◌≡◌, ℕ, ◌+◌, ◌<◌, ◌≤◌, nat_lt, Bool, true, false, List, Option, None, Some, ◌⊎◌, inl, inr, true≢false, ltb-true, ltb-false, refl, sym, ap, ◌∙◌, arith}
-use Rattle.chi_trace.specs.declared.observed.Observed.{Observed}
+use Rattle.chi_trace.specs.declared.operation.Operation.{Operation}
 use Rattle.chi_trace.specs.Explains.{at}
 use Rattle.chi_excerpt.specs.Chosen.{ends_first}
 
-pub first_by_end : (ops : List Observed) (i j : ℕ) → i < j → (at ops i).end ≤ (at ops j).end → ends_first ops i j ≡ true
+pub first_by_end : (ops : List Operation) (i j : ℕ) → i < j → (at ops i).end ≤ (at ops j).end → ends_first ops i j ≡ true
 first_by_end ops i j below ends = grind (arith, below, ends)
 
-pub end_of_first : (ops : List Observed) (i j : ℕ) → ends_first ops i j ≡ true → (at ops i).end ≤ (at ops j).end
+pub end_of_first : (ops : List Operation) (i j : ℕ) → ends_first ops i j ≡ true → (at ops i).end ≤ (at ops j).end
 end_of_first ops i j first = grind (arith, first)
 
-pub end_of_other : (ops : List Observed) (i j : ℕ) → ends_first ops i j ≡ false → j < i → (at ops j).end ≤ (at ops i).end
+pub end_of_other : (ops : List Operation) (i j : ℕ) → ends_first ops i j ≡ false → j < i → (at ops j).end ≤ (at ops i).end
 end_of_other ops i j other below = grind (arith, other, below)
 
 -- the last of the first operations that are left, if there is one
-abbrev pub HasLatest : List Observed → (ℕ → Bool) → ℕ → Option ℕ → Type 0
+abbrev pub HasLatest : List Operation → (ℕ → Bool) → ℕ → Option ℕ → Type 0
 HasLatest ops left n None = (j : ℕ) → j < n → left j ≡ true → ⊥
 HasLatest ops left n (Some last) = (last < n) × (left last ≡ true) × ((j : ℕ) → j < n → left j ≡ true → (j ≡ last) ⊎ (ends_first ops j last ≡ true))
 
@@ -33,13 +33,13 @@ before n j below other = by_place (here_or_before n j below)
     by_place (inr less) = less
 
 -- the next operation is not left
-pub latest_without : (ops : List Observed) (left : ℕ → Bool) (n : ℕ) (last : Option ℕ) → HasLatest ops left n last → left n ≡ false → HasLatest ops left (n + 1) last
+pub latest_without : (ops : List Operation) (left : ℕ → Bool) (n : ℕ) (last : Option ℕ) → HasLatest ops left n last → left n ≡ false → HasLatest ops left (n + 1) last
 latest_without ops left n None has not_left = λ j below is. has j (before n j below (λ same. true≢false (sym is ∙ ap left same ∙ not_left))) is
 latest_without ops left n (Some last) (below_n, here, others) not_left =
     (omega (arith, below_n), here, λ j below is. others j (before n j below (λ same. true≢false (sym is ∙ ap left same ∙ not_left))) is)
 
 -- it is the first that is left
-pub latest_first : (ops : List Observed) (left : ℕ → Bool) (n : ℕ) → HasLatest ops left n None → left n ≡ true → HasLatest ops left (n + 1) (Some n)
+pub latest_first : (ops : List Operation) (left : ℕ → Bool) (n : ℕ) → HasLatest ops left n None → left n ≡ true → HasLatest ops left (n + 1) (Some n)
 latest_first ops left n none is_left = (omega arith, is_left, each)
   where
     by_place : (j : ℕ) → left j ≡ true → (j ≡ n) ⊎ (j < n) → (j ≡ n) ⊎ (ends_first ops j n ≡ true)
@@ -50,7 +50,7 @@ latest_first ops left n none is_left = (omega arith, is_left, each)
     each j below is = by_place j is (here_or_before n j below)
 
 -- it is left, and ended before the last
-pub latest_kept : (ops : List Observed) (left : ℕ → Bool) (n last : ℕ) → HasLatest ops left n (Some last) → ends_first ops n last ≡ true → HasLatest ops left (n + 1) (Some last)
+pub latest_kept : (ops : List Operation) (left : ℕ → Bool) (n last : ℕ) → HasLatest ops left n (Some last) → ends_first ops n last ≡ true → HasLatest ops left (n + 1) (Some last)
 latest_kept ops left n last (below_n, here, others) first = (omega (arith, below_n), here, each)
   where
     by_place : (j : ℕ) → left j ≡ true → (j ≡ n) ⊎ (j < n) → (j ≡ last) ⊎ (ends_first ops j last ≡ true)
@@ -61,7 +61,7 @@ latest_kept ops left n last (below_n, here, others) first = (omega (arith, below
     each j below is = by_place j is (here_or_before n j below)
 
 -- it is left, and ended after the last
-pub latest_next : (ops : List Observed) (left : ℕ → Bool) (n last : ℕ) → HasLatest ops left n (Some last) → left n ≡ true → ends_first ops n last ≡ false → HasLatest ops left (n + 1) (Some n)
+pub latest_next : (ops : List Operation) (left : ℕ → Bool) (n last : ℕ) → HasLatest ops left n (Some last) → left n ≡ true → ends_first ops n last ≡ false → HasLatest ops left (n + 1) (Some n)
 latest_next ops left n last (below_n, here, others) is_left other = (omega arith, is_left, each)
   where
     later : (at ops last).end ≤ (at ops n).end

@@ -1,15 +1,14 @@
 -- what is shown of where a trace stops being explained
-use Rattle.std.specs.Prelude.{◌≡◌, ℕ, ◌-◌, nat_lt, All, List, [], ◌∷◌, ◌++◌, codes, decimal, drop, flat_map, length, map, if◌then◌else◌, slice_get, slice_index, is_some, true, IfSome}
+use Rattle.std.specs.Prelude.{◌≡◌, ℕ, ◌-◌, nat_lt, All, List, [], ◌∷◌, ◌++◌, codes, decimal, drop, flat_map, length, if◌then◌else◌, slice_get, is_some, true, IfSome}
 use Rattle.std.specs.List.{filter}
+use Rattle.chi_trace.specs.Chosen.{chosen}
 use Rattle.chi_trace.specs.Explains.{at}
 use Rattle.chi_trace.specs.Granules.{is_of}
 use Rattle.chi_verdict.specs.Blames.{IsBlame}
 use Rattle.chi_reading.specs.TraceText.{RecordedValue}
-use Rattle.chi_answer.specs.Lines.{asked_at}
 use Rattle.chi_answer.specs.Texts.{blame_text}
 use Rattle.chi_excerpt.specs.declared.excerpt.Excerpt.{Excerpt}
 use Rattle.chi_excerpt.specs.declared.failure.Failure.{Failure}
-use Rattle.chi_excerpt.specs.declared.row.Row.{Row}
 use Rattle.chi_excerpt.specs.Chosen.{AreLast}
 use Rattle.chi_excerpt.specs.Suspects.{AreLegal, IsSuspect}
 use Rattle.chi_excerpt.specs.Texts.{excerpt_text}
@@ -27,10 +26,6 @@ pub record IsFailure (r : RecordedValue) (f : Failure) : Type 0 where
   pub first : IfSome (slice_get f.suspects.items 0) (λ i. f.blame.op ≡ i)
   pub legal : AreLegal r.trace f.blame.granule f.blame.time f.blame.op f.legal.items
 
--- the row of the operation at a place of the trace, with the number of its request in the input
-abbrev pub row_at : RecordedValue → ℕ → Row
-row_at r i = record { number = slice_index r.places i; asked = asked_at r i; op = at r.trace.operations i }
-
 -- those of these places whose operations ended after a time
 abbrev pub ended_after : RecordedValue → ℕ → List ℕ → List ℕ
 ended_after r time places = filter (λ i. nat_lt time (at r.trace.operations i).end) places
@@ -39,9 +34,9 @@ ended_after r time places = filter (λ i. nat_lt time (at r.trace.operations i).
 abbrev pub last_of : ℕ → List ℕ → List ℕ
 last_of most xs = drop (length xs - most) xs
 
--- a number of a request
+-- the number of an operation's request
 abbrev pub number_text : RecordedValue → ℕ → List ℕ
-number_text r i = codes " " ++ decimal (slice_index r.places i)
+number_text r i = codes " " ++ decimal (at r.trace.operations i).number
 
 -- where more than one operation may be the one whose answer is wrong, all of them
 unfoldable pub suspects_line : RecordedValue → List ℕ → List ℕ
@@ -65,10 +60,10 @@ order_in r g order = filter (is_of r.trace.operations g) order
 pub record IsExcerptOf (r : RecordedValue) (f : Failure) (most : ℕ) (e : Excerpt) : Type 0 where
   pub places : List ℕ
   pub last : AreLast r.trace.operations f.blame.granule f.blame.time f.blame.op most places
-  pub before : e.before.items ≡ map (row_at r) places
-  pub blamed : IfSome e.blamed (λ b. (b.row ≡ row_at r f.blame.op) × (b.legal.items ≡ f.legal.items))
+  pub before : e.before.items ≡ chosen r.trace.operations places
+  pub blamed : IfSome e.blamed (λ b. (b.row ≡ at r.trace.operations f.blame.op) × (b.legal.items ≡ f.legal.items))
   pub there : is_some e.blamed ≡ true
-  pub still_open : e.open.items ≡ map (row_at r) (ended_after r f.blame.time f.blame.overlapping.items)
+  pub still_open : e.open.items ≡ chosen r.trace.operations (ended_after r f.blame.time f.blame.overlapping.items)
 
 -- the text of a failure, of which so many operations are shown before the one that is blamed
 abbrev pub IsFailureText : RecordedValue → ℕ → Failure → List ℕ → Type 0

@@ -2,16 +2,16 @@
 use Rattle.std.specs.Prelude.{ℕ, List, [], ◌∷◌, Option, slice_set}
 use Rattle.std.specs.List.{filter}
 use Rattle.chi_lanes.specs.declared.reply.Reply.{Reply}
-use Rattle.chi_trace.specs.declared.observed.Observed.{Observed}
+use Rattle.chi_trace.specs.declared.operation.Operation.{Operation}
 use Rattle.chi_trace.specs.Chosen.{is_in}
 use Rattle.chi_trace.specs.Cuts.{cut}
 use Rattle.chi_trace.specs.Explains.{at}
-use Rattle.chi_verdict.specs.declared.words.GranuleWord.{GranuleWord}
-use Rattle.chi_verdict.specs.Traces.{IsExplained, TraceValue}
-use Rattle.chi_verdict.specs.Words.{word_told}
+use Rattle.chi_trace.specs.declared.words.GranuleWord.{GranuleWord}
+use Rattle.chi_trace.specs.Traces.{IsExplained, TraceValue}
+use Rattle.chi_trace.specs.Words.{word_told}
 
 -- the operations, of which the one at a place has this reply, or none that was seen
-abbrev pub with_reply : List Observed → ℕ → Option Reply → List Observed
+abbrev pub with_reply : List Operation → ℕ → Option Reply → List Operation
 with_reply ops i reply = slice_set ops i (record (at ops i) { reply = reply })
 
 -- the word of a granule at the opening

@@ -2,34 +2,35 @@
 use Rattle.std.specs.Prelude.{ℕ, max, min, length, List, [], ◌∷◌, ◌++◌, Option, None, Some, decimal}
 use Rattle.std.specs.List.{fold}
 use Rattle.chi_fields.specs.Opcode.{opcode_name}
-use Rattle.chi_excerpt.specs.declared.row.Row.{Row}
+use Rattle.chi_trace.specs.Fields.{opcode_of}
+use Rattle.chi_trace.specs.declared.operation.Operation.{Operation}
 use Rattle.chi_excerpt.specs.declared.excerpt.Blamed.{Blamed}
 use Rattle.chi_excerpt.specs.declared.excerpt.Excerpt.{Excerpt}
 use Rattle.chi_excerpt.specs.declared.columns.Widths.{Widths}
 use Rattle.chi_excerpt.specs.Columns.{until_text}
 
 -- the greatest of these numbers of the rows
-abbrev pub greatest : (Row → ℕ) → List Row → ℕ
+abbrev pub greatest : (Operation → ℕ) → List Operation → ℕ
 greatest f rows = fold (λ most row. max most (f row)) 0 rows
 
 -- each column is as wide as the longest text in it
-abbrev pub widths_of : List Row → Widths
+abbrev pub widths_of : List Operation → Widths
 widths_of rows = record {
   number = greatest (λ row. length (decimal row.number)) rows;
-  start = greatest (λ row. length (decimal row.op.start)) rows;
-  until = greatest (λ row. length (until_text row.op.end)) rows;
-  name = greatest (λ row. length (opcode_name row.asked.opcode)) rows;
+  start = greatest (λ row. length (decimal row.start)) rows;
+  until = greatest (λ row. length (until_text row.end)) rows;
+  name = greatest (λ row. length (opcode_name (opcode_of row.access.kind))) rows;
 }
 
 -- when the first of them started, if that is before a time
-abbrev pub first_start : ℕ → List Row → ℕ
-first_start time rows = fold (λ least row. min least row.op.start) time rows
+abbrev pub first_start : ℕ → List Operation → ℕ
+first_start time rows = fold (λ least row. min least row.start) time rows
 
 -- the row of the operation that is blamed, if there is one
-abbrev pub blamed_rows : Option Blamed → List Row
+abbrev pub blamed_rows : Option Blamed → List Operation
 blamed_rows None = []
 blamed_rows (Some blamed) = blamed.row ∷ []
 
 -- all rows of an excerpt
-abbrev pub all_rows : Excerpt → List Row
+abbrev pub all_rows : Excerpt → List Operation
 all_rows e = e.before.items ++ blamed_rows e.blamed ++ e.open.items

@@ -5,7 +5,7 @@ use Rattle.chi_lanes.specs.declared.reply.Reply.{Reply}
 use Rattle.chi_search.specs.Looks.{LookedAtLeast}
 use Rattle.chi_trace.specs.Explains.{at, is_answered}
 use Rattle.chi_trace.specs.Granules.{is_of}
-use Rattle.chi_verdict.specs.Traces.{TraceValue}
+use Rattle.chi_trace.specs.Traces.{TraceValue}
 use Rattle.chi_excerpt.specs.Replies.{IsExplainedWith}
 
 -- The operation of the granule was answered at the time, and without its answer the granule's operations up to then can be

@@ -4,12 +4,12 @@ ghost use Rattle.std.specs.Prelude.{◌≡◌, ◌⊎◌, ◌<◌, ℕ, false, t
 ghost use Rattle.chi_trace.specs.Explains.{at};
 ghost use Rattle.chi_excerpt.specs.Chosen.{AreLast, IsLatest, can_come, ends_before, ends_first, may_be_shown};
 
-use chi_trace::Observed;
+use chi_trace::Operation;
 use std::alloc::{AllocError, Global};
 
 /// Whether an operation ended before another; of those that ended at one time, the one that stands first in the trace counts as
 /// the first.
-fn ends_first(ops: &[Observed], one: usize, other: usize) -> bool
+fn ends_first(ops: &[Operation], one: usize, other: usize) -> bool
     requires one { one < length ops.now }
     requires other { other < length ops.now }
     ensures { result ≡ ends_first ops.now one other }
@@ -20,17 +20,17 @@ fn ends_first(ops: &[Observed], one: usize, other: usize) -> bool
 }
 
 /// Whether the operation at a place is of the granule, ended by the time, and is not the one that is blamed.
-fn may_be_shown(ops: &[Observed], granule: u64, time: u64, blamed: usize, place: usize) -> bool
+fn may_be_shown(ops: &[Operation], granule: u64, time: u64, blamed: usize, place: usize) -> bool
     requires { place < length ops.now }
     ensures { result ≡ may_be_shown ops.now granule time blamed place }
 {
     let op = &ops[place];
-    op.access.addr() / 8 == granule && op.end <= time && place != blamed
+    op.granule() == granule && op.end <= time && place != blamed
 }
 
 /// The same, where it ended before the first of those that are shown, if there is one.
 fn can_come(
-    ops: &[Observed],
+    ops: &[Operation],
     granule: u64,
     time: u64,
     blamed: usize,
@@ -52,7 +52,7 @@ fn can_come(
 
 /// The last of those that can come, if there is one.
 fn latest(
-    ops: &[Observed],
+    ops: &[Operation],
     granule: u64,
     time: u64,
     blamed: usize,
@@ -78,7 +78,7 @@ fn latest(
 /// ends.
 pub(crate) fn last_ended(
     alloc: Global,
-    ops: &[Observed],
+    ops: &[Operation],
     granule: u64,
     time: u64,
     blamed: usize,

@@ -5,9 +5,9 @@ ghost use Rattle.chi_excerpt.specs.Columns.{left_text, number_text, until_text};
 ghost use Rattle.chi_excerpt.specs.Rows.{first_start, widths_of};
 
 use crate::bar::add_repeated;
-use crate::row::Row;
 use chi_fields::op_name;
 use chi_text::{Part, add_parts};
+use chi_trace::Operation;
 use itoa::Buffer;
 use std::alloc::AllocError;
 
@@ -36,30 +36,28 @@ fn until_length(end: u64) -> usize
 }
 
 /// How wide the columns of these rows are.
-pub(crate) fn widths_of(rows: &[Row]) -> Widths
+pub(crate) fn widths_of(rows: &[Operation]) -> Widths
     ensures { result ≡ widths_of rows.now }
 {
     Widths {
         number: rows
             .iter()
             .fold(0, |most, row| most.max(digits(row.number))),
-        start: rows
-            .iter()
-            .fold(0, |most, row| most.max(digits(row.op.start))),
+        start: rows.iter().fold(0, |most, row| most.max(digits(row.start))),
         until: rows
             .iter()
-            .fold(0, |most, row| most.max(until_length(row.op.end))),
+            .fold(0, |most, row| most.max(until_length(row.end))),
         name: rows
             .iter()
-            .fold(0, |most, row| most.max(op_name(row.asked.opcode).len())),
+            .fold(0, |most, row| most.max(op_name(row.opcode()).len())),
     }
 }
 
 /// When the first of these rows started, if that is before a time.
-pub(crate) fn first_start(time: u64, rows: &[Row]) -> u64
+pub(crate) fn first_start(time: u64, rows: &[Operation]) -> u64
     ensures { result ≡ first_start time rows.now }
 {
-    rows.iter().fold(time, |least, row| least.min(row.op.start))
+    rows.iter().fold(time, |least, row| least.min(row.start))
 }
 
 /// A number in a column of this width, at its right.

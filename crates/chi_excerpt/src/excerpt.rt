@@ -7,9 +7,9 @@ ghost use Rattle.chi_excerpt.specs.Texts.{blamed_text, excerpt_text, legal_line,
 use crate::columns::{Widths, first_start, widths_of};
 use crate::line::add_row;
 use crate::operand::add_returned;
-use crate::row::Row;
 use chi_lanes::Reply;
 use chi_text::{Part, add_parts};
+use chi_trace::Operation;
 use std::alloc::{AllocError, Global};
 
 /// The operation that is blamed, and replies of it that would have been legal.
@@ -17,7 +17,7 @@ use std::alloc::{AllocError, Global};
 /// Source: profile.
 #[derive(Debug, Drop)]
 pub struct Blamed {
-    pub row: Row,
+    pub row: Operation,
     pub legal: Vec<Reply>,
 }
 
@@ -29,13 +29,13 @@ pub struct Blamed {
 /// Source: profile.
 #[derive(Debug, Drop)]
 pub struct Excerpt {
-    pub before: Vec<Row>,
+    pub before: Vec<Operation>,
     pub blamed: Option<Blamed>,
-    pub open: Vec<Row>,
+    pub open: Vec<Operation>,
 }
 
 /// The row of the operation that is blamed, if there is one.
-fn blamed_rows(alloc: Global, blamed: &Option<Blamed>) -> Result<Vec<Row>, AllocError>
+fn blamed_rows(alloc: Global, blamed: &Option<Blamed>) -> Result<Vec<Operation>, AllocError>
     ensures { IfOk result (λ rows. rows.items ≡ blamed_rows blamed.now) }
 {
     let mut rows = Vec::new(alloc);
@@ -46,7 +46,7 @@ fn blamed_rows(alloc: Global, blamed: &Option<Blamed>) -> Result<Vec<Row>, Alloc
 }
 
 /// All of its rows.
-fn all_rows(alloc: Global, excerpt: &Excerpt) -> Result<Vec<Row>, AllocError>
+fn all_rows(alloc: Global, excerpt: &Excerpt) -> Result<Vec<Operation>, AllocError>
     ensures { IfOk result (λ rows. rows.items ≡ all_rows excerpt.now) }
 {
     let mut rows = Vec::from_slice(alloc, &excerpt.before)?;
@@ -61,7 +61,7 @@ fn add_rows(
     label: &str,
     line: (u64, u64),
     widths: Widths,
-    rows: &[Row],
+    rows: &[Operation],
 ) -> Result<(), AllocError>
     ensures { OnOk result (to.new.items ≡ to.old.items ++ flat_map (row_text label.now false line.0 line.1 widths) rows.now) }
 {
@@ -73,16 +73,16 @@ fn add_rows(
 
 /// A reply that would have been legal.
 #[tactic(auto, unfolding(crate::specs::Texts::legal_line))]
-fn add_legal(to: &mut Vec<u8>, row: &Row, reply: Reply) -> Result<(), AllocError>
+fn add_legal(to: &mut Vec<u8>, row: &Operation, reply: Reply) -> Result<(), AllocError>
     ensures { OnOk result (to.new.items ≡ to.old.items ++ legal_line row.now reply) }
 {
     add_parts(to, &[Part::Text("    legal would be:")])?;
-    add_returned(to, &row.op.access, Some(reply))?;
+    add_returned(to, &row.access, Some(reply))?;
     add_parts(to, &[Part::Text("\n")])
 }
 
 /// The replies that would have been legal.
-fn add_each_legal(to: &mut Vec<u8>, row: &Row, legal: &[Reply]) -> Result<(), AllocError>
+fn add_each_legal(to: &mut Vec<u8>, row: &Operation, legal: &[Reply]) -> Result<(), AllocError>
     ensures { OnOk result (to.new.items ≡ to.old.items ++ flat_map (legal_line row.now) legal.now) }
 {
     for reply in legal {

@@ -1,40 +1,16 @@
 //! The text of where a trace stops being explained.
 
-ghost use Rattle.std.specs.Prelude.{◌≡◌, ◌<◌, ◌++◌, All, IfOk, OnOk, flat_map, length, map};
-ghost use Rattle.chi_excerpt.specs.Failures.{IsExcerptOf, IsFailure, IsFailureText, ended_after, last_of, number_text, order_in, order_line, order_words, row_at, suspects_line};
+ghost use Rattle.std.specs.Prelude.{◌≡◌, ◌<◌, ◌++◌, All, IfOk, OnOk, flat_map, length};
+ghost use Rattle.chi_excerpt.specs.Failures.{IsExcerptOf, IsFailure, IsFailureText, ended_after, last_of, number_text, order_in, order_line, order_words, suspects_line};
 
 use crate::chosen::last_ended;
 use crate::excerpt::{Blamed, Excerpt, add_excerpt};
 use crate::failure::Failure;
-use crate::row::Row;
 use chi_answer::add_blame;
 use chi_reading::Recorded;
 use chi_text::{Part, add_parts};
+use chi_trace::operations_at;
 use std::alloc::{AllocError, Global};
-
-/// The row of the operation at a place.
-fn row_at(recorded: &Recorded, place: usize) -> Row
-    requires { place < length recorded.now.trace.operations }
-    ensures { result ≡ row_at recorded.now place }
-{
-    Row {
-        number: recorded.places()[place] as u64,
-        asked: recorded.requests()[place],
-        op: recorded.trace().operations()[place],
-    }
-}
-
-/// The rows of the operations at these places.
-fn rows_at(alloc: Global, recorded: &Recorded, places: &[usize]) -> Result<Vec<Row>, AllocError>
-    requires { All (λ place. place < length recorded.now.trace.operations) places.now }
-    ensures { IfOk result (λ rows. rows.items ≡ map (row_at recorded.now) places.now) }
-{
-    let mut rows = Vec::new(alloc);
-    for place in places {
-        rows.push(row_at(recorded, *place))?;
-    }
-    Ok(rows)
-}
 
 /// Those of these places whose operations ended after a time.
 fn ended_after(
@@ -69,11 +45,11 @@ fn excerpt_of(
     let blame = &failure.blame;
     let ops = recorded.trace().operations();
     let last = last_ended(alloc, ops, blame.granule, blame.time, blame.op, around)?;
-    let before = rows_at(alloc, recorded, &last)?;
-    let row = row_at(recorded, blame.op);
+    let before = operations_at(alloc, ops, &last)?;
+    let row = ops[blame.op];
     let legal = Vec::from_slice(alloc, &failure.legal)?;
     let still_open = ended_after(alloc, recorded, blame.time, &blame.overlapping)?;
-    let open = rows_at(alloc, recorded, &still_open)?;
+    let open = operations_at(alloc, ops, &still_open)?;
     Ok(Excerpt {
         before,
         blamed: Some(Blamed { row, legal }),
@@ -86,9 +62,9 @@ fn add_numbers(to: &mut Vec<u8>, recorded: &Recorded, places: &[usize]) -> Resul
     requires { All (λ place. place < length recorded.now.trace.operations) places.now }
     ensures { OnOk result (to.new.items ≡ to.old.items ++ flat_map (number_text recorded.now) places.now) }
 {
-    let numbers = recorded.places();
+    let ops = recorded.trace().operations();
     for place in places {
-        add_parts(to, &[Part::Text(" "), Part::Number(numbers[*place] as u64)])?;
+        add_parts(to, &[Part::Text(" "), Part::Number(ops[*place].number)])?;
     }
     Ok(())
 }
@@ -126,7 +102,7 @@ pub fn order_in(
     let ops = recorded.trace().operations();
     let mut own = Vec::new(alloc);
     for place in order {
-        if *place < ops.len() && ops[*place].access.addr() / 8 == granule {
+        if *place < ops.len() && ops[*place].granule() == granule {
             own.push(*place)?;
         }
     }

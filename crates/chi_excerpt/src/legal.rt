@@ -8,7 +8,8 @@ use crate::replies::{granule_with, is_explained_with};
 use chi_fields::Access;
 use chi_lanes::{Reply, apply};
 use chi_search::{Progress, Words};
-use chi_verdict::{Trace, words_held};
+use chi_trace::Trace;
+use chi_verdict::words_held;
 use std::alloc::{AllocError, Global};
 
 /// The greatest number of answers that are tried, and of times at which they are looked for.
@@ -30,7 +31,7 @@ fn times_before(
     let mut times = Vec::new(alloc);
     times.push(time.saturating_sub(1))?;
     for op in ops {
-        let is_near = op.end >= start && op.end <= time && op.access.addr() / 8 == granule;
+        let is_near = op.end >= start && op.end <= time && op.granule() == granule;
         if is_near && times.len() < MOST {
             times.push(op.end.saturating_sub(1))?;
         }

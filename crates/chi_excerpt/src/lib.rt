@@ -11,10 +11,8 @@ mod legal;
 mod line;
 mod operand;
 mod replies;
-mod row;
 mod suspects;
 
 pub use excerpt::{Blamed, Excerpt, add_excerpt};
 pub use failure::{Failure, failure_of};
 pub use failure_lines::{failure_text, order_in};
-pub use row::Row;

@@ -6,9 +6,9 @@ ghost use Rattle.chi_excerpt.specs.Texts.{row_text, what_text, when_text, whose_
 use crate::bar::add_bar;
 use crate::columns::{Widths, add_left, add_number, add_until};
 use crate::operand::{add_order, add_place, add_returned, add_sent};
-use crate::row::Row;
 use chi_fields::op_name;
 use chi_text::{Part, add_parts};
+use chi_trace::Operation;
 use std::alloc::AllocError;
 
 /// When an operation was under way, with a bar of this sign on a line from one time to another.
@@ -18,42 +18,42 @@ fn add_when(
     sign: u8,
     line: (u64, u64),
     widths: Widths,
-    row: &Row,
+    row: &Operation,
 ) -> Result<(), AllocError>
     ensures { OnOk result (to.new.items ≡ to.old.items ++ when_text sign line.0 line.1 widths row.now) }
 {
-    add_bar(to, sign, line, row.op.start, row.op.end)?;
+    add_bar(to, sign, line, row.start, row.end)?;
     add_parts(to, &[Part::Text("  ")])?;
-    add_number(to, row.op.start, widths.start)?;
+    add_number(to, row.start, widths.start)?;
     add_parts(to, &[Part::Text(" ")])?;
-    add_until(to, row.op.end, widths.until)
+    add_until(to, row.end, widths.until)
 }
 
 /// What it was: its name, its operand's place, what was sent, what came back, and the order of its bytes.
 #[tactic(auto, unfolding(crate::specs::Texts::what_text))]
-fn add_what(to: &mut Vec<u8>, widths: Widths, row: &Row) -> Result<(), AllocError>
+fn add_what(to: &mut Vec<u8>, widths: Widths, row: &Operation) -> Result<(), AllocError>
     ensures { OnOk result (to.new.items ≡ to.old.items ++ what_text widths row.now) }
 {
     add_parts(to, &[Part::Text("  ")])?;
-    add_left(to, op_name(row.asked.opcode), widths.name)?;
-    add_place(to, &row.op.access)?;
-    add_sent(to, &row.op.access)?;
-    add_returned(to, &row.op.access, row.op.reply)?;
-    add_order(to, &row.op.access)
+    add_left(to, op_name(row.opcode()), widths.name)?;
+    add_place(to, &row.access)?;
+    add_sent(to, &row.access)?;
+    add_returned(to, &row.access, row.reply)?;
+    add_order(to, &row.access)
 }
 
 /// Whose it was.
 #[tactic(auto, unfolding(crate::specs::Texts::whose_text))]
-fn add_whose(to: &mut Vec<u8>, row: &Row) -> Result<(), AllocError>
+fn add_whose(to: &mut Vec<u8>, row: &Operation) -> Result<(), AllocError>
     ensures { OnOk result (to.new.items ≡ to.old.items ++ whose_text row.now) }
 {
     add_parts(
         to,
         &[
             Part::Text("  requester "),
-            Part::Number(u64::from(row.asked.src)),
+            Part::Number(u64::from(row.src)),
             Part::Text(" txn "),
-            Part::Number(u64::from(row.asked.txn)),
+            Part::Number(u64::from(row.txn)),
             Part::Text("\n"),
         ],
     )
@@ -68,7 +68,7 @@ pub(crate) fn add_row(
     is_blamed: bool,
     line: (u64, u64),
     widths: Widths,
-    row: &Row,
+    row: &Operation,
 ) -> Result<(), AllocError>
     ensures { OnOk result (to.new.items ≡ to.old.items ++ row_text label.now is_blamed line.0 line.1 widths row.now) }
 {

@@ -8,17 +8,17 @@ ghost use Rattle.chi_excerpt.specs.Replies.{IsExplainedWith, granule_with};
 
 use chi_lanes::Reply;
 use chi_search::Progress;
-use chi_trace::Observed;
-use chi_verdict::{GranuleWord, GranuleWords, Trace, Verdict, cut, explain};
+use chi_trace::{GranuleWord, GranuleWords, Operation, Trace, cut};
+use chi_verdict::{Verdict, explain};
 use std::alloc::{AllocError, Global};
 
 /// The operations of a granule.
-fn in_granule(alloc: Global, ops: &[Observed], granule: u64) -> Result<Vec<Observed>, AllocError>
+fn in_granule(alloc: Global, ops: &[Operation], granule: u64) -> Result<Vec<Operation>, AllocError>
     ensures { IfOk result (λ own. own.items ≡ filter (is_in granule) ops.now) }
 {
     ops.iter()
         .copied()
-        .filter(|op| op.access.addr() / 8 == granule)
+        .filter(|op| op.granule() == granule)
         .collect(alloc)
 }
 

@@ -6,7 +6,7 @@ ghost use Rattle.chi_excerpt.specs.Suspects.{AreAll, IsSuspect};
 
 use crate::replies::is_explained_with;
 use chi_search::Progress;
-use chi_verdict::Trace;
+use chi_trace::Trace;
 use std::alloc::{AllocError, Global};
 
 /// Whether the operation at a place is one of the granule that was answered at the time, without whose answer the granule's
@@ -26,7 +26,7 @@ fn is_suspect<P: Progress>(
     ensures looked { IfOk result (λ _. LookedSome P.looked progress.old progress.new) }
 {
     let op = &trace.operations()[place];
-    if op.access.addr() / 8 != granule || op.end != time || op.reply.is_none() {
+    if op.granule() != granule || op.end != time || op.reply.is_none() {
         return Ok(false);
     }
     is_explained_with(alloc, trace, granule, time, place, None, budget, progress)

@@ -1,5 +1,5 @@
 -- the numbers of the granules of a trace, sorted and each once
-use Rattle.std.proofs.Common.{◌≡◌, ℕ, ◌+◌, ◌<◌, ◌==◌, Bool, true, false, not, List, [], ◌∷◌, ◌++◌, All, filter, get_or, length, map, take, refl, sym, ap, subst, ◌∙◌, append_assoc, eqb, eqb-true}
+use Rattle.std.proofs.Common.{◌≡◌, ℕ, ◌+◌, ◌<◌, ◌==◌, Bool, true, false, not, List, [], ◌∷◌, ◌++◌, filter, get_or, length, map, take, refl, sym, ap, subst, ◌∙◌, append_assoc, eqb, eqb-true}
 use Rattle.std.specs.Prelude.{IsPermutation}
 use Rattle.std.specs.List.{Contains, dedup}
 use Rattle.std.proofs.lemmas.List.{map-append, take_more}
@@ -7,9 +7,9 @@ use Rattle.std.proofs.lemmas.List.Elements.{All-contains_itself, All-weaker, Con
 use Rattle.std.proofs.lemmas.List.Kept.{Contains-dedup_nat}
 use Rattle.std.proofs.lemmas.List.Sorted.{Contains-permutation}
 use Rattle.chi_search.proofs.Sets.{Contains-filter, Contains-map}
-use Rattle.chi_trace.specs.declared.observed.Observed.{Observed}
+use Rattle.chi_trace.specs.declared.operation.Operation.{Operation}
 use Rattle.chi_trace.specs.Granules.{granule_of}
-use Rattle.chi_verdict.specs.declared.words.GranuleWord.{GranuleWord}
+use Rattle.chi_trace.specs.declared.words.GranuleWord.{GranuleWord}
 use Rattle.chi_reading.specs.TraceText.{RecordedValue}
 use Rattle.chi_granules.specs.Judged.{HasGranules}
 
@@ -32,7 +32,7 @@ has_both r numbers are = subst (HasGranules r) (sym are) record {
       (λ told there. Contains-append_right first second told.granule (Contains-map granule_told r.final_words told there)) r.final_words (All-contains_itself r.final_words);
 }
   where
-    ops : List Observed
+    ops : List Operation
     ops = r.trace.operations
 
     first : List ℕ

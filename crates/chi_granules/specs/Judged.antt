@@ -5,7 +5,7 @@ use Rattle.chi_history.specs.History.{one_if}
 use Rattle.chi_trace.specs.Explains.{times_in}
 use Rattle.chi_trace.specs.Granules.{granule_of}
 use Rattle.chi_verdict.specs.declared.first.Blame.{Blame}
-use Rattle.chi_verdict.specs.Traces.{IsExplainedIn}
+use Rattle.chi_trace.specs.Traces.{IsExplainedIn}
 use Rattle.chi_reading.specs.TraceText.{RecordedValue}
 use Rattle.chi_excerpt.specs.Failures.{order_in}
 use Rattle.chi_page.specs.declared.drawn.Drawn.{Drawn}

@@ -7,12 +7,12 @@ ghost use Rattle.chi_trace.specs.Explains.{IsTrace};
 ghost use Rattle.chi_trace.specs.Granules.{ExplainsGranule, granule_of};
 ghost use Rattle.chi_granules.specs.Judged.{IfUndecided, IsJudged};
 
-use crate::places::{chosen, moved, places_by_end};
+use crate::places::{moved, places_by_end};
 use chi_page::{Drawn, Finding};
 use chi_reading::Recorded;
 use chi_search::{Found, Progress, order_of};
-use chi_trace::Observed;
 use chi_trace::laws::places_explain;
+use chi_trace::{Operation, operations_at};
 use std::alloc::{AllocError, Global};
 
 /// Searches for an order of one granule's operations, from a word on, which leaves the last one where that is told. `granules`
@@ -20,7 +20,7 @@ use std::alloc::{AllocError, Global};
 /// might have been.
 fn search_granule<P: Progress>(
     alloc: Global,
-    ops: &[Observed],
+    ops: &[Operation],
     granules: &[u64],
     granule: u64,
     word: u64,
@@ -36,7 +36,7 @@ fn search_granule<P: Progress>(
     ensures spends { IfOk result (λ found. (budget.new ≤ budget.old) × LookedMore P.looked progress.old progress.new (budget.old - budget.new)) }
 {
     let places = places_by_end(alloc, ops, granules, granule)?;
-    let own = chosen(alloc, ops, &places)?;
+    let own = operations_at(alloc, ops, &places)?;
     places_explain();
     match order_of(alloc, &own, word, final_word, budget, progress)? {
         Found::Order(found) => {

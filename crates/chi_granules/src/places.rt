@@ -1,13 +1,12 @@
 //! The operations of one granule, by their places in a trace.
 
-ghost use Rattle.std.specs.Prelude.{◌≡◌, ◌<◌, true, All, IfOk, length, map, slice_index};
+ghost use Rattle.std.specs.Prelude.{◌≡◌, ◌<◌, All, IfOk, length, map, slice_index};
 ghost use Rattle.std.specs.List.Sorted.{IsNonDecreasingBy};
-ghost use Rattle.chi_trace.specs.Chosen.{chosen};
-ghost use Rattle.chi_trace.specs.Explains.{at, is_place};
+ghost use Rattle.chi_trace.specs.Explains.{at};
 ghost use Rattle.chi_trace.specs.Granules.{granule_of};
 ghost use Rattle.chi_granules.specs.Judged.{HasEach};
 
-use chi_trace::Observed;
+use chi_trace::Operation;
 use std::alloc::{AllocError, Global};
 
 /// The number of each operation's granule.
@@ -15,12 +14,12 @@ use std::alloc::{AllocError, Global};
 /// ```
 /// let granules = granules_of(alloc, recorded.trace().operations())?;
 /// ```
-pub fn granules_of(alloc: Global, ops: &[Observed]) -> Result<Vec<u64>, AllocError>
+pub fn granules_of(alloc: Global, ops: &[Operation]) -> Result<Vec<u64>, AllocError>
     ensures { IfOk result (λ granules. granules.items ≡ map granule_of ops.now) }
 {
     let mut granules = Vec::with_capacity(alloc, ops.len())?;
     for op in ops {
-        granules.push(op.access.addr() / 8)?;
+        granules.push(op.granule())?;
     }
     Ok(granules)
 }
@@ -39,7 +38,7 @@ fn own_places(alloc: Global, granules: &[u64], granule: u64) -> Result<Vec<usize
 }
 
 /// When the operation at a place ended.
-fn end_at(ops: &[Observed], place: usize) -> u64
+fn end_at(ops: &[Operation], place: usize) -> u64
     ensures { result ≡ (at ops.now place).end }
 {
     match ops.get(place) {
@@ -51,7 +50,7 @@ fn end_at(ops: &[Observed], place: usize) -> u64
 /// The places of one granule's operations, sorted by their ends.
 pub(crate) fn places_by_end(
     alloc: Global,
-    ops: &[Observed],
+    ops: &[Operation],
     granules: &[u64],
     granule: u64,
 ) -> Result<Vec<usize>, AllocError>
@@ -61,22 +60,6 @@ pub(crate) fn places_by_end(
     let mut places = own_places(alloc, granules, granule)?;
     places.sort_by_key(|place| end_at(ops, *place))?;
     Ok(places)
-}
-
-/// The operations at these places.
-pub(crate) fn chosen(
-    alloc: Global,
-    ops: &[Observed],
-    places: &[usize],
-) -> Result<Vec<Observed>, AllocError>
-    requires { All (λ place. is_place ops.now place ≡ true) places.now }
-    ensures { IfOk result (λ own. own.items ≡ chosen ops.now places.now) }
-{
-    let mut own = Vec::with_capacity(alloc, places.len())?;
-    for place in places {
-        own.push(ops[*place])?;
-    }
-    Ok(own)
 }
 
 /// The places at these indices of a list of places.

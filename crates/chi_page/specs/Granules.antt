@@ -3,10 +3,10 @@ use Rattle.std.specs.Prelude.{ℕ, ◌+◌, ◌<◌, ◌*◌, ◌^◌, ◌%◌, 
 use Rattle.chi_search.specs.declared.words.Words.{Words}
 use Rattle.chi_search.specs.declared.words.Words.TheVariants.{Each, Unknown}
 use Rattle.chi_text.specs.Part.{address_text, word_text}
-use Rattle.chi_trace.specs.declared.observed.Observed.{Observed}
+use Rattle.chi_trace.specs.declared.operation.Operation.{Operation}
 use Rattle.chi_trace.specs.Granules.{last_word}
 use Rattle.chi_verdict.specs.declared.first.Blame.{Blame}
-use Rattle.chi_verdict.specs.Words.{told, word_told}
+use Rattle.chi_trace.specs.Words.{told, word_told}
 use Rattle.chi_reading.specs.TraceText.{RecordedValue}
 use Rattle.chi_page.specs.declared.drawn.Drawn.{Drawn}
 use Rattle.chi_page.specs.declared.drawn.Finding.{Finding}
@@ -38,11 +38,11 @@ step_json place before after =
     codes "[" ++ (decimal place ++ (codes "," ++ (word_json before ++ (codes "," ++ (word_json after ++ codes "]")))))
 
 -- the one that stands n-th in the order: it finds the word that the n operations before it leave
-abbrev pub step_at : List Observed → ℕ → List ℕ → ℕ → List ℕ
+abbrev pub step_at : List Operation → ℕ → List ℕ → ℕ → List ℕ
 step_at ops word order n = step_json (slice_index order n) (last_word ops word (take n order)) (last_word ops word (take (n + 1) order))
 
 -- all operations of an order, from a word on
-unfoldable pub steps_json : List Observed → ℕ → List ℕ → List ℕ
+unfoldable pub steps_json : List Operation → ℕ → List ℕ → List ℕ
 steps_json ops word order = listed (step_at ops word order) (length order)
 
 -- a granule, what was found of it, and its words at the opening and at the end

@@ -1,17 +1,16 @@
 //! The granules of a trace as JSON.
 
-ghost use Rattle.std.specs.Prelude.{◌≡◌, ◌+◌, ◌++◌, ◌^◌, ◌<◌, ◌≤◌, All, OnOk, length, slice_get};
+ghost use Rattle.std.specs.Prelude.{◌≡◌, ◌+◌, ◌++◌, ◌<◌, All, OnOk, length, slice_get};
 ghost use Rattle.chi_trace.specs.Explains.{IsTrace, at};
 ghost use Rattle.chi_trace.specs.Granules.{next};
 ghost use Rattle.chi_page.specs.Granules.{AreOfTrace, drawn_at, drawn_json, finding_json, granule_json, granules_json, head_json, step_json, steps_json, told_json, word_json};
 
 use crate::drawn::{Drawn, Finding};
 use crate::listed::add_comma;
-use chi_lanes::apply;
 use chi_reading::Recorded;
 use chi_text::Part::{Address, Number, Text, Word};
 use chi_text::add_parts;
-use chi_trace::Observed;
+use chi_trace::{Operation, apply_operation};
 use std::alloc::AllocError;
 
 /// What was found of a granule.
@@ -68,30 +67,20 @@ fn add_step(to: &mut Vec<u8>, place: usize, before: u64, after: u64) -> Result<(
     add_parts(to, &[Text("]")])
 }
 
-/// The word that an operation leaves of its granule's word.
-fn word_left(op: &Observed, word: u64) -> u64
-    requires { op.now.access.addr + op.now.access.len ≤ 2 ^ 52 }
-    ensures { result ≡ next op.now word }
-{
-    // What is true of each access is known here once it is read.
-    let _addr = op.access.addr();
-    let (after, _reply) = apply(word, &op.access);
-    after
-}
-
-/// The same of the operation at a place of a trace.
-fn word_after(ops: &[Observed], place: usize, word: u64) -> u64
+/// The word that the operation at a place of a trace leaves of its granule's word.
+fn word_after(ops: &[Operation], place: usize, word: u64) -> u64
     requires traced { IsTrace ops.now }
     requires place { place < length ops.now }
     ensures { result ≡ next (at ops.now place) word }
 {
-    word_left(&ops[place], word)
+    let (after, _reply) = apply_operation(&ops[place], word);
+    after
 }
 
 /// The operations of an order, from a word on.
 fn add_steps(
     to: &mut Vec<u8>,
-    ops: &[Observed],
+    ops: &[Operation],
     word: u64,
     order: &[usize],
 ) -> Result<(), AllocError>

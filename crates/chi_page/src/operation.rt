@@ -4,33 +4,33 @@ ghost use Rattle.std.specs.Prelude.{◌≡◌, ◌<◌, ◌++◌, OnOk, length};
 ghost use Rattle.chi_page.specs.Operations.{end_json, endian_json, header_json, observed_json, operation_at, operation_json, operations_json, packet_json, reply_json, request_json};
 
 use crate::listed::add_comma;
-use chi_fields::op_name;
+use chi_fields::{Access, op_name};
 use chi_lanes::Reply;
-use chi_reading::{Asked, Recorded};
+use chi_reading::Recorded;
 use chi_text::Part::{Address, Number, Packet, Text};
 use chi_text::add_parts;
-use chi_trace::Observed;
+use chi_trace::Operation;
 use std::alloc::AllocError;
 
 /// Whose a request is, its opcode, size and address.
 #[tactic(auto, unfolding(crate::specs::Operations::header_json))]
-fn add_header(to: &mut Vec<u8>, asked: &Asked) -> Result<(), AllocError>
-    ensures { OnOk result (to.new.items ≡ to.old.items ++ header_json asked.now) }
+fn add_header(to: &mut Vec<u8>, op: &Operation) -> Result<(), AllocError>
+    ensures { OnOk result (to.new.items ≡ to.old.items ++ header_json op.now) }
 {
     add_parts(
         to,
         &[
-            Number(u64::from(asked.src)),
+            Number(u64::from(op.src)),
             Text(","),
-            Number(u64::from(asked.txn)),
+            Number(u64::from(op.txn)),
             Text(","),
-            Number(u64::from(asked.opcode)),
+            Number(u64::from(op.opcode())),
             Text(",\""),
-            Text(op_name(asked.opcode)),
+            Text(op_name(op.opcode())),
             Text("\","),
-            Number(u64::from(asked.size)),
+            Number(u64::from(op.size())),
             Text(",\""),
-            Address(asked.addr),
+            Address(op.access.addr()),
             Text("\""),
         ],
     )
@@ -50,30 +50,30 @@ fn add_endian(to: &mut Vec<u8>, endian: bool) -> Result<(), AllocError>
 
 /// The data packet.
 #[tactic(auto, unfolding(crate::specs::Operations::packet_json))]
-fn add_packet(to: &mut Vec<u8>, asked: &Asked) -> Result<(), AllocError>
-    ensures { OnOk result (to.new.items ≡ to.old.items ++ packet_json asked.now) }
+fn add_packet(to: &mut Vec<u8>, access: &Access) -> Result<(), AllocError>
+    ensures { OnOk result (to.new.items ≡ to.old.items ++ packet_json access.now) }
 {
     add_parts(
         to,
         &[
             Text(","),
-            Number(u64::from(asked.be)),
+            Number(u64::from(access.enables())),
             Text(",\""),
-            Packet(asked.lanes),
+            Packet(access.lanes()),
             Text("\""),
         ],
     )
 }
 
-/// A request.
+/// The request of an operation.
 #[tactic(auto, unfolding(crate::specs::Operations::request_json))]
-fn add_request(to: &mut Vec<u8>, asked: &Asked) -> Result<(), AllocError>
-    ensures { OnOk result (to.new.items ≡ to.old.items ++ request_json asked.now) }
+fn add_request(to: &mut Vec<u8>, op: &Operation) -> Result<(), AllocError>
+    ensures { OnOk result (to.new.items ≡ to.old.items ++ request_json op.now) }
 {
-    add_header(to, asked)?;
+    add_header(to, op)?;
     add_parts(to, &[Text(",")])?;
-    add_endian(to, asked.endian)?;
-    add_packet(to, asked)
+    add_endian(to, op.access.endian())?;
+    add_packet(to, &op.access)
 }
 
 /// An end, or null where there was none.
@@ -102,7 +102,7 @@ fn add_reply(to: &mut Vec<u8>, reply: Option<Reply>) -> Result<(), AllocError>
 
 /// How long the operand is, and when the operation was under way.
 #[tactic(auto, unfolding(crate::specs::Operations::observed_json))]
-fn add_observed(to: &mut Vec<u8>, op: &Observed) -> Result<(), AllocError>
+fn add_observed(to: &mut Vec<u8>, op: &Operation) -> Result<(), AllocError>
     ensures { OnOk result (to.new.items ≡ to.old.items ++ observed_json op.now) }
 {
     add_parts(
@@ -122,16 +122,11 @@ fn add_observed(to: &mut Vec<u8>, op: &Observed) -> Result<(), AllocError>
 
 /// An operation, with the number of its request in the text.
 #[tactic(auto, unfolding(crate::specs::Operations::operation_json))]
-fn add_operation(
-    to: &mut Vec<u8>,
-    number: usize,
-    asked: &Asked,
-    op: &Observed,
-) -> Result<(), AllocError>
-    ensures { OnOk result (to.new.items ≡ to.old.items ++ operation_json number asked.now op.now) }
+fn add_operation(to: &mut Vec<u8>, op: &Operation) -> Result<(), AllocError>
+    ensures { OnOk result (to.new.items ≡ to.old.items ++ operation_json op.now) }
 {
-    add_parts(to, &[Text("["), Number(number as u64), Text(",")])?;
-    add_request(to, asked)?;
+    add_parts(to, &[Text("["), Number(op.number), Text(",")])?;
+    add_request(to, op)?;
     add_observed(to, op)?;
     add_parts(to, &[Text("]")])
 }
@@ -141,18 +136,15 @@ fn add_operation_at(to: &mut Vec<u8>, recorded: &Recorded, at: usize) -> Result<
     requires { at < length recorded.now.trace.operations }
     ensures { OnOk result (to.new.items ≡ to.old.items ++ operation_at recorded.now at) }
 {
-    let number = recorded.places()[at];
-    let asked = &recorded.requests()[at];
-    let op = &recorded.trace().operations()[at];
-    add_operation(to, number, asked, op)
+    add_operation(to, &recorded.trace().operations()[at])
 }
 
 /// All operations, in the order of their starts.
 pub(crate) fn add_operations(to: &mut Vec<u8>, recorded: &Recorded) -> Result<(), AllocError>
     ensures { OnOk result (to.new.items ≡ to.old.items ++ operations_json recorded.now) }
 {
-    let requests = recorded.requests();
-    for at in 0..requests.len() {
+    let count = recorded.trace().operations().len();
+    for at in 0..count {
         add_comma(to, at)?;
         add_operation_at(to, recorded, at)?;
     }

@@ -2,7 +2,7 @@
 
 use chi_fields::{Refusal, Region, decode};
 use chi_history::{Gate, Line};
-use chi_trace::Observed;
+use chi_trace::Operation;
 use std::sync::atomic::{AtomicU64, Ordering};
 use std::test::Fail;
 
@@ -89,15 +89,17 @@ fn observed(
     line: &Line,
     start: u64,
     end: u64,
-) -> Result<Option<Observed>, Refusal> {
+) -> Result<Option<Operation>, Refusal> {
     match line {
         Line::Completed(request, reply) => {
             let access = decode(request, region)?;
-            Ok(Some(Observed {
+            Ok(Some(Operation {
+                number: 0,
+                src: u16::from(request.src),
+                txn: u16::from(request.txn),
+                access,
                 start,
                 end,
-                src: u16::from(request.src),
-                access,
                 reply: Some(*reply),
             }))
         }
@@ -111,7 +113,7 @@ pub(crate) fn observe(
     lines: &[Line],
     pauses: &Pauses,
     race_end: u64,
-    ops: &mut Vec<Observed>,
+    ops: &mut Vec<Operation>,
 ) -> Result<(), Fail> {
     let mut op = 0usize;
     for line in lines {
@@ -128,7 +130,7 @@ pub(crate) fn observe_after(
     region: &Region,
     lines: &[Line],
     race_end: u64,
-    ops: &mut Vec<Observed>,
+    ops: &mut Vec<Operation>,
 ) -> Result<(), Fail> {
     for line in lines {
         if let Some(seen) = observed(region, line, race_end.saturating_add(1), u64::MAX)? {

@@ -13,8 +13,8 @@ use chi_lanes::Reply;
 use chi_lockstore::LockStore;
 use chi_requester::{Policy, Race, RaceFour, race_four, race_two};
 use chi_search::NoProgress;
-use chi_trace::Observed;
-use chi_verdict::{GranuleWord, GranuleWords, Trace, Verdict, explain};
+use chi_trace::{GranuleWord, GranuleWords, Operation, Trace};
+use chi_verdict::{Verdict, explain};
 use std::alloc::Global;
 use std::process::Abort;
 use std::sync::Wait;
@@ -40,7 +40,7 @@ fn granule_words(alloc: Global, words: &[u64; 2]) -> Result<GranuleWords, Fail> 
 }
 
 // What is found of the operations, from the image to these words.
-fn verdict(alloc: Global, words: &[u64; 2], ops: &[Observed]) -> Result<Verdict, Fail> {
+fn verdict(alloc: Global, words: &[u64; 2], ops: &[Operation]) -> Result<Verdict, Fail> {
     let opening = granule_words(alloc, &IMAGE)?;
     let final_words = granule_words(alloc, words)?;
     let trace = Trace::new(opening, Vec::from_slice(alloc, ops)?).ok_or(
@@ -64,7 +64,7 @@ fn changed(lanes: [u8; 16], addr: u64) -> Reply {
 fn assert_explained<T: AllocGlobal + Abort>(
     rt: &T,
     words: &[u64; 2],
-    ops: &[Observed],
+    ops: &[Operation],
 ) -> Result<(), Fail> {
     let alloc = rt.alloc();
     assert!(rt; matches!(verdict(alloc, words, ops)?, Verdict::Explained(_)));
@@ -86,7 +86,7 @@ fn operations<T: AllocGlobal>(
     workers: &[(&[Line], &Pauses)],
     zero: &[Line],
     clock: &AtomicU64,
-) -> Result<Vec<Observed>, Fail> {
+) -> Result<Vec<Operation>, Fail> {
     let end = clock.load(Ordering::SeqCst);
     let region = Region::new(0x1000, 2)?;
     let mut ops = Vec::new(rt.alloc());
@@ -103,7 +103,7 @@ fn assert_race<H: Home, T: AllocGlobal + Abort + Wait>(
     rt: &T,
     home: &H,
     seat: &mut H::Seat,
-    ops: &[Observed],
+    ops: &[Operation],
     count: usize,
 ) -> Result<(), Fail>
     requires own { H.belongs home.now seat.old }

@@ -7,7 +7,7 @@ use Rattle.serde_json.specs.declared.value.Value.{Value}
 use Rattle.chi_fields.specs.Extent.{Extent}
 use Rattle.chi_fields.specs.declared.refusal.Refusal.{Refusal}
 use Rattle.chi_lanes.specs.declared.reply.Reply.{Reply}
-use Rattle.chi_trace.specs.declared.observed.Observed.{Observed}
+use Rattle.chi_trace.specs.declared.operation.Operation.{Operation}
 use Rattle.chi_reading.specs.declared.stated.Outcome.TheVariants.{Accepted, Refused}
 use Rattle.chi_reading.specs.declared.stated.Stated.{Stated}
 use Rattle.chi_json.specs.Members.{◌>>=◌}
@@ -25,10 +25,10 @@ rest_of place region values found = after found (completed_of place region (item
 
 joined_assoc : (a b c : Completed) → joined (joined a b) c ≡ joined a (joined b c)
 joined_assoc a b c =
-    rw (append_assoc a.requests b.requests c.requests, append_assoc a.operations b.operations c.operations, append_assoc a.places b.places c.places, append_assoc a.refusals b.refusals c.refusals) refl
+    rw (append_assoc a.operations b.operations c.operations, append_assoc a.refusals b.refusals c.refusals) refl
 
 joined_none : (a : Completed) → joined a none_completed ≡ a
-joined_none a = rw (append-nil a.requests, append-nil a.operations, append-nil a.places, append-nil a.refusals) refl
+joined_none a = rw (append-nil a.operations, append-nil a.refusals) refl
 
 none_joined : (r : Result Completed TraceFault) → after none_completed r ≡ r
 none_joined (Ok rest) = refl
@@ -66,8 +66,8 @@ module _ (place : ℕ) (region : Option Extent) (values : List Value) (value : V
       by_rest (Err fault) = refl
 
 -- what the element at a place is: a request that was accepted
-pub accepted_at : (place : ℕ) (region : Option Extent) (d : Data) (s : Stated) (reply : Option Reply) (operation : Observed) → stated_at place d ≡ Ok s
-    → s.outcome ≡ Accepted reply → observed_of place region s reply ≡ Ok operation → completed_at place region d ≡ Ok (one_accepted place s.asked operation)
+pub accepted_at : (place : ℕ) (region : Option Extent) (d : Data) (s : Stated) (reply : Option Reply) (operation : Operation) → stated_at place d ≡ Ok s
+    → s.outcome ≡ Accepted reply → observed_of place region s reply ≡ Ok operation → completed_at place region d ≡ Ok (one_accepted operation)
 unfolding completed_at observed_of
 accepted_at place region d s reply operation stated outcome observed = rw (stated, outcome, observed) refl
 

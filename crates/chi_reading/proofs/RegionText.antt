@@ -1,23 +1,21 @@
 -- what a text says of a memory, member by member
-use Rattle.std.proofs.Common.{◌≡◌, ℕ, ◌+◌, ◌-◌, ◌*◌, ◌/◌, ◌%◌, ◌^◌, ◌==◌, nat_lt, ◌||◌, not, Bool, true, false, if◌then◌else◌, List, Option, Some, Result, Ok, Err, MatchResult, IfOk, IfSome, refl, subst, eqb-true}
+use Rattle.std.proofs.Common.{◌≡◌, ℕ, ◌-◌, ◌/◌, ◌^◌, Bool, true, false, if◌then◌else◌, List, Option, Some, Result, Ok, Err, MatchResult, IfOk, IfSome, refl, subst}
 use Rattle.std.specs.Prelude.{is_some}
 use Rattle.std.specs.Result.{is_ok}
-use Rattle.std.proofs.lemmas.Bool.{ltb-false, not-false, or_parts}
 use Rattle.serde_json.specs.Data.{Data}
 use Rattle.serde_json.specs.Find.{get}
 use Rattle.chi_fields.specs.Extent.{Extent, IsRegion, region_of}
-use Rattle.chi_fields.specs.declared.region.RegionFault.TheVariants.{BaseNotLineAligned, EndPastAddresses, GranuleCount}
 use Rattle.chi_json.specs.Members.{number_of, opening_words, or_else, stated_words}
 use Rattle.chi_json.proofs.WalkLemmas.{at_ok, renamed, then_ok}
-use Rattle.chi_verdict.specs.declared.words.GranuleWord.{GranuleWord}
-use Rattle.chi_verdict.specs.Words.{told}
+use Rattle.chi_trace.specs.declared.words.GranuleWord.{GranuleWord}
+use Rattle.chi_trace.specs.Words.{told}
 use Rattle.chi_reading.specs.declared.member.Member.TheVariants as member
 use Rattle.chi_reading.specs.Member.{member_name}
 use Rattle.chi_reading.specs.declared.fault.TraceFault.TheVariants.{RegionRefused}
 use Rattle.chi_reading.specs.Faults.{as_fault}
 use Rattle.chi_reading.specs.Told.{region_words, stated_list}
 use Rattle.chi_reading.specs.TraceText.{MemoryText, region_final_words, memory_text, region_memory, wide_memory}
-use Rattle.chi_reading.proofs.Faultless.{unless}
+use Rattle.chi_trace.proofs.Decided.{region_lawful}
 
 -- the list has the words of a region's granules, the first of which has this number
 abbrev pub AreWordsOf : ℕ → List ℕ → List GranuleWord → Type 0
@@ -35,20 +33,6 @@ pub region_text : (d : Data) (base granules : ℕ) (region : Extent) (image : Li
     → region_memory d ≡ Ok (record { region = Some region; opening = region_words (base / 8) image; final_words = region_final_words (base / 8) final_words })
 unfolding region_memory
 region_text d base granules region image final_words is_base is_granules is_region is_image is_finals = rw (is_base, is_granules, is_region, is_image, is_finals) refl
-
--- a region that is not refused is one
-pub region_lawful : (base granules : ℕ) → IfOk (region_of base granules) IsRegion
-region_lawful base granules =
-    unless (not (base % 64 == 0)) BaseNotLineAligned _ IsRegion (λ aligned.
-    unless (nat_lt granules 1 || nat_lt 512 granules) GranuleCount _ IsRegion (λ counted.
-    unless (nat_lt (2 ^ 52) (base + 8 * granules)) EndPastAddresses (Ok (record { base = base; granules = granules })) IsRegion (λ ended.
-    let counts = or_parts (nat_lt granules 1) (nat_lt 512 granules) counted in
-    record {
-      line = eqb-true (base % 64) 0 (not-false _ aligned);
-      least = ltb-false granules 1 counts.0;
-      most = ltb-false 512 granules counts.1;
-      end = ltb-false (2 ^ 52) (base + 8 * granules) ended;
-    })))
 
 -- the region that a text tells is one
 abbrev pub IsOnRegion : MemoryText → Type 0

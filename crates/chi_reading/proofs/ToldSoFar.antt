@@ -9,8 +9,8 @@ use Rattle.serde_json.specs.View.{items_view, view}
 use Rattle.serde_json.specs.declared.value.Value.{Value}
 use Rattle.chi_reading.specs.Told.{told_from, told_more, told_of}
 use Rattle.chi_reading.proofs.OneMore.{has_more}
-use Rattle.chi_verdict.specs.declared.words.GranuleWord.{GranuleWord}
-use Rattle.chi_verdict.specs.Words.{told}
+use Rattle.chi_trace.specs.declared.words.GranuleWord.{GranuleWord}
+use Rattle.chi_trace.specs.Words.{told}
 
 -- a map has the words that the elements before a place told, and with those from there on they are the words of the list
 pub record IsSoFar (map : BTreeMap ℕ ℕ) (values : List Value) (i : ℕ) : Type 0 where

@@ -2,7 +2,6 @@ pub mod Faults
 pub mod Found
 pub mod Member
 pub mod Refused
-pub mod Replies
 pub mod Requests
 pub mod Told
 pub mod TraceText

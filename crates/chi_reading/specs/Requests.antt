@@ -1,28 +1,25 @@
 -- the requests of a trace's text: the operation that was observed of each, or why a home refused it
-use Rattle.std.specs.Prelude.{ℕ, ◌+◌, ◌-◌, ◌*◌, ◌/◌, ◌^◌, ◌==◌, nat_lt, not, if◌then◌else◌, List, [], ◌∷◌, ◌++◌, replicate, codes, Option, None, Some, is_some, is_none, option_and_then, Result, Ok, Err}
+use Rattle.std.specs.Prelude.{ℕ, ◌+◌, ◌-◌, ◌^◌, ◌==◌, nat_lt, not, if◌then◌else◌, List, [], ◌∷◌, ◌++◌, replicate, codes, Option, None, Some, is_some, is_none, option_and_then, Result, Ok, Err}
 use Rattle.std.specs.Option.{ok_or, option_map}
-use Rattle.std.specs.Result.{result_ok}
 use Rattle.std.specs.Str.{bytes_eq}
 use Rattle.serde_json.specs.Data.{Data, Items, no_items, item}
 use Rattle.serde_json.specs.Events.{items_len}
 use Rattle.serde_json.specs.Find.{as_null, as_object, as_str, get}
-use Rattle.chi_fields.specs.Access.{Access}
-use Rattle.chi_fields.specs.Extent.{Extent, region_of}
-use Rattle.chi_fields.specs.Refusal.{decision}
+use Rattle.chi_fields.specs.Extent.{Extent}
 use Rattle.chi_fields.specs.declared.refusal.Refusal.{Refusal}
-use Rattle.chi_fields.specs.declared.refusal.Refusal.TheVariants.{OutOfRegion}
-use Rattle.chi_fields.specs.declared.request.Request.{Request}
 use Rattle.chi_lanes.specs.declared.reply.Reply.{Reply}
 use Rattle.chi_lanes.specs.declared.reply.Reply.TheVariants.{Comp, CompData}
 use Rattle.chi_json.specs.declared.member.MemberFault.{MemberFault}
 use Rattle.chi_json.specs.declared.member.MemberFault.TheVariants as member_fault
 use Rattle.chi_json.specs.Members.{◌>>=◌, member_by, number_of, or_else}
 use Rattle.chi_json.specs.Values.{hex_bytes}
-use Rattle.chi_trace.specs.declared.observed.Observed.{Observed}
+use Rattle.chi_trace.specs.Asked.{access_of, as_operation}
+use Rattle.chi_trace.specs.Replies.{reply_fault}
+use Rattle.chi_trace.specs.declared.asked.Asked.{Asked}
+use Rattle.chi_trace.specs.declared.operation.Operation.{Operation}
 use Rattle.chi_reading.specs.declared.member.Member.{Member}
 use Rattle.chi_reading.specs.declared.member.Member.TheVariants as member
 use Rattle.chi_reading.specs.Member.{member_name}
-use Rattle.chi_reading.specs.declared.asked.Asked.{Asked}
 use Rattle.chi_reading.specs.declared.stated.Outcome.{Outcome}
 use Rattle.chi_reading.specs.declared.stated.Outcome.TheVariants.{Accepted, Refused}
 use Rattle.chi_reading.specs.declared.stated.Stated.{Stated}
@@ -31,31 +28,26 @@ use Rattle.chi_reading.specs.declared.fault.TraceFault.{TraceFault}
 use Rattle.chi_reading.specs.declared.fault.TraceFault.TheVariants.{TooManyRequests, InRequest}
 use Rattle.chi_reading.specs.Faults.{fault_in, faultless}
 use Rattle.chi_reading.specs.Refused.{is_refused_so, refusal_of}
-use Rattle.chi_reading.specs.Replies.{reply_fault}
 use Rattle.chi_reading.specs.Unknown.{refused_members, request_members, unknown_in}
 
--- the fields of a request that an object states, with no data
-unfoldable pub fields_of : Data → Result Asked (MemberFault Member)
-fields_of d = do
+-- the fields of the request with this number that an object states, with no data
+unfoldable pub fields_of : ℕ → Data → Result Asked (MemberFault Member)
+fields_of number d = do
   src ← number_of member_name member.Src 65535 d
   txn ← number_of member_name member.Txn 65535 d
   opcode ← number_of member_name member.Opcode 255 d
   size ← number_of member_name member.Size 7 d
   addr ← number_of member_name member.Addr (2 ^ 64 - 1) d
   endian ← number_of member_name member.Endian 1 d
-  Ok (record { src = src; txn = txn; opcode = opcode; size = size; addr = addr; endian = endian == 1; be = 0; lanes = replicate 16 0 })
+  Ok (record { number = number; src = src; txn = txn; opcode = opcode; size = size; addr = addr; endian = endian == 1; be = 0; lanes = replicate 16 0 })
 
--- the request that an object states, with its data
-unfoldable pub asked_of : Data → Result Asked (MemberFault Member)
-asked_of d = do
-  fields ← fields_of d
+-- the request with this number that an object states, with its data
+unfoldable pub asked_of : ℕ → Data → Result Asked (MemberFault Member)
+asked_of number d = do
+  fields ← fields_of number d
   be ← number_of member_name member.Be 65535 d
   lanes ← member_by member_name member.Lanes (hex_bytes 16) d
   Ok (record fields { be = be; lanes = lanes })
-
--- the request as a home decides it, which does not look at requester and transaction
-abbrev pub request_of : Asked → Request
-request_of a = record { src = 0; txn = 0; opcode = a.opcode; size = a.size; addr = a.addr; endian = a.endian; be = a.be; lanes = a.lanes }
 
 -- when it ended: a request without an end was open when the trace ended
 unfoldable pub end_of : Data → Result ℕ (MemberFault Member)
@@ -84,10 +76,10 @@ outcome_by (Some refused) reply end = do
   reason ← ok_or (refusal_of refused) (member_fault.BadMember member.Refused)
   Ok (Refused reason)
 
--- what a request states
-unfoldable pub stated_of : Data → Result Stated (MemberFault Member)
-stated_of d = do
-  asked ← asked_of d
+-- what the request with this number states
+unfoldable pub stated_of : ℕ → Data → Result Stated (MemberFault Member)
+stated_of number d = do
+  asked ← asked_of number d
   start ← number_of member_name member.Start (2 ^ 64 - 1) d
   end ← end_of d
   outcome ← outcome_by (get (member_name member.Refused) d) (get (member_name member.Reply) d) (get (member_name member.End) d)
@@ -102,30 +94,16 @@ members_of (Refused reason) = refused_members
 unfoldable pub stated_at : ℕ → Data → Result Stated TraceFault
 stated_at place d = do
   members ← ok_or (as_object d) (InRequest place request_fault.NotObject)
-  stated ← or_else (fault_in place) (stated_of d)
+  stated ← or_else (fault_in place) (stated_of place d)
   faultless (λ name. InRequest place (request_fault.UnknownMember name)) (unknown_in (members_of stated.outcome) members) stated
 
--- what a home decides of a request on a line, where there is one
-abbrev decision_on : Option Extent → Asked → Result Access Refusal
-decision_on None a = Err OutOfRegion
-decision_on (Some line) a = decision (request_of a) line
-
--- the line of 64 bytes around an address, where it lies below 2^52
-abbrev pub line_of : ℕ → Option Extent
-line_of addr = result_ok (region_of (addr / 64 * 64) 8)
-
--- what a home of this region, or of all addresses, decides of a request
-abbrev pub access_of : Option Extent → Asked → Result Access Refusal
-access_of (Some region) a = decision (request_of a) region
-access_of None a = decision_on (line_of a.addr) a
-
 -- the operation that was observed of the request at a place, with this reply
-unfoldable pub observed_of : ℕ → Option Extent → Stated → Option Reply → Result Observed TraceFault
+unfoldable pub observed_of : ℕ → Option Extent → Stated → Option Reply → Result Operation TraceFault
 observed_of place region s reply = do
   access ← or_else (λ refusal. InRequest place (request_fault.Refused refusal)) (access_of region s.asked)
   if nat_lt s.end s.start then Err (InRequest place request_fault.EndsBeforeStart)
       else faultless (λ fault. InRequest place (request_fault.Reply fault)) (reply_fault access reply)
-      (record { start = s.start; end = s.end; src = s.asked.src; access = access; reply = reply })
+      (as_operation s.asked access s.start s.end reply)
 
 -- why the request at a place was refused, where the home refuses it for this reason
 unfoldable pub refused_of : ℕ → Option Extent → Stated → Refusal → Result Refusal TraceFault
@@ -134,40 +112,33 @@ refused_of place region s reason =
     else if nat_lt s.end s.start then Err (InRequest place request_fault.EndsBeforeStart)
     else Ok reason
 
--- The requests that were accepted, with the operation of each and its place in the text, counted from 0; and why each of the
--- others was refused.
+-- The operations of the requests that were accepted, and why each of the others was refused. An operation's number is its
+-- place in the text, counted from 0.
 pub record Completed : Type 0 where
-  pub requests : List Asked
-  pub operations : List Observed
-  pub places : List ℕ
+  pub operations : List Operation
   pub refusals : List Refusal
 
 -- no request
 abbrev pub none_completed : Completed
-none_completed = record { requests = []; operations = []; places = []; refusals = [] }
+none_completed = record { operations = []; refusals = [] }
 
 -- those of some requests, and then those of others
 abbrev pub joined : Completed → Completed → Completed
-joined first rest = record {
-  requests = first.requests ++ rest.requests;
-  operations = first.operations ++ rest.operations;
-  places = first.places ++ rest.places;
-  refusals = first.refusals ++ rest.refusals;
-}
+joined first rest = record { operations = first.operations ++ rest.operations; refusals = first.refusals ++ rest.refusals }
 
--- one that was accepted, at a place
-abbrev pub one_accepted : ℕ → Asked → Observed → Completed
-one_accepted place asked operation = record { requests = asked ∷ []; operations = operation ∷ []; places = place ∷ []; refusals = [] }
+-- one that was accepted
+abbrev pub one_accepted : Operation → Completed
+one_accepted operation = record { operations = operation ∷ []; refusals = [] }
 
 -- one that was refused
 abbrev pub one_refused : Refusal → Completed
-one_refused reason = record { requests = []; operations = []; places = []; refusals = reason ∷ [] }
+one_refused reason = record { operations = []; refusals = reason ∷ [] }
 
 -- that of one request, by what came of it
 abbrev pub completed_by : ℕ → Option Extent → Stated → Outcome → Result Completed TraceFault
 completed_by place region s (Accepted reply) = do
   operation ← observed_of place region s reply
-  Ok (one_accepted place s.asked operation)
+  Ok (one_accepted operation)
 completed_by place region s (Refused reason) = do
   refusal ← refused_of place region s reason
   Ok (one_refused refusal)

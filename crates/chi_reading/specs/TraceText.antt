@@ -1,22 +1,17 @@
 -- the trace that a text is, or its first fault
-use Rattle.std.specs.Prelude.{◌≡◌, ℕ, false, ◌-◌, ◌/◌, ◌^◌, if◌then◌else◌, List, [], length, map, slice_index_or, take, Option, None, Some, is_some, Result, Ok}
+use Rattle.std.specs.Prelude.{◌≡◌, ℕ, ◌-◌, ◌/◌, ◌^◌, if◌then◌else◌, List, [], IsPermutation, Option, None, Some, is_some, Result, Ok}
 use Rattle.std.specs.Option.{ok_or}
 use Rattle.serde_json.specs.Data.{Data, Members}
 use Rattle.serde_json.specs.Find.{as_array, as_object, get}
 use Rattle.chi_fields.specs.Extent.{Extent, region_of}
 use Rattle.chi_fields.specs.declared.refusal.Refusal.{Refusal}
-use Rattle.chi_history.specs.History.{one_if}
 use Rattle.chi_json.specs.Members.{◌>>=◌, member_by, number_of, opening_words, or_else, stated_words}
 use Rattle.chi_json.specs.Values.{json_value}
-use Rattle.chi_trace.specs.Chosen.{chosen}
-use Rattle.chi_trace.specs.Cuts.{cut}
-use Rattle.chi_trace.specs.Explains.{is_place, times_in}
-use Rattle.chi_verdict.specs.declared.words.GranuleWord.{GranuleWord}
-use Rattle.chi_verdict.specs.Traces.{TraceValue, known_at}
-use Rattle.chi_verdict.specs.Words.{told}
+use Rattle.chi_trace.specs.declared.words.GranuleWord.{GranuleWord}
+use Rattle.chi_trace.specs.Traces.{TraceValue, known_at}
+use Rattle.chi_trace.specs.Words.{told}
 use Rattle.chi_reading.specs.declared.member.Member.TheVariants as member
 use Rattle.chi_reading.specs.Member.{member_name}
-use Rattle.chi_reading.specs.declared.asked.Asked.{Asked}
 use Rattle.chi_reading.specs.declared.recorded.Memory.{Memory}
 use Rattle.chi_reading.specs.declared.fault.TraceFault.{TraceFault}
 use Rattle.chi_reading.specs.declared.fault.TraceFault.TheVariants.{NotJson, NotObject, RegionRefused, UnknownMember}
@@ -78,30 +73,17 @@ trace_text text = do
   members ← ok_or (as_object d) NotObject
   object_text d members
 
--- what stands at a place past the last request
-abbrev pub no_request : Asked
-no_request = record { src = 0; txn = 0; opcode = 0; size = 0; addr = 0; endian = false; be = 0; lanes = [] }
-
--- A trace that was read: its requests and operations in the order of the operations' starts, each with its place in the text,
--- counted from 0, and why its other requests were refused, in the order of the text.
+-- A trace that was read: its operations in the order of their starts, each with the place of its request in the text as its
+-- number, counted from 0; and why its other requests were refused, in the order of the text.
 pub record RecordedValue : Type 0 where
   pub region : Option Extent
   pub trace : TraceValue
   pub final_words : List GranuleWord
-  pub requests : List Asked
-  pub places : List ℕ
   pub refusals : List Refusal
 
--- What had happened by a time. The operations stand in the order of their starts, so those that had started are the first. No
--- words are told at the end, and no refusals, whose times are not kept.
+-- What had happened by a time. No words are told at the end, and no refusals, whose times are not kept.
 abbrev pub cut_at : ℕ → RecordedValue → RecordedValue
-cut_at time r = record r {
-  trace = known_at time r.trace;
-  final_words = [];
-  requests = take (length (cut time r.trace.operations)) r.requests;
-  places = take (length (cut time r.trace.operations)) r.places;
-  refusals = [];
-}
+cut_at time r = record r { trace = known_at time r.trace; final_words = []; refusals = [] }
 
 -- the memory that was read is what the text says
 pub record IsMemoryOf (t : MemoryText) (m : Memory) : Type 0 where
@@ -109,28 +91,18 @@ pub record IsMemoryOf (t : MemoryText) (m : Memory) : Type 0 where
   pub opening : (g : ℕ) → told m.opening g ≡ told t.opening g
   pub final_words : (g : ℕ) → told m.final_words g ≡ told t.final_words g
 
--- The trace that was read has this memory, and each of these operations once, in some order, with its request and its place; and
--- why the others were refused.
+-- The trace that was read has this memory, and these operations, in some order; and why the other requests were refused.
 pub record IsRecorded (m : Memory) (c : Completed) (r : RecordedValue) : Type 0 where
   pub region : r.region ≡ m.region
   pub opening : r.trace.opening ≡ m.opening
   pub final_words : r.final_words ≡ m.final_words
-  pub order : List ℕ
-  pub each : (i : ℕ) → times_in order i ≡ one_if (is_place c.operations i)
-  pub requests_are : r.requests ≡ map (λ i. slice_index_or c.requests i no_request) order
-  pub operations_are : r.trace.operations ≡ chosen c.operations order
-  pub places_are : r.places ≡ map (λ i. slice_index_or c.places i 0) order
-  pub refusals_are : r.refusals ≡ c.refusals
+  pub operations : IsPermutation c.operations r.trace.operations
+  pub refusals : r.refusals ≡ c.refusals
 
--- It is what the text says: each operation of it once, in some order, with its request and its place; why the other requests were
--- refused; and the same words of granules.
+-- It is what the text says: its operations, in some order; why the other requests were refused; and the same words of granules.
 pub record IsOf (t : TextValue) (r : RecordedValue) : Type 0 where
   pub region : r.region ≡ t.memory.region
   pub opening : (g : ℕ) → told r.trace.opening g ≡ told t.memory.opening g
   pub final_words : (g : ℕ) → told r.final_words g ≡ told t.memory.final_words g
-  pub order : List ℕ
-  pub each : (i : ℕ) → times_in order i ≡ one_if (is_place t.completed.operations i)
-  pub requests : r.requests ≡ map (λ i. slice_index_or t.completed.requests i no_request) order
-  pub operations : r.trace.operations ≡ chosen t.completed.operations order
-  pub places : r.places ≡ map (λ i. slice_index_or t.completed.places i 0) order
+  pub operations : IsPermutation t.completed.operations r.trace.operations
   pub refusals : r.refusals ≡ t.completed.refusals

@@ -4,10 +4,10 @@ ghost use Rattle.std.specs.Prelude.{◌≡◌};
 ghost use Rattle.chi_reading.specs.Faults.{as_fault, fault_in, text_fault};
 
 use crate::member::Member;
-use crate::reply::ReplyFault;
 use crate::unknown::MemberName;
 use chi_fields::{Refusal, RegionFault, refusal_name, region_fault_name};
 use chi_json::{MemberFault, TextFault};
+use chi_trace::ReplyFault;
 use thiserror::Error;
 
 /// The greatest number of operations in a trace.

@@ -3,25 +3,20 @@
 
 mod asked;
 mod fault;
-pub mod laws;
 mod member;
 mod observed;
 mod recorded;
 mod refused;
-mod reply;
 mod requests;
-mod sorting;
 mod stated;
 mod told;
 mod unknown;
 
-pub use asked::{Asked, lanes, request_asked, request_fields};
+pub use asked::{lanes, request_asked, request_fields};
 pub use fault::{MOST_OPERATIONS, RequestFault, TraceFault};
 pub use member::Member;
-pub use observed::access;
 pub use recorded::{Recorded, read_trace};
 pub use refused::refusal_named;
-pub use reply::{ReplyFault, reply_fault};
 pub use stated::seen_reply;
 pub use told::{granule_start, granule_word};
 pub use unknown::{MemberName, unknown_member};

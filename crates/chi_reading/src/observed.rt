@@ -1,37 +1,13 @@
 //! The operation that was observed of a request of a trace.
 
 ghost use Rattle.std.specs.Prelude.{◌≡◌};
-ghost use Rattle.std.specs.Option.{option_map};
-ghost use Rattle.chi_reading.specs.Requests.{access_of, observed_of};
+ghost use Rattle.chi_reading.specs.Requests.{observed_of};
 
-use crate::asked::Asked;
 use crate::fault::{RequestFault, TraceFault};
-use crate::reply::reply_fault;
 use crate::stated::Stated;
-use chi_fields::{Access, Refusal, Region, decode};
+use chi_fields::Region;
 use chi_lanes::Reply;
-use chi_trace::Observed;
-
-/// The access that a home decides of a request: of a region, or of all addresses below 2^52, for which the line of 64 bytes
-/// around the address stands.
-///
-/// Source: profile.
-///
-/// ```
-/// let access = access(&asked, &None)?;
-/// ```
-pub fn access(asked: &Asked, region: &Option<Region>) -> Result<Access, Refusal>
-    ensures { result ≡ access_of region.now asked.now }
-{
-    let request = asked.request();
-    match region {
-        Some(region) => decode(&request, region),
-        None => match Region::new(asked.addr / 64 * 64, 8) {
-            Ok(line) => decode(&request, &line),
-            Err(_) => Err(Refusal::OutOfRegion),
-        },
-    }
-}
+use chi_trace::{Operation, access, reply_fault};
 
 /// The operation that was observed of the request at a place, with this reply.
 #[tactic(auto, unfolding(crate::specs::Requests::observed_of))]
@@ -40,7 +16,7 @@ pub(crate) fn observed(
     region: &Option<Region>,
     stated: &Stated,
     reply: Option<Reply>,
-) -> Result<Observed, TraceFault>
+) -> Result<Operation, TraceFault>
     ensures { result ≡ observed_of place region.now stated.now reply }
 {
     let access = match access(&stated.asked, region) {
@@ -64,11 +40,9 @@ pub(crate) fn observed(
             fault: RequestFault::Reply(fault),
         });
     }
-    Ok(Observed {
-        start: stated.start,
-        end: stated.end,
-        src: stated.asked.src,
-        access,
-        reply,
-    })
+    Ok(
+        stated
+            .asked
+            .operation(access, stated.start, stated.end, reply),
+    )
 }

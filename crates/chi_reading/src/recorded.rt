@@ -1,47 +1,39 @@
 //! Traces that were read, and how one is.
 
-ghost use Rattle.std.specs.Prelude.{◌≡◌, ◌≢◌, ℕ, ◌<◌, length, IfErr, IfOk, Ok, Err};
+ghost use Rattle.std.specs.Prelude.{◌≡◌, ◌≢◌, All, IfErr, IfOk, Ok, Err};
 ghost use Rattle.serde_json.specs.View.{members_view, view};
-ghost use Rattle.chi_reading.specs.Found.{AreMatched, completed_in};
+ghost use Rattle.chi_reading.specs.Found.{completed_in};
 ghost use Rattle.chi_reading.specs.TraceText.{IsMemoryOf, IsOf, IsRecorded, MemoryText, TextValue, cut_at, memory_text, object_text, region_memory, trace_text, wide_memory};
-ghost use Rattle.chi_trace.specs.Explains.{IsObserved, at};
+ghost use Rattle.chi_trace.specs.Explains.{IsOperation};
 
-use crate::asked::Asked;
 use crate::fault::TraceFault;
 use crate::member::Member;
 use crate::requests::{Found, all_completed};
-use crate::sorting::{by_start, numbers_at, operations_at, requests_at};
 use crate::told::{region_words, stated_list};
 use crate::unknown::{trace_members, unknown_member};
 use chi_fields::{Refusal, Region};
 use chi_json::{json, number, opening_words, stated_words};
-use chi_verdict::{GranuleWords, Trace};
+use chi_trace::{GranuleWords, Trace};
 use serde_json::{Map, Value};
 use std::alloc::{AllocError, Global};
 use std::marker::Model;
 
-/// A trace that was read: its memory is a region or all addresses; each operation of it has a request, and a place in the text.
-/// Its other requests were refused.
+/// A trace that was read: its memory is a region or all addresses. Its requests are operations, each with its place in the text
+/// as its number, counted from 0, or were refused.
 #[derive(Debug, Drop)]
 pub struct Recorded {
     region: Option<Region>,
     trace: Trace,
     final_words: GranuleWords,
-    requests: Vec<Asked>,
-    places: Vec<usize>,
     refusals: Vec<Refusal>,
 }
 
 impl Model for Recorded {
-    ghost use Rattle.std.specs.Prelude.{◌≡◌, length};
     ghost use Rattle.chi_reading.specs.TraceText.{RecordedValue};
 
     ghost Value = { RecordedValue };
 
-    ghost view = { λ r. record { region = r.region; trace = r.trace; final_words = r.final_words; requests = r.requests.items; places = r.places.items; refusals = r.refusals.items } };
-
-    // Each operation has a request and a place.
-    ghost invariant = { λ r. (length r.requests.items ≡ length r.trace.operations) × (length r.places.items ≡ length r.trace.operations) };
+    ghost view = { λ r. record { region = r.region; trace = r.trace; final_words = r.final_words; refusals = r.refusals.items } };
 }
 
 impl Recorded {
@@ -78,30 +70,6 @@ impl Recorded {
         &self.final_words
     }
 
-    /// The request of each operation of the trace, in its order.
-    ///
-    /// ```
-    /// let request = &recorded.requests()[place];
-    /// ```
-    pub fn requests(&self) -> &[Asked]
-        ensures requests { result.now ≡ self.now.requests }
-        ensures matched { length self.now.requests ≡ length self.now.trace.operations }
-    {
-        self.requests.as_slice()
-    }
-
-    /// Where each operation's request stands in the text, counted from 0.
-    ///
-    /// ```
-    /// let request = recorded.places()[place];
-    /// ```
-    pub fn places(&self) -> &[usize]
-        ensures places { result.now ≡ self.now.places }
-        ensures matched { length self.now.places ≡ length self.now.trace.operations }
-    {
-        self.places.as_slice()
-    }
-
     /// Why the requests of the trace that are no operations were refused, in the order of the text.
     ///
     /// ```
@@ -113,9 +81,8 @@ impl Recorded {
         self.refusals.as_slice()
     }
 
-    /// What had happened by a time: the operations that had started, with the replies of those that had ended, their requests
-    /// and their places. The words at the end are not those of that time, so none is told. The times of refused requests are
-    /// not kept, so none of them is left.
+    /// What had happened by a time: the operations that had started, with the replies of those that had ended. The words at the
+    /// end are not those of that time, so none is told. The times of refused requests are not kept, so none of them is left.
     ///
     /// ```
     /// let before = recorded.cut(alloc, 4711)?;
@@ -123,16 +90,10 @@ impl Recorded {
     pub fn cut(&self, alloc: Global, time: u64) -> Result<Recorded, AllocError>
         ensures { IfOk result (λ before. before ≡ cut_at time self.now) }
     {
-        let trace = self.trace.cut(alloc, time)?;
-        let count = trace.operations().len();
-        let requests = Vec::from_slice(alloc, &self.requests[..count])?;
-        let places = Vec::from_slice(alloc, &self.places[..count])?;
         Ok(Recorded {
             region: self.region,
-            trace,
+            trace: self.trace.cut(alloc, time)?,
             final_words: GranuleWords::none(alloc),
-            requests,
-            places,
             refusals: Vec::new(alloc),
         })
     }
@@ -200,22 +161,17 @@ fn memory_told(alloc: Global, object: &Value) -> Result<Memory, TraceFault>
 }
 
 /// The trace of a memory, and of what was found of its requests.
-fn in_order(alloc: Global, memory: Memory, found: Found) -> Result<Recorded, AllocError>
-    requires matched { AreMatched (completed_in found) }
-    requires observed { (i : ℕ) → i < length found.operations.items → IsObserved (at found.operations.items i) }
+fn in_order(memory: Memory, found: Found) -> Result<Recorded, AllocError>
+    requires { All IsOperation found.operations.items }
     ensures { IfOk result (λ r. IsRecorded memory (completed_in found) r) }
 {
-    let order = by_start(alloc, &found.operations)?;
-    let ordered = operations_at(alloc, &found.operations, &order)?;
-    let requests = requests_at(alloc, &found.requests, &order)?;
-    let places = numbers_at(alloc, &found.places, &order)?;
-    match Trace::new(memory.opening, ordered) {
+    let mut operations = found.operations;
+    operations.sort_by_key(|op| op.start)?;
+    match Trace::new(memory.opening, operations) {
         Some(trace) => Ok(Recorded {
             region: memory.region,
             trace,
             final_words: memory.final_words,
-            requests,
-            places,
             refusals: found.refusals,
         }),
         None => unreachable!(),
@@ -243,7 +199,7 @@ fn object_trace(
         return Err(TraceFault::UnknownMember(name));
     }
     let found = all_completed(alloc, list.as_slice(), &memory.region)?;
-    match in_order(alloc, memory, found) {
+    match in_order(memory, found) {
         Ok(recorded) => Ok(recorded),
         Err(_) => Err(TraceFault::Memory),
     }

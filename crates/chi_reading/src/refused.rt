@@ -3,13 +3,13 @@
 ghost use Rattle.std.specs.Prelude.{◌≡◌};
 ghost use Rattle.serde_json.specs.View.{view};
 ghost use Rattle.chi_reading.specs.Refused.{is_refused_so, refusal_of, refusal_with};
-ghost use Rattle.chi_reading.specs.Requests.{access_of, refused_of};
+ghost use Rattle.chi_trace.specs.Asked.{access_of};
+ghost use Rattle.chi_reading.specs.Requests.{refused_of};
 
-use crate::asked::Asked;
 use crate::fault::{RequestFault, TraceFault};
-use crate::observed::access;
 use crate::stated::Stated;
 use chi_fields::{Refusal, Region, refusal_name};
+use chi_trace::{Asked, access};
 use serde_json::Value;
 
 /// The reasons, in the order in which a home meets them.

@@ -5,22 +5,19 @@ ghost use Rattle.serde_json.specs.View.{items_view, view};
 ghost use Rattle.chi_reading.specs.Found.{completed_in};
 ghost use Rattle.chi_reading.specs.Requests.{Completed, all_completed, completed_at, completed_of, joined, none_completed, one_accepted, one_refused};
 
-use crate::asked::Asked;
 use crate::fault::{MOST_OPERATIONS, TraceFault};
 use crate::observed::observed;
 use crate::refused::refused;
 use crate::stated::{Outcome, stated_at};
 use chi_fields::{Refusal, Region};
-use chi_trace::Observed;
+use chi_trace::Operation;
 use serde_json::Value;
 use std::alloc::{AllocError, Global};
 
-/// The requests that were accepted, with the operation and the place in the text of each, and why the others were refused.
+/// The operations of the requests that were accepted, and why the others were refused.
 #[derive(Drop)]
 pub(crate) struct Found {
-    pub requests: Vec<Asked>,
-    pub operations: Vec<Observed>,
-    pub places: Vec<usize>,
+    pub operations: Vec<Operation>,
     pub refusals: Vec<Refusal>,
 }
 
@@ -30,25 +27,16 @@ impl Found {
         ensures { completed_in result ≡ none_completed }
     {
         Found {
-            requests: Vec::new(alloc),
             operations: Vec::new(alloc),
-            places: Vec::new(alloc),
             refusals: Vec::new(alloc),
         }
     }
 
-    /// Adds a request that was accepted.
-    fn add_accepted(
-        &mut self,
-        place: usize,
-        asked: Asked,
-        operation: Observed,
-    ) -> Result<(), AllocError>
-        ensures { OnOk result (completed_in self.new ≡ joined (completed_in self.old) (one_accepted place asked operation)) }
+    /// Adds the operation of a request that was accepted.
+    fn add_accepted(&mut self, operation: Operation) -> Result<(), AllocError>
+        ensures { OnOk result (completed_in self.new ≡ joined (completed_in self.old) (one_accepted operation)) }
     {
-        self.requests.push(asked)?;
         self.operations.push(operation)?;
-        self.places.push(place)?;
         Ok(())
     }
 
@@ -76,7 +64,7 @@ fn add_request(
     let added = match stated.outcome {
         Outcome::Accepted(reply) => {
             let operation = observed(place, region, &stated, reply)?;
-            found.add_accepted(place, stated.asked, operation)
+            found.add_accepted(operation)
         }
         Outcome::Refused(reason) => {
             let refusal = refused(place, region, &stated, reason)?;

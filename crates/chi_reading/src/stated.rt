@@ -6,7 +6,7 @@ ghost use Rattle.serde_json.specs.View.{view};
 ghost use Rattle.chi_reading.specs.Member.{member_name};
 ghost use Rattle.chi_reading.specs.Requests.{answer_of, end_of, members_of, outcome_by, reply_by, seen_of, stated_at, stated_of};
 
-use crate::asked::{Asked, request_asked};
+use crate::asked::request_asked;
 use crate::fault::{RequestFault, TraceFault, fault_in};
 use crate::member::Member;
 use crate::refused::refusal_named;
@@ -14,6 +14,7 @@ use crate::unknown::{refused_members, request_members, unknown_member};
 use chi_fields::Refusal;
 use chi_json::{MemberFault, hex_bytes, number};
 use chi_lanes::Reply;
+use chi_trace::Asked;
 use serde_json::Value;
 
 /// What came of a request.
@@ -117,12 +118,12 @@ fn outcome_stated(object: &Value) -> Result<Outcome, MemberFault<Member>>
     }
 }
 
-/// What an object states, or the first fault of its members.
+/// What the request at a place states, or the first fault of its members.
 #[tactic(auto, unfolding(crate::specs::Requests::stated_of))]
-fn request_stated(object: &Value) -> Result<Stated, MemberFault<Member>>
-    ensures { result ≡ stated_of (view object.now) }
+fn request_stated(place: usize, object: &Value) -> Result<Stated, MemberFault<Member>>
+    ensures { result ≡ stated_of place (view object.now) }
 {
-    let asked = request_asked(object)?;
+    let asked = request_asked(place as u64, object)?;
     let start = number(object, Member::Start, u64::MAX)?;
     let end = end(object)?;
     let outcome = outcome_stated(object)?;
@@ -145,7 +146,7 @@ pub(crate) fn stated_at(place: usize, value: &Value) -> Result<Stated, TraceFaul
             fault: RequestFault::NotObject,
         });
     };
-    let stated = match request_stated(value) {
+    let stated = match request_stated(place, value) {
         Ok(stated) => stated,
         Err(fault) => return Err(fault_in(place, fault)),
     };

@@ -3,12 +3,12 @@
 ghost use Rattle.std.specs.Prelude.{◌≡◌, ◌≢◌, ◌≤◌, ◌^◌, ℕ, List, [], None, Some, Ok, Err, IfOk, IfErr};
 ghost use Rattle.serde_json.specs.View.{items_view, view};
 ghost use Rattle.chi_reading.specs.Told.{region_words, start_of, stated_list, told_from, told_of, word_of};
-ghost use Rattle.chi_verdict.specs.declared.words.GranuleWord.{GranuleWord};
-ghost use Rattle.chi_verdict.specs.Words.{told};
+ghost use Rattle.chi_trace.specs.declared.words.GranuleWord.{GranuleWord};
+ghost use Rattle.chi_trace.specs.Words.{told};
 
 use crate::member::Member;
 use chi_json::{MemberFault, hex_bytes};
-use chi_verdict::{GranuleWord, GranuleWords};
+use chi_trace::{GranuleWord, GranuleWords};
 use serde_json::Value;
 use std::alloc::{AllocError, Global};
 use std::collections::BTreeMap;

@@ -16,12 +16,12 @@ fn requests_in_the_order_of_their_starts(rt: HostRuntime) -> Result<(), Fail> {
     let recorded = read(rt.alloc(), &text)?;
     let operations = recorded.trace().operations();
     let found = (
-        recorded.places() == [1, 0].as_slice(),
-        operations.first().map(|op| op.start),
-        operations.last().map(|op| op.end),
-        recorded.requests().first().map(|request| request.txn),
+        operations.first().map(|op| (op.number, op.src, op.txn)),
+        operations.first().map(|op| (op.start, op.end)),
+        operations.last().map(|op| (op.number, op.start, op.end)),
     );
-    assert_same(&rt, found, (true, Some(10), Some(40), Some(2)));
+    let wanted = (Some((1, 1, 2)), Some((10, 20)), Some((0, 30, 40)));
+    assert_same(&rt, found, wanted);
     Ok(())
 }
 
@@ -65,11 +65,10 @@ fn refused_requests(rt: HostRuntime) -> Result<(), Fail> {
     let recorded = read(rt.alloc(), &text)?;
     let found = (
         recorded.refusals() == [Refusal::Misaligned, Refusal::UnknownOpcode].as_slice(),
-        recorded.places() == [1].as_slice(),
-        recorded.requests().len(),
+        recorded.trace().operations().first().map(|op| op.number),
         recorded.trace().operations().len(),
     );
-    assert_same(&rt, found, (true, true, 1, 1));
+    assert_same(&rt, found, (true, Some(1), 1));
     let cut = recorded.cut(rt.alloc(), 45)?;
     assert_same(
         &rt,

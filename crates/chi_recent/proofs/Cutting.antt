@@ -4,7 +4,7 @@ use Rattle.std.specs.List.{filter}
 use Rattle.std.proofs.lemmas.Bool.{le-leb, lt-leb}
 use Rattle.std.proofs.lemmas.List.{map-append}
 use Rattle.std.proofs.lemmas.List.Elements.{All-cons, All-head, All-nil, All-tail, filter-append}
-use Rattle.chi_trace.specs.declared.observed.Observed.{Observed}
+use Rattle.chi_trace.specs.declared.operation.Operation.{Operation}
 use Rattle.chi_trace.specs.Cuts.{cut, has_started, known}
 use Rattle.chi_trace.specs.Explains.{at}
 use Rattle.chi_search.specs.Frontiers.{CanBeTold, FrontierValue, MayBeTold}
@@ -12,15 +12,15 @@ use Rattle.chi_search.specs.Searchable.{AreSorted}
 use Rattle.chi_search.proofs.Telling.{sorted_after, sorted_one}
 use Rattle.chi_recent.specs.Recent.{LiesWithin}
 
-pub cut-append : (time : ℕ) (a b : List Observed) → cut time (a ++ b) ≡ cut time a ++ cut time b
+pub cut-append : (time : ℕ) (a b : List Operation) → cut time (a ++ b) ≡ cut time a ++ cut time b
 cut-append time a b = ap (map (known time)) (filter-append (has_started time) a b) ∙ map-append (known time) (filter (has_started time) a) (filter (has_started time) b)
 
 -- it started no earlier than it ended, and ended by a time
-abbrev pub EndedBy : ℕ → Observed → Type 0
+abbrev pub EndedBy : ℕ → Operation → Type 0
 EndedBy time op = (op.start ≤ op.end) × (op.end ≤ time)
 
 -- all is known of those that had ended
-pub cut_whole : (time : ℕ) (ops : List Observed) → All (EndedBy time) ops → cut time ops ≡ ops
+pub cut_whole : (time : ℕ) (ops : List Operation) → All (EndedBy time) ops → cut time ops ≡ ops
 cut_whole time [] all = refl
 cut_whole time (op ∷ ops) all =
     let first = All-head (EndedBy time) op ops all in
@@ -33,15 +33,15 @@ cut_whole time (op ∷ ops) all =
     by_tests true e s_is e_is rest = by_end (nat_le op.end time) (le-leb op.end time (All-head (EndedBy time) op ops all).1)
       where
         by_end : (b : Bool) → nat_le op.end time ≡ true → known time op ∷ cut time ops ≡ op ∷ ops
-        by_end b is = ap (λ (o : Observed). o ∷ cut time ops) (ap (λ (t : Bool). cond t op (record op { reply = None })) is) ∙ ap (λ (l : List Observed). op ∷ l) rest
+        by_end b is = ap (λ (o : Operation). o ∷ cut time ops) (ap (λ (t : Bool). cond t op (record op { reply = None })) is) ∙ ap (λ (l : List Operation). op ∷ l) rest
     by_tests false e s_is e_is rest = absurd (true≢false (sym s_is))
 
 -- and nothing of those that start later
-pub cut_later : (time : ℕ) (ops : List Observed) → All (λ op. time < op.start) ops → cut time ops ≡ []
+pub cut_later : (time : ℕ) (ops : List Operation) → All (λ op. time < op.start) ops → cut time ops ≡ []
 cut_later time [] all = refl
 cut_later time (op ∷ ops) all =
-    by_test (nat_le op.start time) (lt-leb op.start time (All-head (λ (o : Observed). time < o.start) op ops all))
-    (cut_later time ops (All-tail (λ (o : Observed). time < o.start) op ops all))
+    by_test (nat_le op.start time) (lt-leb op.start time (All-head (λ (o : Operation). time < o.start) op ops all))
+    (cut_later time ops (All-tail (λ (o : Operation). time < o.start) op ops all))
   where
     by_test : (s : Bool) → s ≡ false → cut time ops ≡ []
         → map (known time) (cond s (op ∷ filter (has_started time) ops) (filter (has_started time) ops)) ≡ []
@@ -49,7 +49,7 @@ cut_later time (op ∷ ops) all =
     by_test false is rest = rest
 
 -- what holds of each operation, whatever is known of its reply, holds of each in a cut
-pub All-cut : (P : Observed → Type 0) → ((time : ℕ) (op : Observed) → P op → P (known time op)) → (time : ℕ) (ops : List Observed) → All P ops → All P (cut time ops)
+pub All-cut : (P : Operation → Type 0) → ((time : ℕ) (op : Operation) → P op → P (known time op)) → (time : ℕ) (ops : List Operation) → All P ops → All P (cut time ops)
 All-cut P stays time [] all = All-nil P
 All-cut P stays time (op ∷ ops) all =
     by_test (has_started time op) (stays time op (All-head P op ops all)) (All-cut P stays time ops (All-tail P op ops all))
@@ -59,47 +59,47 @@ All-cut P stays time (op ∷ ops) all =
     by_test false first rest = rest
 
 -- a fact that speaks of no reply stays
-pub stays_known : (P : Observed → Type 0) → ((op : Observed) → P op → P (record op { reply = None })) → (time : ℕ) (op : Observed) → P op → P (known time op)
+pub stays_known : (P : Operation → Type 0) → ((op : Operation) → P op → P (record op { reply = None })) → (time : ℕ) (op : Operation) → P op → P (known time op)
 stays_known P without time op is = by_test (nat_le op.end time)
   where
     by_test : (b : Bool) → P (cond b op (record op { reply = None }))
     by_test true = is
     by_test false = without op is
 
-pub cut_within : (time : ℕ) (ops : List Observed) → All LiesWithin ops → All LiesWithin (cut time ops)
+pub cut_within : (time : ℕ) (ops : List Operation) → All LiesWithin ops → All LiesWithin (cut time ops)
 cut_within time ops all = All-cut LiesWithin (stays_known LiesWithin (λ op is. is)) time ops all
 
 -- operations after the first stand in the order of their ends too
-pub sorted_tail : (op : Observed) (ops : List Observed) → AreSorted (op ∷ ops) → AreSorted ops
-sorted_tail op ops sorted = (λ i j from below. sorted.0 (suc i) (suc j) (omega (arith, from)) (omega (arith, below)), All-tail (λ (o : Observed). o.start ≤ o.end) op ops sorted.1)
+pub sorted_tail : (op : Operation) (ops : List Operation) → AreSorted (op ∷ ops) → AreSorted ops
+sorted_tail op ops sorted = (λ i j from below. sorted.0 (suc i) (suc j) (omega (arith, from)) (omega (arith, below)), All-tail (λ (o : Operation). o.start ≤ o.end) op ops sorted.1)
 
 -- and end no earlier than it
-pub ends_after : (op : Observed) (ops : List Observed) → AreSorted (op ∷ ops) → All (λ o. op.end ≤ o.end) ops
-ends_after op ops sorted k d below = subst (λ (o : Observed). op.end ≤ o.end) (same ops k d below) (sorted.0 0 (suc k) (omega arith) (omega (arith, below)))
+pub ends_after : (op : Operation) (ops : List Operation) → AreSorted (op ∷ ops) → All (λ o. op.end ≤ o.end) ops
+ends_after op ops sorted k d below = subst (λ (o : Operation). op.end ≤ o.end) (same ops k d below) (sorted.0 0 (suc k) (omega arith) (omega (arith, below)))
   where
-    same : (l : List Observed) (k : ℕ) (d : Observed) → k < length l → at l k ≡ get_or l k d
+    same : (l : List Operation) (k : ℕ) (d : Operation) → k < length l → at l k ≡ get_or l k d
     same [] k d below = absurd (omega arith)
     same (o ∷ l) zero d below = refl
     same (o ∷ l) (suc k) d below = same l k d (omega arith)
 
-pub cut_sorted : (time : ℕ) (ops : List Observed) → AreSorted ops → AreSorted (cut time ops)
+pub cut_sorted : (time : ℕ) (ops : List Operation) → AreSorted ops → AreSorted (cut time ops)
 cut_sorted time [] sorted = sorted
 cut_sorted time (op ∷ ops) sorted = by_test (has_started time op) (cut_sorted time ops (sorted_tail op ops sorted))
   where
     lasting : (known time op).start ≤ (known time op).end
-    lasting = stays_known (λ o. o.start ≤ o.end) (λ o is. is) time op (All-head (λ (o : Observed). o.start ≤ o.end) op ops sorted.1)
+    lasting = stays_known (λ o. o.start ≤ o.end) (λ o is. is) time op (All-head (λ (o : Operation). o.start ≤ o.end) op ops sorted.1)
 
     no_later : (known time op).end ≤ op.end
     no_later = stays_known (λ o. o.end ≤ op.end) (λ o is. is) time op (omega arith)
 
     by_test : (s : Bool) → AreSorted (cut time ops) → AreSorted (map (known time) (cond s (op ∷ filter (has_started time) ops) (filter (has_started time) ops)))
     by_test true rest = sorted_after (known time op ∷ []) (cut time ops) op.end (sorted_one (known time op) lasting) rest
-        (All-cons (λ (o : Observed). o.end ≤ op.end) (known time op) [] no_later (All-nil (λ (o : Observed). o.end ≤ op.end)))
+        (All-cons (λ (o : Operation). o.end ≤ op.end) (known time op) [] no_later (All-nil (λ (o : Operation). o.end ≤ op.end)))
         (All-cut (λ o. op.end ≤ o.end) (stays_known (λ o. op.end ≤ o.end) (λ o is. is)) time ops (ends_after op ops sorted))
     by_test false rest = rest
 
 -- what may be told may be told as it was known by a time
-pub cut_told : (f : FrontierValue) (time : ℕ) (ops : List Observed) → MayBeTold f ops → MayBeTold f (cut time ops)
+pub cut_told : (f : FrontierValue) (time : ℕ) (ops : List Operation) → MayBeTold f ops → MayBeTold f (cut time ops)
 cut_told f time ops may = record {
   sorted = cut_sorted time ops may.sorted;
   each = All-cut (CanBeTold f) (stays_known (CanBeTold f) (λ op c. record { lasting = c.lasting; starts = c.starts; ends = c.ends })) time ops may.each;

@@ -1,57 +1,56 @@
 -- operations that are kept: one more, and fewer
-use Rattle.std.proofs.Common.{◌≡◌, ℕ, ◌+◌, ◌-◌, ◌<◌, ◌≤◌, ◌↔◌, Bool, true, false, List, [], ◌∷◌, ◌++◌, All, IsTrue, get_or, get_or-drop, length, length-drop, take, drop, append_assoc, append-nil, refl, sym, ap, ap₂, subst, ◌∙◌, arith, true≢false}
+use Rattle.std.proofs.Common.{◌≡◌, ℕ, ◌+◌, ◌-◌, ◌<◌, ◌≤◌, ◌↔◌, Bool, true, false, List, [], ◌∷◌, ◌++◌, All, IsTrue, get_or, get_or-drop, length, length-drop, take, drop, append_assoc, append-nil, refl, sym, ap, subst, ◌∙◌, arith, true≢false}
 use Rattle.std.specs.List.{Contains}
-use Rattle.std.proofs.lemmas.List.{drop-map, get_or_default, map-append, take-append-drop, take-map}
+use Rattle.std.proofs.lemmas.List.{get_or_default, take-append-drop}
 use Rattle.std.proofs.lemmas.List.Elements.{All-append, All-cons, All-drop, All-nil, All-push, All-take, All-weaker}
-use Rattle.chi_trace.specs.declared.observed.Observed.{Observed}
+use Rattle.chi_trace.specs.declared.operation.Operation.{Operation}
 use Rattle.chi_trace.specs.Cuts.{cut}
 use Rattle.chi_trace.specs.Explains.{at, nothing}
 use Rattle.chi_search.specs.Frontiers.{CanBeTold, Follows, FrontierValue, MayBeTold}
 use Rattle.chi_search.specs.Layers.{SomeLeads}
 use Rattle.chi_search.proofs.Telling.{sorted_after, sorted_one}
-use Rattle.chi_recent.specs.declared.traced.Traced.{Traced}
-use Rattle.chi_recent.specs.Recent.{CanBeKept, EndedBefore, EndedWithin, IsNextHorizon, Keeps, LiesWithin, RecentValue, operations}
+use Rattle.chi_recent.specs.Recent.{CanBeKept, EndedBefore, EndedWithin, IsNextHorizon, Keeps, LiesWithin, RecentValue}
 use Rattle.chi_recent.specs.Shown.{EndsNoLater, last_of}
 use Rattle.chi_recent.proofs.Cutting.{EndedBy, cut-append, cut_later, cut_whole}
-use Rattle.chi_recent.proofs.Last.{last_more, operations_last, pairs_append, pairs_by_end, pairs_take}
+use Rattle.chi_recent.proofs.Last.{last_more, pairs_append, pairs_by_end, pairs_take}
 
 -- an operation that starts later had not happened
-cut_more : (time : ℕ) (told : List Observed) (op : Observed) → time < op.start → cut time (told ++ op ∷ []) ≡ cut time told
+cut_more : (time : ℕ) (told : List Operation) (op : Operation) → time < op.start → cut time (told ++ op ∷ []) ≡ cut time told
 cut_more time told op later =
-    cut-append time told (op ∷ []) ∙ (ap (λ (l : List Observed). cut time told ++ l)
-    (cut_later time (op ∷ []) (All-cons (λ (o : Observed). time < o.start) op [] later (All-nil (λ (o : Observed). time < o.start)))) ∙ append-nil (cut time told))
+    cut-append time told (op ∷ []) ∙ (ap (λ (l : List Operation). cut time told ++ l)
+    (cut_later time (op ∷ []) (All-cons (λ (o : Operation). time < o.start) op [] later (All-nil (λ (o : Operation). time < o.start)))) ∙ append-nil (cut time told))
 
 -- those that had ended, those that are known, and those that start later
-pub cut_parts : (time since : ℕ) (earlier ops later : List Observed) → since ≤ time + 1 → All (EndedBefore since) earlier → All (λ op. time < op.start) later
+pub cut_parts : (time since : ℕ) (earlier ops later : List Operation) → since ≤ time + 1 → All (EndedBefore since) earlier → All (λ op. time < op.start) later
     → cut time (earlier ++ (ops ++ later)) ≡ earlier ++ cut time ops
 cut_parts time since earlier ops later le ended late =
     cut-append time earlier (ops ++ later)
-    ∙ (ap (λ (l : List Observed). l ++ cut time (ops ++ later)) whole
-    ∙ ap (λ (l : List Observed). earlier ++ l) (cut-append time ops later
-    ∙ (ap (λ (l : List Observed). cut time ops ++ l) (cut_later time later late) ∙ append-nil (cut time ops))))
+    ∙ (ap (λ (l : List Operation). l ++ cut time (ops ++ later)) whole
+    ∙ ap (λ (l : List Operation). earlier ++ l) (cut-append time ops later
+    ∙ (ap (λ (l : List Operation). cut time ops ++ l) (cut_later time later late) ∙ append-nil (cut time ops))))
   where
     whole : cut time earlier ≡ earlier
     whole = cut_whole time earlier (All-weaker (EndedBefore since) (EndedBy time) (λ op e. (e.0, omega (arith, e.1, le))) earlier ended)
 
-module _ (words : List ℕ) (told : List Observed) (now : ℕ) (r : RecentValue) (k : Keeps words told now r) where
+module _ (words : List ℕ) (told : List Operation) (now : ℕ) (r : RecentValue) (k : Keeps words told now r) where
   -- those that are left out start after the time
   pub late_after : (time : ℕ) → (IsTrue r.is_stopped → time < r.horizon) → All (λ op. time < op.start) k.later
   late_after time before = by_test r.is_stopped refl
     where
       by_test : (b : Bool) → r.is_stopped ≡ b → All (λ op. time < op.start) k.later
-      by_test true stopped = All-weaker (λ (op : Observed). r.horizon ≤ op.start) (λ (op : Observed). time < op.start) (λ op late. omega (arith, late, before stopped)) k.later k.late
-      by_test false goes = subst (All (λ (op : Observed). time < op.start)) (sym (k.goes_on goes)) (All-nil (λ (op : Observed). time < op.start))
+      by_test true stopped = All-weaker (λ (op : Operation). r.horizon ≤ op.start) (λ (op : Operation). time < op.start) (λ op late. omega (arith, late, before stopped)) k.later k.late
+      by_test false goes = subst (All (λ (op : Operation). time < op.start)) (sym (k.goes_on goes)) (All-nil (λ (op : Operation). time < op.start))
 
   -- up to a time at which none is left out, and each earlier one had ended
-  pub cut_kept : (time : ℕ) → r.since ≤ time + 1 → (IsTrue r.is_stopped → time < r.horizon) → cut time told ≡ k.earlier ++ cut time (operations r.kept)
-  cut_kept time since before = ap (cut time) k.parts ∙ cut_parts time r.since k.earlier (operations r.kept) k.later since k.ended (late_after time before)
+  pub cut_kept : (time : ℕ) → r.since ≤ time + 1 → (IsTrue r.is_stopped → time < r.horizon) → cut time told ≡ k.earlier ++ cut time r.kept
+  cut_kept time since before = ap (cut time) k.parts ∙ cut_parts time r.since k.earlier r.kept k.later since k.ended (late_after time before)
 
   -- the words after what was known by the time before a horizon are those that what was told can leave by then
   pub words_at : (horizon : ℕ) → r.is_stopped ≡ false → r.horizon < horizon → (each : List ℕ)
-      → ((ws : List ℕ) (ops : List Observed) → Follows ws ops r.before → (v : ℕ) → Contains each v ↔ SomeLeads (ops ++ cut (horizon - 1) (operations r.kept)) ws v)
+      → ((ws : List ℕ) (ops : List Operation) → Follows ws ops r.before → (v : ℕ) → Contains each v ↔ SomeLeads (ops ++ cut (horizon - 1) r.kept) ws v)
       → (v : ℕ) → Contains each v ↔ SomeLeads (cut (horizon - 1) told) words v
   words_at horizon goes below each found v =
-      subst (λ (l : List Observed). Contains each v ↔ SomeLeads l words v)
+      subst (λ (l : List Operation). Contains each v ↔ SomeLeads l words v)
       (sym (cut_kept (horizon - 1) (omega (arith, k.since_by, below)) (λ so. absurd (true≢false (sym so ∙ goes))))) (found words k.earlier k.follows v)
 
   -- the time goes on
@@ -66,7 +65,7 @@ module _ (words : List ℕ) (told : List Observed) (now : ℕ) (r : RecentValue)
     ended = k.ended;
     next = k.next;
     within = k.within;
-    ends = All-weaker (EndedWithin r.since now) (EndedWithin r.since next) (λ op e. (e.0, omega (arith, e.1, le))) (operations r.kept) k.ends;
+    ends = All-weaker (EndedWithin r.since now) (EndedWithin r.since next) (λ op e. (e.0, omega (arith, e.1, le))) r.kept k.ends;
     late = k.late;
     goes_on = k.goes_on;
     since_by = k.since_by;
@@ -77,41 +76,41 @@ module _ (words : List ℕ) (told : List Observed) (now : ℕ) (r : RecentValue)
     stopped = k.stopped;
   }
 
-  told_kept : r.is_stopped ≡ false → told ≡ k.earlier ++ operations r.kept
-  told_kept goes = k.parts ∙ ap (λ (l : List Observed). k.earlier ++ l) (ap (λ (l : List Observed). operations r.kept ++ l) (k.goes_on goes) ∙ append-nil (operations r.kept))
+  told_kept : r.is_stopped ≡ false → told ≡ k.earlier ++ r.kept
+  told_kept goes = k.parts ∙ ap (λ (l : List Operation). k.earlier ++ l) (ap (λ (l : List Operation). r.kept ++ l) (k.goes_on goes) ∙ append-nil r.kept)
 
   -- one operation more was told
-  module _ (t : Traced) (can : CanBeKept now r t.op) where
-    one : (P : Observed → Type 0) → P t.op → All P (t.op ∷ [])
-    one P is = All-cons P t.op [] is (All-nil P)
+  module _ (t : Operation) (can : CanBeKept now r t) where
+    one : (P : Operation → Type 0) → P t → All P (t ∷ [])
+    one P is = All-cons P t [] is (All-nil P)
 
-    still_explained : (time : ℕ) → time + 1 ≡ r.since → (v : ℕ) × SomeLeads (cut time (told ++ t.op ∷ [])) words v
+    still_explained : (time : ℕ) → time + 1 ≡ r.since → (v : ℕ) × SomeLeads (cut time (told ++ t ∷ [])) words v
     still_explained time is =
         let led = k.explained time is in
-        (led.0, subst (λ (l : List Observed). SomeLeads l words led.0) (sym (cut_more time told t.op (omega (arith, is, k.since_by, can.starts)))) led.1)
+        (led.0, subst (λ (l : List Operation). SomeLeads l words led.0) (sym (cut_more time told t (omega (arith, is, k.since_by, can.starts)))) led.1)
 
-    pub keeps_one : r.is_stopped ≡ false → Keeps words (told ++ t.op ∷ []) t.op.end (record r { kept = r.kept ++ t ∷ [] })
+    pub keeps_one : r.is_stopped ≡ false → Keeps words (told ++ t ∷ []) t.end (record r { kept = r.kept ++ t ∷ [] })
     keeps_one goes = record {
       earlier = k.earlier;
       later = [];
-      parts = ap (λ (l : List Observed). l ++ t.op ∷ []) (told_kept goes) ∙ (append_assoc k.earlier (operations r.kept) (t.op ∷ [])
-          ∙ ap (λ (l : List Observed). k.earlier ++ l) (sym more ∙ sym (append-nil (operations (r.kept ++ t ∷ [])))));
+      parts = ap (λ (l : List Operation). l ++ t ∷ []) (told_kept goes) ∙ (append_assoc k.earlier r.kept (t ∷ [])
+          ∙ ap (λ (l : List Operation). k.earlier ++ l) (sym (append-nil (r.kept ++ t ∷ []))));
       follows = k.follows;
       left = k.left;
       in_order = k.in_order;
       ended = k.ended;
-      next = subst (MayBeTold r.before) (sym more) (record {
-        sorted = sorted_after (operations r.kept) (t.op ∷ []) now k.next.sorted (sorted_one t.op can.lasting)
-            (All-weaker (EndedWithin r.since now) (λ (op : Observed). op.end ≤ now) (λ op e. e.1) (operations r.kept) k.ends) (one (λ op. now ≤ op.end) can.ends);
-        each = All-push (CanBeTold r.before) (operations r.kept) t.op k.next.each
+      next = record {
+        sorted = sorted_after r.kept (t ∷ []) now k.next.sorted (sorted_one t can.lasting)
+            (All-weaker (EndedWithin r.since now) (λ (op : Operation). op.end ≤ now) (λ op e. e.1) r.kept k.ends) (one (λ op. now ≤ op.end) can.ends);
+        each = All-push (CanBeTold r.before) r.kept t k.next.each
             (record { lasting = can.lasting; starts = omega (arith, k.horizon_by, can.starts); ends = omega (arith, k.latest_by, can.ends) });
-      });
-      within = subst (All LiesWithin) (sym more) (All-push LiesWithin (operations r.kept) t.op k.within can.within);
-      ends = subst (All (EndedWithin r.since t.op.end)) (sym more)
-          (All-push (EndedWithin r.since t.op.end) (operations r.kept) t.op
-          (All-weaker (EndedWithin r.since now) (EndedWithin r.since t.op.end) (λ op e. (e.0, omega (arith, e.1, can.ends))) (operations r.kept) k.ends)
-          (omega (arith, k.since_by, can.starts, can.lasting), omega arith));
-      late = All-nil (λ (op : Observed). r.horizon ≤ op.start);
+      };
+      within = All-push LiesWithin r.kept t k.within can.within;
+      ends =
+          All-push (EndedWithin r.since t.end) r.kept t
+          (All-weaker (EndedWithin r.since now) (EndedWithin r.since t.end) (λ op e. (e.0, omega (arith, e.1, can.ends))) r.kept k.ends)
+          (omega (arith, k.since_by, can.starts, can.lasting), omega arith);
+      late = All-nil (λ (op : Operation). r.horizon ≤ op.start);
       goes_on = λ is. refl;
       since_by = k.since_by;
       past = omega (arith, k.past, can.ends);
@@ -120,24 +119,21 @@ module _ (words : List ℕ) (told : List Observed) (now : ℕ) (r : RecentValue)
       explained = still_explained;
       stopped = λ is. absurd (true≢false (sym is ∙ goes));
     }
-      where
-        more : operations (r.kept ++ t ∷ []) ≡ operations r.kept ++ t.op ∷ []
-        more = map-append (λ (s : Traced). s.op) r.kept (t ∷ [])
 
-    pub keeps_stopped : r.is_stopped ≡ true → Keeps words (told ++ t.op ∷ []) t.op.end r
+    pub keeps_stopped : r.is_stopped ≡ true → Keeps words (told ++ t ∷ []) t.end r
     keeps_stopped is = record {
       earlier = k.earlier;
-      later = k.later ++ t.op ∷ [];
-      parts = ap (λ (l : List Observed). l ++ t.op ∷ []) k.parts ∙ (append_assoc k.earlier (operations r.kept ++ k.later) (t.op ∷ [])
-          ∙ ap (λ (l : List Observed). k.earlier ++ l) (append_assoc (operations r.kept) k.later (t.op ∷ [])));
+      later = k.later ++ t ∷ [];
+      parts = ap (λ (l : List Operation). l ++ t ∷ []) k.parts ∙ (append_assoc k.earlier (r.kept ++ k.later) (t ∷ [])
+          ∙ ap (λ (l : List Operation). k.earlier ++ l) (append_assoc r.kept k.later (t ∷ [])));
       follows = k.follows;
       left = k.left;
       in_order = k.in_order;
       ended = k.ended;
       next = k.next;
       within = k.within;
-      ends = All-weaker (EndedWithin r.since now) (EndedWithin r.since t.op.end) (λ op e. (e.0, omega (arith, e.1, can.ends))) (operations r.kept) k.ends;
-      late = All-push (λ (op : Observed). r.horizon ≤ op.start) k.later t.op k.late can.starts;
+      ends = All-weaker (EndedWithin r.since now) (EndedWithin r.since t.end) (λ op e. (e.0, omega (arith, e.1, can.ends))) r.kept k.ends;
+      late = All-push (λ (op : Operation). r.horizon ≤ op.start) k.later t k.late can.starts;
       goes_on = λ goes. absurd (true≢false (sym is ∙ goes));
       since_by = k.since_by;
       past = omega (arith, k.past, can.ends);
@@ -146,7 +142,7 @@ module _ (words : List ℕ) (told : List Observed) (now : ℕ) (r : RecentValue)
       explained = still_explained;
       stopped = λ so.
           let none = k.stopped so in
-          (none.0, none.1, λ v leads. none.2 v (subst (λ (l : List Observed). SomeLeads l words v) (cut_more none.0 told t.op (omega (arith, none.1, can.starts))) leads));
+          (none.0, none.1, λ v leads. none.2 v (subst (λ (l : List Operation). SomeLeads l words v) (cut_more none.0 told t (omega (arith, none.1, can.starts))) leads));
     }
 
   -- no order explains what was told up to the time before a later horizon
@@ -155,7 +151,7 @@ module _ (words : List ℕ) (told : List Observed) (now : ℕ) (r : RecentValue)
   keeps_none horizon goes below none = record {
     earlier = k.earlier;
     later = [];
-    parts = told_kept goes ∙ ap (λ (l : List Observed). k.earlier ++ l) (sym (append-nil (operations r.kept)));
+    parts = told_kept goes ∙ ap (λ (l : List Operation). k.earlier ++ l) (sym (append-nil r.kept));
     follows = k.follows;
     left = k.left;
     in_order = k.in_order;
@@ -163,7 +159,7 @@ module _ (words : List ℕ) (told : List Observed) (now : ℕ) (r : RecentValue)
     next = k.next;
     within = k.within;
     ends = k.ends;
-    late = All-nil (λ (op : Observed). horizon ≤ op.start);
+    late = All-nil (λ (op : Operation). horizon ≤ op.start);
     goes_on = λ is. refl;
     since_by = omega (arith, k.since_by, below);
     past = k.past;
@@ -174,30 +170,27 @@ module _ (words : List ℕ) (told : List Observed) (now : ℕ) (r : RecentValue)
   }
 
   -- those that ended before a horizon are left to the search before the others
-  pub keeps_fewer : (horizon count : ℕ) (before : FrontierValue) (left : List Traced) → left ≡ last_of 16 (r.left ++ take count r.kept) → IsNextHorizon words told now r horizon
-      → All (λ op. op.end < horizon) (take count (operations r.kept)) → (count < length (operations r.kept) → horizon ≤ (at (operations r.kept) count).end)
-      → Follows words (k.earlier ++ take count (operations r.kept)) before → MayBeTold before (drop count (operations r.kept)) → before.horizon ≤ horizon → before.latest ≤ now
+  pub keeps_fewer : (horizon count : ℕ) (before : FrontierValue) (left : List Operation) → left ≡ last_of 16 (r.left ++ take count r.kept) → IsNextHorizon words told now r horizon
+      → All (λ op. op.end < horizon) (take count r.kept) → (count < length r.kept → horizon ≤ (at r.kept count).end)
+      → Follows words (k.earlier ++ take count r.kept) before → MayBeTold before (drop count r.kept) → before.horizon ≤ horizon → before.latest ≤ now
       → Keeps words told now (record { before = before; left = left; kept = drop count r.kept; since = horizon; horizon = horizon; is_stopped = r.is_stopped })
   keeps_fewer horizon count before left left_is is ended first follows next horizon_by latest_by = record {
     earlier = k.earlier ++ take count ops;
     later = [];
-    parts = told_kept is.goes_on ∙ (ap (λ (l : List Observed). k.earlier ++ l) (sym (take-append-drop count ops)) ∙ (sym (append_assoc k.earlier (take count ops) (drop count ops))
-        ∙ ap (λ (l : List Observed). (k.earlier ++ take count ops) ++ l) (sym rest ∙ sym (append-nil (operations (drop count r.kept))))));
+    parts = told_kept is.goes_on ∙ (ap (λ (l : List Operation). k.earlier ++ l) (sym (take-append-drop count ops)) ∙ (sym (append_assoc k.earlier (take count ops) (drop count ops))
+        ∙ ap (λ (l : List Operation). (k.earlier ++ take count ops) ++ l) (sym (append-nil (drop count r.kept)))));
     follows = follows;
-    left = ap operations left_is ∙ (operations_last 16 (r.left ++ take count r.kept)
-        ∙ (ap (last_of 16) (map-append (λ (t : Traced). t.op) r.left (take count r.kept)
-        ∙ ap₂ (λ (a b : List Observed). a ++ b) k.left (sym (take-map (λ (t : Traced). t.op) count r.kept)))
-        ∙ last_more 16 k.earlier (take count ops)));
+    left = left_is ∙ (ap (λ (a : List Operation). last_of 16 (a ++ take count ops)) k.left ∙ last_more 16 k.earlier (take count ops));
     in_order = pairs_append k.earlier (take count ops) k.in_order (pairs_take count ops (pairs_by_end ops k.next.sorted.0))
-        (All-weaker (EndedBefore r.since) (λ (op : Observed). All (EndsNoLater op) (take count ops))
+        (All-weaker (EndedBefore r.since) (λ (op : Operation). All (EndsNoLater op) (take count ops))
         (λ op e. All-take (EndsNoLater op) count ops (All-weaker (EndedWithin r.since now) (EndsNoLater op) (λ other from. omega (arith, e.1, from.0)) ops k.ends)) k.earlier k.ended);
     ended = All-append (EndedBefore horizon) k.earlier (take count ops)
         (All-weaker (EndedBefore r.since) (EndedBefore horizon) (λ op e. (e.0, omega (arith, e.1, k.since_by, is.later))) k.earlier k.ended)
-        (λ i d below. (All-take (λ (op : Observed). op.start ≤ op.end) count ops k.next.sorted.1 i d below, ended i d below));
-    next = subst (MayBeTold before) (sym rest) next;
-    within = subst (All LiesWithin) (sym rest) (All-drop LiesWithin count ops k.within);
-    ends = subst (All (EndedWithin horizon now)) (sym rest) (λ i d below. (late i d below, (All-drop (EndedWithin r.since now) count ops k.ends i d below).1));
-    late = All-nil (λ (op : Observed). horizon ≤ op.start);
+        (λ i d below. (All-take (λ (op : Operation). op.start ≤ op.end) count ops k.next.sorted.1 i d below, ended i d below));
+    next = next;
+    within = All-drop LiesWithin count ops k.within;
+    ends = λ i d below. (late i d below, (All-drop (EndedWithin r.since now) count ops k.ends i d below).1);
+    late = All-nil (λ (op : Operation). horizon ≤ op.start);
     goes_on = λ goes. refl;
     since_by = omega arith;
     past = is.past;
@@ -207,18 +200,15 @@ module _ (words : List ℕ) (told : List Observed) (now : ℕ) (r : RecentValue)
     stopped = λ so. absurd (true≢false (sym so ∙ is.goes_on));
   }
     where
-      ops : List Observed
-      ops = operations r.kept
+      ops : List Operation
+      ops = r.kept
 
-      rest : operations (drop count r.kept) ≡ drop count ops
-      rest = sym (drop-map (λ (t : Traced). t.op) count r.kept)
-
-      late : (i : ℕ) (d : Observed) → i < length (drop count ops) → horizon ≤ (get_or (drop count ops) i d).end
+      late : (i : ℕ) (d : Operation) → i < length (drop count ops) → horizon ≤ (get_or (drop count ops) i d).end
       late i d below =
           let place : count + i < length ops = omega (arith, below, length-drop count ops) in
           let from : horizon ≤ (at ops count).end = first (omega (arith, place)) in
           let sorted : (at ops count).end ≤ (at ops (count + i)).end = k.next.sorted.0 count (count + i) (omega arith) place in
           let same : get_or (drop count ops) i d ≡ get_or ops (count + i) d = get_or-drop count ops i d in
           let default : get_or ops (count + i) d ≡ at ops (count + i) = get_or_default ops (count + i) d nothing place in
-          let end : (get_or (drop count ops) i d).end ≡ (at ops (count + i)).end = ap (λ (o : Observed). o.end) (same ∙ default) in
+          let end : (get_or (drop count ops) i d).end ≡ (at ops (count + i)).end = ap (λ (o : Operation). o.end) (same ∙ default) in
           omega (arith, from, sorted, end)

@@ -1,14 +1,12 @@
 -- the last of a list, and operations in the order of their ends
-use Rattle.std.proofs.Common.{◌≡◌, ℕ, zero, suc, ◌+◌, ◌-◌, ◌<◌, ◌≤◌, List, [], ◌∷◌, ◌++◌, All, drop, drop-drop, get_or, get_or-take, length, length-append, length-drop, length-take, map, take, refl, sym, ap, subst, ◌∙◌, arith}
+use Rattle.std.proofs.Common.{◌≡◌, ℕ, zero, suc, ◌+◌, ◌-◌, List, [], ◌∷◌, ◌++◌, All, drop, drop-drop, get_or, get_or-take, length, length-append, length-drop, length-take, take, sym, ap, subst, ◌∙◌, arith}
 use Rattle.std.specs.List.{AllPairs}
-use Rattle.std.proofs.lemmas.List.{drop-append-le, drop-map, get_or_default, length-map}
+use Rattle.std.proofs.lemmas.List.{drop-append-le, get_or_default}
 use Rattle.std.proofs.lemmas.List.Elements.{All-append, All-head, All-tail}
 use Rattle.std.proofs.lemmas.List.Kept.{AllPairs-cons}
 use Rattle.chi_search.specs.Searchable.{AreByEnd}
-use Rattle.chi_trace.specs.declared.observed.Observed.{Observed}
+use Rattle.chi_trace.specs.declared.operation.Operation.{Operation}
 use Rattle.chi_trace.specs.Explains.{at, nothing}
-use Rattle.chi_recent.specs.declared.traced.Traced.{Traced}
-use Rattle.chi_recent.specs.Recent.{operations}
 use Rattle.chi_recent.specs.Shown.{EndsNoLater, last_of}
 
 -- the last of the last of a list and of more are the last of the whole
@@ -21,27 +19,22 @@ last_more {X} most xs ys =
     counted : (length xs - most) + (length (drop (length xs - most) (xs ++ ys)) - most) ≡ length (xs ++ ys) - most
     counted = omega (arith, length-drop (length xs - most) (xs ++ ys), length-append xs ys)
 
-pub operations_last : (most : ℕ) (kept : List Traced) → operations (last_of most kept) ≡ last_of most (operations kept)
-operations_last most kept =
-    sym (drop-map (λ (t : Traced). t.op) (length kept - most) kept)
-    ∙ ap (λ (n : ℕ). drop (n - most) (operations kept)) (sym (length-map kept (λ (t : Traced). t.op)))
-
 -- one list after the other
-pub pairs_append : (xs ys : List Observed) → AllPairs EndsNoLater xs → AllPairs EndsNoLater ys → All (λ op. All (EndsNoLater op) ys) xs → AllPairs EndsNoLater (xs ++ ys)
+pub pairs_append : (xs ys : List Operation) → AllPairs EndsNoLater xs → AllPairs EndsNoLater ys → All (λ op. All (EndsNoLater op) ys) xs → AllPairs EndsNoLater (xs ++ ys)
 pairs_append [] ys first then both = then
 pairs_append (x ∷ xs) ys first then both =
     AllPairs-cons EndsNoLater x (xs ++ ys)
-    (All-append (EndsNoLater x) xs ys (λ k d below. first zero (suc k) d (omega arith) (omega arith)) (All-head (λ (op : Observed). All (EndsNoLater op) ys) x xs both))
-    (pairs_append xs ys (λ i j d from below. first (suc i) (suc j) d (omega arith) (omega arith)) then (All-tail (λ (op : Observed). All (EndsNoLater op) ys) x xs both))
+    (All-append (EndsNoLater x) xs ys (λ k d below. first zero (suc k) d (omega arith) (omega arith)) (All-head (λ (op : Operation). All (EndsNoLater op) ys) x xs both))
+    (pairs_append xs ys (λ i j d from below. first (suc i) (suc j) d (omega arith) (omega arith)) then (All-tail (λ (op : Operation). All (EndsNoLater op) ys) x xs both))
 
 -- operations in the order of their ends
-pub pairs_by_end : (ops : List Observed) → AreByEnd ops → AllPairs EndsNoLater ops
+pub pairs_by_end : (ops : List Operation) → AreByEnd ops → AllPairs EndsNoLater ops
 pairs_by_end ops sorted i j d from below =
-    let one : (at ops i).end ≡ (get_or ops i d).end = ap (λ (o : Observed). o.end) (sym (get_or_default ops i d nothing (omega (arith, from, below)))) in
-    let other : (at ops j).end ≡ (get_or ops j d).end = ap (λ (o : Observed). o.end) (sym (get_or_default ops j d nothing below)) in
+    let one : (at ops i).end ≡ (get_or ops i d).end = ap (λ (o : Operation). o.end) (sym (get_or_default ops i d nothing (omega (arith, from, below)))) in
+    let other : (at ops j).end ≡ (get_or ops j d).end = ap (λ (o : Operation). o.end) (sym (get_or_default ops j d nothing below)) in
     omega (arith, one, other, sorted i j (omega (arith, from)) below)
 
-pub pairs_take : (count : ℕ) (ops : List Observed) → AllPairs EndsNoLater ops → AllPairs EndsNoLater (take count ops)
+pub pairs_take : (count : ℕ) (ops : List Operation) → AllPairs EndsNoLater ops → AllPairs EndsNoLater (take count ops)
 pairs_take zero ops pairs = λ i j d from below. absurd (omega (arith, below))
 pairs_take (suc count) [] pairs = pairs
 pairs_take (suc count) (op ∷ ops) pairs =

@@ -2,7 +2,7 @@
 use Rattle.std.proofs.Common.{◌≡◌, ℕ, List, ◌∷◌, IfOk, arith}
 use Rattle.std.specs.Prelude.{Result, Ok, Err}
 use Rattle.std.proofs.lemmas.List.Elements.{All-head, All-tail, All-weaker}
-use Rattle.chi_trace.specs.declared.observed.Observed.{Observed}
+use Rattle.chi_trace.specs.declared.operation.Operation.{Operation}
 use Rattle.chi_search.specs.declared.words.Words.{Words}
 use Rattle.chi_search.specs.declared.words.Words.TheVariants.{Each, Unknown}
 use Rattle.chi_search.specs.Found.{IfUnknown, IfWords}
@@ -13,7 +13,7 @@ use Rattle.chi_recent.specs.Reaches.{IfUndecided}
 use Rattle.chi_recent.proofs.Cutting.{ends_after, sorted_tail}
 
 -- a search of the same times may be told the same
-pub may_same : (f next : FrontierValue) (rest : List Observed) → next.horizon ≡ f.horizon → next.latest ≡ f.latest → MayBeTold f rest → MayBeTold next rest
+pub may_same : (f next : FrontierValue) (rest : List Operation) → next.horizon ≡ f.horizon → next.latest ≡ f.latest → MayBeTold f rest → MayBeTold next rest
 may_same f next rest horizon latest may = record {
   sorted = may.sorted;
   each = All-weaker (CanBeTold f) (CanBeTold next)
@@ -21,7 +21,7 @@ may_same f next rest horizon latest may = record {
 }
 
 -- once the first was told the rest may be
-pub may_rest : (f next : FrontierValue) (op : Observed) (rest : List Observed) → next.horizon ≡ f.horizon → next.latest ≡ op.end → MayBeTold f (op ∷ rest) → MayBeTold next rest
+pub may_rest : (f next : FrontierValue) (op : Operation) (rest : List Operation) → next.horizon ≡ f.horizon → next.latest ≡ op.end → MayBeTold f (op ∷ rest) → MayBeTold next rest
 may_rest f next op rest horizon latest may = record {
   sorted = sorted_tail op rest may.sorted;
   each = λ i d below.
@@ -31,7 +31,7 @@ may_rest f next op rest horizon latest may = record {
 }
 
 -- the first may be told
-pub may_first : (f : FrontierValue) (op : Observed) (rest : List Observed) → MayBeTold f (op ∷ rest) → CanBeTold f op
+pub may_first : (f : FrontierValue) (op : Operation) (rest : List Operation) → MayBeTold f (op ∷ rest) → CanBeTold f op
 may_first f op rest may = All-head (CanBeTold f) op rest may.each
 
 -- what follows of words, and of words that are not known

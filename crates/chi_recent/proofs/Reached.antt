@@ -1,12 +1,12 @@
 -- what the operations that were told say of a granule of a trace, and up to which times they are explained
-use Rattle.std.proofs.Common.{◌≡◌, ℕ, ◌+◌, ◌-◌, ◌<◌, ◌≤◌, ◌==◌, ◌&&◌, nat_le, Bool, true, false, List, [], ◌∷◌, ◌++◌, All, IsTrue, ◌↔◌, filter, get_or, length, take, append-nil, refl, sym, ap, subst, ◌∙◌, ⊎_elim, arith, true≢false, ltb-true}
+use Rattle.std.proofs.Common.{◌≡◌, ℕ, ◌+◌, ◌-◌, ◌<◌, ◌≤◌, ◌==◌, ◌&&◌, nat_le, Bool, true, false, List, [], ◌∷◌, ◌++◌, All, ◌↔◌, filter, get_or, length, take, append-nil, refl, sym, ap, subst, ◌∙◌, ⊎_elim, arith, true≢false, ltb-true}
 use Rattle.std.specs.Prelude.{IsPermutation}
 use Rattle.std.specs.List.{Contains}
 use Rattle.std.proofs.lemmas.Bool.{and_from, and_parts, cases_lt, le-leb, lt-leb}
-use Rattle.std.proofs.lemmas.List.{get_or-map, get_or-take, get_or_default, length-map, length-take-le}
+use Rattle.std.proofs.lemmas.List.{get_or-take, get_or_default, length-take-le}
 use Rattle.std.proofs.lemmas.List.Elements.{All-append, All-contains, All-nil, All-weaker, filter-append}
-use Rattle.std.proofs.lemmas.List.Sorted.{All-permutation, Contains-permutation, IsPermutation-map, IsPermutation-sym, IsPermutation-trans}
-use Rattle.chi_trace.specs.declared.observed.Observed.{Observed}
+use Rattle.std.proofs.lemmas.List.Sorted.{All-permutation, Contains-permutation, IsPermutation-sym, IsPermutation-trans}
+use Rattle.chi_trace.specs.declared.operation.Operation.{Operation}
 use Rattle.chi_trace.specs.Chosen.{GranulesTold, is_in}
 use Rattle.chi_trace.specs.Cuts.{cut}
 use Rattle.chi_trace.specs.Explains.{at, is_answered, is_place, nothing}
@@ -15,38 +15,37 @@ use Rattle.chi_trace.proofs.Orders.{observed_at}
 use Rattle.chi_search.specs.Frontiers.{Follows, FrontierValue}
 use Rattle.chi_search.specs.Layers.{SomeLeads}
 use Rattle.chi_verdict.proofs.Later.{later_explains, none_needed}
-use Rattle.chi_recent.specs.declared.traced.Traced.{Traced}
 use Rattle.chi_recent.specs.Reaches.{CanLeave, IsRecentOf, is_open_at}
-use Rattle.chi_recent.specs.Recent.{EndedBefore, EndedWithin, Keeps, RecentValue, operations}
-use Rattle.chi_recent.specs.Searches.{AreSeen, AreWordsBy, IsExplained, IsSeen, IsUnexplained, is_during, is_traced_during}
+use Rattle.chi_recent.specs.Recent.{EndedBefore, EndedWithin, Keeps, RecentValue}
+use Rattle.chi_recent.specs.Searches.{AreSeen, AreWordsBy, IsExplained, IsSeen, IsUnexplained, is_during}
 use Rattle.chi_recent.proofs.Cutting.{EndedBy, cut_whole}
 use Rattle.chi_recent.proofs.Keeping.{cut_kept, late_after}
 use Rattle.chi_recent.proofs.Leading.{explained_from, leads_from, leaves_from, leaves_some, moved_cut}
 use Rattle.chi_search.proofs.Sets.{Contains-filter, passed}
-use Rattle.chi_recent.proofs.Lists.{IsPermutation-filter, filter_both, filter_map_comes, filter_none}
+use Rattle.chi_recent.proofs.Lists.{IsPermutation-filter, filter_both, filter_none}
 
 -- what holds at each place
-by_place : (P : Observed → Type 0) (ops : List Observed) → ((i : ℕ) → i < length ops → P (at ops i)) → All P ops
+by_place : (P : Operation → Type 0) (ops : List Operation) → ((i : ℕ) → i < length ops → P (at ops i)) → All P ops
 by_place P ops each i d below = subst P (sym (get_or_default ops i d nothing below)) (each i below)
 
 -- those that end before the horizon
-pub seen_before : (r : RecentValue) (ops : List Observed) (count : ℕ) → count ≤ length ops → All (λ op. op.end < r.horizon) (take count ops) → AreSeen r ops count
+pub seen_before : (r : RecentValue) (ops : List Operation) (count : ℕ) → count ≤ length ops → All (λ op. op.end < r.horizon) (take count ops) → AreSeen r ops count
 seen_before r ops count within before i below stopped =
-    subst (λ (o : Observed). o.end < r.horizon) (get_or-take count ops i nothing below) (before i nothing (omega (arith, below, within, length-take-le count ops within)))
+    subst (λ (o : Operation). o.end < r.horizon) (get_or-take count ops i nothing below) (before i nothing (omega (arith, below, within, length-take-le count ops within)))
 
-module _ (law : GranulesTold) (trace : List Observed) (g w : ℕ) (r : RecentValue) (is : IsRecentOf trace g w r) where
+module _ (law : GranulesTold) (trace : List Operation) (g w : ℕ) (r : RecentValue) (is : IsRecentOf trace g w r) where
   abbrev k : Keeps (w ∷ []) is.told is.now r
   k = is.keeps
 
-  abbrev ops : List Observed
-  ops = operations r.kept
+  abbrev ops : List Operation
+  ops = r.kept
 
   -- the words that are left up to a time, by the operations that are kept
   pub words_seen : (time : ℕ) → IsSeen r time → (v : ℕ)
       → (SomeLeads (k.earlier ++ cut time ops) (w ∷ []) v → CanLeave (cut time trace) g w v) × (CanLeave (cut time trace) g w v → SomeLeads (k.earlier ++ cut time ops) (w ∷ []) v)
   words_seen time seen v = (
-    λ leads. leaves_from law (cut time trace) (cut time is.told) g w v moved (subst (λ (l : List Observed). SomeLeads l (w ∷ []) v) (sym same) leads),
-    λ can. subst (λ (l : List Observed). SomeLeads l (w ∷ []) v) same (leads_from law (cut time trace) (cut time is.told) g w v moved can),
+    λ leads. leaves_from law (cut time trace) (cut time is.told) g w v moved (subst (λ (l : List Operation). SomeLeads l (w ∷ []) v) (sym same) leads),
+    λ can. subst (λ (l : List Operation). SomeLeads l (w ∷ []) v) same (leads_from law (cut time trace) (cut time is.told) g w v moved can),
   )
     where
       moved : IsPermutation (filter (is_in g) (cut time trace)) (cut time is.told)
@@ -56,17 +55,17 @@ module _ (law : GranulesTold) (trace : List Observed) (g w : ℕ) (r : RecentVal
       same = cut_kept (w ∷ []) is.told is.now r k time seen.since seen.before
 
   told_whole : r.is_stopped ≡ false → is.told ≡ k.earlier ++ ops
-  told_whole goes = k.parts ∙ ap (λ (l : List Observed). k.earlier ++ l) (ap (λ (l : List Observed). ops ++ l) (k.goes_on goes) ∙ append-nil ops)
+  told_whole goes = k.parts ∙ ap (λ (l : List Operation). k.earlier ++ l) (ap (λ (l : List Operation). ops ++ l) (k.goes_on goes) ∙ append-nil ops)
 
   pub words_whole : r.is_stopped ≡ false → (v : ℕ)
       → (SomeLeads (k.earlier ++ ops) (w ∷ []) v → CanLeave trace g w v) × (CanLeave trace g w v → SomeLeads (k.earlier ++ ops) (w ∷ []) v)
   words_whole goes v = (
-    λ leads. leaves_from law trace is.told g w v is.moved (subst (λ (l : List Observed). SomeLeads l (w ∷ []) v) (sym (told_whole goes)) leads),
-    λ can. subst (λ (l : List Observed). SomeLeads l (w ∷ []) v) (told_whole goes) (leads_from law trace is.told g w v is.moved can),
+    λ leads. leaves_from law trace is.told g w v is.moved (subst (λ (l : List Operation). SomeLeads l (w ∷ []) v) (sym (told_whole goes)) leads),
+    λ can. subst (λ (l : List Operation). SomeLeads l (w ∷ []) v) (told_whole goes) (leads_from law trace is.told g w v is.moved can),
   )
 
   -- what holds of each that was told holds of each operation of the granule
-  each_told : (P : Observed → Type 0) → All P is.told → (i : ℕ) → is_of trace g i ≡ true → P (at trace i)
+  each_told : (P : Operation → Type 0) → All P is.told → (i : ℕ) → is_of trace g i ≡ true → P (at trace i)
   each_told P all i own =
       let parts = and_parts (is_place trace i) (granule_of (at trace i) == g) own in
       passed (is_in g) P trace (All-permutation P is.told (filter (is_in g) trace) (IsPermutation-sym (filter (is_in g) trace) is.told is.moved) all)
@@ -75,7 +74,7 @@ module _ (law : GranulesTold) (trace : List Observed) (g w : ℕ) (r : RecentVal
   lasting : (i : ℕ) → is_of trace g i ≡ true → (at trace i).start ≤ (at trace i).end
   lasting i own = (observed_at trace i is.traced (and_parts (is_place trace i) (granule_of (at trace i) == g) own).0).lasting
 
-  all_parts : (P : Observed → Type 0) → All P k.earlier → All P ops → All P k.later → All P is.told
+  all_parts : (P : Operation → Type 0) → All P k.earlier → All P ops → All P k.later → All P is.told
   all_parts P first middle last = subst (All P) (sym k.parts) (All-append P k.earlier (ops ++ k.later) first (All-append P ops k.later middle last))
 
   -- none is answered between two times
@@ -84,34 +83,34 @@ module _ (law : GranulesTold) (trace : List Observed) (g w : ℕ) (r : RecentVal
   goes_on early late le first second none (order, explains) =
       (order, later_explains trace g w early late order is.traced le (λ i own. each_told Lasts all i own (lasting i own)) explains)
     where
-      Lasts : Observed → Type 0
+      Lasts : Operation → Type 0
       Lasts op = op.start ≤ op.end → is_answered op ≡ true → early < op.end → late < op.end
 
       all : All Lasts is.told
       all = all_parts Lasts
           (All-weaker (EndedBefore r.since) Lasts (λ op e long seen after. absurd (omega (arith, e.1, after, first.since))) k.earlier k.ended)
-          (All-weaker (λ (op : Observed). is_answered op ≡ true → early < op.end → late < op.end) Lasts (λ op n long seen after. n seen after) ops none)
-          (All-weaker (λ (op : Observed). late < op.start) Lasts (λ op n long seen after. omega (arith, n, long)) k.later (late_after (w ∷ []) is.told is.now r k late second.before))
+          (All-weaker (λ (op : Operation). is_answered op ≡ true → early < op.end → late < op.end) Lasts (λ op n long seen after. n seen after) ops none)
+          (All-weaker (λ (op : Operation). late < op.start) Lasts (λ op n long seen after. omega (arith, n, long)) k.later (late_after (w ∷ []) is.told is.now r k late second.before))
 
   -- none is answered by a time
   pub begins : (time : ℕ) → IsSeen r time → All (λ op. is_answered op ≡ true → time < op.end) ops → IsExplained time trace g w
   begins time seen none = ⊎_elim some_before (λ zero_since. ([], none_needed trace g w time is.traced (λ i own. each_told Lasts (all zero_since) i own (lasting i own)))) (cases_lt 0 r.since)
     where
-      Lasts : Observed → Type 0
+      Lasts : Operation → Type 0
       Lasts op = op.start ≤ op.end → is_answered op ≡ true → time < op.end
 
       all : r.since ≤ 0 → All Lasts is.told
       all zero_since = all_parts Lasts
           (All-weaker (EndedBefore r.since) Lasts (λ op e long answered. absurd (omega (arith, e.1, zero_since))) k.earlier k.ended)
-          (All-weaker (λ (op : Observed). is_answered op ≡ true → time < op.end) Lasts (λ op n long answered. n answered) ops none)
-          (All-weaker (λ (op : Observed). time < op.start) Lasts (λ op n long answered. omega (arith, n, long)) k.later (late_after (w ∷ []) is.told is.now r k time seen.before))
+          (All-weaker (λ (op : Operation). is_answered op ≡ true → time < op.end) Lasts (λ op n long answered. n answered) ops none)
+          (All-weaker (λ (op : Operation). time < op.start) Lasts (λ op n long answered. omega (arith, n, long)) k.later (late_after (w ∷ []) is.told is.now r k time seen.before))
 
       some_before : 0 < r.since → IsExplained time trace g w
       some_before some =
           let before = r.since - 1 in
           let led = k.explained before (omega (arith, some)) in
           goes_on before time (omega (arith, seen.since)) (record { since = omega (arith, some); before = λ stopped. omega (arith, some, seen.since, seen.before stopped) }) seen
-          (All-weaker (λ (op : Observed). is_answered op ≡ true → time < op.end) (λ (op : Observed). is_answered op ≡ true → before < op.end → time < op.end) (λ op n answered after. n answered) ops none)
+          (All-weaker (λ (op : Operation). is_answered op ≡ true → time < op.end) (λ (op : Operation). is_answered op ≡ true → before < op.end → time < op.end) (λ op n answered after. n answered) ops none)
           (explained_from before trace g w led.0
           (leaves_from law (cut before trace) (cut before is.told) g w led.0 (moved_cut before g trace is.told is.moved) led.1))
 
@@ -122,7 +121,7 @@ module _ (law : GranulesTold) (trace : List Observed) (g w : ℕ) (r : RecentVal
   last_of late seen unexplained count within after by = (⊎_elim (λ some. some) (λ zero_count. absurd (unexplained (nothing_yet zero_count))) (cases_lt 0 count), not_then)
     where
       nothing_yet : count ≤ 0 → IsExplained late trace g w
-      nothing_yet zero_count = begins late seen (by_place (λ (op : Observed). is_answered op ≡ true → late < op.end) ops (λ i below answered. after i (omega (arith, zero_count)) below))
+      nothing_yet zero_count = begins late seen (by_place (λ (op : Operation). is_answered op ≡ true → late < op.end) ops (λ i below answered. after i (omega (arith, zero_count)) below))
 
       not_then : IsExplained (at ops (count - 1)).end trace g w → ⊥
       not_then explained = ⊎_elim some_there (λ zero_count. unexplained (nothing_yet zero_count)) (cases_lt 0 count)
@@ -134,7 +133,7 @@ module _ (law : GranulesTold) (trace : List Observed) (g w : ℕ) (r : RecentVal
               let from : r.since ≤ (at ops (count - 1)).end = (k.ends (count - 1) nothing place).0 in
               unexplained (goes_on (at ops (count - 1)).end late ended
               (record { since = omega (arith, from); before = λ stopped. omega (arith, ended, seen.before stopped) }) seen
-              (by_place (λ (op : Observed). is_answered op ≡ true → (at ops (count - 1)).end < op.end → late < op.end) ops
+              (by_place (λ (op : Operation). is_answered op ≡ true → (at ops (count - 1)).end < op.end → late < op.end) ops
               (λ i below answered later. ⊎_elim
               (λ first. let sorted = k.next.sorted.0 i (count - 1) (omega (arith, first)) place in absurd (omega (arith, sorted, later)))
               (λ rest. after i rest below)
@@ -172,7 +171,7 @@ module _ (law : GranulesTold) (trace : List Observed) (g w : ℕ) (r : RecentVal
       unexplained explained =
           let left = leaves_some is.now trace g w explained in
           none left.0 (leaves_from law trace is.told g w left.0 is.moved
-          (subst (λ (l : List Observed). SomeLeads l (w ∷ []) left.0) (cut_whole is.now is.told ended)
+          (subst (λ (l : List Operation). SomeLeads l (w ∷ []) left.0) (cut_whole is.now is.told ended)
           (leads_from law (cut is.now trace) (cut is.now is.told) g w left.0 (moved_cut is.now g trace is.told is.moved) left.1)))
 
   -- an end up to which those that are kept are all
@@ -194,7 +193,7 @@ module _ (law : GranulesTold) (trace : List Observed) (g w : ℕ) (r : RecentVal
       where
         none_first : place ≤ 0 → IsExplained earlier trace g w
         none_first zero_place = begins earlier (earlier_seen earlier next)
-            (by_place (λ (op : Observed). is_answered op ≡ true → earlier < op.end) ops
+            (by_place (λ (op : Operation). is_answered op ≡ true → earlier < op.end) ops
             (λ i below answered. let sorted = k.next.sorted.0 place i (omega (arith, zero_place)) below in omega (arith, sorted, next)))
 
         some_first : 0 < place → IsExplained earlier trace g w
@@ -217,7 +216,7 @@ module _ (law : GranulesTold) (trace : List Observed) (g w : ℕ) (r : RecentVal
             apart : (at ops (place - 1)).end ≤ earlier → IsExplained earlier trace g w
             apart le = goes_on (at ops (place - 1)).end earlier le
                 (record { since = omega (arith, from); before = seen (place - 1) (omega arith) }) (earlier_seen earlier next)
-                (by_place (λ (op : Observed). is_answered op ≡ true → (at ops (place - 1)).end < op.end → earlier < op.end) ops
+                (by_place (λ (op : Operation). is_answered op ≡ true → (at ops (place - 1)).end < op.end → earlier < op.end) ops
                 (λ i below answered after. ⊎_elim
                 (λ less. let order = k.next.sorted.0 i (place - 1) (omega (arith, less)) (omega (arith, within)) in absurd (omega (arith, order, after)))
                 (λ more. let order = k.next.sorted.0 place i more below in omega (arith, order, next))
@@ -240,24 +239,24 @@ module _ (law : GranulesTold) (trace : List Observed) (g w : ℕ) (r : RecentVal
 
         no_time : time ≤ 0 → IsExplained time trace g w
         no_time zero_time = begins time here
-            (All-weaker (λ (op : Observed). is_answered op ≡ true → op.end ≡ time → ⊥) (λ (op : Observed). is_answered op ≡ true → time < op.end)
+            (All-weaker (λ (op : Operation). is_answered op ≡ true → op.end ≡ time → ⊥) (λ (op : Operation). is_answered op ≡ true → time < op.end)
             (λ op n answered. apart op.end (omega (arith, zero_time)) (n answered)) ops none)
 
         some_time : 0 < time → IsExplained time trace g w
         some_time some = goes_on (time - 1) time (omega arith) (earlier_seen (time - 1) (omega (arith, some))) here
-            (All-weaker (λ (op : Observed). is_answered op ≡ true → op.end ≡ time → ⊥) (λ (op : Observed). is_answered op ≡ true → time - 1 < op.end → time < op.end)
+            (All-weaker (λ (op : Operation). is_answered op ≡ true → op.end ≡ time → ⊥) (λ (op : Operation). is_answered op ≡ true → time - 1 < op.end → time < op.end)
             (λ op n answered after. apart op.end (omega (arith, after)) (n answered)) ops none)
             (before (time - 1) (omega (arith, some)))
 
     -- those that are kept are all that were open then
-    pub open_then : (during : List Traced) → IsPermutation (filter (is_traced_during (at ops place).end) r.kept) during
-        → IsPermutation (filter (is_open_at g (at ops place).end) trace) (operations during)
+    pub open_then : (during : List Operation) → IsPermutation (filter (is_during (at ops place).end) r.kept) during
+        → IsPermutation (filter (is_open_at g (at ops place).end) trace) during
     open_then during moved =
-        subst (λ (l : List Observed). IsPermutation l (operations during)) (sym (filter_both (is_in g) (is_during time) trace))
-        (IsPermutation-trans (filter (is_during time) (filter (is_in g) trace)) (filter (is_during time) is.told) (operations during)
+        subst (λ (l : List Operation). IsPermutation l during) (sym (filter_both (is_in g) (is_during time) trace))
+        (IsPermutation-trans (filter (is_during time) (filter (is_in g) trace)) (filter (is_during time) is.told) during
         (IsPermutation-filter (is_during time) (filter (is_in g) trace) is.told is.moved)
-        (subst (λ (l : List Observed). IsPermutation l (operations during)) (sym same)
-        (IsPermutation-map (λ (t : Traced). t.op) (filter (is_traced_during time) r.kept) during moved)))
+        (subst (λ (l : List Operation). IsPermutation l during) (sym same)
+        moved))
       where
         time : ℕ
         time = (at ops place).end
@@ -265,14 +264,14 @@ module _ (law : GranulesTold) (trace : List Observed) (g w : ℕ) (r : RecentVal
         here : IsSeen r time
         here = end_seen (place + 1) place seen (omega arith) within
 
-        ended : (op : Observed) → op.end < time → is_during time op ≡ false
+        ended : (op : Operation) → op.end < time → is_during time op ≡ false
         ended op is_over = by_test (nat_le op.start time) (lt-leb time op.end is_over)
           where
             by_test : (b : Bool) → nat_le time op.end ≡ false → (b && nat_le time op.end) ≡ false
             by_test true over = over
             by_test false over = refl
 
-        to_come : (op : Observed) → time < op.start → is_during time op ≡ false
+        to_come : (op : Operation) → time < op.start → is_during time op ≡ false
         to_come op after = ap (λ (b : Bool). b && nat_le time op.end) (lt-leb op.start time after)
 
         from : r.since ≤ time
@@ -280,78 +279,77 @@ module _ (law : GranulesTold) (trace : List Observed) (g w : ℕ) (r : RecentVal
 
         none_earlier : filter (is_during time) k.earlier ≡ []
         none_earlier = filter_none (is_during time) k.earlier
-            (All-weaker (EndedBefore r.since) (λ (op : Observed). is_during time op ≡ false) (λ op e. ended op (omega (arith, e.1, from))) k.earlier k.ended)
+            (All-weaker (EndedBefore r.since) (λ (op : Operation). is_during time op ≡ false) (λ op e. ended op (omega (arith, e.1, from))) k.earlier k.ended)
 
         none_later : filter (is_during time) k.later ≡ []
         none_later = filter_none (is_during time) k.later
-            (All-weaker (λ (op : Observed). time < op.start) (λ (op : Observed). is_during time op ≡ false) to_come k.later (late_after (w ∷ []) is.told is.now r k time here.before))
+            (All-weaker (λ (op : Operation). time < op.start) (λ (op : Operation). is_during time op ≡ false) to_come k.later (late_after (w ∷ []) is.told is.now r k time here.before))
 
-        same : filter (is_during time) is.told ≡ operations (filter (is_traced_during time) r.kept)
+        same : filter (is_during time) is.told ≡ filter (is_during time) r.kept
         same =
             ap (filter (is_during time)) k.parts
             ∙ (filter-append (is_during time) k.earlier (ops ++ k.later)
-            ∙ (ap (λ (l : List Observed). l ++ filter (is_during time) (ops ++ k.later)) none_earlier
+            ∙ (ap (λ (l : List Operation). l ++ filter (is_during time) (ops ++ k.later)) none_earlier
             ∙ (filter-append (is_during time) ops k.later
-            ∙ (ap (λ (l : List Observed). filter (is_during time) ops ++ l) none_later
-            ∙ (append-nil (filter (is_during time) ops)
-            ∙ filter_map_comes (is_during time) (λ (t : Traced). t.op) r.kept)))))
+            ∙ (ap (λ (l : List Operation). filter (is_during time) ops ++ l) none_later
+            ∙ append-nil (filter (is_during time) ops)))))
 
     -- one that ended then is one of them
-    pub open_has : (during : List Traced) → IsPermutation (filter (is_traced_during (at ops place).end) r.kept) during
-        → (t : Traced) → Contains r.kept t → t.op.end ≡ (at ops place).end → Contains during t
+    pub open_has : (during : List Operation) → IsPermutation (filter (is_during (at ops place).end) r.kept) during
+        → (t : Operation) → Contains r.kept t → t.end ≡ (at ops place).end → Contains during t
     open_has during moved t there ends =
-        Contains-permutation (filter (is_traced_during (at ops place).end) r.kept) during t moved
-        (Contains-filter (is_traced_during (at ops place).end) r.kept t there
-        (and_from (nat_le t.op.start (at ops place).end) (nat_le (at ops place).end t.op.end)
-        (le-leb t.op.start (at ops place).end (omega (arith, long, ends))) (le-leb (at ops place).end t.op.end (omega (arith, ends)))))
+        Contains-permutation (filter (is_during (at ops place).end) r.kept) during t moved
+        (Contains-filter (is_during (at ops place).end) r.kept t there
+        (and_from (nat_le t.start (at ops place).end) (nat_le (at ops place).end t.end)
+        (le-leb t.start (at ops place).end (omega (arith, long, ends))) (le-leb (at ops place).end t.end (omega (arith, ends)))))
       where
-        long : t.op.start ≤ t.op.end
-        long = All-contains (λ (s : Traced). s.op.start ≤ s.op.end) r.kept t (λ i d below. lasts i d below) there
+        long : t.start ≤ t.end
+        long = All-contains (λ (s : Operation). s.start ≤ s.end) r.kept t (λ i d below. lasts i d below) there
           where
-            lasts : All (λ (s : Traced). s.op.start ≤ s.op.end) r.kept
-            lasts i d below = subst (λ (o : Observed). o.start ≤ o.end) (get_or-map (λ (s : Traced). s.op) r.kept i d nothing below) (k.next.sorted.1 i nothing (omega (arith, below, length-map r.kept (λ (s : Traced). s.op))))
+            lasts : All (λ (s : Operation). s.start ≤ s.end) r.kept
+            lasts = k.next.sorted.1
 
 -- the words that a search found, of the operations before those that are kept and of these
-pub words_by_time : GranulesTold → (r : RecentValue) (before : FrontierValue) (more : List Observed) (time : ℕ) (each : List ℕ) → before ≡ r.before → more ≡ operations r.kept
-    → ((words : List ℕ) (told : List Observed) → Follows words told before → (v : ℕ) → Contains each v ↔ SomeLeads (told ++ cut time more) words v)
+pub words_by_time : GranulesTold → (r : RecentValue) (before : FrontierValue) (more : List Operation) (time : ℕ) (each : List ℕ) → before ≡ r.before → more ≡ r.kept
+    → ((words : List ℕ) (told : List Operation) → Follows words told before → (v : ℕ) → Contains each v ↔ SomeLeads (told ++ cut time more) words v)
     → AreWordsBy r time each
 words_by_time law r before more time each same ops_is found seen trace g w is v =
     let each_leads = found (w ∷ []) is.keeps.earlier (subst (Follows (w ∷ []) is.keeps.earlier) (sym same) is.keeps.follows) v in
-    let leads = subst (λ (l : List Observed). Contains each v ↔ SomeLeads (is.keeps.earlier ++ cut time l) (w ∷ []) v) ops_is each_leads in
+    let leads = subst (λ (l : List Operation). Contains each v ↔ SomeLeads (is.keeps.earlier ++ cut time l) (w ∷ []) v) ops_is each_leads in
     let leaves = words_seen law trace g w r is time seen v in
     (λ there. leaves.0 (leads.0 there), λ can. leads.1 (leaves.1 can))
 
-pub words_of_all : GranulesTold → (r : RecentValue) (before : FrontierValue) (more : List Observed) (each : List ℕ) → before ≡ r.before → more ≡ operations r.kept
-    → ((words : List ℕ) (told : List Observed) → Follows words told before → (v : ℕ) → Contains each v ↔ SomeLeads (told ++ more) words v)
-    → r.is_stopped ≡ false → (trace : List Observed) (g w : ℕ) → IsRecentOf trace g w r → (v : ℕ) → Contains each v ↔ CanLeave trace g w v
+pub words_of_all : GranulesTold → (r : RecentValue) (before : FrontierValue) (more : List Operation) (each : List ℕ) → before ≡ r.before → more ≡ r.kept
+    → ((words : List ℕ) (told : List Operation) → Follows words told before → (v : ℕ) → Contains each v ↔ SomeLeads (told ++ more) words v)
+    → r.is_stopped ≡ false → (trace : List Operation) (g w : ℕ) → IsRecentOf trace g w r → (v : ℕ) → Contains each v ↔ CanLeave trace g w v
 words_of_all law r before more each same ops_is found goes trace g w is v =
     let each_leads = found (w ∷ []) is.keeps.earlier (subst (Follows (w ∷ []) is.keeps.earlier) (sym same) is.keeps.follows) v in
-    let leads = subst (λ (l : List Observed). Contains each v ↔ SomeLeads (is.keeps.earlier ++ l) (w ∷ []) v) ops_is each_leads in
+    let leads = subst (λ (l : List Operation). Contains each v ↔ SomeLeads (is.keeps.earlier ++ l) (w ∷ []) v) ops_is each_leads in
     let leaves = words_whole law trace g w r is goes v in
     (λ there. leaves.0 (leads.0 there), λ can. leads.1 (leaves.1 can))
 
 -- what is said of the place of an operation up to whose end no order explains them
-pub record StopsAt (r : RecentValue) (trace : List Observed) (g w : ℕ) (kept : List Traced) (ops : List Observed) (place time : ℕ) : Type 0 where
+pub record StopsAt (r : RecentValue) (trace : List Operation) (g w : ℕ) (kept : List Operation) (ops : List Operation) (place time : ℕ) : Type 0 where
   pub seen : (earlier : ℕ) → earlier + 1 ≡ time → IsSeen r earlier
   pub seen_then : IsSeen r time
   pub here : IsExplained time trace g w → ⊥
   pub before : ((i : ℕ) → i + 1 ≡ place → IsExplained (at ops i).end trace g w) → (earlier : ℕ) → earlier + 1 ≡ time → IsExplained earlier trace g w
   pub answered : ((earlier : ℕ) → earlier + 1 ≡ time → IsExplained earlier trace g w) → All (λ op. is_answered op ≡ true → op.end ≡ time → ⊥) ops → ⊥
-  pub overlapping : (during : List Traced) → IsPermutation (filter (is_traced_during time) kept) during → IsPermutation (filter (is_open_at g time) trace) (operations during)
-  pub has : (during : List Traced) → IsPermutation (filter (is_traced_during time) kept) during → (t : Traced) → Contains kept t → t.op.end ≡ time → Contains during t
+  pub overlapping : (during : List Operation) → IsPermutation (filter (is_during time) kept) during → IsPermutation (filter (is_open_at g time) trace) during
+  pub has : (during : List Operation) → IsPermutation (filter (is_during time) kept) during → (t : Operation) → Contains kept t → t.end ≡ time → Contains during t
 
-pub stops_at : GranulesTold → (r : RecentValue) (more : List Observed) (kept : List Traced) (place : ℕ) (d : Observed) → more ≡ operations r.kept → kept ≡ r.kept
-    → place < length more → AreSeen r more (place + 1) → IsUnexplained r (at more place).end → (trace : List Observed) (g w : ℕ) → IsRecentOf trace g w r
+pub stops_at : GranulesTold → (r : RecentValue) (more : List Operation) (kept : List Operation) (place : ℕ) (d : Operation) → more ≡ r.kept → kept ≡ r.kept
+    → place < length more → AreSeen r more (place + 1) → IsUnexplained r (at more place).end → (trace : List Operation) (g w : ℕ) → IsRecentOf trace g w r
     → StopsAt r trace g w kept more place (get_or more place d).end
 stops_at law r more kept place d ops_is kept_is within seen unexplained trace g w is =
-    subst (λ (l : List Traced). StopsAt r trace g w l more place (get_or more place d).end) (sym kept_is)
-    (subst (λ (o : Observed). StopsAt r trace g w r.kept more place o.end) (sym (get_or_default more place d nothing within))
+    subst (λ (l : List Operation). StopsAt r trace g w l more place (get_or more place d).end) (sym kept_is)
+    (subst (λ (o : Operation). StopsAt r trace g w r.kept more place o.end) (sym (get_or_default more place d nothing within))
     (subst Stated (sym ops_is) stated within seen (λ explained. unexplained trace g w is explained.0 explained.1)))
   where
-    Stated : List Observed → Type 0
+    Stated : List Operation → Type 0
     Stated ops = place < length ops → AreSeen r ops (place + 1) → (IsExplained (at ops place).end trace g w → ⊥) → StopsAt r trace g w r.kept ops place (at ops place).end
 
-    stated : Stated (operations r.kept)
+    stated : Stated r.kept
     stated inside are none = record {
       seen = earlier_seen law trace g w r is place inside are;
       seen_then = end_seen law trace g w r is (place + 1) place are (omega arith) inside;
@@ -363,27 +361,27 @@ stops_at law r more kept place d ops_is kept_is within seen unexplained trace g 
     }
 
 -- an end that is seen
-pub place_seen : (r : RecentValue) (more : List Observed) (count place : ℕ) → more ≡ operations r.kept → AreSeen r more count → place < count → place < length more
-    → (trace : List Observed) (g w : ℕ) → IsRecentOf trace g w r → IsSeen r (at more place).end
+pub place_seen : (r : RecentValue) (more : List Operation) (count place : ℕ) → more ≡ r.kept → AreSeen r more count → place < count → place < length more
+    → (trace : List Operation) (g w : ℕ) → IsRecentOf trace g w r → IsSeen r (at more place).end
 place_seen r more count place ops_is seen first within trace g w is =
     let ends = subst (All (EndedWithin r.since is.now)) (sym ops_is) is.keeps.ends in
     let from : r.since ≤ (at more place).end = (ends place nothing within).0 in
     record { since = omega (arith, from); before = seen place first }
 
 -- the last end before the horizon, where it has stopped
-pub last_before : GranulesTold → (r : RecentValue) (more : List Observed) (count : ℕ) → more ≡ operations r.kept → r.is_stopped ≡ true
+pub last_before : GranulesTold → (r : RecentValue) (more : List Operation) (count : ℕ) → more ≡ r.kept → r.is_stopped ≡ true
     → count ≤ length more → All (λ op. op.end < r.horizon) (take count more) → (count < length more → r.horizon ≤ (at more count).end)
-    → (trace : List Observed) (g w : ℕ) → IsRecentOf trace g w r → (0 < count) × (IsExplained (at more (count - 1)).end trace g w → ⊥)
+    → (trace : List Operation) (g w : ℕ) → IsRecentOf trace g w r → (0 < count) × (IsExplained (at more (count - 1)).end trace g w → ⊥)
 last_before law r more count ops_is stopped within before first trace g w is =
-    subst (λ (ops : List Observed). count ≤ length ops → All (λ op. op.end < r.horizon) (take count ops) → (count < length ops → r.horizon ≤ (at ops count).end)
+    subst (λ (ops : List Operation). count ≤ length ops → All (λ op. op.end < r.horizon) (take count ops) → (count < length ops → r.horizon ≤ (at ops count).end)
     → (0 < count) × (IsExplained (at ops (count - 1)).end trace g w → ⊥)) (sym ops_is)
     (stopped_last law trace g w r is stopped count) within before first
 
 -- and of all, where it has not
-pub last_of_all : GranulesTold → (r : RecentValue) (more : List Observed) (count : ℕ) (words : List ℕ) → more ≡ operations r.kept → r.is_stopped ≡ false → count ≡ length more → length words ≡ 0
-    → ((trace : List Observed) (g w : ℕ) → IsRecentOf trace g w r → (v : ℕ) → Contains words v ↔ CanLeave trace g w v)
-    → (trace : List Observed) (g w : ℕ) → IsRecentOf trace g w r → (0 < count) × (IsExplained (at more (count - 1)).end trace g w → ⊥)
+pub last_of_all : GranulesTold → (r : RecentValue) (more : List Operation) (count : ℕ) (words : List ℕ) → more ≡ r.kept → r.is_stopped ≡ false → count ≡ length more → length words ≡ 0
+    → ((trace : List Operation) (g w : ℕ) → IsRecentOf trace g w r → (v : ℕ) → Contains words v ↔ CanLeave trace g w v)
+    → (trace : List Operation) (g w : ℕ) → IsRecentOf trace g w r → (0 < count) × (IsExplained (at more (count - 1)).end trace g w → ⊥)
 last_of_all law r more count words ops_is goes count_is none each trace g w is =
     subst (λ (n : ℕ). (0 < n) × (IsExplained (at more (n - 1)).end trace g w → ⊥)) (sym count_is)
-    (subst (λ (ops : List Observed). (0 < length ops) × (IsExplained (at ops (length ops - 1)).end trace g w → ⊥)) (sym ops_is)
+    (subst (λ (ops : List Operation). (0 < length ops) × (IsExplained (at ops (length ops - 1)).end trace g w → ⊥)) (sym ops_is)
     (whole_last law trace g w r is goes (λ v can. let there = (each trace g w is v).1 can in absurd (omega (arith, there.1, none)))))

@@ -8,25 +8,25 @@ use Rattle.chi_trace.specs.Chosen.{is_in}
 use Rattle.chi_trace.specs.Cuts.{cut}
 use Rattle.chi_trace.specs.Explains.{at}
 use Rattle.chi_trace.specs.Granules.{ExplainsGranule}
-use Rattle.chi_trace.specs.declared.observed.Observed.{Observed}
+use Rattle.chi_trace.specs.declared.operation.Operation.{Operation}
 
 -- the operation, which was answered by this reply
-abbrev pub answered_by : Observed → Reply → Observed
+abbrev pub answered_by : Operation → Reply → Operation
 answered_by op reply = record op { reply = Some reply }
 
 -- the operations, of which the one at a place was answered by this reply
-abbrev pub with_reply : List Observed → ℕ → Reply → List Observed
+abbrev pub with_reply : List Operation → ℕ → Reply → List Operation
 with_reply ops i reply = slice_set ops i (answered_by (at ops i) reply)
 
 -- what the search follows, and then these operations, lead to some word by a time, where the one at a place was answered by this
 -- reply
-abbrev pub LeadsWith : FrontierValue → List Observed → ℕ → ℕ → Reply → Type 0
-LeadsWith f ops time i reply = (words : List ℕ) (told : List Observed) → Follows words told f → (v : ℕ) × SomeLeads (told ++ cut time (with_reply ops i reply)) words v
+abbrev pub LeadsWith : FrontierValue → List Operation → ℕ → ℕ → Reply → Type 0
+LeadsWith f ops time i reply = (words : List ℕ) (told : List Operation) → Follows words told f → (v : ℕ) × SomeLeads (told ++ cut time (with_reply ops i reply)) words v
 
 -- The operation is one of the granule's, of which these are the others. Had it been answered by this reply, some order would
 -- explain what had happened in the granule by the time.
-pub record IsLegal (trace : List Observed) (g w time : ℕ) (op : Observed) (reply : Reply) : Type 0 where
-  pub others : List Observed
+pub record IsLegal (trace : List Operation) (g w time : ℕ) (op : Operation) (reply : Reply) : Type 0 where
+  pub others : List Operation
   pub each : IsPermutation (filter (is_in g) trace) (op ∷ others)
   pub order : List ℕ
   pub explains : ExplainsGranule (cut time (answered_by op reply ∷ others)) g w None order

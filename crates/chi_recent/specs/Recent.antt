@@ -1,54 +1,49 @@
 -- the operations of one granule that are kept, to say where they stop being explained
-use Rattle.std.specs.Prelude.{◌≡◌, ℕ, ◌+◌, ◌^◌, ◌<◌, ◌≤◌, Bool, false, List, [], ◌++◌, All, IsTrue, map}
+use Rattle.std.specs.Prelude.{◌≡◌, ℕ, ◌+◌, ◌^◌, ◌<◌, ◌≤◌, Bool, false, List, [], ◌++◌, All, IsTrue}
 use Rattle.std.specs.List.{AllPairs}
 use Rattle.chi_search.specs.Frontiers.{Follows, FrontierValue, MayBeTold}
 use Rattle.chi_search.specs.Layers.{SomeLeads}
 use Rattle.chi_trace.specs.Cuts.{cut}
-use Rattle.chi_trace.specs.declared.observed.Observed.{Observed}
-use Rattle.chi_recent.specs.declared.traced.Traced.{Traced}
+use Rattle.chi_trace.specs.declared.operation.Operation.{Operation}
 use Rattle.chi_recent.specs.Shown.{EndsNoLater, last_of}
-
--- the operations without their requests
-abbrev pub operations : List Traced → List Observed
-operations kept = map (λ t. t.op) kept
 
 -- The search over the operations before those that are kept, the last of the operations that were left to it, and those that are
 -- kept. None that is kept ended before `since`, and none that is told later starts before the horizon. Where they are known not
 -- to be explained up to the time before it, it has stopped.
 pub record RecentValue : Type 0 where
   pub before : FrontierValue
-  pub left : List Traced
-  pub kept : List Traced
+  pub left : List Operation
+  pub kept : List Operation
   pub since : ℕ
   pub horizon : ℕ
   pub is_stopped : Bool
 
 -- the operand lies within 2^52 bytes
-abbrev pub LiesWithin : Observed → Type 0
+abbrev pub LiesWithin : Operation → Type 0
 LiesWithin op = op.access.addr + op.access.len ≤ 2 ^ 52
 
 -- it ended before a time, and no earlier than it started
-abbrev pub EndedBefore : ℕ → Observed → Type 0
+abbrev pub EndedBefore : ℕ → Operation → Type 0
 EndedBefore time op = (op.start ≤ op.end) × (op.end < time)
 
 -- it ended between two times, these included
-abbrev pub EndedWithin : ℕ → ℕ → Observed → Type 0
+abbrev pub EndedWithin : ℕ → ℕ → Operation → Type 0
 EndedWithin since now op = (since ≤ op.end) × (op.end ≤ now)
 
 -- Of the operations that were told in the order of their ends, none later than now, the search follows the earlier ones, of which
 -- the last 16 are known, and the next are kept. Those after them are left out, once it has stopped. Up to the time before the first
 -- end that may be kept some order explains what was told; where it has stopped, none does up to the time before the horizon.
-pub record Keeps (words : List ℕ) (told : List Observed) (now : ℕ) (r : RecentValue) : Type 0 where
-  pub earlier : List Observed
-  pub later : List Observed
-  pub parts : told ≡ earlier ++ (operations r.kept ++ later)
+pub record Keeps (words : List ℕ) (told : List Operation) (now : ℕ) (r : RecentValue) : Type 0 where
+  pub earlier : List Operation
+  pub later : List Operation
+  pub parts : told ≡ earlier ++ (r.kept ++ later)
   pub follows : Follows words earlier r.before
-  pub left : operations r.left ≡ last_of 16 earlier
+  pub left : r.left ≡ last_of 16 earlier
   pub in_order : AllPairs EndsNoLater earlier
   pub ended : All (EndedBefore r.since) earlier
-  pub next : MayBeTold r.before (operations r.kept)
-  pub within : All LiesWithin (operations r.kept)
-  pub ends : All (EndedWithin r.since now) (operations r.kept)
+  pub next : MayBeTold r.before r.kept
+  pub within : All LiesWithin r.kept
+  pub ends : All (EndedWithin r.since now) r.kept
   pub late : All (λ op. r.horizon ≤ op.start) later
   pub goes_on : r.is_stopped ≡ false → later ≡ []
   pub since_by : r.since ≤ r.horizon
@@ -59,14 +54,14 @@ pub record Keeps (words : List ℕ) (told : List Observed) (now : ℕ) (r : Rece
   pub stopped : IsTrue r.is_stopped → (time : ℕ) × (time + 1 ≡ r.horizon) × ((v : ℕ) → SomeLeads (cut time told) words v → ⊥)
 
 -- the operation may be told next, once none that was told ended later than now
-pub record CanBeKept (now : ℕ) (r : RecentValue) (op : Observed) : Type 0 where
+pub record CanBeKept (now : ℕ) (r : RecentValue) (op : Operation) : Type 0 where
   pub ends : now ≤ op.end
   pub starts : r.horizon ≤ op.start
   pub lasting : op.start ≤ op.end
   pub within : LiesWithin op
 
 -- no operation that is told later starts before the horizon, and up to the time before it some order explains what was told
-pub record IsNextHorizon (words : List ℕ) (told : List Observed) (now : ℕ) (r : RecentValue) (horizon : ℕ) : Type 0 where
+pub record IsNextHorizon (words : List ℕ) (told : List Operation) (now : ℕ) (r : RecentValue) (horizon : ℕ) : Type 0 where
   pub later : r.horizon < horizon
   pub past : horizon ≤ now + 1
   pub goes_on : r.is_stopped ≡ false

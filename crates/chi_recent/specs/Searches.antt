@@ -4,18 +4,17 @@ use Rattle.std.specs.List.{Contains}
 use Rattle.chi_trace.specs.Cuts.{cut}
 use Rattle.chi_trace.specs.Explains.{at}
 use Rattle.chi_trace.specs.Granules.{ExplainsGranule}
-use Rattle.chi_trace.specs.declared.observed.Observed.{Observed}
-use Rattle.chi_recent.specs.declared.traced.Traced.{Traced}
+use Rattle.chi_trace.specs.declared.operation.Operation.{Operation}
 use Rattle.chi_recent.specs.Reaches.{CanLeave, IsRecentOf}
 use Rattle.chi_recent.specs.Recent.{RecentValue}
 
 -- some order explains the granule's operations up to the time
-abbrev pub IsExplained : ℕ → List Observed → ℕ → ℕ → Type 0
+abbrev pub IsExplained : ℕ → List Operation → ℕ → ℕ → Type 0
 IsExplained time trace g w = (order : List ℕ) × ExplainsGranule (cut time trace) g w None order
 
 -- no order explains them up to the time
 abbrev pub IsUnexplained : RecentValue → ℕ → Type 0
-IsUnexplained r time = (trace : List Observed) (g w : ℕ) → IsRecentOf trace g w r → (order : List ℕ) → ExplainsGranule (cut time trace) g w None order → ⊥
+IsUnexplained r time = (trace : List Operation) (g w : ℕ) → IsRecentOf trace g w r → (order : List ℕ) → ExplainsGranule (cut time trace) g w None order → ⊥
 
 -- what is not kept had ended before the time after, or starts later
 pub record IsSeen (r : RecentValue) (time : ℕ) : Type 0 where
@@ -23,16 +22,13 @@ pub record IsSeen (r : RecentValue) (time : ℕ) : Type 0 where
   pub before : IsTrue r.is_stopped → time < r.horizon
 
 -- the first so many operations end before the horizon, where it has stopped
-abbrev pub AreSeen : RecentValue → List Observed → ℕ → Type 0
+abbrev pub AreSeen : RecentValue → List Operation → ℕ → Type 0
 AreSeen r ops count = (i : ℕ) → i < count → IsTrue r.is_stopped → (at ops i).end < r.horizon
 
 -- it had started by the time, and had not ended before
-abbrev pub is_during : ℕ → Observed → Bool
+abbrev pub is_during : ℕ → Operation → Bool
 is_during time op = nat_le op.start time && nat_le time op.end
-
-abbrev pub is_traced_during : ℕ → Traced → Bool
-is_traced_during time traced = is_during time traced.op
 
 -- these are the words that the granule's operations can leave by the time
 abbrev pub AreWordsBy : RecentValue → ℕ → List ℕ → Type 0
-AreWordsBy r time each = IsSeen r time → (trace : List Observed) (g w : ℕ) → IsRecentOf trace g w r → (v : ℕ) → Contains each v ↔ CanLeave (cut time trace) g w v
+AreWordsBy r time each = IsSeen r time → (trace : List Operation) (g w : ℕ) → IsRecentOf trace g w r → (v : ℕ) → Contains each v ↔ CanLeave (cut time trace) g w v

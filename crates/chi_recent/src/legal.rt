@@ -7,7 +7,7 @@ use crate::search::words_by;
 use chi_fields::Access;
 use chi_lanes::{Reply, apply};
 use chi_search::{Frontier, NoProgress, Words};
-use chi_trace::Observed;
+use chi_trace::Operation;
 use std::alloc::{AllocError, Global};
 
 /// The greatest number of answers that are tried.
@@ -28,10 +28,10 @@ fn answers_at(alloc: Global, access: &Access, words: &[u64]) -> Result<Vec<Reply
 /// The operations, of which the one at a place has this reply.
 fn with_reply(
     alloc: Global,
-    ops: &[Observed],
+    ops: &[Operation],
     place: usize,
     reply: Reply,
-) -> Result<Vec<Observed>, AllocError>
+) -> Result<Vec<Operation>, AllocError>
     requires { place < length ops.now }
     ensures { IfOk result (λ changed. changed.items ≡ with_reply ops.now place reply) }
 {
@@ -44,7 +44,7 @@ fn with_reply(
 fn is_legal(
     alloc: Global,
     before: &Frontier,
-    ops: &[Observed],
+    ops: &[Operation],
     time: u64,
     place: usize,
     reply: Reply,
@@ -65,7 +65,7 @@ fn is_legal(
 pub(crate) fn legal_replies(
     alloc: Global,
     before: &Frontier,
-    ops: &[Observed],
+    ops: &[Operation],
     time: u64,
     place: usize,
     words: &[u64],

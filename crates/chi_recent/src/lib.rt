@@ -7,8 +7,6 @@ mod reaching;
 mod recent;
 mod search;
 mod shown;
-mod traced;
 
 pub use reach::{Reach, Stop};
 pub use recent::Recent;
-pub use traced::Traced;

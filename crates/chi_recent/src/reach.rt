@@ -1,7 +1,7 @@
 //! How far a granule's operations can be explained.
 
-use crate::traced::Traced;
 use chi_lanes::Reply;
+use chi_trace::Operation;
 
 /// Where a granule's operations stop being explained: the first time up to which no order explains them.
 ///
@@ -14,10 +14,10 @@ use chi_lanes::Reply;
 #[derive(Debug, Drop)]
 pub struct Stop {
     pub time: u64,
-    pub op: Traced,
-    pub overlapping: Vec<Traced>,
+    pub op: Operation,
+    pub overlapping: Vec<Operation>,
     pub words: Vec<u64>,
-    pub before: Vec<Traced>,
+    pub before: Vec<Operation>,
     pub legal: Vec<Reply>,
 }
 

@@ -5,18 +5,17 @@ ghost use Rattle.std.specs.List.{Contains};
 ghost use Rattle.chi_search.specs.Found.{IfUnknown, IfWords};
 ghost use Rattle.chi_search.specs.Looks.{LookedAtLeast, LookedMore, LookedSome};
 ghost use Rattle.chi_trace.specs.Explains.{at};
-ghost use Rattle.chi_trace.specs.declared.observed.Observed.{Observed};
+ghost use Rattle.chi_trace.specs.declared.operation.Operation.{Operation};
 ghost use Rattle.chi_recent.specs.Reaches.{AreLast, CanLeave, IfStops, IfUndecided, IfWhole, IsRecentOf, IsStop};
-ghost use Rattle.chi_recent.specs.Recent.{operations};
 ghost use Rattle.chi_recent.specs.Searches.{AreSeen, AreWordsBy, IsExplained, IsSeen, IsUnexplained};
 
 use crate::legal::legal_replies;
 use crate::reach::{Reach, Stop};
-use crate::recent::{Recent, ended_before, operations};
+use crate::recent::{Recent, ended_before};
 use crate::search::{words_after, words_by};
 use crate::shown::{answered_at, before_at, open_at};
 use chi_search::{Progress, Words};
-use chi_trace::Observed;
+use chi_trace::Operation;
 use chi_trace::laws::granules_told;
 use std::alloc::{AllocError, Global};
 
@@ -25,13 +24,13 @@ impl Recent {
     fn last_words<P: Progress>(
         &self,
         alloc: Global,
-        ops: &[Observed],
+        ops: &[Operation],
         budget: u64,
         progress: &mut P,
     ) -> Result<Words, AllocError>
-        requires kept { ops.now ≡ operations self.now.kept }
-        ensures words { IfOk result (λ found. IfWords found (λ each. self.now.is_stopped ≡ false → (trace : List Observed) (g w : ℕ) → IsRecentOf trace g w self.now → (v : ℕ) → Contains each v ↔ CanLeave trace g w v)) }
-        ensures unknown { IfOk result (λ found. IfUnknown found ((trace : List Observed) (g w : ℕ) → IsRecentOf trace g w self.now → LookedMore P.looked progress.old progress.new budget)) }
+        requires kept { ops.now ≡ self.now.kept }
+        ensures words { IfOk result (λ found. IfWords found (λ each. self.now.is_stopped ≡ false → (trace : List Operation) (g w : ℕ) → IsRecentOf trace g w self.now → (v : ℕ) → Contains each v ↔ CanLeave trace g w v)) }
+        ensures unknown { IfOk result (λ found. IfUnknown found ((trace : List Operation) (g w : ℕ) → IsRecentOf trace g w self.now → LookedMore P.looked progress.old progress.new budget)) }
         ensures looked { IfOk result (λ _. LookedSome P.looked progress.old progress.new) }
     {
         granules_told();
@@ -42,14 +41,14 @@ impl Recent {
     fn words_at<P: Progress>(
         &self,
         alloc: Global,
-        ops: &[Observed],
+        ops: &[Operation],
         time: u64,
         budget: u64,
         progress: &mut P,
     ) -> Result<Words, AllocError>
-        requires kept { ops.now ≡ operations self.now.kept }
+        requires kept { ops.now ≡ self.now.kept }
         ensures words { IfOk result (λ found. IfWords found (AreWordsBy self.now time)) }
-        ensures unknown { IfOk result (λ found. IfUnknown found ((trace : List Observed) (g w : ℕ) → IsRecentOf trace g w self.now → LookedMore P.looked progress.old progress.new budget)) }
+        ensures unknown { IfOk result (λ found. IfUnknown found ((trace : List Operation) (g w : ℕ) → IsRecentOf trace g w self.now → LookedMore P.looked progress.old progress.new budget)) }
         ensures looked { IfOk result (λ _. LookedSome P.looked progress.old progress.new) }
     {
         granules_told();
@@ -60,14 +59,14 @@ impl Recent {
     fn is_unexplained<P: Progress>(
         &self,
         alloc: Global,
-        ops: &[Observed],
+        ops: &[Operation],
         time: u64,
         budget: u64,
         progress: &mut P,
     ) -> Result<bool, AllocError>
-        requires kept { ops.now ≡ operations self.now.kept }
-        ensures unexplained { IfOk result (λ is. IsTrue is → (trace : List Observed) (g w : ℕ) → IsRecentOf trace g w self.now → IsSeen self.now time → IsExplained time trace g w → ⊥) }
-        ensures explained { IfOk result (λ is. is ≡ false → (trace : List Observed) (g w : ℕ) → IsRecentOf trace g w self.now → IsSeen self.now time → IsExplained time trace g w ⊎ LookedAtLeast P.looked progress.old progress.new budget) }
+        requires kept { ops.now ≡ self.now.kept }
+        ensures unexplained { IfOk result (λ is. IsTrue is → (trace : List Operation) (g w : ℕ) → IsRecentOf trace g w self.now → IsSeen self.now time → IsExplained time trace g w → ⊥) }
+        ensures explained { IfOk result (λ is. is ≡ false → (trace : List Operation) (g w : ℕ) → IsRecentOf trace g w self.now → IsSeen self.now time → IsExplained time trace g w ⊎ LookedAtLeast P.looked progress.old progress.new budget) }
         ensures looked { IfOk result (λ _. LookedSome P.looked progress.old progress.new) }
     {
         match self.words_at(alloc, ops, time, budget, progress)? {
@@ -81,19 +80,19 @@ impl Recent {
     fn first_place<P: Progress>(
         &self,
         alloc: Global,
-        ops: &[Observed],
+        ops: &[Operation],
         count: usize,
         budget: u64,
         progress: &mut P,
     ) -> Result<usize, AllocError>
-        requires kept { ops.now ≡ operations self.now.kept }
+        requires kept { ops.now ≡ self.now.kept }
         requires some { 0 < count }
         requires within { count ≤ length ops.now }
         requires seen { AreSeen self.now ops.now count }
         requires last { IsUnexplained self.now (at ops.now (count - 1)).end }
         ensures within { IfOk result (λ place. place < count) }
         ensures unexplained { IfOk result (λ place. IsUnexplained self.now (at ops.now place).end) }
-        ensures first { IfOk result (λ place. (trace : List Observed) (g w : ℕ) → IsRecentOf trace g w self.now → ((i : ℕ) → i + 1 ≡ place → IsExplained (at ops.now i).end trace g w) ⊎ LookedAtLeast P.looked progress.old progress.new budget) }
+        ensures first { IfOk result (λ place. (trace : List Operation) (g w : ℕ) → IsRecentOf trace g w self.now → ((i : ℕ) → i + 1 ≡ place → IsExplained (at ops.now i).end trace g w) ⊎ LookedAtLeast P.looked progress.old progress.new budget) }
         ensures looked { IfOk result (λ _. LookedSome P.looked progress.old progress.new) }
     {
         let mut low = 0;
@@ -114,15 +113,15 @@ impl Recent {
     fn words_before<P: Progress>(
         &self,
         alloc: Global,
-        ops: &[Observed],
+        ops: &[Operation],
         time: u64,
         budget: u64,
         progress: &mut P,
     ) -> Result<Option<Vec<u64>>, AllocError>
-        requires kept { ops.now ≡ operations self.now.kept }
+        requires kept { ops.now ≡ self.now.kept }
         ensures words { IfOk result (λ found. IfSome found (λ words. (earlier : ℕ) → earlier + 1 ≡ time → AreWordsBy self.now earlier words.items)) }
         ensures some { IfOk result (λ found. IfSome found (λ words. (earlier : ℕ) → earlier + 1 ≡ time → 0 < length words.items)) }
-        ensures none { IfOk result (λ found. found ≡ None → (trace : List Observed) (g w : ℕ) → IsRecentOf trace g w self.now → ((earlier : ℕ) × (earlier + 1 ≡ time) × (IsSeen self.now earlier → IsExplained earlier trace g w → ⊥)) ⊎ LookedAtLeast P.looked progress.old progress.new budget) }
+        ensures none { IfOk result (λ found. found ≡ None → (trace : List Operation) (g w : ℕ) → IsRecentOf trace g w self.now → ((earlier : ℕ) × (earlier + 1 ≡ time) × (IsSeen self.now earlier → IsExplained earlier trace g w → ⊥)) ⊎ LookedAtLeast P.looked progress.old progress.new budget) }
         ensures looked { IfOk result (λ _. LookedSome P.looked progress.old progress.new) }
     {
         if time == 0 {
@@ -144,18 +143,18 @@ impl Recent {
     fn stop_at<P: Progress>(
         &self,
         alloc: Global,
-        ops: &[Observed],
+        ops: &[Operation],
         place: usize,
         budget: u64,
         progress: &mut P,
     ) -> Result<Reach, AllocError>
-        requires kept { ops.now ≡ operations self.now.kept }
+        requires kept { ops.now ≡ self.now.kept }
         requires within { place < length ops.now }
         requires seen { AreSeen self.now ops.now (place + 1) }
         requires unexplained { IsUnexplained self.now (at ops.now place).end }
         ensures whole { IfOk result (λ reach. IfWhole reach (λ words. ⊥)) }
-        ensures stops { IfOk result (λ reach. IfStops reach (λ stop. (trace : List Observed) (g w : ℕ) → IsRecentOf trace g w self.now → IsStop trace g w stop)) }
-        ensures undecided { IfOk result (λ reach. IfUndecided reach ((trace : List Observed) (g w : ℕ) → IsRecentOf trace g w self.now → ((i : ℕ) → i + 1 ≡ place → IsExplained (at ops.now i).end trace g w) → LookedAtLeast P.looked progress.old progress.new budget)) }
+        ensures stops { IfOk result (λ reach. IfStops reach (λ stop. (trace : List Operation) (g w : ℕ) → IsRecentOf trace g w self.now → IsStop trace g w stop)) }
+        ensures undecided { IfOk result (λ reach. IfUndecided reach ((trace : List Operation) (g w : ℕ) → IsRecentOf trace g w self.now → ((i : ℕ) → i + 1 ≡ place → IsExplained (at ops.now i).end trace g w) → LookedAtLeast P.looked progress.old progress.new budget)) }
         ensures looked { IfOk result (λ _. LookedSome P.looked progress.old progress.new) }
     {
         granules_told();
@@ -181,18 +180,18 @@ impl Recent {
     fn stop_within<P: Progress>(
         &self,
         alloc: Global,
-        ops: &[Observed],
+        ops: &[Operation],
         count: usize,
         budget: u64,
         progress: &mut P,
     ) -> Result<Reach, AllocError>
-        requires kept { ops.now ≡ operations self.now.kept }
+        requires kept { ops.now ≡ self.now.kept }
         requires within { count ≤ length ops.now }
         requires seen { AreSeen self.now ops.now count }
-        requires last { (trace : List Observed) (g w : ℕ) → IsRecentOf trace g w self.now → (0 < count) × (IsExplained (at ops.now (count - 1)).end trace g w → ⊥) }
+        requires last { (trace : List Operation) (g w : ℕ) → IsRecentOf trace g w self.now → (0 < count) × (IsExplained (at ops.now (count - 1)).end trace g w → ⊥) }
         ensures whole { IfOk result (λ reach. IfWhole reach (λ words. ⊥)) }
-        ensures stops { IfOk result (λ reach. IfStops reach (λ stop. (trace : List Observed) (g w : ℕ) → IsRecentOf trace g w self.now → IsStop trace g w stop)) }
-        ensures undecided { IfOk result (λ reach. IfUndecided reach ((trace : List Observed) (g w : ℕ) → IsRecentOf trace g w self.now → LookedAtLeast P.looked progress.old progress.new budget)) }
+        ensures stops { IfOk result (λ reach. IfStops reach (λ stop. (trace : List Operation) (g w : ℕ) → IsRecentOf trace g w self.now → IsStop trace g w stop)) }
+        ensures undecided { IfOk result (λ reach. IfUndecided reach ((trace : List Operation) (g w : ℕ) → IsRecentOf trace g w self.now → LookedAtLeast P.looked progress.old progress.new budget)) }
         ensures looked { IfOk result (λ _. LookedSome P.looked progress.old progress.new) }
     {
         if count == 0 {
@@ -217,13 +216,13 @@ impl Recent {
         budget: u64,
         progress: &mut P,
     ) -> Result<Reach, AllocError>
-        ensures whole { IfOk result (λ reach. IfWhole reach (λ words. (trace : List Observed) (g w : ℕ) → IsRecentOf trace g w self.now → AreLast trace g w words)) }
-        ensures stops { IfOk result (λ reach. IfStops reach (λ stop. (trace : List Observed) (g w : ℕ) → IsRecentOf trace g w self.now → IsStop trace g w stop)) }
-        ensures undecided { IfOk result (λ reach. IfUndecided reach ((trace : List Observed) (g w : ℕ) → IsRecentOf trace g w self.now → LookedAtLeast P.looked progress.old progress.new budget)) }
+        ensures whole { IfOk result (λ reach. IfWhole reach (λ words. (trace : List Operation) (g w : ℕ) → IsRecentOf trace g w self.now → AreLast trace g w words)) }
+        ensures stops { IfOk result (λ reach. IfStops reach (λ stop. (trace : List Operation) (g w : ℕ) → IsRecentOf trace g w self.now → IsStop trace g w stop)) }
+        ensures undecided { IfOk result (λ reach. IfUndecided reach ((trace : List Operation) (g w : ℕ) → IsRecentOf trace g w self.now → LookedAtLeast P.looked progress.old progress.new budget)) }
         ensures looked { IfOk result (λ _. LookedSome P.looked progress.old progress.new) }
     {
         granules_told();
-        let ops = operations(alloc, &self.kept)?;
+        let ops = Vec::from_slice(alloc, &self.kept)?;
         if self.is_stopped {
             let count = ended_before(&ops, self.horizon);
             return self.stop_within(alloc, &ops, count, budget, progress);

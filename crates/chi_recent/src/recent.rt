@@ -2,15 +2,14 @@
 
 ghost use Rattle.std.specs.Prelude.{◌≡◌, ◌+◌, ◌≤◌, ◌<◌, ◌⊎◌, ℕ, [], ◌∷◌, ◌++◌, false, List, All, IfOk, length, take};
 ghost use Rattle.chi_trace.specs.Explains.{at};
-ghost use Rattle.chi_trace.specs.declared.observed.Observed.{Observed};
+ghost use Rattle.chi_trace.specs.declared.operation.Operation.{Operation};
 ghost use Rattle.chi_search.specs.Looks.{LookedSome};
-ghost use Rattle.chi_recent.specs.Recent.{CanBeKept, IsNextHorizon, Keeps, operations};
+ghost use Rattle.chi_recent.specs.Recent.{CanBeKept, IsNextHorizon, Keeps};
 
 use crate::search::{told_after, words_by};
 use crate::shown::last_with;
-use crate::traced::Traced;
 use chi_search::{Frontier, Progress, Words};
-use chi_trace::Observed;
+use chi_trace::Operation;
 use std::alloc::{AllocError, Global};
 use std::marker::Model;
 
@@ -22,7 +21,7 @@ use std::marker::Model;
 ///
 /// ```
 /// let mut recent = Recent::new(alloc, 0)?;
-/// for ended in &traced {
+/// for ended in &ops {
 ///     recent.settle(alloc, earliest_open_start, 1_000_000, &mut NoProgress)?;
 ///     recent.add(ended)?;
 /// }
@@ -31,8 +30,8 @@ use std::marker::Model;
 #[derive(Drop)]
 pub struct Recent {
     pub(crate) before: Frontier,
-    pub(crate) left: Vec<Traced>,
-    pub(crate) kept: Vec<Traced>,
+    pub(crate) left: Vec<Operation>,
+    pub(crate) kept: Vec<Operation>,
     pub(crate) since: u64,
     pub(crate) horizon: u64,
     pub(crate) is_stopped: bool,
@@ -50,15 +49,8 @@ impl Model for Recent {
 /// How many operations it keeps at least before it looks whether it may keep fewer.
 const FEW: usize = 16;
 
-/// The operations without their requests.
-pub(crate) fn operations(alloc: Global, kept: &[Traced]) -> Result<Vec<Observed>, AllocError>
-    ensures { IfOk result (λ ops. ops.items ≡ operations kept.now) }
-{
-    kept.iter().map(|traced| traced.op).collect(alloc)
-}
-
 /// How many of the operations, which stand in the order of their ends, ended before a time.
-pub(crate) fn ended_before(ops: &[Observed], time: u64) -> usize
+pub(crate) fn ended_before(ops: &[Operation], time: u64) -> usize
     ensures within { result ≤ length ops.now }
     ensures before { All (λ op. op.end < time) (take result ops.now) }
     ensures first { result < length ops.now → time ≤ (at ops.now result).end }
@@ -74,7 +66,7 @@ pub(crate) fn ended_before(ops: &[Observed], time: u64) -> usize
 }
 
 /// The least start of operations, or this time where none starts before it.
-fn least_start(ops: &[Observed], time: u64) -> u64
+fn least_start(ops: &[Operation], time: u64) -> u64
     ensures time { result ≤ time }
     ensures each { All (λ op. result ≤ op.start) ops.now }
 {
@@ -91,13 +83,13 @@ impl Recent {
     fn go_on<P: Progress>(
         &mut self,
         alloc: Global,
-        ops: &[Observed],
+        ops: &[Operation],
         horizon: u64,
         budget: u64,
         progress: &mut P,
     ) -> Result<(), AllocError>
-        requires kept { ops.now ≡ operations self.now.kept }
-        ensures keeps { IfOk result (λ _. (words : List ℕ) (told : List Observed) (now : ℕ) → IsNextHorizon words told now self.old horizon → Keeps words told now self.old → Keeps words told now self.new) }
+        requires kept { ops.now ≡ self.now.kept }
+        ensures keeps { IfOk result (λ _. (words : List ℕ) (told : List Operation) (now : ℕ) → IsNextHorizon words told now self.old horizon → Keeps words told now self.old → Keeps words told now self.new) }
         ensures horizon { IfOk result (λ _. (self.new.horizon ≡ horizon) ⊎ (self.new.horizon ≡ self.old.horizon)) }
         ensures looked { IfOk result (λ _. LookedSome P.looked progress.old progress.new) }
     {
@@ -130,11 +122,11 @@ impl Recent {
     ) -> Result<(), AllocError>
         requires goes_on { self.now.is_stopped ≡ false }
         requires later { self.now.horizon < horizon }
-        ensures keeps { IfOk result (λ _. (words : List ℕ) (told : List Observed) (now : ℕ) → horizon ≤ now + 1 → Keeps words told now self.old → Keeps words told now self.new) }
+        ensures keeps { IfOk result (λ _. (words : List ℕ) (told : List Operation) (now : ℕ) → horizon ≤ now + 1 → Keeps words told now self.old → Keeps words told now self.new) }
         ensures horizon { IfOk result (λ _. (self.new.horizon ≡ horizon) ⊎ (self.new.horizon ≡ self.old.horizon)) }
         ensures looked { IfOk result (λ _. LookedSome P.looked progress.old progress.new) }
     {
-        let ops = operations(alloc, &self.kept)?;
+        let ops = Vec::from_slice(alloc, &self.kept)?;
         match words_by(alloc, &self.before, &ops, horizon - 1, budget, progress)? {
             Words::Unknown => Ok(()),
             Words::Each(words) => {
@@ -173,12 +165,12 @@ impl Recent {
     /// ```
     /// recent.add(&ended)?;
     /// ```
-    pub fn add(&mut self, traced: &Traced) -> Result<(), AllocError>
-        ensures keeps { IfOk result (λ _. (words : List ℕ) (told : List Observed) (now : ℕ) → Keeps words told now self.old → CanBeKept now self.old traced.now.op → Keeps words (told ++ traced.now.op ∷ []) traced.now.op.end self.new) }
+    pub fn add(&mut self, op: &Operation) -> Result<(), AllocError>
+        ensures keeps { IfOk result (λ _. (words : List ℕ) (told : List Operation) (now : ℕ) → Keeps words told now self.old → CanBeKept now self.old op.now → Keeps words (told ++ op.now ∷ []) op.now.end self.new) }
         ensures horizon { IfOk result (λ _. self.new.horizon ≡ self.old.horizon) }
     {
         if !self.is_stopped {
-            self.kept.push(*traced)?;
+            self.kept.push(*op)?;
         }
         Ok(())
     }
@@ -196,7 +188,7 @@ impl Recent {
         budget: u64,
         progress: &mut P,
     ) -> Result<(), AllocError>
-        ensures keeps { IfOk result (λ _. (words : List ℕ) (told : List Observed) (now : ℕ) → horizon ≤ now + 1 → Keeps words told now self.old → Keeps words told now self.new) }
+        ensures keeps { IfOk result (λ _. (words : List ℕ) (told : List Operation) (now : ℕ) → horizon ≤ now + 1 → Keeps words told now self.old → Keeps words told now self.new) }
         ensures horizon { IfOk result (λ _. (self.new.horizon ≤ horizon) ⊎ (self.new.horizon ≡ self.old.horizon)) }
         ensures looked { IfOk result (λ _. LookedSome P.looked progress.old progress.new) }
     {

@@ -8,22 +8,21 @@ ghost use Rattle.chi_search.specs.Layers.{SomeLeads};
 ghost use Rattle.chi_search.specs.Looks.{LookedMore, LookedSome};
 ghost use Rattle.chi_trace.specs.Cuts.{cut};
 ghost use Rattle.chi_trace.specs.Explains.{at};
-ghost use Rattle.chi_trace.specs.declared.observed.Observed.{Observed};
+ghost use Rattle.chi_trace.specs.declared.operation.Operation.{Operation};
 ghost use Rattle.chi_recent.specs.Recent.{LiesWithin};
 
 use chi_search::{Frontier, Progress, Words};
-use chi_trace::Observed;
-use chi_verdict::cut;
+use chi_trace::{Operation, cut};
 use std::alloc::{AllocError, Global};
 
 /// The search once more operations are told, one after the other. There is none where one of them cannot be told next.
 pub(crate) fn told_after(
     alloc: Global,
     before: &Frontier,
-    more: &[Observed],
+    more: &[Operation],
 ) -> Result<Option<Frontier>, AllocError>
-    ensures follows { IfOk result (λ after. IfSome after (λ frontier. (words : List ℕ) (told : List Observed) → Follows words told before.now → Follows words (told ++ more.now) frontier)) }
-    ensures next { IfOk result (λ after. IfSome after (λ frontier. (rest : List Observed) → MayBeTold before.now (more.now ++ rest) → MayBeTold frontier rest)) }
+    ensures follows { IfOk result (λ after. IfSome after (λ frontier. (words : List ℕ) (told : List Operation) → Follows words told before.now → Follows words (told ++ more.now) frontier)) }
+    ensures next { IfOk result (λ after. IfSome after (λ frontier. (rest : List Operation) → MayBeTold before.now (more.now ++ rest) → MayBeTold frontier rest)) }
     ensures horizon { IfOk result (λ after. IfSome after (λ frontier. frontier.horizon ≡ before.now.horizon)) }
     ensures latest { IfOk result (λ after. IfSome after (λ frontier. (time : ℕ) → before.now.latest ≤ time → All (λ op. op.end ≤ time) more.now → frontier.latest ≤ time)) }
     ensures refused { IfOk result (λ after. after ≡ None → MayBeTold before.now more.now → All LiesWithin more.now → ⊥) }
@@ -42,11 +41,11 @@ pub(crate) fn told_after(
 pub(crate) fn words_after<P: Progress>(
     alloc: Global,
     before: &Frontier,
-    more: &[Observed],
+    more: &[Operation],
     budget: u64,
     progress: &mut P,
 ) -> Result<Words, AllocError>
-    ensures words { IfOk result (λ found. IfWords found (λ each. (words : List ℕ) (told : List Observed) → Follows words told before.now → (v : ℕ) → Contains each v ↔ SomeLeads (told ++ more.now) words v)) }
+    ensures words { IfOk result (λ found. IfWords found (λ each. (words : List ℕ) (told : List Operation) → Follows words told before.now → (v : ℕ) → Contains each v ↔ SomeLeads (told ++ more.now) words v)) }
     ensures unknown { IfOk result (λ found. IfUnknown found (MayBeTold before.now more.now → All LiesWithin more.now → LookedMore P.looked progress.old progress.new budget)) }
     ensures looked { IfOk result (λ _. LookedSome P.looked progress.old progress.new) }
 {
@@ -61,12 +60,12 @@ pub(crate) fn words_after<P: Progress>(
 pub(crate) fn words_by<P: Progress>(
     alloc: Global,
     before: &Frontier,
-    more: &[Observed],
+    more: &[Operation],
     time: u64,
     budget: u64,
     progress: &mut P,
 ) -> Result<Words, AllocError>
-    ensures words { IfOk result (λ found. IfWords found (λ each. (words : List ℕ) (told : List Observed) → Follows words told before.now → (v : ℕ) → Contains each v ↔ SomeLeads (told ++ cut time more.now) words v)) }
+    ensures words { IfOk result (λ found. IfWords found (λ each. (words : List ℕ) (told : List Operation) → Follows words told before.now → (v : ℕ) → Contains each v ↔ SomeLeads (told ++ cut time more.now) words v)) }
     ensures unknown { IfOk result (λ found. IfUnknown found (MayBeTold before.now more.now → All LiesWithin more.now → LookedMore P.looked progress.old progress.new budget)) }
     ensures looked { IfOk result (λ _. LookedSome P.looked progress.old progress.new) }
 {

@@ -3,18 +3,17 @@
 ghost use Rattle.std.specs.Prelude.{◌≡◌, ◌<◌, ◌++◌, true, All, None, IfOk, IfSome, IsPermutation, length};
 ghost use Rattle.std.specs.List.{filter, remove};
 ghost use Rattle.chi_trace.specs.Explains.{at, is_answered};
-ghost use Rattle.chi_recent.specs.Searches.{is_traced_during};
-ghost use Rattle.chi_recent.specs.Shown.{had_traced_ended, last_of};
+ghost use Rattle.chi_recent.specs.Searches.{is_during};
+ghost use Rattle.chi_recent.specs.Shown.{had_ended, last_of};
 
-use crate::traced::Traced;
-use chi_trace::Observed;
+use chi_trace::Operation;
 use std::alloc::{AllocError, Global};
 
 /// How many operations are shown at most before the one that is blamed.
 const SHOWN: usize = 16;
 
 /// The place of the first operation that was answered at a time.
-pub(crate) fn answered_at(ops: &[Observed], time: u64) -> Option<usize>
+pub(crate) fn answered_at(ops: &[Operation], time: u64) -> Option<usize>
     ensures within { IfSome result (λ place. place < length ops.now) }
     ensures ends { IfSome result (λ place. (at ops.now place).end ≡ time) }
     ensures answered { IfSome result (λ place. is_answered (at ops.now place) ≡ true) }
@@ -29,59 +28,63 @@ pub(crate) fn answered_at(ops: &[Observed], time: u64) -> Option<usize>
 }
 
 /// Those that had started by a time and had not ended before, in the order of their starts.
-pub(crate) fn open_at(alloc: Global, kept: &[Traced], time: u64) -> Result<Vec<Traced>, AllocError>
-    ensures { IfOk result (λ during. IsPermutation (filter (is_traced_during time) kept.now) during.items) }
+pub(crate) fn open_at(
+    alloc: Global,
+    kept: &[Operation],
+    time: u64,
+) -> Result<Vec<Operation>, AllocError>
+    ensures { IfOk result (λ during. IsPermutation (filter (is_during time) kept.now) during.items) }
 {
     let mut during = Vec::new(alloc);
-    for traced in kept {
-        if traced.op.start <= time && time <= traced.op.end {
-            during.push(*traced)?;
+    for op in kept {
+        if op.start <= time && time <= op.end {
+            during.push(*op)?;
         }
     }
-    during.sort_by_key(|traced| traced.op.start)?;
+    during.sort_by_key(|op| op.start)?;
     Ok(during)
 }
 
 /// The last of some operations, 16 at most.
-fn last_of(alloc: Global, traced: &[Traced]) -> Result<Vec<Traced>, AllocError>
-    ensures { IfOk result (λ last. last.items ≡ last_of 16 traced.now) }
+fn last_of(alloc: Global, ops: &[Operation]) -> Result<Vec<Operation>, AllocError>
+    ensures { IfOk result (λ last. last.items ≡ last_of 16 ops.now) }
 {
-    Vec::from_slice(alloc, &traced[traced.len().saturating_sub(SHOWN)..])
+    Vec::from_slice(alloc, &ops[ops.len().saturating_sub(SHOWN)..])
 }
 
 /// The last of some operations and of others after them, 16 at most.
 pub(crate) fn last_with(
     alloc: Global,
-    earlier: &[Traced],
-    next: &[Traced],
-) -> Result<Vec<Traced>, AllocError>
+    earlier: &[Operation],
+    next: &[Operation],
+) -> Result<Vec<Operation>, AllocError>
     ensures { IfOk result (λ last. last.items ≡ last_of 16 (earlier.now ++ next.now)) }
 {
-    let mut traced = Vec::from_slice(alloc, earlier)?;
-    traced.extend_from_slice(next)?;
-    last_of(alloc, &traced)
+    let mut ops = Vec::from_slice(alloc, earlier)?;
+    ops.extend_from_slice(next)?;
+    last_of(alloc, &ops)
 }
 
 /// Those that had ended by a time.
-fn ended_by(alloc: Global, kept: &[Traced], time: u64) -> Result<Vec<Traced>, AllocError>
-    ensures { IfOk result (λ ended. ended.items ≡ filter (had_traced_ended time) kept.now) }
+fn ended_by(alloc: Global, kept: &[Operation], time: u64) -> Result<Vec<Operation>, AllocError>
+    ensures { IfOk result (λ ended. ended.items ≡ filter (had_ended time) kept.now) }
 {
     kept.iter()
         .copied()
-        .filter(|traced| traced.op.end <= time)
+        .filter(|op| op.end <= time)
         .collect(alloc)
 }
 
 /// The last that had ended by a time, of those that were left to the search and of those that are kept, but the one at a place.
 pub(crate) fn before_at(
     alloc: Global,
-    left: &[Traced],
-    kept: &[Traced],
+    left: &[Operation],
+    kept: &[Operation],
     time: u64,
     place: usize,
-) -> Result<Vec<Traced>, AllocError>
+) -> Result<Vec<Operation>, AllocError>
     requires { place < length kept.now }
-    ensures { IfOk result (λ before. before.items ≡ last_of 16 (left.now ++ filter (had_traced_ended time) (remove kept.now place))) }
+    ensures { IfOk result (λ before. before.items ≡ last_of 16 (left.now ++ filter (had_ended time) (remove kept.now place))) }
 {
     let mut others = Vec::from_slice(alloc, kept)?;
     others.remove(place);

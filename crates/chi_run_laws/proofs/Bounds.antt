@@ -22,8 +22,8 @@ use Rattle.chi_json.specs.declared.member.MemberFault.TheVariants.{BadMember, Mi
 use Rattle.chi_json.proofs.ObjectLemmas.{bytes_read}
 use Rattle.chi_json.proofs.WalkLemmas.{at_ok, number_within, renamed, then_ok}
 use Rattle.chi_json.proofs.WordLemmas.{AreDecoded, AreDecoded-hex_bytes}
-use Rattle.chi_reading.proofs.Faultless.{present, unless}
-use Rattle.chi_reading.proofs.RegionText.{region_lawful}
+use Rattle.chi_trace.proofs.Decided.{region_lawful, unless}
+use Rattle.chi_reading.proofs.Faultless.{present}
 use Rattle.chi_script.specs.Faults.{as_fault}
 use Rattle.chi_script.specs.Member.{member_name}
 use Rattle.chi_script.specs.Script.{ScriptValue, element_of, object_script, on_region, request_of, requests_of, script}

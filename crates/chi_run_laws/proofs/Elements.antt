@@ -15,7 +15,7 @@ use Rattle.chi_lanes.specs.After.{after, answer}
 use Rattle.chi_lanes.specs.Memory.{IsMemory, Memory}
 use Rattle.chi_history.specs.declared.line.Line.{Line}
 use Rattle.chi_history.specs.Lines.{serial, serial_after, serial_line}
-use Rattle.chi_trace.specs.declared.observed.Observed.{Observed}
+use Rattle.chi_trace.specs.declared.operation.Operation.{Operation}
 use Rattle.chi_json.specs.Object.{with_text}
 use Rattle.chi_reading.specs.Requests.{Completed, completed_at, completed_of, joined, none_completed, one_accepted, one_refused}
 use Rattle.chi_engine.specs.Trace.{line_data, taken_at, with_reply}
@@ -23,7 +23,7 @@ use Rattle.chi_lanes.proofs.AfterLemmas.{IsMemory-after}
 use Rattle.chi_run_laws.specs.Executed.{done_at, refusals_in}
 use Rattle.chi_run_laws.proofs.Accepted.{answer_read, lawful}
 use Rattle.chi_run_laws.proofs.Executions.{ran, ran_accepted, ran_refused}
-use Rattle.chi_run_laws.proofs.Reading.{asked, completed_reads, refused_reads}
+use Rattle.chi_run_laws.proofs.Reading.{completed_reads, refused_reads}
 use Rattle.chi_run_laws.proofs.Told.{IsTold}
 
 -- the requests of lines, the first of which has this place
@@ -84,9 +84,9 @@ requests_read region is (q ∷ qs) place m is_m told within =
         let all : data_from place (serial region (q ∷ qs) m) ≡ first ∷ others = data_by region place q qs m (Ok a) decided in
         let one = completed_reads region place q a m first_told here (answer_read a m is_m is_lawful) decided in
         subst (λ (ds : List Data). IsReadAs region place (q ∷ qs) m (items_of ds)) (sym all) (record {
-          completed = joined (one_accepted place (asked q) (done_at place q (answer a m) a)) rest.completed;
+          completed = joined (one_accepted (done_at place q (answer a m) a)) rest.completed;
           read = read_more region place first (items_of others) _ rest.completed one rest.read;
-          operations = ap (λ (ops : List Observed). done_at place q (answer a m) a ∷ ops) rest.operations ∙ sym (ran_accepted region place q qs m a decided);
+          operations = ap (λ (ops : List Operation). done_at place q (answer a m) a ∷ ops) rest.operations ∙ sym (ran_accepted region place q qs m a decided);
           refusals = rest.refusals ∙ sym (refusals_by region q qs m (Ok a) decided);
         })
     by_decision (Err refusal) decided later =

@@ -12,8 +12,8 @@ use Rattle.chi_history.specs.Openings.{opened}
 use Rattle.chi_script.specs.RunText.{granule_words}
 use Rattle.chi_script.proofs.GranuleWords.{get_or-granule_words, length-granule_words}
 use Rattle.chi_trace.specs.Explains.{word_of}
-use Rattle.chi_verdict.specs.declared.words.GranuleWord.{GranuleWord}
-use Rattle.chi_verdict.specs.Words.{memory_of, told}
+use Rattle.chi_trace.specs.declared.words.GranuleWord.{GranuleWord}
+use Rattle.chi_trace.specs.Words.{memory_of, told}
 use Rattle.chi_reading.specs.Told.{region_words}
 
 -- no word is told of a granule before a region's first

@@ -7,20 +7,20 @@ use Rattle.std.proofs.lemmas.List.Elements.{All-head, All-tail}
 use Rattle.std.specs.List.{range_with_len}
 use Rattle.std.specs.Prelude.{map}
 use Rattle.chi_history.specs.History.{one_if}
-use Rattle.chi_trace.specs.declared.observed.Observed.{Observed}
+use Rattle.chi_trace.specs.declared.operation.Operation.{Operation}
 use Rattle.chi_trace.specs.Chosen.{chosen}
 use Rattle.chi_trace.specs.Explains.{IsTrace, at, is_place, nothing, times_in}
 use Rattle.chi_run_laws.proofs.Executions.{AreApart}
 
 -- one of them starts no earlier than the first place
-starts_past : (ops : List Observed) (place i : ℕ) → AreApart place ops → i < length ops → place ≤ (at ops i).start
+starts_past : (ops : List Operation) (place i : ℕ) → AreApart place ops → i < length ops → place ≤ (at ops i).start
 unfolding AreApart
 starts_past [] place i apart below = absurd (omega arith)
 starts_past (op ∷ ops) place zero apart below = apart.0
 starts_past (op ∷ ops) place (suc i) apart below = let later = starts_past ops (op.start + 1) i apart.2 (omega arith) in omega (arith, later, apart.0)
 
 -- an earlier one starts before a later one
-starts_before : (ops : List Observed) (place i j : ℕ) → AreApart place ops → i < j → j < length ops → (at ops i).start < (at ops j).start
+starts_before : (ops : List Operation) (place i j : ℕ) → AreApart place ops → i < j → j < length ops → (at ops i).start < (at ops j).start
 unfolding AreApart
 starts_before [] place i j apart earlier below = absurd (omega arith)
 starts_before (op ∷ ops) place zero zero apart earlier below = absurd (omega arith)
@@ -29,7 +29,7 @@ starts_before (op ∷ ops) place (suc i) zero apart earlier below = absurd (omeg
 starts_before (op ∷ ops) place (suc i) (suc j) apart earlier below = starts_before ops (op.start + 1) i j apart.2 (omega arith) (omega arith)
 
 -- what is so of each operation that was chosen is so of one of them
-one_chosen : (P : Observed → Type 0) (ops : List Observed) (order : List ℕ) (i : ℕ) → 1 ≤ times_in order i → All P (chosen ops order) → P (at ops i)
+one_chosen : (P : Operation → Type 0) (ops : List Operation) (order : List ℕ) (i : ℕ) → 1 ≤ times_in order i → All P (chosen ops order) → P (at ops i)
 unfolding times_in
 one_chosen P ops [] i there each = absurd (omega arith)
 one_chosen P ops (j ∷ order) i there each = by_test (j == i) refl (λ later. one_chosen P ops order i later (All-tail P (at ops j) (chosen ops order) each))
@@ -52,7 +52,7 @@ here : (j : ℕ) → one_if (j == j) ≡ 1
 here j = ap one_if (eq-eqb j j refl)
 
 -- an order in which they stand by their starts is that of their places
-order_is : (ops : List Observed) (place a n : ℕ) (order : List ℕ) → AreApart place ops → a + n ≡ length ops → IsOnce a n order → IsTrace (chosen ops order)
+order_is : (ops : List Operation) (place a n : ℕ) (order : List ℕ) → AreApart place ops → a + n ≡ length ops → IsOnce a n order → IsTrace (chosen ops order)
     → order ≡ range_with_len a n
 unfolding IsTrace times_in
 order_is ops place a zero [] apart count once sorted = refl
@@ -129,7 +129,7 @@ order_is ops place a (suc n) (j ∷ order) apart count once sorted =
         not_first i later false other = ap one_if other
 
 -- all operations in the order of their places
-all_chosen : (before rest : List Observed) → map (at (before ++ rest)) (range_with_len (length before) (length rest)) ≡ rest
+pub all_chosen : (before rest : List Operation) → map (at (before ++ rest)) (range_with_len (length before) (length rest)) ≡ rest
 all_chosen before [] = refl
 all_chosen before (op ∷ rest) =
     let first : at (before ++ op ∷ rest) (length before) ≡ op = get_or-append_seam before op rest nothing in
@@ -137,11 +137,11 @@ all_chosen before (op ∷ rest) =
     let count : length (before ++ op ∷ []) ≡ length before + 1 = length-append before (op ∷ []) in
     let later : map (at (before ++ op ∷ rest)) (range_with_len (length before + 1) (length rest)) ≡ rest =
     subst (λ n. map (at (before ++ op ∷ rest)) (range_with_len n (length rest)) ≡ rest) count
-    (subst (λ (l : List Observed). map (at l) (range_with_len (length (before ++ op ∷ [])) (length rest)) ≡ rest) whole (all_chosen (before ++ op ∷ []) rest)) in
-    ap (λ (o : Observed). o ∷ map (at (before ++ op ∷ rest)) (range_with_len (length before + 1) (length rest))) first ∙ ap (λ (l : List Observed). op ∷ l) later
+    (subst (λ (l : List Operation). map (at l) (range_with_len (length (before ++ op ∷ [])) (length rest)) ≡ rest) whole (all_chosen (before ++ op ∷ []) rest)) in
+    ap (λ (o : Operation). o ∷ map (at (before ++ op ∷ rest)) (range_with_len (length before + 1) (length rest))) first ∙ ap (λ (l : List Operation). op ∷ l) later
 
 -- the operations that are apart, each once and by their starts, are those operations
-pub in_order : (ops : List Observed) (order : List ℕ) → AreApart 0 ops → ((i : ℕ) → times_in order i ≡ one_if (is_place ops i)) → IsTrace (chosen ops order)
+pub in_order : (ops : List Operation) (order : List ℕ) → AreApart 0 ops → ((i : ℕ) → times_in order i ≡ one_if (is_place ops i)) → IsTrace (chosen ops order)
     → chosen ops order ≡ ops
 in_order ops order apart each sorted =
     ap (map (at ops)) (order_is ops 0 0 (length ops) order apart (omega arith) (record { before = before; inside = inside; past = past }) sorted) ∙ all_chosen [] ops

@@ -24,20 +24,21 @@ use Rattle.chi_json.specs.Members.{number_of}
 use Rattle.chi_json.specs.Object.{IsReadBack, byte_order, with_bytes, with_number, with_request, with_text}
 use Rattle.chi_reading.specs.Member.{member_name}
 use Rattle.chi_reading.specs.Refused.{is_refused_so, refusal_of}
-use Rattle.chi_reading.specs.Replies.{reply_fault}
-use Rattle.chi_reading.specs.Requests.{asked_of, completed_at, end_of, fields_of, observed_of, one_accepted, one_refused, refused_of, request_of, seen_of, stated_at, stated_of}
+use Rattle.chi_trace.specs.Replies.{reply_fault}
+use Rattle.chi_trace.specs.Asked.{request_of}
+use Rattle.chi_reading.specs.Requests.{asked_of, completed_at, end_of, fields_of, observed_of, one_accepted, one_refused, refused_of, seen_of, stated_at, stated_of}
 use Rattle.chi_reading.specs.Unknown.{is_known, unknown_in}
-use Rattle.chi_reading.specs.declared.asked.Asked.{Asked}
+use Rattle.chi_trace.specs.declared.asked.Asked.{Asked}
 use Rattle.chi_reading.specs.declared.member.Member.{Member}
 use Rattle.chi_reading.specs.declared.member.Member.TheVariants.{Src, Txn, Opcode, Size, Addr, Endian, Be, Start, End}
-use Rattle.chi_reading.proofs.AnswersLie.{answer_is_faultless}
+use Rattle.chi_trace.proofs.AnswersLie.{answer_is_faultless}
 use Rattle.chi_engine.specs.Trace.{taken_at, with_reply}
 use Rattle.chi_run_laws.specs.Executed.{done_at}
 use Rattle.chi_run_laws.proofs.Told.{IsTold}
 
--- the same request, as a trace has it
-abbrev pub asked : Request → Asked
-asked q = record { src = q.src; txn = q.txn; opcode = q.opcode; size = q.size; addr = q.addr; endian = q.endian; be = q.be; lanes = q.lanes }
+-- the same request, as a trace has it with this number
+abbrev pub asked : ℕ → Request → Asked
+asked n q = record { number = n; src = q.src; txn = q.txn; opcode = q.opcode; size = q.size; addr = q.addr; endian = q.endian; be = q.be; lanes = q.lanes }
 
 -- a number that is there, and is not too great
 pub number_here : (m : Member) (top n : ℕ) (d : Data) → get (member_name m) d ≡ Some (number (unsigned n)) → n ≤ top → number_of member_name m top d ≡ Ok n
@@ -54,7 +55,7 @@ order_within true = omega arith
 order_within false = omega arith
 
 -- the request of an object that was made of one, with a member `reply` more
-asked_answered : (time : ℕ) (q : Request) (x : Data) → IsTold q → asked_of (object (put (codes "reply") x (taken_at time q))) ≡ Ok (asked q)
+asked_answered : (time : ℕ) (q : Request) (x : Data) → IsTold q → asked_of time (object (put (codes "reply") x (taken_at time q))) ≡ Ok (asked time q)
 unfolding asked_of fields_of taken_at with_request with_number with_bytes
 asked_answered time q x told =
     let d : Data = object (put (codes "reply") x (taken_at time q)) in
@@ -71,7 +72,7 @@ asked_answered time q x told =
     ) refl
 
 -- the request of an object that was made of one, with a member `refused` more
-asked_refused : (time : ℕ) (q : Request) (x : Data) → IsTold q → asked_of (object (put (codes "refused") x (taken_at time q))) ≡ Ok (asked q)
+asked_refused : (time : ℕ) (q : Request) (x : Data) → IsTold q → asked_of time (object (put (codes "refused") x (taken_at time q))) ≡ Ok (asked time q)
 unfolding asked_of fields_of taken_at with_request with_number with_bytes
 asked_refused time q x told =
     let d : Data = object (put (codes "refused") x (taken_at time q)) in
@@ -137,11 +138,11 @@ refused_so OutOfRegion = refl
 refused_so BadByteEnable = refl
 
 -- a home does not look at the requester and the transaction
-pub same_decision : (region : Extent) (q : Request) → decision (request_of (asked q)) region ≡ decision q region
+pub same_decision : (place : ℕ) (region : Extent) (q : Request) → decision (request_of (asked place q)) region ≡ decision q region
 unfolding decision_as
-same_decision region q = by_kind (kind_of q.opcode)
+same_decision place region q = by_kind (kind_of q.opcode)
   where
-    by_kind : (k : Option Kind) → decision_of k (request_of (asked q)) region ≡ decision_of k q region
+    by_kind : (k : Option Kind) → decision_of k (request_of (asked place q)) region ≡ decision_of k q region
     by_kind None = refl
     by_kind (Some kind) = refl
 
@@ -151,7 +152,7 @@ no_later time = le-ltb time time (omega arith)
 -- a request that was answered reads as its operation
 answered_reads : (region : Extent) (place : ℕ) (q : Request) (a : Access) (reply : Reply) (x : Data) → IsTold q → place ≤ 2 ^ 64 - 1 → seen_of x ≡ Some (Some reply)
     → decision q region ≡ Ok a → reply_fault a (Some reply) ≡ None
-    → completed_at place (Some region) (object (put (codes "reply") x (taken_at place q))) ≡ Ok (one_accepted place (asked q) (done_at place q reply a))
+    → completed_at place (Some region) (object (put (codes "reply") x (taken_at place q))) ≡ Ok (one_accepted (done_at place q reply a))
 unfolding completed_at stated_at stated_of end_of observed_of unknown_in is_known taken_at with_request with_number with_bytes
 answered_reads region place q a reply x told within seen is faultless =
     let d : Data = object (put (codes "reply") x (taken_at place q)) in
@@ -160,7 +161,7 @@ answered_reads region place q a reply x told within seen is faultless =
       number_here Start (2 ^ 64 - 1) place d refl within,
       number_here End (2 ^ 64 - 1) place d refl within,
       seen,
-      same_decision region q,
+      same_decision place region q,
       is,
       no_later place,
       faultless,
@@ -168,7 +169,7 @@ answered_reads region place q a reply x told within seen is faultless =
 
 -- so does one that was completed
 pub completed_reads : (region : Extent) (place : ℕ) (q : Request) (a : Access) (m : Memory) → IsTold q → place ≤ 2 ^ 64 - 1 → IsReply (answer a m) → decision q region ≡ Ok a
-    → completed_at place (Some region) (object (with_reply (answer a m) (taken_at place q))) ≡ Ok (one_accepted place (asked q) (done_at place q (answer a m) a))
+    → completed_at place (Some region) (object (with_reply (answer a m) (taken_at place q))) ≡ Ok (one_accepted (done_at place q (answer a m) a))
 completed_reads region place q a m told within back is =
     ap (λ (ms : Members). completed_at place (Some region) (object ms)) (with_reply_is (answer a m) (taken_at place q))
     ∙ answered_reads region place q a (answer a m) (reply_data (answer a m)) told within (reply_read (answer a m) back) is (answer_is_faultless a m)
@@ -185,7 +186,7 @@ refused_reads region place q refusal told within is =
       number_here Start (2 ^ 64 - 1) place d refl within,
       number_here End (2 ^ 64 - 1) place d refl within,
       reason_read refusal,
-      same_decision region q,
+      same_decision place region q,
       is,
       refused_so refusal,
       no_later place,

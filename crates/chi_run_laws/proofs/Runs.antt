@@ -2,6 +2,8 @@
 use Rattle.std.proofs.Common.{◌≡◌, ℕ, zero, suc, ◌+◌, ◌-◌, ◌^◌, ◌<◌, ◌≤◌, List, [], ◌∷◌, All, length, Option, IfSome, Result, Ok, Err, refl, sym, ap, subst, ◌∙◌, arith}
 use Rattle.std.proofs.lemmas.List.Elements.{All-cons, All-head, All-nil, All-tail}
 use Rattle.std.specs.List.{range_with_len}
+use Rattle.std.specs.List.Sorted.{IsPermutation}
+use Rattle.std.specs.Prelude.{map}
 use Rattle.serde_json.specs.Events.{items_len}
 use Rattle.serde_json.specs.View.{items_of}
 use Rattle.chi_fields.specs.Access.{Access}
@@ -16,12 +18,12 @@ use Rattle.chi_lanes.proofs.MemoryLemmas.{word_at-below}
 use Rattle.chi_history.specs.History.{one_if, opening_memory}
 use Rattle.chi_history.specs.Lines.{serial_after, serial_end}
 use Rattle.chi_history.proofs.WordLemmas.{IsMemory-opening_memory}
-use Rattle.chi_trace.specs.declared.observed.Observed.{Observed}
-use Rattle.chi_trace.specs.Chosen.{chosen}
-use Rattle.chi_trace.specs.Explains.{Explains, IsTrace, is_place, times_in, word_of}
-use Rattle.chi_verdict.specs.Words.{memory_of, told}
+use Rattle.chi_trace.specs.declared.operation.Operation.{Operation}
+use Rattle.chi_trace.specs.Explains.{Explains, IsTrace, at, is_place, times_in, word_of}
+use Rattle.chi_trace.specs.Words.{memory_of, told}
+use Rattle.chi_trace.proofs.ToldAgain.{lifted, times_permuted}
 use Rattle.chi_script.specs.RunText.{granule_words}
-use Rattle.chi_script.specs.Script.{ScriptValue, script}
+use Rattle.chi_script.specs.Script.{ScriptValue}
 use Rattle.chi_script.proofs.GranuleWords.{length-granule_words}
 use Rattle.chi_engine.specs.Store.{opening_of, requester_count}
 use Rattle.chi_engine.specs.Trace.{final_words_of, lines_of}
@@ -32,7 +34,8 @@ use Rattle.chi_run_laws.proofs.Bounds.{IsImage, IsSound, script_sound}
 use Rattle.chi_run_laws.proofs.Elements.{count_of_data, requests_read}
 use Rattle.chi_run_laws.proofs.Executions.{explained, ran_apart}
 use Rattle.chi_run_laws.proofs.Memory.{ending_is, memory_is}
-use Rattle.chi_run_laws.proofs.Order.{in_order}
+use Rattle.chi_run_laws.proofs.Order.{all_chosen, in_order}
+use Rattle.chi_run_laws.proofs.Ranges.{once_in_order}
 use Rattle.chi_run_laws.proofs.Told.{IsTold}
 use Rattle.chi_run_laws.proofs.Texts.{read_value, text_reads}
 
@@ -80,15 +83,18 @@ trace_is_read input text s read value =
 
 pub read_in_order : RunIsReadInOrder
 read_in_order s t r is recorded sorted =
-    let ops : List Observed = executed (lines_of s) in
-    let chosen_are : r.trace.operations ≡ chosen ops recorded.order = recorded.operations ∙ ap (λ (l : List Observed). chosen l recorded.order) is.operations in
-    let each : (i : ℕ) → times_in recorded.order i ≡ one_if (is_place ops i) = λ i. recorded.each i ∙ ap (λ (l : List Observed). one_if (is_place l i)) is.operations in
-    chosen_are ∙ in_order ops recorded.order (ran_apart s.region s.requests 0 (start s)) each (subst IsTrace chosen_are sorted)
+    let ops : List Operation = executed (lines_of s) in
+    let places : List ℕ = range_with_len 0 (length ops) in
+    let moved : IsPermutation (map (at ops) places) r.trace.operations =
+    subst (λ (l : List Operation). IsPermutation l r.trace.operations) (is.operations ∙ sym (all_chosen [] ops)) recorded.operations in
+    let own = lifted (at ops) places r.trace.operations moved in
+    let each : (i : ℕ) → times_in own.0 i ≡ one_if (is_place ops i) = λ i. times_permuted places own.0 i own.2 ∙ once_in_order (length ops) i in
+    sym own.1 ∙ in_order ops own.0 (ran_apart s.region s.requests 0 (start s)) each (subst IsTrace (sym own.1) sorted)
 
 pub is_explained : RunIsExplained
 is_explained input s t r read is recorded sorted =
     let sound = script_sound input s read in
-    let ops : List Observed = executed (lines_of s) in
+    let ops : List Operation = executed (lines_of s) in
     let left : Memory = serial_end s.region s.requests (start s) in
     let order : List ℕ = range_with_len 0 (length ops) in
     let ending : (g : ℕ) → IfSome (told r.final_words g) (λ w. word_of left g ≡ w) =
@@ -97,4 +103,4 @@ is_explained input s t r read is recorded sorted =
     memory_is s.region requester_count s.image r.trace.opening sound.region sound.image.count (λ g. recorded.opening g ∙ ap (λ words. told words g) is.opening) in
     let by_memory : Explains (start s) (told r.final_words) ops order = explained s.region s.requests (start s) (told r.final_words) ending in
     let by_words : Explains (memory_of r.trace.opening) (told r.final_words) ops order = subst (λ (m : Memory). Explains m (told r.final_words) ops order) opening by_memory in
-    (order, subst (λ (l : List Observed). Explains (memory_of r.trace.opening) (told r.final_words) l order) (sym (read_in_order s t r is recorded sorted)) by_words)
+    (order, subst (λ (l : List Operation). Explains (memory_of r.trace.opening) (told r.final_words) l order) (sym (read_in_order s t r is recorded sorted)) by_words)

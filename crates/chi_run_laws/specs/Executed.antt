@@ -8,21 +8,21 @@ use Rattle.chi_fields.specs.declared.request.Request.{Request}
 use Rattle.chi_lanes.specs.declared.reply.Reply.{Reply}
 use Rattle.chi_history.specs.declared.line.Line.{Line}
 use Rattle.chi_history.specs.declared.line.Line.TheVariants.{Completed, Refused, Retried}
-use Rattle.chi_trace.specs.declared.observed.Observed.{Observed}
+use Rattle.chi_trace.specs.declared.operation.Operation.{Operation}
 
 -- what a completed request did, which starts and ends at a time
-abbrev pub done_at : ℕ → Request → Reply → Access → Observed
-done_at time q reply access = record { start = time; end = time; src = q.src; access = access; reply = Some reply }
+abbrev pub done_at : ℕ → Request → Reply → Access → Operation
+done_at time q reply access = record { number = time; src = q.src; txn = q.txn; access = access; start = time; end = time; reply = Some reply }
 
 -- the operation of a line: only a completed request is one, and what it did is the access that it describes
-abbrev pub operation_at : ℕ → Line → Option Observed
+abbrev pub operation_at : ℕ → Line → Option Operation
 operation_at time (Completed q reply) = option_map (done_at time q reply) (access_of q)
 operation_at time (Refused q refusal) = None
 operation_at time (Retried q) = None
 
 -- The operations of lines that were executed one after another, each at the time that is its line's place, counted from 0: it
 -- has ended before the next one starts.
-abbrev pub executed : List Line → List Observed
+abbrev pub executed : List Line → List Operation
 executed lines = filter_map (λ p. operation_at p.0 p.1) (enumerate_from 0 lines)
 
 -- why the request of a line was refused

@@ -1,7 +1,7 @@
 -- the trace of a run, as a checker of traces reads it
 use Rattle.std.specs.Prelude.{◌≡◌, ℕ, ◌/◌, List, Some, Ok}
 use Rattle.chi_trace.specs.Explains.{IsTrace}
-use Rattle.chi_verdict.specs.Traces.{IsExplained}
+use Rattle.chi_trace.specs.Traces.{IsExplained}
 use Rattle.chi_reading.specs.Told.{region_words}
 use Rattle.chi_reading.specs.TraceText.{IsOf, RecordedValue, TextValue, trace_text}
 use Rattle.chi_script.specs.Script.{ScriptValue, script}

@@ -5,7 +5,7 @@ use Rattle.chi_fields.specs.Access.{IsLawful, Access}
 use Rattle.chi_lanes.specs.After.{after, old}
 use Rattle.chi_lanes.specs.Memory.{Memory, granule_start}
 use Rattle.chi_lanes.proofs.MemoryLemmas.{bytes_from-same}
-use Rattle.chi_trace.specs.declared.observed.Observed.{Observed}
+use Rattle.chi_trace.specs.declared.operation.Operation.{Operation}
 use Rattle.chi_trace.proofs.Agree.{after_as_byte, answer_as_of_old}
 use Rattle.chi_search.specs.Commuting.{MovesBefore}
 use Rattle.chi_search.proofs.CommutingPair.{pair}
@@ -43,7 +43,7 @@ either_way x z m y lawful_x lawful_z apart = elim (cases_lt y z.addr) [
   ]
 ]
 
-pub apart : (x z : Observed) → IsLawful x.access → IsLawful z.access → granule_start z.access.addr ≡ granule_start x.access.addr
+pub apart : (x z : Operation) → IsLawful x.access → IsLawful z.access → granule_start z.access.addr ≡ granule_start x.access.addr
     → AreApart x.access z.access → MovesBefore x z
 apart x z lawful_x lawful_z here are = pair x z lawful_x lawful_z here (λ m _. record {
   answers_x = answer_as_of_old x.access.kind x.access (after z.access m) m (same_old x.access z.access m lawful_z are);

@@ -10,7 +10,7 @@ use Rattle.chi_lanes.specs.After.{after_as}
 use Rattle.chi_lanes.specs.Memory.{Memory}
 use Rattle.chi_lanes.specs.Packet.{sent}
 use Rattle.chi_lanes.proofs.AfterLemmas.{length-sent}
-use Rattle.chi_trace.specs.declared.observed.Observed.{Observed}
+use Rattle.chi_trace.specs.declared.operation.Operation.{Operation}
 use Rattle.chi_trace.specs.Granules.{next}
 use Rattle.chi_search.specs.Effects.{IsBitwise, IsBlind, IsEor}
 use Rattle.chi_search.proofs.Spelled.{MakesBits, MakesBits-clr, MakesBits-eor, MakesBits-set}
@@ -49,7 +49,7 @@ same_after Swap o m n x j lawful is below same =
 same_after Compare o m n x j lawful is below same = absurd is
 
 -- words with the same bit at a place leave the same bit there
-pub bitwise_bit : (op : Observed) → IsLawful op.access → IsBitwise op.access.kind → (v w k : ℕ) → v < 2 ^ 64 → w < 2 ^ 64 → k < 64
+pub bitwise_bit : (op : Operation) → IsLawful op.access → IsBitwise op.access.kind → (v w k : ℕ) → v < 2 ^ 64 → w < 2 ^ 64 → k < 64
     → bit_at v k ≡ bit_at w k → bit_at (next op v) k ≡ bit_at (next op w) k
 bitwise_bit op lawful is v w k v_below w_below within same =
     bit_after op v k lawful within
@@ -78,7 +78,7 @@ back_after (Load Eor) o m n x j lawful is below same = back_made o m n x j lawfu
 back_after _ o m n x j lawful is below same = absurd is
 
 -- of a word with a bit that an exclusive or leaves it leaves the bit that was there
-pub back_bit : (op : Observed) → IsLawful op.access → IsEor op.access.kind → (v w k : ℕ) → v < 2 ^ 64 → w < 2 ^ 64 → k < 64
+pub back_bit : (op : Operation) → IsLawful op.access → IsEor op.access.kind → (v w k : ℕ) → v < 2 ^ 64 → w < 2 ^ 64 → k < 64
     → bit_at v k ≡ bit_at (next op w) k → bit_at (next op v) k ≡ bit_at w k
 back_bit op lawful is v w k v_below w_below within same =
     bit_after op v k lawful within
@@ -87,7 +87,7 @@ back_bit op lawful is v w k v_below w_below within same =
     ∙ sym (bit_here op w k w_below within)
 
 -- each bit of a word stays, or is written whatever it was
-pub blind_bit : (op : Observed) → IsLawful op.access → IsBlind op.access.kind → (k : ℕ) → k < 64
+pub blind_bit : (op : Operation) → IsLawful op.access → IsBlind op.access.kind → (k : ℕ) → k < 64
     → ((w : ℕ) → w < 2 ^ 64 → bit_at (next op w) k ≡ bit_at w k) ⊎ ((v w : ℕ) → v < 2 ^ 64 → w < 2 ^ 64 → bit_at (next op v) k ≡ bit_at (next op w) k)
 blind_bit op lawful is k within = elim (blind_byte op.access.kind op.access (byte_of op k) (k % 8) is lawful (omega arith)) [
   | inl stays ↦ inl (λ w below. bit_after op w k lawful within ∙ stays (here op w) ∙ sym (bit_here op w k below within))

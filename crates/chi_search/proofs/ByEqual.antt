@@ -1,6 +1,6 @@
 -- where an order goes on by an operation, one goes on by an equal one before it
 use Rattle.std.proofs.Common.{◌≡◌, ℕ, ◌<◌, ◌≤◌, ◌^◌, List, length, Option, sym, subst}
-use Rattle.chi_trace.specs.declared.observed.Observed.{Observed}
+use Rattle.chi_trace.specs.declared.operation.Operation.{Operation}
 use Rattle.chi_trace.specs.Explains.{at}
 use Rattle.chi_trace.specs.Granules.{next}
 use Rattle.chi_search.specs.Equal.{AreEqual}
@@ -12,7 +12,7 @@ use Rattle.chi_search.proofs.Moves.{by_first, first_ends, from_taken}
 use Rattle.chi_search.proofs.OneMore.{one_more}
 use Rattle.chi_search.proofs.Settling.{left_is}
 
-pub by_equal : (ops : List Observed) (final_word : Option ℕ) (p : Position) (x y : ℕ) → AreSorted ops → y ≤ x → AreEqual (at ops x) (at ops y)
+pub by_equal : (ops : List Operation) (final_word : Option ℕ) (p : Position) (x y : ℕ) → AreSorted ops → y ≤ x → AreEqual (at ops x) (at ops y)
     → CanCome ops p y
     → ByTaking ops final_word p x → ByTaking ops final_word p y
 by_equal ops final_word p x y sorted before equal comes taking = by_order (taking.3 q.0 takes)

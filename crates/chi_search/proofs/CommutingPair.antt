@@ -5,7 +5,7 @@ use Rattle.chi_fields.specs.Access.{Access, IsLawful}
 use Rattle.chi_lanes.specs.After.{after, answer}
 use Rattle.chi_lanes.specs.Memory.{Memory, IsMemory, granule_start, word_at}
 use Rattle.chi_lanes.proofs.AfterLemmas.{IsMemory-after}
-use Rattle.chi_trace.specs.declared.observed.Observed.{Observed}
+use Rattle.chi_trace.specs.declared.operation.Operation.{Operation}
 use Rattle.chi_trace.specs.Granules.{Fits, next, with_word}
 use Rattle.chi_trace.proofs.Agree.{Same, word_of_same}
 use Rattle.chi_trace.proofs.Steps.{IsMemory-with_word, answer_at, fits_at, next-below, next_at, word_at-with_word}
@@ -18,22 +18,22 @@ pub record Commute (x z : Access) (m : Memory) : Type 0 where
   pub leave : Same (granule_start x.addr) 8 (after z (after x m)) (after x (after z m))
 
 -- an operation at a memory, by where its granule starts
-abbrev pub At : Observed → ℕ → Type 0
+abbrev pub At : Operation → ℕ → Type 0
 At op s = granule_start op.access.addr ≡ s
 
-next_here : (op : Observed) (s : ℕ) (m : Memory) → At op s → IsMemory m → IsLawful op.access → next op (word_at m s) ≡ word_at (after op.access m) s
+next_here : (op : Operation) (s : ℕ) (m : Memory) → At op s → IsMemory m → IsLawful op.access → next op (word_at m s) ≡ word_at (after op.access m) s
 next_here op s m here is lawful = subst (λ t. next op (word_at m t) ≡ word_at (after op.access m) t) here (next_at op m is lawful)
 
-fits_here : (op : Observed) (s : ℕ) (m : Memory) → At op s → IsMemory m → IsLawful op.access → IfSome op.reply (λ reply. reply ≡ answer op.access m)
+fits_here : (op : Operation) (s : ℕ) (m : Memory) → At op s → IsMemory m → IsLawful op.access → IfSome op.reply (λ reply. reply ≡ answer op.access m)
     → Fits op (word_at m s)
 fits_here op s m here is lawful answered = subst (λ t. Fits op (word_at m t)) here (fits_at op m is lawful answered)
 
-answer_here : (op : Observed) (s : ℕ) (m : Memory) → At op s → IsMemory m → IsLawful op.access → Fits op (word_at m s)
+answer_here : (op : Operation) (s : ℕ) (m : Memory) → At op s → IsMemory m → IsLawful op.access → Fits op (word_at m s)
     → IfSome op.reply (λ reply. reply ≡ answer op.access m)
 answer_here op s m here is lawful fits = answer_at op m is lawful (subst (λ t. Fits op (word_at m t)) (sym here) fits)
 
 -- from the word of a memory on
-at_memory : (x z : Observed) (m : Memory) → IsLawful x.access → IsLawful z.access → At z (granule_start x.access.addr) → IsMemory m
+at_memory : (x z : Operation) (m : Memory) → IsLawful x.access → IsLawful z.access → At z (granule_start x.access.addr) → IsMemory m
     → Commute x.access z.access m
     → Fits z (word_at m (granule_start x.access.addr)) → Fits x (next z (word_at m (granule_start x.access.addr)))
     → ComesBefore x z (word_at m (granule_start x.access.addr))
@@ -70,7 +70,7 @@ at_memory x z m lawful_x lawful_z here is commute fits_z fits_x = record {
     next_z = next_here z s m here is lawful_z
 
 -- what is so of each memory is so of each word
-pub pair : (x z : Observed) → IsLawful x.access → IsLawful z.access → granule_start z.access.addr ≡ granule_start x.access.addr
+pub pair : (x z : Operation) → IsLawful x.access → IsLawful z.access → granule_start z.access.addr ≡ granule_start x.access.addr
     → ((m : Memory) → IsMemory m → Commute x.access z.access m) → MovesBefore x z
 pair x z lawful_x lawful_z here commute w below fits_z fits_x =
     let s = granule_start x.access.addr in

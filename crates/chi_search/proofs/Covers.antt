@@ -2,7 +2,7 @@
 use Rattle.std.proofs.Common.{◌≡◌, ℕ, ◌+◌, ◌≤◌, ◌==◌, Bool, true, false, not, cond, List, ◌∷◌, filter, refl, sym, ap, ◌∙◌, arith, eqb-true, eq-eqb, ne_eqb, ◌&&◌}
 use Rattle.std.proofs.lemmas.Bool.{eqb-false}
 use Rattle.chi_history.specs.History.{one_if}
-use Rattle.chi_trace.specs.declared.observed.Observed.{Observed}
+use Rattle.chi_trace.specs.declared.operation.Operation.{Operation}
 use Rattle.chi_trace.specs.Explains.{at, is_answered, times_in}
 use Rattle.chi_trace.proofs.Orders.{times_in-filter}
 
@@ -28,12 +28,12 @@ parts l rest e is settles i = by_test (i == e) refl (settles i)
         kept false = refl
 
 -- each operation that is left stands in the order at most once, at least once where its reply was seen, and no other does
-pub record Covers (ts : List Observed) (l : ℕ → Bool) (x : List ℕ) : Type 0 where
+pub record Covers (ts : List Operation) (l : ℕ → Bool) (x : List ℕ) : Type 0 where
   pub done : (i : ℕ) → one_if (l i && is_answered (at ts i)) ≤ times_in x i
   pub once : (i : ℕ) → times_in x i ≤ one_if (l i)
 
 -- what comes first is left
-pub covers_first : (ts : List Observed) (l : ℕ → Bool) (e : ℕ) (y : List ℕ) → Covers ts l (e ∷ y) → l e ≡ true
+pub covers_first : (ts : List Operation) (l : ℕ → Bool) (e : ℕ) (y : List ℕ) → Covers ts l (e ∷ y) → l e ≡ true
 unfolding times_in
 covers_first ts l e y c = by_test (l e) refl
   where
@@ -45,7 +45,7 @@ covers_first ts l e y c = by_test (l e) refl
         absurd (omega (arith, ap one_if same, ap one_if is))
 
 -- and the rest is of what is left after it
-pub covers_rest : (ts : List Observed) (l rest : ℕ → Bool) (e : ℕ) (y : List ℕ) → Parts l e rest → Covers ts l (e ∷ y) → Covers ts rest y
+pub covers_rest : (ts : List Operation) (l rest : ℕ → Bool) (e : ℕ) (y : List ℕ) → Parts l e rest → Covers ts l (e ∷ y) → Covers ts rest y
 unfolding times_in
 covers_rest ts l rest e y takes c = record {
   done = λ i. least i (l i) (rest i) (is_answered (at ts i)) (takes i) (c.done i);
@@ -59,7 +59,7 @@ covers_rest ts l rest e y takes c = record {
     least i false false d whole h = omega arith
 
 -- an operation that does not stand in the order need not be left
-pub covers_settled : (ts : List Observed) (l rest : ℕ → Bool) (e : ℕ) (x : List ℕ) → Parts l e rest → times_in x e ≡ 0 → Covers ts l x → Covers ts rest x
+pub covers_settled : (ts : List Operation) (l rest : ℕ → Bool) (e : ℕ) (x : List ℕ) → Parts l e rest → times_in x e ≡ 0 → Covers ts l x → Covers ts rest x
 covers_settled ts l rest e x takes none c = record {
   done = λ i. done (e == i) (l i) (rest i) (is_answered (at ts i)) (times_in x i) (takes i) (c.done i);
   once = λ i. once i (e == i) refl (takes i) (c.once i);
@@ -79,7 +79,7 @@ abbrev pub without : ℕ → List ℕ → List ℕ
 without e x = filter (λ j. not (j == e)) x
 
 -- without an operation the others are left
-pub covers_without : (ts : List Observed) (l rest : ℕ → Bool) (e : ℕ) (x : List ℕ) → Parts l e rest → Covers ts l x → Covers ts rest (without e x)
+pub covers_without : (ts : List Operation) (l rest : ℕ → Bool) (e : ℕ) (x : List ℕ) → Parts l e rest → Covers ts l x → Covers ts rest (without e x)
 covers_without ts l rest e x takes c = record {
   done = λ i. rw (times_in-filter (λ j. not (j == e)) x i) (least i (i == e) refl (l i) (rest i) (is_answered (at ts i)) (takes i) (c.done i));
   once = λ i. rw (times_in-filter (λ j. not (j == e)) x i) (most i (i == e) refl);

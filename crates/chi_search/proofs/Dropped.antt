@@ -5,7 +5,7 @@ use Rattle.std.proofs.lemmas.List.{drop-append-le}
 use Rattle.std.proofs.lemmas.List.Elements.{All-map}
 use Rattle.std.proofs.lemmas.Option.{IfSome_then}
 use Rattle.chi_history.specs.History.{one_if}
-use Rattle.chi_trace.specs.declared.observed.Observed.{Observed}
+use Rattle.chi_trace.specs.declared.operation.Operation.{Operation}
 use Rattle.chi_trace.specs.Explains.{at, is_answered, nothing, times_in}
 use Rattle.chi_trace.specs.Granules.{Finishes}
 use Rattle.chi_trace.proofs.Moved.{Moves, in_time_moved, last_moved, play_moved, times_moved}
@@ -15,7 +15,7 @@ use Rattle.chi_search.specs.Positions.{Position, back_by, has_bit, is_left, is_u
 use Rattle.chi_search.proofs.Settling.{left_is}
 
 -- `f` moves each operation of a trace that is left to where it stands in another, and `g` moves each that is left there back
-record IsMove (ts us : List Observed) (s t : ℕ → Bool) (f g : ℕ → ℕ) : Type 0 where
+record IsMove (ts us : List Operation) (s t : ℕ → Bool) (f g : ℕ → ℕ) : Type 0 where
   same : (i : ℕ) → s i ≡ true → at us (f i) ≡ at ts i
   left : (i : ℕ) → s i ≡ true → t (f i) ≡ true
   home : (i : ℕ) → s i ≡ true → g (f i) ≡ i
@@ -23,7 +23,7 @@ record IsMove (ts us : List Observed) (s t : ℕ → Bool) (f g : ℕ → ℕ) :
   there : (j : ℕ) → t j ≡ true → f (g j) ≡ j
 
 -- what finishes those of the one finishes those of the other
-finishes_moved : (ts us : List Observed) (s t : ℕ → Bool) (f g : ℕ → ℕ) (w : ℕ) (final_word : Option ℕ) (x : List ℕ) → IsMove ts us s t f g
+finishes_moved : (ts us : List Operation) (s t : ℕ → Bool) (f g : ℕ → ℕ) (w : ℕ) (final_word : Option ℕ) (x : List ℕ) → IsMove ts us s t f g
     → Finishes ts s w final_word x → Finishes us t w final_word (map f x)
 finishes_moved ts us s t f g w final_word x m h = record {
   done = λ j. done j (t j) refl;
@@ -54,7 +54,7 @@ finishes_moved ts us s t f g w final_word x m h = record {
     done j true is =
         let i : ℕ = g j in
         let from : at ts i ≡ at us j = sym (m.same i (m.back j is)) ∙ ap (at us) (m.there j is) in
-        let due : one_if (s i && is_answered (at us j)) ≤ times_in x i = subst (λ (o : Observed). one_if (s i && is_answered o) ≤ times_in x i) from (h.done i) in
+        let due : one_if (s i && is_answered (at us j)) ≤ times_in x i = subst (λ (o : Operation). one_if (s i && is_answered o) ≤ times_in x i) from (h.done i) in
         let all : one_if (is_answered (at us j)) ≤ times_in x i = subst (λ (b : Bool). one_if (b && is_answered (at us j)) ≤ times_in x i) (m.back j is) due in
         omega (arith, all, moved j is)
 
@@ -80,17 +80,17 @@ left_there n m k p j past count = ap (λ b. b && is_unsettled (back_by k p) j) w
     within = grind (arith, nat_tests)
 
 -- some order finishes what is left if and only if some order does so without the first operations
-pub drop_settled : (ops more : List Observed) (k v : ℕ) (p : Position) → k ≤ p.first → k ≤ length ops
+pub drop_settled : (ops more : List Operation) (k v : ℕ) (p : Position) → k ≤ p.first → k ≤ length ops
     → Ends (ops ++ more) (Some v) p ↔ Ends (drop k ops ++ more) (Some v) (back_by k p)
 drop_settled ops more k v p past within = (
   λ (x, c). (map (λ i. i - k) x, finishes_moved ts us s t (λ i. i - k) (λ j. k + j) p.word (Some v) x forth c),
   λ (x, c). (map (λ j. k + j) x, finishes_moved us ts t s (λ j. k + j) (λ i. i - k) p.word (Some v) x back c),
 )
   where
-    ts : List Observed
+    ts : List Operation
     ts = ops ++ more
 
-    us : List Observed
+    us : List Operation
     us = drop k ops ++ more
 
     s : ℕ → Bool
@@ -109,7 +109,7 @@ drop_settled ops more k v p past within = (
     left j = left_there (length ts) (length us) k p j past count
 
     same : (j : ℕ) → at us j ≡ at ts (k + j)
-    same j = ap (λ (l : List Observed). at l j) (sym (drop-append-le k ops more within)) ∙ get_or-drop k ts j nothing
+    same j = ap (λ (l : List Operation). at l j) (sym (drop-append-le k ops more within)) ∙ get_or-drop k ts j nothing
 
     forth : IsMove ts us s t (λ i. i - k) (λ j. k + j)
     forth = record {

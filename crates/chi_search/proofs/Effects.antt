@@ -6,7 +6,7 @@ use Rattle.std.proofs.lemmas.Nat.{xor_lt}
 use Rattle.std.proofs.lemmas.Nat.Bits.{bit_at-lt, bit_at-zero, bit_at_above, bit_at_not, bit_at_ones, bit_at_xor}
 use Rattle.chi_fields.specs.Access.{IsLawful}
 use Rattle.chi_lanes.specs.declared.reply.Reply.TheVariants.{CompData}
-use Rattle.chi_trace.specs.declared.observed.Observed.{Observed}
+use Rattle.chi_trace.specs.declared.operation.Operation.{Operation}
 use Rattle.chi_trace.specs.Granules.{Fits, next}
 use Rattle.chi_trace.proofs.Steps.{next-below}
 use Rattle.chi_search.specs.Effects.{HasEffect, IsBlind, IsInOperand}
@@ -14,7 +14,7 @@ use Rattle.chi_search.proofs.Bitwise.{blind_bit}
 use Rattle.chi_search.proofs.Told.{kept_outside, same_found, same_left}
 
 -- the mask has the bits of the operand
-abbrev pub Masks : Observed → ℕ → Type 0
+abbrev pub Masks : Operation → ℕ → Type 0
 Masks op mask = (k : ℕ) → (bit_at mask k ≡ 1) ↔ IsInOperand op.access k
 
 pub zero_or_one : (mask k : ℕ) → (bit_at mask k ≡ 0) ⊎ (bit_at mask k ≡ 1)
@@ -28,7 +28,7 @@ same_bit : (v w k : ℕ) → bit_at (bit_xor v w) k ≡ 0 → bit_at v k ≡ bit
 same_bit v w k zero = omega (arith, sym (bit_at_xor v w k) ∙ zero, bit_at-lt v k, bit_at-lt w k)
 
 -- of an operation that is seen to fit one word by a reply with data
-pub told : (op : Observed) (bs : List ℕ) (found left mask : ℕ) → IsLawful op.access → op.reply ≡ Some (CompData bs) → found < 2 ^ 64 → Fits op found
+pub told : (op : Operation) (bs : List ℕ) (found left mask : ℕ) → IsLawful op.access → op.reply ≡ Some (CompData bs) → found < 2 ^ 64 → Fits op found
     → left ≡ next op found → Masks op mask
     → HasEffect op (record { found = found; found_mask = mask; changed_mask = bit_xor found left; left = left; left_mask = mask; may_stay = false })
 told op bs found left mask lawful held below fits leaves masks = record {
@@ -47,7 +47,7 @@ told op bs found left mask lawful held below fits leaves masks = record {
 }
 
 -- of one that writes whatever was there: it leaves the same bit of 0 and of the greatest word just where it does
-blind_where : (op : Observed) (least greatest written : ℕ) → IsLawful op.access → IsBlind op.access.kind → least ≡ next op 0
+blind_where : (op : Operation) (least greatest written : ℕ) → IsLawful op.access → IsBlind op.access.kind → least ≡ next op 0
     → greatest ≡ next op (2 ^ 64 - 1)
     → written < 2 ^ 64 → ((k : ℕ) → k < 64 → bit_at written k ≡ 1 - bit_at (bit_xor least greatest) k)
     → HasEffect op (record { found = 0; found_mask = 0; changed_mask = written; left = least; left_mask = written; may_stay = false })
@@ -72,7 +72,7 @@ blind_where op least greatest written lawful is_blind of_least of_greatest below
   ]);
 }
 
-pub blind : (op : Observed) (least greatest : ℕ) → IsLawful op.access → IsBlind op.access.kind → least ≡ next op 0 → greatest ≡ next op (2 ^ 64 - 1)
+pub blind : (op : Operation) (least greatest : ℕ) → IsLawful op.access → IsBlind op.access.kind → least ≡ next op 0 → greatest ≡ next op (2 ^ 64 - 1)
     → HasEffect op (record { found = 0; found_mask = 0; changed_mask = bit_not w64 (bit_xor least greatest); left = least; left_mask = bit_not w64 (bit_xor least greatest); may_stay = false })
 blind op least greatest lawful is_blind of_least of_greatest =
     let least_below : least < 2 ^ 64 = omega (arith, of_least, next-below op 0 lawful) in
@@ -82,7 +82,7 @@ blind op least greatest lawful is_blind of_least of_greatest =
     (λ k within. bit_at_not w64 (bit_xor least greatest) k below within)
 
 -- of each operation: it changes no byte out of its operand
-pub loose : (op : Observed) (mask : ℕ) → IsLawful op.access → Masks op mask
+pub loose : (op : Operation) (mask : ℕ) → IsLawful op.access → Masks op mask
     → HasEffect op (record { found = 0; found_mask = 0; changed_mask = mask; left = 0; left_mask = 0; may_stay = false })
 loose op mask lawful masks = record {
   finds = λ w below fits k one. absurd (omega (arith, one, bit_at-zero k));

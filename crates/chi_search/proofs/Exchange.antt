@@ -5,19 +5,19 @@ use Rattle.chi_fields.specs.Access.{Access}
 use Rattle.chi_lanes.specs.After.{after, answer}
 use Rattle.chi_lanes.specs.Memory.{granule_start, word_at}
 use Rattle.chi_history.specs.History.{one_if}
-use Rattle.chi_trace.specs.declared.observed.Observed.{Observed}
+use Rattle.chi_trace.specs.declared.operation.Operation.{Operation}
 use Rattle.chi_trace.specs.Explains.{IsInTime, at, is_answered, times_in}
 use Rattle.chi_trace.specs.Granules.{Finishes, Fits, Play, last_word, next, with_word}
 use Rattle.chi_trace.proofs.Places.{of_each, of_member}
 use Rattle.chi_search.specs.Equal.{AreEqual}
 
-fits_equal : (a b : Observed) (w : ℕ) → AreEqual a b → Fits a w → Fits b w
+fits_equal : (a b : Operation) (w : ℕ) → AreEqual a b → Fits a w → Fits b w
 unfolding Fits
 fits_equal a b w same fits =
     subst (λ seen. IfSome seen (λ reply. reply ≡ answer b.access (with_word (granule_start b.access.addr) w))) same.1
     (subst (λ (o : Access). IfSome a.reply (λ reply. reply ≡ answer o (with_word (granule_start o.addr) w))) same.0 fits)
 
-next_equal : (a b : Observed) (w : ℕ) → AreEqual a b → next a w ≡ next b w
+next_equal : (a b : Operation) (w : ℕ) → AreEqual a b → next a w ≡ next b w
 unfolding next
 next_equal a b w same = ap (λ (o : Access). word_at (after o (with_word (granule_start o.addr) w)) (granule_start o.addr)) same.0
 
@@ -60,7 +60,7 @@ times_in-exchanged x y [] j = refl
 times_in-exchanged x y (k ∷ order) j = rw (same_test x y k j, times_in-exchanged x y order j) refl
 
 -- each finds the word that the one in its place found
-Play-exchanged : (ts : List Observed) (x y : ℕ) → AreEqual (at ts x) (at ts y) → (order : List ℕ) (w : ℕ) → Play ts w order
+Play-exchanged : (ts : List Operation) (x y : ℕ) → AreEqual (at ts x) (at ts y) → (order : List ℕ) (w : ℕ) → Play ts w order
     → Play ts w (map (exchanged x y) order) × (last_word ts w (map (exchanged x y) order) ≡ last_word ts w order)
 unfolding Play last_word
 Play-exchanged ts x y equal [] w play = (tt, refl)
@@ -80,21 +80,21 @@ Play-exchanged ts x y equal (j ∷ order) w play =
         (λ same. subst (λ k. AreEqual (at ts k) (at ts x)) (sym same) (sym equal.0, sym equal.1)) (λ _ _. (refl, refl))
 
 -- x and y start by a time by which none ends, and x, which does not stand in the order, ends no earlier than y
-pub record CanExchange (ts : List Observed) (x y time : ℕ) : Type 0 where
+pub record CanExchange (ts : List Operation) (x y time : ℕ) : Type 0 where
   pub equal : AreEqual (at ts x) (at ts y)
   pub x_starts : (at ts x).start ≤ time
   pub y_starts : (at ts y).start ≤ time
   pub ends : time ≤ (at ts y).end
   pub later : (at ts y).end ≤ (at ts x).end
 
-all_later : (ts : List Observed) (x y time : ℕ) → CanExchange ts x y time → (order : List ℕ) → ((j : ℕ) → 0 < times_in order j → time ≤ (at ts j).end)
+all_later : (ts : List Operation) (x y time : ℕ) → CanExchange ts x y time → (order : List ℕ) → ((j : ℕ) → 0 < times_in order j → time ≤ (at ts j).end)
     → (k : ℕ) → 0 < times_in order (exchanged x y k) → time ≤ (at ts k).end
 all_later ts x y time can order ends k = by_place x y k (λ m. 0 < times_in order m → time ≤ (at ts k).end)
     (λ same _. subst (λ m. time ≤ (at ts m).end) (sym same) (omega (arith, can.ends, can.later)))
     (λ same _. subst (λ m. time ≤ (at ts m).end) (sym same) can.ends) (λ _ _ some. ends k some)
 
 -- one that starts by the end of each of the order starts by that of each once two are exchanged
-still_early : (ts : List Observed) (x y time start : ℕ) → CanExchange ts x y time → (order : List ℕ) → times_in order x ≡ 0
+still_early : (ts : List Operation) (x y time start : ℕ) → CanExchange ts x y time → (order : List ℕ) → times_in order x ≡ 0
     → All (λ j. start ≤ (at ts j).end) order → (k : ℕ) → 0 < times_in order (exchanged x y k) → start ≤ (at ts k).end
 still_early ts x y time start can order none early k = by_place x y k (λ m. 0 < times_in order m → start ≤ (at ts k).end)
     (λ same some. let before : start ≤ (at ts y).end = of_member (λ j. start ≤ (at ts j).end) order y early some in
@@ -103,13 +103,13 @@ still_early ts x y time start can order none early k = by_place x y k (λ m. 0 <
     (λ _ _ some. of_member (λ j. start ≤ (at ts j).end) order k early some)
 
 -- what starts by the time may stand before the exchanged order
-early_before : (ts : List Observed) (x y time start : ℕ) → CanExchange ts x y time → (order : List ℕ)
+early_before : (ts : List Operation) (x y time start : ℕ) → CanExchange ts x y time → (order : List ℕ)
     → ((j : ℕ) → 0 < times_in order j → time ≤ (at ts j).end)
     → start ≤ time → All (λ k. start ≤ (at ts k).end) (map (exchanged x y) order)
 early_before ts x y time start can order ends by = of_each (λ k. start ≤ (at ts k).end) (map (exchanged x y) order)
     (λ k some. let last = all_later ts x y time can order ends k (subst (λ n. 0 < n) (times_in-exchanged x y order k) some) in omega (arith, by, last))
 
-IsInTime-exchanged : (ts : List Observed) (x y time : ℕ) → CanExchange ts x y time → (order : List ℕ) → times_in order x ≡ 0
+IsInTime-exchanged : (ts : List Operation) (x y time : ℕ) → CanExchange ts x y time → (order : List ℕ) → times_in order x ≡ 0
     → ((j : ℕ) → 0 < times_in order j → time ≤ (at ts j).end) → IsInTime ts order → IsInTime ts (map (exchanged x y) order)
 unfolding IsInTime times_in
 IsInTime-exchanged ts x y time can [] none ends times = tt
@@ -129,7 +129,7 @@ IsInTime-exchanged ts x y time can (j ∷ order) none ends times = (head, IsInTi
         (λ k some. still_early ts x y time (at ts j).start can order rest_none times.0 k (subst (λ n. 0 < n) (times_in-exchanged x y order k) some)))
 
 -- an order that begins with x, with y in its place, and x where y stood
-pub exchange : (ts : List Observed) (l : ℕ → Bool) (w : ℕ) (f : Option ℕ) (x y time : ℕ) (order : List ℕ) → CanExchange ts x y time → l x ≡ true
+pub exchange : (ts : List Operation) (l : ℕ → Bool) (w : ℕ) (f : Option ℕ) (x y time : ℕ) (order : List ℕ) → CanExchange ts x y time → l x ≡ true
     → l y ≡ true
     → ((j : ℕ) → l j ≡ true → time ≤ (at ts j).end) → Finishes ts l w f (x ∷ order) → Finishes ts l w f (y ∷ map (exchanged x y) order)
 unfolding times_in IsInTime

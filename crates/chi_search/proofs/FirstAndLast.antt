@@ -1,7 +1,7 @@
 -- the words that can follow from the first states, and from those in which none is left
 use Rattle.std.proofs.Common.{◌≡◌, ℕ, ◌≤◌, ◌↔◌, List, [], length, Some, refl, sym, subst}
 use Rattle.std.specs.List.{Contains}
-use Rattle.chi_trace.specs.declared.observed.Observed.{Observed}
+use Rattle.chi_trace.specs.declared.operation.Operation.{Operation}
 use Rattle.chi_trace.specs.Granules.{Finishes}
 use Rattle.chi_search.specs.declared.states.States.{States}
 use Rattle.chi_search.specs.Layers.{AreReady, SomeEnds, SomeLeads}
@@ -14,10 +14,10 @@ use Rattle.chi_search.proofs.Start.{at_start, from_start, ready_at_start}
 abbrev pub AreFirst : States → List ℕ → Type 0
 AreFirst layer words = (p : Position) → Has layer p ↔ ((w : ℕ) × Contains words w × (p ≡ start w))
 
-pub first_ready : (ops : List Observed) (words : List ℕ) (layer : States) → AreFirst layer words → AreReady ops layer
+pub first_ready : (ops : List Operation) (words : List ℕ) (layer : States) → AreFirst layer words → AreReady ops layer
 first_ready ops words layer first p has = let from = (first p).0 has in subst (IsReady (length ops)) (sym from.2) (ready_at_start (length ops) from.0)
 
-pub first_leads : (ops : List Observed) (words : List ℕ) (layer : States) → AreFirst layer words → (v : ℕ) → SomeEnds ops layer v ↔ SomeLeads ops words v
+pub first_leads : (ops : List Operation) (words : List ℕ) (layer : States) → AreFirst layer words → (v : ℕ) → SomeEnds ops layer v ↔ SomeLeads ops words v
 first_leads ops words layer first v = (forth, back)
   where
     forth : SomeEnds ops layer v → SomeLeads ops words v
@@ -34,7 +34,7 @@ pub chained : (A B C : Type 0) → A ↔ B → B ↔ C → A ↔ C
 chained A B C first second = (λ a. second.0 (first.0 a), λ c. first.1 (second.1 c))
 
 -- where none is left the words are those of the states
-pub last_leads : (ops : List Observed) (Leading : ℕ → Type 0) (each : List ℕ) (layer : States) → ((p : Position) → Has layer p → length ops ≤ p.first)
+pub last_leads : (ops : List Operation) (Leading : ℕ → Type 0) (each : List ℕ) (layer : States) → ((p : Position) → Has layer p → length ops ≤ p.first)
     → ((w : ℕ) → Contains each w ↔ ((p : Position) × Has layer p × (p.word ≡ w))) → ((v : ℕ) → SomeEnds ops layer v ↔ Leading v)
     → (v : ℕ) → Contains each v ↔ Leading v
 last_leads ops Leading each layer past are leads v = (forth, back)

@@ -5,7 +5,7 @@ use Rattle.std.specs.Prelude.{slice_get}
 use Rattle.std.proofs.lemmas.List.{get_or_read}
 use Rattle.std.proofs.lemmas.List.Elements.{Contains-get_or}
 use Rattle.std.proofs.lemmas.Option.{get_or_from_slice_get, slice_get_within}
-use Rattle.chi_trace.specs.declared.observed.Observed.{Observed}
+use Rattle.chi_trace.specs.declared.operation.Operation.{Operation}
 use Rattle.chi_trace.specs.Explains.{at, nothing}
 use Rattle.chi_trace.specs.Granules.{Fits}
 use Rattle.chi_trace.proofs.Segments.{at_later}
@@ -26,24 +26,24 @@ use Rattle.chi_search.proofs.Elements.{some_added}
 abbrev pub IsAdded : States → States → Position → Type 0
 IsAdded new old s = (p : Position) → Has new p ↔ (Has old p ⊎ (p ≡ s))
 
-pub ends_more : (ops : List Observed) (new old : States) (s : Position) → IsAdded new old s → (v : ℕ)
+pub ends_more : (ops : List Operation) (new old : States) (s : Position) → IsAdded new old s → (v : ℕ)
     → SomeEnds ops new v ↔ (SomeEnds ops old v ⊎ Ends ops (Some v) s)
 ends_more ops new old s added v = some_added (Ends ops (Some v)) (Has new) (Has old) s added
 
-pub ready_more : (ops : List Observed) (new old : States) (s : Position) → IsAdded new old s → IsReady (length ops) s → AreReady ops old → AreReady ops new
+pub ready_more : (ops : List Operation) (new old : States) (s : Position) → IsAdded new old s → IsReady (length ops) s → AreReady ops old → AreReady ops new
 ready_more ops new old s added ready all p has = elim ((added p).0 has) [
   | inl before ↦ all p before
   | inr same ↦ subst (IsReady (length ops)) (sym same) ready
 ]
 
 -- The set has only states more that p can come to, and one for each order that begins by an operation before the place.
-pub record Grown (ops : List Observed) (old now : States) (p : Position) (k : ℕ) : Type 0 where
+pub record Grown (ops : List Operation) (old now : States) (p : Position) (k : ℕ) : Type 0 where
   pub forth : (v : ℕ) → SomeEnds ops now v → SomeEnds ops old v ⊎ Ends ops (Some v) p
   pub back : (v : ℕ) → SomeEnds ops old v → SomeEnds ops now v
   pub tried : (v i : ℕ) → i < k → ByTaking ops (Some v) p i → SomeEnds ops now v
 
 -- none is before the first
-pub not_grown : (ops : List Observed) (old : States) (p : Position) → Grown ops old old p p.first
+pub not_grown : (ops : List Operation) (old : States) (p : Position) → Grown ops old old p p.first
 not_grown ops old p = record {
   forth = λ v some. inl some;
   back = λ v some. some;
@@ -57,7 +57,7 @@ not_grown ops old p = record {
         taken = taking.0
 
 -- one state more that p can come to
-pub grown_by : (ops : List Observed) (old now new : States) (p q : Position) (k : ℕ) → Grown ops old now p k → IsAdded new now q
+pub grown_by : (ops : List Operation) (old now new : States) (p q : Position) (k : ℕ) → Grown ops old now p k → IsAdded new now q
     → ((v : ℕ) → Ends ops (Some v) q → Ends ops (Some v) p) → Grown ops old new p k
 grown_by ops old now new p q k grown added leads = record {
   forth = forth;
@@ -75,7 +75,7 @@ grown_by ops old now new p q k grown added leads = record {
     ]
 
 -- no order begins by the operation at the place, since it fits nothing
-pub grown_refused : (ops : List Observed) (old now : States) (p : Position) (k : ℕ) → Grown ops old now p k
+pub grown_refused : (ops : List Operation) (old now : States) (p : Position) (k : ℕ) → Grown ops old now p k
     → (CanCome ops p k → Fits (at ops k) p.word → ⊥) → Grown ops old now p (k + 1)
 grown_refused ops old now p k grown refused = record {
   forth = grown.forth;
@@ -84,11 +84,11 @@ grown_refused ops old now p k grown refused = record {
 }
 
 -- orders that begin by it go on from the state after it
-takes_to : (ops : List Observed) (p q : Position) (k v : ℕ) → AreSorted ops → CanCome ops p k → Takes ops p k q → q.word < 2 ^ 64
+takes_to : (ops : List Operation) (p q : Position) (k v : ℕ) → AreSorted ops → CanCome ops p k → Takes ops p k q → q.word < 2 ^ 64
     → Ends ops (Some v) q → Ends ops (Some v) p
 takes_to ops p q k v sorted comes takes below (x, c) = (k ∷ x, from_taken ops (Some v) p q k x sorted comes takes below c)
 
-pub grown_taken : (ops : List Observed) (old now new : States) (p q : Position) (k : ℕ) → Grown ops old now p k → IsAdded new now q
+pub grown_taken : (ops : List Operation) (old now new : States) (p q : Position) (k : ℕ) → Grown ops old now p k → IsAdded new now q
     → AreSorted ops → CanCome ops p k → Takes ops p k q → q.word < 2 ^ 64 → Grown ops old new p (k + 1)
 grown_taken ops old now new p q k grown added sorted comes takes below = record {
   forth = more.forth;
@@ -101,10 +101,10 @@ grown_taken ops old now new p q k grown added sorted comes takes below = record 
     more = grown_by ops old now new p q k grown added (λ v. takes_to ops p q k v sorted comes takes below)
 
 -- the words that can follow from p are among those that can follow from the set
-abbrev pub IsWhole : List Observed → States → States → Position → Type 0
+abbrev pub IsWhole : List Operation → States → States → Position → Type 0
 IsWhole ops new old p = (v : ℕ) → SomeEnds ops new v ↔ (SomeEnds ops old v ⊎ Ends ops (Some v) p)
 
-whole : (ops : List Observed) (old now : States) (p : Position) (k : ℕ) → Grown ops old now p k → ((v : ℕ) → Ends ops (Some v) p → SomeEnds ops now v)
+whole : (ops : List Operation) (old now : States) (p : Position) (k : ℕ) → Grown ops old now p k → ((v : ℕ) → Ends ops (Some v) p → SomeEnds ops now v)
     → IsWhole ops now old p
 whole ops old now p k grown all v = (grown.forth v, back)
   where
@@ -113,39 +113,39 @@ whole ops old now p k grown all v = (grown.forth v, back)
     back (inr ends) = all v ends
 
 -- where an operation that changes nothing can come next, each order goes on from the state after it
-pub whole_idle : (ops : List Observed) (old new : States) (p q : Position) (k : ℕ) → IsAdded new old q → AreSorted ops
+pub whole_idle : (ops : List Operation) (old new : States) (p q : Position) (k : ℕ) → IsAdded new old q → AreSorted ops
     → CanCome ops p k → Takes ops p k q → p.word < 2 ^ 64 → q.word < 2 ^ 64 → IsIdle (at ops k) → IsWhole ops new old p
 whole_idle ops old new p q k added sorted comes takes finds leaves idle =
     whole ops old new p p.first (grown_by ops old old new p q p.first (not_grown ops old p) added (λ v. takes_to ops p q k v sorted comes takes leaves))
     (λ v ends. (ends_more ops new old q added v).1 (inr (from_idle ops (Some v) p q k finds comes idle takes ends)))
 
 -- No operation from the place on can come next: so each order begins by one before it, or without the first.
-abbrev pub IsLate : List Observed → Position → ℕ → Type 0
+abbrev pub IsLate : List Operation → Position → ℕ → Type 0
 IsLate ops p k = (i : ℕ) → k ≤ i → i < length ops → (at ops p.first).end < (at ops i).start
 
-pub is_late : (ops : List Observed) (times : List ℕ) (p : Position) (k : ℕ) (op : Observed) → p.first < length ops → AreEarliest ops times → op ≡ get_or ops p.first op
+pub is_late : (ops : List Operation) (times : List ℕ) (p : Position) (k : ℕ) (op : Operation) → p.first < length ops → AreEarliest ops times → op ≡ get_or ops p.first op
     → (get_or ops p.first op).end < slice_index times k → IsLate ops p k
 is_late ops times p k op below earliest is late =
-    subst (λ (o : Observed). (i : ℕ) → k ≤ i → i < length ops → o.end < (at ops i).start) (sym is ∙ get_or_read ops p.first op below is nothing)
+    subst (λ (o : Operation). (i : ℕ) → k ≤ i → i < length ops → o.end < (at ops i).start) (sym is ∙ get_or_read ops p.first op below is nothing)
     (all_late ops times k (get_or ops p.first op).end earliest late)
 
-pub late_on : (ops more : List Observed) (p : Position) (k : ℕ) → p.first < length ops → IsLate ops p k → All (λ op. (at ops p.first).end < op.start) more
+pub late_on : (ops more : List Operation) (p : Position) (k : ℕ) → p.first < length ops → IsLate ops p k → All (λ op. (at ops p.first).end < op.start) more
     → IsLate (ops ++ more) p k
 late_on ops more p k first late after i from within =
-    let end : (at (ops ++ more) p.first).end ≡ (at ops p.first).end = ap (λ (o : Observed). o.end) (at_before ops more p.first first) in
+    let end : (at (ops ++ more) p.first).end ≡ (at ops p.first).end = ap (λ (o : Operation). o.end) (at_before ops more p.first first) in
     elim (cases_lt i (length ops)) [
       | inl below ↦
-          let start : (at (ops ++ more) i).start ≡ (at ops i).start = ap (λ (o : Observed). o.start) (at_before ops more i below) in
+          let start : (at (ops ++ more) i).start ≡ (at ops i).start = ap (λ (o : Operation). o.start) (at_before ops more i below) in
           let apart : (at ops p.first).end < (at ops i).start = late i from below in
           omega (arith, start, end, apart)
       | inr past ↦
           let same : length ops + (i - length ops) ≡ i = omega arith in
-          let start : (at (ops ++ more) i).start ≡ (at more (i - length ops)).start = ap (λ (o : Observed). o.start) (rw same at (at_later ops more (i - length ops))) in
+          let start : (at (ops ++ more) i).start ≡ (at more (i - length ops)).start = ap (λ (o : Operation). o.start) (rw same at (at_later ops more (i - length ops))) in
           let apart : (at ops p.first).end < (at more (i - length ops)).start = after (i - length ops) nothing (omega (arith, past, within, length-append ops more)) in
           omega (arith, start, end, apart)
     ]
 
-begins : (ops : List Observed) (old now : States) (p : Position) (k v : ℕ) → Grown ops old now p k → AreSorted ops → IsReady (length ops) p → p.first < length ops
+begins : (ops : List Operation) (old now : States) (p : Position) (k v : ℕ) → Grown ops old now p k → AreSorted ops → IsReady (length ops) p → p.first < length ops
     → IsLate ops p k → (ByDropping ops (Some v) p → SomeEnds ops now v) → Ends ops (Some v) p → SomeEnds ops now v
 begins ops old now p k v grown sorted ready below late dropping (x, c) = elim (goes_on ops (Some v) p x sorted ready below c) [
   | inl (i, taking) ↦ elim (cases_lt i k) [
@@ -162,7 +162,7 @@ begins ops old now p k v grown sorted ready below late dropping (x, c) = elim (g
         omega (arith, later, comes.1)
 
 -- without the first, where its reply was not seen
-pub whole_dropped : (ops : List Observed) (old now new : States) (p q : Position) (k : ℕ) → Grown ops old now p k → IsAdded new now q
+pub whole_dropped : (ops : List Operation) (old now new : States) (p q : Position) (k : ℕ) → Grown ops old now p k → IsAdded new now q
     → AreSorted ops → IsReady (length ops) p → p.first < length ops → IsLate ops p k → Drops ops p q → IsWhole ops new old p
 whole_dropped ops old now new p q k grown added sorted ready below late drops =
     whole ops old new p k more (λ v. begins ops old new p k v more sorted ready below late (λ dropping. (ends_more ops new now q added v).1 (inr (dropping.1 q drops))))
@@ -174,16 +174,16 @@ whole_dropped ops old now new p q k grown added sorted ready below late drops =
     more = grown_by ops old now new p q k grown added leads
 
 -- and where it was seen
-pub whole_answered : (ops : List Observed) (old now : States) (p : Position) (k : ℕ) → Grown ops old now p k
+pub whole_answered : (ops : List Operation) (old now : States) (p : Position) (k : ℕ) → Grown ops old now p k
     → AreSorted ops → IsReady (length ops) p → p.first < length ops → IsLate ops p k → ((at ops p.first).reply ≡ None → ⊥) → IsWhole ops now old p
 whole_answered ops old now p k grown sorted ready below late answered =
     whole ops old now p k grown (λ v. begins ops old now p k v grown sorted ready below late (λ dropping. absurd (answered dropping.0)))
 
 -- the empty set
-pub none_ready : (ops : List Observed) (states : States) → positions states ≡ [] → AreReady ops states
+pub none_ready : (ops : List Operation) (states : States) → positions states ≡ [] → AreReady ops states
 none_ready ops states none p (x, below, same) = absurd (omega (arith, below, ap length none))
 
-pub none_ends : (ops : List Observed) (states : States) (v : ℕ) → positions states ≡ [] → SomeEnds ops states v → ⊥
+pub none_ends : (ops : List Operation) (states : States) (v : ℕ) → positions states ≡ [] → SomeEnds ops states v → ⊥
 none_ends ops states v none (p, (x, below, same), ends) = omega (arith, below, ap length none)
 
 pub none_has : (states : States) (p : Position) → positions states ≡ [] → Has states p → ⊥
@@ -194,5 +194,5 @@ pub has_at : (states : States) (k : ℕ) (p : Position) → slice_get (positions
 has_at states k p is =
     subst (Has states) (get_or_from_slice_get (positions states) k p p is) (Contains-get_or (positions states) k p (slice_get_within (positions states) k p is))
 
-pub ready_at : (ops : List Observed) (states : States) (k : ℕ) (p : Position) → slice_get (positions states) k ≡ Some p → AreReady ops states → IsReady (length ops) p
+pub ready_at : (ops : List Operation) (states : States) (k : ℕ) (p : Position) → slice_get (positions states) k ≡ Some p → AreReady ops states → IsReady (length ops) p
 ready_at ops states k p is all = all p (has_at states k p is)

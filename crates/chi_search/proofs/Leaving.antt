@@ -3,7 +3,7 @@ use Rattle.std.proofs.Common.{◌≡◌, ℕ, ◌-◌, ◌^◌, ◌<◌, ◌⊎�
 use Rattle.std.specs.Int.{bit_at, bit_not, w64}
 use Rattle.std.proofs.lemmas.Nat.Bits.{bit_at-lt, bit_at-zero, bit_at_and, bit_at_not, bit_at_or}
 use Rattle.chi_fields.specs.Access.{IsLawful}
-use Rattle.chi_trace.specs.declared.observed.Observed.{Observed}
+use Rattle.chi_trace.specs.declared.operation.Operation.{Operation}
 use Rattle.chi_trace.specs.Granules.{Fits, next}
 use Rattle.chi_search.specs.declared.effect.Effect.{Effect}
 use Rattle.chi_search.specs.Effects.{Agree, HasEffect, IsBitwise, IsInOperand, IsSum}
@@ -24,7 +24,7 @@ out_of m n k below within none one =
     omega (arith, both, one, bit_at_not w64 n k below within, bit_at-lt n k)
 
 -- of an operation whose operand is within the mask
-pub whole : (op : Observed) (mask operand v : ℕ) (one : Option ℕ) → IsLawful op.access → Masks op operand → mask < 2 ^ 64 → v < 2 ^ 64
+pub whole : (op : Operation) (mask operand v : ℕ) (one : Option ℕ) → IsLawful op.access → Masks op operand → mask < 2 ^ 64 → v < 2 ^ 64
     → bit_and operand (bit_not w64 mask) ≡ 0
     → IfSome one (λ a. a ≡ next op v) → (one ≡ None → Fits op v → ⊥) → AreOutcomes mask op v one None
 whole op mask operand v one lawful masks mask_below below inside after unfit u steps = by_one one after unfit
@@ -45,7 +45,7 @@ whole op mask operand v one lawful masks mask_below below inside after unfit u s
         ]
 
 -- of one that leaves each bit of the mask as it was, or certain bits there
-pub by_effect : (op : Observed) (e : Effect) (mask v : ℕ) (other : Option ℕ) → HasEffect op e → mask < 2 ^ 64 → e.left_mask < 2 ^ 64
+pub by_effect : (op : Operation) (e : Effect) (mask v : ℕ) (other : Option ℕ) → HasEffect op e → mask < 2 ^ 64 → e.left_mask < 2 ^ 64
     → bit_and (bit_and e.changed_mask mask) (bit_not w64 e.left_mask) ≡ 0 → (e.may_stay ≡ true → other ≡ Some v)
     → AreOutcomes mask op v (Some (bit_or (bit_and v (bit_not w64 e.left_mask)) (bit_and e.left e.left_mask))) other
 by_effect op e mask v other has below left_below none stays u steps = elim (has.leaves steps.word steps.below steps.fits) [
@@ -74,14 +74,14 @@ by_effect op e mask v other has below left_below none stays u steps = elim (has.
     ]
 
 -- and finds other bits there
-pub unfound : (op : Observed) (e : Effect) (mask v : ℕ) → HasEffect op e → (bit_and (bit_xor e.found v) (bit_and e.found_mask mask) ≡ 0 → ⊥)
+pub unfound : (op : Operation) (e : Effect) (mask v : ℕ) → HasEffect op e → (bit_and (bit_xor e.found v) (bit_and e.found_mask mask) ≡ 0 → ⊥)
     → AreOutcomes mask op v None None
 unfound op e mask v has some u steps =
     absurd (some (agree_to e.found v (bit_and e.found_mask mask)
     (λ k one. has.finds steps.word steps.below steps.fits k (part_of e.found_mask mask k one).0 ∙ sym (steps.finds k (part_of e.found_mask mask k one).1))))
 
 -- of one that makes each bit of that bit alone
-pub by_bits : (op : Observed) (mask v after : ℕ) → IsLawful op.access → IsBitwise op.access.kind → mask < 2 ^ 64 → v < 2 ^ 64 → after ≡ next op v
+pub by_bits : (op : Operation) (mask v after : ℕ) → IsLawful op.access → IsBitwise op.access.kind → mask < 2 ^ 64 → v < 2 ^ 64 → after ≡ next op v
     → AreOutcomes mask op v (Some after) None
 by_bits op mask v after lawful bitwise mask_below below is u steps =
     inl (λ k one. steps.leaves k one
@@ -89,7 +89,7 @@ by_bits op mask v after lawful bitwise mask_below below is u steps =
     ∙ ap (λ n. bit_at n k) (sym is))
 
 -- of a sum
-pub of_sum : (op : Observed) (mask v low high : ℕ) → IsLawful op.access → IsSum op.access.kind → IsRun mask → mask < 2 ^ 64 → v < 2 ^ 64
+pub of_sum : (op : Operation) (mask v low high : ℕ) → IsLawful op.access → IsSum op.access.kind → IsRun mask → mask < 2 ^ 64 → v < 2 ^ 64
     → bit_or v (bit_not w64 mask) < 2 ^ 64
     → bit_and v mask < 2 ^ 64
     → low ≡ next op (bit_and v mask) → high ≡ next op (bit_or v (bit_not w64 mask)) → AreOutcomes mask op v (Some low) (Some high)

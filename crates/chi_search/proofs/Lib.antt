@@ -1,5 +1,4 @@
 pub mod Apart
-pub mod Applied
 pub mod Bits
 pub mod Bitwise
 pub mod ByEqual
@@ -14,7 +13,6 @@ pub mod Exchange
 pub mod FirstAndLast
 pub mod Following
 pub mod Idle
-pub mod InOrder
 pub mod Layers
 pub mod Leaving
 pub mod LikeStores

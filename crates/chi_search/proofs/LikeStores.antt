@@ -13,7 +13,7 @@ use Rattle.chi_lanes.proofs.AfterLemmas.{length-sent}
 use Rattle.chi_lanes.proofs.ByteLists.{AreBytes-slice_range}
 use Rattle.chi_lanes.proofs.CombineLemmas.{length-combine}
 use Rattle.chi_lanes.proofs.MemoryLemmas.{AreBytes-bytes_from, bytes_from-with_bytes, length-bytes_from, with_bytes-inside, with_bytes-outside}
-use Rattle.chi_trace.specs.declared.observed.Observed.{Observed}
+use Rattle.chi_trace.specs.declared.operation.Operation.{Operation}
 use Rattle.chi_search.specs.Commuting.{MovesBefore}
 use Rattle.chi_search.proofs.Combining.{combines}
 use Rattle.chi_search.proofs.CommutingPair.{pair}
@@ -88,7 +88,7 @@ both_stored op endian addr len x z m is_x is_z =
 same_reply : (op : Op) (o : Access) (m k : Memory) → o.kind ≡ Store op → answer o m ≡ answer o k
 same_reply op o m k is = ap (λ kind. answer_as kind o m) is ∙ sym (ap (λ kind. answer_as kind o k) is)
 
-pub like_stores : (op : Op) (x z : Observed) → IsLawful x.access → IsLawful z.access → x.access.kind ≡ Store op → z.access.kind ≡ Store op
+pub like_stores : (op : Op) (x z : Operation) → IsLawful x.access → IsLawful z.access → x.access.kind ≡ Store op → z.access.kind ≡ Store op
     → x.access.addr ≡ z.access.addr → x.access.len ≡ z.access.len → x.access.endian ≡ z.access.endian → MovesBefore x z
 like_stores op x z lawful_x lawful_z store_x store_z addr len endian = pair x z lawful_x lawful_z (ap granule_start (sym addr)) (λ m is. record {
   answers_x = same_reply op o (after k m) m store_x;

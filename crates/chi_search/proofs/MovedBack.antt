@@ -2,7 +2,7 @@
 use Rattle.std.proofs.Common.{◌≡◌, ℕ, ◌+◌, ◌-◌, ◌^◌, ◌≤◌, ◌↔◌, List, [], ◌++◌, drop, length, length-drop, get_or-drop, append-nil, Some, None, refl, sym, ap, subst, ◌∙◌, arith, inl, inr}
 use Rattle.std.specs.List.{Contains}
 use Rattle.std.proofs.lemmas.List.Elements.{All-drop, All-weaker}
-use Rattle.chi_trace.specs.declared.observed.Observed.{Observed}
+use Rattle.chi_trace.specs.declared.operation.Operation.{Operation}
 use Rattle.chi_trace.specs.Explains.{at, nothing}
 use Rattle.chi_search.specs.declared.states.States.{States}
 use Rattle.chi_search.specs.Frontiers.{CanBeTold, Follows, FrontierValue, IsFrontier, MayBeTold}
@@ -15,7 +15,7 @@ use Rattle.chi_search.proofs.Dropped.{drop_settled, left_there, unsettled_there}
 use Rattle.chi_search.proofs.FirstAndLast.{chained}
 use Rattle.chi_search.proofs.Telling.{may_follow, none_follow, none_told}
 
-at_drop : (k : ℕ) (ops : List Observed) (i : ℕ) → at (drop k ops) i ≡ at ops (k + i)
+at_drop : (k : ℕ) (ops : List Operation) (i : ℕ) → at (drop k ops) i ≡ at ops (k + i)
 at_drop k ops i = get_or-drop k ops i nothing
 
 ready_back : (n k : ℕ) (p : Position) → k ≤ p.first → k ≤ n → IsReady n p → IsReady (n - k) (back_by k p)
@@ -30,7 +30,7 @@ ready_back n k p past within ready = record {
 abbrev pub AreBack : ℕ → States → States → Type 0
 AreBack k back last = (p : Position) → Has back p ↔ ((q : Position) × Has last q × (p ≡ back_by k q))
 
-pub goes_back : (ops more : List Observed) (k v : ℕ) (last back : States) → k ≤ length ops → ((p : Position) → Has last p → k ≤ p.first) → AreBack k back last
+pub goes_back : (ops more : List Operation) (k v : ℕ) (last back : States) → k ≤ length ops → ((p : Position) → Has last p → k ≤ p.first) → AreBack k back last
     → SomeEnds (ops ++ more) last v ↔ SomeEnds (drop k ops ++ more) back v
 goes_back ops more k v last back within past are = (forth, there)
   where
@@ -48,16 +48,16 @@ told_back f horizon k back = record f { positions = positions back; operations =
 pub frontier_back : (f : FrontierValue) (horizon k : ℕ) (last back : States) → IsFrontier f → k ≤ length f.operations → ((p : Position) → Has last p → k ≤ p.first)
     → ((p : Position) → Has last p → IsReady (length f.operations) p) → AreBack k back last → IsFrontier (told_back f horizon k back)
 frontier_back f horizon k last back is within past all are = record {
-  sorted = (by_end, All-drop (λ (o : Observed). o.start ≤ o.end) k f.operations is.sorted.1);
-  within = λ i below. subst (λ (o : Observed). o.access.addr + o.access.len ≤ 2 ^ 52) (sym (at_drop k f.operations i)) (is.within (k + i) (omega (arith, below, within, length-drop k f.operations)));
-  ended = All-drop (λ (o : Observed). o.end ≤ f.latest) k f.operations is.ended;
+  sorted = (by_end, All-drop (λ (o : Operation). o.start ≤ o.end) k f.operations is.sorted.1);
+  within = λ i below. subst (λ (o : Operation). o.access.addr + o.access.len ≤ 2 ^ 52) (sym (at_drop k f.operations i)) (is.within (k + i) (omega (arith, below, within, length-drop k f.operations)));
+  ended = All-drop (λ (o : Operation). o.end ≤ f.latest) k f.operations is.ended;
   ready = ready;
 }
   where
     by_end : AreByEnd (drop k f.operations)
     by_end i j from below =
-        let is_i : (at (drop k f.operations) i).end ≡ (at f.operations (k + i)).end = ap (λ (o : Observed). o.end) (at_drop k f.operations i) in
-        let is_j : (at (drop k f.operations) j).end ≡ (at f.operations (k + j)).end = ap (λ (o : Observed). o.end) (at_drop k f.operations j) in
+        let is_i : (at (drop k f.operations) i).end ≡ (at f.operations (k + i)).end = ap (λ (o : Operation). o.end) (at_drop k f.operations i) in
+        let is_j : (at (drop k f.operations) j).end ≡ (at f.operations (k + j)).end = ap (λ (o : Operation). o.end) (at_drop k f.operations j) in
         let so : (at f.operations (k + i)).end ≤ (at f.operations (k + j)).end = is.sorted.0 (k + i) (k + j) (omega (arith, from)) (omega (arith, below, within, length-drop k f.operations)) in
         omega (arith, is_i, is_j, so)
 
@@ -68,7 +68,7 @@ frontier_back f horizon k last back is within past all are = record {
         (subst (λ n. IsReady n (back_by k of.0)) (sym (length-drop k f.operations)) (ready_back (length f.operations) k of.0 (past of.0 of.1) within (all of.0 of.1)))
 
 -- what waits does so without them
-pub waits_back : (ops : List Observed) (horizon k : ℕ) (last back : States) → k ≤ length ops → ((p : Position) → Has last p → k ≤ p.first)
+pub waits_back : (ops : List Operation) (horizon k : ℕ) (last back : States) → k ≤ length ops → ((p : Position) → Has last p → k ≤ p.first)
     → ((p : Position) → Has last p → Waits ops (Some horizon) p.first) → AreBack k back last → (p : Position) → Has back p → Waits (drop k ops) (Some horizon) p.first
 waits_back ops horizon k last back within past waiting are p has =
     let of = (are p).0 has in
@@ -77,14 +77,14 @@ waits_back ops horizon k last back within past waiting are p has =
       | inl ended ↦ inl (omega (arith, ended, length-drop k ops))
       | inr late ↦
           let same : k + (of.0.first - k) ≡ of.0.first = omega (arith, past of.0 of.1) in
-          let there : (at (drop k ops) (of.0.first - k)).end ≡ (at ops of.0.first).end = ap (λ (o : Observed). o.end) (at_drop k ops (of.0.first - k) ∙ ap (at ops) same) in
+          let there : (at (drop k ops) (of.0.first - k)).end ≡ (at ops of.0.first).end = ap (λ (o : Operation). o.end) (at_drop k ops (of.0.first - k) ∙ ap (at ops) same) in
           inr (omega (arith, late, there))
     ])
 
 -- it follows the same operations
-pub follows_back : (words : List ℕ) (told : List Observed) (f : FrontierValue) (horizon k : ℕ) (states from last back : States) → IsFrontier f → f.positions ≡ positions states
+pub follows_back : (words : List ℕ) (told : List Operation) (f : FrontierValue) (horizon k : ℕ) (states from last back : States) → IsFrontier f → f.positions ≡ positions states
     → f.horizon ≤ horizon → k ≤ length f.operations → ((p : Position) → Has last p → k ≤ p.first) → AreBack 0 from states → AreBack k back last
-    → ((more : List Observed) → MayFollow f.operations (Some horizon) more → (v : ℕ) → SomeEnds (f.operations ++ more) last v ↔ SomeEnds (f.operations ++ more) from v)
+    → ((more : List Operation) → MayFollow f.operations (Some horizon) more → (v : ℕ) → SomeEnds (f.operations ++ more) last v ↔ SomeEnds (f.operations ++ more) from v)
     → Follows words told f → Follows words told (told_back f horizon k back)
 follows_back words told f horizon k states from last back is same later within past copied are goes follows more may v =
     let ops = f.operations in
@@ -109,7 +109,7 @@ follows_back words told f horizon k states from last back is same later within p
     }
 
 -- a copy of the states is as ready as they are
-pub ready_copied : (ops : List Observed) (states from : States) → AreBack 0 from states → ((p : Position) → Has states p → IsReady (length ops) p)
+pub ready_copied : (ops : List Operation) (states from : States) → AreBack 0 from states → ((p : Position) → Has states p → IsReady (length ops) p)
     → (p : Position) → Has from p → IsReady (length ops) p
 ready_copied ops states from copied all p has =
     let of = (copied p).0 has in
@@ -117,19 +117,19 @@ ready_copied ops states from copied all p has =
     subst (IsReady (length ops)) (sym of.2) (subst (λ n. IsReady n (back_by 0 of.0)) whole (ready_back (length ops) 0 of.0 (omega arith) (omega arith) (all of.0 of.1)))
 
 -- what is told leads to the words to which the search goes on by itself
-pub follows_all : (words : List ℕ) (told : List Observed) (f : FrontierValue) (states from last : States) → IsFrontier f → f.positions ≡ positions states → AreBack 0 from states
-    → ((more : List Observed) → MayFollow f.operations None more → (v : ℕ) → SomeEnds (f.operations ++ more) last v ↔ SomeEnds (f.operations ++ more) from v)
+pub follows_all : (words : List ℕ) (told : List Operation) (f : FrontierValue) (states from last : States) → IsFrontier f → f.positions ≡ positions states → AreBack 0 from states
+    → ((more : List Operation) → MayFollow f.operations None more → (v : ℕ) → SomeEnds (f.operations ++ more) last v ↔ SomeEnds (f.operations ++ more) from v)
     → Follows words told f → (v : ℕ) → SomeEnds f.operations last v ↔ SomeLeads told words v
 follows_all words told f states from last is same copied goes follows v =
     let ops = f.operations in
     let here : SomeLeads told words v ↔ SomeEnds ops states v =
-    subst (λ (all : List Observed). SomeLeads all words v ↔ SomeEnds ops states v) (append-nil told)
-    (subst (λ (all : List Observed). SomeLeads (told ++ []) words v ↔ SomeEnds all states v) (append-nil ops)
+    subst (λ (all : List Operation). SomeLeads all words v ↔ SomeEnds ops states v) (append-nil told)
+    (subst (λ (all : List Operation). SomeLeads (told ++ []) words v ↔ SomeEnds all states v) (append-nil ops)
     (subst (λ (ps : List Position). SomeLeads (told ++ []) words v ↔ ((p : Position) × Contains ps p × Ends (ops ++ []) (Some v) p)) same (follows [] (none_told f) v))) in
     let first : SomeEnds ops states v ↔ SomeEnds ops from v =
-    subst (λ (all : List Observed). SomeEnds all states v ↔ SomeEnds all from v) (append-nil ops) (goes_back ops [] 0 v states from (omega arith) (λ p has. omega arith) copied) in
+    subst (λ (all : List Operation). SomeEnds all states v ↔ SomeEnds all from v) (append-nil ops) (goes_back ops [] 0 v states from (omega arith) (λ p has. omega arith) copied) in
     let on : SomeEnds ops last v ↔ SomeEnds ops from v =
-    subst (λ (all : List Observed). SomeEnds all last v ↔ SomeEnds all from v) (append-nil ops) (goes [] (none_follow ops is.sorted) v) in
+    subst (λ (all : List Operation). SomeEnds all last v ↔ SomeEnds all from v) (append-nil ops) (goes [] (none_follow ops is.sorted) v) in
     chained (SomeEnds ops last v) (SomeEnds ops from v) (SomeLeads told words v) on
     (chained (SomeEnds ops from v) (SomeEnds ops states v) (SomeLeads told words v) (first.1, first.0) (here.1, here.0))
 
@@ -143,7 +143,7 @@ frontier_copied f states back same copied is = record {
 }
 
 -- and follows the same operations
-pub follows_copied : (words : List ℕ) (told : List Observed) (f : FrontierValue) (states back : States) → f.positions ≡ positions states → AreBack 0 back states
+pub follows_copied : (words : List ℕ) (told : List Operation) (f : FrontierValue) (states back : States) → f.positions ≡ positions states → AreBack 0 back states
     → Follows words told f → Follows words told (record f { positions = positions back })
 follows_copied words told f states back same copied follows more may v =
     let ops = f.operations in

@@ -2,7 +2,7 @@
 use Rattle.std.proofs.Common.{◌≡◌, ℕ, ◌+◌, ◌^◌, ◌<◌, ◌≤◌, ◌==◌, ◌&&◌, Bool, true, false, not, cond, List, [], ◌∷◌, length, Option, IfSome, refl, sym, ap, subst, ◌∙◌, arith, eqb-true, eq-eqb, ne_eqb}
 use Rattle.std.proofs.lemmas.Bool.{eqb-false}
 use Rattle.chi_history.specs.History.{one_if}
-use Rattle.chi_trace.specs.declared.observed.Observed.{Observed}
+use Rattle.chi_trace.specs.declared.operation.Operation.{Operation}
 use Rattle.chi_trace.specs.Explains.{IsInTime, at, is_answered, times_in}
 use Rattle.chi_trace.specs.Granules.{Finishes, Fits, Play, last_word, next}
 use Rattle.chi_trace.proofs.Orders.{IsInTime-filter, times_in-filter}
@@ -15,11 +15,11 @@ use Rattle.chi_search.proofs.Moves.{by_first, first_ends}
 use Rattle.chi_search.proofs.Covers.{without}
 
 -- the operation can be moved before each other one of an order that starts by its end
-abbrev pub MovesBeforeEach : List Observed → ℕ → List ℕ → Type 0
+abbrev pub MovesBeforeEach : List Operation → ℕ → List ℕ → Type 0
 MovesBeforeEach ts i order = (j : ℕ) → 0 < times_in order j → (j ≡ i → ⊥) → (at ts j).start ≤ (at ts i).end → MovesBefore (at ts i) (at ts j)
 
 -- with it first the others play, and leave the same word
-record PlaysFirst (ts : List Observed) (i w : ℕ) (rest order : List ℕ) : Type 0 where
+record PlaysFirst (ts : List Operation) (i w : ℕ) (rest order : List ℕ) : Type 0 where
   fits : Fits (at ts i) w
   below : next (at ts i) w < 2 ^ 64
   plays : Play ts (next (at ts i) w) rest
@@ -36,7 +36,7 @@ without_none i (j ∷ order) none = by_test (j == i) (without_none i order) none
     by_test true rest none = absurd (omega (arith, none))
     by_test false rest none = ap (λ x. j ∷ x) (rest (omega (arith, none)))
 
-plays_first : (ts : List Observed) (i : ℕ) (order : List ℕ) (w : ℕ) → w < 2 ^ 64 → times_in order i ≡ 1 → MovesBeforeEach ts i order
+plays_first : (ts : List Operation) (i : ℕ) (order : List ℕ) (w : ℕ) → w < 2 ^ 64 → times_in order i ≡ 1 → MovesBeforeEach ts i order
     → IsInTime ts order
     → Play ts w order → PlaysFirst ts i w (without i order) order
 unfolding times_in IsInTime Play last_word
@@ -74,7 +74,7 @@ plays_first ts i (j ∷ order) w below one moves times play =
         }
 
 -- the order with it first
-moved : (ts : List Observed) (l : ℕ → Bool) (w : ℕ) (f : Option ℕ) (i : ℕ) (order : List ℕ) → w < 2 ^ 64 → l i ≡ true → times_in order i ≡ 1
+moved : (ts : List Operation) (l : ℕ → Bool) (w : ℕ) (f : Option ℕ) (i : ℕ) (order : List ℕ) → w < 2 ^ 64 → l i ≡ true → times_in order i ≡ 1
     → MovesBeforeEach ts i order → ((j : ℕ) → l j ≡ true → (at ts i).start ≤ (at ts j).end) → Finishes ts l w f order
     → Finishes ts l w f (i ∷ without i order)
 unfolding times_in IsInTime Play last_word
@@ -116,7 +116,7 @@ moved ts l w f i order below left one moves early c =
         by_tests false false most some = absurd (omega (arith, some, most))
 
 -- where an order goes on, one goes on by the operation
-pub by_moved : (ops : List Observed) (final_word : Option ℕ) (p : Position) (i : ℕ) → AreSorted ops → p.word < 2 ^ 64 → CanCome ops p i
+pub by_moved : (ops : List Operation) (final_word : Option ℕ) (p : Position) (i : ℕ) → AreSorted ops → p.word < 2 ^ 64 → CanCome ops p i
     → is_answered (at ops i) ≡ true → MovesBeforeAll ops p i → Ends ops final_word p → ByTaking ops final_word p i
 by_moved ops final_word p i sorted below comes answered moves (order, c) =
     by_first ops final_word p i (without i order) comes

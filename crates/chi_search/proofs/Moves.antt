@@ -3,7 +3,7 @@ use Rattle.std.proofs.Common.{◌≡◌, ℕ, suc, zero, ◌^◌, ◌<◌, ◌�
 use Rattle.std.proofs.lemmas.Bool.{and_left, and_parts, cases_lt}
 use Rattle.std.proofs.lemmas.Bool.Decides.{nat_tests}
 use Rattle.chi_history.specs.History.{one_if}
-use Rattle.chi_trace.specs.declared.observed.Observed.{Observed}
+use Rattle.chi_trace.specs.declared.operation.Operation.{Operation}
 use Rattle.chi_trace.specs.Explains.{IsInTime, at, nothing, times_in}
 use Rattle.chi_trace.specs.Granules.{Finishes, Play, last_word}
 use Rattle.chi_trace.proofs.Places.{of_member, passes}
@@ -15,11 +15,11 @@ use Rattle.chi_search.proofs.Covers.{parts, without}
 use Rattle.chi_search.proofs.Orders.{absent, cons, covers_of, first_fits, first_left, idle_first, peel, settled_without, without_one}
 
 -- the first operation ends first
-pub first_ends : (ops : List Observed) (p : Position) (i : ℕ) → AreSorted ops → is_left (length ops) p i ≡ true → (at ops p.first).end ≤ (at ops i).end
+pub first_ends : (ops : List Operation) (p : Position) (i : ℕ) → AreSorted ops → is_left (length ops) p i ≡ true → (at ops p.first).end ≤ (at ops i).end
 first_ends ops p i sorted left = let is = left_is (length ops) p i left in sorted.0 p.first i is.1 is.0
 
 -- an order after an operation was taken
-pub from_taken : (ops : List Observed) (final_word : Option ℕ) (p q : Position) (i : ℕ) (x : List ℕ) → AreSorted ops → CanCome ops p i → Takes ops p i q → q.word < 2 ^ 64
+pub from_taken : (ops : List Operation) (final_word : Option ℕ) (p q : Position) (i : ℕ) (x : List ℕ) → AreSorted ops → CanCome ops p i → Takes ops p i q → q.word < 2 ^ 64
     → Finishes ops (is_left (length ops) q) q.word final_word x → Finishes ops (is_left (length ops) p) p.word final_word (i ∷ x)
 from_taken ops final_word p q i x sorted comes takes below c =
     cons ops (is_left (length ops) p) (is_left (length ops) q) p.word final_word i x (parts (is_left (length ops) p) (is_left (length ops) q) i comes.0 (left_settles (length ops) p i q takes.left)) takes.fits
@@ -35,17 +35,17 @@ from_taken ops final_word p q i x sorted comes takes below c =
         omega (arith, starts, ends)
 
 -- an order after the first operation was left out
-pub from_dropped : (ops : List Observed) (final_word : Option ℕ) (p q : Position) (x : List ℕ) → IsReady (length ops) p → p.first < length ops → Drops ops p q
+pub from_dropped : (ops : List Operation) (final_word : Option ℕ) (p q : Position) (x : List ℕ) → IsReady (length ops) p → p.first < length ops → Drops ops p q
     → Finishes ops (is_left (length ops) q) q.word final_word x → Finishes ops (is_left (length ops) p) p.word final_word x
 from_dropped ops final_word p q x ready below drops c =
     without_one ops (is_left (length ops) p) (is_left (length ops) q) p.word final_word p.first x (parts (is_left (length ops) p) (is_left (length ops) q) p.first (ready.left below) (left_settles (length ops) p p.first q drops.left))
     drops.unanswered (subst (λ w. Finishes ops (is_left (length ops) q) w final_word x) drops.word c)
 
 -- An order that goes on begins by an operation, or without the first.
-abbrev pub ByDropping : List Observed → Option ℕ → Position → Type 0
+abbrev pub ByDropping : List Operation → Option ℕ → Position → Type 0
 ByDropping ops final_word p = ((at ops p.first).reply ≡ None) × ((q : Position) → Drops ops p q → Ends ops final_word q)
 
-dropping : (ops : List Observed) (final_word : Option ℕ) (p : Position) (x : List ℕ) → IsReady (length ops) p → p.first < length ops → times_in x p.first ≡ 0
+dropping : (ops : List Operation) (final_word : Option ℕ) (p : Position) (x : List ℕ) → IsReady (length ops) p → p.first < length ops → times_in x p.first ≡ 0
     → Finishes ops (is_left (length ops) p) p.word final_word x → ByDropping ops final_word p
 dropping ops final_word p x ready below none c = (
   absent ops (is_left (length ops) p) p.first x (ready.left below) none (covers_of ops (is_left (length ops) p) p.word final_word x c),
@@ -58,7 +58,7 @@ dropping ops final_word p x ready below none c = (
 )
 
 -- an order goes on by the operation with which it begins, where that can come next
-pub by_first : (ops : List Observed) (final_word : Option ℕ) (p : Position) (i : ℕ) (y : List ℕ) → CanCome ops p i → Finishes ops (is_left (length ops) p) p.word final_word (i ∷ y)
+pub by_first : (ops : List Operation) (final_word : Option ℕ) (p : Position) (i : ℕ) (y : List ℕ) → CanCome ops p i → Finishes ops (is_left (length ops) p) p.word final_word (i ∷ y)
     → ByTaking ops final_word p i
 by_first ops final_word p i y comes c =
     let fits = first_fits ops (is_left (length ops) p) p.word final_word i y c in (
@@ -73,7 +73,7 @@ by_first ops final_word p i y comes c =
     )
 
 -- an operation that comes first starts no later than the first that is left ends, where that stands in the order
-pub begins_early : (ops : List Observed) (p : Position) (i : ℕ) (y : List ℕ) → AreSorted ops → is_left (length ops) p i ≡ true → IsInTime ops (i ∷ y)
+pub begins_early : (ops : List Operation) (p : Position) (i : ℕ) (y : List ℕ) → AreSorted ops → is_left (length ops) p i ≡ true → IsInTime ops (i ∷ y)
     → 0 < times_in (i ∷ y) p.first → (at ops i).start ≤ (at ops p.first).end
 unfolding times_in IsInTime
 begins_early ops p i y sorted left times some = by_test (i == p.first) refl
@@ -86,7 +86,7 @@ begins_early ops p i y sorted left times some = by_test (i == p.first) refl
         let later : 0 < times_in y p.first = omega (arith, some, ap one_if other) in
         of_member (λ k. (at ops i).start ≤ (at ops k).end) y p.first times.0 later
 
-pub goes_on : (ops : List Observed) (final_word : Option ℕ) (p : Position) (x : List ℕ) → AreSorted ops → IsReady (length ops) p → p.first < length ops
+pub goes_on : (ops : List Operation) (final_word : Option ℕ) (p : Position) (x : List ℕ) → AreSorted ops → IsReady (length ops) p → p.first < length ops
     → Finishes ops (is_left (length ops) p) p.word final_word x → ((i : ℕ) × ByTaking ops final_word p i) ⊎ ByDropping ops final_word p
 unfolding times_in
 goes_on ops final_word p [] sorted ready below c = inr (dropping ops final_word p [] ready below refl c)
@@ -101,7 +101,7 @@ goes_on ops final_word p (i ∷ y) sorted ready below c = by_times (times_in (i 
         inl (i, by_first ops final_word p i y (left, begins_early ops p i y sorted left c.times (omega (arith, some))) c)
 
 -- an operation that changes nothing may come first wherever it can
-pub from_idle : (ops : List Observed) (final_word : Option ℕ) (p q : Position) (i : ℕ) → p.word < 2 ^ 64 → CanCome ops p i → IsIdle (at ops i) → Takes ops p i q
+pub from_idle : (ops : List Operation) (final_word : Option ℕ) (p q : Position) (i : ℕ) → p.word < 2 ^ 64 → CanCome ops p i → IsIdle (at ops i) → Takes ops p i q
     → Ends ops final_word p → Ends ops final_word q
 from_idle ops final_word p q i below comes idle takes (x, c) = (
   without i x,
@@ -122,7 +122,7 @@ none_left n p i past = elim (cases_lt i n) [
     neither true = refl
     neither false = refl
 
-pub ended : (ops : List Observed) (final_word : Option ℕ) (p : Position) → length ops ≤ p.first → IfSome final_word (λ v. p.word ≡ v)
+pub ended : (ops : List Operation) (final_word : Option ℕ) (p : Position) → length ops ≤ p.first → IfSome final_word (λ v. p.word ≡ v)
     → Finishes ops (is_left (length ops) p) p.word final_word []
 unfolding IsInTime Play times_in last_word
 ended ops final_word p past is = record {
@@ -133,7 +133,7 @@ ended ops final_word p past is = record {
   ending = is;
 }
 
-pub at_end : (ops : List Observed) (final_word : Option ℕ) (p : Position) (x : List ℕ) → length ops ≤ p.first → Finishes ops (is_left (length ops) p) p.word final_word x
+pub at_end : (ops : List Operation) (final_word : Option ℕ) (p : Position) (x : List ℕ) → length ops ≤ p.first → Finishes ops (is_left (length ops) p) p.word final_word x
     → IfSome final_word (λ v. p.word ≡ v)
 unfolding last_word
 at_end ops final_word p [] past c = c.ending

@@ -8,7 +8,7 @@ use Rattle.chi_lanes.specs.After.{old}
 use Rattle.chi_lanes.specs.Memory.{granule_start}
 use Rattle.chi_lanes.proofs.MemoryLemmas.{bytes_from-same}
 use Rattle.chi_lanes.proofs.Operands.{placed}
-use Rattle.chi_trace.specs.declared.observed.Observed.{Observed}
+use Rattle.chi_trace.specs.declared.operation.Operation.{Operation}
 use Rattle.chi_trace.specs.Granules.{Fits, next}
 use Rattle.chi_trace.proofs.Agree.{after_as_byte, answer_as_of_old}
 use Rattle.chi_trace.proofs.Steps.{IsMemory-with_word}
@@ -16,12 +16,12 @@ use Rattle.chi_search.specs.Effects.{IsInOperand}
 use Rattle.chi_search.proofs.Told.{bit_after, bit_here, byte_of, here, in_word}
 
 -- a bit of a byte is one of the word
-bit_of_byte : (op : Observed) (w x j k : ℕ) → w < 2 ^ 64 → k < 64 → byte_of op k ≡ x → k % 8 ≡ j → bit_at (here op w x) j ≡ bit_at w k
+bit_of_byte : (op : Operation) (w x j k : ℕ) → w < 2 ^ 64 → k < 64 → byte_of op k ≡ x → k % 8 ≡ j → bit_at (here op w x) j ≡ bit_at w k
 bit_of_byte op w x j k below within at rest =
     ap (λ y. bit_at (here op w y) j) (sym at) ∙ ap (bit_at (here op w (byte_of op k))) (sym rest) ∙ sym (bit_here op w k below within)
 
 -- a byte of the operand is the same in both words
-same_byte : (op : Observed) → IsLawful op.access → (v w : ℕ) → v < 2 ^ 64 → w < 2 ^ 64
+same_byte : (op : Operation) → IsLawful op.access → (v w : ℕ) → v < 2 ^ 64 → w < 2 ^ 64
     → ((k : ℕ) → IsInOperand op.access k → bit_at v k ≡ bit_at w k)
     → (x : ℕ) → op.access.addr ≤ x → x < op.access.addr + op.access.len → here op v x ≡ here op w x
 same_byte op lawful v w v_below w_below same x above below =
@@ -39,14 +39,14 @@ same_byte op lawful v w v_below w_below same x above below =
         ∙ sym (bit_of_byte op w x j k w_below within at rest)
 
 -- so the old bytes are
-same_old : (op : Observed) → IsLawful op.access → (v w : ℕ) → v < 2 ^ 64 → w < 2 ^ 64
+same_old : (op : Operation) → IsLawful op.access → (v w : ℕ) → v < 2 ^ 64 → w < 2 ^ 64
     → ((k : ℕ) → IsInOperand op.access k → bit_at v k ≡ bit_at w k)
     → old op.access (here op v) ≡ old op.access (here op w)
 same_old op lawful v w v_below w_below same =
     bytes_from-same (here op v) (here op w) op.access.addr op.access.len (same_byte op lawful v w v_below w_below same)
 
 -- of two words with the same operand an operation that fits one fits the other
-pub same_fit : (op : Observed) → IsLawful op.access → (v w : ℕ) → v < 2 ^ 64 → w < 2 ^ 64
+pub same_fit : (op : Operation) → IsLawful op.access → (v w : ℕ) → v < 2 ^ 64 → w < 2 ^ 64
     → ((k : ℕ) → IsInOperand op.access k → bit_at v k ≡ bit_at w k)
     → Fits op w → Fits op v
 unfolding Fits
@@ -55,7 +55,7 @@ same_fit op lawful v w v_below w_below same fits =
     (λ reply is. is ∙ answer_as_of_old op.access.kind op.access (here op w) (here op v) (sym (same_old op lawful v w v_below w_below same)))
 
 -- and it leaves the same operand of both
-pub same_next : (op : Observed) → IsLawful op.access → (v w : ℕ) → v < 2 ^ 64 → w < 2 ^ 64
+pub same_next : (op : Operation) → IsLawful op.access → (v w : ℕ) → v < 2 ^ 64 → w < 2 ^ 64
     → ((k : ℕ) → IsInOperand op.access k → bit_at v k ≡ bit_at w k)
     → (k : ℕ) → IsInOperand op.access k → bit_at (next op v) k ≡ bit_at (next op w) k
 same_next op lawful v w v_below w_below same k inside =

@@ -17,7 +17,7 @@ use Rattle.chi_lanes.proofs.AfterLemmas.{length-sent}
 use Rattle.chi_lanes.proofs.MemoryLemmas.{get_or-bytes_from, length-bytes_from, with_bytes-inside, with_bytes-outside}
 use Rattle.chi_lanes.proofs.Operands.{placed}
 use Rattle.chi_lanes.proofs.Runs.{slice_index-slice_range}
-use Rattle.chi_trace.specs.declared.observed.Observed.{Observed}
+use Rattle.chi_trace.specs.declared.operation.Operation.{Operation}
 use Rattle.chi_trace.specs.Granules.{next}
 use Rattle.chi_trace.proofs.Agree.{written_byte}
 use Rattle.chi_trace.proofs.Steps.{next-below}
@@ -85,7 +85,7 @@ picked Swap o m pick lawful = absurd pick
 picked Compare o m pick lawful = absurd pick
 
 -- the effect of such an atomic
-pub pick : (op : Observed) (left mask : ℕ) → IsLawful op.access → IsPick op.access.kind → Masks op mask
+pub pick : (op : Operation) (left mask : ℕ) → IsLawful op.access → IsPick op.access.kind → Masks op mask
     → ((k : ℕ) → k < 64 → bit_at left k ≡ bit_at (slice_index op.access.lanes (lane_of (byte_of op k))) (k % 8))
     → HasEffect op (record { found = 0; found_mask = 0; changed_mask = mask; left = left; left_mask = mask; may_stay = true })
 pick op left mask lawful is_pick masks bits = record {

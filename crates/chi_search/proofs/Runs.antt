@@ -2,7 +2,7 @@
 use Rattle.std.proofs.Common.{◌≡◌, ℕ, ◌+◌, ◌^◌, ◌<◌, ◌≤◌, ◌==◌, ◌&&◌, ◌∙◌, Bool, true, false, List, [], ◌∷◌, All, length, Option, None, Some, refl, sym, subst, ap, arith, eqb-true, eq-eqb, inl, inr}
 use Rattle.std.proofs.lemmas.List.Elements.{All-cons, All-head, All-tail}
 use Rattle.chi_history.specs.History.{one_if}
-use Rattle.chi_trace.specs.declared.observed.Observed.{Observed}
+use Rattle.chi_trace.specs.declared.operation.Operation.{Operation}
 use Rattle.chi_trace.specs.Explains.{IsInTime, at, is_answered, times_in}
 use Rattle.chi_trace.specs.Granules.{Fits, next}
 use Rattle.chi_trace.proofs.Places.{none, of_each, of_member, passes}
@@ -13,17 +13,17 @@ use Rattle.chi_search.specs.Positions.{Position, is_left}
 use Rattle.chi_search.specs.Within.{IsDeadWithin, PlayWithin, StepsTo}
 
 -- the bits that a step leaves are those of a word that it may have left
-left_bits : (mask bits word : ℕ) (ops : List Observed) (i t u : ℕ) → IsPart bits mask → (steps : StepsTo mask (at ops i) t u) → Agree bits word u
+left_bits : (mask bits word : ℕ) (ops : List Operation) (i t u : ℕ) → IsPart bits mask → (steps : StepsTo mask (at ops i) t u) → Agree bits word u
     → Agree bits word (next (at ops i) steps.word)
 left_bits mask bits word ops i t u within steps agree k one = agree k one ∙ steps.leaves k (within k one)
 
 -- and the bits that it finds are those of the word before it
-found_bits : (mask bits word : ℕ) (ops : List Observed) (i t u : ℕ) → IsPart bits mask → (steps : StepsTo mask (at ops i) t u) → Agree bits word steps.word
+found_bits : (mask bits word : ℕ) (ops : List Operation) (i t u : ℕ) → IsPart bits mask → (steps : StepsTo mask (at ops i) t u) → Agree bits word steps.word
     → Agree bits word t
 found_bits mask bits word ops i t u within steps agree k one = agree k one ∙ sym (steps.finds k (within k one))
 
 -- operations that may stand before one, and before those that come later than it
-with_next : (ops : List Observed) (later : Later) (i : ℕ) (run : List ℕ) → All (λ j. MayPrecede ops j (Some i)) run
+with_next : (ops : List Operation) (later : Later) (i : ℕ) (run : List ℕ) → All (λ j. MayPrecede ops j (Some i)) run
     → All (λ j. MayPrecedeEach ops j later) run → All (λ j. MayPrecedeEach ops j (later_than i later)) run
 with_next ops later i run first rest =
     of_each (λ j. MayPrecedeEach ops j (later_than i later)) run (λ j some.
@@ -31,7 +31,7 @@ with_next ops later i run first rest =
     (of_member (λ j. MayPrecede ops j (Some i)) run j first some, others.0, others.1, others.2))
 
 -- where no operation makes these bits, and they are not there at first, no run leads to them
-pub unmade : (mask : ℕ) (ops : List Observed) (p : Position) (later : Later) (word bits : ℕ) → IsPart bits mask → (Agree bits word p.word → ⊥)
+pub unmade : (mask : ℕ) (ops : List Operation) (p : Position) (later : Later) (word bits : ℕ) → IsPart bits mask → (Agree bits word p.word → ⊥)
     → ((i : ℕ) → CannotMake mask ops p later word bits i) → IsUnmade mask ops p later word bits
 unfolding IsRunOf LeadsTo
 unmade mask ops p later word bits within absent each [] u is before leads agree = absent (λ k one. agree k one ∙ sym (leads k (within k one)))
@@ -50,11 +50,11 @@ unmade mask ops p later word bits within absent each (i ∷ run) u is before (t,
     ]
 
 -- each of a run may stand before each of an order
-abbrev IsBefore : List Observed → List ℕ → List ℕ → Type 0
+abbrev IsBefore : List Operation → List ℕ → List ℕ → Type 0
 IsBefore ops run x = All (λ k. All (λ j. MayPrecede ops j (Some k)) run) x
 
 -- so may the first of the order, before the others
-first_before : (ops : List Observed) (l : ℕ → Bool) (j : ℕ) (x : List ℕ) → ((i : ℕ) → times_in (j ∷ x) i ≤ one_if (l i))
+first_before : (ops : List Operation) (l : ℕ → Bool) (j : ℕ) (x : List ℕ) → ((i : ℕ) → times_in (j ∷ x) i ≤ one_if (l i))
     → All (λ k. (at ops j).start ≤ (at ops k).end) x → All (λ k. MayPrecede ops j (Some k)) x
 unfolding times_in
 first_before ops l j x once starts =
@@ -71,7 +71,7 @@ first_before ops l j x once starts =
         omega (arith, here, all, some, most (l k))
 
 -- a run that goes on by the first of the order stands before the rest
-goes_on : (ops : List Observed) (run : List ℕ) (j : ℕ) (x : List ℕ) → IsBefore ops run x → All (λ k. MayPrecede ops j (Some k)) x → IsBefore ops (j ∷ run) x
+goes_on : (ops : List Operation) (run : List ℕ) (j : ℕ) (x : List ℕ) → IsBefore ops run x → All (λ k. MayPrecede ops j (Some k)) x → IsBefore ops (j ∷ run) x
 goes_on ops run j x before first =
     of_each (λ k. All (λ i. MayPrecede ops i (Some k)) (j ∷ run)) x (λ k some.
     All-cons (λ i. MayPrecede ops i (Some k)) j run (of_member (λ k. MayPrecede ops j (Some k)) x k first some)
@@ -86,13 +86,13 @@ fewer l j x once i = let all : one_if (j == i) + times_in x i ≤ one_if (l i) =
 abbrev pub only_before : Option ℕ → Later
 only_before other = record { next = other; second = None; third = None; fourth = None }
 
-of_one : (ops : List Observed) (other : Option ℕ) (run : List ℕ) → All (λ j. MayPrecede ops j other) run
+of_one : (ops : List Operation) (other : Option ℕ) (run : List ℕ) → All (λ j. MayPrecede ops j other) run
     → All (λ j. MayPrecedeEach ops j (only_before other)) run
 of_one ops other run first =
     of_each (λ j. MayPrecedeEach ops j (only_before other)) run (λ j some. (of_member (λ j. MayPrecede ops j other) run j first some, tt, tt, tt))
 
 -- an order has no operation that must find bits to which no run leads
-not_found : (mask bits word : ℕ) (ops : List Observed) (final_word : Option ℕ) (p : Position) (y : ℕ) → IsPart bits mask
+not_found : (mask bits word : ℕ) (ops : List Operation) (final_word : Option ℕ) (p : Position) (y : ℕ) → IsPart bits mask
     → ((w : ℕ) → w < 2 ^ 64 → Fits (at ops y) w → Agree bits word w) → IsUnmade mask ops p (only_before (Some y)) word bits
     → (x run : List ℕ) (v : ℕ) → IsRunOf ops (is_left (length ops) p) run → LeadsTo mask ops p.word run v → IsBefore ops run x
     → All (λ i. is_left (length ops) p i ≡ true) x → ((i : ℕ) → times_in x i ≤ one_if (is_left (length ops) p i)) → IsInTime ops x
@@ -117,7 +117,7 @@ not_found mask bits word ops final_word p y within finds out (j ∷ x) run v is 
     by_test false other more = more (omega (arith, some, ap one_if other))
 
 -- and does not leave them
-not_left : (mask bits seen : ℕ) (ops : List Observed) (p : Position) → IsPart bits mask → IsUnmade mask ops p (only_before None) seen bits
+not_left : (mask bits seen : ℕ) (ops : List Operation) (p : Position) → IsPart bits mask → IsUnmade mask ops p (only_before None) seen bits
     → (x run : List ℕ) (v : ℕ) → IsRunOf ops (is_left (length ops) p) run → LeadsTo mask ops p.word run v → IsBefore ops run x
     → All (λ i. is_left (length ops) p i ≡ true) x → ((i : ℕ) → times_in x i ≤ one_if (is_left (length ops) p i)) → IsInTime ops x
     → PlayWithin mask ops (Some seen) v x → ⊥
@@ -135,11 +135,11 @@ not_left mask bits seen ops p within out (j ∷ x) run v is leads before left on
     (All-tail (λ i. is_left (length ops) p i ≡ true) j x left) (fewer (is_left (length ops) p) j x once) times.1 rest
 
 -- no run stands before an order
-at_first : (ops : List Observed) (x : List ℕ) → IsBefore ops [] x
+at_first : (ops : List Operation) (x : List ℕ) → IsBefore ops [] x
 at_first ops x = of_each (λ k. All (λ i. MayPrecede ops i (Some k)) []) x (λ k some. none (λ i. MayPrecede ops i (Some k)))
 
 -- an operation that was answered, and is left, stands in each order
-pub dead_found : (mask bits word : ℕ) (ops : List Observed) (final_word : Option ℕ) (p : Position) (y : ℕ) → IsPart bits mask → is_left (length ops) p y ≡ true
+pub dead_found : (mask bits word : ℕ) (ops : List Operation) (final_word : Option ℕ) (p : Position) (y : ℕ) → IsPart bits mask → is_left (length ops) p y ≡ true
     → is_answered (at ops y) ≡ true
     → ((w : ℕ) → w < 2 ^ 64 → Fits (at ops y) w → Agree bits word w) → IsUnmade mask ops p (only_before (Some y)) word bits
     → IsDeadWithin mask ops final_word p
@@ -150,7 +150,7 @@ dead_found mask bits word ops final_word p y within left answered finds out (x, 
     not_found mask bits word ops final_word p y within finds out x [] p.word tt (λ k one. refl) (at_first ops x) (passes (is_left (length ops) p) x c.once) c.once
     c.times c.plays (omega (arith, due, ap one_if both))
 
-pub dead_at_end : (mask bits seen : ℕ) (ops : List Observed) (p : Position) → IsPart bits mask → IsUnmade mask ops p (only_before None) seen bits
+pub dead_at_end : (mask bits seen : ℕ) (ops : List Operation) (p : Position) → IsPart bits mask → IsUnmade mask ops p (only_before None) seen bits
     → IsDeadWithin mask ops (Some seen) p
 unfolding IsRunOf LeadsTo
 dead_at_end mask bits seen ops p within out (x, c) =

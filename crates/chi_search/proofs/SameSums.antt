@@ -9,7 +9,7 @@ use Rattle.chi_lanes.specs.Bytes.{number_in}
 use Rattle.chi_lanes.specs.Memory.{Memory, granule_start}
 use Rattle.chi_lanes.proofs.AfterLemmas.{IsMemory-after}
 use Rattle.chi_lanes.proofs.Operands.{IsPlaced, placed}
-use Rattle.chi_trace.specs.declared.observed.Observed.{Observed}
+use Rattle.chi_trace.specs.declared.operation.Operation.{Operation}
 use Rattle.chi_trace.specs.Granules.{next}
 use Rattle.chi_trace.proofs.Steps.{IsMemory-with_word}
 use Rattle.chi_search.specs.Effects.{AgreeOutside, IsInOperand, IsSum}
@@ -20,7 +20,7 @@ use Rattle.chi_search.proofs.Told.{bit_after, bit_here, byte_of, here, in_word}
 use Rattle.chi_search.proofs.WordBits.{mask_bit}
 
 -- a bit of a byte after the operation is one of the word that it leaves
-bit_of_after : (op : Observed) (w x j k : ℕ) → IsLawful op.access → k < 64 → byte_of op k ≡ x → k % 8 ≡ j
+bit_of_after : (op : Operation) (w x j k : ℕ) → IsLawful op.access → k < 64 → byte_of op k ≡ x → k % 8 ≡ j
     → bit_at (after op.access (here op w) x) j ≡ bit_at (next op w) k
 bit_of_after op w x j k lawful within at rest =
     ap (λ y. bit_at (after op.access (here op w) y) j) (sym at)
@@ -28,7 +28,7 @@ bit_of_after op w x j k lawful within at rest =
     ∙ sym (bit_after op w k lawful within)
 
 -- a byte of the operand after it, in a run of bytes in which the words after it agree
-same_after : (op : Observed) → IsLawful op.access → (lane len v w : ℕ)
+same_after : (op : Operation) → IsLawful op.access → (lane len v w : ℕ)
     → ((k : ℕ) → IsInOperand op.access k → bit_at (run lane len) k ≡ 1 → bit_at (next op v) k ≡ bit_at (next op w) k)
     → (x : ℕ) → op.access.addr ≤ x → x < op.access.addr + op.access.len → lane ≤ x - granule_start op.access.addr
     → x - granule_start op.access.addr < lane + len
@@ -49,7 +49,7 @@ same_after op lawful lane len v w same x above below from to =
         ∙ sym (bit_of_after op w x j k lawful within at rest)
 
 -- a byte out of the run, where the words agree there
-same_here : (op : Observed) (lane len v w : ℕ) → v < 2 ^ 64 → w < 2 ^ 64 → AgreeOutside (run lane len) v w → (j : ℕ) → j < 8
+same_here : (op : Operation) (lane len v w : ℕ) → v < 2 ^ 64 → w < 2 ^ 64 → AgreeOutside (run lane len) v w → (j : ℕ) → j < 8
     → (j < lane) ⊎ (lane + len ≤ j) → here op v (granule_start op.access.addr + j) ≡ here op w (granule_start op.access.addr + j)
 same_here op lane len v w v_below w_below agree j inside outside =
     same_from_bits_below 8 (here op v (granule_start op.access.addr + j)) (here op w (granule_start op.access.addr + j))
@@ -63,7 +63,7 @@ abbrev number : Access → Memory → ℕ
 number o m = number_in o.endian (old o m)
 
 -- Words that agree out of a run of bytes have the same operand where a sum leaves the same of both in the run.
-pub same_sum : (op : Observed) → IsLawful op.access → IsSum op.access.kind → (lane len v w : ℕ) → v < 2 ^ 64 → w < 2 ^ 64
+pub same_sum : (op : Operation) → IsLawful op.access → IsSum op.access.kind → (lane len v w : ℕ) → v < 2 ^ 64 → w < 2 ^ 64
     → AgreeOutside (run lane len) v w
     → ((k : ℕ) → IsInOperand op.access k → bit_at (run lane len) k ≡ 1 → bit_at (next op v) k ≡ bit_at (next op w) k)
     → (k : ℕ) → IsInOperand op.access k → bit_at v k ≡ bit_at w k

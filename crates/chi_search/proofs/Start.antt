@@ -3,7 +3,7 @@ use Rattle.std.proofs.Common.{◌≡◌, ℕ, zero, suc, ◌-◌, ◌/◌, ◌%�
 use Rattle.std.proofs.lemmas.Bool.Decides.{nat_tests}
 use Rattle.std.proofs.lemmas.Nat.Bits.{bit_at-zero}
 use Rattle.std.specs.Int.{bit_at}
-use Rattle.chi_trace.specs.declared.observed.Observed.{Observed}
+use Rattle.chi_trace.specs.declared.operation.Operation.{Operation}
 use Rattle.chi_trace.specs.Explains.{is_place}
 use Rattle.chi_trace.specs.Granules.{Finishes}
 use Rattle.chi_search.specs.declared.states.States.{States}
@@ -36,11 +36,11 @@ ready_at_start n w = record {
   later = λ j past. unsettled_at_start w j;
 }
 
-pub from_start : (ops : List Observed) (w : ℕ) (final_word : Option ℕ) (x : List ℕ) → Finishes ops (is_left (length ops) (start w)) w final_word x
+pub from_start : (ops : List Operation) (w : ℕ) (final_word : Option ℕ) (x : List ℕ) → Finishes ops (is_left (length ops) (start w)) w final_word x
     → Finishes ops (is_place ops) w final_word x
 from_start ops w final_word x c = stays ops (is_left (length ops) (start w)) (is_place ops) w final_word x (left_at_start (length ops) w) c
 
-pub at_start : (ops : List Observed) (w : ℕ) (final_word : Option ℕ) (x : List ℕ) → Finishes ops (is_place ops) w final_word x
+pub at_start : (ops : List Operation) (w : ℕ) (final_word : Option ℕ) (x : List ℕ) → Finishes ops (is_place ops) w final_word x
     → Finishes ops (is_left (length ops) (start w)) w final_word x
 at_start ops w final_word x c = stays ops (is_place ops) (is_left (length ops) (start w)) w final_word x (λ i. sym (left_at_start (length ops) w i)) c
 
@@ -55,9 +55,9 @@ more_of P old new s more all one p has = elim ((more p).0 has) [
   | inr same ↦ subst P (sym same) one
 ]
 
-pub none_dead : (ops : List Observed) (final_word : Option ℕ) (states : States) → positions states ≡ [] → AllDead ops final_word states
+pub none_dead : (ops : List Operation) (final_word : Option ℕ) (states : States) → positions states ≡ [] → AllDead ops final_word states
 none_dead ops final_word = none_of (IsDead ops final_word)
 
-pub more_dead : (ops : List Observed) (final_word : Option ℕ) (old new : States) (s : Position) → ((p : Position) → Has new p ↔ (Has old p ⊎ (p ≡ s)))
+pub more_dead : (ops : List Operation) (final_word : Option ℕ) (old new : States) (s : Position) → ((p : Position) → Has new p ↔ (Has old p ⊎ (p ≡ s)))
     → AllDead ops final_word old → IsDead ops final_word s → AllDead ops final_word new
 more_dead ops final_word = more_of (IsDead ops final_word)

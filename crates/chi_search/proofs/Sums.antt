@@ -17,7 +17,7 @@ use Rattle.chi_lanes.proofs.MaskedBytes.{slice_index-little_bytes}
 use Rattle.chi_lanes.proofs.MemoryLemmas.{AreBytes-bytes_from, get_or-bytes_from, length-bytes_from, with_bytes-inside}
 use Rattle.chi_lanes.proofs.Operands.{IsPlaced, placed}
 use Rattle.chi_lanes.proofs.ReversedBytes.{bytes-number_in, length-bytes}
-use Rattle.chi_trace.specs.declared.observed.Observed.{Observed}
+use Rattle.chi_trace.specs.declared.operation.Operation.{Operation}
 use Rattle.chi_trace.specs.Granules.{next}
 use Rattle.chi_trace.proofs.Steps.{IsMemory-with_word}
 use Rattle.chi_search.specs.Effects.{Agree, IsInOperand, IsSum}
@@ -136,7 +136,7 @@ between false first size lane len i d below inside above under =
     (omega (arith, below, inside.0, inside.1, above, under), omega (arith, below, inside.0, inside.1, above, under))
 
 -- a bit of a word's byte
-pub bit_of_byte : (op : Observed) (v j i : ℕ) → v < 2 ^ 64 → j < 8 → i < 8
+pub bit_of_byte : (op : Operation) (v j i : ℕ) → v < 2 ^ 64 → j < 8 → i < 8
     → bit_at v (8 * j + i) ≡ bit_at (here op v (granule_start op.access.addr + j)) i
 bit_of_byte op v j i below inside bit =
     let byte : (8 * j + i) / 8 ≡ j = omega (arith, bit) in
@@ -163,7 +163,7 @@ outside_bit lane len j i bit (inl below) = inl (omega (arith, bit, below))
 outside_bit lane len j i bit (inr above) = inr (omega (arith, bit, above))
 
 -- a byte of a word that has this bit in each place out of the run
-filled : (op : Observed) (lane len v b filling : ℕ) → v < 2 ^ 64 → filling < 256 → ((i : ℕ) → i < 8 → bit_at filling i ≡ b)
+filled : (op : Operation) (lane len v b filling : ℕ) → v < 2 ^ 64 → filling < 256 → ((i : ℕ) → i < 8 → bit_at filling i ≡ b)
     → ((k : ℕ) → k < 64 → bit_at (run lane len) k ≡ 0 → bit_at v k ≡ b)
     → (j : ℕ) → j < 8 → (j < lane) ⊎ (lane + len ≤ j) → here op v (granule_start op.access.addr + j) ≡ filling
 filled op lane len v b filling below byte same fills j inside outside =
@@ -174,7 +174,7 @@ filled op lane len v b filling below byte same fills j inside outside =
     ∙ sym (same i bit))
 
 -- a byte of the run in two words that agree there
-agreed : (op : Observed) (lane len v w : ℕ) → lane + len ≤ 8 → v < 2 ^ 64 → w < 2 ^ 64 → Agree (run lane len) v w → (j : ℕ) → IsInRun lane len j
+agreed : (op : Operation) (lane len v w : ℕ) → lane + len ≤ 8 → v < 2 ^ 64 → w < 2 ^ 64 → Agree (run lane len) v w → (j : ℕ) → IsInRun lane len j
     → here op w (granule_start op.access.addr + j) ≡ here op v (granule_start op.access.addr + j)
 agreed op lane len v w room v_below w_below agree j inside =
     let within : j < 8 = omega (arith, room, inside.1) in
@@ -185,7 +185,7 @@ agreed op lane len v w room v_below w_below agree j inside =
     ∙ bit_of_byte op v j i v_below within bit)
 
 -- a digit of the operand's number is a byte of the granule
-pub digit_here : (op : Observed) (v d : ℕ) → IsPlaced op.access.addr op.access.len → d < op.access.len
+pub digit_here : (op : Operation) (v d : ℕ) → IsPlaced op.access.addr op.access.len → d < op.access.len
     → digit (number op.access (here op v)) d
     ≡ here op v (granule_start op.access.addr + (op.access.addr % 8 + place op.access.endian op.access.len d))
 digit_here op v d placing below =
@@ -194,11 +194,11 @@ digit_here op v d placing below =
     digit_of_operand op.access.endian (here op v) op.access.addr op.access.len d (IsMemory-with_word _ v) below ∙ ap (here op v) at
 
 -- the lowest digit of the operand in the run
-abbrev from_digit : Observed → ℕ → ℕ → ℕ
+abbrev from_digit : Operation → ℕ → ℕ → ℕ
 from_digit op lane len = lowest op.access.endian (op.access.addr % 8) op.access.len lane len
 
 -- a word is added to as another that agrees with it in the run
-like : (op : Observed) → IsLawful op.access → IsSum op.access.kind → (lane len w v : ℕ) → lane + len ≤ 8 → w < 2 ^ 64 → v < 2 ^ 64
+like : (op : Operation) → IsLawful op.access → IsSum op.access.kind → (lane len w v : ℕ) → lane + len ≤ 8 → w < 2 ^ 64 → v < 2 ^ 64
     → Agree (run lane len) v w
     → AddsLike (number op.access (here op w)) (number op.access (here op v)) (number_in op.access.endian (sent_by op.access)) (from_digit op lane len)
     → Agree (run lane len) (next op w) (next op v)
@@ -257,7 +257,7 @@ like op lawful sum lane len w v room w_below v_below agree adds k one =
 
 -- In a run of bytes of the word a sum depends on the other bytes by one carry alone: it is that of the word with 0 there,
 -- or that of the word with 1 in each bit there.
-pub sum_within : (op : Observed) → IsLawful op.access → IsSum op.access.kind → (lane len : ℕ) → 1 ≤ len → lane + len ≤ 8
+pub sum_within : (op : Operation) → IsLawful op.access → IsSum op.access.kind → (lane len : ℕ) → 1 ≤ len → lane + len ≤ 8
     → (w low high : ℕ) → w < 2 ^ 64 → low < 2 ^ 64 → high < 2 ^ 64
     → Agree (run lane len) low w → Agree (run lane len) high w
     → ((k : ℕ) → k < 64 → bit_at (run lane len) k ≡ 0 → bit_at low k ≡ 0)

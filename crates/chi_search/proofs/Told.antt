@@ -13,7 +13,7 @@ use Rattle.chi_lanes.specs.Packet.{in_lanes}
 use Rattle.chi_lanes.proofs.AfterLemmas.{IsMemory-after}
 use Rattle.chi_lanes.proofs.MemoryLemmas.{get_or-bytes_from, length-bytes_from}
 use Rattle.chi_lanes.proofs.Operands.{placed}
-use Rattle.chi_trace.specs.declared.observed.Observed.{Observed}
+use Rattle.chi_trace.specs.declared.operation.Operation.{Operation}
 use Rattle.chi_trace.specs.Granules.{Fits, next, with_word}
 use Rattle.chi_trace.proofs.Agree.{after_as_byte}
 use Rattle.chi_trace.proofs.Steps.{IsMemory-with_word, word_at-with_word}
@@ -47,15 +47,15 @@ olds_as Swap o m k bs first second = olds_of o m k bs first second
 olds_as Compare o m k bs first second = olds_of o m k bs first second
 
 -- the memory that has a word in the operation's granule
-abbrev pub here : Observed → ℕ → Memory
+abbrev pub here : Operation → ℕ → Memory
 here op w = with_word (granule_start op.access.addr) w
 
 -- the address of the byte of a bit of that word
-abbrev pub byte_of : Observed → ℕ → ℕ
+abbrev pub byte_of : Operation → ℕ → ℕ
 byte_of op k = granule_start op.access.addr + k / 8
 
 -- of two words that it fits
-olds : (op : Observed) (bs : List ℕ) → op.reply ≡ Some (CompData bs) → (w v : ℕ) → Fits op w → Fits op v
+olds : (op : Operation) (bs : List ℕ) → op.reply ≡ Some (CompData bs) → (w v : ℕ) → Fits op w → Fits op v
     → old op.access (here op w) ≡ old op.access (here op v)
 unfolding Fits
 olds op bs held w v fits v_fits =
@@ -81,19 +81,19 @@ in_word o k lawful inside =
     omega (arith, place.at, place.room, inside.1)
 
 -- a bit of a word, and of the word that the operation leaves of it
-pub bit_here : (op : Observed) (w k : ℕ) → w < 2 ^ 64 → k < 64 → bit_at w k ≡ bit_at (here op w (byte_of op k)) (k % 8)
+pub bit_here : (op : Operation) (w k : ℕ) → w < 2 ^ 64 → k < 64 → bit_at w k ≡ bit_at (here op w (byte_of op k)) (k % 8)
 bit_here op w k below inside =
     ap (λ n. bit_at n k) (sym (word_at-with_word (granule_start op.access.addr) w below))
     ∙ bit_of_word (here op w) (IsMemory-with_word _ w) (granule_start op.access.addr) k inside
 
-pub bit_after : (op : Observed) (w k : ℕ) → IsLawful op.access → k < 64
+pub bit_after : (op : Operation) (w k : ℕ) → IsLawful op.access → k < 64
     → bit_at (next op w) k ≡ bit_at (after op.access (here op w) (byte_of op k)) (k % 8)
 unfolding next
 bit_after op w k lawful inside =
     bit_of_word (after op.access (here op w)) (IsMemory-after op.access (here op w) (IsMemory-with_word _ w) lawful) (granule_start op.access.addr) k inside
 
 -- two words that the operation fits have the same operand
-pub same_found : (op : Observed) (bs : List ℕ) → IsLawful op.access → op.reply ≡ Some (CompData bs) → (w v : ℕ) → w < 2 ^ 64 → v < 2 ^ 64
+pub same_found : (op : Operation) (bs : List ℕ) → IsLawful op.access → op.reply ≡ Some (CompData bs) → (w v : ℕ) → w < 2 ^ 64 → v < 2 ^ 64
     → Fits op w → Fits op v
     → (k : ℕ) → IsInOperand op.access k → bit_at w k ≡ bit_at v k
 same_found op bs lawful held w v below v_below fits v_fits k inside =
@@ -103,7 +103,7 @@ same_found op bs lawful held w v below v_below fits v_fits k inside =
     ∙ sym (bit_here op v k v_below within)
 
 -- and it leaves the same operand of each
-pub same_left : (op : Observed) (bs : List ℕ) → IsLawful op.access → op.reply ≡ Some (CompData bs) → (w v : ℕ) → Fits op w → Fits op v
+pub same_left : (op : Operation) (bs : List ℕ) → IsLawful op.access → op.reply ≡ Some (CompData bs) → (w v : ℕ) → Fits op w → Fits op v
     → (k : ℕ) → IsInOperand op.access k → bit_at (next op w) k ≡ bit_at (next op v) k
 same_left op bs lawful held w v fits v_fits k inside =
     let within : k < 64 = in_word op.access k lawful inside in
@@ -114,7 +114,7 @@ same_left op bs lawful held w v fits v_fits k inside =
     ∙ sym (bit_after op v k lawful within)
 
 -- an operation changes no bit out of its operand
-pub kept_outside : (op : Observed) → IsLawful op.access → (w k : ℕ) → w < 2 ^ 64 → k < 64 → (IsInOperand op.access k → ⊥)
+pub kept_outside : (op : Operation) → IsLawful op.access → (w k : ℕ) → w < 2 ^ 64 → k < 64 → (IsInOperand op.access k → ⊥)
     → bit_at (next op w) k ≡ bit_at w k
 kept_outside op lawful w k below within outside =
     bit_after op w k lawful within

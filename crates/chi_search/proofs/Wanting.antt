@@ -4,7 +4,7 @@ use Rattle.std.specs.Int.{bit_at, bit_not, w64}
 use Rattle.std.proofs.lemmas.Nat.{and_le_l, and_le_r, or_lt}
 use Rattle.std.proofs.lemmas.Nat.Bits.{bit_at-lt, bit_at-zero, bit_at_and, bit_at_not, bit_at_ones, bit_at_or}
 use Rattle.chi_fields.specs.Access.{IsLawful}
-use Rattle.chi_trace.specs.declared.observed.Observed.{Observed}
+use Rattle.chi_trace.specs.declared.operation.Operation.{Operation}
 use Rattle.chi_trace.specs.Granules.{next}
 use Rattle.chi_search.specs.declared.effect.Effect.{Effect}
 use Rattle.chi_search.specs.Effects.{Agree, AgreeOutside, HasEffect, IsEor, IsSum}
@@ -65,7 +65,7 @@ found_or_kept_bit e bits mask k below within one =
     ]
 
 pub by_effect : (e : Effect) (word bits mask : ℕ) → e.found_mask < 2 ^ 64 → e.changed_mask < 2 ^ 64 → bits < 2 ^ 64 → mask < 2 ^ 64
-    → (op : Observed) → HasEffect op e
+    → (op : Operation) → HasEffect op e
     → (other : ℕ)
     → Wants op bits word (record {
       word = bit_or (bit_and e.found e.found_mask) (bit_and word (bit_not w64 e.found_mask));
@@ -91,12 +91,12 @@ within_mask e bits mask changed_below bits_below mask_below inside k one = elim 
   | inr (bit, _) ↦ inside k bit
 ]
 
-pub by_eor : (op : Observed) (word bits found : ℕ) → IsLawful op.access → IsEor op.access.kind → word < 2 ^ 64 → bits < 2 ^ 64 → found ≡ next op word
+pub by_eor : (op : Operation) (word bits found : ℕ) → IsLawful op.access → IsEor op.access.kind → word < 2 ^ 64 → bits < 2 ^ 64 → found ≡ next op word
     → (other : ℕ) → Wants op bits word (record { word = found; other = other; bits = bits })
 by_eor op word bits found lawful is word_below bits_below same other w w_below fits leaves =
     inl (λ k one. ap (λ n. bit_at n k) same ∙ back_bit op lawful is word w k word_below w_below (bit_within bits k bits_below one) (leaves k one))
 
-pub by_sum : (op : Observed) (word bits mask operand low high : ℕ) → IsLawful op.access → IsSum op.access.kind → IsRun mask → Masks op operand
+pub by_sum : (op : Operation) (word bits mask operand low high : ℕ) → IsLawful op.access → IsSum op.access.kind → IsRun mask → Masks op operand
     → operand < 2 ^ 64 → bits < 2 ^ 64 → mask < 2 ^ 64 → low < 2 ^ 64 → high < 2 ^ 64 → IsPart bits mask
     → bit_and (bit_and operand mask) (bit_not w64 bits) ≡ 0
     → AgreeOutside mask low 0 → LeavesOperand mask op low word → AgreeOutside mask high (2 ^ 64 - 1) → LeavesOperand mask op high word
@@ -149,7 +149,7 @@ by_sum op word bits mask operand low high lawful sum is masks operand_below bits
         ]
 
 -- where a sum was seen to leave these bits
-pub left_operand : (op : Observed) (word mask operand found left : ℕ) → Masks op operand → left ≡ next op found
+pub left_operand : (op : Operation) (word mask operand found left : ℕ) → Masks op operand → left ≡ next op found
     → bit_and (bit_xor left word) (bit_and operand mask) ≡ 0
     → LeavesOperand mask op found word
 left_operand op word mask operand found left masks leaves_it same k in_it one =

@@ -2,7 +2,7 @@
 use Rattle.std.proofs.Common.{◌≡◌, ℕ, suc, zero, ◌<◌, ◌≤◌, ◌⊎◌, Bool, true, false, not, true≢false, List, [], ◌∷◌, length, Option, IfSome, bit_and, refl, sym, subst, arith, inl, inr}
 use Rattle.std.proofs.lemmas.Bool.{cases_lt}
 use Rattle.std.proofs.lemmas.Nat.Bits.{bit_at-lt, bit_at_and}
-use Rattle.chi_trace.specs.declared.observed.Observed.{Observed}
+use Rattle.chi_trace.specs.declared.operation.Operation.{Operation}
 use Rattle.chi_trace.specs.Explains.{IsInTime, at, times_in}
 use Rattle.chi_search.specs.declared.path.Step.{Step}
 use Rattle.chi_search.specs.Effects.{Agree}
@@ -17,10 +17,10 @@ use Rattle.chi_search.proofs.Settling.{left_is, left_settles}
 use Rattle.chi_search.proofs.Within.{finishes_without, same_word, turned}
 
 -- how often operations stand in an order that finishes
-covers_of : (mask : ℕ) (ops : List Observed) (l : ℕ → Bool) (v : ℕ) (final_word : Option ℕ) (x : List ℕ) → FinishesWithin mask ops l v final_word x → Covers ops l x
+covers_of : (mask : ℕ) (ops : List Operation) (l : ℕ → Bool) (v : ℕ) (final_word : Option ℕ) (x : List ℕ) → FinishesWithin mask ops l v final_word x → Covers ops l x
 covers_of mask ops l v final_word x c = record { done = c.done; once = c.once }
 
-dropping : (mask : ℕ) (ops : List Observed) (final_word : Option ℕ) (p : Position) (x : List ℕ) → IsReady (length ops) p → p.first < length ops → times_in x p.first ≡ 0
+dropping : (mask : ℕ) (ops : List Operation) (final_word : Option ℕ) (p : Position) (x : List ℕ) → IsReady (length ops) p → p.first < length ops → times_in x p.first ≡ 0
     → FinishesWithin mask ops (is_left (length ops) p) p.word final_word x → ByDroppingWithin mask ops final_word p
 dropping mask ops final_word p x ready below none c = (absent ops l p.first x (ready.left below) none covers, goes)
   where
@@ -39,7 +39,7 @@ dropping mask ops final_word p x ready below none c = (absent ops l p.first x (r
               (record { done = left.done; once = left.once; times = c.times; plays = c.plays }),
         )
 
-by_first : (mask : ℕ) (ops : List Observed) (final_word : Option ℕ) (p : Position) (i : ℕ) (y : List ℕ) → CanCome ops p i
+by_first : (mask : ℕ) (ops : List Operation) (final_word : Option ℕ) (p : Position) (i : ℕ) (y : List ℕ) → CanCome ops p i
     → FinishesWithin mask ops (is_left (length ops) p) p.word final_word (i ∷ y) → ByTakingWithin mask ops final_word p i
 unfolding PlayWithin IsInTime
 by_first mask ops final_word p i y comes c = record { comes = comes; leaves = c.plays.0; steps = c.plays.1; rest = goes }
@@ -55,7 +55,7 @@ by_first mask ops final_word p i y comes c = record { comes = comes; leaves = c.
         )
 
 -- an order goes on by an operation that can come next, or without the first
-goes_on : (mask : ℕ) (ops : List Observed) (final_word : Option ℕ) (p : Position) (x : List ℕ) → AreSorted ops → IsReady (length ops) p → p.first < length ops
+goes_on : (mask : ℕ) (ops : List Operation) (final_word : Option ℕ) (p : Position) (x : List ℕ) → AreSorted ops → IsReady (length ops) p → p.first < length ops
     → FinishesWithin mask ops (is_left (length ops) p) p.word final_word x
     → ((i : ℕ) × ByTakingWithin mask ops final_word p i) ⊎ ByDroppingWithin mask ops final_word p
 unfolding times_in
@@ -71,7 +71,7 @@ goes_on mask ops final_word p (i ∷ y) sorted ready below c = by_times (times_i
         inl (i, by_first mask ops final_word p i y (left, begins_early ops p i y sorted left c.times (omega (arith, some))) c)
 
 -- where all that can come next were tried, and the first cannot be left out, a position is dead
-pub tried_all : (mask : ℕ) (ops : List Observed) (final_word : Option ℕ) (p : Position) (k : ℕ) → AreSorted ops → IsReady (length ops) p → p.first < length ops
+pub tried_all : (mask : ℕ) (ops : List Operation) (final_word : Option ℕ) (p : Position) (k : ℕ) → AreSorted ops → IsReady (length ops) p → p.first < length ops
     → AreTriedWithin mask ops final_word p k → ((i : ℕ) → k ≤ i → i < length ops → (at ops p.first).end < (at ops i).start)
     → (ByDroppingWithin mask ops final_word p → ⊥) → IsDeadWithin mask ops final_word p
 tried_all mask ops final_word p k sorted ready below tried late dropped (x, c) = elim (goes_on mask ops final_word p x sorted ready below c) [
@@ -87,16 +87,16 @@ tried_all mask ops final_word p k sorted ready below tried late dropped (x, c) =
 ]
 
 -- each step of a path was made from a position that is ready, and the operations before the place to which it had come were tried
-pub record IsTriedStep (mask : ℕ) (ops : List Observed) (final_word : Option ℕ) (step : Step) : Type 0 where
+pub record IsTriedStep (mask : ℕ) (ops : List Operation) (final_word : Option ℕ) (step : Step) : Type 0 where
   pub ready : IsReady (length ops) (position_of step.from)
   pub tried : AreTriedWithin mask ops final_word (position_of step.from) step.tried
 
 -- before the first none can come
-pub none_tried : (mask : ℕ) (ops : List Observed) (final_word : Option ℕ) (p : Position) (k : ℕ) → k ≤ p.first → AreTriedWithin mask ops final_word p k
+pub none_tried : (mask : ℕ) (ops : List Operation) (final_word : Option ℕ) (p : Position) (k : ℕ) → k ≤ p.first → AreTriedWithin mask ops final_word p k
 none_tried mask ops final_word p k from i before taking = let is = left_is (length ops) p i taking.comes.0 in absurd (omega (arith, is.1))
 
 -- where none is left, the word is the one that was observed
-pub at_end : (mask : ℕ) (ops : List Observed) (final_word : Option ℕ) (p : Position) → length ops ≤ p.first → EndsWithin mask ops final_word p
+pub at_end : (mask : ℕ) (ops : List Operation) (final_word : Option ℕ) (p : Position) → length ops ≤ p.first → EndsWithin mask ops final_word p
     → IfSome final_word (λ seen. Agree mask p.word seen)
 unfolding PlayWithin
 at_end mask ops final_word p past ([], c) = c.plays
@@ -105,7 +105,7 @@ at_end mask ops final_word p past (i ∷ y, c) =
     absurd (omega (arith, is.0, is.1))
 
 -- an operation that keeps the bits may be settled first
-pub settles_kept : (mask : ℕ) (ops : List Observed) (p q : Position) (i : ℕ) → is_left (length ops) p i ≡ true → KeepsWithin mask (at ops i) → Settles p i q
+pub settles_kept : (mask : ℕ) (ops : List Operation) (p q : Position) (i : ℕ) → is_left (length ops) p i ≡ true → KeepsWithin mask (at ops i) → Settles p i q
     → q.word ≡ p.word → GoesOnWithin mask ops p q
 settles_kept mask ops p q i left keeps settles same final_word (x, c) = (
   without i x,
@@ -124,7 +124,7 @@ pub agree_and : (mask w : ℕ) → Agree mask w (bit_and w mask)
 agree_and mask w k one = omega (arith, bit_at_and w mask k, one, bit_at-lt w k)
 
 -- a position is dead where one is that was reached from a copy of it, of whose word the bits of the mask were kept
-pub dead_from : (mask : ℕ) (ops : List Observed) (final_word : Option ℕ) (from copy reached start : Position) → copy ≡ from
+pub dead_from : (mask : ℕ) (ops : List Operation) (final_word : Option ℕ) (from copy reached start : Position) → copy ≡ from
     → GoesOnWithin mask ops (record copy { word = bit_and copy.word mask }) reached → start ≡ reached → IsDeadWithin mask ops final_word start → IsDeadWithin mask ops final_word from
 dead_from mask ops final_word from copy reached start same goes here dead ends =
     let there : EndsWithin mask ops final_word copy = subst (EndsWithin mask ops final_word) (sym same) ends in

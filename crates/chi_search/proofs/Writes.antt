@@ -8,7 +8,7 @@ use Rattle.chi_fields.specs.Access.{Access, IsLawful, lane_of}
 use Rattle.chi_lanes.specs.After.{after, after_as, answer, answer_as}
 use Rattle.chi_lanes.specs.Memory.{Memory, granule_start, with_enabled}
 use Rattle.chi_lanes.proofs.MemoryLemmas.{with_enabled-off, with_enabled-on, with_enabled-outside}
-use Rattle.chi_trace.specs.declared.observed.Observed.{Observed}
+use Rattle.chi_trace.specs.declared.operation.Operation.{Operation}
 use Rattle.chi_search.specs.Commuting.{AgreeWhereShared, MovesBefore}
 use Rattle.chi_search.proofs.CommutingPair.{pair}
 
@@ -65,7 +65,7 @@ both_written x z m is_x is_z = as_written z (after x m) is_z ∙ ap (written z) 
 same_reply : (o : Access) (m k : Memory) → o.kind ≡ Write → answer o m ≡ answer o k
 same_reply o m k is = ap (λ kind. answer_as kind o m) is ∙ sym (ap (λ kind. answer_as kind o k) is)
 
-pub agreeing_writes : (x z : Observed) → IsLawful x.access → IsLawful z.access → x.access.kind ≡ Write → z.access.kind ≡ Write
+pub agreeing_writes : (x z : Operation) → IsLawful x.access → IsLawful z.access → x.access.kind ≡ Write → z.access.kind ≡ Write
     → granule_start z.access.addr ≡ granule_start x.access.addr → AgreeWhereShared x.access z.access → MovesBefore x z
 agreeing_writes x z lawful_x lawful_z is_x is_z here agree = pair x z lawful_x lawful_z here (λ m _. record {
   answers_x = same_reply x.access (after z.access m) m is_x;

@@ -7,7 +7,7 @@ use Rattle.chi_fields.specs.declared.kind.Kind.TheVariants.{Load, Read, Store, S
 use Rattle.chi_fields.specs.declared.kind.Op.{Op}
 use Rattle.chi_fields.specs.declared.kind.Op.TheVariants.{Add, Clr, Eor, Set, SMax, SMin, UMax, UMin}
 use Rattle.chi_lanes.specs.Memory.{granule_start}
-use Rattle.chi_trace.specs.declared.observed.Observed.{Observed}
+use Rattle.chi_trace.specs.declared.operation.Operation.{Operation}
 use Rattle.chi_trace.specs.Explains.{at}
 use Rattle.chi_trace.specs.Granules.{Fits, next}
 use Rattle.chi_search.specs.declared.effect.Effect.{Effect}
@@ -25,7 +25,7 @@ abbrev pub IsInOperand : Access → ℕ → Type 0
 IsInOperand o k = (o.addr ≤ granule_start o.addr + k / 8) × (granule_start o.addr + k / 8 < o.addr + o.len)
 
 -- wherever the operation fits it finds these bits, changes no others than these, and leaves these, or, if it may stay, the word that it found
-pub record HasEffect (op : Observed) (e : Effect) : Type 0 where
+pub record HasEffect (op : Operation) (e : Effect) : Type 0 where
   pub finds : (w : ℕ) → w < 2 ^ 64 → Fits op w → Agree e.found_mask e.found w
   pub keeps : (w : ℕ) → w < 2 ^ 64 → Fits op w → AgreeOutside e.changed_mask (next op w) w
   pub leaves : (w : ℕ) → w < 2 ^ 64 → Fits op w → Agree e.left_mask e.left (next op w) ⊎ ((e.may_stay ≡ true) × (next op w ≡ w))
@@ -78,5 +78,5 @@ abbrev pub no_effect : Effect
 no_effect = record { found = 0; found_mask = 0; changed_mask = 0; left = 0; left_mask = 0; may_stay = false }
 
 -- each is that of the operation at its place
-abbrev pub AreEffects : List Observed → List Effect → Type 0
+abbrev pub AreEffects : List Operation → List Effect → Type 0
 AreEffects ops effects = (i : ℕ) → i < length effects → HasEffect (at ops i) (slice_index_or effects i no_effect)

@@ -1,7 +1,7 @@
 -- a search of one granule while its operations are told
 use Rattle.std.specs.Prelude.{ℕ, ◌≤◌, List, ◌++◌, All, Some, length, ◌↔◌}
 use Rattle.std.specs.List.{Contains}
-use Rattle.chi_trace.specs.declared.observed.Observed.{Observed}
+use Rattle.chi_trace.specs.declared.operation.Operation.{Operation}
 use Rattle.chi_search.specs.Layers.{SomeLeads}
 use Rattle.chi_search.specs.Moves.{Ends}
 use Rattle.chi_search.specs.Positions.{IsReady, Position}
@@ -11,7 +11,7 @@ use Rattle.chi_search.specs.Searchable.{AreSorted, AreWithin}
 -- told next starts before the horizon, or ends before the latest end.
 pub record FrontierValue : Type 0 where
   pub positions : List Position
-  pub operations : List Observed
+  pub operations : List Operation
   pub horizon : ℕ
   pub latest : ℕ
 
@@ -23,21 +23,21 @@ pub record IsFrontier (f : FrontierValue) : Type 0 where
   pub ready : (p : Position) → Contains f.positions p → IsReady (length f.operations) p
 
 -- the operation may be told next
-pub record CanBeTold (f : FrontierValue) (op : Observed) : Type 0 where
+pub record CanBeTold (f : FrontierValue) (op : Operation) : Type 0 where
   pub lasting : op.start ≤ op.end
   pub starts : f.horizon ≤ op.start
   pub ends : f.latest ≤ op.end
 
 -- the operations may be told next, one after the other
-pub record MayBeTold (f : FrontierValue) (more : List Observed) : Type 0 where
+pub record MayBeTold (f : FrontierValue) (more : List Operation) : Type 0 where
   pub sorted : AreSorted more
   pub each : All (CanBeTold f) more
 
 -- by the operations that it knows and these the search goes on to the word
-abbrev pub GoesOn : FrontierValue → List Observed → ℕ → Type 0
+abbrev pub GoesOn : FrontierValue → List Operation → ℕ → Type 0
 GoesOn f more v = (p : Position) × Contains f.positions p × Ends (f.operations ++ more) (Some v) p
 
 -- The search follows the operations that were told, from some words on: with whatever may be told next they lead to just the
 -- words to which it goes on.
-abbrev pub Follows : List ℕ → List Observed → FrontierValue → Type 0
-Follows words told f = (more : List Observed) → MayBeTold f more → (v : ℕ) → SomeLeads (told ++ more) words v ↔ GoesOn f more v
+abbrev pub Follows : List ℕ → List Operation → FrontierValue → Type 0
+Follows words told f = (more : List Operation) → MayBeTold f more → (v : ℕ) → SomeLeads (told ++ more) words v ↔ GoesOn f more v

@@ -1,6 +1,6 @@
 -- what an operation may leave in the bits of a mask
 use Rattle.std.specs.Prelude.{ℕ, ◌⊎◌, Option, None, Some}
-use Rattle.chi_trace.specs.declared.observed.Observed.{Observed}
+use Rattle.chi_trace.specs.declared.operation.Operation.{Operation}
 use Rattle.chi_search.specs.declared.outcomes.Outcomes.{Outcomes}
 use Rattle.chi_search.specs.declared.outcomes.Outcomes.TheVariants.{Known, Unknown}
 use Rattle.chi_search.specs.Effects.{Agree}
@@ -12,7 +12,7 @@ HasBits mask u None = ⊥
 HasBits mask u (Some w) = Agree mask u w
 
 -- whatever the operation may leave, one of the words has its bits of the mask
-abbrev pub AreOutcomes : ℕ → Observed → ℕ → Option ℕ → Option ℕ → Type 0
+abbrev pub AreOutcomes : ℕ → Operation → ℕ → Option ℕ → Option ℕ → Type 0
 AreOutcomes mask op v one other = (u : ℕ) → StepsTo mask op v u → HasBits mask u one ⊎ HasBits mask u other
 
 abbrev pub IfKnown : Outcomes → (Option ℕ → Option ℕ → Type 0) → Type 0

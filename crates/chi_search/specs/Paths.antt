@@ -1,6 +1,6 @@
 -- the path of a search from its start, and what is known of the states that it left
 use Rattle.std.specs.Prelude.{◌≡◌, ℕ, ◌^◌, ◌<◌, ◌≤◌, List, [], ◌∷◌, All, length, slice_index, Option, Some, None}
-use Rattle.chi_trace.specs.declared.observed.Observed.{Observed}
+use Rattle.chi_trace.specs.declared.operation.Operation.{Operation}
 use Rattle.chi_trace.specs.Explains.{at}
 use Rattle.chi_search.specs.declared.path.Step.{Step}
 use Rattle.chi_search.specs.declared.states.States.{States}
@@ -9,31 +9,31 @@ use Rattle.chi_search.specs.Positions.{IsReady, Position, position_of}
 use Rattle.chi_search.specs.StateSets.{Has}
 
 -- each time is no later than the start of the operation at its place, and of each after it
-abbrev pub AreEarliest : List Observed → List ℕ → Type 0
+abbrev pub AreEarliest : List Operation → List ℕ → Type 0
 AreEarliest ops times = (length times ≡ length ops) × ((i j : ℕ) → i ≤ j → j < length ops → slice_index times i ≤ (at ops j).start)
 
 -- no order goes on from here
-abbrev pub IsDead : List Observed → Option ℕ → Position → Type 0
+abbrev pub IsDead : List Operation → Option ℕ → Position → Type 0
 IsDead ops final_word p = Ends ops final_word p → ⊥
 
-abbrev pub AllDead : List Observed → Option ℕ → States → Type 0
+abbrev pub AllDead : List Operation → Option ℕ → States → Type 0
 AllDead ops final_word states = (p : Position) → Has states p → IsDead ops final_word p
 
 -- The operations before a place were tried: no order goes on by one of them.
-abbrev pub AreTried : List Observed → Option ℕ → Position → ℕ → Type 0
+abbrev pub AreTried : List Operation → Option ℕ → Position → ℕ → Type 0
 AreTried ops final_word p place = (i : ℕ) → i < place → ByTaking ops final_word p i → ⊥
 
 -- and so were those before the place to which each step of a path had come
-abbrev pub AreTriedBefore : List Observed → Option ℕ → List Step → Type 0
+abbrev pub AreTriedBefore : List Operation → Option ℕ → List Step → Type 0
 AreTriedBefore ops final_word path = All (λ step. AreTried ops final_word (position_of step.from) step.tried) path
 
 -- one move: an operation is taken, or the first one is left out
-unfoldable pub Moves : List Observed → Position → Option ℕ → Position → Type 0
+unfoldable pub Moves : List Operation → Position → Option ℕ → Position → Type 0
 Moves ops p (Some i) q = IsReady (length ops) p × CanCome ops p i × Takes ops p i q × (q.word < 2 ^ 64)
 Moves ops p None q = IsReady (length ops) p × (p.first < length ops) × Drops ops p q
 
 -- the steps lead from one place to another
-unfoldable pub Walks : List Observed → Position → List Step → Position → Type 0
+unfoldable pub Walks : List Operation → Position → List Step → Position → Type 0
 Walks ops p [] q = p ≡ q
 Walks ops p (step ∷ path) q = (p ≡ position_of step.from) × ((middle : Position) × Moves ops (position_of step.from) step.op middle × Walks ops middle path q)
 

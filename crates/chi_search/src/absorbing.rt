@@ -1,7 +1,7 @@
 //! Operations that keep the bits of a mask, and find those that are there: they are settled before all others.
 
 ghost use Rattle.std.specs.Prelude.{◌≡◌, ◌<◌, ◌≤◌, IfSome, IsTrue, OnOk, length, true};
-ghost use Rattle.chi_trace.specs.declared.observed.Observed.{Observed};
+ghost use Rattle.chi_trace.specs.declared.operation.Operation.{Operation};
 ghost use Rattle.chi_trace.specs.Explains.{at};
 ghost use Rattle.chi_search.specs.Effects.{AreEffects, HasEffect};
 ghost use Rattle.chi_search.specs.Knowing.{IsKnown};
@@ -13,20 +13,20 @@ ghost use Rattle.chi_search.specs.Within.{GoesOnWithin, KeepsWithin};
 use crate::effect::Effect;
 use crate::known::Known;
 use crate::state::{State, is_left, settle};
-use chi_trace::Observed;
+use chi_trace::Operation;
 use std::alloc::AllocError;
 use std::mem;
 
 // Whether the operation keeps the bits of the mask, and finds those of the word there.
 fn is_kept(effect: &Effect, mask: u64, word: u64) -> bool
-    ensures { IsTrue result → (op : Observed) → HasEffect op effect.now → KeepsWithin mask op }
+    ensures { IsTrue result → (op : Operation) → HasEffect op effect.now → KeepsWithin mask op }
 {
     effect.changed_mask & mask == 0 && (effect.found ^ word) & (effect.found_mask & mask) == 0
 }
 
 /// Whether the operation at a place is known to change nothing, and finds the word as it is. `effects` has what is known of each
 /// operation, or is empty.
-pub(crate) fn keeps_word(ops: &[Observed], effects: &[Effect], place: usize, word: u64) -> bool
+pub(crate) fn keeps_word(ops: &[Operation], effects: &[Effect], place: usize, word: u64) -> bool
     requires known { AreEffects ops.now effects.now }
     requires place { place < length ops.now }
     ensures { IsTrue result → IsIdle (at ops.now place) }

@@ -21,7 +21,7 @@ use crate::narrowest::narrowest_next;
 use crate::state::{State, is_left, settle};
 use crate::states::{States, has};
 use crate::step::{stays, step};
-use chi_trace::Observed;
+use chi_trace::Operation;
 use std::alloc::AllocError;
 
 /// How many operations are looked at for makers at a state.
@@ -43,7 +43,7 @@ pub(crate) enum Choice {
 
 /// Makes `next` the state after an operation, where it can be taken.
 pub(crate) fn take(
-    ops: &[Observed],
+    ops: &[Operation],
     state: &State,
     place: usize,
     next: &mut State,
@@ -75,7 +75,7 @@ pub(crate) fn take(
 /// The place of an operation that can come next and is seen to change nothing, if there is one. `effects` has what is known of
 /// each operation, or is empty.
 pub(crate) fn idle_next(
-    ops: &[Observed],
+    ops: &[Operation],
     effects: &[Effect],
     earliest: &[u64],
     state: &State,
@@ -104,7 +104,7 @@ pub(crate) fn idle_next(
 
 /// Makes `next` the state without the first operation, where its reply was not seen.
 pub(crate) fn leave_out(
-    ops: &[Observed],
+    ops: &[Operation],
     state: &State,
     next: &mut State,
 ) -> Result<bool, AllocError>

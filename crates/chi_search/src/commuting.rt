@@ -9,10 +9,10 @@ ghost use Rattle.chi_search.specs.Searchable.{AreSorted, AreWithin};
 use crate::equal::is_same_operand;
 use crate::state::{State, is_left};
 use chi_fields::{Access, Kind};
-use chi_trace::Observed;
+use chi_trace::Operation;
 
 // Whether the operands are of one granule, and have no byte in common.
-fn are_apart(op: &Observed, other: &Observed) -> bool
+fn are_apart(op: &Operation, other: &Operation) -> bool
     requires within { op.now.access.addr + op.now.access.len ≤ 2 ^ 52 }
     requires other { other.now.access.addr + other.now.access.len ≤ 2 ^ 52 }
     ensures { IsTrue result → MovesBefore op.now other.now }
@@ -26,7 +26,7 @@ fn are_apart(op: &Observed, other: &Observed) -> bool
 }
 
 // Whether both are an AtomicStore of one kind, on one operand.
-fn are_like_stores(op: &Observed, other: &Observed) -> bool
+fn are_like_stores(op: &Operation, other: &Operation) -> bool
     ensures { IsTrue result → MovesBefore op.now other.now }
 {
     match (op.access.kind(), other.access.kind()) {
@@ -52,19 +52,19 @@ fn agree(access: &Access, other: &Access) -> bool
 }
 
 // Whether both are writes of one granule that agree on each byte that both write.
-fn are_agreeing_writes(op: &Observed, other: &Observed) -> bool
+fn are_agreeing_writes(op: &Operation, other: &Operation) -> bool
     ensures { IsTrue result → MovesBefore op.now other.now }
 {
     match (op.access.kind(), other.access.kind()) {
         (Kind::Write, Kind::Write) => {
-            op.access.addr() / 8 == other.access.addr() / 8 && agree(&op.access, &other.access)
+            op.granule() == other.granule() && agree(&op.access, &other.access)
         }
         _ => false,
     }
 }
 
 /// Whether an operation is seen to be one that can come right before another wherever it can come right after it.
-pub(crate) fn moves_before(op: &Observed, other: &Observed) -> bool
+pub(crate) fn moves_before(op: &Operation, other: &Operation) -> bool
     requires within { op.now.access.addr + op.now.access.len ≤ 2 ^ 52 }
     requires other { other.now.access.addr + other.now.access.len ≤ 2 ^ 52 }
     ensures { IsTrue result → MovesBefore op.now other.now }
@@ -73,7 +73,7 @@ pub(crate) fn moves_before(op: &Observed, other: &Observed) -> bool
 }
 
 // Whether the other operation is left, starts by the end of this one, and is not seen to be one before which this can be moved.
-fn stops(ops: &[Observed], state: &State, place: usize, other: usize) -> bool
+fn stops(ops: &[Operation], state: &State, place: usize, other: usize) -> bool
     requires within { AreWithin ops.now }
     requires place { place < length ops.now }
     requires other { other < length ops.now }
@@ -89,7 +89,7 @@ fn stops(ops: &[Observed], state: &State, place: usize, other: usize) -> bool
 // The place of an operation before which the one at `place` might not be moved, if there is one. The one at `likely` is looked
 // at first.
 fn stop_of(
-    ops: &[Observed],
+    ops: &[Operation],
     earliest: &[u64],
     state: &State,
     place: usize,
@@ -119,7 +119,7 @@ fn stop_of(
 /// The place of an operation that can come next, was answered, and is seen to be one that can be moved before all others, if
 /// there is one, and it is asked for.
 pub(crate) fn commuting_next(
-    ops: &[Observed],
+    ops: &[Operation],
     earliest: &[u64],
     state: &State,
     is_asked: bool,

@@ -12,7 +12,7 @@ ghost use Rattle.chi_search.specs.Searchable.{AreWithin};
 use crate::step::step;
 use chi_fields::{Kind, Op};
 use chi_lanes::{Reply, lane_mask};
-use chi_trace::Observed;
+use chi_trace::Operation;
 use std::alloc::{AllocError, Global};
 
 /// What an operation finds and leaves wherever it fits: the word that it finds has the bits of `found` where those of
@@ -30,7 +30,7 @@ pub(crate) struct Effect {
 }
 
 /// The word whose bytes are 255 in the operand, and 0 elsewhere.
-pub(crate) fn operand_mask(op: &Observed) -> u64
+pub(crate) fn operand_mask(op: &Operation) -> u64
     ensures bits { (k : ℕ) → (bit_at result k ≡ 1) ↔ IsInOperand op.now.access k }
     ensures lawful { IsLawful op.now.access }
 {
@@ -38,7 +38,7 @@ pub(crate) fn operand_mask(op: &Observed) -> u64
 }
 
 // The word of the granule's lanes of a packet: each of its bits is that of the byte in the lane of its address.
-fn word_in(op: &Observed, lanes: &[u8; 16]) -> u64
+fn word_in(op: &Operation, lanes: &[u8; 16]) -> u64
     ensures { (k : ℕ) → k < 64 → bit_at result k ≡ bit_at (slice_index lanes.now (lane_of (granule_start op.now.access.addr + k / 8))) (k % 8) }
 {
     let mut bytes = [0; 8];
@@ -52,7 +52,7 @@ fn word_in(op: &Observed, lanes: &[u8; 16]) -> u64
 
 // The effect of an operation whose reply has data, where it is seen to fit the word of the reply: it fits no word with
 // another operand, and leaves the same operand of each.
-fn told_effect(op: &Observed, lanes: [u8; 16]) -> Option<Effect>
+fn told_effect(op: &Operation, lanes: [u8; 16]) -> Option<Effect>
     requires reply { op.now.reply ≡ Some (Reply.CompData lanes) }
     requires within { op.now.access.addr + op.now.access.len ≤ 2 ^ 52 }
     ensures { IfSome result (HasEffect op.now) }
@@ -72,7 +72,7 @@ fn told_effect(op: &Observed, lanes: [u8; 16]) -> Option<Effect>
 
 // The effect of an operation that leaves each bit as it was, or the same whatever it was: what it leaves of 0 and of the
 // greatest word has the same bits just where it writes.
-fn blind_effect(op: &Observed) -> Option<Effect>
+fn blind_effect(op: &Operation) -> Option<Effect>
     requires blind { IsBlind op.now.access.kind }
     requires within { op.now.access.addr + op.now.access.len ≤ 2 ^ 52 }
     ensures { IfSome result (HasEffect op.now) }
@@ -94,7 +94,7 @@ fn blind_effect(op: &Observed) -> Option<Effect>
 
 // The effect of an atomic that keeps the greater or the lesser of two numbers: it writes what was sent, or leaves the word as
 // it is.
-fn pick_effect(op: &Observed) -> Effect
+fn pick_effect(op: &Operation) -> Effect
     requires { IsPick op.now.access.kind }
     ensures { HasEffect op.now result }
 {
@@ -110,7 +110,7 @@ fn pick_effect(op: &Observed) -> Effect
 }
 
 // What is known of each operation: it changes no byte out of its operand.
-fn loose_effect(op: &Observed) -> Effect
+fn loose_effect(op: &Operation) -> Effect
     ensures { HasEffect op.now result }
 {
     Effect {
@@ -124,7 +124,7 @@ fn loose_effect(op: &Observed) -> Effect
 }
 
 // The effect of an operation whose reply has no data.
-fn untold_effect(op: &Observed) -> Effect
+fn untold_effect(op: &Operation) -> Effect
     requires { op.now.access.addr + op.now.access.len ≤ 2 ^ 52 }
     ensures { HasEffect op.now result }
 {
@@ -144,7 +144,7 @@ fn untold_effect(op: &Observed) -> Effect
 }
 
 // What is known of an operation.
-fn effect_of(op: &Observed) -> Effect
+fn effect_of(op: &Operation) -> Effect
     requires { op.now.access.addr + op.now.access.len ≤ 2 ^ 52 }
     ensures { HasEffect op.now result }
 {
@@ -158,7 +158,7 @@ fn effect_of(op: &Observed) -> Effect
 }
 
 /// What is known of each of the operations.
-pub(crate) fn effects_of(alloc: Global, ops: &[Observed]) -> Result<Vec<Effect>, AllocError>
+pub(crate) fn effects_of(alloc: Global, ops: &[Operation]) -> Result<Vec<Effect>, AllocError>
     requires { AreWithin ops.now }
     ensures known { IfOk result (λ effects. AreEffects ops.now effects.items) }
     ensures each { IfOk result (λ effects. length effects.items ≡ length ops.now) }

@@ -9,7 +9,7 @@ use crate::state::{State, is_left};
 use crate::step::is_same;
 use chi_fields::Access;
 use chi_lanes::Reply;
-use chi_trace::Observed;
+use chi_trace::Operation;
 
 /// Whether two operands are the same bytes, in the same byte order.
 pub(crate) fn is_same_operand(access: &Access, other: &Access) -> bool
@@ -48,7 +48,7 @@ fn is_same_seen(reply: Option<Reply>, other: Option<Reply>) -> bool
 }
 
 /// Whether two operations do the same and were answered the same.
-pub(crate) fn are_equal(op: &Observed, other: &Observed) -> bool
+pub(crate) fn are_equal(op: &Operation, other: &Operation) -> bool
     ensures { IsTrue result → AreEqual op.now other.now }
 {
     is_same_access(&op.access, &other.access) && is_same_seen(op.reply, other.reply)
@@ -56,7 +56,7 @@ pub(crate) fn are_equal(op: &Observed, other: &Observed) -> bool
 
 /// Whether an equal operation that can come next as well stands before the place, where it is asked for.
 pub(crate) fn has_equal_before(
-    ops: &[Observed],
+    ops: &[Operation],
     state: &State,
     place: usize,
     is_asked: bool,

@@ -2,7 +2,7 @@
 
 ghost use Rattle.std.specs.Prelude.{◌≡◌, ◌≢◌, ℕ, ◌+◌, ◌-◌, ◌^◌, ◌≤◌, ◌↔◌, ◌⊎◌, [], ◌∷◌, ◌++◌, false, List, None, Some, IfErr, IfOk, IfSome, IsTrue, length};
 ghost use Rattle.std.specs.List.{AllPairs, Contains};
-ghost use Rattle.chi_trace.specs.declared.observed.Observed.{Observed};
+ghost use Rattle.chi_trace.specs.declared.operation.Operation.{Operation};
 ghost use Rattle.chi_search.specs.Found.{IfUnknown, IfWords};
 ghost use Rattle.chi_search.specs.Frontiers.{CanBeTold, Follows};
 ghost use Rattle.chi_search.specs.Layers.{SomeLeads, Waits};
@@ -14,7 +14,7 @@ use crate::passing::{moved_back, passed};
 use crate::progress::Progress;
 use crate::states::States;
 use crate::words::Words;
-use chi_trace::Observed;
+use chi_trace::Operation;
 use std::alloc::{AllocError, Global};
 use std::marker::Model;
 
@@ -35,7 +35,7 @@ use std::marker::Model;
 #[derive(Drop)]
 pub struct Frontier {
     states: States,
-    operations: Vec<Observed>,
+    operations: Vec<Operation>,
     horizon: u64,
     latest: u64,
 }
@@ -76,7 +76,7 @@ impl Frontier {
     /// let mut other = frontier.copy(alloc)?;
     /// ```
     pub fn copy(&self, alloc: Global) -> Result<Frontier, AllocError>
-        ensures follows { IfOk result (λ copy. (words : List ℕ) (told : List Observed) → Follows words told self.now → Follows words told copy) }
+        ensures follows { IfOk result (λ copy. (words : List ℕ) (told : List Operation) → Follows words told self.now → Follows words told copy) }
         ensures same { IfOk result (λ copy. (copy.operations ≡ self.now.operations) × (copy.horizon ≡ self.now.horizon) × (copy.latest ≡ self.now.latest)) }
     {
         let states = moved_back(alloc, &self.states, 0)?;
@@ -95,8 +95,8 @@ impl Frontier {
     /// ```
     /// let is_told = frontier.add(&op)?;
     /// ```
-    pub fn add(&mut self, op: &Observed) -> Result<bool, AllocError>
-        ensures told { IfOk result (λ is. IsTrue is → (words : List ℕ) (told : List Observed) → Follows words told self.old → Follows words (told ++ op.now ∷ []) self.new) }
+    pub fn add(&mut self, op: &Operation) -> Result<bool, AllocError>
+        ensures told { IfOk result (λ is. IsTrue is → (words : List ℕ) (told : List Operation) → Follows words told self.old → Follows words (told ++ op.now ∷ []) self.new) }
         ensures last { IfOk result (λ is. IsTrue is → (self.new.horizon ≡ self.old.horizon) × (self.new.latest ≡ op.now.end)) }
         ensures taken { IfOk result (λ is. IsTrue is ↔ (CanBeTold self.old op.now × (op.now.access.addr + op.now.access.len ≤ 2 ^ 52))) }
         ensures refused { IfOk result (λ is. is ≡ false → self.new ≡ self.old) }
@@ -124,7 +124,7 @@ impl Frontier {
         budget: &mut u64,
         progress: &mut P,
     ) -> Result<Option<Frontier>, AllocError>
-        ensures follows { IfOk result (λ next. IfSome next (λ frontier. (words : List ℕ) (told : List Observed) → Follows words told self.now → Follows words told frontier)) }
+        ensures follows { IfOk result (λ next. IfSome next (λ frontier. (words : List ℕ) (told : List Operation) → Follows words told self.now → Follows words told frontier)) }
         ensures horizon { IfOk result (λ next. IfSome next (λ frontier. (horizon ≤ frontier.horizon) × (self.now.horizon ≤ frontier.horizon) × ((frontier.horizon ≡ horizon) ⊎ (frontier.horizon ≡ self.now.horizon)))) }
         ensures latest { IfOk result (λ next. IfSome next (λ frontier. frontier.latest ≡ self.now.latest)) }
         ensures waiting { IfOk result (λ next. IfSome next (λ frontier. (p : Position) → Contains frontier.positions p → Waits frontier.operations (Some frontier.horizon) p.first)) }
@@ -169,7 +169,7 @@ impl Frontier {
         budget: &mut u64,
         progress: &mut P,
     ) -> Result<Words, AllocError>
-        ensures words { IfOk result (λ found. IfWords found (λ each. (words : List ℕ) (told : List Observed) → Follows words told self.now → (v : ℕ) → Contains each v ↔ SomeLeads told words v)) }
+        ensures words { IfOk result (λ found. IfWords found (λ each. (words : List ℕ) (told : List Operation) → Follows words told self.now → (v : ℕ) → Contains each v ↔ SomeLeads told words v)) }
         ensures once { IfOk result (λ found. IfWords found (λ each. AllPairs (λ v w. v ≢ w) each)) }
         ensures unknown { IfOk result (λ found. IfUnknown found (budget.new ≡ 0)) }
         ensures spends { IfOk result (λ found. (budget.new ≤ budget.old) × LookedMore P.looked progress.old progress.new (budget.old - budget.new)) }

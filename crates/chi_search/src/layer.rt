@@ -2,7 +2,7 @@
 
 ghost use Rattle.std.specs.Prelude.{◌≡◌, ◌≢◌, ℕ, ◌+◌, ◌-◌, ◌<◌, ◌≤◌, ◌⊎◌, ◌↔◌, IfOk, IfSome, IsTrue, List, None, ◌++◌, OnOk, false, length};
 ghost use Rattle.std.specs.List.{AllPairs, Contains};
-ghost use Rattle.chi_trace.specs.declared.observed.Observed.{Observed};
+ghost use Rattle.chi_trace.specs.declared.operation.Operation.{Operation};
 ghost use Rattle.chi_trace.specs.Explains.{at};
 ghost use Rattle.chi_search.specs.Layers.{AreReady, ComeAfter, MayFollow, SomeEnds, Waits};
 ghost use Rattle.chi_search.specs.Looks.{LookedMore};
@@ -17,7 +17,7 @@ use crate::earliest::earliest_starts;
 use crate::progress::Progress;
 use crate::state::{State, first_state};
 use crate::states::{States, add, count, has, no_states, read};
-use chi_trace::Observed;
+use chi_trace::Operation;
 use std::alloc::{AllocError, Global};
 
 /// Adds a state to the set, where it is not there.
@@ -34,7 +34,7 @@ pub(crate) fn add_new(alloc: Global, states: &mut States, state: &State) -> Resu
 /// stands for all.
 fn add_moves(
     alloc: Global,
-    ops: &[Observed],
+    ops: &[Operation],
     earliest: &[u64],
     state: &State,
     next: &mut State,
@@ -45,7 +45,7 @@ fn add_moves(
     requires earliest { AreEarliest ops.now earliest.now }
     requires first { state.now.first < length ops.now }
     requires ready { IsReady (length ops.now) (position_of state.now) }
-    ensures ends { OnOk result ((more : List Observed) → ComeAfter ops.now (at ops.now state.now.first).end more → (v : ℕ) → SomeEnds (ops.now ++ more) states.new v ↔ (SomeEnds (ops.now ++ more) states.old v ⊎ Ends (ops.now ++ more) (Some v) (position_of state.now))) }
+    ensures ends { OnOk result ((more : List Operation) → ComeAfter ops.now (at ops.now state.now.first).end more → (v : ℕ) → SomeEnds (ops.now ++ more) states.new v ↔ (SomeEnds (ops.now ++ more) states.old v ⊎ Ends (ops.now ++ more) (Some v) (position_of state.now))) }
     ensures ready { OnOk result (AreReady ops.now states.old → AreReady ops.now states.new) }
 {
     if let Some(place) = idle_next(ops, &[], earliest, state) {
@@ -68,7 +68,7 @@ fn add_moves(
 }
 
 /// Whether a search waits that came to this first operation: none is left, or one that comes later might come next.
-fn waits(ops: &[Observed], horizon: Option<u64>, first: usize) -> bool
+fn waits(ops: &[Operation], horizon: Option<u64>, first: usize) -> bool
     ensures waits { IsTrue result → Waits ops.now horizon first }
     ensures first { result ≡ false → first < length ops.now }
     ensures known { result ≡ false → IfSome horizon (λ time. (at ops.now first).end < time) }
@@ -85,7 +85,7 @@ fn waits(ops: &[Observed], horizon: Option<u64>, first: usize) -> bool
 /// The states that follow the states of a set by one move, and those of it that wait; or nothing, where the budget was spent.
 fn next_layer<P: Progress>(
     alloc: Global,
-    ops: &[Observed],
+    ops: &[Operation],
     earliest: &[u64],
     horizon: Option<u64>,
     layer: &States,
@@ -96,7 +96,7 @@ fn next_layer<P: Progress>(
     requires sorted { AreSorted ops.now }
     requires earliest { AreEarliest ops.now earliest.now }
     requires ready { AreReady ops.now layer.now }
-    ensures ends { IfOk result (λ next. IfSome next (λ states. (more : List Observed) → MayFollow ops.now horizon more → (v : ℕ) → SomeEnds (ops.now ++ more) states v ↔ SomeEnds (ops.now ++ more) layer.now v)) }
+    ensures ends { IfOk result (λ next. IfSome next (λ states. (more : List Operation) → MayFollow ops.now horizon more → (v : ℕ) → SomeEnds (ops.now ++ more) states v ↔ SomeEnds (ops.now ++ more) layer.now v)) }
     ensures ready { IfOk result (λ next. IfSome next (λ states. AreReady ops.now states)) }
     ensures one_each { IfOk result (λ next. IfSome next (λ states. budget.new + length (positions layer.now) ≡ budget.old)) }
     ensures spent { IfOk result (λ next. next ≡ None → budget.new ≡ 0) }
@@ -133,7 +133,7 @@ pub(crate) fn first_layer(alloc: Global, words: &[u64]) -> Result<States, AllocE
 }
 
 // Whether each state of the set waits.
-fn are_waiting(ops: &[Observed], horizon: Option<u64>, layer: &States) -> bool
+fn are_waiting(ops: &[Operation], horizon: Option<u64>, layer: &States) -> bool
     ensures waiting { IsTrue result → (p : Position) → Has layer.now p → Waits ops.now horizon p.first }
     ensures some { result ≡ false → 0 < length (positions layer.now) }
 {
@@ -154,7 +154,7 @@ fn are_waiting(ops: &[Observed], horizon: Option<u64>, layer: &States) -> bool
 /// lead to is the same, whatever operations come later.
 pub(crate) fn advance<P: Progress>(
     alloc: Global,
-    ops: &[Observed],
+    ops: &[Operation],
     horizon: Option<u64>,
     from: States,
     budget: &mut u64,
@@ -163,7 +163,7 @@ pub(crate) fn advance<P: Progress>(
     requires sorted { AreSorted ops.now }
     requires within { AreWithin ops.now }
     requires ready { AreReady ops.now from }
-    ensures ends { IfOk result (λ last. IfSome last (λ states. (more : List Observed) → MayFollow ops.now horizon more → (v : ℕ) → SomeEnds (ops.now ++ more) states v ↔ SomeEnds (ops.now ++ more) from v)) }
+    ensures ends { IfOk result (λ last. IfSome last (λ states. (more : List Operation) → MayFollow ops.now horizon more → (v : ℕ) → SomeEnds (ops.now ++ more) states v ↔ SomeEnds (ops.now ++ more) from v)) }
     ensures ready { IfOk result (λ last. IfSome last (λ states. AreReady ops.now states)) }
     ensures waiting { IfOk result (λ last. IfSome last (λ states. (p : Position) → Has states p → Waits ops.now horizon p.first)) }
     ensures spent { IfOk result (λ last. last ≡ None → budget.new ≡ 0) }

@@ -11,7 +11,7 @@ ghost use Rattle.chi_search.specs.Within.{IsDeadWithin, IsRun};
 use crate::known::Known;
 use crate::making::{Later, has_maker};
 use crate::state::{State, is_left};
-use chi_trace::Observed;
+use chi_trace::Operation;
 
 /// How many operations a run is followed back beyond the last one, at a state.
 pub(crate) const FOLLOWED: usize = 3;
@@ -57,7 +57,7 @@ fn is_out_of_reach(
 }
 
 // Whether the operation is left, and stands in every order, since its reply was seen.
-fn must_find(ops: &[Observed], state: &State, place: usize) -> bool
+fn must_find(ops: &[Operation], state: &State, place: usize) -> bool
     requires { place < length ops.now }
     ensures left { IsTrue result → Positions.is_left (length ops.now) (position_of state.now) place ≡ true }
     ensures answered { IsTrue result → is_answered (at ops.now place) ≡ true }

@@ -1,7 +1,7 @@
 //! Whether a run of the operations that are left may lead to certain bits.
 
 ghost use Rattle.std.specs.Prelude.{◌≡◌, ℕ, ◌^◌, ◌<◌, ◌≤◌, ◌↔◌, false, IsTrue, IfSome, Option, length};
-ghost use Rattle.chi_trace.specs.declared.observed.Observed.{Observed};
+ghost use Rattle.chi_trace.specs.declared.operation.Operation.{Operation};
 ghost use Rattle.chi_search.specs.Effects.{Agree, AreEffects, HasEffect};
 ghost use Rattle.chi_search.specs.Knowing.{IsKnown};
 ghost use Rattle.chi_search.specs.Makers.{ArePlaces, CannotMake, IsPart, IsUnmade, MakesNone, MayPrecede, MayPrecedeEach};
@@ -13,7 +13,7 @@ use crate::effect::Effect;
 use crate::known::Known;
 use crate::state::{State, is_left};
 use crate::wanted::wanted_of;
-use chi_trace::Observed;
+use chi_trace::Operation;
 
 /// The operations before which a run has to stand: the one that comes next, and up to three that come after it. With none it
 /// stands before the end.
@@ -27,13 +27,13 @@ pub(crate) struct Later {
 
 // Whether the operation, by what is known of it, leaves a word with these bits of the mask only where it found them.
 fn makes_none(effect: &Effect, word: u64, mask: u64) -> bool
-    ensures { IsTrue result → (op : Observed) → HasEffect op effect.now → MakesNone op (Agree mask word) }
+    ensures { IsTrue result → (op : Operation) → HasEffect op effect.now → MakesNone op (Agree mask word) }
 {
     effect.changed_mask & mask == 0 || (effect.left ^ word) & (effect.left_mask & mask) != 0
 }
 
 // Whether the operation may stand before the other one, or before the end where there is no other.
-fn may_precede(ops: &[Observed], place: usize, other: Option<usize>) -> bool
+fn may_precede(ops: &[Operation], place: usize, other: Option<usize>) -> bool
     requires place { place < length ops.now }
     requires other { IfSome other (λ after. after < length ops.now) }
     ensures { IsTrue result ↔ MayPrecede ops.now place other }
@@ -45,7 +45,7 @@ fn may_precede(ops: &[Observed], place: usize, other: Option<usize>) -> bool
 }
 
 // Whether it may stand before each of those that come later.
-fn may_precede_each(ops: &[Observed], place: usize, later: Later) -> bool
+fn may_precede_each(ops: &[Operation], place: usize, later: Later) -> bool
     requires place { place < length ops.now }
     requires later { ArePlaces ops.now later }
     ensures { IsTrue result ↔ MayPrecedeEach ops.now place later }
@@ -58,7 +58,7 @@ fn may_precede_each(ops: &[Observed], place: usize, later: Later) -> bool
 
 // Whether the operation is left, may stand before those that come later, and may make these bits.
 fn may_make(
-    ops: &[Observed],
+    ops: &[Operation],
     effects: &[Effect],
     state: &State,
     later: Later,
@@ -82,7 +82,7 @@ fn may_make(
 }
 
 // The place from which on no operation may stand before the other one.
-fn bound_of(ops: &[Observed], earliest: &[u64], other: Option<usize>) -> usize
+fn bound_of(ops: &[Operation], earliest: &[u64], other: Option<usize>) -> usize
     requires earliest { AreEarliest ops.now earliest.now }
     requires other { IfSome other (λ after. after < length ops.now) }
     ensures within { result ≤ length ops.now }

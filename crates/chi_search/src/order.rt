@@ -16,7 +16,7 @@ use crate::parts::{add_parts, are_mostly_writes, parts_of};
 use crate::progress::Progress;
 use crate::searching::search;
 use crate::state::first_state;
-use chi_trace::Observed;
+use chi_trace::Operation;
 use std::alloc::{AllocError, Global};
 
 /// What is found: an order of the places of the operations, counted from 0; that there is none; or neither, since the budget
@@ -41,7 +41,7 @@ const SPAN_STATES: u64 = 64;
 const LOOKED_AT: usize = 1000;
 
 // How many operations at most lie between the first that is left and the last that can come next, it among them.
-fn most_next(ops: &[Observed], earliest: &[u64]) -> usize {
+fn most_next(ops: &[Operation], earliest: &[u64]) -> usize {
     let mut most: usize = 0;
     let mut past: usize = 0;
     for place in 0..ops.len() {
@@ -130,7 +130,7 @@ fn search_by_rules<P: Progress>(
 /// ```
 pub fn order_of<P: Progress>(
     alloc: Global,
-    ops: &[Observed],
+    ops: &[Operation],
     word: u64,
     final_word: Option<u64>,
     budget: &mut u64,

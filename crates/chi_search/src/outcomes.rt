@@ -8,7 +8,7 @@ ghost use Rattle.chi_search.specs.Within.{IsRun};
 use crate::effect::{Effect, operand_mask};
 use crate::step::step;
 use chi_fields::{Kind, Op};
-use chi_trace::Observed;
+use chi_trace::Operation;
 
 /// The words of which one has the bits that the operation leaves: none, one or two; or they are not known.
 #[derive(Clone, Copy)]
@@ -21,7 +21,7 @@ pub(crate) enum Outcomes {
 }
 
 // Of an operation whose operand is all within the mask.
-fn whole_outcome(op: &Observed, mask: u64, word: u64) -> Outcomes
+fn whole_outcome(op: &Operation, mask: u64, word: u64) -> Outcomes
     requires within { op.now.access.addr + op.now.access.len ≤ 2 ^ 52 }
     ensures { IfKnown result (AreOutcomes mask op.now word) }
 {
@@ -35,7 +35,7 @@ fn whole_outcome(op: &Observed, mask: u64, word: u64) -> Outcomes
 }
 
 // Of one that is known to leave each bit of the mask as it was, or certain bits there.
-fn outcomes_by_effect(op: &Observed, effect: &Effect, mask: u64, word: u64) -> Outcomes
+fn outcomes_by_effect(op: &Operation, effect: &Effect, mask: u64, word: u64) -> Outcomes
     requires effect { HasEffect op.now effect.now }
     ensures { IfKnown result (AreOutcomes mask op.now word) }
 {
@@ -56,7 +56,7 @@ fn outcomes_by_effect(op: &Observed, effect: &Effect, mask: u64, word: u64) -> O
 }
 
 // Of one that makes each bit of that bit alone.
-fn bitwise_outcome(op: &Observed, mask: u64, word: u64) -> Outcomes
+fn bitwise_outcome(op: &Operation, mask: u64, word: u64) -> Outcomes
     requires within { op.now.access.addr + op.now.access.len ≤ 2 ^ 52 }
     requires bitwise { IsBitwise op.now.access.kind }
     ensures { IfKnown result (AreOutcomes mask op.now word) }
@@ -73,7 +73,7 @@ fn bitwise_outcome(op: &Observed, mask: u64, word: u64) -> Outcomes
 }
 
 // Of a sum: what it is in these bytes depends on the others by one carry.
-fn sum_outcomes(op: &Observed, mask: u64, word: u64) -> Outcomes
+fn sum_outcomes(op: &Operation, mask: u64, word: u64) -> Outcomes
     requires within { op.now.access.addr + op.now.access.len ≤ 2 ^ 52 }
     requires sum { IsSum op.now.access.kind }
     requires run { IsRun mask }
@@ -91,7 +91,7 @@ fn sum_outcomes(op: &Observed, mask: u64, word: u64) -> Outcomes
 }
 
 /// What the operation may leave of a word of which the bits of the mask are known, the mask of a run of bytes.
-pub(crate) fn outcomes_of(op: &Observed, effect: &Effect, mask: u64, word: u64) -> Outcomes
+pub(crate) fn outcomes_of(op: &Operation, effect: &Effect, mask: u64, word: u64) -> Outcomes
     requires within { op.now.access.addr + op.now.access.len ≤ 2 ^ 52 }
     requires effect { HasEffect op.now effect.now }
     requires run { IsRun mask }

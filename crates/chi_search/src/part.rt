@@ -9,7 +9,7 @@ ghost use Rattle.chi_search.specs.Outcomes.{HasBits};
 ghost use Rattle.chi_search.specs.Parts.{IsPartOf};
 ghost use Rattle.chi_search.specs.Positions;
 ghost use Rattle.chi_search.specs.Positions.{IsReady, position_of};
-ghost use Rattle.chi_trace.specs.declared.observed.Observed.{Observed};
+ghost use Rattle.chi_trace.specs.declared.operation.Operation.{Operation};
 ghost use Rattle.chi_search.specs.Within.{AllDeadWithin, AreTriedWithin, ByDroppingWithin, GoesOnBy, IsDeadWithin, IsRun};
 
 use crate::absorbing::absorb;
@@ -41,7 +41,7 @@ pub(crate) struct Part {
 pub(crate) fn part_from(alloc: Global, byte: usize, len: usize) -> Part
     requires some { 1 ≤ len }
     requires room { byte + len ≤ 8 }
-    ensures { (ops : List Observed) → (final_word : Option ℕ) → IsPartOf ops final_word result }
+    ensures { (ops : List Operation) → (final_word : Option ℕ) → IsPartOf ops final_word result }
 {
     Part {
         mask: lane_mask(byte, len),

@@ -12,11 +12,11 @@ use crate::part::{Part, lacks_order, part_from};
 use crate::progress::Progress;
 use crate::state::State;
 use chi_fields::Kind;
-use chi_trace::Observed;
+use chi_trace::Operation;
 use std::alloc::{AllocError, Global};
 
 // How many of the operations lie within so many bytes.
-fn count_within(ops: &[Observed], len: usize) -> usize {
+fn count_within(ops: &[Operation], len: usize) -> usize {
     let mut count: usize = 0;
     for op in ops {
         if op.access.len() <= len {
@@ -27,7 +27,7 @@ fn count_within(ops: &[Observed], len: usize) -> usize {
 }
 
 /// Whether at least half of the operations are writes.
-pub(crate) fn are_mostly_writes(ops: &[Observed]) -> bool {
+pub(crate) fn are_mostly_writes(ops: &[Operation]) -> bool {
     let mut count: usize = 0;
     for op in ops {
         if let Kind::Write = op.access.kind() {
@@ -40,7 +40,7 @@ pub(crate) fn are_mostly_writes(ops: &[Observed]) -> bool {
 /// Adds the parts of so many bytes.
 pub(crate) fn add_parts(
     alloc: Global,
-    ops: &[Observed],
+    ops: &[Operation],
     final_word: Option<u64>,
     len: usize,
     parts: &mut Vec<Part>,
@@ -61,7 +61,7 @@ pub(crate) fn add_parts(
 /// a quarter lie within two, else none.
 pub(crate) fn parts_of(
     alloc: Global,
-    ops: &[Observed],
+    ops: &[Operation],
     final_word: Option<u64>,
 ) -> Result<Vec<Part>, AllocError>
     ensures { IfOk result (λ parts. All (IsPartOf ops.now final_word) parts.items) }

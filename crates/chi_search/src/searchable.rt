@@ -3,7 +3,7 @@
 ghost use Rattle.std.specs.Prelude.{◌↔◌, IsTrue};
 ghost use Rattle.chi_search.specs.Searchable.{AreSorted, AreWithin};
 
-use chi_trace::Observed;
+use chi_trace::Operation;
 
 /// Whether the operations stand in the order of their ends, none ends before it starts, and all are within 2^52 bytes.
 ///
@@ -14,7 +14,7 @@ use chi_trace::Observed;
 ///     sort(&mut ops)?;
 /// }
 /// ```
-pub fn are_searchable(ops: &[Observed]) -> bool
+pub fn are_searchable(ops: &[Operation]) -> bool
     ensures { IsTrue result ↔ (AreSorted ops.now × AreWithin ops.now) }
 {
     let mut before = 0;

@@ -4,8 +4,8 @@ ghost use Rattle.std.specs.Prelude.{◌≡◌, ◌+◌, ◌^◌, ◌<◌, ◌≤
 ghost use Rattle.chi_trace.specs.Granules.{Fits, next};
 ghost use Rattle.chi_search.specs.Moves.{IsIdle};
 
-use chi_lanes::{Reply, apply};
-use chi_trace::Observed;
+use chi_lanes::Reply;
+use chi_trace::{Operation, apply_operation};
 
 /// Whether two replies are the same.
 pub(crate) fn is_same(reply: Reply, other: Reply) -> bool
@@ -19,15 +19,13 @@ pub(crate) fn is_same(reply: Reply, other: Reply) -> bool
 }
 
 /// The word that the operation leaves of a word, where its reply, if it was seen, is the one that the word gives.
-pub(crate) fn step(op: &Observed, word: u64) -> Option<u64>
+pub(crate) fn step(op: &Operation, word: u64) -> Option<u64>
     requires { op.now.access.addr + op.now.access.len ≤ 2 ^ 52 }
     ensures fits { IfSome result (λ after. Fits op.now word) }
     ensures after { IfSome result (λ after. after ≡ next op.now word) }
     ensures unfit { result ≡ None → Fits op.now word → ⊥ }
 {
-    // What is true of each access is known here once it is read.
-    let _addr = op.access.addr();
-    let (after, reply) = apply(word, &op.access);
+    let (after, reply) = apply_operation(op, word);
     match op.reply {
         Some(seen) => {
             if is_same(seen, reply) {
@@ -41,7 +39,7 @@ pub(crate) fn step(op: &Observed, word: u64) -> Option<u64>
 }
 
 /// Whether the operation fits the word, and is seen to leave each word that it fits as it is.
-pub(crate) fn stays(op: &Observed, word: u64) -> bool
+pub(crate) fn stays(op: &Operation, word: u64) -> bool
     requires { op.now.access.addr + op.now.access.len ≤ 2 ^ 52 }
     ensures { IsTrue result → IsIdle op.now }
 {
@@ -57,7 +55,7 @@ pub(crate) fn stays(op: &Observed, word: u64) -> bool
 
 /// Whether the operation is seen to leave each word that it fits as it is: its reply has the old data, and one word that
 /// it fits stays.
-pub(crate) fn is_idle(op: &Observed, word: u64, after: u64) -> bool
+pub(crate) fn is_idle(op: &Operation, word: u64, after: u64) -> bool
     requires fits { Fits op.now word }
     requires after { after ≡ next op.now word }
     ensures { IsTrue result → IsIdle op.now }

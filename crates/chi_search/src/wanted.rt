@@ -1,7 +1,7 @@
 //! What an operation finds where it leaves certain bits.
 
 ghost use Rattle.std.specs.Prelude.{◌≡◌, ◌+◌, ◌^◌, ◌≤◌, IfSome};
-ghost use Rattle.chi_trace.specs.declared.observed.Observed.{Observed};
+ghost use Rattle.chi_trace.specs.declared.operation.Operation.{Operation};
 ghost use Rattle.chi_search.specs.Effects.{AgreeOutside, HasEffect, IsEor, IsSum};
 ghost use Rattle.chi_search.specs.Makers.{IsPart, LeavesOperand, Wants};
 ghost use Rattle.chi_search.specs.Within.{IsRun};
@@ -9,7 +9,7 @@ ghost use Rattle.chi_search.specs.Within.{IsRun};
 use crate::effect::{Effect, operand_mask};
 use crate::step::step;
 use chi_fields::{Kind, Op};
-use chi_trace::Observed;
+use chi_trace::Operation;
 
 /// Those bits of one word, or of the other one, that are 1 in `bits`.
 #[derive(Clone, Copy)]
@@ -21,7 +21,7 @@ pub(crate) struct Wanted {
 
 // By what is known of each operation: the bits that it finds in the mask, and those that it does not change.
 fn wanted_by_effect(effect: &Effect, word: u64, bits: u64, mask: u64) -> Wanted
-    ensures wants { (op : Observed) → HasEffect op effect.now → Wants op bits word result }
+    ensures wants { (op : Operation) → HasEffect op effect.now → Wants op bits word result }
     ensures within { IsPart bits mask → IsPart result.bits mask }
 {
     let found_mask = effect.found_mask;
@@ -34,7 +34,7 @@ fn wanted_by_effect(effect: &Effect, word: u64, bits: u64, mask: u64) -> Wanted
 }
 
 // Of an exclusive or: done twice it changes nothing.
-fn wanted_by_eor(op: &Observed, word: u64, bits: u64) -> Option<Wanted>
+fn wanted_by_eor(op: &Operation, word: u64, bits: u64) -> Option<Wanted>
     requires within { op.now.access.addr + op.now.access.len ≤ 2 ^ 52 }
     requires eor { IsEor op.now.access.kind }
     ensures wants { IfSome result (λ wanted. Wants op.now bits word wanted) }
@@ -51,7 +51,7 @@ fn wanted_by_eor(op: &Observed, word: u64, bits: u64) -> Option<Wanted>
 }
 
 // The word of which a sum leaves the operand of another word in the mask, and whose bits are those of `rest` out of the mask.
-fn difference(op: &Observed, word: u64, mask: u64, rest: u64) -> Option<u64>
+fn difference(op: &Operation, word: u64, mask: u64, rest: u64) -> Option<u64>
     requires { op.now.access.addr + op.now.access.len ≤ 2 ^ 52 }
     ensures outside { IfSome result (λ found. AgreeOutside mask found rest) }
     ensures left { IfSome result (λ found. LeavesOperand mask op.now found word) }
@@ -69,7 +69,7 @@ fn difference(op: &Observed, word: u64, mask: u64, rest: u64) -> Option<u64>
 
 // Of a sum whose operand's bits of the mask are all among these bits: the difference, with a borrow from the other bytes or
 // without, since no other number has this sum.
-fn wanted_by_sum(op: &Observed, word: u64, bits: u64, mask: u64) -> Option<Wanted>
+fn wanted_by_sum(op: &Operation, word: u64, bits: u64, mask: u64) -> Option<Wanted>
     requires within { op.now.access.addr + op.now.access.len ≤ 2 ^ 52 }
     requires sum { IsSum op.now.access.kind }
     requires run { IsRun mask }
@@ -91,7 +91,7 @@ fn wanted_by_sum(op: &Observed, word: u64, bits: u64, mask: u64) -> Option<Wante
 }
 
 /// What the operation finds in the bits of the mask, which is that of a run of bytes, where it leaves these bits of the word.
-pub(crate) fn wanted_of(op: &Observed, effect: &Effect, word: u64, bits: u64, mask: u64) -> Wanted
+pub(crate) fn wanted_of(op: &Operation, effect: &Effect, word: u64, bits: u64, mask: u64) -> Wanted
     requires addresses { op.now.access.addr + op.now.access.len ≤ 2 ^ 52 }
     requires effect { HasEffect op.now effect.now }
     requires run { IsRun mask }

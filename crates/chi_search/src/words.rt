@@ -9,7 +9,7 @@ ghost use Rattle.chi_search.specs.Searchable.{AreSorted, AreWithin};
 
 use crate::layer::{advance, first_layer, words_in};
 use crate::progress::Progress;
-use chi_trace::Observed;
+use chi_trace::Operation;
 use std::alloc::{AllocError, Global};
 
 /// What is found: each word that some order leaves, once; or that this is not known, since the budget was spent.
@@ -34,7 +34,7 @@ pub enum Words {
 /// ```
 pub fn words_of<P: Progress>(
     alloc: Global,
-    ops: &[Observed],
+    ops: &[Operation],
     words: &[u64],
     budget: &mut u64,
     progress: &mut P,

@@ -6,8 +6,7 @@ use chi_events::{Completion, Event, EventKind, Requested};
 use chi_fields::Request;
 use chi_history::Line;
 use chi_lanes::Reply;
-use chi_reading::Asked;
-use chi_verdict::GranuleWord;
+use chi_trace::{Asked, GranuleWord};
 use std::alloc::AllocError;
 
 /// The events that are told, and the number of the next request.
@@ -17,9 +16,10 @@ pub(crate) struct Told {
     next_id: u64,
 }
 
-/// A request as a monitor sees it, with its data.
-fn asked(request: &Request) -> Asked {
+/// The request with this number as a monitor sees it, with its data.
+fn asked(number: u64, request: &Request) -> Asked {
     Asked {
+        number,
         src: u16::from(request.src),
         txn: u16::from(request.txn),
         opcode: request.opcode,
@@ -49,7 +49,7 @@ impl Told {
         self.next_id = id.wrapping_add(1);
         let requested = Requested {
             id,
-            asked: asked(request),
+            asked: asked(id, request),
             has_data: true,
         };
         self.events.push(Event {

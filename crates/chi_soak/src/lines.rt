@@ -6,9 +6,8 @@ ghost use Rattle.chi_soak.specs.Line.{byte_order, completion_text, data_text, dr
 use chi_events::{Completion, Event, EventKind, Packet, Requested};
 use chi_fields::{Refusal, refusal_name};
 use chi_lanes::Reply;
-use chi_reading::Asked;
 use chi_text::{Part, add_parts};
-use chi_verdict::GranuleWord;
+use chi_trace::{Asked, GranuleWord};
 use std::alloc::AllocError;
 
 /// The number of a byte order: 1 is big-endian.

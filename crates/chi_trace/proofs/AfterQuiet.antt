@@ -2,7 +2,7 @@
 use Rattle.std.proofs.Common.{◌≡◌, ℕ, ◌+◌, ◌-◌, ◌<◌, ◌≤◌, ◌==◌, ◌&&◌, Bool, true, false, List, [], ◌∷◌, ◌++◌, All, Some, true≢false, get_or, length, map, refl, sym, ap, subst, ◌∙◌, arith, eqb-true, length-append, ltb-true}
 use Rattle.std.proofs.lemmas.Bool.{lt-ltb, ltb-false}
 use Rattle.chi_history.specs.History.{one_if}
-use Rattle.chi_trace.specs.declared.observed.Observed.{Observed}
+use Rattle.chi_trace.specs.declared.operation.Operation.{Operation}
 use Rattle.chi_trace.specs.Explains.{at, is_answered, is_place, nothing, times_in}
 use Rattle.chi_trace.specs.Granules.{Finishes, Play, last_word}
 use Rattle.chi_trace.specs.Segments.{AreApart, AreLasting, Leads}
@@ -26,7 +26,7 @@ narrower false c q is = omega arith
 narrower true false true is = absurd (true≢false (sym is))
 narrower true false false is = omega arith
 
-pub whole_leads : (a b : List Observed) (w v : ℕ) → AreApart a b → AreLasting a → AreLasting b → (u : ℕ) → Leads a w u → Leads b u v → Leads (a ++ b) w v
+pub whole_leads : (a b : List Operation) (w v : ℕ) → AreApart a b → AreLasting a → AreLasting b → (u : ℕ) → Leads a w u → Leads b u v → Leads (a ++ b) w v
 whole_leads a b w v apart lasts lasting u earlier later = (
   x ++ y,
   record {
@@ -42,7 +42,7 @@ whole_leads a b w v apart lasts lasting u earlier later = (
     n : ℕ
     n = length a
 
-    ts : List Observed
+    ts : List Operation
     ts = a ++ b
 
     x0 : List ℕ
@@ -85,14 +85,14 @@ whole_leads a b w v apart lasts lasting u earlier later = (
         → one_if (d && is_answered (at ts i)) ≤ times_in (x ++ y) i
     done i true is d whole =
         let own : one_if (is_place a i && is_answered (at ts i)) ≤ times_in x0 i =
-        subst (λ (o : Observed). one_if (is_place a i && is_answered o) ≤ times_in x0 i) (sym (at_earlier a b i is)) (ex.done i) in
+        subst (λ (o : Operation). one_if (is_place a i && is_answered o) ≤ times_in x0 i) (sym (at_earlier a b i is)) (ex.done i) in
         omega (arith, own, narrower d (is_place a i) (is_answered (at ts i)) is, ends_in i is)
     done i false is false whole = omega arith
     done i false is true whole =
         let there = later_place a b i whole is in
         let same : at ts i ≡ at b there.0 = ap (at ts) there.1 ∙ at_later a b there.0 in
         let own : one_if (is_place b there.0 && is_answered (at ts i)) ≤ times_in y0 there.0 =
-        subst (λ (o : Observed). one_if (is_place b there.0 && is_answered o) ≤ times_in y0 there.0) (sym same) (ey.done there.0) in
+        subst (λ (o : Operation). one_if (is_place b there.0 && is_answered o) ≤ times_in y0 there.0) (sym same) (ey.done there.0) in
         omega (
           arith,
           own,
@@ -142,5 +142,5 @@ whole_leads a b w v apart lasts lasting u earlier later = (
                 let own : (at a i).start ≤ (at a i).end = lasts i nothing (ltb-true i n is) in
                 let gap : (at a i).end < (at b k).start = apart i nothing (ltb-true i n is) k nothing below in
                 let its : (at b k).start ≤ (at b k).end = lasting k nothing below in
-                let start : (at ts i).start ≡ (at a i).start = ap (λ (o : Observed). o.start) (at_earlier a b i is) in
-                let end : (at ts j).end ≡ (at b k).end = ap (λ l. (at ts l).end) on ∙ ap (λ (o : Observed). o.end) (at_later a b k) in omega (arith, own, gap, its, start, end)
+                let start : (at ts i).start ≡ (at a i).start = ap (λ (o : Operation). o.start) (at_earlier a b i is) in
+                let end : (at ts j).end ≡ (at b k).end = ap (λ l. (at ts l).end) on ∙ ap (λ (o : Operation). o.end) (at_later a b k) in omega (arith, own, gap, its, start, end)

@@ -6,7 +6,7 @@ use Rattle.chi_fields.specs.Access.{IsLawful}
 use Rattle.chi_lanes.specs.After.{after}
 use Rattle.chi_lanes.specs.Memory.{Memory, IsMemory}
 use Rattle.chi_lanes.proofs.AfterLemmas.{IsMemory-after}
-use Rattle.chi_trace.specs.declared.observed.Observed.{Observed}
+use Rattle.chi_trace.specs.declared.operation.Operation.{Operation}
 use Rattle.chi_trace.specs.Explains.{Answers, IsTrace, at, is_place, memory_after, word_of}
 use Rattle.chi_trace.specs.Granules.{Fits, Play, granule_of, is_of, last_word}
 use Rattle.chi_trace.proofs.Orders.{ArePlaces, observed_at}
@@ -14,11 +14,11 @@ use Rattle.chi_trace.proofs.Projection.{project}
 use Rattle.chi_trace.proofs.Steps.{answer_at, word_of-next, word_of-other, word_of-own}
 
 -- each granule's part plays from its word
-abbrev pub PartsPlay : List Observed → Memory → List ℕ → Type 0
+abbrev pub PartsPlay : List Operation → Memory → List ℕ → Type 0
 PartsPlay trace m order = (g : ℕ) → Play trace (word_of m g) (filter (is_of trace g) order)
 
 -- the first operation fits its granule's word
-first_fits : (trace : List Observed) (i : ℕ) (order : List ℕ) (m : Memory) → is_place trace i ≡ true → PartsPlay trace m (i ∷ order)
+first_fits : (trace : List Operation) (i : ℕ) (order : List ℕ) (m : Memory) → is_place trace i ≡ true → PartsPlay trace m (i ∷ order)
     → Fits (at trace i) (word_of m (granule_of (at trace i)))
 unfolding Play
 first_fits trace i order m place plays = (subst (λ (b : Bool). Play trace (word_of m g) (cond b (i ∷ rest) rest)) own (plays g)).0
@@ -33,7 +33,7 @@ first_fits trace i order m place plays = (subst (λ (b : Bool). Play trace (word
     own = and_from (is_place trace i) (granule_of (at trace i) == g) place (eq-eqb g g refl)
 
 -- the parts of the others play from the words that it leaves
-rest_plays : (trace : List Observed) (i : ℕ) (order : List ℕ) (m : Memory) → IsMemory m → IsLawful (at trace i).access → is_place trace i ≡ true
+rest_plays : (trace : List Operation) (i : ℕ) (order : List ℕ) (m : Memory) → IsMemory m → IsLawful (at trace i).access → is_place trace i ≡ true
     → PartsPlay trace m (i ∷ order) → PartsPlay trace (after (at trace i).access m) order
 unfolding Play
 rest_plays trace i order m is_m lawful place plays g = by_test (is_place trace i) place (granule_of (at trace i) == g) refl (plays g)
@@ -49,7 +49,7 @@ rest_plays trace i order m is_m lawful place plays g = by_test (is_place trace i
     by_test false inside d here h = absurd (true≢false (sym inside))
 
 -- where each granule's part plays, the replies of the whole order are the memory's answers
-pub assemble : (trace : List Observed) (order : List ℕ) (m : Memory) → IsTrace trace → IsMemory m → ArePlaces trace order → PartsPlay trace m order
+pub assemble : (trace : List Operation) (order : List ℕ) (m : Memory) → IsTrace trace → IsMemory m → ArePlaces trace order → PartsPlay trace m order
     → Answers trace m order
 unfolding Answers
 assemble trace [] m is is_m places plays = tt
@@ -63,6 +63,6 @@ assemble trace (i ∷ order) m is is_m places plays =
     )
 
 -- and it leaves each granule the word that its part leaves
-pub assembled_word : (trace : List Observed) (order : List ℕ) (m : Memory) → IsTrace trace → IsMemory m → ArePlaces trace order → PartsPlay trace m order
+pub assembled_word : (trace : List Operation) (order : List ℕ) (m : Memory) → IsTrace trace → IsMemory m → ArePlaces trace order → PartsPlay trace m order
     → (g : ℕ) → word_of (memory_after trace m order) g ≡ last_word trace (word_of m g) (filter (is_of trace g) order)
 assembled_word trace order m is is_m places plays g = (project trace g order m is is_m places (assemble trace order m is is_m places plays)).1

@@ -5,24 +5,24 @@ use Rattle.std.proofs.lemmas.List.Elements.{All-cons, All-head, All-tail}
 use Rattle.chi_lanes.specs.After.{after}
 use Rattle.chi_lanes.specs.Memory.{Memory}
 use Rattle.chi_history.specs.History.{one_if}
-use Rattle.chi_trace.specs.declared.observed.Observed.{Observed}
+use Rattle.chi_trace.specs.declared.operation.Operation.{Operation}
 use Rattle.chi_trace.specs.Explains.{Answers, IsInTime, at, times_in}
 
 -- it had ended by a time
-abbrev pub has_ended : ℕ → Observed → Bool
+abbrev pub has_ended : ℕ → Operation → Bool
 has_ended time op = nat_le op.end time
 
 -- one of the order had
-unfoldable pub some_ended : List Observed → ℕ → List ℕ → Bool
+unfoldable pub some_ended : List Operation → ℕ → List ℕ → Bool
 some_ended ts time [] = false
 some_ended ts time (i ∷ x) = has_ended time (at ts i) || some_ended ts time x
 
-unfoldable pub before : List Observed → ℕ → List ℕ → List ℕ
+unfoldable pub before : List Operation → ℕ → List ℕ → List ℕ
 before ts time [] = []
 before ts time (i ∷ x) = cond (some_ended ts time (i ∷ x)) (i ∷ before ts time x) []
 
 -- no operation of an order in which none had ended by a time had
-none_stands : (ts : List Observed) (time : ℕ) (x : List ℕ) (i : ℕ) → some_ended ts time x ≡ false → has_ended time (at ts i) ≡ true → times_in x i ≡ 0
+none_stands : (ts : List Operation) (time : ℕ) (x : List ℕ) (i : ℕ) → some_ended ts time x ≡ false → has_ended time (at ts i) ≡ true → times_in x i ≡ 0
 unfolding times_in some_ended
 none_stands ts time [] i none ended = refl
 none_stands ts time (j ∷ x) i none ended = by_test (j == i) refl (none_stands ts time x i (or_parts _ _ none).1 ended)
@@ -33,7 +33,7 @@ none_stands ts time (j ∷ x) i none ended = by_test (j == i) refl (none_stands 
     by_test false same rest = omega (arith, rest)
 
 -- each that had ended stands in it as often as in the whole order
-pub ended_stands : (ts : List Observed) (time : ℕ) (x : List ℕ) (i : ℕ) → has_ended time (at ts i) ≡ true → times_in (before ts time x) i ≡ times_in x i
+pub ended_stands : (ts : List Operation) (time : ℕ) (x : List ℕ) (i : ℕ) → has_ended time (at ts i) ≡ true → times_in (before ts time x) i ≡ times_in x i
 unfolding times_in before
 ended_stands ts time [] i ended = refl
 ended_stands ts time (j ∷ x) i ended = by_test (some_ended ts time (j ∷ x)) refl (ended_stands ts time x i ended)
@@ -44,7 +44,7 @@ ended_stands ts time (j ∷ x) i ended = by_test (some_ended ts time (j ∷ x)) 
     by_test false none rest = sym (none_stands ts time (j ∷ x) i none ended)
 
 -- none stands in it more often
-pub stands_no_more : (ts : List Observed) (time : ℕ) (x : List ℕ) (i : ℕ) → times_in (before ts time x) i ≤ times_in x i
+pub stands_no_more : (ts : List Operation) (time : ℕ) (x : List ℕ) (i : ℕ) → times_in (before ts time x) i ≤ times_in x i
 unfolding times_in before
 stands_no_more ts time [] i = omega arith
 stands_no_more ts time (j ∷ x) i = by_test (some_ended ts time (j ∷ x)) (stands_no_more ts time x i)
@@ -55,7 +55,7 @@ stands_no_more ts time (j ∷ x) i = by_test (some_ended ts time (j ∷ x)) (sta
     by_test false rest = omega arith
 
 -- what is true of each operation of the order is true of each in it
-pub all_before : (P : ℕ → Type 0) (ts : List Observed) (time : ℕ) (x : List ℕ) → All P x → All P (before ts time x)
+pub all_before : (P : ℕ → Type 0) (ts : List Operation) (time : ℕ) (x : List ℕ) → All P x → All P (before ts time x)
 unfolding before
 all_before P ts time [] all = all
 all_before P ts time (i ∷ x) all = by_test (some_ended ts time (i ∷ x)) (all_before P ts time x (All-tail P i x all))
@@ -68,7 +68,7 @@ all_before P ts time (i ∷ x) all = by_test (some_ended ts time (i ∷ x)) (all
         none k d under = absurd (omega (arith, under))
 
 -- an order in time stays so
-pub in_time_before : (ts : List Observed) (time : ℕ) (x : List ℕ) → IsInTime ts x → IsInTime ts (before ts time x)
+pub in_time_before : (ts : List Operation) (time : ℕ) (x : List ℕ) → IsInTime ts x → IsInTime ts (before ts time x)
 unfolding before IsInTime
 in_time_before ts time [] h = tt
 in_time_before ts time (i ∷ x) h = by_test (some_ended ts time (i ∷ x)) (in_time_before ts time x h.1)
@@ -78,7 +78,7 @@ in_time_before ts time (i ∷ x) h = by_test (some_ended ts time (i ∷ x)) (in_
     by_test false rest = tt
 
 -- and its replies stay the memory's answers
-pub answers_before : (ts : List Observed) (time : ℕ) (m : Memory) (x : List ℕ) → Answers ts m x → Answers ts m (before ts time x)
+pub answers_before : (ts : List Operation) (time : ℕ) (m : Memory) (x : List ℕ) → Answers ts m x → Answers ts m (before ts time x)
 unfolding before Answers
 answers_before ts time m [] h = tt
 answers_before ts time m (i ∷ x) h = by_test (some_ended ts time (i ∷ x)) (answers_before ts time (after (at ts i).access m) x h.1)
@@ -88,7 +88,7 @@ answers_before ts time m (i ∷ x) h = by_test (some_ended ts time (i ∷ x)) (a
     by_test false rest = tt
 
 -- where one of these had ended by a time, what is no later than the end of each is no later than the time
-reached : (ts : List Observed) (time n : ℕ) (x : List ℕ) → some_ended ts time x ≡ true → All (λ j. n ≤ (at ts j).end) x → n ≤ time
+reached : (ts : List Operation) (time n : ℕ) (x : List ℕ) → some_ended ts time x ≡ true → All (λ j. n ≤ (at ts j).end) x → n ≤ time
 unfolding some_ended
 reached ts time n [] some all = absurd (true≢false (sym some))
 reached ts time n (i ∷ x) some all = by_test (has_ended time (at ts i)) refl (λ later. reached ts time n x later (All-tail (λ j. n ≤ (at ts j).end) i x all))
@@ -101,7 +101,7 @@ reached ts time n (i ∷ x) some all = by_test (has_ended time (at ts i)) refl (
     by_test false later rest = rest (sym (ap (λ b. b || some_ended ts time x) later) ∙ some)
 
 -- each operation in it had started
-pub started_before : (ts : List Observed) (time : ℕ) (x : List ℕ) → All (λ i. (at ts i).start ≤ (at ts i).end) x → IsInTime ts x
+pub started_before : (ts : List Operation) (time : ℕ) (x : List ℕ) → All (λ i. (at ts i).start ≤ (at ts i).end) x → IsInTime ts x
     → All (λ i. (at ts i).start ≤ time) (before ts time x)
 unfolding before IsInTime
 started_before ts time [] lasting h = none

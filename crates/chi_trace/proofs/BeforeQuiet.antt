@@ -3,7 +3,7 @@ use Rattle.std.proofs.Common.{◌≡◌, ℕ, ◌+◌, ◌-◌, ◌≤◌, ◌&&
 use Rattle.std.proofs.lemmas.Bool.{lt-ltb, le-ltb, ltb-false}
 use Rattle.std.proofs.lemmas.List.Elements.{All-filter}
 use Rattle.chi_history.specs.History.{one_if}
-use Rattle.chi_trace.specs.declared.observed.Observed.{Observed}
+use Rattle.chi_trace.specs.declared.operation.Operation.{Operation}
 use Rattle.chi_trace.specs.Explains.{at, is_answered, is_place, times_in}
 use Rattle.chi_trace.specs.Granules.{Finishes, Play, last_word}
 use Rattle.chi_trace.specs.Segments.{AreApart, Leads}
@@ -16,7 +16,7 @@ negated : (b : Bool) → not b ≡ true → b ≡ false
 negated true is = sym is
 negated false is = refl
 
-pub parts_lead : (a b : List Observed) (w v : ℕ) → AreApart a b → Leads (a ++ b) w v → (u : ℕ) × Leads a w u × Leads b u v
+pub parts_lead : (a b : List Operation) (w v : ℕ) → AreApart a b → Leads (a ++ b) w v → (u : ℕ) × Leads a w u × Leads b u v
 parts_lead a b w v apart whole = (
   u,
   (
@@ -44,7 +44,7 @@ parts_lead a b w v apart whole = (
     n : ℕ
     n = length a
 
-    ts : List Observed
+    ts : List Operation
     ts = a ++ b
 
     z : List ℕ
@@ -97,7 +97,7 @@ parts_lead a b w v apart whole = (
     done_x i true is =
         let place : is_place ts i ≡ true = lt-ltb i (length ts) (omega (arith, length-append a b, ltb-true i n is)) in
         let own : one_if (is_place ts i && is_answered (at a i)) ≤ times_in z i =
-        subst (λ (o : Observed). one_if (is_place ts i && is_answered o) ≤ times_in z i) (at_earlier a b i is) (e.done i) in
+        subst (λ (o : Operation). one_if (is_place ts i && is_answered o) ≤ times_in z i) (at_earlier a b i is) (e.done i) in
         omega (arith, own, narrower true (is_place ts i) (is_answered (at a i)) place, tx i ∙ ap (λ c. cond c (times_in z i) 0) is)
 
     once_x : (i : ℕ) (c : Bool) → is_place a i ≡ c → times_in (map (λ i. i) x) i ≤ one_if c
@@ -111,7 +111,7 @@ parts_lead a b w v apart whole = (
     done_y j true is =
         let place : is_place ts (n + j) ≡ true = lt-ltb (n + j) (length ts) (omega (arith, length-append a b, ltb-true j (length b) is)) in
         let own : one_if (is_place ts (n + j) && is_answered (at b j)) ≤ times_in z (n + j) =
-        subst (λ (o : Observed). one_if (is_place ts (n + j) && is_answered o) ≤ times_in z (n + j)) (at_later a b j) (e.done (n + j)) in
+        subst (λ (o : Operation). one_if (is_place ts (n + j) && is_answered o) ≤ times_in z (n + j)) (at_later a b j) (e.done (n + j)) in
         omega (arith, own, narrower true (is_place ts (n + j)) (is_answered (at b j)) place, ty j)
 
     once_y : (j : ℕ) (c : Bool) → is_place b j ≡ c → times_in (map (λ i. i - n) y) j ≤ one_if c

@@ -5,7 +5,7 @@ use Rattle.std.proofs.lemmas.List.{get_or-map, length-map}
 use Rattle.std.proofs.lemmas.List.Elements.{All-cons, All-head, All-tail}
 use Rattle.std.proofs.lemmas.Option.{IfSome_then}
 use Rattle.chi_history.specs.History.{one_if}
-use Rattle.chi_trace.specs.declared.observed.Observed.{Observed}
+use Rattle.chi_trace.specs.declared.operation.Operation.{Operation}
 use Rattle.chi_trace.specs.Chosen.{chosen}
 use Rattle.chi_trace.specs.Explains.{at, is_answered, is_place, nothing, times_in}
 use Rattle.chi_trace.specs.Granules.{Finishes}
@@ -61,18 +61,18 @@ first (j ∷ places) (suc k) once below = by_test (j == i) (once i) (first place
     by_test false most same = ap suc same
 
 -- the operation at an index is the one at the place that stands there
-at_chosen : (trace : List Observed) (places : List ℕ) (k : ℕ) → k < length places → at (chosen trace places) k ≡ at trace (slice_index places k)
+at_chosen : (trace : List Operation) (places : List ℕ) (k : ℕ) → k < length places → at (chosen trace places) k ≡ at trace (slice_index places k)
 at_chosen trace places k below = get_or-map (at trace) places k 0 nothing below
 
 -- an index is a place of what was chosen
-is_index : (trace : List Observed) (places : List ℕ) (k : ℕ) → is_place (chosen trace places) k ≡ true → k < length places
+is_index : (trace : List Operation) (places : List ℕ) (k : ℕ) → is_place (chosen trace places) k ≡ true → k < length places
 is_index trace places k place =
     let below : k < length (chosen trace places) = ltb-true k (length (chosen trace places)) place in
     let same : length (chosen trace places) ≡ length places = length-map places (at trace) in
     omega (arith, below, same)
 
 -- and what was chosen has a place at each index
-index_place : (trace : List Observed) (places : List ℕ) (k : ℕ) → k < length places → is_place (chosen trace places) k ≡ true
+index_place : (trace : List Operation) (places : List ℕ) (k : ℕ) → k < length places → is_place (chosen trace places) k ≡ true
 index_place trace places k below =
     let same : length (chosen trace places) ≡ length places = length-map places (at trace) in
     lt-ltb k (length (chosen trace places)) (omega (arith, below, same))
@@ -117,7 +117,7 @@ nowhere p x i all out = by_number (times_in x i) refl
     by_number (suc n) is = absurd (true≢false (sym (of_member (λ j. p j ≡ true) x i all (omega (arith, is))) ∙ out))
 
 -- from the operations told by themselves to the trace
-pub told_there : (trace : List Observed) (left : ℕ → Bool) (places : List ℕ) (w : ℕ) (final_word : Option ℕ) → HasEach left places → (order : List ℕ)
+pub told_there : (trace : List Operation) (left : ℕ → Bool) (places : List ℕ) (w : ℕ) (final_word : Option ℕ) → HasEach left places → (order : List ℕ)
     → Finishes (chosen trace places) (is_place (chosen trace places)) w final_word order → Finishes trace left w final_word (map (slice_index places) order)
 told_there trace left places w final_word each order h = record {
   done = λ i. done i (left i) refl;
@@ -127,7 +127,7 @@ told_there trace left places w final_word each order h = record {
   ending = IfSome_then final_word h.ending (λ v is_v. last_moved own trace f w order moves ∙ is_v);
 }
   where
-    own : List Observed
+    own : List Operation
     own = chosen trace places
 
     f : ℕ → ℕ
@@ -164,7 +164,7 @@ told_there trace left places w final_word each order h = record {
         omega (arith, moved i is, h.once k, ap one_if (index_place trace places k (place_of left places i each is).0))
 
 -- and back
-pub told_back : (trace : List Observed) (left : ℕ → Bool) (places : List ℕ) (w : ℕ) (final_word : Option ℕ) → HasEach left places → (order : List ℕ)
+pub told_back : (trace : List Operation) (left : ℕ → Bool) (places : List ℕ) (w : ℕ) (final_word : Option ℕ) → HasEach left places → (order : List ℕ)
     → Finishes trace left w final_word order
     → (own : List ℕ) × Finishes (chosen trace places) (is_place (chosen trace places)) w final_word own × (order ≡ map (slice_index places) own)
 told_back trace left places w final_word each order h = (
@@ -179,7 +179,7 @@ told_back trace left places w final_word each order h = (
   same_order order are_left,
 )
   where
-    own : List Observed
+    own : List Operation
     own = chosen trace places
 
     g : ℕ → ℕ

@@ -4,7 +4,7 @@ use Rattle.std.proofs.Math.ListN.{get_or}
 use Rattle.std.proofs.lemmas.Bool.{and_from, and_parts, le-leb}
 use Rattle.chi_lanes.specs.Memory.{Memory}
 use Rattle.chi_history.specs.History.{one_if}
-use Rattle.chi_trace.specs.declared.observed.Observed.{Observed}
+use Rattle.chi_trace.specs.declared.operation.Operation.{Operation}
 use Rattle.chi_trace.specs.Cuts.{cut, has_started}
 use Rattle.chi_trace.specs.Explains.{Explains, IsTrace, at, is_answered, is_place, times_in, unobserved}
 use Rattle.chi_trace.proofs.Before.{all_before, answers_before, before, ended_stands, in_time_before, started_before, stands_no_more}
@@ -13,7 +13,7 @@ use Rattle.chi_trace.proofs.Known.{AreKnown, answers_known, in_time_known}
 use Rattle.chi_trace.proofs.Orders.{observed_at, places_of}
 use Rattle.chi_trace.proofs.Places.{of_member}
 
-pub cut_is_explained : (opening : Memory) (final_words : ℕ → Option ℕ) (ts : List Observed) (x : List ℕ) (time : ℕ) → IsTrace ts
+pub cut_is_explained : (opening : Memory) (final_words : ℕ → Option ℕ) (ts : List Operation) (x : List ℕ) (time : ℕ) → IsTrace ts
     → Explains opening final_words ts x → Explains opening unobserved (cut time ts) (before ts time x)
 cut_is_explained opening final_words ts x time is e = record {
   done = done;
@@ -23,7 +23,7 @@ cut_is_explained opening final_words ts x time is e = record {
   ending = λ g. tt;
 }
   where
-    ys : List Observed
+    ys : List Operation
     ys = cut time ts
 
     y : List ℕ

@@ -2,17 +2,17 @@
 use Rattle.std.proofs.Common.{◌≡◌, ℕ, zero, suc, ◌<◌, ◌≤◌, ◌&&◌, nat_lt, nat_le, Bool, true, false, cond, List, [], ◌∷◌, All, filter, map, length, refl, sym, ap, ◌∙◌, arith, true≢false}
 use Rattle.std.proofs.lemmas.Bool.{and_left, leb-true, le-leb, le-ltb, lt-ltb, ltb-false, ltb-true}
 use Rattle.std.proofs.lemmas.List.Elements.{All-head, All-tail}
-use Rattle.chi_trace.specs.declared.observed.Observed.{Observed}
+use Rattle.chi_trace.specs.declared.operation.Operation.{Operation}
 use Rattle.chi_trace.specs.Cuts.{cut, has_started, known}
 use Rattle.chi_trace.specs.Explains.{IsTrace, at, is_place}
 
 pub no_place : (i : ℕ) → is_place [] i ≡ false
 no_place i = le-ltb i 0 (omega arith)
 
-pub first_place : (op : Observed) (ts : List Observed) → is_place (op ∷ ts) 0 ≡ true
+pub first_place : (op : Operation) (ts : List Operation) → is_place (op ∷ ts) 0 ≡ true
 first_place op ts = lt-ltb 0 (suc (length ts)) (omega arith)
 
-pub next_place : (op : Observed) (ts : List Observed) (k : ℕ) → is_place (op ∷ ts) (suc k) ≡ is_place ts k
+pub next_place : (op : Operation) (ts : List Operation) (k : ℕ) → is_place (op ∷ ts) (suc k) ≡ is_place ts k
 next_place op ts k = by_test (nat_lt k (length ts)) refl
   where
     by_test : (b : Bool) → nat_lt k (length ts) ≡ b → is_place (op ∷ ts) (suc k) ≡ b
@@ -20,7 +20,7 @@ next_place op ts k = by_test (nat_lt k (length ts)) refl
     by_test false is = let past : length ts ≤ k = ltb-false k (length ts) is in le-ltb (suc k) (suc (length ts)) (omega arith)
 
 -- where an operation had not started by a time, none that starts later had
-late : (time : ℕ) (op other : Observed) → op.start ≤ other.start → has_started time op ≡ false → has_started time other ≡ false
+late : (time : ℕ) (op other : Operation) → op.start ≤ other.start → has_started time op ≡ false → has_started time other ≡ false
 late time op other later is = by_test (nat_le other.start time) refl
   where
     by_test : (b : Bool) → nat_le other.start time ≡ b → b ≡ false
@@ -29,14 +29,14 @@ late time op other later is = by_test (nat_le other.start time) refl
         absurd (true≢false (sym (le-leb op.start time before) ∙ is))
     by_test false early = refl
 
-none_started : (time : ℕ) (op : Observed) (ts : List Observed) → has_started time op ≡ false → All (λ later. op.start ≤ later.start) ts
+none_started : (time : ℕ) (op : Operation) (ts : List Operation) → has_started time op ≡ false → All (λ later. op.start ≤ later.start) ts
     → filter (has_started time) ts ≡ []
 none_started time op [] is all = refl
 none_started time op (other ∷ ts) is all =
     ap (λ b. cond b (other ∷ filter (has_started time) ts) (filter (has_started time) ts)) (late time op other (All-head (λ later. op.start ≤ later.start) other ts all) is)
     ∙ none_started time op ts is (All-tail (λ later. op.start ≤ later.start) other ts all)
 
-none_there : (time : ℕ) (op : Observed) (ts : List Observed) (k : ℕ) → has_started time op ≡ false → All (λ later. op.start ≤ later.start) ts
+none_there : (time : ℕ) (op : Operation) (ts : List Operation) (k : ℕ) → has_started time op ≡ false → All (λ later. op.start ≤ later.start) ts
     → (is_place ts k && has_started time (at ts k)) ≡ false
 none_there time op [] k is all = and_left _ _ (no_place k)
 none_there time op (other ∷ ts) zero is all = ap (λ b. b && has_started time other) (first_place other ts) ∙ late time op other (All-head (λ later. op.start ≤ later.start) other ts all) is
@@ -44,10 +44,10 @@ none_there time op (other ∷ ts) (suc k) is all =
     ap (λ b. b && has_started time (at ts k)) (next_place other ts k) ∙ none_there time op ts k is (All-tail (λ later. op.start ≤ later.start) other ts all)
 
 -- the operation at this place is that of the trace, where it had started by a time, as it was known then
-abbrev pub Shows : List Observed → ℕ → List Observed → ℕ → Type 0
+abbrev pub Shows : List Operation → ℕ → List Operation → ℕ → Type 0
 Shows ts time ys i = (is_place ys i ≡ (is_place ts i && has_started time (at ts i))) × (is_place ys i ≡ true → at ys i ≡ known time (at ts i))
 
-pub cut_shows : (ts : List Observed) → IsTrace ts → (time i : ℕ) → Shows ts time (cut time ts) i
+pub cut_shows : (ts : List Operation) → IsTrace ts → (time i : ℕ) → Shows ts time (cut time ts) i
 unfolding IsTrace
 cut_shows [] h time i = (no_place i ∙ sym (and_left _ _ (no_place i)), λ is. absurd (true≢false (sym is ∙ no_place i)))
 cut_shows (op ∷ ts) h time i = by_test (has_started time op) refl i (λ k. cut_shows ts h.2 time k)

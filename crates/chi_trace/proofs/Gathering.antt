@@ -2,29 +2,29 @@
 use Rattle.std.proofs.Common.{◌≡◌, ℕ, zero, suc, ◌+◌, ◌<◌, ◌≤◌, ◌==◌, nat_lt, Bool, true, false, cond, List, [], ◌∷◌, All, filter, length, refl, sym, ap, ◌∙◌, arith, eqb-true, ne_eqb, ltb-true}
 use Rattle.std.proofs.lemmas.Bool.{and_parts, and_right, eqb-false, ltb-false}
 use Rattle.std.proofs.lemmas.List.Elements.{All-head, All-nil, All-tail}
-use Rattle.chi_trace.specs.declared.observed.Observed.{Observed}
+use Rattle.chi_trace.specs.declared.operation.Operation.{Operation}
 use Rattle.chi_trace.specs.Explains.{IsInTime, IsTrace, at, is_place}
 use Rattle.chi_trace.specs.Granules.{granule_of, is_of}
 use Rattle.chi_trace.proofs.Orders.{ArePlaces, observed_at}
 use Rattle.chi_trace.proofs.Weaving.{Lasts, all_woven, first_kept, in_time_woven, none_kept, second_kept, weave}
 
 -- the orders of the granules below a number
-unfoldable pub gather : List Observed → (ℕ → List ℕ) → ℕ → List ℕ
+unfoldable pub gather : List Operation → (ℕ → List ℕ) → ℕ → List ℕ
 gather ts orders zero = []
 gather ts orders (suc n) = weave ts (gather ts orders n) (orders n)
 
 -- each place of the order is one of the trace, of a granule below a number
-abbrev pub AreBelow : List Observed → ℕ → List ℕ → Type 0
+abbrev pub AreBelow : List Operation → ℕ → List ℕ → Type 0
 AreBelow ts n x = All (λ i. (is_place ts i ≡ true) × (granule_of (at ts i) < n)) x
 
 -- each is one of a granule
-abbrev pub AreOf : List Observed → ℕ → List ℕ → Type 0
+abbrev pub AreOf : List Operation → ℕ → List ℕ → Type 0
 AreOf ts g x = All (λ i. is_of ts g i ≡ true) x
 
-of_other : (ts : List Observed) (g i : ℕ) → (granule_of (at ts i) ≡ g → ⊥) → is_of ts g i ≡ false
+of_other : (ts : List Operation) (g i : ℕ) → (granule_of (at ts i) ≡ g → ⊥) → is_of ts g i ≡ false
 of_other ts g i other = and_right (is_place ts i) (granule_of (at ts i) == g) (ne_eqb (granule_of (at ts i)) g other)
 
-granule_is : (ts : List Observed) (g i : ℕ) → is_of ts g i ≡ true → (is_place ts i ≡ true) × (granule_of (at ts i) ≡ g)
+granule_is : (ts : List Operation) (g i : ℕ) → is_of ts g i ≡ true → (is_place ts i ≡ true) × (granule_of (at ts i) ≡ g)
 granule_is ts g i own = let parts = and_parts (is_place ts i) (granule_of (at ts i) == g) own in (parts.0, eqb-true (granule_of (at ts i)) g parts.1)
 
 -- a test that every place passes keeps all
@@ -34,12 +34,12 @@ all_kept p (i ∷ x) h =
     ap (λ b. cond b (i ∷ filter p x) (filter p x)) (All-head (λ j. p j ≡ true) i x h) ∙ ap (λ z. i ∷ z) (all_kept p x (All-tail (λ j. p j ≡ true) i x h))
 
 -- what is known of an order of the granules below a number
-pub record Gathered (ts : List Observed) (orders : ℕ → List ℕ) (n : ℕ) (x : List ℕ) : Type 0 where
+pub record Gathered (ts : List Operation) (orders : ℕ → List ℕ) (n : ℕ) (x : List ℕ) : Type 0 where
   pub times : IsInTime ts x
   pub below : AreBelow ts n x
   pub kept : (g : ℕ) → g < n → filter (is_of ts g) x ≡ orders g
 
-pub gathered : (ts : List Observed) (orders : ℕ → List ℕ) → IsTrace ts → ((g : ℕ) → AreOf ts g (orders g)) → ((g : ℕ) → IsInTime ts (orders g))
+pub gathered : (ts : List Operation) (orders : ℕ → List ℕ) → IsTrace ts → ((g : ℕ) → AreOf ts g (orders g)) → ((g : ℕ) → IsInTime ts (orders g))
     → (n : ℕ) → Gathered ts orders n (gather ts orders n)
 unfolding gather IsInTime
 gathered ts orders is own times zero = record {
@@ -83,22 +83,22 @@ gathered ts orders is own times (suc n) = add (gathered ts orders is own times n
             less_than g under differ = grind (arith, under, differ)
 
 -- a number above that of each granule of the trace
-unfoldable pub most : List Observed → ℕ
+unfoldable pub most : List Operation → ℕ
 most [] = 0
 most (op ∷ ts) = suc (granule_of op) + most ts
 
-below_most : (ts : List Observed) (i : ℕ) → i < length ts → granule_of (at ts i) < most ts
+below_most : (ts : List Operation) (i : ℕ) → i < length ts → granule_of (at ts i) < most ts
 unfolding most
 below_most [] i under = absurd (omega (arith, under))
 below_most (op ∷ ts) zero under = omega arith
 below_most (op ∷ ts) (suc i) under = let rest : i < length ts = omega (arith, under) in let less = below_most ts i rest in omega (arith, less)
 
 -- the orders of all granules
-abbrev pub whole : List Observed → (ℕ → List ℕ) → List ℕ
+abbrev pub whole : List Operation → (ℕ → List ℕ) → List ℕ
 whole ts orders = gather ts orders (most ts)
 
 -- it keeps the order of each granule
-pub all_gathered : (ts : List Observed) (orders : ℕ → List ℕ) → IsTrace ts → ((g : ℕ) → AreOf ts g (orders g)) → ((g : ℕ) → IsInTime ts (orders g))
+pub all_gathered : (ts : List Operation) (orders : ℕ → List ℕ) → IsTrace ts → ((g : ℕ) → AreOf ts g (orders g)) → ((g : ℕ) → IsInTime ts (orders g))
     → (g : ℕ) → filter (is_of ts g) (whole ts orders) ≡ orders g
 all_gathered ts orders is own times g = by_test (nat_lt g (most ts)) refl
   where
@@ -120,6 +120,6 @@ all_gathered ts orders is own times g = by_test (nat_lt g (most ts)) refl
         none_kept (is_of ts g) (whole ts orders) (λ k d less. of_other ts g _ (λ there. absurd (let under = (h.below k d less).1 in omega (arith, past, under, there))))
         ∙ sym (empty (orders g) past (own g))
 
-pub whole_places : (ts : List Observed) (orders : ℕ → List ℕ) → IsTrace ts → ((g : ℕ) → AreOf ts g (orders g)) → ((g : ℕ) → IsInTime ts (orders g))
+pub whole_places : (ts : List Operation) (orders : ℕ → List ℕ) → IsTrace ts → ((g : ℕ) → AreOf ts g (orders g)) → ((g : ℕ) → IsInTime ts (orders g))
     → ArePlaces ts (whole ts orders)
 whole_places ts orders is own times k d under = ((gathered ts orders is own times (most ts)).below k d under).0

@@ -2,33 +2,33 @@
 use Rattle.std.proofs.Common.{◌≡◌, ℕ, ◌+◌, ◌<◌, ◌≤◌, ◌^◌, ◌==◌, Bool, true, false, List, [], ◌∷◌, ◌++◌, map, All, refl, sym, ap, subst, ◌∙◌, arith, eqb-true, eq-eqb, true≢false}
 use Rattle.std.proofs.lemmas.List.Elements.{All-append, All-cons, All-head, All-tail}
 use Rattle.chi_history.specs.History.{one_if}
-use Rattle.chi_trace.specs.declared.observed.Observed.{Observed}
+use Rattle.chi_trace.specs.declared.operation.Operation.{Operation}
 use Rattle.chi_trace.specs.Explains.{IsInTime, at, times_in}
 use Rattle.chi_trace.specs.Granules.{Fits, Play, last_word, next}
 use Rattle.chi_trace.proofs.Places.{none}
 
 -- each operation of the order stands in the other trace, at the place to which it is moved
-abbrev pub Moves : List Observed → List Observed → (ℕ → ℕ) → List ℕ → Type 0
+abbrev pub Moves : List Operation → List Operation → (ℕ → ℕ) → List ℕ → Type 0
 Moves ts us f x = All (λ i. at us (f i) ≡ at ts i) x
 
-pub play_moved : (ts us : List Observed) (f : ℕ → ℕ) (w : ℕ) (x : List ℕ) → Moves ts us f x → Play ts w x → Play us w (map f x)
+pub play_moved : (ts us : List Operation) (f : ℕ → ℕ) (w : ℕ) (x : List ℕ) → Moves ts us f x → Play ts w x → Play us w (map f x)
 unfolding Play
 play_moved ts us f w [] same h = tt
 play_moved ts us f w (i ∷ x) same h =
     subst Told (sym (All-head (λ j. at us (f j) ≡ at ts j) i x same))
     (h.0, h.1, play_moved ts us f (next (at ts i) w) x (All-tail (λ j. at us (f j) ≡ at ts j) i x same) h.2)
   where
-    Told : Observed → Type 0
+    Told : Operation → Type 0
     Told o = Fits o w × (next o w < 2 ^ 64) × Play us (next o w) (map f x)
 
-pub last_moved : (ts us : List Observed) (f : ℕ → ℕ) (w : ℕ) (x : List ℕ) → Moves ts us f x → last_word us w (map f x) ≡ last_word ts w x
+pub last_moved : (ts us : List Operation) (f : ℕ → ℕ) (w : ℕ) (x : List ℕ) → Moves ts us f x → last_word us w (map f x) ≡ last_word ts w x
 unfolding last_word
 last_moved ts us f w [] same = refl
 last_moved ts us f w (i ∷ x) same =
-    ap (λ (o : Observed). last_word us (next o w) (map f x)) (All-head (λ j. at us (f j) ≡ at ts j) i x same)
+    ap (λ (o : Operation). last_word us (next o w) (map f x)) (All-head (λ j. at us (f j) ≡ at ts j) i x same)
     ∙ last_moved ts us f (next (at ts i) w) x (All-tail (λ j. at us (f j) ≡ at ts j) i x same)
 
-all_moved : (P : Observed → Type 0) (ts us : List Observed) (f : ℕ → ℕ) (x : List ℕ) → Moves ts us f x → All (λ i. P (at ts i)) x
+all_moved : (P : Operation → Type 0) (ts us : List Operation) (f : ℕ → ℕ) (x : List ℕ) → Moves ts us f x → All (λ i. P (at ts i)) x
     → All (λ i. P (at us i)) (map f x)
 all_moved P ts us f [] same h = none (λ i. P (at us i))
 all_moved P ts us f (i ∷ x) same h =
@@ -36,11 +36,11 @@ all_moved P ts us f (i ∷ x) same h =
     (subst P (sym (All-head (λ j. at us (f j) ≡ at ts j) i x same)) (All-head (λ j. P (at ts j)) i x h))
     (all_moved P ts us f x (All-tail (λ j. at us (f j) ≡ at ts j) i x same) (All-tail (λ j. P (at ts j)) i x h))
 
-pub in_time_moved : (ts us : List Observed) (f : ℕ → ℕ) (x : List ℕ) → Moves ts us f x → IsInTime ts x → IsInTime us (map f x)
+pub in_time_moved : (ts us : List Operation) (f : ℕ → ℕ) (x : List ℕ) → Moves ts us f x → IsInTime ts x → IsInTime us (map f x)
 unfolding IsInTime
 in_time_moved ts us f [] same h = tt
 in_time_moved ts us f (i ∷ x) same h = (
-  subst (λ (o : Observed). All (λ j. o.start ≤ (at us j).end) (map f x)) (sym (All-head (λ j. at us (f j) ≡ at ts j) i x same))
+  subst (λ (o : Operation). All (λ j. o.start ≤ (at us j).end) (map f x)) (sym (All-head (λ j. at us (f j) ≡ at ts j) i x same))
       (all_moved (λ o. (at ts i).start ≤ o.end) ts us f x rest h.0),
   in_time_moved ts us f x rest h.1,
 )
@@ -68,22 +68,22 @@ unfolding times_in
 times_in-append [] y i = omega arith
 times_in-append (j ∷ x) y i = omega (arith, times_in-append x y i)
 
-pub last_joined : (ts : List Observed) (w : ℕ) (x y : List ℕ) → last_word ts w (x ++ y) ≡ last_word ts (last_word ts w x) y
+pub last_joined : (ts : List Operation) (w : ℕ) (x y : List ℕ) → last_word ts w (x ++ y) ≡ last_word ts (last_word ts w x) y
 unfolding last_word
 last_joined ts w [] y = refl
 last_joined ts w (i ∷ x) y = last_joined ts (next (at ts i) w) x y
 
-pub play_joined : (ts : List Observed) (w : ℕ) (x y : List ℕ) → Play ts w x → Play ts (last_word ts w x) y → Play ts w (x ++ y)
+pub play_joined : (ts : List Operation) (w : ℕ) (x y : List ℕ) → Play ts w x → Play ts (last_word ts w x) y → Play ts w (x ++ y)
 unfolding Play last_word
 play_joined ts w [] y h k = k
 play_joined ts w (i ∷ x) y h k = (h.0, h.1, play_joined ts (next (at ts i) w) x y h.2 k)
 
-pub play_parted : (ts : List Observed) (w : ℕ) (x y : List ℕ) → Play ts w (x ++ y) → Play ts w x × Play ts (last_word ts w x) y
+pub play_parted : (ts : List Operation) (w : ℕ) (x y : List ℕ) → Play ts w (x ++ y) → Play ts w x × Play ts (last_word ts w x) y
 unfolding Play last_word
 play_parted ts w [] y h = (tt, h)
 play_parted ts w (i ∷ x) y h = let rest = play_parted ts (next (at ts i) w) x y h.2 in ((h.0, h.1, rest.0), rest.1)
 
-pub in_time_joined : (ts : List Observed) (x y : List ℕ) → IsInTime ts x → IsInTime ts y → All (λ i. All (λ j. (at ts i).start ≤ (at ts j).end) y) x
+pub in_time_joined : (ts : List Operation) (x y : List ℕ) → IsInTime ts x → IsInTime ts y → All (λ i. All (λ j. (at ts i).start ≤ (at ts j).end) y) x
     → IsInTime ts (x ++ y)
 unfolding IsInTime
 in_time_joined ts [] y h k cross = k

@@ -2,25 +2,25 @@
 use Rattle.std.proofs.Common.{◌≡◌, ℕ, zero, suc, ◌+◌, ◌<◌, ◌≤◌, ◌==◌, Bool, true, false, cond, List, [], ◌∷◌, All, filter, length, refl, sym, ap, ◌∙◌, arith, eqb-true, true≢false, ltb-true}
 use Rattle.std.proofs.lemmas.List.Elements.{All-filter}
 use Rattle.chi_history.specs.History.{one_if}
-use Rattle.chi_trace.specs.declared.observed.Observed.{Observed}
+use Rattle.chi_trace.specs.declared.operation.Operation.{Operation}
 use Rattle.chi_trace.proofs.Places.{passes}
-use Rattle.chi_trace.specs.Explains.{IsInTime, IsObserved, IsTrace, at, is_place, times_in}
+use Rattle.chi_trace.specs.Explains.{IsInTime, IsOperation, IsTrace, at, is_place, times_in}
 
 -- what is true of each operation of a trace is true of the one at a place
-below_length : (trace : List Observed) (i : ℕ) → IsTrace trace → i < length trace → IsObserved (at trace i)
+below_length : (trace : List Operation) (i : ℕ) → IsTrace trace → i < length trace → IsOperation (at trace i)
 unfolding IsTrace
 below_length [] i is below = absurd (omega arith)
 below_length (op ∷ trace) zero is below = is.0
 below_length (op ∷ trace) (suc i) is below = let rest : i < length trace = omega arith in below_length trace i is.2 rest
 
-pub observed_at : (trace : List Observed) (i : ℕ) → IsTrace trace → is_place trace i ≡ true → IsObserved (at trace i)
+pub observed_at : (trace : List Operation) (i : ℕ) → IsTrace trace → is_place trace i ≡ true → IsOperation (at trace i)
 observed_at trace i is place = below_length trace i is (ltb-true i (length trace) place)
 
 -- each place of the order is one of the trace
-abbrev pub ArePlaces : List Observed → List ℕ → Type 0
+abbrev pub ArePlaces : List Operation → List ℕ → Type 0
 ArePlaces trace order = All (λ i. is_place trace i ≡ true) order
 
-pub places_of : (trace : List Observed) (order : List ℕ) → ((i : ℕ) → times_in order i ≤ one_if (is_place trace i)) → ArePlaces trace order
+pub places_of : (trace : List Operation) (order : List ℕ) → ((i : ℕ) → times_in order i ≤ one_if (is_place trace i)) → ArePlaces trace order
 places_of trace order once = passes (is_place trace) order once
 
 -- how often a place stands in what a filter keeps
@@ -43,7 +43,7 @@ times_in-filter p (j ∷ x) i = by_test (p j) refl (p i) refl (j == i) refl (tim
     by_test false pj false pi d same h = h
 
 -- an order in time stays so where operations are left out
-pub IsInTime-filter : (trace : List Observed) (p : ℕ → Bool) (x : List ℕ) → IsInTime trace x → IsInTime trace (filter p x)
+pub IsInTime-filter : (trace : List Operation) (p : ℕ → Bool) (x : List ℕ) → IsInTime trace x → IsInTime trace (filter p x)
 unfolding IsInTime
 IsInTime-filter trace p [] h = tt
 IsInTime-filter trace p (j ∷ x) h = by_test (p j) (IsInTime-filter trace p x h.1)

@@ -7,14 +7,14 @@ use Rattle.chi_lanes.specs.After.{after}
 use Rattle.chi_lanes.specs.Memory.{Memory, IsMemory}
 use Rattle.chi_lanes.proofs.AfterLemmas.{IsMemory-after}
 use Rattle.chi_history.specs.History.{one_if}
-use Rattle.chi_trace.specs.declared.observed.Observed.{Observed}
+use Rattle.chi_trace.specs.declared.operation.Operation.{Operation}
 use Rattle.chi_trace.specs.Explains.{Answers, Explains, IsTrace, at, is_answered, is_place, memory_after, times_in, word_of}
 use Rattle.chi_trace.specs.Granules.{ExplainsGranule, Fits, Play, granule_of, is_of, last_word, next}
 use Rattle.chi_trace.proofs.Orders.{ArePlaces, IsInTime-filter, observed_at, places_of, times_in-filter}
 use Rattle.chi_trace.proofs.Steps.{fits_at, next-below, word_of-next, word_of-other, word_of-own}
 
 -- the granule's operations play from its word, and leave its word after the order
-pub project : (trace : List Observed) (g : ℕ) (order : List ℕ) (m : Memory) → IsTrace trace → IsMemory m → ArePlaces trace order → Answers trace m order
+pub project : (trace : List Operation) (g : ℕ) (order : List ℕ) (m : Memory) → IsTrace trace → IsMemory m → ArePlaces trace order → Answers trace m order
     → Play trace (word_of m g) (filter (is_of trace g) order)
     × (word_of (memory_after trace m order) g ≡ last_word trace (word_of m g) (filter (is_of trace g) order))
 unfolding Answers memory_after Play last_word
@@ -59,7 +59,7 @@ project trace g (i ∷ order) m is is_m places answers =
     by_test false outside d here h = absurd (true≢false (sym place ∙ outside))
 
 -- what an order of the whole trace has of a granule explains it, and leaves its word
-pub part_explains : (opening : Memory) (final_words : ℕ → Option ℕ) (trace : List Observed) (order : List ℕ) → IsMemory opening → IsTrace trace
+pub part_explains : (opening : Memory) (final_words : ℕ → Option ℕ) (trace : List Operation) (order : List ℕ) → IsMemory opening → IsTrace trace
     → Explains opening final_words trace order → (g : ℕ)
     → ExplainsGranule trace g (word_of opening g) (final_words g) (filter (is_of trace g) order)
     × (word_of (memory_after trace opening order) g ≡ last_word trace (word_of opening g) (filter (is_of trace g) order))

@@ -3,7 +3,7 @@ use Rattle.std.proofs.Common.{◌≡◌, ℕ, ◌+◌, ◌-◌, ◌<◌, ◌≤�
 use Rattle.std.proofs.lemmas.Bool.{ltb-false}
 use Rattle.std.proofs.lemmas.List.{get_or-append_right, get_or_append_left}
 use Rattle.std.proofs.lemmas.List.Elements.{All-tail}
-use Rattle.chi_trace.specs.declared.observed.Observed.{Observed}
+use Rattle.chi_trace.specs.declared.operation.Operation.{Operation}
 use Rattle.chi_trace.specs.Explains.{IsInTime, at, is_place, nothing, times_in}
 use Rattle.chi_trace.specs.Segments.{AreApart}
 use Rattle.chi_trace.proofs.Orders.{ArePlaces, times_in-filter}
@@ -11,17 +11,17 @@ use Rattle.chi_trace.proofs.Places.{of_each}
 use Rattle.chi_trace.proofs.Weaving.{none_kept}
 
 -- an operation of the earlier stands in the whole where it stood
-pub at_earlier : (a b : List Observed) (i : ℕ) → is_place a i ≡ true → at (a ++ b) i ≡ at a i
+pub at_earlier : (a b : List Operation) (i : ℕ) → is_place a i ≡ true → at (a ++ b) i ≡ at a i
 at_earlier a b i place = get_or_append_left a b nothing i (ltb-true i (length a) place)
 
 -- and one of the later as many places on as the earlier are
-pub at_later : (a b : List Observed) (j : ℕ) → at (a ++ b) (length a + j) ≡ at b j
+pub at_later : (a b : List Operation) (j : ℕ) → at (a ++ b) (length a + j) ≡ at b j
 at_later a b j =
     get_or-append_right a b (length a) (length a + j) nothing refl (omega arith)
     ∙ ap (at b) (let back : (length a + j) - length a ≡ j = omega arith in back)
 
 -- a place of the whole that is none of the earlier is one of the later
-pub later_place : (a b : List Observed) (i : ℕ) → is_place (a ++ b) i ≡ true → is_place a i ≡ false
+pub later_place : (a b : List Operation) (i : ℕ) → is_place (a ++ b) i ≡ true → is_place a i ≡ false
     → (j : ℕ) × (i ≡ length a + j) × (j < length b)
 later_place a b i place past =
     let above : length a ≤ i = ltb-false i (length a) past in
@@ -38,7 +38,7 @@ kept p x = of_each (λ i. p i ≡ true) (filter p x) (λ i some. by_test i (p i)
     by_test i false is some = absurd (omega (arith, is, some))
 
 -- in an order in time of the whole no later operation stands before an earlier one
-pub divides : (a b : List Observed) (x : List ℕ) → AreApart a b → ArePlaces (a ++ b) x → IsInTime (a ++ b) x
+pub divides : (a b : List Operation) (x : List ℕ) → AreApart a b → ArePlaces (a ++ b) x → IsInTime (a ++ b) x
     → x ≡ filter (is_place a) x ++ filter (λ i. not (is_place a i)) x
 unfolding IsInTime
 divides a b [] apart places h = refl
@@ -58,8 +58,8 @@ divides a b (i ∷ x) apart places h = by_test (is_place a i) refl (divides a b 
             let ends : (at a j).end < (at b there.0).start = apart j nothing (ltb-true j (length a) is) there.0 nothing there.2 in
             let first : (at (a ++ b) i).start ≤ (at (a ++ b) j).end = h.0 k d under in
             let start : (at (a ++ b) i).start ≡ (at b there.0).start =
-            ap (λ l. (at (a ++ b) l).start) there.1 ∙ ap (λ (o : Observed). o.start) (at_later a b there.0) in
-            let end : (at (a ++ b) j).end ≡ (at a j).end = ap (λ (o : Observed). o.end) (at_earlier a b j is) in absurd (omega (arith, ends, first, start, end))
+            ap (λ l. (at (a ++ b) l).start) there.1 ∙ ap (λ (o : Operation). o.start) (at_later a b there.0) in
+            let end : (at (a ++ b) j).end ≡ (at a j).end = ap (λ (o : Operation). o.end) (at_earlier a b j is) in absurd (omega (arith, ends, first, start, end))
 
     rest : List ℕ
     rest = filter (λ j. not (is_place a j)) x

@@ -5,7 +5,7 @@ use Rattle.std.proofs.lemmas.List.Edits.{swap_is}
 use Rattle.std.proofs.lemmas.List.Sorted.{IsPermutation-keeps, IsPermutation-refl, IsPermutation-swap, IsPermutation-trans, sum_by-IsPermutation}
 use Rattle.std.proofs.lemmas.List.Sums.{sum_by-cons}
 use Rattle.chi_history.specs.History.{one_if}
-use Rattle.chi_trace.specs.declared.observed.Observed.{Observed}
+use Rattle.chi_trace.specs.declared.operation.Operation.{Operation}
 use Rattle.chi_trace.specs.Chosen.{chosen, is_in}
 use Rattle.chi_trace.specs.Explains.{at, is_place, times_in}
 use Rattle.chi_trace.specs.Granules.{ExplainsGranule, Finishes, granule_of, is_of}
@@ -14,17 +14,17 @@ use Rattle.chi_trace.proofs.Cuts.{first_place, next_place, no_place}
 use Rattle.chi_trace.proofs.Moved.{times_moved}
 
 -- the places of a granule's operations, in the order of the trace
-unfoldable places_in : List Observed → ℕ → List ℕ
+unfoldable places_in : List Operation → ℕ → List ℕ
 places_in [] g = []
 places_in (op ∷ trace) g = cond (is_in g op) (0 ∷ map suc (places_in trace g)) (map suc (places_in trace g))
 
 -- behind one more operation each place is the next
-chosen_behind : (op : Observed) (trace : List Observed) (places : List ℕ) → chosen (op ∷ trace) (map suc places) ≡ chosen trace places
+chosen_behind : (op : Operation) (trace : List Operation) (places : List ℕ) → chosen (op ∷ trace) (map suc places) ≡ chosen trace places
 chosen_behind op trace [] = refl
 chosen_behind op trace (i ∷ places) = ap (λ l. at trace i ∷ l) (chosen_behind op trace places)
 
 -- at these places stand the granule's operations
-chosen_in : (trace : List Observed) (g : ℕ) → chosen trace (places_in trace g) ≡ filter (is_in g) trace
+chosen_in : (trace : List Operation) (g : ℕ) → chosen trace (places_in trace g) ≡ filter (is_in g) trace
 unfolding places_in
 chosen_in [] g = refl
 chosen_in (op ∷ trace) g = by_test (is_in g op) (chosen_behind op trace (places_in trace g) ∙ chosen_in trace g)
@@ -48,7 +48,7 @@ next_behind : (places : List ℕ) (i : ℕ) → times_in (map suc places) (suc i
 next_behind places i = times_moved suc i (suc i) places refl (λ n d under same. omega (arith, same))
 
 -- each of the granule's places stands there once, and no other
-each_in : (trace : List Observed) (g i : ℕ) → times_in (places_in trace g) i ≡ one_if (is_of trace g i)
+each_in : (trace : List Operation) (g i : ℕ) → times_in (places_in trace g) i ≡ one_if (is_of trace g i)
 unfolding places_in times_in
 each_in [] g i = ap (λ b. one_if (b && (granule_of (at [] i) == g))) (sym (no_place i))
 each_in (op ∷ trace) g zero =
@@ -76,7 +76,7 @@ times_summed [] i = refl
 times_summed (j ∷ x) i = sum_by-cons (λ k. one_if (k == i)) j x ∙ ap (λ n. one_if (j == i) + n) (times_summed x i)
 
 -- so that the order does not matter
-times_permuted : (x y : List ℕ) (i : ℕ) → IsPermutation x y → times_in y i ≡ times_in x i
+pub times_permuted : (x y : List ℕ) (i : ℕ) → IsPermutation x y → times_in y i ≡ times_in x i
 times_permuted x y i moved = sym (times_summed y i) ∙ sum_by-IsPermutation (λ j. one_if (j == i)) x y moved ∙ times_summed x i
 
 -- two images change places where what they are the images of does
@@ -91,11 +91,11 @@ map_swapped f xs i j d below under =
     ∙ swap_is (map f xs) i j (f d) (omega (arith, below, long)) (omega (arith, under, long))
 
 -- a list in another order, with these images
-abbrev Lifts : {X Y : Type 0} → (X → Y) → List X → List Y → Type 0
+abbrev pub Lifts : {X Y : Type 0} → (X → Y) → List X → List Y → Type 0
 Lifts {X} f xs ys = (zs : List X) × (map f zs ≡ ys) × IsPermutation xs zs
 
 -- where the images are told in another order, what they are the images of can be too
-lifted : {X Y : Type 0} (f : X → Y) (xs : List X) (ys : List Y) → IsPermutation (map f xs) ys → Lifts f xs ys
+pub lifted : {X Y : Type 0} (f : X → Y) (xs : List X) (ys : List Y) → IsPermutation (map f xs) ys → Lifts f xs ys
 lifted {X} {Y} f xs ys moved = IsPermutation-keeps (map f xs) (Lifts f xs) (xs, refl, IsPermutation-refl xs) step ys moved
   where
     step : (l : List Y) (i j : ℕ) → i < length l → j < length l → Lifts f xs l → Lifts f xs (swap l i j)
@@ -113,14 +113,14 @@ lifted {X} {Y} f xs ys moved = IsPermutation-keeps (map f xs) (Lifts f xs) (xs, 
             )
 
 -- the operations of a granule, told in another order, stand at each of its places once
-places_told : (trace ops : List Observed) (g : ℕ) → IsPermutation (filter (is_in g) trace) ops
+places_told : (trace ops : List Operation) (g : ℕ) → IsPermutation (filter (is_in g) trace) ops
     → (places : List ℕ) × (chosen trace places ≡ ops) × ((i : ℕ) → times_in places i ≡ one_if (is_of trace g i))
 places_told trace ops g moved =
     let own = lifted (at trace) (places_in trace g) ops (subst (λ l. IsPermutation l ops) (sym (chosen_in trace g)) moved) in
     (own.0, own.1, λ i. times_permuted (places_in trace g) own.0 i own.2 ∙ each_in trace g i)
 
 -- so they can be explained by themselves exactly where they can in the trace
-pub told_again : (trace ops : List Observed) (g w : ℕ) (final_word : Option ℕ) → IsPermutation (filter (is_in g) trace) ops
+pub told_again : (trace ops : List Operation) (g w : ℕ) (final_word : Option ℕ) → IsPermutation (filter (is_in g) trace) ops
     → ((order : List ℕ) × ExplainsGranule trace g w final_word order) ↔ ((order : List ℕ) × Finishes ops (is_place ops) w final_word order)
 told_again trace ops g w final_word moved = (
   λ h. let own = told_back trace (is_of trace g) there.0 w final_word there.2 h.0 h.1 in (own.0, subst (Told own.0) there.1 own.1),
@@ -130,5 +130,5 @@ told_again trace ops g w final_word moved = (
     there : (places : List ℕ) × (chosen trace places ≡ ops) × ((i : ℕ) → times_in places i ≡ one_if (is_of trace g i))
     there = places_told trace ops g moved
 
-    Told : List ℕ → List Observed → Type 0
+    Told : List ℕ → List Operation → Type 0
     Told order l = Finishes l (is_place l) w final_word order

@@ -3,20 +3,20 @@ use Rattle.std.proofs.Common.{◌≡◌, ℕ, ◌<◌, ◌≤◌, nat_le, Bool, 
 use Rattle.std.proofs.Math.ListN.{get_or}
 use Rattle.std.proofs.lemmas.Bool.{leb-true, leb-false}
 use Rattle.std.proofs.lemmas.List.Elements.{All-cons, All-head, All-tail}
-use Rattle.chi_trace.specs.declared.observed.Observed.{Observed}
+use Rattle.chi_trace.specs.declared.operation.Operation.{Operation}
 use Rattle.chi_trace.specs.Explains.{IsInTime, at}
 
 -- an order y into the order a ∷ x, where the rest of x takes the rest of y in
-unfoldable pub insert : List Observed → ℕ → List ℕ → (List ℕ → List ℕ) → List ℕ → List ℕ
+unfoldable pub insert : List Operation → ℕ → List ℕ → (List ℕ → List ℕ) → List ℕ → List ℕ
 insert ts a x rest [] = a ∷ x
 insert ts a x rest (b ∷ y) = cond (nat_le (at ts a).start (at ts b).start) (a ∷ rest (b ∷ y)) (b ∷ insert ts a x rest y)
 
-unfoldable pub weave : List Observed → List ℕ → List ℕ → List ℕ
+unfoldable pub weave : List Operation → List ℕ → List ℕ → List ℕ
 weave ts [] y = y
 weave ts (a ∷ x) y = insert ts a x (weave ts x) y
 
 -- what is true of each place of both is true of each of the whole
-all_inserted : (P : ℕ → Type 0) (ts : List Observed) (a : ℕ) (x : List ℕ) (rest : List ℕ → List ℕ) → All P (a ∷ x)
+all_inserted : (P : ℕ → Type 0) (ts : List Operation) (a : ℕ) (x : List ℕ) (rest : List ℕ → List ℕ) → All P (a ∷ x)
     → ((y : List ℕ) → All P y → All P (rest y)) → (y : List ℕ) → All P y → All P (insert ts a x rest y)
 unfolding insert
 all_inserted P ts a x rest all each [] h = all
@@ -27,24 +27,24 @@ all_inserted P ts a x rest all each (b ∷ y) h =
     by_test true inner = All-cons P a (rest (b ∷ y)) (All-head P a x all) (each (b ∷ y) h)
     by_test false inner = All-cons P b (insert ts a x rest y) (All-head P b y h) inner
 
-pub all_woven : (P : ℕ → Type 0) (ts : List Observed) (x y : List ℕ) → All P x → All P y → All P (weave ts x y)
+pub all_woven : (P : ℕ → Type 0) (ts : List Operation) (x y : List ℕ) → All P x → All P y → All P (weave ts x y)
 unfolding weave
 all_woven P ts [] y h k = k
 all_woven P ts (a ∷ x) y h k = all_inserted P ts a x (weave ts x) h (λ z all. all_woven P ts x z (All-tail P a x h) all) y k
 
 -- it starts no later than it ends
-abbrev pub Lasts : List Observed → ℕ → Type 0
+abbrev pub Lasts : List Operation → ℕ → Type 0
 Lasts ts i = (at ts i).start ≤ (at ts i).end
 
 -- what starts no later than the head of an order in time starts no later than each of it ends
-from_head : (ts : List Observed) (n b : ℕ) (y : List ℕ) → n ≤ (at ts b).start → Lasts ts b → All (λ j. (at ts b).start ≤ (at ts j).end) y
+from_head : (ts : List Operation) (n b : ℕ) (y : List ℕ) → n ≤ (at ts b).start → Lasts ts b → All (λ j. (at ts b).start ≤ (at ts j).end) y
     → All (λ j. n ≤ (at ts j).end) (b ∷ y)
 from_head ts n b y first lasts h = All-cons (λ j. n ≤ (at ts j).end) b y (omega (arith, first, lasts)) rest
   where
     rest : All (λ j. n ≤ (at ts j).end) y
     rest k d under = let later : (at ts b).start ≤ (at ts (get_or y k d)).end = h k d under in omega (arith, first, later)
 
-in_time_inserted : (ts : List Observed) (a : ℕ) (x : List ℕ) (rest : List ℕ → List ℕ) → All (Lasts ts) (a ∷ x) → IsInTime ts (a ∷ x)
+in_time_inserted : (ts : List Operation) (a : ℕ) (x : List ℕ) (rest : List ℕ → List ℕ) → All (Lasts ts) (a ∷ x) → IsInTime ts (a ∷ x)
     → ((y : List ℕ) → All (Lasts ts) y → IsInTime ts y → IsInTime ts (rest y))
     → ((P : ℕ → Type 0) → All P x → (y : List ℕ) → All P y → All P (rest y))
     → (y : List ℕ) → All (Lasts ts) y → IsInTime ts y → IsInTime ts (insert ts a x rest y)
@@ -71,7 +71,7 @@ in_time_inserted ts a x rest lasts h in_time each (b ∷ y) lasting k =
         )
 
 -- the whole is in time
-pub in_time_woven : (ts : List Observed) (x y : List ℕ) → All (Lasts ts) x → IsInTime ts x → All (Lasts ts) y → IsInTime ts y → IsInTime ts (weave ts x y)
+pub in_time_woven : (ts : List Operation) (x y : List ℕ) → All (Lasts ts) x → IsInTime ts x → All (Lasts ts) y → IsInTime ts y → IsInTime ts (weave ts x y)
 unfolding weave IsInTime
 in_time_woven ts [] y lasts h lasting k = k
 in_time_woven ts (a ∷ x) y lasts h lasting k =
@@ -84,7 +84,7 @@ none_kept p [] h = refl
 none_kept p (i ∷ x) h =
     ap (λ b. cond b (i ∷ filter p x) (filter p x)) (All-head (λ j. p j ≡ false) i x h) ∙ none_kept p x (All-tail (λ j. p j ≡ false) i x h)
 
-kept_inserted : (p : ℕ → Bool) (ts : List Observed) (a : ℕ) (x : List ℕ) (rest : List ℕ → List ℕ)
+kept_inserted : (p : ℕ → Bool) (ts : List Operation) (a : ℕ) (x : List ℕ) (rest : List ℕ → List ℕ)
     → ((y : List ℕ) → All (λ i. p i ≡ false) y → filter p (rest y) ≡ filter p x)
     → (y : List ℕ) → All (λ i. p i ≡ false) y → filter p (insert ts a x rest y) ≡ filter p (a ∷ x)
 unfolding insert
@@ -98,12 +98,12 @@ kept_inserted p ts a x rest each (b ∷ y) h =
     by_test false inner = ap (λ c. cond c (b ∷ filter p (insert ts a x rest y)) (filter p (insert ts a x rest y))) (All-head (λ i. p i ≡ false) b y h) ∙ inner
 
 -- a test that none of the second order passes keeps of the whole what it keeps of the first
-pub first_kept : (p : ℕ → Bool) (ts : List Observed) (x y : List ℕ) → All (λ i. p i ≡ false) y → filter p (weave ts x y) ≡ filter p x
+pub first_kept : (p : ℕ → Bool) (ts : List Operation) (x y : List ℕ) → All (λ i. p i ≡ false) y → filter p (weave ts x y) ≡ filter p x
 unfolding weave
 first_kept p ts [] y h = none_kept p y h
 first_kept p ts (a ∷ x) y h = kept_inserted p ts a x (weave ts x) (λ z all. first_kept p ts x z all) y h
 
-others_inserted : (p : ℕ → Bool) (ts : List Observed) (a : ℕ) (x : List ℕ) (rest : List ℕ → List ℕ) → All (λ i. p i ≡ false) (a ∷ x)
+others_inserted : (p : ℕ → Bool) (ts : List Operation) (a : ℕ) (x : List ℕ) (rest : List ℕ → List ℕ) → All (λ i. p i ≡ false) (a ∷ x)
     → ((y : List ℕ) → filter p (rest y) ≡ filter p y) → (y : List ℕ) → filter p (insert ts a x rest y) ≡ filter p y
 unfolding insert
 others_inserted p ts a x rest h each [] = none_kept p (a ∷ x) h
@@ -117,7 +117,7 @@ others_inserted p ts a x rest h each (b ∷ y) =
     by_test false inner = ap (λ z. cond (p b) (b ∷ z) z) inner
 
 -- and one that none of the first passes what it keeps of the second
-pub second_kept : (p : ℕ → Bool) (ts : List Observed) (x y : List ℕ) → All (λ i. p i ≡ false) x → filter p (weave ts x y) ≡ filter p y
+pub second_kept : (p : ℕ → Bool) (ts : List Operation) (x y : List ℕ) → All (λ i. p i ≡ false) x → filter p (weave ts x y) ≡ filter p y
 unfolding weave
 second_kept p ts [] y h = refl
 second_kept p ts (a ∷ x) y h = others_inserted p ts a x (weave ts x) h (λ z. second_kept p ts x z (All-tail (λ i. p i ≡ false) a x h)) y

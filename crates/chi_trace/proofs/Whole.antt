@@ -5,7 +5,7 @@ use Rattle.std.proofs.lemmas.List.Elements.{All-head, All-tail}
 use Rattle.std.proofs.lemmas.Option.{IfSome_then}
 use Rattle.chi_lanes.specs.Memory.{Memory, IsMemory}
 use Rattle.chi_history.specs.History.{one_if}
-use Rattle.chi_trace.specs.declared.observed.Observed.{Observed}
+use Rattle.chi_trace.specs.declared.operation.Operation.{Operation}
 use Rattle.chi_trace.specs.Explains.{Explains, IsInTime, IsTrace, at, is_answered, is_place, memory_after, times_in, word_of}
 use Rattle.chi_trace.specs.Granules.{ExplainsGranule, granule_of, is_of, last_word}
 use Rattle.chi_trace.specs.TraceLaws.{GranulesExplain, OrdersOfGranulesExplain, PartsExplain}
@@ -13,7 +13,7 @@ use Rattle.chi_trace.proofs.Assembly.{PartsPlay, assemble, assembled_word}
 use Rattle.chi_trace.proofs.Orders.{ArePlaces, times_in-filter}
 
 -- what is no place of the trace does not stand in an order of its places
-absent : (trace : List Observed) (order : List ℕ) (i : ℕ) → ArePlaces trace order → is_place trace i ≡ false → times_in order i ≡ 0
+absent : (trace : List Operation) (order : List ℕ) (i : ℕ) → ArePlaces trace order → is_place trace i ≡ false → times_in order i ≡ 0
 unfolding times_in
 absent trace [] i places outside = refl
 absent trace (j ∷ order) i places outside = by_test (j == i) refl (absent trace order i (All-tail (λ k. is_place trace k ≡ true) j order places) outside)
@@ -24,12 +24,12 @@ absent trace (j ∷ order) i places outside = by_test (j == i) refl (absent trac
     by_test false same rest = omega arith
 
 -- a place stands in the whole order as often as in its granule's part
-times_in-part : (trace : List Observed) (order : List ℕ) (i : ℕ) → is_of trace (granule_of (at trace i)) i ≡ true
+times_in-part : (trace : List Operation) (order : List ℕ) (i : ℕ) → is_of trace (granule_of (at trace i)) i ≡ true
     → times_in (filter (is_of trace (granule_of (at trace i))) order) i ≡ times_in order i
 times_in-part trace order i own = times_in-filter (is_of trace (granule_of (at trace i))) order i ∙ ap (λ (b : Bool). cond b (times_in order i) 0) own
 
 -- an order in time of places of the trace explains it where each granule's part explains the granule, and leaves its word
-pub parts_join : (opening : Memory) (final_words : ℕ → Option ℕ) (trace : List Observed) (order : List ℕ) → IsMemory opening → IsTrace trace
+pub parts_join : (opening : Memory) (final_words : ℕ → Option ℕ) (trace : List Operation) (order : List ℕ) → IsMemory opening → IsTrace trace
     → ArePlaces trace order → IsInTime trace order
     → ((g : ℕ) → ExplainsGranule trace g (word_of opening g) (final_words g) (filter (is_of trace g) order))
     → Explains opening final_words trace order
@@ -68,7 +68,7 @@ parts_join opening final_words trace order is_m is places times each = (
     once i false place = omega (arith, absent trace order i places place)
 
 -- the same of orders that were given for the granules, where the whole order keeps each
-pub orders_join : (opening : Memory) (final_words : ℕ → Option ℕ) (trace : List Observed) (orders : ℕ → List ℕ) (order : List ℕ) → IsMemory opening → IsTrace trace
+pub orders_join : (opening : Memory) (final_words : ℕ → Option ℕ) (trace : List Operation) (orders : ℕ → List ℕ) (order : List ℕ) → IsMemory opening → IsTrace trace
     → ArePlaces trace order → IsInTime trace order → ((g : ℕ) → filter (is_of trace g) order ≡ orders g)
     → ((g : ℕ) → ExplainsGranule trace g (word_of opening g) (final_words g) (orders g))
     → Explains opening final_words trace order

@@ -3,28 +3,28 @@ use Rattle.std.specs.Prelude.{◌≡◌, ℕ, ◌==◌, Bool, List, map, slice_i
 use Rattle.std.specs.List.{filter}
 use Rattle.std.specs.List.Sorted.{IsPermutation}
 use Rattle.chi_history.specs.History.{one_if}
-use Rattle.chi_trace.specs.declared.observed.Observed.{Observed}
+use Rattle.chi_trace.specs.declared.operation.Operation.{Operation}
 use Rattle.chi_trace.specs.Explains.{at, is_place, times_in}
 use Rattle.chi_trace.specs.Granules.{ExplainsGranule, Finishes, granule_of}
 
 -- the operations at these places
-abbrev pub chosen : List Observed → List ℕ → List Observed
+abbrev pub chosen : List Operation → List ℕ → List Operation
 chosen trace places = map (at trace) places
 
 -- The operations that a test leaves may be told by themselves, in any order: `places` has each place that it leaves once.
 -- What finishes them, by its places, is what finishes them in the trace.
 abbrev pub PlacesExplain : Type 0
-PlacesExplain = (trace : List Observed) (left : ℕ → Bool) (places : List ℕ) (w : ℕ) (final_word : Option ℕ) → ((i : ℕ) → times_in places i ≡ one_if (left i))
+PlacesExplain = (trace : List Operation) (left : ℕ → Bool) (places : List ℕ) (w : ℕ) (final_word : Option ℕ) → ((i : ℕ) → times_in places i ≡ one_if (left i))
     → ((order : List ℕ) → Finishes (chosen trace places) (is_place (chosen trace places)) w final_word order
     → Finishes trace left w final_word (map (slice_index places) order))
     × ((order : List ℕ) → Finishes trace left w final_word order
     → (own : List ℕ) × Finishes (chosen trace places) (is_place (chosen trace places)) w final_word own × (order ≡ map (slice_index places) own))
 
 -- the operation is one of the granule
-abbrev pub is_in : ℕ → Observed → Bool
+abbrev pub is_in : ℕ → Operation → Bool
 is_in g op = granule_of op == g
 
 -- A granule's operations can be explained exactly where they can by themselves, told in any order.
 abbrev pub GranulesTold : Type 0
-GranulesTold = (trace ops : List Observed) (g w : ℕ) (final_word : Option ℕ) → IsPermutation (filter (is_in g) trace) ops
+GranulesTold = (trace ops : List Operation) (g w : ℕ) (final_word : Option ℕ) → IsPermutation (filter (is_in g) trace) ops
     → ((order : List ℕ) × ExplainsGranule trace g w final_word order) ↔ ((order : List ℕ) × Finishes ops (is_place ops) w final_word order)

@@ -4,3 +4,9 @@ pub mod Granules
 pub mod Chosen
 pub mod TraceLaws
 pub mod Segments
+pub mod Asked
+pub mod Fields
+pub mod Replies
+pub mod Words
+pub mod Traces
+pub mod Executions

@@ -1,6 +1,8 @@
 //! Laws of traces. Each function does nothing: its contract is the law, for proofs that call it.
 
 ghost use Rattle.chi_trace.specs.Chosen.{GranulesTold, PlacesExplain};
+ghost use Rattle.chi_trace.specs.Fields.{FieldsAreTold};
+ghost use Rattle.chi_trace.specs.Replies.{FaultyRepliesAreNoAnswers};
 ghost use Rattle.chi_trace.specs.Segments.{QuietTimesDivide};
 ghost use Rattle.chi_trace.specs.TraceLaws.{CutsAreExplained, ExplanationsAreLegal, GranulesExplain, OrdersOfGranulesExplain, PartsExplain, PartsJoin};
 
@@ -12,6 +14,16 @@ pub fn cuts_are_explained()
 /// What explains a trace is a legal history of a home.
 pub fn explanations_are_legal()
     ensures { ExplanationsAreLegal }
+{}
+
+/// A reply with a fault is the answer of its access at no memory, so a trace that has one cannot be explained.
+pub fn faulty_replies_are_no_answers()
+    ensures { FaultyRepliesAreNoAnswers }
+{}
+
+/// An operation tells the opcode and the size of its request, where a home accepted that.
+pub fn fields_are_told()
+    ensures { FieldsAreTold }
 {}
 
 /// A trace can be explained exactly where each granule's operations can.

@@ -2,7 +2,7 @@
 use Rattle.std.proofs.Common.{◌≡◌, ℕ, zero, suc, ◌≤◌, max, true, List, [], ◌∷◌, All, get_or, refl, ap, arith}
 use Rattle.std.specs.List.Sorted.{IsNonDecreasingBy}
 use Rattle.std.proofs.lemmas.List.Elements.{All-cons, All-head, All-nil, All-tail, All-weaker}
-use Rattle.chi_trace.specs.declared.observed.Observed.{Observed}
+use Rattle.chi_trace.specs.declared.operation.Operation.{Operation}
 use Rattle.chi_trace.specs.Explains.{IsInTime, IsTrace, at, is_place}
 use Rattle.chi_trace.proofs.Orders.{observed_at}
 use Rattle.chi_verdict.specs.declared.weaving.Point.{Point}
@@ -10,20 +10,20 @@ use Rattle.chi_verdict.specs.Points.{ArePoints, order_of}
 use Rattle.chi_verdict.proofs.Woven.{IsPointOf, time_of}
 
 -- the points of these, none earlier than a time
-abbrev pub timed : List Observed → ℕ → List ℕ → List Point
+abbrev pub timed : List Operation → ℕ → List ℕ → List Point
 timed ops time [] = []
 timed ops time (i ∷ order) = record { time = max time (at ops i).start; place = i } ∷ timed ops (max time (at ops i).start) order
 
-pub order_of-timed : (ops : List Observed) (time : ℕ) (order : List ℕ) → order_of (timed ops time order) ≡ order
+pub order_of-timed : (ops : List Operation) (time : ℕ) (order : List ℕ) → order_of (timed ops time order) ≡ order
 order_of-timed ops time [] = refl
 order_of-timed ops time (i ∷ order) = ap (λ rest. i ∷ rest) (order_of-timed ops (max time (at ops i).start) order)
 
 -- each ends no earlier than a time
-abbrev pub EndFrom : List Observed → ℕ → List ℕ → Type 0
+abbrev pub EndFrom : List Operation → ℕ → List ℕ → Type 0
 EndFrom ops time order = All (λ j. time ≤ (at ops j).end) order
 
 -- and none of the rest ends before that or before this one started
-ends_from : (ops : List Observed) (time i : ℕ) (order : List ℕ) → EndFrom ops time (i ∷ order) → IsInTime ops (i ∷ order)
+ends_from : (ops : List Operation) (time i : ℕ) (order : List ℕ) → EndFrom ops time (i ∷ order) → IsInTime ops (i ∷ order)
     → EndFrom ops (max time (at ops i).start) order
 unfolding IsInTime
 ends_from ops time i order ends h k d under =
@@ -31,7 +31,7 @@ ends_from ops time i order ends h k d under =
     let own : (at ops i).start ≤ (at ops (get_or order k d)).end = h.0 k d under in
     omega (arith, before, own)
 
-pub are_points : (ops : List Observed) (time : ℕ) (order : List ℕ) → IsTrace ops → All (λ i. is_place ops i ≡ true) order → IsInTime ops order
+pub are_points : (ops : List Operation) (time : ℕ) (order : List ℕ) → IsTrace ops → All (λ i. is_place ops i ≡ true) order → IsInTime ops order
     → EndFrom ops time order → ArePoints ops (timed ops time order)
 unfolding IsInTime
 are_points ops time [] is places h ends = All-nil (IsPointOf ops)
@@ -46,7 +46,7 @@ are_points ops time (i ∷ order) is places h ends =
         (omega arith, omega (arith, lasts, end))
 
 -- none is earlier than the time
-none_earlier : (ops : List Observed) (time : ℕ) (order : List ℕ) → All (λ (p : Point). time ≤ p.time) (timed ops time order)
+none_earlier : (ops : List Operation) (time : ℕ) (order : List ℕ) → All (λ (p : Point). time ≤ p.time) (timed ops time order)
 none_earlier ops time [] = All-nil (λ (p : Point). time ≤ p.time)
 none_earlier ops time (i ∷ order) =
     let start : ℕ = max time (at ops i).start in
@@ -55,7 +55,7 @@ none_earlier ops time (i ∷ order) =
     (All-weaker (λ (p : Point). start ≤ p.time) (λ (p : Point). time ≤ p.time) (λ p later. omega (arith, later)) rest (none_earlier ops start order))
 
 -- and they do not fall
-pub rises : (ops : List Observed) (time : ℕ) (order : List ℕ) → IsNonDecreasingBy time_of (timed ops time order)
+pub rises : (ops : List Operation) (time : ℕ) (order : List ℕ) → IsNonDecreasingBy time_of (timed ops time order)
 rises ops time [] i j d le within = absurd (omega (arith, within))
 rises ops time (k ∷ order) zero zero d le within = omega arith
 rises ops time (k ∷ order) zero (suc j) d le within = none_earlier ops (max time (at ops k).start) order j d (omega (arith, within))

@@ -3,8 +3,8 @@ use Rattle.std.proofs.Common.{◌≡◌, ℕ, zero, suc, ◌+◌, ◌<◌, ◌�
 use Rattle.std.specs.List.Sorted.{IsNonDecreasingBy}
 use Rattle.std.proofs.lemmas.Bool.{cases_eq}
 use Rattle.std.proofs.lemmas.List.{get_or-drop, length-drop}
-use Rattle.chi_verdict.specs.declared.words.GranuleWord.{GranuleWord}
-use Rattle.chi_verdict.specs.Words.{AreInOrder}
+use Rattle.chi_trace.specs.declared.words.GranuleWord.{GranuleWord}
+use Rattle.chi_trace.specs.Words.{AreInOrder}
 
 -- the element at a place
 abbrev pub StandsAt : {X : Type 0} → List X → ℕ → X → Type 0

@@ -3,18 +3,18 @@ use Rattle.std.proofs.Common.{◌≡◌, ℕ, List, [], None, filter, refl, subs
 use Rattle.chi_search.specs.declared.words.Words.{Words}
 use Rattle.chi_search.specs.declared.words.Words.TheVariants.{Each, Unknown}
 use Rattle.chi_search.specs.Found.{IfWords}
-use Rattle.chi_trace.specs.declared.observed.Observed.{Observed}
+use Rattle.chi_trace.specs.declared.operation.Operation.{Operation}
 use Rattle.chi_trace.specs.Cuts.{cut}
 use Rattle.chi_trace.specs.Explains.{Explains, IsTrace, unobserved}
 use Rattle.chi_trace.specs.Granules.{ExplainsGranule, is_of}
 use Rattle.chi_trace.specs.TraceLaws.{PartsExplain}
-use Rattle.chi_verdict.specs.declared.words.GranuleWord.{GranuleWord}
-use Rattle.chi_verdict.specs.Words.{AreWords, memory_of, told, word_told}
-use Rattle.chi_verdict.proofs.Cuts.{IsTrace-cut}
-use Rattle.chi_verdict.proofs.Memory.{IsMemory-memory_of, word_of-memory_of}
+use Rattle.chi_trace.specs.declared.words.GranuleWord.{GranuleWord}
+use Rattle.chi_trace.specs.Words.{AreWords, memory_of, told, word_told}
+use Rattle.chi_trace.proofs.TracedCuts.{IsTrace-cut}
+use Rattle.chi_trace.proofs.Memory.{IsMemory-memory_of, word_of-memory_of}
 
 -- where no order explains a granule's operations, none explains the whole
-pub whole_unexplained : PartsExplain → (opening : List GranuleWord) (ops : List Observed) (g : ℕ) → AreWords opening → IsTrace ops
+pub whole_unexplained : PartsExplain → (opening : List GranuleWord) (ops : List Operation) (g : ℕ) → AreWords opening → IsTrace ops
     → ((order : List ℕ) → ExplainsGranule ops g (word_told opening g) None order → ⊥)
     → (order : List ℕ) → Explains (memory_of opening) unobserved ops order → ⊥
 whole_unexplained parts opening ops g words is none order explains =
@@ -23,7 +23,7 @@ whole_unexplained parts opening ops g words is none order explains =
     (parts (memory_of opening) unobserved ops order (IsMemory-memory_of opening) is explains g).0)
 
 -- the same at a time
-pub unexplained_at : PartsExplain → (opening : List GranuleWord) (ops : List Observed) (g time : ℕ) → AreWords opening → IsTrace ops
+pub unexplained_at : PartsExplain → (opening : List GranuleWord) (ops : List Operation) (g time : ℕ) → AreWords opening → IsTrace ops
     → ((order : List ℕ) → ExplainsGranule (cut time ops) g (word_told opening g) None order → ⊥)
     → (order : List ℕ) → Explains (memory_of opening) unobserved (cut time ops) order → ⊥
 unexplained_at parts opening ops g time words is none = whole_unexplained parts opening (cut time ops) g words (IsTrace-cut time ops is) none

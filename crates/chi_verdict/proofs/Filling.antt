@@ -1,34 +1,33 @@
 -- a list of places while it is filled, and after it was sorted
 use Rattle.std.proofs.Common.{◌≡◌, ℕ, ◌+◌, ◌==◌, nat_lt, Bool, true, false, ◌&&◌, List, [], ◌∷◌, ◌++◌, length, refl, sym, ap, subst, ◌∙◌, inl, inr, arith}
-use Rattle.std.specs.List.{sum_by}
 use Rattle.std.specs.List.Sorted.{IsPermutation}
 use Rattle.std.proofs.lemmas.Bool.{and_right, cases_order, eq-eqb, le-ltb, lt-ltb, ne_eqb}
 use Rattle.std.proofs.lemmas.List.{map_push}
 use Rattle.std.proofs.lemmas.List.Elements.{All-nil, All-push}
-use Rattle.std.proofs.lemmas.List.Recursion.{is_sum_by}
-use Rattle.std.proofs.lemmas.List.Sorted.{All-permutation, IsPermutation-map, sum_by-IsPermutation}
+use Rattle.std.proofs.lemmas.List.Sorted.{All-permutation, IsPermutation-map}
 use Rattle.chi_history.specs.History.{one_if}
-use Rattle.chi_trace.specs.declared.observed.Observed.{Observed}
+use Rattle.chi_trace.specs.declared.operation.Operation.{Operation}
 use Rattle.chi_trace.specs.Explains.{at, is_place, times_in}
 use Rattle.chi_trace.specs.Granules.{granule_of}
 use Rattle.chi_trace.proofs.Moved.{times_in-append}
+use Rattle.chi_trace.proofs.ToldAgain.{times_permuted}
 use Rattle.chi_verdict.specs.declared.grouping.Placed.{Placed}
 use Rattle.chi_verdict.specs.Groups.{ArePlaced, places_of}
 
 -- each of the first operations that a test leaves is told once
-pub record IsFilled (ops : List Observed) (left : ℕ → Bool) (n : ℕ) (run : List Placed) : Type 0 where
+pub record IsFilled (ops : List Operation) (left : ℕ → Bool) (n : ℕ) (run : List Placed) : Type 0 where
   pub placed : ArePlaced ops run
   pub each : (i : ℕ) → times_in (places_of run) i ≡ one_if (nat_lt i n && left i)
 
 -- the operation at a place is of the granule
-abbrev pub is_own : List Observed → ℕ → ℕ → Bool
+abbrev pub is_own : List Operation → ℕ → ℕ → Bool
 is_own ops g i = granule_of (at ops i) == g
 
 -- a granule and an end that are those of the operation at the place
-abbrev pub Tells : List Observed → Placed → Type 0
+abbrev pub Tells : List Operation → Placed → Type 0
 Tells ops p = (granule_of (at ops p.place) ≡ p.granule) × ((at ops p.place).end ≡ p.end)
 
-pub filled_none : (ops : List Observed) (left : ℕ → Bool) (run : List Placed) → run ≡ [] → IsFilled ops left 0 run
+pub filled_none : (ops : List Operation) (left : ℕ → Bool) (run : List Placed) → run ≡ [] → IsFilled ops left 0 run
 unfolding times_in
 filled_none ops left run none = subst (IsFilled ops left 0) (sym none) (record { placed = All-nil (Tells ops); each = λ i. sym (ap (λ b. one_if (b && left i)) (le-ltb i 0 (omega arith))) })
 
@@ -53,11 +52,11 @@ count_more left n i = elim (cases_order i n) [
 ]
 
 -- the next operation, where it is left
-pub filled_more : (ops : List Observed) (left : ℕ → Bool) (n g : ℕ) (run after : List Placed) (op : Observed) → IsFilled ops left n run
+pub filled_more : (ops : List Operation) (left : ℕ → Bool) (n g : ℕ) (run after : List Placed) (op : Operation) → IsFilled ops left n run
     → left n ≡ true → op ≡ at ops n → granule_of op ≡ g → after ≡ run ++ record { granule = g; end = op.end; place = n } ∷ [] → IsFilled ops left (n + 1) after
 unfolding times_in
 filled_more ops left n g run after op filled is here granule pushed = subst (IsFilled ops left (n + 1)) (sym pushed) (record {
-  placed = All-push (Tells ops) run told filled.placed (ap granule_of (sym here) ∙ granule, ap (λ (o : Observed). o.end) (sym here));
+  placed = All-push (Tells ops) run told filled.placed (ap granule_of (sym here) ∙ granule, ap (λ (o : Operation). o.end) (sym here));
   each = λ i. omega (arith, times i, filled.each i, count_more left n i, own (n == i));
 })
   where
@@ -72,21 +71,13 @@ filled_more ops left n g run after op filled is here granule pushed = subst (IsF
     own false = refl
 
 -- and where it is not
-pub filled_without : (ops : List Observed) (left : ℕ → Bool) (n : ℕ) (run : List Placed) → IsFilled ops left n run → left n ≡ false → IsFilled ops left (n + 1) run
+pub filled_without : (ops : List Operation) (left : ℕ → Bool) (n : ℕ) (run : List Placed) → IsFilled ops left n run → left n ≡ false → IsFilled ops left (n + 1) run
 filled_without ops left n run filled is = record {
   placed = filled.placed;
   each = λ i. let more = count_more left n i in let none = ap one_if (and_right (n == i) (left n) is) in omega (arith, filled.each i, more, none);
 }
 
--- a place stands in an order as often after it was permuted
-times_in_sum : (x : List ℕ) (i : ℕ) → times_in x i ≡ sum_by (λ j. one_if (j == i)) x
-unfolding times_in
-times_in_sum x i = is_sum_by (λ y. times_in y i) (λ j. one_if (j == i)) refl (λ j y. refl) x
-
-pub times_permuted : (x y : List ℕ) (i : ℕ) → IsPermutation x y → times_in y i ≡ times_in x i
-times_permuted x y i same = times_in_sum y i ∙ sum_by-IsPermutation (λ j. one_if (j == i)) x y same ∙ sym (times_in_sum x i)
-
-pub filled_permuted : (ops : List Observed) (left : ℕ → Bool) (n : ℕ) (run after : List Placed) → IsPermutation run after
+pub filled_permuted : (ops : List Operation) (left : ℕ → Bool) (n : ℕ) (run after : List Placed) → IsPermutation run after
     → IsFilled ops left n run → IsFilled ops left n after
 filled_permuted ops left n run after same filled = record {
   placed = All-permutation (Tells ops) run after same filled.placed;
@@ -94,6 +85,6 @@ filled_permuted ops left n run after same filled = record {
 }
 
 -- all operations of the trace
-pub filled_all : (ops : List Observed) (left : ℕ → Bool) (n : ℕ) (run : List Placed) → n ≡ length ops → IsFilled ops left n run
+pub filled_all : (ops : List Operation) (left : ℕ → Bool) (n : ℕ) (run : List Placed) → n ≡ length ops → IsFilled ops left n run
     → (i : ℕ) → times_in (places_of run) i ≡ one_if (is_place ops i && left i)
 filled_all ops left n run all filled i = filled.each i ∙ ap (λ m. one_if (nat_lt i m && left i)) all

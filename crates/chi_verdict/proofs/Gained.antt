@@ -4,7 +4,7 @@ use Rattle.std.specs.List.Sorted.{IsNonDecreasingBy}
 use Rattle.std.proofs.lemmas.Bool.{and_parts, and_right, eqb-false}
 use Rattle.std.proofs.lemmas.List.Elements.{filter-append}
 use Rattle.std.proofs.lemmas.List.Kept.{IsNonDecreasingBy-filter}
-use Rattle.chi_trace.specs.declared.observed.Observed.{Observed}
+use Rattle.chi_trace.specs.declared.operation.Operation.{Operation}
 use Rattle.chi_trace.specs.Explains.{at, is_place}
 use Rattle.chi_trace.specs.Granules.{granule_of, is_of}
 use Rattle.chi_verdict.specs.declared.weaving.Point.{Point}
@@ -12,13 +12,13 @@ use Rattle.chi_verdict.specs.Points.{AreOrdered, points_of}
 use Rattle.chi_verdict.proofs.Ties.{none_kept}
 
 -- an operation is of one granule
-of_one : (ops : List Observed) (g h i : ℕ) → (g ≡ h → ⊥) → is_of ops g i ≡ true → is_of ops h i ≡ false
+of_one : (ops : List Operation) (g h i : ℕ) → (g ≡ h → ⊥) → is_of ops g i ≡ true → is_of ops h i ≡ false
 of_one ops g h i differ own =
     let here : granule_of (at ops i) ≡ g = eqb-true (granule_of (at ops i)) g (and_parts (is_place ops i) (granule_of (at ops i) == g) own).1 in
     and_right (is_place ops i) (granule_of (at ops i) == h) (ne_eqb (granule_of (at ops i)) h (λ there. differ (sym here ∙ there)))
 
 -- points of one granule's order stand behind those of other granules: each granule's points still stand in their order
-pub ordered_on : (ops : List Observed) (points added : List Point) (g : ℕ) → AreOrdered ops points → IsNonDecreasingBy (λ (p : Point). p.time) added
+pub ordered_on : (ops : List Operation) (points added : List Point) (g : ℕ) → AreOrdered ops points → IsNonDecreasingBy (λ (p : Point). p.time) added
     → All (λ p. is_of ops g p.place ≡ false) points → All (λ p. is_of ops g p.place ≡ true) added → AreOrdered ops (points ++ added)
 ordered_on ops points added g ordered up others own h = by_test (g == h) refl
   where

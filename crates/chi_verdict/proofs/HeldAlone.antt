@@ -5,21 +5,21 @@ use Rattle.chi_search.specs.declared.words.Words.{Words}
 use Rattle.chi_search.specs.declared.words.Words.TheVariants.{Each, Unknown}
 use Rattle.chi_search.specs.Found.{IfWords}
 use Rattle.chi_lanes.specs.Memory.{Memory}
-use Rattle.chi_trace.specs.declared.observed.Observed.{Observed}
+use Rattle.chi_trace.specs.declared.operation.Operation.{Operation}
 use Rattle.chi_trace.specs.Explains.{IsTrace, memory_after, unobserved, word_of}
 use Rattle.chi_trace.specs.Granules.{ExplainsGranule, is_of, last_word}
 use Rattle.chi_trace.specs.TraceLaws.{OrdersOfGranulesExplain, PartsExplain}
-use Rattle.chi_verdict.specs.Traces.{CanHold, IsLegal, TraceValue}
-use Rattle.chi_verdict.specs.Words.{AreWords, memory_of, word_told}
-use Rattle.chi_verdict.proofs.Memory.{IsMemory-memory_of, word_of-memory_of}
+use Rattle.chi_trace.specs.Traces.{CanHold, IsLegal, TraceValue}
+use Rattle.chi_trace.specs.Words.{AreWords, memory_of, word_told}
+use Rattle.chi_trace.proofs.Memory.{IsMemory-memory_of, word_of-memory_of}
 
 -- an order that explains a granule and leaves a word explains it where that word was observed at the end
-ended : (ops : List Observed) (g w v : ℕ) (own : List ℕ) → ExplainsGranule ops g w None own → last_word ops w own ≡ v → ExplainsGranule ops g w (Some v) own
+ended : (ops : List Operation) (g w v : ℕ) (own : List ℕ) → ExplainsGranule ops g w None own → last_word ops w own ≡ v → ExplainsGranule ops g w (Some v) own
 ended ops g w v own explains is =
     record { done = explains.done; once = explains.once; times = explains.times; plays = explains.plays; ending = is }
 
 -- and the other way round, whatever was observed
-unended : (ops : List Observed) (g w v : ℕ) (own : List ℕ) → ExplainsGranule ops g w (Some v) own → ExplainsGranule ops g w None own
+unended : (ops : List Operation) (g w v : ℕ) (own : List ℕ) → ExplainsGranule ops g w (Some v) own → ExplainsGranule ops g w None own
 unended ops g w v own explains =
     record { done = explains.done; once = explains.once; times = explains.times; plays = explains.plays; ending = tt }
 
@@ -28,7 +28,7 @@ pub held_alone : OrdersOfGranulesExplain → PartsExplain → (t : TraceValue) �
     → ((own : List ℕ) × ExplainsGranule t.operations g (word_told t.opening g) (Some v) own) ↔ CanHold t g v
 held_alone joins parts t words is order legal g v = (forth, back)
   where
-    ops : List Observed
+    ops : List Operation
     ops = t.operations
 
     memory : Memory

@@ -3,7 +3,7 @@ use Rattle.std.proofs.Common.{◌≡◌, ℕ, ◌-◌, ◌<◌, ◌≤◌, true,
 use Rattle.std.specs.List.{Contains}
 use Rattle.std.proofs.lemmas.Bool.{cases_lt}
 use Rattle.std.proofs.lemmas.List.{get_or-map, length-map}
-use Rattle.chi_trace.specs.declared.observed.Observed.{Observed}
+use Rattle.chi_trace.specs.declared.operation.Operation.{Operation}
 use Rattle.chi_trace.specs.Cuts.{cut}
 use Rattle.chi_trace.specs.Explains.{IsTrace, at, is_answered}
 use Rattle.chi_trace.specs.Granules.{ExplainsGranule, is_of}
@@ -13,7 +13,7 @@ use Rattle.chi_verdict.specs.Groups.{places_of}
 use Rattle.chi_verdict.proofs.Later.{later_explains, none_needed}
 
 -- an operation that was answered by the time ends no later than the last of them
-ends_by_last : (ops : List Observed) (g time : ℕ) (ends : List Placed) → AreAnswered ops g time ends
+ends_by_last : (ops : List Operation) (g time : ℕ) (ends : List Placed) → AreAnswered ops g time ends
     → (i : ℕ) → is_of ops g i ≡ true → is_answered (at ops i) ≡ true → (at ops i).end ≤ time
     → (0 < length ends) × ((d : Placed) → (at ops i).end ≤ (get_or ends (length ends - 1) d).end)
 ends_by_last ops g time ends answered i own seen ended = (omega (arith, index), no_later)
@@ -31,7 +31,7 @@ ends_by_last ops g time ends answered i own seen ended = (omega (arith, index), 
         omega (arith, end, answered.sorted there.0 (length ends - 1) d (omega (arith, index)) (omega (arith, index)))
 
 -- where a granule's operations are not explained up to a time, some were answered by then, and up to the end of the last of these they are not explained either
-pub last_unexplained : (ops : List Observed) (g w time : ℕ) (ends : List Placed) → IsTrace ops → AreAnswered ops g time ends
+pub last_unexplained : (ops : List Operation) (g w time : ℕ) (ends : List Placed) → IsTrace ops → AreAnswered ops g time ends
     → ((order : List ℕ) → ExplainsGranule (cut time ops) g w None order → ⊥)
     → (0 < length ends) × ((d : Placed) (order : List ℕ) → ExplainsGranule (cut (get_or ends (length ends - 1) d).end ops) g w None order → ⊥)
 last_unexplained ops g w time ends is answered unexplained = (⊎_elim (λ some. some) (λ none. absurd (unanswered none)) (cases_lt 0 (length ends)), up_to_last)

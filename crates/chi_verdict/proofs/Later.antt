@@ -4,7 +4,7 @@ use Rattle.std.proofs.lemmas.Bool.{and_from, and_parts, cases_lt, le-leb, leb-fa
 use Rattle.std.proofs.lemmas.List.{map-id}
 use Rattle.chi_lanes.specs.declared.reply.Reply.{Reply}
 use Rattle.chi_history.specs.History.{one_if}
-use Rattle.chi_trace.specs.declared.observed.Observed.{Observed}
+use Rattle.chi_trace.specs.declared.operation.Operation.{Operation}
 use Rattle.chi_trace.specs.Cuts.{cut, has_started, known}
 use Rattle.chi_trace.specs.Explains.{IsInTime, IsTrace, at, is_answered, is_place, times_in}
 use Rattle.chi_trace.specs.Granules.{ExplainsGranule, Play, granule_of, is_of}
@@ -14,7 +14,7 @@ use Rattle.chi_trace.proofs.Orders.{observed_at}
 use Rattle.chi_trace.proofs.Places.{passes}
 
 -- what was known of an operation at a time says its granule
-known_granule : (time : ℕ) (op : Observed) → granule_of (known time op) ≡ granule_of op
+known_granule : (time : ℕ) (op : Operation) → granule_of (known time op) ≡ granule_of op
 known_granule time op = by_test (nat_le op.end time)
   where
     by_test : (b : Bool) → granule_of (cond b op (record op { reply = None })) ≡ granule_of op
@@ -22,7 +22,7 @@ known_granule time op = by_test (nat_le op.end time)
     by_test false = refl
 
 -- of an operation whose reply was never seen the same is known at all times
-known_unanswered : (time : ℕ) (op : Observed) → is_answered op ≡ false → known time op ≡ op
+known_unanswered : (time : ℕ) (op : Operation) → is_answered op ≡ false → known time op ≡ op
 known_unanswered time op unseen = by_test (nat_le op.end time)
   where
     without : (reply : Option Reply) → is_answered (record op { reply = reply }) ≡ false → record op { reply = None } ≡ record op { reply = reply }
@@ -34,7 +34,7 @@ known_unanswered time op unseen = by_test (nat_le op.end time)
     by_test false = without op.reply unseen
 
 -- the same is known of an operation at two times where it was answered by both or by neither
-known_alike : (early late : ℕ) (op : Observed) → early ≤ late → (is_answered op ≡ true → early < op.end → late < op.end) → known early op ≡ known late op
+known_alike : (early late : ℕ) (op : Operation) → early ≤ late → (is_answered op ≡ true → early < op.end → late < op.end) → known early op ≡ known late op
 known_alike early late op le none = by_reply (is_answered op) refl
   where
     by_test : (early < op.end → late < op.end) → (b : Bool) → nat_le op.end early ≡ b → (d : Bool) → nat_le op.end late ≡ d
@@ -55,7 +55,7 @@ known_alike early late op le none = by_reply (is_answered op) refl
     by_reply false unseen = known_unanswered early op unseen ∙ sym (known_unanswered late op unseen)
 
 -- an operation of a granule stands in a cut where it had started, as it was known then
-pub own_shown : (ops : List Observed) (g time i : ℕ) → IsTrace ops → is_of (cut time ops) g i ≡ true
+pub own_shown : (ops : List Operation) (g time i : ℕ) → IsTrace ops → is_of (cut time ops) g i ≡ true
     → (is_of ops g i ≡ true) × (has_started time (at ops i) ≡ true) × (at (cut time ops) i ≡ known time (at ops i))
 own_shown ops g time i is own =
     let parts = and_parts (is_place (cut time ops) i) (granule_of (at (cut time ops) i) == g) own in
@@ -65,7 +65,7 @@ own_shown ops g time i is own =
     let granule : granule_of (at (cut time ops) i) ≡ granule_of (at ops i) = ap granule_of same ∙ known_granule time (at ops i) in
     (and_from (is_place ops i) (granule_of (at ops i) == g) there.0 (ap (λ k. k == g) (sym granule) ∙ parts.1), there.1, same)
 
-shown_own : (ops : List Observed) (g time i : ℕ) → IsTrace ops → is_of ops g i ≡ true → has_started time (at ops i) ≡ true
+shown_own : (ops : List Operation) (g time i : ℕ) → IsTrace ops → is_of ops g i ≡ true → has_started time (at ops i) ≡ true
     → is_of (cut time ops) g i ≡ true
 shown_own ops g time i is own started =
     let parts = and_parts (is_place ops i) (granule_of (at ops i) == g) own in
@@ -75,7 +75,7 @@ shown_own ops g time i is own started =
     and_from (is_place (cut time ops) i) (granule_of (at (cut time ops) i) == g) place (ap (λ k. k == g) granule ∙ parts.1)
 
 -- an operation that is answered later, or never, was not by a time
-not_yet : (time : ℕ) (op : Observed) → (is_answered op ≡ true → time < op.end) → is_answered (known time op) ≡ false
+not_yet : (time : ℕ) (op : Operation) → (is_answered op ≡ true → time < op.end) → is_answered (known time op) ≡ false
 not_yet time op lasts = by_reply (is_answered op) refl
   where
     by_reply : (b : Bool) → is_answered op ≡ b → is_answered (known time op) ≡ false
@@ -83,14 +83,14 @@ not_yet time op lasts = by_reply (is_answered op) refl
     by_reply false unseen = ap is_answered (known_unanswered time op unseen) ∙ unseen
 
 -- and so it need not be taken
-not_needed : (ops : List Observed) (g time i n : ℕ) → IsTrace ops → is_of (cut time ops) g i ≡ true
+not_needed : (ops : List Operation) (g time i n : ℕ) → IsTrace ops → is_of (cut time ops) g i ≡ true
     → (is_answered (at ops i) ≡ true → time < (at ops i).end) → one_if (is_answered (at (cut time ops) i)) ≤ n
 not_needed ops g time i n is own lasts =
     let same : is_answered (at (cut time ops) i) ≡ false = ap is_answered (own_shown ops g time i is own).2 ∙ not_yet time (at ops i) lasts in
     subst (λ b. one_if b ≤ n) (sym same) (omega arith)
 
 -- where none of a granule's operations is answered between two times, what explains them up to the one explains them up to the other
-pub later_explains : (ops : List Observed) (g w early late : ℕ) (order : List ℕ) → IsTrace ops → early ≤ late
+pub later_explains : (ops : List Operation) (g w early late : ℕ) (order : List ℕ) → IsTrace ops → early ≤ late
     → ((i : ℕ) → is_of ops g i ≡ true → is_answered (at ops i) ≡ true → early < (at ops i).end → late < (at ops i).end)
     → ExplainsGranule (cut early ops) g w None order → ExplainsGranule (cut late ops) g w None order
 later_explains ops g w early late order is le none h = record {
@@ -140,7 +140,7 @@ later_explains ops g w early late order is le none h = record {
     done i false other = omega arith
 
 -- and where none was answered by a time, none need be taken
-pub none_needed : (ops : List Observed) (g w time : ℕ) → IsTrace ops
+pub none_needed : (ops : List Operation) (g w time : ℕ) → IsTrace ops
     → ((i : ℕ) → is_of ops g i ≡ true → is_answered (at ops i) ≡ true → time < (at ops i).end)
     → ExplainsGranule (cut time ops) g w None []
 unfolding IsInTime Play times_in

@@ -4,7 +4,7 @@ use Rattle.std.proofs.lemmas.List.{drop-drop, get_or-drop, get_or-take, length-d
 use Rattle.std.proofs.lemmas.List.Elements.{All-drop, All-map, All-take}
 use Rattle.std.proofs.lemmas.List.Sorted.{IsNonDecreasingBy-drop, IsNonDecreasingBy-take}
 use Rattle.chi_history.specs.History.{one_if}
-use Rattle.chi_trace.specs.declared.observed.Observed.{Observed}
+use Rattle.chi_trace.specs.declared.operation.Operation.{Operation}
 use Rattle.chi_trace.specs.Explains.{at, is_place, times_in}
 use Rattle.chi_trace.specs.Granules.{granule_of, is_of}
 use Rattle.chi_trace.proofs.Moved.{times_in-append}
@@ -14,14 +14,14 @@ use Rattle.chi_verdict.specs.Groups.{AreByEnd, ArePlaced, IsGrouped, places_of}
 use Rattle.chi_verdict.proofs.Filling.{Tells}
 
 -- a place that stands in a list is of the granule that is told of it there
-of_granules : (ops : List Observed) (P : ℕ → Type 0) (run : List Placed) (i : ℕ) → ArePlaced ops run → All (λ p. P p.granule) run
+of_granules : (ops : List Operation) (P : ℕ → Type 0) (run : List Placed) (i : ℕ) → ArePlaced ops run → All (λ p. P p.granule) run
     → 0 < times_in (places_of run) i → P (granule_of (at ops i))
 of_granules ops P run i placed all some =
     of_member (λ j. P (granule_of (at ops j))) (places_of run) i
     (All-map (λ j. P (granule_of (at ops j))) (λ p. p.place) run (λ k d below. subst P (sym (placed k d below).0) (all k d below))) some
 
 -- of a list that has each place once, the middle has those of a granule where neither end has any of them
-only_own : (ops : List Observed) (below own above : List Placed) (g i : ℕ) → times_in (places_of (below ++ (own ++ above))) i ≡ one_if (is_place ops i)
+only_own : (ops : List Operation) (below own above : List Placed) (g i : ℕ) → times_in (places_of (below ++ (own ++ above))) i ≡ one_if (is_place ops i)
     → (0 < times_in (places_of below) i → granule_of (at ops i) < g) → (0 < times_in (places_of own) i → granule_of (at ops i) ≡ g)
     → (0 < times_in (places_of above) i → g < granule_of (at ops i)) → times_in (places_of own) i ≡ one_if (is_of ops g i)
 only_own ops below own above g i once early same late = by_test (is_place ops i) (granule_of (at ops i) == g) refl (sym whole ∙ once)
@@ -76,7 +76,7 @@ AreByEnd-drop n run by_end k d below same =
     (get_or-drop n run (k + 1) d ∙ ap (λ i. get_or run i d) step) same
 
 -- what stands from one place to another in a grouped list is grouped, where it has all of a granule
-pub group_of : (ops : List Observed) (places : List Placed) (from to g : ℕ) → IsGrouped ops (is_place ops) places → from ≤ to → to ≤ length places
+pub group_of : (ops : List Operation) (places : List Placed) (from to g : ℕ) → IsGrouped ops (is_place ops) places → from ≤ to → to ≤ length places
     → All (λ p. p.granule < g) (take from places) → All (λ p. p.granule ≡ g) (take (to - from) (drop from places)) → All (λ p. g < p.granule) (drop to places)
     → IsGrouped ops (is_of ops g) (take (to - from) (drop from places))
 group_of ops places from to g is ordered within early same late = record {

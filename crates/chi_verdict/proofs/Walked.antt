@@ -5,17 +5,17 @@ use Rattle.std.proofs.lemmas.List.{map-append, take-append-drop}
 use Rattle.std.proofs.lemmas.List.Elements.{All-append, All-head, All-map, All-tail, filter-append}
 use Rattle.std.proofs.Math.Seq.{take-add}
 use Rattle.chi_history.specs.History.{one_if}
-use Rattle.chi_trace.specs.declared.observed.Observed.{Observed}
+use Rattle.chi_trace.specs.declared.operation.Operation.{Operation}
 use Rattle.chi_trace.specs.Explains.{IsInTime, at, is_answered, is_place, times_in}
 use Rattle.chi_trace.specs.Granules.{ExplainsGranule, Play, granule_of, is_of, last_word}
 use Rattle.chi_trace.proofs.Weaving.{none_kept}
 use Rattle.chi_verdict.specs.declared.grouping.Placed.{Placed}
 use Rattle.chi_verdict.specs.declared.weaving.Point.{Point}
-use Rattle.chi_verdict.specs.declared.words.GranuleWord.{GranuleWord}
+use Rattle.chi_trace.specs.declared.words.GranuleWord.{GranuleWord}
 use Rattle.chi_verdict.specs.Groups.{ArePlaced, IsGrouped, places_of}
 use Rattle.chi_verdict.specs.Points.{ArePoints, AreOrdered, order_of}
 use Rattle.chi_verdict.specs.Walks.{IsPast}
-use Rattle.chi_verdict.specs.Words.{told, word_told}
+use Rattle.chi_trace.specs.Words.{told, word_told}
 
 -- the walk goes past one granule, from the first to the second of two places and of two words
 pub record Passes (places : List Placed) (from to : ℕ) (final_words : List GranuleWord) (word next : ℕ) (g : ℕ) : Type 0 where
@@ -30,7 +30,7 @@ pub record Passes (places : List Placed) (from to : ℕ) (final_words : List Gra
 
 -- Each operation that the walk has passed stands at a point between its start and its end, in the order of its granule. Where
 -- none was undecided, those of each granule that was passed are explained.
-pub record Walked (opening final_words : List GranuleWord) (ops : List Observed) (places : List Placed) (from word : ℕ) (undecided : Option ℕ) (points : List Point) : Type 0 where
+pub record Walked (opening final_words : List GranuleWord) (ops : List Operation) (places : List Placed) (from word : ℕ) (undecided : Option ℕ) (points : List Point) : Type 0 where
   pub behind : All (λ p. IsPast places from final_words word p.granule) (take from places)
   pub behind_words : All (λ w. IsPast places from final_words word w.granule) (take word final_words)
   pub pointed : ArePoints ops points
@@ -84,7 +84,7 @@ never n xs to g h above first then =
     (λ k d under. let is = first k d under in grind (arith, nat_tests, is, above)) (λ k d under. let is = then k d under in grind (arith, nat_tests, is)))
 
 -- an operation of a granule of which none stands in a list is not in it
-absent : (ops : List Observed) (ps : List Placed) (g i : ℕ) → ArePlaced ops ps → All (λ p. (p.granule == g) ≡ false) ps → granule_of (at ops i) ≡ g
+absent : (ops : List Operation) (ps : List Placed) (g i : ℕ) → ArePlaced ops ps → All (λ p. (p.granule == g) ≡ false) ps → granule_of (at ops i) ≡ g
     → times_in (places_of ps) i ≡ 0
 unfolding times_in
 absent ops [] g i placed none is = refl
@@ -105,7 +105,7 @@ absent ops (p ∷ ps) g i placed none is =
     at_head false same here other rest = let none : one_if (p.place == i) ≡ 0 = ap one_if same in omega (arith, none, rest)
 
 -- no operation is of a granule of which none stands in the list of all
-pub not_there : (ops : List Observed) (places : List Placed) (g : ℕ) → IsGrouped ops (is_place ops) places → All (λ p. (p.granule == g) ≡ false) places
+pub not_there : (ops : List Operation) (places : List Placed) (g : ℕ) → IsGrouped ops (is_place ops) places → All (λ p. (p.granule == g) ≡ false) places
     → (i : ℕ) → is_of ops g i ≡ false
 not_there ops places g grouped none i = by_test (is_place ops i) refl (granule_of (at ops i) == g) refl
   where
@@ -118,7 +118,7 @@ not_there ops places g grouped none i = by_test (is_place ops i) refl (granule_o
     by_test false inside d here = ap (λ b. b && (granule_of (at ops i) == g)) inside
 
 -- where none is left and no word was observed, no operation is the order
-pub untouched : (ops : List Observed) (g w : ℕ) (final_word : Option ℕ) → ((i : ℕ) → is_of ops g i ≡ false) → final_word ≡ None → ExplainsGranule ops g w final_word []
+pub untouched : (ops : List Operation) (g w : ℕ) (final_word : Option ℕ) → ((i : ℕ) → is_of ops g i ≡ false) → final_word ≡ None → ExplainsGranule ops g w final_word []
 unfolding times_in IsInTime Play
 untouched ops g w final_word none unseen = record {
   done = λ i. subst (λ b. one_if (b && is_answered (at ops i)) ≤ 0) (sym (none i)) (omega arith);
@@ -129,24 +129,24 @@ untouched ops g w final_word none unseen = record {
 }
 
 -- none of a granule stands among points of others
-pub none_of : (ops : List Observed) (g : ℕ) (points : List Point) → All (λ p. is_of ops g p.place ≡ false) points → filter (is_of ops g) (order_of points) ≡ []
+pub none_of : (ops : List Operation) (g : ℕ) (points : List Point) → All (λ p. is_of ops g p.place ≡ false) points → filter (is_of ops g) (order_of points) ≡ []
 none_of ops g points others = none_kept (is_of ops g) (order_of points) (All-map (λ i. is_of ops g i ≡ false) (λ p. p.place) points others)
 
 -- all of a granule stand among its own
-pub all_of : (ops : List Observed) (g : ℕ) (points : List Point) → All (λ p. is_of ops g p.place ≡ true) points → filter (is_of ops g) (order_of points) ≡ order_of points
+pub all_of : (ops : List Operation) (g : ℕ) (points : List Point) → All (λ p. is_of ops g p.place ≡ true) points → filter (is_of ops g) (order_of points) ≡ order_of points
 all_of ops g [] own = refl
 all_of ops g (p ∷ points) own =
     ap (λ b. cond b (p.place ∷ filter (is_of ops g) (order_of points)) (filter (is_of ops g) (order_of points))) (All-head (λ (p : Point). is_of ops g p.place ≡ true) p points own)
     ∙ ap (λ x. p.place ∷ x) (all_of ops g points (All-tail (λ (p : Point). is_of ops g p.place ≡ true) p points own))
 
 -- what stands of a granule, with more points behind
-pub parts_of : (ops : List Observed) (g : ℕ) (points added : List Point)
+pub parts_of : (ops : List Operation) (g : ℕ) (points added : List Point)
     → filter (is_of ops g) (order_of (points ++ added)) ≡ filter (is_of ops g) (order_of points) ++ filter (is_of ops g) (order_of added)
 parts_of ops g points added =
     ap (filter (is_of ops g)) (map-append (λ (p : Point). p.place) points added) ∙ filter-append (is_of ops g) (order_of points) (order_of added)
 
 -- an operation of another granule is none of this one
-pub other_granule : (ops : List Observed) (g i : ℕ) → (granule_of (at ops i) == g) ≡ false → is_of ops g i ≡ false
+pub other_granule : (ops : List Operation) (g i : ℕ) → (granule_of (at ops i) == g) ≡ false → is_of ops g i ≡ false
 other_granule ops g i other = by_test (is_place ops i) refl
   where
     by_test : (b : Bool) → is_place ops i ≡ b → (is_place ops i && (granule_of (at ops i) == g)) ≡ false
@@ -154,7 +154,7 @@ other_granule ops g i other = by_test (is_place ops i) refl
     by_test false inside = ap (λ b. b && (granule_of (at ops i) == g)) inside
 
 -- an operation of a granule is one of the trace, and of that granule
-pub own_granule : (ops : List Observed) (g i : ℕ) → is_of ops g i ≡ true → (is_place ops i ≡ true) × (granule_of (at ops i) ≡ g)
+pub own_granule : (ops : List Operation) (g i : ℕ) → is_of ops g i ≡ true → (is_place ops i ≡ true) × (granule_of (at ops i) ≡ g)
 own_granule ops g i own = by_test (is_place ops i) refl (granule_of (at ops i) == g) refl
   where
     by_test : (b : Bool) → is_place ops i ≡ b → (d : Bool) → (granule_of (at ops i) == g) ≡ d → (is_place ops i ≡ true) × (granule_of (at ops i) ≡ g)

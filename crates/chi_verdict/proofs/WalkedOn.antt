@@ -4,43 +4,43 @@ use Rattle.std.proofs.lemmas.Bool.Decides.{nat_tests}
 use Rattle.std.proofs.lemmas.List.{append-nil}
 use Rattle.std.proofs.lemmas.List.Elements.{All-append, All-cons, All-head, All-tail}
 use Rattle.std.specs.List.Sorted.{IsNonDecreasingBy}
-use Rattle.chi_trace.specs.declared.observed.Observed.{Observed}
+use Rattle.chi_trace.specs.declared.operation.Operation.{Operation}
 use Rattle.chi_trace.specs.Explains.{at, is_place}
 use Rattle.chi_trace.specs.Granules.{ExplainsGranule, granule_of, is_of}
 use Rattle.chi_trace.proofs.Places.{passes as passes_all}
 use Rattle.chi_verdict.specs.declared.grouping.Placed.{Placed}
 use Rattle.chi_verdict.specs.declared.weaving.Point.{Point}
-use Rattle.chi_verdict.specs.declared.words.GranuleWord.{GranuleWord}
+use Rattle.chi_trace.specs.declared.words.GranuleWord.{GranuleWord}
 use Rattle.chi_verdict.specs.Groups.{IsGrouped}
 use Rattle.chi_verdict.specs.Points.{ArePoints, AreOrdered, order_of}
 use Rattle.chi_verdict.specs.Walks.{IsPast}
-use Rattle.chi_verdict.specs.Words.{told, word_told}
+use Rattle.chi_trace.specs.Words.{told, word_told}
 use Rattle.chi_verdict.proofs.Gained.{ordered_on}
-use Rattle.chi_verdict.proofs.Memory.{none_told}
+use Rattle.chi_trace.proofs.Memory.{none_told}
 use Rattle.chi_verdict.proofs.Walked.{Passes, Walked, all_of, at_most, never, none_of, not_there, now_past, other_granule, own_granule, parts_of, past_below, untouched}
 
 -- what has been found of one more granule: its points, and that they explain it where none is undecided
-pub record Finds (opening final_words : List GranuleWord) (ops : List Observed) (g : ℕ) (undecided after : Option ℕ) (points added : List Point) : Type 0 where
+pub record Finds (opening final_words : List GranuleWord) (ops : List Operation) (g : ℕ) (undecided after : Option ℕ) (points added : List Point) : Type 0 where
   pub pointed : ArePoints ops added
   pub ordered : AreOrdered ops (points ++ added)
   pub own : All (λ p. is_of ops g p.place ≡ true) added
   pub explained : after ≡ None → (undecided ≡ None) × ExplainsGranule ops g (word_told opening g) (told final_words g) (order_of added)
 
 -- of each point that stands already the granule comes before
-pub earlier : (opening final_words : List GranuleWord) (ops : List Observed) (places : List Placed) (from to word next : ℕ) (undecided : Option ℕ) (points : List Point) (g : ℕ)
+pub earlier : (opening final_words : List GranuleWord) (ops : List Operation) (places : List Placed) (from to word next : ℕ) (undecided : Option ℕ) (points : List Point) (g : ℕ)
     → Walked opening final_words ops places from word undecided points → Passes places from to final_words word next g → All (λ p. granule_of (at ops p.place) < g) points
 earlier opening final_words ops places from to word next undecided points g walked passes k d under =
     past_below places from final_words word g (granule_of (at ops (get_or points k d).place)) passes.there (walked.past k d under)
 
 -- so none is of the granule, or of a later one
-pub others : (opening final_words : List GranuleWord) (ops : List Observed) (places : List Placed) (from to word next : ℕ) (undecided : Option ℕ) (points : List Point) (g h : ℕ)
+pub others : (opening final_words : List GranuleWord) (ops : List Operation) (places : List Placed) (from to word next : ℕ) (undecided : Option ℕ) (points : List Point) (g h : ℕ)
     → Walked opening final_words ops places from word undecided points → Passes places from to final_words word next g → g ≤ h → All (λ p. is_of ops h p.place ≡ false) points
 others opening final_words ops places from to word next undecided points g h walked passes least k d under =
     let below = earlier opening final_words ops places from to word next undecided points g walked passes k d under in
     other_granule ops h (get_or points k d).place (grind (arith, nat_tests, below, least))
 
 -- the walk past one more granule
-pub goes_on : (opening final_words : List GranuleWord) (ops : List Observed) (places : List Placed) (from to word next : ℕ) (undecided after : Option ℕ) (points added : List Point) (g : ℕ)
+pub goes_on : (opening final_words : List GranuleWord) (ops : List Operation) (places : List Placed) (from to word next : ℕ) (undecided after : Option ℕ) (points added : List Point) (g : ℕ)
     → IsGrouped ops (is_place ops) places → Walked opening final_words ops places from word undecided points → Passes places from to final_words word next g
     → Finds opening final_words ops g undecided after points added
     → Walked opening final_words ops places to next after (points ++ added)
@@ -111,7 +111,7 @@ goes_on opening final_words ops places from to word next undecided after points 
         subst (λ (n : ℕ). Is n (filter (is_of ops n) (order_of (points ++ added)))) same (here found.1)
 
 -- the walk has not begun
-pub begins : (opening final_words : List GranuleWord) (ops : List Observed) (places : List Placed) → IsGrouped ops (is_place ops) places
+pub begins : (opening final_words : List GranuleWord) (ops : List Operation) (places : List Placed) → IsGrouped ops (is_place ops) places
     → Walked opening final_words ops places 0 0 None []
 begins opening final_words ops places grouped = record {
   behind = λ k d under. absurd (omega (arith, under));
@@ -132,7 +132,7 @@ of_points P (p ∷ points) all =
     All-cons (λ (q : Point). P q.place) p points (All-head P p.place (order_of points) all) (of_points P points (All-tail P p.place (order_of points) all))
 
 -- an order of the granule was found
-pub found : (opening final_words : List GranuleWord) (ops : List Observed) (places : List Placed) (from to word next : ℕ) (undecided : Option ℕ) (points added : List Point) (g : ℕ) (order : List ℕ)
+pub found : (opening final_words : List GranuleWord) (ops : List Operation) (places : List Placed) (from to word next : ℕ) (undecided : Option ℕ) (points added : List Point) (g : ℕ) (order : List ℕ)
     → Walked opening final_words ops places from word undecided points → Passes places from to final_words word next g
     → ExplainsGranule ops g (word_told opening g) (told final_words g) order
     → order_of added ≡ order → ArePoints ops added → IsNonDecreasingBy (λ (p : Point). p.time) added
@@ -148,7 +148,7 @@ found opening final_words ops places from to word next undecided points added g 
     own = of_points (λ i. is_of ops g i ≡ true) added (subst (All (λ i. is_of ops g i ≡ true)) (sym same) (passes_all (is_of ops g) order explains.once))
 
 -- the granule was undecided
-pub undecided_on : (opening final_words : List GranuleWord) (ops : List Observed) (places : List Placed) (from to word next : ℕ) (undecided after : Option ℕ) (points : List Point) (g : ℕ)
+pub undecided_on : (opening final_words : List GranuleWord) (ops : List Operation) (places : List Placed) (from to word next : ℕ) (undecided after : Option ℕ) (points : List Point) (g : ℕ)
     → IsGrouped ops (is_place ops) places → Walked opening final_words ops places from word undecided points → Passes places from to final_words word next g
     → (after ≡ None → ⊥) → Walked opening final_words ops places to next after points
 undecided_on opening final_words ops places from to word next undecided after points g grouped walked passes some =
@@ -161,5 +161,5 @@ undecided_on opening final_words ops places from to word next undecided after po
     }))
 
 -- an order of a granule's operations has only places of the trace
-pub inside_of : (ops : List Observed) (g w : ℕ) (final_word : Option ℕ) (order : List ℕ) → ExplainsGranule ops g w final_word order → All (λ i. is_place ops i ≡ true) order
+pub inside_of : (ops : List Operation) (g w : ℕ) (final_word : Option ℕ) (order : List ℕ) → ExplainsGranule ops g w final_word order → All (λ i. is_place ops i ≡ true) order
 inside_of ops g w final_word order explains k d under = (own_granule ops g (get_or order k d) (passes_all (is_of ops g) order explains.once k d under)).0

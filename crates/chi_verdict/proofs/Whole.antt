@@ -3,34 +3,34 @@ use Rattle.std.proofs.Common.{◌≡◌, ℕ, ◌≤◌, true, cond, List, [], �
 use Rattle.std.proofs.lemmas.Bool.{le-leb}
 use Rattle.std.proofs.lemmas.List.Elements.{All-head, All-tail}
 use Rattle.chi_lanes.specs.Memory.{Memory}
-use Rattle.chi_trace.specs.declared.observed.Observed.{Observed}
+use Rattle.chi_trace.specs.declared.operation.Operation.{Operation}
 use Rattle.chi_trace.specs.Cuts.{cut, has_started, known}
 use Rattle.chi_trace.specs.Explains.{Explains, IsTrace, unobserved}
 use Rattle.chi_trace.specs.Granules.{is_of}
-use Rattle.chi_verdict.specs.Words.{told}
+use Rattle.chi_trace.specs.Words.{told}
 use Rattle.chi_verdict.proofs.Later.{own_shown}
 
 -- by the latest end all is known
-pub cut_all : (time : ℕ) (ops : List Observed) → IsTrace ops → All (λ op. op.end ≤ time) ops → cut time ops ≡ ops
+pub cut_all : (time : ℕ) (ops : List Operation) → IsTrace ops → All (λ op. op.end ≤ time) ops → cut time ops ≡ ops
 unfolding IsTrace
 cut_all time [] is all = refl
 cut_all time (op ∷ ops) is all =
-    let ended : op.end ≤ time = All-head (λ (o : Observed). o.end ≤ time) op ops all in
+    let ended : op.end ≤ time = All-head (λ (o : Operation). o.end ≤ time) op ops all in
     let lasting = is.0.lasting in
     let started : op.start ≤ time = omega (arith, lasting, ended) in
     ap (λ b. map (known time) (cond b (op ∷ filter (has_started time) ops) (filter (has_started time) ops))) (le-leb op.start time started)
     ∙ ap (λ b. cond b op (record op { reply = None }) ∷ cut time ops) (le-leb op.end time ended)
-    ∙ ap (λ rest. op ∷ rest) (cut_all time ops is.2 (All-tail (λ (o : Observed). o.end ≤ time) op ops all))
+    ∙ ap (λ rest. op ∷ rest) (cut_all time ops is.2 (All-tail (λ (o : Operation). o.end ≤ time) op ops all))
 
 -- where no words are told at the end, none were observed
-pub unseen : (opening : Memory) (ops : List Observed) (order : List ℕ) → Explains opening (told []) ops order → Explains opening unobserved ops order
+pub unseen : (opening : Memory) (ops : List Operation) (order : List ℕ) → Explains opening (told []) ops order → Explains opening unobserved ops order
 unseen opening ops order e = record { done = e.done; once = e.once; times = e.times; answers = e.answers; ending = λ g. tt }
 
 -- and the other way round
-pub seen : (opening : Memory) (ops : List Observed) (order : List ℕ) → Explains opening unobserved ops order → Explains opening (told []) ops order
+pub seen : (opening : Memory) (ops : List Operation) (order : List ℕ) → Explains opening unobserved ops order → Explains opening (told []) ops order
 unfolding told
 seen opening ops order e = record { done = e.done; once = e.once; times = e.times; answers = e.answers; ending = λ g. tt }
 
 -- an operation of a granule of a trace as it was known at a time is one of the trace
-pub own_of_cut : (ops : List Observed) (g time i : ℕ) → IsTrace ops → is_of (cut time ops) g i ≡ true → is_of ops g i ≡ true
+pub own_of_cut : (ops : List Operation) (g time i : ℕ) → IsTrace ops → is_of (cut time ops) g i ≡ true → is_of ops g i ≡ true
 own_of_cut ops g time i is own = (own_shown ops g time i is own).0

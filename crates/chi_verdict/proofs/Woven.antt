@@ -4,7 +4,7 @@ use Rattle.std.specs.List.Sorted.{IsNonDecreasingBy, IsStableByKey}
 use Rattle.std.specs.Ordering.{nat_cmp}
 use Rattle.std.proofs.lemmas.List.Elements.{All-head, All-map, All-tail}
 use Rattle.std.proofs.lemmas.List.Kept.{IsNonDecreasingBy-filter}
-use Rattle.chi_trace.specs.declared.observed.Observed.{Observed}
+use Rattle.chi_trace.specs.declared.operation.Operation.{Operation}
 use Rattle.chi_trace.specs.Explains.{IsInTime, at}
 use Rattle.chi_trace.specs.Granules.{is_of}
 use Rattle.chi_verdict.specs.declared.weaving.Point.{Point}
@@ -12,7 +12,7 @@ use Rattle.chi_verdict.specs.Points.{AreOrdered, ArePoints, order_of, points_of}
 use Rattle.chi_verdict.proofs.Ties.{agree_by_key, filter-map, filters_swap, same_order, tied}
 
 -- the point lies between the start and the end of its operation
-abbrev pub IsPointOf : List Observed → Point → Type 0
+abbrev pub IsPointOf : List Operation → Point → Type 0
 IsPointOf ops p = ((at ops p.place).start ≤ p.time) × (p.time ≤ (at ops p.place).end)
 
 -- the time of a point
@@ -20,7 +20,7 @@ abbrev pub time_of : Point → ℕ
 time_of p = p.time
 
 -- in the order of points that do not fall, none stands before one that ended before it started
-pub in_time : (ops : List Observed) (points : List Point) → ArePoints ops points → IsNonDecreasingBy time_of points
+pub in_time : (ops : List Operation) (points : List Point) → ArePoints ops points → IsNonDecreasingBy time_of points
     → IsInTime ops (order_of points)
 unfolding IsInTime
 in_time ops [] are up = tt
@@ -38,7 +38,7 @@ in_time ops (p ∷ points) are up = (
         omega (arith, start, rise, end)
 
 -- a stable sort by the points' times leaves each granule's operations in their order
-pub parts_stay : (ops : List Observed) (points sorted : List Point) → AreOrdered ops points → IsNonDecreasingBy time_of sorted
+pub parts_stay : (ops : List Operation) (points sorted : List Point) → AreOrdered ops points → IsNonDecreasingBy time_of sorted
     → IsStableByKey time_of nat_cmp points sorted → (g : ℕ)
     → filter (is_of ops g) (order_of sorted) ≡ filter (is_of ops g) (order_of points)
 parts_stay ops points sorted ordered up stable g =

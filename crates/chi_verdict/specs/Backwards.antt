@@ -5,7 +5,7 @@ use Rattle.chi_verdict.specs.declared.first.Back.TheVariants.{Answer, Earlier}
 use Rattle.chi_verdict.specs.declared.first.Failing.{Failing}
 use Rattle.chi_verdict.specs.declared.first.First.{First}
 use Rattle.chi_verdict.specs.Blames.{IfAt, IfNever, IfNotFound, IsBlame}
-use Rattle.chi_verdict.specs.Traces.{TraceValue}
+use Rattle.chi_trace.specs.Traces.{TraceValue}
 
 -- what is found is so, of a trace that is not explained
 pub record IsFirst (t : TraceValue) (budget : ℕ) (first : First) : Type 0 where

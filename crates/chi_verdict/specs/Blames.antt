@@ -4,17 +4,17 @@ use Rattle.std.specs.List.{Contains}
 use Rattle.chi_history.specs.History.{one_if}
 use Rattle.chi_search.specs.Found.{IfUnknown, IfWords}
 use Rattle.chi_search.specs.Looks.{LookedMore}
-use Rattle.chi_trace.specs.declared.observed.Observed.{Observed}
+use Rattle.chi_trace.specs.declared.operation.Operation.{Operation}
 use Rattle.chi_trace.specs.Explains.{at, is_answered, times_in}
 use Rattle.chi_trace.specs.Granules.{ExplainsGranule, is_of}
 use Rattle.chi_verdict.specs.declared.first.Blame.{Blame}
 use Rattle.chi_verdict.specs.declared.first.First.{First}
 use Rattle.chi_verdict.specs.declared.first.First.TheVariants.{Never, At, Undecided}
-use Rattle.chi_verdict.specs.Traces.{CanHold, IsLegal, TraceValue, known_at}
-use Rattle.chi_verdict.specs.Words.{word_told}
+use Rattle.chi_trace.specs.Traces.{CanHold, IsLegal, TraceValue, known_at}
+use Rattle.chi_trace.specs.Words.{word_told}
 
 -- an operation of the granule had started by a time, and had not ended before
-abbrev pub is_open_at : List Observed → ℕ → ℕ → ℕ → Bool
+abbrev pub is_open_at : List Operation → ℕ → ℕ → ℕ → Bool
 is_open_at ops time g i = is_of ops g i && (nat_le (at ops i).start time && nat_le time (at ops i).end)
 
 -- Up to this time no order explains the trace, not even the operations of this granule, and up to the time before, where there

@@ -1,10 +1,7 @@
 pub mod Backwards
 pub mod Blames
 pub mod Ends
-pub mod Executions
 pub mod Groups
 pub mod Points
-pub mod Traces
 pub mod Verdicts
 pub mod Walks
-pub mod Words

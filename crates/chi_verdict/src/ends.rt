@@ -10,15 +10,14 @@ ghost use Rattle.chi_verdict.specs.Ends.{AreAnswered};
 
 use crate::granule::{Group, search_granule};
 use crate::grouping::{Placed, of_granule};
-use crate::trace::cut;
 use chi_search::{Found, Progress};
-use chi_trace::Observed;
+use chi_trace::{Operation, cut};
 use std::alloc::{AllocError, Global};
 
 /// The operations of a granule that were answered by a time, sorted by their ends.
 pub(crate) fn answered_by(
     alloc: Global,
-    ops: &[Observed],
+    ops: &[Operation],
     granule: u64,
     time: u64,
 ) -> Result<Vec<Placed>, AllocError>
@@ -37,7 +36,7 @@ pub(crate) fn answered_by(
 /// Whether the operations of a granule are seen not to be explained up to a time, within so many states.
 pub(crate) fn is_unexplained<P: Progress>(
     alloc: Global,
-    ops: &[Observed],
+    ops: &[Operation],
     granule: u64,
     word: u64,
     time: u64,
@@ -62,7 +61,7 @@ pub(crate) fn is_unexplained<P: Progress>(
 /// before it come to an end within so many states each.
 pub(crate) fn first_end<P: Progress>(
     alloc: Global,
-    ops: &[Observed],
+    ops: &[Operation],
     granule: u64,
     word: u64,
     ends: &[Placed],

@@ -8,18 +8,16 @@ ghost use Rattle.chi_trace.specs.Explains.{IsTrace, at, is_answered, times_in};
 ghost use Rattle.chi_trace.specs.Granules.{ExplainsGranule, is_of};
 ghost use Rattle.chi_verdict.specs.Backwards.{IfAnswer, IfEarlier, IsFirst};
 ghost use Rattle.chi_verdict.specs.Blames.{IfAt, IfNever, IfNotFound, IsBlame, LookedForFirst, is_open_at};
-ghost use Rattle.chi_verdict.specs.Traces.{IsLegal, known_at};
-ghost use Rattle.chi_verdict.specs.Words.{AreWords, word_told};
+ghost use Rattle.chi_trace.specs.Traces.{IsLegal, known_at};
+ghost use Rattle.chi_trace.specs.Words.{AreWords, word_told};
 
 use crate::ends::{answered_by, first_end};
 use crate::grouping::Placed;
 use crate::held::words_after_all;
-use crate::trace::{Trace, cut};
 use crate::verdict::{Verdict, explain_operations};
-use crate::words::GranuleWords;
 use chi_search::{Progress, Words};
-use chi_trace::Observed;
 use chi_trace::laws::{cuts_are_explained, parts_explain};
+use chi_trace::{GranuleWords, Operation, Trace, cut};
 use std::alloc::{AllocError, Global};
 
 /// Where a trace stops being explained: the first time up to which it is not.
@@ -62,7 +60,7 @@ enum Back {
 }
 
 /// The latest end of operations.
-fn latest_end(ops: &[Observed]) -> u64
+fn latest_end(ops: &[Operation]) -> u64
     ensures { All (λ op. op.end ≤ result) ops.now }
 {
     let mut latest = 0;
@@ -75,7 +73,7 @@ fn latest_end(ops: &[Observed]) -> u64
 /// The places of a granule's operations that had started by a time and had not ended before.
 fn open_at(
     alloc: Global,
-    ops: &[Observed],
+    ops: &[Operation],
     granule: u64,
     time: u64,
 ) -> Result<Vec<usize>, AllocError>
@@ -84,7 +82,7 @@ fn open_at(
     let mut places = Vec::new(alloc);
     for place in 0..ops.len() {
         let op = &ops[place];
-        if op.access.addr() / 8 == granule && op.start <= time && time <= op.end {
+        if op.granule() == granule && op.start <= time && time <= op.end {
             places.push(place)?;
         }
     }
@@ -96,7 +94,7 @@ fn open_at(
 fn look_back<P: Progress>(
     alloc: Global,
     opening: &GranuleWords,
-    ops: &[Observed],
+    ops: &[Operation],
     granule: u64,
     blamed: Placed,
     budget: u64,
@@ -155,7 +153,7 @@ fn look_back<P: Progress>(
 fn first_before<P: Progress>(
     alloc: Global,
     opening: &GranuleWords,
-    ops: &[Observed],
+    ops: &[Operation],
     failing: Failing,
     budget: u64,
     progress: &mut P,

@@ -11,12 +11,12 @@ ghost use Rattle.chi_verdict.specs.Groups.{AreInside, IsGrouped, places_of};
 
 use crate::grouping::{Placed, of_granule};
 use chi_search::{Found, Progress, Words, order_of, words_of};
-use chi_trace::Observed;
+use chi_trace::Operation;
 use chi_trace::laws::places_explain;
 use std::alloc::{AllocError, Global};
 
 /// The operations at these places.
-fn chosen(alloc: Global, ops: &[Observed], run: &[Placed]) -> Result<Vec<Observed>, AllocError>
+fn chosen(alloc: Global, ops: &[Operation], run: &[Placed]) -> Result<Vec<Operation>, AllocError>
     requires { AreInside ops.now run.now }
     ensures { IfOk result (λ own. own.items ≡ chosen ops.now (places_of run.now)) }
 {
@@ -38,7 +38,7 @@ pub(crate) struct Group<'a> {
 /// at, and is left with how many more might have been.
 pub(crate) fn search_granule<P: Progress>(
     alloc: Global,
-    ops: &[Observed],
+    ops: &[Operation],
     group: &Group,
     word: u64,
     final_word: Option<u64>,
@@ -71,7 +71,7 @@ pub(crate) fn search_granule<P: Progress>(
 /// Each word that the operations of one granule can leave, from a word on.
 pub(crate) fn words_left<P: Progress>(
     alloc: Global,
-    ops: &[Observed],
+    ops: &[Operation],
     granule: u64,
     word: u64,
     budget: &mut u64,

@@ -5,7 +5,7 @@ ghost use Rattle.chi_trace.specs.Explains.{is_place};
 ghost use Rattle.chi_trace.specs.Granules.{is_of};
 ghost use Rattle.chi_verdict.specs.Groups.{IsGrouped};
 
-use chi_trace::Observed;
+use chi_trace::Operation;
 use std::alloc::{AllocError, Global};
 
 /// The place of an operation, with the granule and the end by which it is sorted.
@@ -17,14 +17,14 @@ pub(crate) struct Placed {
 }
 
 /// All places, sorted by granules and, in each, by ends.
-pub(crate) fn by_granule(alloc: Global, ops: &[Observed]) -> Result<Vec<Placed>, AllocError>
+pub(crate) fn by_granule(alloc: Global, ops: &[Operation]) -> Result<Vec<Placed>, AllocError>
     ensures { IfOk result (λ places. IsGrouped ops.now (is_place ops.now) places.items) }
 {
     let mut places = Vec::with_capacity(alloc, ops.len())?;
     for place in 0..ops.len() {
         let op = &ops[place];
         places.push(Placed {
-            granule: op.access.addr() / 8,
+            granule: op.granule(),
             end: op.end,
             place,
         })?;
@@ -37,7 +37,7 @@ pub(crate) fn by_granule(alloc: Global, ops: &[Observed]) -> Result<Vec<Placed>,
 /// The places of one granule's operations, sorted by ends.
 pub(crate) fn of_granule(
     alloc: Global,
-    ops: &[Observed],
+    ops: &[Operation],
     granule: u64,
 ) -> Result<Vec<Placed>, AllocError>
     ensures { IfOk result (λ places. IsGrouped ops.now (is_of ops.now granule) places.items) }
@@ -45,7 +45,7 @@ pub(crate) fn of_granule(
     let mut places = Vec::new(alloc);
     for place in 0..ops.len() {
         let op = &ops[place];
-        if op.access.addr() / 8 == granule {
+        if op.granule() == granule {
             places.push(Placed {
                 granule,
                 end: op.end,

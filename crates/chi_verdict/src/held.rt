@@ -5,22 +5,20 @@ ghost use Rattle.std.specs.List.{Contains};
 ghost use Rattle.chi_search.specs.Found.{IfUnknown, IfWords};
 ghost use Rattle.chi_search.specs.Looks.{LookedMore};
 ghost use Rattle.chi_trace.specs.Explains.{IsTrace};
-ghost use Rattle.chi_verdict.specs.Traces.{CanHold, IsLegal};
-ghost use Rattle.chi_verdict.specs.Words.{AreWords};
+ghost use Rattle.chi_trace.specs.Traces.{CanHold, IsLegal};
+ghost use Rattle.chi_trace.specs.Words.{AreWords};
 
 use crate::granule::words_left;
-use crate::trace::Trace;
-use crate::words::GranuleWords;
 use chi_search::{Progress, Words};
-use chi_trace::Observed;
 use chi_trace::laws::{orders_of_granules_explain, parts_explain};
+use chi_trace::{GranuleWords, Operation, Trace};
 use std::alloc::{AllocError, Global};
 
 /// The words that a granule can hold after the operations, where these can be explained.
 pub(crate) fn words_after_all<P: Progress>(
     alloc: Global,
     opening: &GranuleWords,
-    ops: &[Observed],
+    ops: &[Operation],
     granule: u64,
     budget: &mut u64,
     progress: &mut P,

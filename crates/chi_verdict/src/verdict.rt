@@ -3,19 +3,17 @@
 ghost use Rattle.std.specs.Prelude.{◌≡◌, ℕ, List, IfOk};
 ghost use Rattle.chi_trace.specs.Explains.{Explains, IsTrace};
 ghost use Rattle.chi_trace.specs.Granules.{ExplainsGranule};
-ghost use Rattle.chi_verdict.specs.Traces.{IsExplained, IsExplainedIn};
+ghost use Rattle.chi_trace.specs.Traces.{IsExplained, IsExplainedIn};
 ghost use Rattle.chi_verdict.specs.Verdicts.{IfExplained, IfUndecided, IfUnexplained, LookedForVerdict};
-ghost use Rattle.chi_verdict.specs.Words.{AreWords, memory_of, told, word_told};
+ghost use Rattle.chi_trace.specs.Words.{AreWords, memory_of, told, word_told};
 
 use crate::granule::{Group, search_granule};
 use crate::grouping::by_granule;
-use crate::trace::Trace;
 use crate::walk::{next_granule, past_granule, past_word};
 use crate::weaving::{Point, add_points, weave};
-use crate::words::GranuleWords;
 use chi_search::{Found, Progress};
-use chi_trace::Observed;
 use chi_trace::laws::{parts_explain, parts_join};
+use chi_trace::{GranuleWords, Operation, Trace};
 use std::alloc::{AllocError, Global};
 
 /// What is found of a trace.
@@ -35,7 +33,7 @@ pub(crate) fn explain_operations<P: Progress>(
     alloc: Global,
     opening: &GranuleWords,
     final_words: &GranuleWords,
-    ops: &[Observed],
+    ops: &[Operation],
     budget: u64,
     progress: &mut P,
 ) -> Result<Verdict, AllocError>

@@ -3,10 +3,10 @@
 ghost use Rattle.std.specs.Prelude.{◌≡◌, ℕ, ◌-◌, ◌<◌, ◌≤◌, All, length, take, drop, None, IfSome};
 ghost use Rattle.std.specs.List.Sorted.{IsNonDecreasingBy};
 ghost use Rattle.chi_verdict.specs.Walks.{IsPast};
-ghost use Rattle.chi_verdict.specs.Words.{AreInOrder};
+ghost use Rattle.chi_trace.specs.Words.{AreInOrder};
 
 use crate::grouping::Placed;
-use crate::words::GranuleWord;
+use chi_trace::GranuleWord;
 
 /// The first granule that has an operation from a place on, or a word at the end.
 pub(crate) fn next_granule(

@@ -7,7 +7,7 @@ ghost use Rattle.chi_trace.specs.Explains.{IsInTime, IsTrace, is_place};
 ghost use Rattle.chi_trace.specs.Granules.{is_of};
 ghost use Rattle.chi_verdict.specs.Points.{AreOrdered, ArePoints, order_of};
 
-use chi_trace::Observed;
+use chi_trace::Operation;
 use std::alloc::{AllocError, Global};
 
 /// An operation, at its place, and a time at which it may have taken effect.
@@ -21,7 +21,7 @@ pub(crate) struct Point {
 /// earlier.
 pub(crate) fn add_points(
     points: &mut Vec<Point>,
-    ops: &[Observed],
+    ops: &[Operation],
     order: &[usize],
 ) -> Result<(), AllocError>
     requires traced { IsTrace ops.now }
@@ -43,7 +43,7 @@ pub(crate) fn add_points(
 /// The operations in the order of their points. Those of one granule stay in their order.
 pub(crate) fn weave(
     alloc: Global,
-    ops: &[Observed],
+    ops: &[Operation],
     points: &mut Vec<Point>,
 ) -> Result<Vec<usize>, AllocError>
     requires points { ArePoints ops.now points.old.items }

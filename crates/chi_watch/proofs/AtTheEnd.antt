@@ -14,8 +14,8 @@ use Rattle.chi_search.specs.Frontiers.{Follows}
 use Rattle.chi_search.specs.Layers.{SomeLeads}
 use Rattle.chi_trace.specs.Chosen.{GranulesTold, is_in}
 use Rattle.chi_trace.specs.TraceLaws.{GranulesExplain, PartsExplain}
-use Rattle.chi_trace.specs.declared.observed.Observed.{Observed}
-use Rattle.chi_verdict.specs.Words.{told, word_told}
+use Rattle.chi_trace.specs.declared.operation.Operation.{Operation}
+use Rattle.chi_trace.specs.Words.{told, word_told}
 use Rattle.chi_watch.specs.Endings.{AreToldTo, CanClose, IsExplainable, IsInexplicableAt, IsListed}
 use Rattle.chi_watch.specs.Followed.{IsWord}
 use Rattle.chi_watch.specs.Judged.{IsExplained, final_words, is_known, openings}
@@ -34,14 +34,14 @@ abbrev pub AreClosed : WatchValue → (ℕ → Option Followed) → Type 0
 AreClosed w new = (g : ℕ) → AreToldTo (own_open g w.outstanding.requests) (granule w g) (new g)
 
 -- the operations of a granule, those that had ended and those that are open
-abbrev operations_of : List Observed → WatchValue → ℕ → List Observed
+abbrev operations_of : List Operation → WatchValue → ℕ → List Operation
 operations_of ended w g = filter (is_in g) (ended ++ filter_map open_operation w.outstanding.requests)
 
 -- they lead to a word that may have been its last
-abbrev SomeWordFits : List Event → List Observed → WatchValue → ℕ → Type 0
+abbrev SomeWordFits : List Event → List Operation → WatchValue → ℕ → Type 0
 SomeWordFits events ended w g = (v : ℕ) × SomeLeads (operations_of ended w g) (word_told (openings events) g ∷ []) v × IsWord (told (final_words events) g) v
 
-module _ (events : List Event) (ended : List Observed) (w : WatchValue) (new : ℕ → Option Followed) (is : Watches events ended w) (closed : AreClosed w new) where
+module _ (events : List Event) (ended : List Operation) (w : WatchValue) (new : ℕ → Option Followed) (is : Watches events ended w) (closed : AreClosed w new) where
   parted : (g : ℕ) → filter (is_in g) ended ++ own_open g w.outstanding.requests ≡ operations_of ended w g
   parted g = sym (filter-append (is_in g) ended (filter_map open_operation w.outstanding.requests))
 

@@ -10,8 +10,8 @@ use Rattle.chi_recent.proofs.Keeping.{keeps_later}
 use Rattle.chi_search.specs.Frontiers.{Follows}
 use Rattle.chi_trace.specs.Chosen.{is_in}
 use Rattle.chi_trace.specs.Granules.{granule_of}
-use Rattle.chi_trace.specs.declared.observed.Observed.{Observed}
-use Rattle.chi_verdict.specs.Words.{word_told}
+use Rattle.chi_trace.specs.declared.operation.Operation.{Operation}
+use Rattle.chi_trace.specs.Words.{word_told}
 use Rattle.chi_watch.specs.declared.followed.Followed.{Followed}
 use Rattle.chi_watch.specs.Changes.{CanEnd, IsClosed, IsClosedBy, IsTold, IsToldIfKnown}
 use Rattle.chi_watch.specs.Judged.{openings}
@@ -19,14 +19,14 @@ use Rattle.chi_watch.specs.Requests.{StartsBy, granule_asked}
 use Rattle.chi_watch.specs.Watches.{IsGranuleOf, IsWatched}
 
 -- the operations of a granule, with one more of it, or of another
-own_more : (g : ℕ) (ended : List Observed) (op : Observed) → granule_of op ≡ g → filter (is_in g) (ended ++ op ∷ []) ≡ filter (is_in g) ended ++ op ∷ []
+own_more : (g : ℕ) (ended : List Operation) (op : Operation) → granule_of op ≡ g → filter (is_in g) (ended ++ op ∷ []) ≡ filter (is_in g) ended ++ op ∷ []
 own_more g ended op is = filter-append (is_in g) ended (op ∷ []) ∙ ap (λ (b : Bool). filter (is_in g) ended ++ cond b (op ∷ []) []) (eq-eqb (granule_of op) g is)
 
-other_more : (g : ℕ) (ended : List Observed) (op : Observed) → (granule_of op == g) ≡ false → filter (is_in g) (ended ++ op ∷ []) ≡ filter (is_in g) ended
+other_more : (g : ℕ) (ended : List Operation) (op : Operation) → (granule_of op == g) ≡ false → filter (is_in g) (ended ++ op ∷ []) ≡ filter (is_in g) ended
 other_more g ended op other =
     filter-append (is_in g) ended (op ∷ []) ∙ (ap (λ (b : Bool). filter (is_in g) ended ++ cond b (op ∷ []) []) other ∙ append-nil (filter (is_in g) ended))
 
-module _ (events : List Event) (ended : List Observed) (before after : OutstandingValue) (e : Event) (now : after.time ≡ e.time) (later : before.time ≤ e.time)
+module _ (events : List Event) (ended : List Operation) (before after : OutstandingValue) (e : Event) (now : after.time ≡ e.time) (later : before.time ≤ e.time)
     (stay : All (StaysOrStarts before.requests e) after.requests) where
   -- a horizon stays one, since a request that is taken now starts no earlier
   starts_on : (g horizon : ℕ) → horizon ≤ before.time → StartsBy before.requests g horizon → StartsBy after.requests g horizon
@@ -39,27 +39,27 @@ module _ (events : List Event) (ended : List Observed) (before after : Outstandi
           omega (arith, start, starts_by)
 
   -- where no operation of the granule ended
-  watched_on : (g : ℕ) (f : Followed) (more : List Observed) → filter (is_in g) more ≡ filter (is_in g) ended → IsWatched events ended before g f → IsWatched events more after g f
+  watched_on : (g : ℕ) (f : Followed) (more : List Operation) → filter (is_in g) more ≡ filter (is_in g) ended → IsWatched events ended before g f → IsWatched events more after g f
   watched_on g f more same w = record {
     known = w.known;
-    follows = λ known. subst (λ (ops : List Observed). Follows (word_told (openings events) g ∷ []) ops f.frontier) (sym same) (w.follows known);
+    follows = λ known. subst (λ (ops : List Operation). Follows (word_told (openings events) g ∷ []) ops f.frontier) (sym same) (w.follows known);
     latest = omega (arith, w.latest, later, now);
     past = omega (arith, w.past, later, now);
     horizon = starts_on g f.frontier.horizon w.past w.horizon;
     recent = λ known.
-        subst (λ (ops : List Observed). Keeps (word_told (openings events) g ∷ []) ops after.time f.recent) (sym same)
+        subst (λ (ops : List Operation). Keeps (word_told (openings events) g ∷ []) ops after.time f.recent) (sym same)
         (keeps_later (word_told (openings events) g ∷ []) (filter (is_in g) ended) before.time f.recent (w.recent known) after.time (omega (arith, later, now)));
     recent_past = omega (arith, w.recent_past, later, now);
     recent_horizon = starts_on g f.recent.horizon w.recent_past w.recent_horizon;
     final_word = w.final_word;
   }
 
-  stays_on : (g : ℕ) (x : Option Followed) (more : List Observed) → filter (is_in g) more ≡ filter (is_in g) ended → IsGranuleOf events ended before g x → IsGranuleOf events more after g x
+  stays_on : (g : ℕ) (x : Option Followed) (more : List Operation) → filter (is_in g) more ≡ filter (is_in g) ended → IsGranuleOf events ended before g x → IsGranuleOf events more after g x
   stays_on g None more same w = record { known = w.known; none = same ∙ w.none; opening = w.opening; final_word = w.final_word }
   stays_on g (Some f) more same w = watched_on g f more same w
 
   -- where an operation of the granule ended
-  module _ (op : Observed) (ends : IsEndOf before.requests e.time op) (horizon : ℕ) (early : horizon ≤ op.start) (g : ℕ) (is : granule_of op ≡ g) (earliest : StartsBy after.requests g horizon) where
+  module _ (op : Operation) (ends : IsEndOf before.requests e.time op) (horizon : ℕ) (early : horizon ≤ op.start) (g : ℕ) (is : granule_of op ≡ g) (earliest : StartsBy after.requests g horizon) where
     can_end : (f : Followed) → IsWatched events ended before g f → CanEnd horizon f op
     can_end f w =
         let own : granule_asked ends.request ≡ g = ap (λ n. n / 8) (sym ends.at) ∙ is in
@@ -77,12 +77,12 @@ module _ (events : List Event) (ended : List Observed) (before after : Outstandi
     told_on : (old new : Followed) → IsTrue old.is_known → IsTold op horizon old new → IsWatched events ended before g old → IsWatched events (ended ++ op ∷ []) after g new
     told_on old new known t w = record {
       known = t.known ∙ w.known;
-      follows = λ so. subst (λ (ops : List Observed). Follows (word_told (openings events) g ∷ []) ops new.frontier) (sym (own_more g ended op is)) (t.follows (word_told (openings events) g ∷ []) (filter (is_in g) ended) (w.follows known));
+      follows = λ so. subst (λ (ops : List Operation). Follows (word_told (openings events) g ∷ []) ops new.frontier) (sym (own_more g ended op is)) (t.follows (word_told (openings events) g ∷ []) (filter (is_in g) ended) (w.follows known));
       latest = omega (arith, t.latest, ends.end, now);
       past = past old.frontier.horizon new.frontier.horizon w.past t.horizon_is;
       horizon = starts old.frontier.horizon new.frontier.horizon w.past w.horizon t.horizon_is;
       recent = λ so.
-          subst (λ (ops : List Observed). Keeps (word_told (openings events) g ∷ []) ops after.time new.recent) (sym (own_more g ended op is))
+          subst (λ (ops : List Operation). Keeps (word_told (openings events) g ∷ []) ops after.time new.recent) (sym (own_more g ended op is))
           (keeps_later (word_told (openings events) g ∷ []) (filter (is_in g) ended ++ op ∷ []) op.end new.recent (kept so) after.time (omega (arith, ends.end, now)));
       recent_past = past old.recent.horizon new.recent.horizon w.recent_past t.recent_horizon;
       recent_horizon = starts old.recent.horizon new.recent.horizon w.recent_past w.recent_horizon t.recent_horizon;
@@ -128,7 +128,7 @@ module _ (events : List Event) (ended : List Observed) (before after : Outstandi
     closed_on (Some old) (Some new) some t w = closes_on old new t w
 
   -- what is known of each granule
-  pub closed : (old new : ℕ → Option Followed) (op : Option Observed) → IfSome op (IsEndOf before.requests e.time) → All (λ p. IsTrue (is_some (old (granule_asked p)))) before.requests
+  pub closed : (old new : ℕ → Option Followed) (op : Option Operation) → IfSome op (IsEndOf before.requests e.time) → All (λ p. IsTrue (is_some (old (granule_asked p)))) before.requests
       → IsClosedBy op after.requests old new → (g : ℕ) → IsGranuleOf events ended before g (old g) → IsGranuleOf events (ended ++ option_to_list op) after g (new g)
   closed old new None ends requested t g w =
       subst (IsGranuleOf events (ended ++ []) after g) (sym (t g)) (stays_on g (old g) (ended ++ []) (ap (filter (is_in g)) (append-nil ended)) w)

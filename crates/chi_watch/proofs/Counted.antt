@@ -7,12 +7,12 @@ use Rattle.std.proofs.lemmas.List.Sums.{sum_by-cons}
 use Rattle.chi_events.specs.Operations.{is_outstanding}
 use Rattle.chi_events.specs.Told.{told}
 use Rattle.chi_events.specs.declared.event.Event.{Event}
-use Rattle.chi_trace.specs.declared.observed.Observed.{Observed}
+use Rattle.chi_trace.specs.declared.operation.Operation.{Operation}
 use Rattle.chi_watch.specs.Counts.{ended_operations}
 use Rattle.chi_watch.specs.Watches.{WatchValue, Watches}
 use Rattle.chi_watch.specs.declared.followed.Followed.{Followed}
 
-module _ (events : List Event) (ended : List Observed) (w : WatchValue) (is : Watches events ended w) where
+module _ (events : List Event) (ended : List Operation) (w : WatchValue) (is : Watches events ended w) where
   pub ended_counted : w.ended ≡ min (length (ended_operations events)) (2 ^ 64 - 1)
   ended_counted = is.count ∙ ap (λ n. min n (2 ^ 64 - 1)) (length_permutation (ended_operations events) ended is.tells.ends)
 

@@ -9,8 +9,8 @@ use Rattle.chi_events.specs.Outstanding.{IsOpen, open_operation}
 use Rattle.chi_search.specs.Layers.{SomeLeads}
 use Rattle.chi_trace.specs.Chosen.{GranulesTold, is_in}
 use Rattle.chi_trace.specs.TraceLaws.{PartsExplain}
-use Rattle.chi_trace.specs.declared.observed.Observed.{Observed}
-use Rattle.chi_verdict.specs.Words.{told, word_told}
+use Rattle.chi_trace.specs.declared.operation.Operation.{Operation}
+use Rattle.chi_trace.specs.Words.{told, word_told}
 use Rattle.chi_watch.specs.Endings.{IsExplainable}
 use Rattle.chi_watch.specs.Followed.{IsWord}
 use Rattle.chi_watch.specs.Judged.{final_words, is_known, openings}
@@ -29,21 +29,21 @@ is_quiet (p ∷ requests) g none = by_test (granule_asked p == g) refl none (is_
     by_test true same none rest = absurd (true≢false none)
     by_test false other none rest = All-cons (λ (q : Open). granule_asked q ≡ g → ⊥) p requests (λ is. true≢false (sym (eq-eqb (granule_asked p) g is) ∙ other)) (rest none)
 
-module _ (events : List Event) (ended : List Observed) (w : WatchValue) (are_open : All (IsOpen w.outstanding.time) w.outstanding.requests) (g : ℕ)
+module _ (events : List Event) (ended : List Operation) (w : WatchValue) (are_open : All (IsOpen w.outstanding.time) w.outstanding.requests) (g : ℕ)
     (quiet : list_any (λ p. granule_asked p == g) w.outstanding.requests ≡ false) where
   none : filter (is_in g) (filter_map open_operation w.outstanding.requests) ≡ []
   none = quiet_none w.outstanding.requests g
       (All-weaker (IsOpen w.outstanding.time) (λ (p : Open). IfSome p.access (λ access. access.addr ≡ p.asked.addr)) (λ p o. o.at) w.outstanding.requests are_open) (is_quiet w.outstanding.requests g quiet)
 
   pub alone : filter (is_in g) (ended ++ filter_map open_operation w.outstanding.requests) ≡ filter (is_in g) ended
-  alone = filter-append (is_in g) ended (filter_map open_operation w.outstanding.requests) ∙ (ap (λ (ops : List Observed). filter (is_in g) ended ++ ops) none ∙ append-nil (filter (is_in g) ended))
+  alone = filter-append (is_in g) ended (filter_map open_operation w.outstanding.requests) ∙ (ap (λ (ops : List Operation). filter (is_in g) ended ++ ops) none ∙ append-nil (filter (is_in g) ended))
 
 pub found_is : OperationsAreTold → GranulesTold → PartsExplain → (events : List Event) (w : WatchValue) → All (IsOpen w.outstanding.time) w.outstanding.requests → HasTaken events w
     → (g : ℕ) → IsFound w g → IsUnexplained events g
 found_is told granules parts events w are_open (ended, is) g found =
     unexplained told granules parts events ended w.outstanding g is.tells (sym watched.known ∙ found.known)
     (λ v leads word. found.none (word_told (openings events) g ∷ []) (filter (is_in g) ended) (watched.follows found.known) v
-    (subst (λ (ops : List Observed). SomeLeads ops (word_told (openings events) g ∷ []) v) (alone events ended w are_open g found.quiet) leads)
+    (subst (λ (ops : List Operation). SomeLeads ops (word_told (openings events) g ∷ []) v) (alone events ended w are_open g found.quiet) leads)
     (subst (λ (final_word : Option ℕ). IsWord final_word v) (sym watched.final_word) word))
   where
     watched : IsWatched events ended w.outstanding g found.followed
@@ -60,11 +60,11 @@ not_found_is operations_law granules_law A events w are_open (ended, is) g quiet
     explained : (v : ℕ) → SomeLeads (filter (is_in g) ended) (word ∷ []) v → IsWord (told (final_words events) g) v → CanBeExplained events g
     explained v leads final_word =
         one_explained operations_law granules_law events ended w.outstanding g is.tells known v
-        (subst (λ (ops : List Observed). SomeLeads ops (word ∷ []) v) (sym (alone events ended w are_open g quiet)) leads) final_word
+        (subst (λ (ops : List Operation). SomeLeads ops (word ∷ []) v) (sym (alone events ended w are_open g quiet)) leads) final_word
 
     by_case : (x : Option Followed) → IsGranuleOf events ended w.outstanding g x → IfSome x (λ f. IsExplainable f ⊎ A) → CanBeExplained events g ⊎ A
     by_case None was said =
-        inl (explained word (subst (λ (ops : List Observed). SomeLeads ops (word ∷ []) word) (sym was.none) (leads_none word)) (subst (λ final_word. IsWord final_word word) (sym was.final_word) tt))
+        inl (explained word (subst (λ (ops : List Operation). SomeLeads ops (word ∷ []) word) (sym was.none) (leads_none word)) (subst (λ final_word. IsWord final_word word) (sym was.final_word) tt))
     by_case (Some f) was (inl can) =
         let led = can (was.known ∙ known) (word ∷ []) (filter (is_in g) ended) (was.follows (was.known ∙ known)) in
         inl (explained led.0 led.1 (subst (λ final_word. IsWord final_word led.0) was.final_word led.2))

@@ -12,7 +12,7 @@ use Rattle.std.proofs.lemmas.List.Elements.{All-contains, All-head, All-nil, All
 use Rattle.chi_search.specs.Frontiers.{Follows}
 use Rattle.chi_search.specs.Layers.{SomeLeads}
 use Rattle.chi_search.specs.Looks.{LookedMore, LookedSome}
-use Rattle.chi_trace.specs.declared.observed.Observed.{Observed}
+use Rattle.chi_trace.specs.declared.operation.Operation.{Operation}
 use Rattle.chi_watch.specs.Endings.{IsExplainable, IsInexplicableAt, IsListed}
 use Rattle.chi_watch.specs.Followed.{IfExplained, IfUndecided, IfUnexplained, IsWord}
 use Rattle.chi_watch.specs.Listing.{IsListedAs}
@@ -123,8 +123,8 @@ module _ {P : Type 0} (looked : P → ℕ → Type 0) (budget : ℕ) (get : ℕ 
 
     -- it was judged, and listed where it is not explained
     module _ (known : IsTrue f.is_known) (later : P) (next : Listed) where
-      pub listed : (s : Standing) → IfExplained s ((words : List ℕ) (told : List Observed) → Follows words told f.frontier → (v : ℕ) × SomeLeads told words v × IsWord f.final_word v)
-          → IfUnexplained s ((words : List ℕ) (told : List Observed) → Follows words told f.frontier → (v : ℕ) → SomeLeads told words v → IsWord f.final_word v → ⊥)
+      pub listed : (s : Standing) → IfExplained s ((words : List ℕ) (told : List Operation) → Follows words told f.frontier → (v : ℕ) × SomeLeads told words v × IsWord f.final_word v)
+          → IfUnexplained s ((words : List ℕ) (told : List Operation) → Follows words told f.frontier → (v : ℕ) → SomeLeads told words v → IsWord f.final_word v → ⊥)
           → IfUndecided s (LookedMore looked now later budget) → LookedSome looked now later → IsListedAs s g ending next → AreJudged later next rest
       listed Explained can none whole some (un, dec) = record {
         seen = are.seen ++ (g, f) ∷ [];

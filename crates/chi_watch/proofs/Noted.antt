@@ -11,9 +11,9 @@ use Rattle.chi_recent.specs.Recent.{Keeps}
 use Rattle.chi_recent.proofs.Keeping.{keeps_later}
 use Rattle.chi_search.specs.Frontiers.{Follows}
 use Rattle.chi_trace.specs.Chosen.{is_in}
-use Rattle.chi_trace.specs.declared.observed.Observed.{Observed}
-use Rattle.chi_verdict.specs.declared.words.GranuleWord.{GranuleWord}
-use Rattle.chi_verdict.specs.Words.{told, word_told}
+use Rattle.chi_trace.specs.declared.operation.Operation.{Operation}
+use Rattle.chi_trace.specs.declared.words.GranuleWord.{GranuleWord}
+use Rattle.chi_trace.specs.Words.{told, word_told}
 use Rattle.chi_watch.specs.declared.followed.Followed.{Followed}
 use Rattle.chi_watch.specs.Changes.{IsUntouched}
 use Rattle.chi_watch.specs.Judged.{covers, final_in, final_words, is_known, opening_in, openings}
@@ -46,17 +46,17 @@ pub from_start : (o : OutstandingValue) (g horizon : ℕ) → horizon ≡ 0 → 
 from_start o g horizon none = All-weaker (λ (p : Open). Unit {0}) (λ (p : Open). granule_asked p ≡ g → horizon ≤ p.start) (λ p all is. omega (arith, none)) o.requests (λ i d below. tt)
 
 -- a granule that is watched from now on
-pub begun : (events : List Event) (ended : List Observed) (o : OutstandingValue) (g word : ℕ) (f : Followed) → is_known events g ≡ true → filter (is_in g) ended ≡ [] → word_told (openings events) g ≡ word
+pub begun : (events : List Event) (ended : List Operation) (o : OutstandingValue) (g word : ℕ) (f : Followed) → is_known events g ≡ true → filter (is_in g) ended ≡ [] → word_told (openings events) g ≡ word
     → told (final_words events) g ≡ None → IsUntouched word f → IsWatched events ended o g f
 begun events ended o g word f known none opening final_word u = record {
   known = u.known ∙ sym known;
-  follows = λ so. subst (λ (w : ℕ). Follows (w ∷ []) (filter (is_in g) ended) f.frontier) (sym opening) (subst (λ (ops : List Observed). Follows (word ∷ []) ops f.frontier) (sym none) u.follows);
+  follows = λ so. subst (λ (w : ℕ). Follows (w ∷ []) (filter (is_in g) ended) f.frontier) (sym opening) (subst (λ (ops : List Operation). Follows (word ∷ []) ops f.frontier) (sym none) u.follows);
   latest = omega (arith, u.latest);
   past = omega (arith, u.horizon);
   horizon = from_start o g f.frontier.horizon u.horizon;
   recent = λ so.
       subst (λ (w : ℕ). Keeps (w ∷ []) (filter (is_in g) ended) o.time f.recent) (sym opening)
-      (subst (λ (ops : List Observed). Keeps (word ∷ []) ops o.time f.recent) (sym none) (keeps_later (word ∷ []) [] 0 f.recent u.recent o.time (omega arith)));
+      (subst (λ (ops : List Operation). Keeps (word ∷ []) ops o.time f.recent) (sym none) (keeps_later (word ∷ []) [] 0 f.recent u.recent o.time (omega arith)));
   recent_past = omega (arith, u.recent_horizon);
   recent_horizon = from_start o g f.recent.horizon u.recent_horizon;
   final_word = u.final_word ∙ sym final_word;
@@ -86,7 +86,7 @@ module _ (events : List Event) (e : Event) where
       or_all true = refl
       or_all false = refl
 
-  module _ (ended : List Observed) (o : OutstandingValue) where
+  module _ (ended : List Operation) (o : OutstandingValue) where
     -- where the event tells nothing of the granule
     pub retold : (g : ℕ) (x : Option Followed) → is_known (events ++ e ∷ []) g ≡ is_known events g → told (openings (events ++ e ∷ [])) g ≡ told (openings events) g
         → told (final_words (events ++ e ∷ [])) g ≡ told (final_words events) g → IsGranuleOf events ended o g x → IsGranuleOf (events ++ e ∷ []) ended o g x

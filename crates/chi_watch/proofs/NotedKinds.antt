@@ -8,9 +8,9 @@ use Rattle.chi_events.specs.Outstanding.{OutstandingValue}
 use Rattle.chi_recent.specs.Recent.{Keeps, RecentValue}
 use Rattle.chi_search.specs.Frontiers.{Follows, FrontierValue}
 use Rattle.chi_trace.specs.Chosen.{is_in}
-use Rattle.chi_trace.specs.declared.observed.Observed.{Observed}
-use Rattle.chi_verdict.specs.declared.words.GranuleWord.{GranuleWord}
-use Rattle.chi_verdict.specs.Words.{told}
+use Rattle.chi_trace.specs.declared.operation.Operation.{Operation}
+use Rattle.chi_trace.specs.declared.words.GranuleWord.{GranuleWord}
+use Rattle.chi_trace.specs.Words.{told}
 use Rattle.chi_watch.specs.declared.followed.Followed.{Followed}
 use Rattle.chi_watch.specs.Changes.{IsForgotten, IsGone, IsNoted, IsSameOrUntouched, IsTouched, IsTouchedAndMarked}
 use Rattle.chi_watch.specs.Judged.{covers, final_in, final_words, opening_in, openings}
@@ -30,7 +30,7 @@ Fits (Word told) old = old told.granule ≡ None
 Fits (Final told) old = has_final_word (old told.granule) ≡ false
 Fits _ old = Unit {0}
 
-module _ (events : List Event) (e : Event) (ended : List Observed) (o : OutstandingValue) where
+module _ (events : List Event) (e : Event) (ended : List Operation) (o : OutstandingValue) where
   no_opening : opening_in e.kind ≡ None → (g : ℕ) → told (openings (events ++ e ∷ [])) g ≡ told (openings events) g
   no_opening none g = ap (λ (words : List GranuleWord). told words g) (openings_more events e ∙ (ap (λ words. openings events ++ words) (one_none (λ (x : Event). opening_in x.kind) e none) ∙ append-nil (openings events)))
 

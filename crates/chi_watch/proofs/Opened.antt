@@ -9,7 +9,7 @@ use Rattle.chi_events.specs.declared.outstanding.Open.{Open}
 use Rattle.chi_recent.specs.Recent.{Keeps}
 use Rattle.chi_trace.specs.Chosen.{is_in}
 use Rattle.chi_trace.specs.Granules.{granule_of}
-use Rattle.chi_trace.specs.declared.observed.Observed.{Observed}
+use Rattle.chi_trace.specs.declared.operation.Operation.{Operation}
 use Rattle.chi_watch.specs.Changes.{CanEnd, HasOneMore, IsClosed}
 use Rattle.chi_watch.specs.Endings.{AreToldTo, CanClose, TakesOpen}
 use Rattle.chi_watch.specs.Requests.{granule_asked}
@@ -18,14 +18,14 @@ use Rattle.chi_watch.specs.declared.followed.Followed.{Followed}
 use Rattle.chi_watch.proofs.ToldAtTheEnd.{told_none}
 
 -- the operation is the request's
-pub record IsOpened (p : Open) (op : Observed) : Type 0 where
+pub record IsOpened (p : Open) (op : Operation) : Type 0 where
   pub start : op.start ≡ p.start
   pub end : op.end ≡ 2 ^ 64 - 1
   pub granule : granule_of op ≡ granule_asked p
   pub lasting : op.start ≤ op.end
   pub within : op.access.addr + op.access.len ≤ 2 ^ 52
 
-pub opened : (granules : ℕ → Option Followed) (p : Open) (op : Observed) → CanClose granules p → Some op ≡ open_operation p → IsOpened p op
+pub opened : (granules : ℕ → Option Followed) (p : Open) (op : Operation) → CanClose granules p → Some op ≡ open_operation p → IsOpened p op
 opened granules p op can = by_access p.access can.at can.within
   where
     by_access : (a : Option Access) → IfSome a (λ access. access.addr ≡ p.asked.addr) → IfSome a (λ access. access.addr + access.len ≤ 2 ^ 52)
@@ -36,7 +36,7 @@ opened granules p op can = by_access p.access can.at can.within
         (record { start = refl; end = refl; granule = ap (λ addr. addr / 8) at; lasting = can.lasting; within = within })
 
 -- what the search of a granule that is told it takes
-module _ (op : Observed) (lasting : op.start ≤ op.end) (within : op.access.addr + op.access.len ≤ 2 ^ 52) (end : op.end ≡ 2 ^ 64 - 1) where
+module _ (op : Operation) (lasting : op.start ≤ op.end) (within : op.access.addr + op.access.len ≤ 2 ^ 52) (end : op.end ≡ 2 ^ 64 - 1) where
   can_end : (f : Followed) → (f.frontier.horizon ≤ op.start) × (f.frontier.latest ≤ 2 ^ 64 - 1) × (f.recent.horizon ≤ op.start) → CanEnd 0 f op
   can_end f takes = record { past = takes.0; recent = takes.2; starts = omega arith; ends = subst (λ n. f.frontier.latest ≤ n) (sym end) takes.1; lasting = lasting; within = within }
 
@@ -74,7 +74,7 @@ module _ (op : Observed) (lasting : op.start ≤ op.end) (within : op.access.add
       by_known false unknown = subst (λ (x : Followed). TakesOpen start (Some x)) (sym (is.unknown unknown)) other
 
 -- one request's operation is told to the search of its granule
-module _ (p : Open) (op : Observed) (old new : ℕ → Option Followed) (can : CanClose old p) (is : Some op ≡ open_operation p) (more : HasOneMore op 0 old new) where
+module _ (p : Open) (op : Operation) (old new : ℕ → Option Followed) (can : CanClose old p) (is : Some op ≡ open_operation p) (more : HasOneMore op 0 old new) where
   own : IsOpened p op
   own = opened old p op can is
 
@@ -107,7 +107,7 @@ module _ (p : Open) (op : Observed) (old new : ℕ → Option Followed) (can : C
   all_close_on = All-weaker (CanClose old) (CanClose new) closes_on
 
 -- each outstanding request's operation can be told, where the watch took the events
-module _ (events : List Event) (ended : List Observed) (w : WatchValue) (is : Watches events ended w) (are_open : All (IsOpen w.outstanding.time) w.outstanding.requests) where
+module _ (events : List Event) (ended : List Operation) (w : WatchValue) (is : Watches events ended w) (are_open : All (IsOpen w.outstanding.time) w.outstanding.requests) where
   takes_open : (p : Open) → p.start ≤ w.outstanding.time → Contains w.outstanding.requests p → (x : Option Followed) → IsTrue (is_some x)
       → IsGranuleOf events ended w.outstanding (granule_asked p) x → TakesOpen p.start x
   takes_open p start has None some of = absurd (true≢false (sym some))

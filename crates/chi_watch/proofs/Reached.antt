@@ -13,8 +13,8 @@ use Rattle.chi_recent.specs.Recent.{RecentValue}
 use Rattle.chi_recent.specs.declared.reach.Reach.{Reach}
 use Rattle.chi_recent.specs.declared.reach.Reach.TheVariants.{Whole, Stops, Undecided}
 use Rattle.chi_trace.specs.Chosen.{GranulesTold, is_in}
-use Rattle.chi_trace.specs.declared.observed.Observed.{Observed}
-use Rattle.chi_verdict.specs.Words.{word_told}
+use Rattle.chi_trace.specs.declared.operation.Operation.{Operation}
+use Rattle.chi_trace.specs.Words.{word_told}
 use Rattle.chi_watch.specs.Endings.{IsExplainable}
 use Rattle.chi_watch.specs.Judged.{openings}
 use Rattle.chi_watch.specs.Reaching.{IsOfSomeTrace, IsUnreachedIn, ReachesBy}
@@ -26,8 +26,8 @@ use Rattle.chi_watch.proofs.Found.{alone, not_found_is}
 use Rattle.chi_watch.proofs.Verdicts.{all_told}
 
 -- what is said of the operations that are kept, whichever it is
-pub reaches_by : (r : RecentValue) (reach : Reach) → IfWhole reach (λ words. (trace : List Observed) (g w : ℕ) → IsRecentOf trace g w r → AreLast trace g w words)
-    → IfStops reach (λ stop. (trace : List Observed) (g w : ℕ) → IsRecentOf trace g w r → IsStop trace g w stop) → ReachesBy r reach
+pub reaches_by : (r : RecentValue) (reach : Reach) → IfWhole reach (λ words. (trace : List Operation) (g w : ℕ) → IsRecentOf trace g w r → AreLast trace g w words)
+    → IfStops reach (λ stop. (trace : List Operation) (g w : ℕ) → IsRecentOf trace g w r → IsStop trace g w stop) → ReachesBy r reach
 reaches_by r (Whole words) whole stops trace g w is = whole trace g w is
 reaches_by r (Stops stop) whole stops trace g w is = stops trace g w is
 reaches_by r Undecided whole stops trace g w is = tt

@@ -11,7 +11,7 @@ use Rattle.chi_events.specs.declared.outstanding.Open.{Open}
 use Rattle.chi_events.specs.Outstanding.{IsEndOf, IsEvent, OutstandingValue, StaysOrStarts, Tells}
 use Rattle.chi_events.specs.Told.{requested}
 use Rattle.chi_trace.specs.Granules.{granule_of}
-use Rattle.chi_trace.specs.declared.observed.Observed.{Observed}
+use Rattle.chi_trace.specs.declared.operation.Operation.{Operation}
 use Rattle.chi_watch.specs.declared.followed.Followed.{Followed}
 use Rattle.chi_watch.specs.declared.fault.WatchFault.TheVariants as fault
 use Rattle.chi_watch.specs.Changes.{IsClosed, IsClosedBy, IsGone, IsNoted, OthersStay}
@@ -23,7 +23,7 @@ use Rattle.chi_watch.proofs.NotedKinds.{Fits, noted}
 
 -- a granule is watched after an operation ended just where it was before, and its word at the end is told just where it was
 module _ (requests : List Open) (old new : ℕ → Option Followed) where
-  same_some : (op : Option Observed) → IsClosedBy op requests old new → (g : ℕ) → is_some (new g) ≡ is_some (old g)
+  same_some : (op : Option Operation) → IsClosedBy op requests old new → (g : ℕ) → is_some (new g) ≡ is_some (old g)
   same_some None t g = ap is_some (t g)
   same_some (Some op) (horizon, early, earliest, more) g = by_granule (g == granule_of op) refl
     where
@@ -36,7 +36,7 @@ module _ (requests : List Open) (old new : ℕ → Option Followed) where
       by_granule true same = let is : g ≡ granule_of op = eqb-true g (granule_of op) same in rw is (own (old (granule_of op)) (new (granule_of op)) more.own)
       by_granule false other = ap is_some (more.others g (λ same. absurd (true≢false (sym (eq-eqb g (granule_of op) same) ∙ other))))
 
-  same_final_word : (op : Option Observed) → IsClosedBy op requests old new → (g : ℕ) → has_final_word (new g) ≡ has_final_word (old g)
+  same_final_word : (op : Option Operation) → IsClosedBy op requests old new → (g : ℕ) → has_final_word (new g) ≡ has_final_word (old g)
   same_final_word None t g = ap has_final_word (t g)
   same_final_word (Some op) (horizon, early, earliest, more) g = by_granule (g == granule_of op) refl
     where
@@ -96,7 +96,7 @@ none_is : {X : Type 0} (x : Option X) → is_some x ≡ false → x ≡ None
 none_is None is = refl
 none_is (Some x) is = absurd (true≢false is)
 
-module _ (events : List Event) (ended : List Observed) (w : WatchValue) (e : Event) (o : OutstandingValue) (op : Option Observed) (mid : ℕ → Option Followed) (final_word : List (ℕ × Followed)) (count : ℕ) where
+module _ (events : List Event) (ended : List Operation) (w : WatchValue) (e : Event) (o : OutstandingValue) (op : Option Operation) (mid : ℕ → Option Followed) (final_word : List (ℕ × Followed)) (count : ℕ) where
   abbrev now : WatchValue
   now = record { outstanding = o; granules = final_word; ended = count }
 

@@ -10,7 +10,7 @@ use Rattle.chi_events.specs.declared.outstanding.Open.{Open}
 use Rattle.chi_recent.specs.Recent.{Keeps}
 use Rattle.chi_search.specs.Frontiers.{Follows}
 use Rattle.chi_trace.specs.Chosen.{is_in}
-use Rattle.chi_trace.specs.declared.observed.Observed.{Observed}
+use Rattle.chi_trace.specs.declared.operation.Operation.{Operation}
 use Rattle.chi_watch.specs.Endings.{AreToldTo}
 use Rattle.chi_watch.specs.declared.followed.Followed.{Followed}
 
@@ -24,7 +24,7 @@ told_none (Some f) = record {
   known = refl;
 }
 
-pub told_more : (xs ys : List Observed) (a b c : Option Followed) → AreToldTo xs a b → AreToldTo ys b c → AreToldTo (xs ++ ys) a c
+pub told_more : (xs ys : List Operation) (a b c : Option Followed) → AreToldTo xs a b → AreToldTo ys b c → AreToldTo (xs ++ ys) a c
 told_more xs ys None None None first second = ap (λ l. l ++ ys) first ∙ second
 told_more xs ys None None (Some h) first second = second
 told_more xs ys None (Some g) c first second = absurd first
@@ -42,7 +42,7 @@ told_more xs ys (Some f) (Some g) (Some h) first second = record {
 }
 
 -- the operations of a granule that these requests are
-abbrev pub own_open : ℕ → List Open → List Observed
+abbrev pub own_open : ℕ → List Open → List Operation
 own_open g requests = filter (is_in g) (filter_map open_operation requests)
 
 -- one request more
@@ -57,6 +57,6 @@ told_next requests i p g a b c below is first second = subst (λ l. AreToldTo l 
         ∙ filter-append (is_in g) (filter_map open_operation (take i requests)) (filter_map open_operation (p ∷ []))
 
 -- the same, where the request's operation is known
-pub told_as : (p : Open) (o : Option Observed) (g : ℕ) (a b : Option Followed) → o ≡ open_operation p → AreToldTo (filter (is_in g) (cons_option o [])) a b
+pub told_as : (p : Open) (o : Option Operation) (g : ℕ) (a b : Option Followed) → o ≡ open_operation p → AreToldTo (filter (is_in g) (cons_option o [])) a b
     → AreToldTo (own_open g (p ∷ [])) a b
 told_as p o g a b is told = subst (λ x. AreToldTo (filter (is_in g) (cons_option x [])) a b) is told

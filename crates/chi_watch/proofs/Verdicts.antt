@@ -18,9 +18,9 @@ use Rattle.chi_trace.specs.Chosen.{GranulesTold, is_in}
 use Rattle.chi_trace.specs.Explains.{IsInTime, IsTrace, is_place, times_in}
 use Rattle.chi_trace.specs.Granules.{ExplainsGranule, Finishes, Play, granule_of, is_of, last_word}
 use Rattle.chi_trace.specs.TraceLaws.{GranulesExplain, PartsExplain}
-use Rattle.chi_trace.specs.declared.observed.Observed.{Observed}
-use Rattle.chi_verdict.specs.Words.{AreWords, memory_of, told, word_told}
-use Rattle.chi_verdict.proofs.Memory.{IsMemory-memory_of, word_of-memory_of}
+use Rattle.chi_trace.specs.declared.operation.Operation.{Operation}
+use Rattle.chi_trace.specs.Words.{AreWords, memory_of, told, word_told}
+use Rattle.chi_trace.proofs.Memory.{IsMemory-memory_of, word_of-memory_of}
 use Rattle.chi_watch.specs.Followed.{IsWord}
 use Rattle.chi_watch.specs.Judged.{IsExplained, final_of, final_words, is_known, judged, opening_in, openings}
 use Rattle.chi_watch.specs.Quiet.{CanBeExplained}
@@ -46,7 +46,7 @@ openings_are_words events are =
     by_kind (Unknown addr len) is = tt
 
 -- some operations of a trace are a trace
-IsTrace-filter : (p : Observed → Bool) (ops : List Observed) → IsTrace ops → IsTrace (filter p ops)
+IsTrace-filter : (p : Operation → Bool) (ops : List Operation) → IsTrace ops → IsTrace (filter p ops)
 unfolding IsTrace
 IsTrace-filter p [] is = tt
 IsTrace-filter p (op ∷ ops) is = by_test (p op) (IsTrace-filter p ops is.2)
@@ -56,11 +56,11 @@ IsTrace-filter p (op ∷ ops) is = by_test (p op) (IsTrace-filter p ops is.2)
     by_test false rest = rest
 
 -- of a granule that the test passes all the operations are kept
-kept_all : (q : ℕ → Bool) (g : ℕ) → q g ≡ true → (ops : List Observed) → filter (is_in g) (filter (λ op. q (granule_of op)) ops) ≡ filter (is_in g) ops
+kept_all : (q : ℕ → Bool) (g : ℕ) → q g ≡ true → (ops : List Operation) → filter (is_in g) (filter (λ op. q (granule_of op)) ops) ≡ filter (is_in g) ops
 kept_all q g is [] = refl
 kept_all q g is (op ∷ ops) = by_tests (q (granule_of op)) (granule_of op == g) refl refl (kept_all q g is ops)
   where
-    kept : List Observed
+    kept : List Operation
     kept = filter (λ o. q (granule_of o)) ops
 
     by_tests : (c b : Bool) → q (granule_of op) ≡ c → (granule_of op == g) ≡ b → filter (is_in g) kept ≡ filter (is_in g) ops
@@ -71,11 +71,11 @@ kept_all q g is (op ∷ ops) = by_tests (q (granule_of op)) (granule_of op == g)
     by_tests false false passes own rest = rest
 
 -- and of one that it does not pass none is
-kept_none : (q : ℕ → Bool) (g : ℕ) → q g ≡ false → (ops : List Observed) → filter (is_in g) (filter (λ op. q (granule_of op)) ops) ≡ []
+kept_none : (q : ℕ → Bool) (g : ℕ) → q g ≡ false → (ops : List Operation) → filter (is_in g) (filter (λ op. q (granule_of op)) ops) ≡ []
 kept_none q g is [] = refl
 kept_none q g is (op ∷ ops) = by_tests (q (granule_of op)) (granule_of op == g) refl refl (kept_none q g is ops)
   where
-    kept : List Observed
+    kept : List Operation
     kept = filter (λ o. q (granule_of o)) ops
 
     by_tests : (c b : Bool) → q (granule_of op) ≡ c → (granule_of op == g) ≡ b → filter (is_in g) kept ≡ [] → filter (is_in g) (cond c (op ∷ kept) kept) ≡ []
@@ -84,7 +84,7 @@ kept_none q g is (op ∷ ops) = by_tests (q (granule_of op)) (granule_of op == g
     by_tests false b passes own rest = rest
 
 -- an order that explains a granule leads to a word that may have been its last
-leads_from : GranulesTold → (trace ops : List Observed) (g w : ℕ) (final_word : Option ℕ) → IsPermutation (filter (is_in g) trace) ops
+leads_from : GranulesTold → (trace ops : List Operation) (g w : ℕ) (final_word : Option ℕ) → IsPermutation (filter (is_in g) trace) ops
     → (order : List ℕ) → ExplainsGranule trace g w final_word order → (v : ℕ) × SomeLeads ops (w ∷ []) v × IsWord final_word v
 leads_from law trace ops g w final_word moved order explains =
     let own = (law trace ops g w final_word moved).0 (order, explains) in (
@@ -98,7 +98,7 @@ leads_from law trace ops g w final_word moved order explains =
     by_last (Some u) v is = sym is
 
 -- and the other way round
-explains_from : GranulesTold → (trace ops : List Observed) (g w : ℕ) (final_word : Option ℕ) → IsPermutation (filter (is_in g) trace) ops
+explains_from : GranulesTold → (trace ops : List Operation) (g w : ℕ) (final_word : Option ℕ) → IsPermutation (filter (is_in g) trace) ops
     → (v : ℕ) → SomeLeads ops (w ∷ []) v → IsWord final_word v → (order : List ℕ) × ExplainsGranule trace g w final_word order
 explains_from law trace ops g w final_word moved v (u, one, (order, finishes)) is =
     let first = All-contains (λ x. x ≡ w) (w ∷ []) u (All-cons (λ x. x ≡ w) w [] refl (All-nil (λ x. x ≡ w))) one in
@@ -120,18 +120,18 @@ leads_none w = (
 )
 
 -- the operations of a granule of which all is told, in another order
-pub all_told : OperationsAreTold → (events : List Event) (ended : List Observed) (o : OutstandingValue) (g : ℕ) → Tells events ended o
+pub all_told : OperationsAreTold → (events : List Event) (ended : List Operation) (o : OutstandingValue) (g : ℕ) → Tells events ended o
     → IsPermutation (filter (is_in g) (operations events)) (filter (is_in g) (ended ++ filter_map open_operation o.requests))
 all_told law events ended o g tells = IsPermutation-filter (is_in g) _ _ (law events ended o tells).1
 
-all_judged : OperationsAreTold → (events : List Event) (ended : List Observed) (o : OutstandingValue) (g : ℕ) → Tells events ended o → is_known events g ≡ true
+all_judged : OperationsAreTold → (events : List Event) (ended : List Operation) (o : OutstandingValue) (g : ℕ) → Tells events ended o → is_known events g ≡ true
     → IsPermutation (filter (is_in g) (judged events)) (filter (is_in g) (ended ++ filter_map open_operation o.requests))
 all_judged law events ended o g tells known =
     subst (λ l. IsPermutation l (filter (is_in g) (ended ++ filter_map open_operation o.requests)))
     (sym (kept_all (is_known events) g known (operations events))) (all_told law events ended o g tells)
 
 -- Where the operations of a granule lead to no word that may have been its last, they are not explained.
-pub unexplained : OperationsAreTold → GranulesTold → PartsExplain → (events : List Event) (ended : List Observed) (o : OutstandingValue) (g : ℕ)
+pub unexplained : OperationsAreTold → GranulesTold → PartsExplain → (events : List Event) (ended : List Operation) (o : OutstandingValue) (g : ℕ)
     → Tells events ended o → is_known events g ≡ true
     → ((v : ℕ) → SomeLeads (filter (is_in g) (ended ++ filter_map open_operation o.requests)) (word_told (openings events) g ∷ []) v → IsWord (told (final_words events) g) v → ⊥)
     → IsUnexplained events g
@@ -146,7 +146,7 @@ unexplained operations_law granules_law parts_law events ended o g tells known n
       (IsTrace-filter (λ op. is_known events (granule_of op)) (operations events) (operations_law events ended o tells).0) explains g).0);
 }
   where
-    refuted : (trace : List Observed) → IsPermutation (filter (is_in g) trace) (filter (is_in g) (ended ++ filter_map open_operation o.requests))
+    refuted : (trace : List Operation) → IsPermutation (filter (is_in g) trace) (filter (is_in g) (ended ++ filter_map open_operation o.requests))
         → (order : List ℕ) → ExplainsGranule trace g (word_told (openings events) g) (final_of events g) order → ⊥
     refuted trace moved order explains =
         let final_word : final_of events g ≡ told (final_words events) g = ap (λ b. cond b (told (final_words events) g) None) known in
@@ -155,7 +155,7 @@ unexplained operations_law granules_law parts_law events ended o g tells known n
         none led.0 led.1 led.2
 
 -- Where those of each granule of which all is told lead to such a word, they all are explained.
-pub explained : OperationsAreTold → GranulesTold → GranulesExplain → (events : List Event) (ended : List Observed) (o : OutstandingValue) → Tells events ended o
+pub explained : OperationsAreTold → GranulesTold → GranulesExplain → (events : List Event) (ended : List Operation) (o : OutstandingValue) → Tells events ended o
     → ((g : ℕ) → is_known events g ≡ true
     → (v : ℕ) × SomeLeads (filter (is_in g) (ended ++ filter_map open_operation o.requests)) (word_told (openings events) g ∷ []) v × IsWord (told (final_words events) g) v)
     → IsExplained events
@@ -178,7 +178,7 @@ explained operations_law granules_law whole_law events ended o tells each =
         (subst (λ f. IsWord f w) (sym (ap (λ b. cond b (told (final_words events) g) None) unknown)) tt)
 
 -- Where those of one granule of which all is told lead to such a word, some order explains them.
-pub one_explained : OperationsAreTold → GranulesTold → (events : List Event) (ended : List Observed) (o : OutstandingValue) (g : ℕ) → Tells events ended o → is_known events g ≡ true
+pub one_explained : OperationsAreTold → GranulesTold → (events : List Event) (ended : List Operation) (o : OutstandingValue) (g : ℕ) → Tells events ended o → is_known events g ≡ true
     → (v : ℕ) → SomeLeads (filter (is_in g) (ended ++ filter_map open_operation o.requests)) (word_told (openings events) g ∷ []) v → IsWord (told (final_words events) g) v → CanBeExplained events g
 one_explained operations_law granules_law events ended o g tells known v leads word =
     explains_from granules_law (operations events) _ g (word_told (openings events) g) (final_of events g) (all_told operations_law events ended o g tells) v leads

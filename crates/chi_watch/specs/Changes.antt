@@ -6,7 +6,7 @@ use Rattle.chi_events.specs.declared.event.EventKind.TheVariants.{Request, Word,
 use Rattle.chi_recent.specs.Recent.{Keeps}
 use Rattle.chi_search.specs.Frontiers.{Follows}
 use Rattle.chi_trace.specs.Granules.{granule_of}
-use Rattle.chi_trace.specs.declared.observed.Observed.{Observed}
+use Rattle.chi_trace.specs.declared.operation.Operation.{Operation}
 use Rattle.chi_watch.specs.declared.followed.Followed.{Followed}
 use Rattle.chi_watch.specs.Judged.{covers}
 use Rattle.chi_watch.specs.Requests.{StartsBy}
@@ -37,7 +37,7 @@ pub record IsTouched (old new : ℕ → Option Followed) (g word : ℕ) : Type 0
   pub was : IsSameOrUntouched word (old g) followed
 
 -- the operation can be told to the search of its granule
-pub record CanEnd (horizon : ℕ) (f : Followed) (op : Observed) : Type 0 where
+pub record CanEnd (horizon : ℕ) (f : Followed) (op : Operation) : Type 0 where
   pub past : f.frontier.horizon ≤ op.start
   pub recent : f.recent.horizon ≤ op.start
   pub starts : horizon ≤ op.start
@@ -46,32 +46,32 @@ pub record CanEnd (horizon : ℕ) (f : Followed) (op : Observed) : Type 0 where
   pub within : op.access.addr + op.access.len ≤ 2 ^ 52
 
 -- one operation more of the granule was told to its search, and is kept with the last of them
-pub record IsTold (op : Observed) (horizon : ℕ) (old new : Followed) : Type 0 where
-  pub follows : (words : List ℕ) (told : List Observed) → Follows words told old.frontier → Follows words (told ++ op ∷ []) new.frontier
+pub record IsTold (op : Operation) (horizon : ℕ) (old new : Followed) : Type 0 where
+  pub follows : (words : List ℕ) (told : List Operation) → Follows words told old.frontier → Follows words (told ++ op ∷ []) new.frontier
   pub horizon_is : (new.frontier.horizon ≤ horizon) ⊎ (new.frontier.horizon ≡ old.frontier.horizon)
   pub latest : new.frontier.latest ≡ op.end
-  pub recent : (words : List ℕ) (told : List Observed) → Keeps words told op.end old.recent → Keeps words (told ++ op ∷ []) op.end new.recent
+  pub recent : (words : List ℕ) (told : List Operation) → Keeps words told op.end old.recent → Keeps words (told ++ op ∷ []) op.end new.recent
   pub recent_horizon : (new.recent.horizon ≤ horizon) ⊎ (new.recent.horizon ≡ old.recent.horizon)
   pub final_word : new.final_word ≡ old.final_word
   pub known : new.is_known ≡ old.is_known
 
 -- the operation was told to its granule's search, where all that wrote to the granule is told
-pub record IsToldIfKnown (op : Observed) (horizon : ℕ) (old new : Followed) : Type 0 where
+pub record IsToldIfKnown (op : Operation) (horizon : ℕ) (old new : Followed) : Type 0 where
   pub told : IsTrue old.is_known → CanEnd horizon old op → IsTold op horizon old new
   pub unknown : old.is_known ≡ false → new ≡ old
   pub final_word : new.final_word ≡ old.final_word
 
-abbrev pub IsClosed : Observed → ℕ → Option Followed → Option Followed → Type 0
+abbrev pub IsClosed : Operation → ℕ → Option Followed → Option Followed → Type 0
 IsClosed op horizon None new = new ≡ None
 IsClosed op horizon (Some old) None = ⊥
 IsClosed op horizon (Some old) (Some new) = IsToldIfKnown op horizon old new
 
-pub record HasOneMore (op : Observed) (horizon : ℕ) (old new : ℕ → Option Followed) : Type 0 where
+pub record HasOneMore (op : Operation) (horizon : ℕ) (old new : ℕ → Option Followed) : Type 0 where
   pub others : OthersStay old new (granule_of op)
   pub own : IsClosed op horizon (old (granule_of op)) (new (granule_of op))
 
 -- the operation that ended, if one did, was told with a horizon at or before which no outstanding request of its granule was taken
-abbrev pub IsClosedBy : Option Observed → List Open → (ℕ → Option Followed) → (ℕ → Option Followed) → Type 0
+abbrev pub IsClosedBy : Option Operation → List Open → (ℕ → Option Followed) → (ℕ → Option Followed) → Type 0
 IsClosedBy None requests old new = (g : ℕ) → new g ≡ old g
 IsClosedBy (Some op) requests old new = (horizon : ℕ) × (horizon ≤ op.start) × StartsBy requests (granule_of op) horizon × HasOneMore op horizon old new
 

@@ -3,12 +3,12 @@ use Rattle.std.specs.Prelude.{◌≡◌, ℕ, ◌-◌, ◌^◌, min, not, length
 use Rattle.chi_events.specs.declared.event.Event.{Event}
 use Rattle.chi_events.specs.Operations.{is_outstanding, operation_of}
 use Rattle.chi_events.specs.Told.{told}
-use Rattle.chi_trace.specs.declared.observed.Observed.{Observed}
+use Rattle.chi_trace.specs.declared.operation.Operation.{Operation}
 use Rattle.chi_watch.specs.Watches.{WatchValue}
 use Rattle.chi_watch.specs.declared.counts.Counts.{Counts}
 
 -- the operations that had ended
-abbrev pub ended_operations : List Event → List Observed
+abbrev pub ended_operations : List Event → List Operation
 ended_operations events = filter_map operation_of (filter (λ t. not (is_outstanding t)) (told events))
 
 -- so many operations had ended by the events, and so many requests are outstanding

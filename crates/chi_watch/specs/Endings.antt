@@ -5,7 +5,7 @@ use Rattle.chi_events.specs.declared.outstanding.Open.{Open}
 use Rattle.chi_recent.specs.Recent.{Keeps}
 use Rattle.chi_search.specs.Frontiers.{Follows}
 use Rattle.chi_search.specs.Layers.{SomeLeads}
-use Rattle.chi_trace.specs.declared.observed.Observed.{Observed}
+use Rattle.chi_trace.specs.declared.operation.Operation.{Operation}
 use Rattle.chi_watch.specs.Followed.{IsWord}
 use Rattle.chi_watch.specs.Requests.{granule_asked}
 use Rattle.chi_watch.specs.declared.followed.Followed.{Followed}
@@ -27,14 +27,14 @@ pub record CanClose (granules : ℕ → Option Followed) (p : Open) : Type 0 whe
   pub takes : TakesOpen p.start (granules (granule_asked p))
 
 -- these operations more were told to the granule's search, where all that wrote to the granule is told
-pub record AreTold (ops : List Observed) (old new : Followed) : Type 0 where
-  pub follows : IsTrue old.is_known → (words : List ℕ) (told : List Observed) → Follows words told old.frontier → Follows words (told ++ ops) new.frontier
-  pub recent : IsTrue old.is_known → (words : List ℕ) (told : List Observed) → Keeps words told (2 ^ 64 - 1) old.recent → Keeps words (told ++ ops) (2 ^ 64 - 1) new.recent
+pub record AreTold (ops : List Operation) (old new : Followed) : Type 0 where
+  pub follows : IsTrue old.is_known → (words : List ℕ) (told : List Operation) → Follows words told old.frontier → Follows words (told ++ ops) new.frontier
+  pub recent : IsTrue old.is_known → (words : List ℕ) (told : List Operation) → Keeps words told (2 ^ 64 - 1) old.recent → Keeps words (told ++ ops) (2 ^ 64 - 1) new.recent
   pub final_word : new.final_word ≡ old.final_word
   pub known : new.is_known ≡ old.is_known
 
 -- These operations more were told of a granule, where it is watched. There are none where it is not.
-abbrev pub AreToldTo : List Observed → Option Followed → Option Followed → Type 0
+abbrev pub AreToldTo : List Operation → Option Followed → Option Followed → Type 0
 AreToldTo ops None None = ops ≡ []
 AreToldTo ops None (Some new) = ⊥
 AreToldTo ops (Some old) None = ⊥
@@ -42,12 +42,12 @@ AreToldTo ops (Some old) (Some new) = AreTold ops old new
 
 -- What the search follows leads to a word that may have been the last, where all that wrote to the granule is told.
 abbrev pub IsExplainable : Followed → Type 0
-IsExplainable f = IsTrue f.is_known → (words : List ℕ) (told : List Observed) → Follows words told f.frontier → (v : ℕ) × SomeLeads told words v × IsWord f.final_word v
+IsExplainable f = IsTrue f.is_known → (words : List ℕ) (told : List Operation) → Follows words told f.frontier → (v : ℕ) × SomeLeads told words v × IsWord f.final_word v
 
 -- All that wrote to the granule is told, and what the search follows leads to no such word.
 pub record IsInexplicable (f : Followed) : Type 0 where
   pub known : IsTrue f.is_known
-  pub none : (words : List ℕ) (told : List Observed) → Follows words told f.frontier → (v : ℕ) → SomeLeads told words v → IsWord f.final_word v → ⊥
+  pub none : (words : List ℕ) (told : List Operation) → Follows words told f.frontier → (v : ℕ) → SomeLeads told words v → IsWord f.final_word v → ⊥
 
 abbrev pub IsInexplicableAt : Option Followed → Type 0
 IsInexplicableAt None = ⊥

@@ -1,6 +1,6 @@
 -- granules that are watched
 use Rattle.std.specs.Prelude.{◌≡◌, ℕ, ◌≤◌, ◌⊎◌, List, Option, None, Some}
-use Rattle.chi_trace.specs.declared.observed.Observed.{Observed}
+use Rattle.chi_trace.specs.declared.operation.Operation.{Operation}
 use Rattle.chi_search.specs.Frontiers.{Follows}
 use Rattle.chi_watch.specs.declared.followed.Followed.{Followed}
 use Rattle.chi_watch.specs.declared.followed.Standing.{Standing}
@@ -13,7 +13,7 @@ IsWord (Some w) v = w ≡ v
 
 -- the search follows the same operations, and its horizon is no later than this one, or as it was
 pub record IsMovedOn (old : Followed) (horizon : ℕ) (new : Followed) : Type 0 where
-  pub follows : (words : List ℕ) (told : List Observed) → Follows words told old.frontier → Follows words told new.frontier
+  pub follows : (words : List ℕ) (told : List Operation) → Follows words told old.frontier → Follows words told new.frontier
   pub horizon_is : (new.frontier.horizon ≤ horizon) ⊎ (new.frontier.horizon ≡ old.frontier.horizon)
   pub latest : new.frontier.latest ≡ old.frontier.latest
   pub recent : new.recent ≡ old.recent

@@ -7,9 +7,9 @@ use Rattle.chi_events.specs.declared.event.EventKind.TheVariants.{Word, Final, U
 use Rattle.chi_events.specs.Operations.{operations}
 use Rattle.chi_trace.specs.Explains.{Explains}
 use Rattle.chi_trace.specs.Granules.{granule_of}
-use Rattle.chi_trace.specs.declared.observed.Observed.{Observed}
-use Rattle.chi_verdict.specs.Words.{memory_of, told}
-use Rattle.chi_verdict.specs.declared.words.GranuleWord.{GranuleWord}
+use Rattle.chi_trace.specs.declared.operation.Operation.{Operation}
+use Rattle.chi_trace.specs.Words.{memory_of, told}
+use Rattle.chi_trace.specs.declared.words.GranuleWord.{GranuleWord}
 
 -- a word that is told before a granule's first request
 abbrev pub opening_in : EventKind → Option GranuleWord
@@ -36,7 +36,7 @@ covers g _ = false
 abbrev pub is_known : List Event → ℕ → Bool
 is_known events g = not (list_any (λ e. covers g e.kind) events)
 
-abbrev pub judged : List Event → List Observed
+abbrev pub judged : List Event → List Operation
 judged events = filter (λ op. is_known events (granule_of op)) (operations events)
 
 -- the word that was told of a granule at the end

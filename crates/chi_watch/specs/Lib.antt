@@ -5,7 +5,6 @@ pub mod Counts
 pub mod Endings
 pub mod Faults
 pub mod Listing
-pub mod Numbers
 pub mod Quiet
 pub mod Reaching
 pub mod Requests

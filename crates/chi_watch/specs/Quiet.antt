@@ -5,7 +5,7 @@ use Rattle.chi_events.specs.declared.event.Event.{Event}
 use Rattle.chi_events.specs.Operations.{operations}
 use Rattle.chi_events.specs.Outstanding.{request_about}
 use Rattle.chi_trace.specs.Granules.{ExplainsGranule}
-use Rattle.chi_verdict.specs.Words.{word_told}
+use Rattle.chi_trace.specs.Words.{word_told}
 use Rattle.chi_watch.specs.Judged.{final_of, openings}
 use Rattle.chi_watch.specs.Requests.{granule_asked}
 use Rattle.chi_watch.specs.Watches.{WatchValue}

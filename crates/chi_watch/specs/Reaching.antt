@@ -7,15 +7,15 @@ use Rattle.chi_recent.specs.Reaches.{AreLast, IfUndecided, IsRecentOf, IsStop}
 use Rattle.chi_recent.specs.Recent.{RecentValue}
 use Rattle.chi_recent.specs.declared.reach.Reach.{Reach}
 use Rattle.chi_recent.specs.declared.reach.Reach.TheVariants.{Whole, Stops, Undecided}
-use Rattle.chi_trace.specs.declared.observed.Observed.{Observed}
-use Rattle.chi_verdict.specs.Words.{told, word_told}
+use Rattle.chi_trace.specs.declared.operation.Operation.{Operation}
+use Rattle.chi_trace.specs.Words.{told, word_told}
 use Rattle.chi_watch.specs.Judged.{final_words, openings}
 use Rattle.chi_watch.specs.Watches.{IsUnexplained}
 use Rattle.chi_watch.specs.declared.ending.FoundAtEnd.{FoundAtEnd}
 use Rattle.chi_watch.specs.declared.followed.Followed.{Followed}
 
 -- the granule's operations in a trace can be explained so far, from this word on
-abbrev pub IsReachIn : List Observed → ℕ → ℕ → Reach → Type 0
+abbrev pub IsReachIn : List Operation → ℕ → ℕ → Reach → Type 0
 IsReachIn trace g w (Whole words) = AreLast trace g w words.items
 IsReachIn trace g w (Stops stop) = IsStop trace g w stop
 IsReachIn trace g w Undecided = Unit {0}
@@ -26,11 +26,11 @@ IsReach events g reach = IsReachIn (operations events) g (word_told (openings ev
 
 -- those of which the last are kept, in whichever trace they are
 abbrev pub ReachesBy : RecentValue → Reach → Type 0
-ReachesBy r reach = (trace : List Observed) (g w : ℕ) → IsRecentOf trace g w r → IsReachIn trace g w reach
+ReachesBy r reach = (trace : List Operation) (g w : ℕ) → IsRecentOf trace g w r → IsReachIn trace g w reach
 
 -- the operations that are kept are those of a granule in some trace
 abbrev pub IsOfSomeTrace : RecentValue → Type 0
-IsOfSomeTrace r = (trace : List Observed) × (g : ℕ) × (w : ℕ) × IsRecentOf trace g w r
+IsOfSomeTrace r = (trace : List Operation) × (g : ℕ) × (w : ℕ) × IsRecentOf trace g w r
 
 -- what is said of a granule at the end: its word, and how far its operations can be explained
 pub record IsFoundIn (granules : ℕ → Option Followed) (found : FoundAtEnd) : Type 0 where

@@ -15,8 +15,8 @@ use Rattle.chi_search.specs.Frontiers.{Follows}
 use Rattle.chi_search.specs.Layers.{SomeLeads}
 use Rattle.chi_trace.specs.Chosen.{is_in}
 use Rattle.chi_trace.specs.Granules.{ExplainsGranule}
-use Rattle.chi_trace.specs.declared.observed.Observed.{Observed}
-use Rattle.chi_verdict.specs.Words.{told, word_told}
+use Rattle.chi_trace.specs.declared.operation.Operation.{Operation}
+use Rattle.chi_trace.specs.Words.{told, word_told}
 use Rattle.chi_watch.specs.declared.followed.Followed.{Followed}
 use Rattle.chi_watch.specs.declared.fault.WatchFault.{WatchFault}
 use Rattle.chi_watch.specs.declared.fault.WatchFault.TheVariants as fault
@@ -38,7 +38,7 @@ granule w g = lookup (is_at (nat_cmp g)) w.granules
 
 -- A granule that is watched: where all that wrote to it is told, its search follows its operations that had ended, from its
 -- word at the opening on, and the last of them are kept.
-pub record IsWatched (events : List Event) (ended : List Observed) (o : OutstandingValue) (g : ℕ) (f : Followed) : Type 0 where
+pub record IsWatched (events : List Event) (ended : List Operation) (o : OutstandingValue) (g : ℕ) (f : Followed) : Type 0 where
   pub known : f.is_known ≡ is_known events g
   pub follows : IsTrue f.is_known → Follows (word_told (openings events) g ∷ []) (filter (is_in g) ended) f.frontier
   pub latest : f.frontier.latest ≤ o.time
@@ -50,18 +50,18 @@ pub record IsWatched (events : List Event) (ended : List Observed) (o : Outstand
   pub final_word : f.final_word ≡ told (final_words events) g
 
 -- nothing was told of the granule
-pub record IsUntold (events : List Event) (ended : List Observed) (g : ℕ) : Type 0 where
+pub record IsUntold (events : List Event) (ended : List Operation) (g : ℕ) : Type 0 where
   pub known : is_known events g ≡ true
   pub none : filter (is_in g) ended ≡ []
   pub opening : told (openings events) g ≡ None
   pub final_word : told (final_words events) g ≡ None
 
-abbrev pub IsGranuleOf : List Event → List Observed → OutstandingValue → ℕ → Option Followed → Type 0
+abbrev pub IsGranuleOf : List Event → List Operation → OutstandingValue → ℕ → Option Followed → Type 0
 IsGranuleOf events ended o g None = IsUntold events ended g
 IsGranuleOf events ended o g (Some f) = IsWatched events ended o g f
 
 -- the watch took these events, by which these operations had ended
-pub record Watches (events : List Event) (ended : List Observed) (w : WatchValue) : Type 0 where
+pub record Watches (events : List Event) (ended : List Operation) (w : WatchValue) : Type 0 where
   pub tells : Tells events ended w.outstanding
   pub time : w.outstanding.time < 2 ^ 64
   pub each : (g : ℕ) → IsGranuleOf events ended w.outstanding g (granule w g)
@@ -69,7 +69,7 @@ pub record Watches (events : List Event) (ended : List Observed) (w : WatchValue
   pub count : w.ended ≡ min (length ended) (2 ^ 64 - 1)
 
 abbrev pub HasTaken : List Event → WatchValue → Type 0
-HasTaken events w = (ended : List Observed) × Watches events ended w
+HasTaken events w = (ended : List Operation) × Watches events ended w
 
 -- All that wrote to the granule is told, and no order explains its operations, from its word at the opening to the one that was
 -- told at the end.
@@ -84,7 +84,7 @@ pub record IsFound (w : WatchValue) (g : ℕ) : Type 0 where
   pub is : granule w g ≡ Some followed
   pub known : IsTrue followed.is_known
   pub quiet : list_any (λ p. granule_asked p == g) w.outstanding.requests ≡ false
-  pub none : (words : List ℕ) (told : List Observed) → Follows words told followed.frontier → (v : ℕ) → SomeLeads told words v → IsWord followed.final_word v → ⊥
+  pub none : (words : List ℕ) (told : List Operation) → Follows words told followed.frontier → (v : ℕ) → SomeLeads told words v → IsWord followed.final_word v → ⊥
 
 -- why the granules do not take an event
 abbrev pub has_final_word : Option Followed → Bool

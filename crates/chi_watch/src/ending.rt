@@ -17,12 +17,11 @@ ghost use Rattle.chi_watch.specs.Watches.{HasTaken};
 use crate::followed::Followed;
 use crate::granules::close;
 use crate::listing::judge_all;
-use crate::numbers::Numbers;
 use crate::reaching::reach_of;
 use crate::watch::Watch;
 use chi_events::Open;
 use chi_events::laws::operations_are_told;
-use chi_recent::{Reach, Traced};
+use chi_recent::Reach;
 use chi_search::Progress;
 use chi_trace::laws::{granules_explain, granules_told, parts_explain};
 use std::alloc::{AllocError, Global};
@@ -50,7 +49,6 @@ fn close_open<P: Progress>(
     alloc: Global,
     granules: &mut BTreeMap<u64, Followed>,
     requests: &[Open],
-    numbers: &Numbers,
     budget: u64,
     progress: &mut P,
 ) -> Result<(), AllocError>
@@ -59,12 +57,7 @@ fn close_open<P: Progress>(
 {
     for request in requests {
         if let Some(op) = request.operation() {
-            let traced = Traced {
-                number: numbers.number_of(request.id),
-                asked: request.asked,
-                op,
-            };
-            close(alloc, granules, &traced, 0, budget, progress)?;
+            close(alloc, granules, &op, 0, budget, progress)?;
         }
     }
     Ok(())
@@ -145,14 +138,7 @@ impl Watch {
         granules_explain();
         let mut granules = self.granules;
         let requests = self.outstanding.requests();
-        close_open(
-            alloc,
-            &mut granules,
-            requests,
-            &self.numbers,
-            budget,
-            progress,
-        )?;
+        close_open(alloc, &mut granules, requests, budget, progress)?;
         let listed = judge_all(alloc, &granules, budget, progress)?;
         let unexplained = each_found_at_end(
             alloc,

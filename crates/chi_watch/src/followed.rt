@@ -2,15 +2,16 @@
 
 ghost use Rattle.std.specs.Prelude.{◌≡◌, ℕ, [], ◌∷◌, ◌++◌, ◌≤◌, ◌⊎◌, ◌↔◌, List, None, false, IfOk, IfSome, IsTrue};
 ghost use Rattle.std.specs.List.{Contains};
-ghost use Rattle.chi_trace.specs.declared.observed.Observed.{Observed};
+ghost use Rattle.chi_trace.specs.declared.operation.Operation.{Operation};
 ghost use Rattle.chi_search.specs.Frontiers.{CanBeTold, Follows};
 ghost use Rattle.chi_search.specs.Layers.{SomeLeads};
 ghost use Rattle.chi_search.specs.Looks.{LookedMore, LookedSome};
 ghost use Rattle.chi_watch.specs.Changes.{CanEnd, IsTold, IsUntouched};
 ghost use Rattle.chi_watch.specs.Followed.{IfExplained, IfUndecided, IfUnexplained, IsMovedOn, IsWord};
 
-use chi_recent::{Recent, Traced};
+use chi_recent::Recent;
 use chi_search::{Frontier, Progress, Words};
+use chi_trace::Operation;
 use std::alloc::{AllocError, Global};
 
 /// A granule that is watched: the search over its operations that have ended, how many it may keep before it is moved on, the
@@ -81,12 +82,12 @@ fn move_on<P: Progress>(
 pub(crate) fn tell<P: Progress>(
     alloc: Global,
     followed: &mut Followed,
-    traced: &Traced,
+    op: &Operation,
     horizon: u64,
     budget: u64,
     progress: &mut P,
 ) -> Result<(), AllocError>
-    ensures told { IfOk result (λ _. IsTrue followed.old.is_known → CanEnd horizon followed.old traced.now.op → IsTold traced.now.op horizon followed.old followed.new) }
+    ensures told { IfOk result (λ _. IsTrue followed.old.is_known → CanEnd horizon followed.old op.now → IsTold op.now horizon followed.old followed.new) }
     ensures unknown { followed.old.is_known ≡ false → followed.new ≡ followed.old }
     ensures final_word { IfOk result (λ _. followed.new.final_word ≡ followed.old.final_word) }
     ensures looked { IfOk result (λ _. LookedSome P.looked progress.old progress.new) }
@@ -94,8 +95,8 @@ pub(crate) fn tell<P: Progress>(
     if followed.is_known {
         move_on(alloc, followed, horizon, budget, progress)?;
         followed.recent.settle(alloc, horizon, budget, progress)?;
-        followed.frontier.add(&traced.op)?;
-        followed.recent.add(traced)?;
+        followed.frontier.add(op)?;
+        followed.recent.add(op)?;
     }
     Ok(())
 }
@@ -119,8 +120,8 @@ pub(crate) fn judge<P: Progress>(
     budget: u64,
     progress: &mut P,
 ) -> Result<Standing, AllocError>
-    ensures explained { IfOk result (λ s. IfExplained s ((words : List ℕ) (told : List Observed) → Follows words told followed.now.frontier → (v : ℕ) × SomeLeads told words v × IsWord followed.now.final_word v)) }
-    ensures unexplained { IfOk result (λ s. IfUnexplained s ((words : List ℕ) (told : List Observed) → Follows words told followed.now.frontier → (v : ℕ) → SomeLeads told words v → IsWord followed.now.final_word v → ⊥)) }
+    ensures explained { IfOk result (λ s. IfExplained s ((words : List ℕ) (told : List Operation) → Follows words told followed.now.frontier → (v : ℕ) × SomeLeads told words v × IsWord followed.now.final_word v)) }
+    ensures unexplained { IfOk result (λ s. IfUnexplained s ((words : List ℕ) (told : List Operation) → Follows words told followed.now.frontier → (v : ℕ) → SomeLeads told words v → IsWord followed.now.final_word v → ⊥)) }
     ensures undecided { IfOk result (λ s. IfUndecided s (LookedMore P.looked progress.old progress.new budget)) }
     ensures looked { IfOk result (λ _. LookedSome P.looked progress.old progress.new) }
 {

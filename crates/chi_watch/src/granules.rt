@@ -9,8 +9,8 @@ ghost use Rattle.chi_search.specs.Looks.{LookedSome};
 ghost use Rattle.chi_watch.specs.declared.followed.Followed.{Followed};
 
 use crate::followed::{Followed, tell, untouched};
-use chi_recent::Traced;
 use chi_search::Progress;
+use chi_trace::Operation;
 use std::alloc::{AllocError, Global};
 use std::collections::BTreeMap;
 
@@ -35,17 +35,17 @@ pub(crate) fn touch(
 pub(crate) fn close<P: Progress>(
     alloc: Global,
     granules: &mut BTreeMap<u64, Followed>,
-    traced: &Traced,
+    op: &Operation,
     horizon: u64,
     budget: u64,
     progress: &mut P,
 ) -> Result<(), AllocError>
-    ensures told { IfOk result (λ _. HasOneMore traced.now.op horizon (get nat_cmp granules.old) (get nat_cmp granules.new)) }
+    ensures told { IfOk result (λ _. HasOneMore op.now horizon (get nat_cmp granules.old) (get nat_cmp granules.new)) }
     ensures looked { IfOk result (λ _. LookedSome P.looked progress.old progress.new) }
 {
-    let granule = traced.op.access.addr() / 8;
+    let granule = op.granule();
     match granules.get_mut(&granule) {
-        Some(followed) => tell(alloc, followed, traced, horizon, budget, progress),
+        Some(followed) => tell(alloc, followed, op, horizon, budget, progress),
         None => Ok(()),
     }
 }

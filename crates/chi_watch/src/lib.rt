@@ -9,7 +9,6 @@ mod followed;
 mod granules;
 mod listing;
 mod noting;
-mod numbers;
 mod quiet;
 mod reaching;
 mod watch;

@@ -11,16 +11,15 @@ ghost use Rattle.chi_watch.specs.Quiet.{BecomesQuiet, CanBeExplained, granule_ab
 ghost use Rattle.chi_watch.specs.Requests.{granule_asked};
 ghost use Rattle.chi_watch.specs.Watches.{HasTaken, IsFound, IsUnexplained, fault_of, granule as granule_of, granule_fault, has_final_word};
 
-use crate::ended::{close_ended, traced};
+use crate::ended::close_ended;
 use crate::fault::WatchFault;
 use crate::followed::{Followed, Standing, judge};
 use crate::noting::note;
-use crate::numbers::Numbers;
 use crate::quiet::{has_length, is_open};
 use chi_events::laws::operations_are_told;
 use chi_events::{Event, EventKind, Outstanding};
 use chi_search::Progress;
-use chi_trace::Observed;
+use chi_trace::Operation;
 use chi_trace::laws::{granules_told, parts_explain};
 use std::alloc::{AllocError, Global};
 use std::collections::BTreeMap;
@@ -43,7 +42,6 @@ pub struct Watch {
     pub(crate) outstanding: Outstanding,
     pub(crate) granules: BTreeMap<u64, Followed>,
     pub(crate) ended: u64,
-    pub(crate) numbers: Numbers,
 }
 
 impl Model for Watch {
@@ -55,7 +53,7 @@ impl Model for Watch {
 }
 
 /// So many operations, and one more where one has ended.
-fn one_more(count: u64, ended: &Option<Observed>) -> u64
+fn one_more(count: u64, ended: &Option<Operation>) -> u64
     ensures { result ≡ min (count + length (option_to_list ended.now)) (2 ^ 64 - 1) }
 {
     match ended {
@@ -77,7 +75,6 @@ impl Watch {
             outstanding: Outstanding::new(alloc),
             granules: BTreeMap::new(alloc),
             ended: 0,
-            numbers: Numbers::new(alloc),
         }
     }
 
@@ -207,19 +204,16 @@ impl Watch {
         ensures looked { IfOk result (λ _. LookedSome P.looked progress.old progress.new) }
     {
         self.admits(&event.kind)?;
-        let number = self.numbers.number_about(&event.kind);
-        let about = self.outstanding.about(event);
         let ended = self.outstanding.take(event)?;
         close_ended(
             alloc,
             &mut self.granules,
             self.outstanding.requests(),
-            &traced(number, about, ended),
+            &ended,
             budget,
             progress,
         )?;
         note(alloc, &mut self.granules, &event.kind)?;
-        self.numbers.count(&event.kind, ended.is_some())?;
         self.ended = one_more(self.ended, &ended);
         Ok(())
     }

@@ -30,20 +30,25 @@ unfolding AreLines
 lines_more text [] rest is some = rw is (some, refl, refl)
 lines_more text (line ∷ lines) rest (more, is, are) some = (more, is, lines_more (drop_through 10 text) lines rest are some)
 
-events_more : (lines : List (List ℕ)) (events : List Event) (line : List ℕ) (e : Event) → AreEvents lines events → event_text line ≡ Ok e → AreEvents (lines ++ line ∷ []) (events ++ e ∷ [])
+events_more : (number : ℕ) (lines : List (List ℕ)) (events : List Event) (line : List ℕ) (e : Event) → AreEvents number lines events
+    → event_text (number + length lines) line ≡ Ok e → AreEvents number (lines ++ line ∷ []) (events ++ e ∷ [])
 unfolding AreEvents
-events_more [] [] line e are is = (is, tt)
-events_more [] (d ∷ events) line e are is = absurd are
-events_more (l ∷ lines) [] line e are is = absurd are
-events_more (l ∷ lines) (d ∷ events) line e (here, are) is = (here, events_more lines events line e are is)
+events_more number [] [] line e are is = let first : number + 0 ≡ number = omega arith in (subst (λ n. event_text n line ≡ Ok e) first is, tt)
+events_more number [] (d ∷ events) line e are is = absurd are
+events_more number (l ∷ lines) [] line e are is = absurd are
+events_more number (l ∷ lines) (d ∷ events) line e (here, are) is =
+    let later : number + length (l ∷ lines) ≡ number + 1 + length lines = omega arith in
+    (here, events_more (number + 1) lines events line e are (subst (λ n. event_text n line ≡ Ok e) later is))
 
-pub told_more : (text : List ℕ) (count : ℕ) (events : List Event) (rest : List ℕ) (e : Event) → AreTold text count events rest → 0 < length rest → event_text (take_through 10 rest) ≡ Ok e
+pub told_more : (text : List ℕ) (count : ℕ) (events : List Event) (rest : List ℕ) (e : Event) → AreTold text count events rest → 0 < length rest → event_text (count + 1) (take_through 10 rest) ≡ Ok e
     → AreTold text (count + 1) (events ++ e ∷ []) (drop_through 10 rest)
 told_more text count events rest e told some is = record {
   lines = told.lines ++ take_through 10 rest ∷ [];
   count_is = omega (arith, told.count_is, length-append told.lines (take_through 10 rest ∷ []));
   are_lines = lines_more text told.lines rest told.are_lines some;
-  are_events = events_more told.lines events (take_through 10 rest) e told.are_events is;
+  are_events =
+      let next : count + 1 ≡ 1 + length told.lines = omega (arith, told.count_is) in
+      events_more 1 told.lines events (take_through 10 rest) e told.are_events (subst (λ n. event_text n (take_through 10 rest) ≡ Ok e) next is);
 }
 
 -- nothing was read
@@ -152,7 +157,7 @@ quiet_noted P (Some g) line quiet all one =
 
 -- one event more was taken
 pub event_taken : (start now later : Option (List ℕ)) (count line time : ℕ) (found : List Found) (quiet after : List Quiet) (old new : WatchValue) (e : Event) (seen : Option ℕ)
-    → HasTakenLines start count time found quiet old now → IfSome now (λ text. IsRead text (Some e) later) → TakesEvent old e new seen → line ≡ count + 1 → after ≡ with_quiet seen line quiet
+    → HasTakenLines start count time found quiet old now → IfSome now (λ text. IsRead line text (Some e) later) → TakesEvent old e new seen → line ≡ count + 1 → after ≡ with_quiet seen line quiet
     → HasTakenLines start line e.time found after new later
 event_taken None now later count line time found quiet after old new e seen has next takes here is = tt
 event_taken (Some text) None later count line time found quiet after old new e seen has next takes here is = absurd has
@@ -167,7 +172,7 @@ event_taken (Some text) (Some rest) later count line time found quiet after old 
     })
   where
     more : AreTold text line (has.events ++ e ∷ []) (drop_through 10 rest)
-    more = subst (λ (n : ℕ). AreTold text n (has.events ++ e ∷ []) (drop_through 10 rest)) (sym here) (told_more text count has.events rest e has.told some tells)
+    more = subst (λ (n : ℕ). AreTold text n (has.events ++ e ∷ []) (drop_through 10 rest)) (sym here) (told_more text count has.events rest e has.told some (subst (λ n. event_text n (take_through 10 rest) ≡ Ok e) here tells))
 
     taken : HasTaken (has.events ++ e ∷ []) new
     taken = takes.taken has.events has.taken
@@ -177,20 +182,20 @@ event_taken (Some text) (Some rest) later count line time found quiet after old 
     by_seen (Some g) none = record { events = has.events ++ e ∷ []; rest = drop_through 10 rest; told = more; unexplained = none has.events has.taken }
 
 -- all events of a time are told
-past : (events : List Event) (time : ℕ) (rest : List ℕ) (next : Option Event) (later : Option (List ℕ)) → All (λ d. d.time ≤ time) events → IsRead rest next later → IfSome next (λ e. time < e.time)
-    → IsPast events rest
-past events time rest None later times read after = inl read
-past events time rest (Some e) later times (some, tells, left) after =
-    inr (e, tells, All-weaker (λ d. d.time ≤ time) (λ d. d.time < e.time) (λ d le. omega (arith, le, after)) events times)
+past : (count number : ℕ) (events : List Event) (time : ℕ) (rest : List ℕ) (next : Option Event) (later : Option (List ℕ)) → number ≡ count + 1 → All (λ d. d.time ≤ time) events
+    → IsRead number rest next later → IfSome next (λ e. time < e.time) → IsPast count events rest
+past count number events time rest None later here times read after = inl read
+past count number events time rest (Some e) later here times (some, tells, left) after =
+    inr (e, subst (λ n. event_text n (take_through 10 rest) ≡ Ok e) here tells, All-weaker (λ d. d.time ≤ time) (λ d. d.time < e.time) (λ d le. omega (arith, le, after)) events times)
 
 -- those of a time that is past are found
-pub settled : (start now later : Option (List ℕ)) (count time : ℕ) (found found_after : List Found) (quiet quiet_after : List Quiet) (w : WatchValue) (next : Option Event) (is_past : Bool)
-    → HasTakenLines start count time found quiet w now → IfSome now (λ text. IsRead text next later) → (is_past ≡ true → IfSome next (λ e. time < e.time))
+pub settled : (start now later : Option (List ℕ)) (count number time : ℕ) (found found_after : List Found) (quiet quiet_after : List Quiet) (w : WatchValue) (next : Option Event) (is_past : Bool)
+    → HasTakenLines start count time found quiet w now → number ≡ count + 1 → IfSome now (λ text. IsRead number text next later) → (is_past ≡ true → IfSome next (λ e. time < e.time))
     → (is_past ≡ false → (found_after ≡ found) × (quiet_after ≡ quiet)) → (is_past ≡ true → quiet_after ≡ []) → (is_past ≡ true → All (IsStillFound w quiet found) found_after)
     → HasTakenLines start count time found_after quiet_after w now
-settled None now later count time found found_after quiet quiet_after w next is_past has read after waits cleared each = tt
-settled (Some text) None later count time found found_after quiet quiet_after w next is_past has read after waits cleared each = absurd has
-settled (Some text) (Some rest) later count time found found_after quiet quiet_after w next false has read after waits cleared each = record {
+settled None now later count number time found found_after quiet quiet_after w next is_past has here read after waits cleared each = tt
+settled (Some text) None later count number time found found_after quiet quiet_after w next is_past has here read after waits cleared each = absurd has
+settled (Some text) (Some rest) later count number time found found_after quiet quiet_after w next false has here read after waits cleared each = record {
   events = has.events;
   told = has.told;
   taken = has.taken;
@@ -198,7 +203,7 @@ settled (Some text) (Some rest) later count time found found_after quiet quiet_a
   found_by = subst (All (IsFoundBy text)) (sym (waits refl).0) has.found_by;
   quiet_by = subst (All (IsQuietBy text)) (sym (waits refl).1) has.quiet_by;
 }
-settled (Some text) (Some rest) later count time found found_after quiet quiet_after w next true has read after waits cleared each = record {
+settled (Some text) (Some rest) later count number time found found_after quiet quiet_after w next true has here read after waits cleared each = record {
   events = has.events;
   told = has.told;
   taken = has.taken;
@@ -215,7 +220,7 @@ settled (Some text) (Some rest) later count time found found_after quiet quiet_a
       count = count;
       rest = rest;
       told = has.told;
-      past = past has.events time rest next later has.times read (after refl);
+      past = past count number has.events time rest next later here has.times read (after refl);
       unexplained = noted.unexplained has.events has.taken;
       reach = noted.reach has.events has.taken;
     }
@@ -235,19 +240,19 @@ says_of w events has ending says = record {
 }
 
 -- what is said of the text where it ends at its end
-pub at_end : (start now later : Option (List ℕ)) (count time : ℕ) (found : List Found) (quiet : List Quiet) (going : Bool) (w : WatchValue) (watched : Watched) → HasTakenLines start count time found quiet w now
-    → IfSome now (λ text. IsRead text None later) → AllPairs (λ a b. a.granule ≢ b.granule) found → (going ≡ false → found ≡ []) → IsTold w found watched → watched.ending ≢ None
+pub at_end : (start now later : Option (List ℕ)) (count number time : ℕ) (found : List Found) (quiet : List Quiet) (going : Bool) (w : WatchValue) (watched : Watched) → HasTakenLines start count time found quiet w now
+    → IfSome now (λ text. IsRead number text None later) → AllPairs (λ a b. a.granule ≢ b.granule) found → (going ≡ false → found ≡ []) → IsTold w found watched → watched.ending ≢ None
     → IfSome watched.ending (SaysAtEnd w) → IfSome start (λ text. IsWatched text going watched)
-at_end None now later count time found quiet going w watched has read once first told some says = tt
-at_end (Some text) None later count time found quiet going w watched has read once first told some says = absurd has
-at_end (Some text) (Some rest) later count time found quiet going w watched has read once first told some says = record {
+at_end None now later count number time found quiet going w watched has read once first told some says = tt
+at_end (Some text) None later count number time found quiet going w watched has read once first told some says = absurd has
+at_end (Some text) (Some rest) later count number time found quiet going w watched has read once first told some says = record {
   events = has.events;
   count = count;
   rest = [];
   told = subst (AreTold text count has.events) read has.told;
   found = subst (All (IsFoundBy text)) (sym told.found_is) has.found_by;
   once = subst (AllPairs (λ (x y : Found). x.granule ≢ y.granule)) (sym told.found_is) once;
-  ends = subst (λ l. EndsAt going [] has.events l watched.ending) (sym told.found_is) (by_ending watched.ending some says);
+  ends = subst (λ l. EndsAt going count [] has.events l watched.ending) (sym told.found_is) (by_ending watched.ending some says);
   counted = told.counted has.events has.taken;
   watch = w;
   taken = has.taken;
@@ -255,26 +260,26 @@ at_end (Some text) (Some rest) later count time found quiet going w watched has 
   unjudged_is = told.unjudged_is;
 }
   where
-    by_ending : (o : Option Ending) → o ≢ None → IfSome o (SaysAtEnd w) → EndsAt going [] has.events found o
+    by_ending : (o : Option Ending) → o ≢ None → IfSome o (SaysAtEnd w) → EndsAt going count [] has.events found o
     by_ending None is_some said = absurd (is_some refl)
     by_ending (Some ending) is_some said = (refl, says_of w has.events has.taken ending said, first)
 
 -- what is said of the text where it stops
-pub at_stop : (start now later : Option (List ℕ)) (count time : ℕ) (found : List Found) (quiet : List Quiet) (going is_past : Bool) (w : WatchValue) (next : Option Event) (watched : Watched)
-    → HasTakenLines start count time found quiet w now → IfSome now (λ text. IsRead text next later) → (is_past ≡ true → IfSome next (λ e. time < e.time))
+pub at_stop : (start now later : Option (List ℕ)) (count number time : ℕ) (found : List Found) (quiet : List Quiet) (going is_past : Bool) (w : WatchValue) (next : Option Event) (watched : Watched)
+    → HasTakenLines start count time found quiet w now → number ≡ count + 1 → IfSome now (λ text. IsRead number text next later) → (is_past ≡ true → IfSome next (λ e. time < e.time))
     → AllPairs (λ a b. a.granule ≢ b.granule) found → (is_past ≡ true) × (going ≡ false) × (0 < length found) → IsTold w found watched → watched.ending ≡ None
     → IfSome start (λ text. IsWatched text going watched)
-at_stop None now later count time found quiet going is_past w next watched has read after once stops told none = tt
-at_stop (Some text) None later count time found quiet going is_past w next watched has read after once stops told none = absurd has
-at_stop (Some text) (Some rest) later count time found quiet going is_past w next watched has read after once stops told none = record {
+at_stop None now later count number time found quiet going is_past w next watched has here read after once stops told none = tt
+at_stop (Some text) None later count number time found quiet going is_past w next watched has here read after once stops told none = absurd has
+at_stop (Some text) (Some rest) later count number time found quiet going is_past w next watched has here read after once stops told none = record {
   events = has.events;
   count = count;
   rest = rest;
   told = has.told;
   found = subst (All (IsFoundBy text)) (sym told.found_is) has.found_by;
   once = subst (AllPairs (λ (x y : Found). x.granule ≢ y.granule)) (sym told.found_is) once;
-  ends = subst (EndsAt going rest has.events watched.found.items) (sym none)
-      (stops.1, subst (λ l. 0 < length l) (sym told.found_is) stops.2, past has.events time rest next later has.times read (after stops.0));
+  ends = subst (EndsAt going count rest has.events watched.found.items) (sym none)
+      (stops.1, subst (λ l. 0 < length l) (sym told.found_is) stops.2, past count number has.events time rest next later here has.times read (after stops.0));
   counted = told.counted has.events has.taken;
   watch = w;
   taken = has.taken;
@@ -288,20 +293,20 @@ pub where_refused : (start now : Option (List ℕ)) (count number time : ℕ) (f
 where_refused None now count number time found quiet going w f has here is = tt
 where_refused (Some text) None count number time found quiet going w f has here is = absurd has
 where_refused (Some text) (Some rest) count number time found quiet going w fault.Read has here is = tt
-where_refused (Some text) (Some rest) count number time found quiet going w (fault.Line n f) has here (same, refused) = (has.events, count, rest, has.told, sym (same ∙ here), refused)
+where_refused (Some text) (Some rest) count number time found quiet going w (fault.Line n f) has here (same, refused) = (has.events, count, rest, has.told, sym (same ∙ here), subst (λ n. event_text n (take_through 10 rest) ≡ Err f) (sym same) refused)
 where_refused (Some text) (Some rest) count number time found quiet going w (fault.Event n f) has here is = absurd is
 where_refused (Some text) (Some rest) count number time found quiet going w fault.TooManyLines has here is = absurd is
 where_refused (Some text) (Some rest) count number time found quiet going w fault.Memory has here is = tt
 
 -- or one whose event is not taken
 pub where_not_taken : (start now later : Option (List ℕ)) (count number time : ℕ) (found : List Found) (quiet : List Quiet) (going : Bool) (w : WatchValue) (e : Event) (f : LinesFault)
-    → HasTakenLines start count time found quiet w now → number ≡ count + 1 → IfSome now (λ text. IsRead text (Some e) later) → IsEventFault w e number f → IfSome start (λ text. IsOutcome text going (Err f))
+    → HasTakenLines start count time found quiet w now → number ≡ count + 1 → IfSome now (λ text. IsRead number text (Some e) later) → IsEventFault w e number f → IfSome start (λ text. IsOutcome text going (Err f))
 where_not_taken None now later count number time found quiet going w e f has here read is = tt
 where_not_taken (Some text) None later count number time found quiet going w e f has here read is = absurd has
 where_not_taken (Some text) (Some rest) later count number time found quiet going w e fault.Read has here read is = absurd is
 where_not_taken (Some text) (Some rest) later count number time found quiet going w e (fault.Line n f) has here read is = absurd is
 where_not_taken (Some text) (Some rest) later count number time found quiet going w e (fault.Event n f) has here read (same, refused) =
-    (has.events, count, rest, has.told, sym (same ∙ here), (e, read.1, (w, has.taken, refused)))
+    (has.events, count, rest, has.told, sym (same ∙ here), (e, subst (λ n. event_text n (take_through 10 rest) ≡ Ok e) (sym same) read.1, (w, has.taken, refused)))
 where_not_taken (Some text) (Some rest) later count number time found quiet going w e fault.TooManyLines has here read is = absurd is
 where_not_taken (Some text) (Some rest) later count number time found quiet going w e fault.Memory has here read is = tt
 

@@ -1,5 +1,5 @@
 -- lines of a text, and the events that they tell
-use Rattle.std.specs.Prelude.{◌≡◌, ℕ, ◌<◌, List, [], ◌∷◌, length, Ok}
+use Rattle.std.specs.Prelude.{◌≡◌, ℕ, ◌+◌, ◌<◌, List, [], ◌∷◌, length, Ok}
 use Rattle.std.specs.Io.BufRead.{drop_through, take_through}
 use Rattle.chi_events.specs.declared.event.Event.{Event}
 use Rattle.chi_event_text.specs.EventText.{event_text}
@@ -9,15 +9,15 @@ unfoldable pub AreLines : List ℕ → List (List ℕ) → List ℕ → Type 0
 AreLines text [] rest = text ≡ rest
 AreLines text (line ∷ lines) rest = (0 < length text) × (line ≡ take_through 10 text) × AreLines (drop_through 10 text) lines rest
 
--- each line tells its event
-unfoldable pub AreEvents : List (List ℕ) → List Event → Type 0
-AreEvents [] [] = Unit {0}
-AreEvents (line ∷ lines) (e ∷ events) = (event_text line ≡ Ok e) × AreEvents lines events
-AreEvents lines events = ⊥
+-- each line tells its event, where the first has this number
+unfoldable pub AreEvents : ℕ → List (List ℕ) → List Event → Type 0
+AreEvents number [] [] = Unit {0}
+AreEvents number (line ∷ lines) (e ∷ events) = (event_text number line ≡ Ok e) × AreEvents (number + 1) lines events
+AreEvents number lines events = ⊥
 
--- the first lines of the text, so many of them, tell these events, and the rest follows
+-- the first lines of the text, so many of them, counted from 1, tell these events, and the rest follows
 pub record AreTold (text : List ℕ) (count : ℕ) (events : List Event) (rest : List ℕ) : Type 0 where
   pub lines : List (List ℕ)
   pub count_is : length lines ≡ count
   pub are_lines : AreLines text lines rest
-  pub are_events : AreEvents lines events
+  pub are_events : AreEvents 1 lines events

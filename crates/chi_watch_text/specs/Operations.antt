@@ -2,7 +2,7 @@
 use Rattle.std.specs.Prelude.{◌≡◌, ℕ, ◌+◌, List, [], Some, Ok, Err, IsPermutation}
 use Rattle.std.specs.Io.BufRead.{take_through}
 use Rattle.chi_fields.specs.declared.refusal.Refusal.{Refusal}
-use Rattle.chi_trace.specs.declared.observed.Observed.{Observed}
+use Rattle.chi_trace.specs.declared.operation.Operation.{Operation}
 use Rattle.chi_trace.specs.Explains.{IsTrace}
 use Rattle.chi_events.specs.declared.event.Event.{Event}
 use Rattle.chi_events.specs.Operations.{operations, refusals_told}
@@ -16,12 +16,12 @@ use Rattle.chi_watch_text.specs.declared.fault.LinesFault.{LinesFault}
 use Rattle.chi_watch_text.specs.declared.fault.LinesFault.TheVariants as fault
 
 -- These are the operations that the events tell, in the order of their starts.
-pub record AreInOrder (events : List Event) (ops : List Observed) : Type 0 where
+pub record AreInOrder (events : List Event) (ops : List Operation) : Type 0 where
   pub trace : IsTrace ops
   pub same : IsPermutation (operations events) ops
 
 -- all lines of the text tell events, and these are their operations
-abbrev pub AreOperations : List ℕ → List Observed → Type 0
+abbrev pub AreOperations : List ℕ → List Operation → Type 0
 AreOperations text ops = (events : List Event) × (count : ℕ) × AreTold text count events [] × AreInOrder events ops
 
 -- all lines of the text tell events, and these are the reasons for which requests were refused, in some order
@@ -31,7 +31,7 @@ AreRefusals text refusals = (events : List Event) × (count : ℕ) × AreTold te
 -- the line with this number is the first that tells no event, for this reason
 abbrev pub IsNoEvent : List ℕ → ℕ → LineFault → Type 0
 IsNoEvent text number f =
-    (events : List Event) × (before : ℕ) × (rest : List ℕ) × AreTold text before events rest × (before + 1 ≡ number) × (event_text (take_through 10 rest) ≡ Err f)
+    (events : List Event) × (before : ℕ) × (rest : List ℕ) × AreTold text before events rest × (before + 1 ≡ number) × (event_text number (take_through 10 rest) ≡ Err f)
 
 -- the outstanding requests refuse an event for this reason; what a watch says of words is none
 abbrev pub Refuses : OutstandingValue → Event → WatchFault → Type 0
@@ -55,7 +55,7 @@ IsTakingFault o event number fault.Memory = Unit {0}
 abbrev pub IsNotNext : List ℕ → ℕ → WatchFault → Type 0
 IsNotNext text number f =
     (events : List Event) × (before : ℕ) × (rest : List ℕ) × AreTold text before events rest × (before + 1 ≡ number)
-    × ((e : Event) × (event_text (take_through 10 rest) ≡ Ok e) × ((ended : List Observed) × (o : OutstandingValue) × Tells events ended o × Refuses o e f))
+    × ((e : Event) × (event_text number (take_through 10 rest) ≡ Ok e) × ((ended : List Operation) × (o : OutstandingValue) × Tells events ended o × Refuses o e f))
 
 -- why a text tells no operations
 abbrev pub IsOperationsFault : List ℕ → LinesFault → Type 0

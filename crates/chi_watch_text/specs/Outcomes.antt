@@ -46,9 +46,9 @@ pub record IsSeenBy (text : List ℕ) (g line : ℕ) : Type 0 where
 abbrev pub IsQuietBy : List ℕ → Quiet → Type 0
 IsQuietBy text q = IsSeenBy text q.granule q.line
 
--- all events of the last time are told: nothing follows, or the next line tells one of a later time
-abbrev pub IsPast : List Event → List ℕ → Type 0
-IsPast events rest = (rest ≡ []) ⊎ ((e : Event) × (event_text (take_through 10 rest) ≡ Ok e) × All (λ d. d.time < e.time) events)
+-- all events of the last time are told by so many lines: nothing follows, or the next line tells one of a later time
+abbrev pub IsPast : ℕ → List Event → List ℕ → Type 0
+IsPast count events rest = (rest ≡ []) ⊎ ((e : Event) × (event_text (count + 1) (take_through 10 rest) ≡ Ok e) × All (λ d. d.time < e.time) events)
 
 -- No order explains the granule by the lines up to the one that is named, and none does once all events of that time are told. By
 -- these its operations can be explained so far.
@@ -58,7 +58,7 @@ pub record IsFoundBy (text : List ℕ) (f : Found) : Type 0 where
   pub count : ℕ
   pub rest : List ℕ
   pub told : AreTold text count events rest
-  pub past : IsPast events rest
+  pub past : IsPast count events rest
   pub unexplained : IsUnexplained events f.granule
   pub reach : IsReach events f.granule f.reach
 
@@ -93,11 +93,11 @@ pub record SaysOf (events : List Event) (ending : Ending) : Type 0 where
   pub each : (g : ℕ) → is_known events g ≡ true → CanBeExplained events g ⊎ IsListed g (granules_of ending.unexplained.items) ending.undecided.items
   pub unexplained : All (IsFoundAtEnd events) ending.unexplained.items
 
--- where the reading ends: at the end of the text, or, where it does not keep going, once all events are told of a time at which a
--- granule was found
-abbrev pub EndsAt : Bool → List ℕ → List Event → List Found → Option Ending → Type 0
-EndsAt going rest events found (Some ending) = (rest ≡ []) × SaysOf events ending × (going ≡ false → found ≡ [])
-EndsAt going rest events found None = (going ≡ false) × (0 < length found) × IsPast events rest
+-- where the reading ends after so many lines: at the end of the text, or, where it does not keep going, once all events are told of
+-- a time at which a granule was found
+abbrev pub EndsAt : Bool → ℕ → List ℕ → List Event → List Found → Option Ending → Type 0
+EndsAt going count rest events found (Some ending) = (rest ≡ []) × SaysOf events ending × (going ≡ false → found ≡ [])
+EndsAt going count rest events found None = (going ≡ false) × (0 < length found) × IsPast count events rest
 
 -- What is found of a text: of so many lines, which tell events that a watch takes.
 pub record IsWatched (text : List ℕ) (going : Bool) (w : Watched) : Type 0 where
@@ -107,7 +107,7 @@ pub record IsWatched (text : List ℕ) (going : Bool) (w : Watched) : Type 0 whe
   pub told : AreTold text count events rest
   pub found : All (IsFoundBy text) w.found.items
   pub once : AllPairs (λ a b. a.granule ≢ b.granule) w.found.items
-  pub ends : EndsAt going rest events w.found.items w.ending
+  pub ends : EndsAt going count rest events w.found.items w.ending
   pub counted : AreCounted events w.counts
   pub watch : WatchValue
   pub taken : HasTaken events watch
@@ -119,9 +119,9 @@ abbrev pub IsOutcome : List ℕ → Bool → Result Watched LinesFault → Type 
 IsOutcome text going (Ok watched) = IsWatched text going watched
 IsOutcome text going (Err fault.Read) = Unit {0}
 IsOutcome text going (Err (fault.Line number f)) =
-    (events : List Event) × (before : ℕ) × (rest : List ℕ) × AreTold text before events rest × (before + 1 ≡ number) × (event_text (take_through 10 rest) ≡ Err f)
+    (events : List Event) × (before : ℕ) × (rest : List ℕ) × AreTold text before events rest × (before + 1 ≡ number) × (event_text number (take_through 10 rest) ≡ Err f)
 IsOutcome text going (Err (fault.Event number f)) =
-    (events : List Event) × (before : ℕ) × (rest : List ℕ) × AreTold text before events rest × (before + 1 ≡ number) × ((e : Event) × (event_text (take_through 10 rest) ≡ Ok e) × ((w : WatchValue) × HasTaken events w × (fault_of w e ≡ Some f)))
+    (events : List Event) × (before : ℕ) × (rest : List ℕ) × AreTold text before events rest × (before + 1 ≡ number) × ((e : Event) × (event_text number (take_through 10 rest) ≡ Ok e) × ((w : WatchValue) × HasTaken events w × (fault_of w e ≡ Some f)))
 IsOutcome text going (Err fault.TooManyLines) = Unit {0}
 IsOutcome text going (Err fault.Memory) = Unit {0}
 

@@ -4,12 +4,7 @@ use Rattle.chi_answer.specs.Lines.{blamed_line, end_line, open_line, word_lines}
 use Rattle.chi_recent.specs.declared.reach.Reach.{Reach}
 use Rattle.chi_recent.specs.declared.reach.Reach.TheVariants.{Whole, Stops, Undecided}
 use Rattle.chi_recent.specs.declared.reach.Stop.{Stop}
-use Rattle.chi_recent.specs.declared.traced.Traced.{Traced}
 use Rattle.chi_watch_text.specs.RowTexts.{rows_text}
-
--- an operation that was open
-abbrev pub kept_line : Traced → List ℕ
-kept_line t = open_line t.asked t.op
 
 -- the time up to which they can be explained, where there is one
 unfoldable pub up_to_line : ℕ → List ℕ
@@ -17,7 +12,7 @@ up_to_line time = if time == 0 then [] else codes "  explained up to " ++ decima
 
 -- where they stop being explained
 abbrev pub stop_text : Stop → List ℕ
-stop_text s = blamed_line s.time s.op.asked s.op.op ++ (word_lines s.words.items ++ (flat_map kept_line s.overlapping.items ++ (up_to_line s.time ++ rows_text s)))
+stop_text s = blamed_line s.time s.op ++ (word_lines s.words.items ++ (flat_map open_line s.overlapping.items ++ (up_to_line s.time ++ rows_text s)))
 
 -- the word that was told at the end, and those that could have been there
 abbrev pub final_text : Option ℕ → List ℕ → List ℕ

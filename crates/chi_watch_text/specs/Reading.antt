@@ -6,15 +6,15 @@ use Rattle.chi_events.specs.declared.event.Event.{Event}
 use Rattle.chi_watch_text.specs.declared.fault.LinesFault.{LinesFault}
 use Rattle.chi_watch_text.specs.declared.fault.LinesFault.TheVariants as fault
 
--- the text is at its end, or its next line tells this event, and the rest follows
-abbrev pub IsRead : List ℕ → Option Event → Option (List ℕ) → Type 0
-IsRead text None rest = text ≡ []
-IsRead text (Some e) rest = (0 < length text) × (event_text (take_through 10 text) ≡ Ok e) × (rest ≡ Some (drop_through 10 text))
+-- the text is at its end, or its next line, which has this number, tells this event, and the rest follows
+abbrev pub IsRead : ℕ → List ℕ → Option Event → Option (List ℕ) → Type 0
+IsRead number text None rest = text ≡ []
+IsRead number text (Some e) rest = (0 < length text) × (event_text number (take_through 10 text) ≡ Ok e) × (rest ≡ Some (drop_through 10 text))
 
 -- why the line with this number tells no event, or was not read
 abbrev pub IsRefused : List ℕ → ℕ → LinesFault → Type 0
 IsRefused line number fault.Read = Unit {0}
-IsRefused line number (fault.Line n f) = (n ≡ number) × (event_text line ≡ Err f)
+IsRefused line number (fault.Line n f) = (n ≡ number) × (event_text number line ≡ Err f)
 IsRefused line number (fault.Event n f) = ⊥
 IsRefused line number fault.TooManyLines = ⊥
 IsRefused line number fault.Memory = Unit {0}

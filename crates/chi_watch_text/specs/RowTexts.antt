@@ -1,24 +1,19 @@
 -- the text of a granule's last operations
-use Rattle.std.specs.Prelude.{◌≡◌, ℕ, nat_lt, true, false, List, [], ◌∷◌, ◌++◌, IfSome, codes, filter, flat_map, is_some, map}
+use Rattle.std.specs.Prelude.{◌≡◌, ℕ, nat_lt, true, false, List, [], ◌∷◌, ◌++◌, IfSome, codes, filter, flat_map, is_some}
 use Rattle.chi_excerpt.specs.Rows.{first_start, widths_of}
 use Rattle.chi_excerpt.specs.Texts.{legal_line, line_of_time, row_text}
 use Rattle.chi_excerpt.specs.declared.excerpt.Excerpt.{Excerpt}
-use Rattle.chi_excerpt.specs.declared.row.Row.{Row}
 use Rattle.chi_lanes.specs.declared.reply.Reply.{Reply}
 use Rattle.chi_recent.specs.declared.reach.Stop.{Stop}
-use Rattle.chi_recent.specs.declared.traced.Traced.{Traced}
-
--- the row of an operation
-abbrev pub row_of : Traced → Row
-row_of t = record { number = t.number; asked = t.asked; op = t.op }
+use Rattle.chi_trace.specs.declared.operation.Operation.{Operation}
 
 -- those that ended after a time
-abbrev pub ended_after : ℕ → List Traced → List Traced
-ended_after time traced = filter (λ t. nat_lt time t.op.end) traced
+abbrev pub ended_after : ℕ → List Operation → List Operation
+ended_after time ops = filter (λ op. nat_lt time op.end) ops
 
 -- The rows of operations that ended before, of the one that is blamed, with the replies that would have been legal, and of those
 -- that were open. They stand on a line of time from the first start of them to a time.
-unfoldable pub lines_of : List Row → Row → List Reply → List Row → ℕ → List ℕ
+unfoldable pub lines_of : List Operation → Operation → List Reply → List Operation → ℕ → List ℕ
 lines_of before row legal still_open time =
     let rows = before ++ (row ∷ []) ++ still_open in
     let from = first_start time rows in
@@ -29,11 +24,11 @@ lines_of before row legal still_open time =
 
 -- the last operations of a granule where they stop being explained
 abbrev pub rows_text : Stop → List ℕ
-rows_text s = lines_of (map row_of s.before.items) (row_of s.op) s.legal.items (map row_of (ended_after s.time s.overlapping.items)) s.time
+rows_text s = lines_of s.before.items s.op s.legal.items (ended_after s.time s.overlapping.items) s.time
 
 -- the excerpt has the last of them that had ended, the one that is blamed, and those that ended later
 pub record IsExcerptOf (s : Stop) (e : Excerpt) : Type 0 where
-  pub before : e.before.items ≡ map row_of s.before.items
-  pub blamed : IfSome e.blamed (λ b. (b.row ≡ row_of s.op) × (b.legal.items ≡ s.legal.items))
+  pub before : e.before.items ≡ s.before.items
+  pub blamed : IfSome e.blamed (λ b. (b.row ≡ s.op) × (b.legal.items ≡ s.legal.items))
   pub there : is_some e.blamed ≡ true
-  pub still_open : e.open.items ≡ map row_of (ended_after s.time s.overlapping.items)
+  pub still_open : e.open.items ≡ ended_after s.time s.overlapping.items

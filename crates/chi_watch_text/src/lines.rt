@@ -28,10 +28,10 @@ fn next_line<R: BufRead>(from: &mut R, line: &mut Vec<u8>) -> Result<(), LinesFa
 
 /// The event that the line with this number tells.
 fn event_told(alloc: Global, line: &[u8], number: u64) -> Result<Event, LinesFault>
-    ensures told { IfOk result (λ event. event_text line.now ≡ Ok event) }
+    ensures told { IfOk result (λ event. event_text number line.now ≡ Ok event) }
     ensures fault { IfErr result (IsRefused line.now number) }
 {
-    match read_event(alloc, line) {
+    match read_event(alloc, number, line) {
         Ok(event) => Ok(event),
         Err(LineFault::Memory) => Err(LinesFault::Memory),
         Err(fault) => Err(LinesFault::Line { number, fault }),
@@ -45,7 +45,7 @@ pub(crate) fn next_event<R: BufRead>(
     line: &mut Vec<u8>,
     number: u64,
 ) -> Result<Option<Event>, LinesFault>
-    ensures told { IfOk result (λ event. IfSome (R.remaining from.old) (λ text. IsRead text event (R.remaining from.new))) }
+    ensures told { IfOk result (λ event. IfSome (R.remaining from.old) (λ text. IsRead number text event (R.remaining from.new))) }
     ensures fault { IfErr result (λ fault. IfSome (R.remaining from.old) (λ text. IsRefused (take_through 10 text) number fault)) }
 {
     next_line(from, line)?;

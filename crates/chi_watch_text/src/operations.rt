@@ -1,7 +1,7 @@
 //! Events that are read line by line, and the operations and the refusals that they tell.
 
 ghost use Rattle.std.specs.Prelude.{◌≡◌, [], ◌∷◌, ◌++◌, List, Some, IfErr, IfOk, IfSome, IsPermutation, OnOk, filter_map, option_to_list};
-ghost use Rattle.chi_trace.specs.declared.observed.Observed.{Observed};
+ghost use Rattle.chi_trace.specs.declared.operation.Operation.{Operation};
 ghost use Rattle.chi_events.specs.declared.event.Event.{Event};
 ghost use Rattle.chi_events.specs.Operations.{refusals_told};
 ghost use Rattle.chi_events.specs.Outstanding.{Tells, open_operation, refusal_by};
@@ -12,7 +12,7 @@ use crate::lines::next_event;
 use chi_events::laws::operations_are_told;
 use chi_events::{Event, EventFault, Open, Outstanding};
 use chi_fields::Refusal;
-use chi_trace::Observed;
+use chi_trace::Operation;
 use chi_watch::WatchFault;
 use std::alloc::{AllocError, Global};
 use std::io::BufRead;
@@ -20,7 +20,7 @@ use std::io::BufRead;
 /// What events tell: the operations, in the order of their starts, and why requests were refused, where that is known.
 #[derive(Debug, Drop)]
 pub struct OperationsTold {
-    pub operations: Vec<Observed>,
+    pub operations: Vec<Operation>,
     pub refusals: Vec<Refusal>,
 }
 
@@ -29,9 +29,9 @@ fn take_event(
     outstanding: &mut Outstanding,
     event: &Event,
     number: u64,
-) -> Result<Option<Observed>, LinesFault>
-    ensures tells { IfOk result (λ ended. (events : List Event) (past : List Observed) → Tells events past outstanding.old → Tells (events ++ event.now ∷ []) (past ++ option_to_list ended) outstanding.new) }
-    ensures refusals { IfOk result (λ ended. (events : List Event) (past : List Observed) → Tells events past outstanding.old → IsPermutation (refusals_told (events ++ event.now ∷ [])) (refusals_told events ++ option_to_list (refusal_by outstanding.old.requests event.now.kind))) }
+) -> Result<Option<Operation>, LinesFault>
+    ensures tells { IfOk result (λ ended. (events : List Event) (past : List Operation) → Tells events past outstanding.old → Tells (events ++ event.now ∷ []) (past ++ option_to_list ended) outstanding.new) }
+    ensures refusals { IfOk result (λ ended. (events : List Event) (past : List Operation) → Tells events past outstanding.old → IsPermutation (refusals_told (events ++ event.now ∷ [])) (refusals_told events ++ option_to_list (refusal_by outstanding.old.requests event.now.kind))) }
     ensures fault { IfErr result (IsTakingFault outstanding.old event.now number) }
 {
     match outstanding.take(event) {
@@ -55,7 +55,7 @@ fn add_some<T: Drop>(items: &mut Vec<T>, item: Option<T>) -> Result<(), AllocErr
 }
 
 /// Adds the operations of requests that are outstanding and have their data.
-fn add_open(ops: &mut Vec<Observed>, requests: &[Open]) -> Result<(), AllocError>
+fn add_open(ops: &mut Vec<Operation>, requests: &[Open]) -> Result<(), AllocError>
     ensures { OnOk result (ops.new.items ≡ ops.old.items ++ filter_map open_operation requests.now) }
 {
     for request in requests {
@@ -65,7 +65,10 @@ fn add_open(ops: &mut Vec<Observed>, requests: &[Open]) -> Result<(), AllocError
 }
 
 /// The operations that had ended and those that are still open, in the order of their starts.
-fn in_order(mut ops: Vec<Observed>, outstanding: &Outstanding) -> Result<Vec<Observed>, AllocError>
+fn in_order(
+    mut ops: Vec<Operation>,
+    outstanding: &Outstanding,
+) -> Result<Vec<Operation>, AllocError>
     ensures { IfOk result (λ all. (events : List Event) → Tells events ops.items outstanding.now → AreInOrder events all.items) }
 {
     operations_are_told();

@@ -1,21 +1,23 @@
 //! The lines of how far a granule's operations can be explained.
 
-ghost use Rattle.std.specs.Prelude.{◌≡◌, ◌++◌, IfOk, OnOk, flat_map, map};
-ghost use Rattle.chi_watch_text.specs.ReachTexts.{final_text, kept_line, reach_text, stop_text, up_to_line};
-ghost use Rattle.chi_watch_text.specs.RowTexts.{IsExcerptOf, ended_after, row_of};
+ghost use Rattle.std.specs.Prelude.{◌≡◌, ◌++◌, IfOk, OnOk, flat_map};
+ghost use Rattle.chi_answer.specs.Lines.{open_line};
+ghost use Rattle.chi_watch_text.specs.ReachTexts.{final_text, reach_text, stop_text, up_to_line};
+ghost use Rattle.chi_watch_text.specs.RowTexts.{IsExcerptOf, ended_after};
 
 use chi_answer::{add_blamed, add_end, add_open, add_words};
-use chi_excerpt::{Blamed, Excerpt, Row, add_excerpt};
-use chi_recent::{Reach, Stop, Traced};
+use chi_excerpt::{Blamed, Excerpt, add_excerpt};
+use chi_recent::{Reach, Stop};
 use chi_text::{Part, add_parts};
+use chi_trace::Operation;
 use std::alloc::{AllocError, Global};
 
 /// The lines of the operations that were open.
-fn add_overlapping(to: &mut Vec<u8>, overlapping: &[Traced]) -> Result<(), AllocError>
-    ensures { OnOk result (to.new.items ≡ to.old.items ++ flat_map kept_line overlapping.now) }
+fn add_overlapping(to: &mut Vec<u8>, overlapping: &[Operation]) -> Result<(), AllocError>
+    ensures { OnOk result (to.new.items ≡ to.old.items ++ flat_map open_line overlapping.now) }
 {
-    for traced in overlapping {
-        add_open(to, &traced.asked, &traced.op)?;
+    for op in overlapping {
+        add_open(to, op)?;
     }
     Ok(())
 }
@@ -37,36 +39,13 @@ fn add_up_to(to: &mut Vec<u8>, time: u64) -> Result<(), AllocError>
     )
 }
 
-/// The row of an operation.
-fn row_of(traced: &Traced) -> Row
-    ensures { result ≡ row_of traced.now }
-{
-    Row {
-        number: traced.number,
-        asked: traced.asked,
-        op: traced.op,
-    }
-}
-
-/// The rows of operations.
-fn rows_of(alloc: Global, traced: &[Traced]) -> Result<Vec<Row>, AllocError>
-    ensures { IfOk result (λ rows. rows.items ≡ map row_of traced.now) }
-{
-    let mut rows = Vec::new(alloc);
-    for one in traced {
-        rows.push(row_of(one))?;
-    }
-    Ok(rows)
-}
-
 /// Those that ended after a time.
-fn ended_after(alloc: Global, traced: &[Traced], time: u64) -> Result<Vec<Traced>, AllocError>
-    ensures { IfOk result (λ after. after.items ≡ ended_after time traced.now) }
+fn ended_after(alloc: Global, ops: &[Operation], time: u64) -> Result<Vec<Operation>, AllocError>
+    ensures { IfOk result (λ after. after.items ≡ ended_after time ops.now) }
 {
-    traced
-        .iter()
+    ops.iter()
         .copied()
-        .filter(|one| time < one.op.end)
+        .filter(|op| time < op.end)
         .collect(alloc)
 }
 
@@ -74,11 +53,10 @@ fn ended_after(alloc: Global, traced: &[Traced], time: u64) -> Result<Vec<Traced
 fn excerpt_of(alloc: Global, stop: &Stop) -> Result<Excerpt, AllocError>
     ensures { IfOk result (IsExcerptOf stop.now) }
 {
-    let before = rows_of(alloc, &stop.before)?;
-    let row = row_of(&stop.op);
+    let before = Vec::from_slice(alloc, &stop.before)?;
     let legal = Vec::from_slice(alloc, &stop.legal)?;
-    let still_open = ended_after(alloc, &stop.overlapping, stop.time)?;
-    let open = rows_of(alloc, &still_open)?;
+    let open = ended_after(alloc, &stop.overlapping, stop.time)?;
+    let row = stop.op;
     Ok(Excerpt {
         before,
         blamed: Some(Blamed { row, legal }),
@@ -91,7 +69,7 @@ fn add_stop(alloc: Global, to: &mut Vec<u8>, stop: &Stop) -> Result<(), AllocErr
     ensures { OnOk result (to.new.items ≡ to.old.items ++ stop_text stop.now) }
 {
     let excerpt = excerpt_of(alloc, stop)?;
-    add_blamed(to, stop.time, &stop.op.asked, &stop.op.op)?;
+    add_blamed(to, stop.time, &stop.op)?;
     add_words(to, &stop.words)?;
     add_overlapping(to, &stop.overlapping)?;
     add_up_to(to, stop.time)?;

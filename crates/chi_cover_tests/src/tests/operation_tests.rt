@@ -5,11 +5,11 @@ use crate::tests::operations::{add, covered_by, lanes, observed};
 use chi_cover::{Bin, Covered, Enabled};
 use chi_fields::{Kind, Op};
 use chi_lanes::Reply;
-use chi_trace::Observed;
+use chi_trace::Operation;
 use std::test::Fail;
 
 // An AtomicLoad.ADD of two bytes at 0x1004, which found `old` and was sent `sent`.
-fn addition(endian: bool, old: [u8; 2], sent: [u8; 2]) -> Result<Observed, Fail> {
+fn addition(endian: bool, old: [u8; 2], sent: [u8; 2]) -> Result<Operation, Fail> {
     let reply = Reply::CompData(lanes(4, &old));
     observed(0x30, 1, 0x1004, endian, 0x30, lanes(4, &sent), Some(reply))
 }
@@ -29,7 +29,7 @@ fn an_operation_is_of_its_kind_order_length_and_lane(rt: HostRuntime) -> Result<
         (Kind::Read, true, 8, 8, 1),
     ];
     for (kind, endian, len, lane, wanted) in cases {
-        let bin = Bin::Operation {
+        let bin = Bin::Operand {
             kind,
             endian,
             len,
@@ -41,7 +41,7 @@ fn an_operation_is_of_its_kind_order_length_and_lane(rt: HostRuntime) -> Result<
 }
 
 // An AtomicCompare of four bytes at an address, whose compare value is 1, 2, 3, 4 and whose swap value is 9, 9, 9, 9.
-fn comparison(addr: u64, reply: Option<Reply>) -> Result<Observed, Fail> {
+fn comparison(addr: u64, reply: Option<Reply>) -> Result<Operation, Fail> {
     let sent = if addr % 8 == 0 {
         lanes(0, &[1, 2, 3, 4, 9, 9, 9, 9])
     } else {
@@ -124,7 +124,7 @@ fn an_addition_has_results_in_its_byte_order(rt: HostRuntime) -> Result<(), Fail
 }
 
 // An AtomicLoad of one byte at 0x1007 that found `old` and was sent `sent`, by its opcode.
-fn byte_load(opcode: u8, old: u8, sent: u8) -> Result<Observed, Fail> {
+fn byte_load(opcode: u8, old: u8, sent: u8) -> Result<Operation, Fail> {
     let reply = Reply::CompData(lanes(7, &[old]));
     observed(
         opcode,

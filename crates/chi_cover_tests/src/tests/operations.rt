@@ -3,8 +3,7 @@
 use chi_cover::Covered;
 use chi_fields::{Access, Region, Request, decode};
 use chi_lanes::Reply;
-use chi_trace::Observed;
-use chi_verdict::{GranuleWords, Trace};
+use chi_trace::{GranuleWords, Operation, Trace};
 use std::alloc::Global;
 use std::test::Fail;
 
@@ -45,19 +44,21 @@ pub(crate) fn observed(
     be: u16,
     lanes: [u8; 16],
     reply: Option<Reply>,
-) -> Result<Observed, Fail> {
-    Ok(Observed {
+) -> Result<Operation, Fail> {
+    Ok(Operation {
+        number: 0,
+        src: 1,
+        txn: 0,
+        access: access(opcode, size, addr, endian, be, lanes)?,
         start: 0,
         end: 9,
-        src: 1,
-        access: access(opcode, size, addr, endian, be, lanes)?,
         reply,
     })
 }
 
 /// The operation of a requester from one time to another.
-pub(crate) fn of_requester(op: Observed, src: u16, start: u64, end: u64) -> Observed {
-    Observed {
+pub(crate) fn of_requester(op: Operation, src: u16, start: u64, end: u64) -> Operation {
+    Operation {
         start,
         end,
         src,
@@ -78,7 +79,7 @@ pub(crate) fn lanes(first: usize, bytes: &[u8]) -> [u8; 16] {
 
 /// An AtomicLoad.ADD of two bytes at 0x1004 that found 0xffff, was sent 1 and left 0; and a write of two of four bytes there,
 /// by another requester, before the AtomicLoad had ended.
-pub(crate) fn small_trace() -> Result<[Observed; 2], Fail> {
+pub(crate) fn small_trace() -> Result<[Operation; 2], Fail> {
     let found = Reply::CompData(lanes(4, &[0xff, 0xff]));
     let load = observed(0x30, 1, 0x1004, false, 0x30, lanes(4, &[1, 0]), Some(found))?;
     let write = observed(0x1c, 2, 0x1004, true, 0x90, [0; 16], Some(Reply::Comp))?;
@@ -86,7 +87,7 @@ pub(crate) fn small_trace() -> Result<[Observed; 2], Fail> {
 }
 
 /// Adds a trace of these operations.
-pub(crate) fn add(alloc: Global, covered: &mut Covered, ops: &[Observed]) -> Result<(), Fail> {
+pub(crate) fn add(alloc: Global, covered: &mut Covered, ops: &[Operation]) -> Result<(), Fail> {
     match Trace::new(GranuleWords::none(alloc), Vec::from_slice(alloc, ops)?) {
         Some(trace) => {
             covered.add(alloc, trace.operations())?;
@@ -97,7 +98,7 @@ pub(crate) fn add(alloc: Global, covered: &mut Covered, ops: &[Observed]) -> Res
 }
 
 /// What was covered by a trace of these operations.
-pub(crate) fn covered_by(alloc: Global, ops: &[Observed]) -> Result<Covered, Fail> {
+pub(crate) fn covered_by(alloc: Global, ops: &[Operation]) -> Result<Covered, Fail> {
     let mut covered = Covered::new(alloc)?;
     add(alloc, &mut covered, ops)?;
     Ok(covered)

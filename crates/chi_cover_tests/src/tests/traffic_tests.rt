@@ -3,22 +3,22 @@
 use crate::tests::comparison::assert_same;
 use crate::tests::operations::{covered_by, observed, of_requester};
 use chi_cover::{Bin, Depth, Transaction};
-use chi_trace::Observed;
+use chi_trace::Operation;
 use std::process::Abort;
 use std::test::Fail;
 
-fn read(addr: u64, size: u8) -> Result<Observed, Fail> {
+fn read(addr: u64, size: u8) -> Result<Operation, Fail> {
     observed(0x04, size, addr, false, 0, [0; 16], None)
 }
 
-fn write(addr: u64, size: u8) -> Result<Observed, Fail> {
+fn write(addr: u64, size: u8) -> Result<Operation, Fail> {
     observed(0x1c, size, addr, false, 0, [0; 16], None)
 }
 
 // Compares the counts of the five depths.
 fn assert_depths<R: AllocGlobal + Abort>(
     rt: &R,
-    ops: &[Observed],
+    ops: &[Operation],
     wanted: [u64; 5],
 ) -> Result<(), Fail> {
     let covered = covered_by(rt.alloc(), ops)?;
@@ -59,7 +59,7 @@ fn an_operation_is_open_up_to_its_end(rt: HostRuntime) -> Result<(), Fail> {
 // requester, and of two.
 fn assert_overlaps<R: AllocGlobal + Abort>(
     rt: &R,
-    ops: &[Observed],
+    ops: &[Operation],
     wanted: &[(Transaction, Transaction, u64)],
     (same, other): (u64, u64),
 ) -> Result<(), Fail> {

@@ -5,7 +5,7 @@ use crate::tests::traces::{
     ADD, HIGH, LOW, NEXT, Timed, add, answered, at, data, read, silent, trace_from, write,
 };
 use chi_lanes::Reply;
-use chi_verdict::{GranuleWord, execute};
+use chi_trace::{GranuleWord, execute};
 use std::process::Abort;
 use std::test::Fail;
 

@@ -6,7 +6,8 @@ use crate::tests::traces::{
     trace, write,
 };
 use chi_search::NoProgress;
-use chi_verdict::{GranuleWord, GranuleWords, Verdict, explain};
+use chi_trace::{GranuleWord, GranuleWords};
+use chi_verdict::{Verdict, explain};
 use std::test::Fail;
 
 #[test]

@@ -5,7 +5,8 @@ ghost use Rattle.std.specs.Prelude.{◌≡◌, ◌-◌, ◌^◌, min};
 use crate::tests::comparison::assert_same;
 use crate::tests::traces::{BUDGET, LOW, LOWER, NEXT, Timed, add, read, trace, write};
 use chi_search::{Progress, Words};
-use chi_verdict::{First, GranuleWords, Verdict, explain, first_unexplained, words_held};
+use chi_trace::GranuleWords;
+use chi_verdict::{First, Verdict, explain, first_unexplained, words_held};
 use std::alloc::Global;
 use std::test::Fail;
 

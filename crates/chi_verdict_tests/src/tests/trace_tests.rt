@@ -4,7 +4,8 @@ use crate::tests::comparison::assert_same;
 use crate::tests::traces::{BUDGET, LOW, Timed, add, observed, read, trace, write};
 use chi_lanes::Reply;
 use chi_search::NoProgress;
-use chi_verdict::{GranuleWords, Verdict, are_traced, explain};
+use chi_trace::{GranuleWords, are_traced};
+use chi_verdict::{Verdict, explain};
 use std::alloc::Global;
 use std::test::Fail;
 

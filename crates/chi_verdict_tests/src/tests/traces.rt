@@ -4,8 +4,8 @@ use crate::tests::comparison::assert_same;
 use chi_fields::{Region, Request, decode};
 use chi_lanes::Reply;
 use chi_search::NoProgress;
-use chi_trace::Observed;
-use chi_verdict::{First, GranuleWord, GranuleWords, Trace, Verdict, explain, first_unexplained};
+use chi_trace::{GranuleWord, GranuleWords, Operation, Trace};
+use chi_verdict::{First, Verdict, explain, first_unexplained};
 use std::alloc::Global;
 use std::process::Abort;
 use std::test::Fail;
@@ -127,15 +127,17 @@ pub(crate) fn swap(times: (u64, u64), addr: u64, word: u64, answer: u64) -> Time
 }
 
 /// What was observed of these operations.
-pub(crate) fn observed(alloc: Global, ops: &[Timed]) -> Result<Vec<Observed>, Fail> {
+pub(crate) fn observed(alloc: Global, ops: &[Timed]) -> Result<Vec<Operation>, Fail> {
     let mut list = Vec::new(alloc);
     for op in ops {
         let region = Region::new(op.request.addr / 64 * 64, 8)?;
-        list.push(Observed {
+        list.push(Operation {
+            number: 0,
+            src: 1,
+            txn: u16::from(op.request.txn),
+            access: decode(&op.request, &region)?,
             start: op.times.0,
             end: op.times.1,
-            src: 1,
-            access: decode(&op.request, &region)?,
             reply: op.reply,
         })?;
     }

@@ -5,7 +5,8 @@ use crate::tests::traces::{
     ADD, BUDGET, HIGH, LOW, NEXT, Timed, at, read, silent, trace_from, words, write,
 };
 use chi_search::{NoProgress, Words};
-use chi_verdict::{GranuleWord, GranuleWords, words_held};
+use chi_trace::{GranuleWord, GranuleWords};
+use chi_verdict::words_held;
 use std::alloc::Global;
 use std::collections::BTreeMap;
 use std::test::Fail;

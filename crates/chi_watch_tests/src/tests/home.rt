@@ -3,9 +3,8 @@
 use crate::tests::comparison::assert_same;
 use chi_events::{Completion, Event, EventKind, Packet, Requested};
 use chi_lanes::Reply;
-use chi_reading::Asked;
 use chi_search::NoProgress;
-use chi_verdict::GranuleWord;
+use chi_trace::{Asked, GranuleWord};
 use chi_watch::{Ending, Watch, WatchFault};
 use std::alloc::Global;
 use std::process::Abort;
@@ -23,6 +22,7 @@ fn request(id: u64, opcode: u8, addr: u64, be: u16, value: u8, has_data: bool) -
     EventKind::Request(Requested {
         id,
         asked: Asked {
+            number: 0,
             src: 1,
             txn: 0,
             opcode,
@@ -112,14 +112,28 @@ pub(crate) fn dropped(id: u64) -> EventKind {
     EventKind::Dropped { id }
 }
 
-/// What the watch finds by an event.
+// What is told at a time; a request's number is its time.
+fn event(time: u64, kind: EventKind) -> Event {
+    match kind {
+        EventKind::Request(mut request) => {
+            request.asked.number = time;
+            Event {
+                time,
+                kind: EventKind::Request(request),
+            }
+        }
+        _ => Event { time, kind },
+    }
+}
+
+/// What the watch finds by an event. A request's number is its time.
 pub(crate) fn take(
     alloc: Global,
     watch: &mut Watch,
     time: u64,
     kind: EventKind,
 ) -> Result<Option<u64>, WatchFault> {
-    watch.take(alloc, &Event { time, kind }, 1_000_000, &mut NoProgress)
+    watch.take(alloc, &event(time, kind), 1_000_000, &mut NoProgress)
 }
 
 /// What it finds by the last of these events, the first of which has time 1, and each other the time after that of the one

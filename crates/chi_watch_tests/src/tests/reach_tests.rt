@@ -34,7 +34,7 @@ fn read_after_write<'a>(time: u64, read: &'a [u64; 1], write: &'a [u64; 1]) -> S
     }
 }
 
-// The write of 5, which event 1 tells, has ended at 2. The read that starts at 3 answers 0 at 4, and up to 3 only 5 can be there.
+// The write of 5, which starts at 1, has ended at 2. The read that starts at 3 answers 0 at 4, and up to 3 only 5 can be there.
 #[test]
 fn a_lost_write(rt: HostRuntime) -> Result<(), Fail> {
     let kinds = [write(1, 5), done(1), read(2), answer(2, 0)];
@@ -60,9 +60,9 @@ fn a_lost_addition(rt: HostRuntime) -> Result<(), Fail> {
     assert_stops(&rt, &reach_after(rt.alloc(), &kinds)?, stop)
 }
 
-// The first read is dropped, and the second has its number. The write's data come after its request, which is event 3.
+// The first read is dropped, and the second has its identifier. The write's data come after its request, which starts at 3.
 #[test]
-fn numbers_that_are_used_again(rt: HostRuntime) -> Result<(), Fail> {
+fn identifiers_that_are_used_again(rt: HostRuntime) -> Result<(), Fail> {
     let kinds = [
         read(1),
         dropped(1),
@@ -111,9 +111,9 @@ fn take_a_wrong_read(alloc: Global, watch: &mut Watch) -> Result<(), WatchFault>
     Ok(())
 }
 
-// Event 1 tells a word. Two hundred additions of 1 come one after the other, of which the last sixteen are told by the events 370,
-// 372 and so on to 400. The addition of event 402 is open while the read of event 403 answers 7 in place of 200 or 201. Forty
-// requests with numbers that were used before are not seen to answer after it: it is the read that is named.
+// A word is told at 0. Two hundred additions of 1 come one after the other; the last sixteen start at 369, 371 and so on to 399.
+// The addition that starts at 401 is open while the read that starts at 402 answers 7 in place of 200 or 201. Forty requests whose
+// identifiers were used before are not seen to answer after it: it is the read that is named.
 #[test]
 fn after_many(rt: HostRuntime) -> Result<(), Fail> {
     let mut watch = Watch::new(rt.alloc());
@@ -125,11 +125,11 @@ fn after_many(rt: HostRuntime) -> Result<(), Fail> {
         opcode: 0x04,
         starts: &[401, 402],
         words: &[200, 201],
-        blamed: 403,
+        blamed: 402,
         before: &[
-            370, 372, 374, 376, 378, 380, 382, 384, 386, 388, 390, 392, 394, 396, 398, 400,
+            369, 371, 373, 375, 377, 379, 381, 383, 385, 387, 389, 391, 393, 395, 397, 399,
         ],
-        open: &[402, 403],
+        open: &[401, 402],
         legal: &[200, 201],
     };
     assert_stops(&rt, &reach, stop)
@@ -167,7 +167,7 @@ fn explained_and_not_looked_at(rt: HostRuntime) -> Result<(), Fail> {
     Ok(())
 }
 
-// The read of event 3 answered 6 at 4, where 0 or 5 would have been right, while the write of event 2 is open to the end; and a
+// The read of 3 answered 6 at 4, where 0 or 5 would have been right, while the write of 2 is open to the end; and a
 // word at the end that nobody wrote.
 #[test]
 fn at_the_end(rt: HostRuntime) -> Result<(), Fail> {

@@ -3,13 +3,14 @@
 use crate::tests::comparison::assert_same;
 use crate::tests::home::lanes;
 use chi_lanes::Reply;
-use chi_recent::{Reach, Traced};
+use chi_recent::Reach;
+use chi_trace::Operation;
 use std::process::Abort;
 use std::test::Fail;
 
 /// Where a granule stops being explained: the time, the request that was answered then, the starts of those that were open, and
-/// the words that the granule can hold before; and by the events that told them the operation that is blamed, those before it and
-/// those that were open, and the first bytes of the answers that would have been legal.
+/// the words that the granule can hold before; and by their numbers the operation that is blamed, those before it and those that
+/// were open, and the first bytes of the answers that would have been legal.
 #[derive(Clone, Copy)]
 pub(crate) struct Stop<'a> {
     pub(crate) time: u64,
@@ -22,13 +23,13 @@ pub(crate) struct Stop<'a> {
     pub(crate) legal: &'a [u8],
 }
 
-// Compares the events of these operations.
+// Compares the numbers of these operations.
 fn assert_numbers<R: AllocGlobal + Abort>(
     rt: &R,
-    traced: &[Traced],
+    ops: &[Operation],
     wanted: &[u64],
 ) -> Result<(), Fail> {
-    let numbers: Vec<u64> = traced.iter().map(|it| it.number).collect(rt.alloc())?;
+    let numbers: Vec<u64> = ops.iter().map(|op| op.number).collect(rt.alloc())?;
     assert_same(rt, numbers.as_slice(), wanted);
     Ok(())
 }
@@ -63,10 +64,10 @@ fn assert_words<R: AllocGlobal + Abort>(rt: &R, words: &[u64], wanted: &[u64]) -
 // Compares the starts of these operations.
 fn assert_starts<R: AllocGlobal + Abort>(
     rt: &R,
-    traced: &[Traced],
+    ops: &[Operation],
     wanted: &[u64],
 ) -> Result<(), Fail> {
-    let starts: Vec<u64> = traced.iter().map(|it| it.op.start).collect(rt.alloc())?;
+    let starts: Vec<u64> = ops.iter().map(|op| op.start).collect(rt.alloc())?;
     assert_same(rt, starts.as_slice(), wanted);
     Ok(())
 }
@@ -83,7 +84,7 @@ pub(crate) fn assert_stop<R: AllocGlobal + Abort>(
     let Reach::Stops(stop) = reach else {
         return Err(Fail::new("it does not stop"));
     };
-    assert_same(rt, (stop.time, stop.op.asked.opcode), (time, opcode));
+    assert_same(rt, (stop.time, stop.op.opcode()), (time, opcode));
     assert_starts(rt, &stop.overlapping, starts)?;
     assert_words(rt, &stop.words, words)
 }

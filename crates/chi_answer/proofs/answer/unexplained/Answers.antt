@@ -2,7 +2,7 @@
 use Rattle.std.proofs.Common.{ℕ, List, ◌↔◌, subst}
 use Rattle.std.specs.List.{Contains}
 use Rattle.chi_search.specs.Found.{IfWords}
-use Rattle.chi_verdict.specs.Traces.{CanHold, IsLegal}
+use Rattle.chi_trace.specs.Traces.{CanHold, IsLegal}
 use Rattle.chi_search.proofs.Looking.{some_after}
 use Rattle.chi_answer.proofs.answer.unexplained.Goals as goal
 

@@ -12,7 +12,7 @@ unfolding open_line
 returns c =
     let op = c.args.op.now in
     let first = codes "  open from " ++ decimal op.start in
-    let last = told_text c.args.asked.now op.reply in
+    let last = told_text op in
     let parts : c.add_parts.new.to.items ≡ c.args.to.now.items ++ first = simp append-nil at c.in_ok-add_parts.ensures in
     let until : c.add_until.new.to.items ≡ (c.args.to.now.items ++ first) ++ until_text op.end = c.in_ok-add_until.ensures ∙ ap (λ (l : List ℕ). l ++ until_text op.end) parts in
     subst (λ (l : List ℕ). OnOk c.add_told.result (c.add_told.new.to.items ≡ l)) (ap (λ (l : List ℕ). l ++ last) until ∙ joined c.args.to.now.items first (until_text op.end) last)

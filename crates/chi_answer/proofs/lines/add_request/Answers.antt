@@ -5,4 +5,4 @@ use Rattle.chi_answer.proofs.lines.add_request.Goals as goal
 
 pub returns : goal.returns
 unfolding request_text
-returns c = simp append_assoc (simp (c.op_name.ensures, append-nil) at c.add_parts.ensures)
+returns c = simp append_assoc (simp (c.op_name.ensures, c.opcode-opcode.ensures, c.size.ensures, c.addr.ensures.value, append-nil) at c.add_parts.ensures)

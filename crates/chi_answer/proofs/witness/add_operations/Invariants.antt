@@ -1,6 +1,6 @@
 -- the lines so far
 use Rattle.std.proofs.Common.{◌≡◌, ◌++◌, take}
-use Rattle.chi_verdict.specs.Words.{memory_of}
+use Rattle.chi_trace.specs.Words.{memory_of}
 use Rattle.chi_answer.specs.Witnesses.{operation_lines}
 use Rattle.chi_answer.proofs.witness.add_operations.Given as goal
 

@@ -3,7 +3,7 @@ use Rattle.std.proofs.Common.{◌≡◌, ◌==◌, ◌%◌, ℕ, Bool, [], ◌�
 use Rattle.std.proofs.lemmas.List.{map-append}
 use Rattle.std.specs.List.{range_with_len}
 use Rattle.chi_cover.specs.declared.bin.Bin.{Bin}
-use Rattle.chi_cover.specs.declared.bin.Bin.TheVariants.{Operation}
+use Rattle.chi_cover.specs.declared.bin.Bin.TheVariants.{Operand}
 use Rattle.chi_cover.specs.Bins.{lanes_of}
 use Rattle.chi_cover.proofs.Lists.{kept_more, kept_same}
 use Rattle.chi_cover.proofs.group.add_lanes.Goals.{then-is_aligned+in_ok-push, else-is_aligned}
@@ -11,7 +11,7 @@ use Rattle.chi_cover.proofs.group.add_lanes.Goals as goal
 
 pub loop-lane-preserved : goal.loop-lane-preserved
 loop-lane-preserved c =
-    let f : ℕ → Bin = Operation c.args.kind c.args.endian c.args.len in
+    let f : ℕ → Bin = Operand c.args.kind c.args.endian c.args.len in
     let p : ℕ → Bool = λ lane. lane % c.args.len == 0 in
     let lane = c.loop-lane.lane in
     elim c.if-is_aligned.branch [

@@ -1,8 +1,8 @@
 -- what is kept of the operation's granule
-use Rattle.std.proofs.Common.{◌≡◌, ℕ, ◌/◌, ◌<◌, ◌==◌, cond, nat_eq, List, [], ◌∷◌, ◌++◌, All, length, Option, unwrap_or, Vec, sym, subst, ap, ◌∙◌, arith}
+use Rattle.std.proofs.Common.{◌≡◌, ℕ, ◌<◌, ◌==◌, cond, nat_eq, List, [], ◌∷◌, ◌++◌, All, length, Option, unwrap_or, Vec, sym, subst, ap, ◌∙◌, arith}
 use Rattle.std.specs.HashMap.{get}
 use Rattle.std.specs.declared.alloc.Global.{Global}
-use Rattle.chi_trace.specs.declared.observed.Observed.{Observed}
+use Rattle.chi_trace.specs.declared.operation.Operation.{Operation}
 use Rattle.chi_trace.specs.Explains.{at}
 use Rattle.chi_trace.specs.Granules.{granule_of}
 use Rattle.chi_cover.specs.Open.{Places, ended_after, items_of, places_of}
@@ -10,8 +10,8 @@ use Rattle.chi_cover.proofs.Kept.{kept_more, looked_up, open_now, there_or_none}
 use Rattle.chi_cover.proofs.Traced.{read_at}
 use Rattle.chi_cover.proofs.open.take.Goals as goal
 
-own_granule : (ops : List Observed) (place : ℕ) (o : Observed) (addr : ℕ) → o ≡ at ops place → addr ≡ o.access.addr → addr / 8 ≡ granule_of (at ops place)
-own_granule ops place o addr read is = ap (λ a. a / 8) (is ∙ ap (λ (o : Observed). o.access.addr) read)
+own_granule : (ops : List Operation) (place : ℕ) (o : Operation) (granule : ℕ) → o ≡ at ops place → granule ≡ granule_of o → granule ≡ granule_of (at ops place)
+own_granule ops place o granule read is = is ∙ ap granule_of read
 
 -- what is taken out of the map is what is kept of the granule
 found_places : (kept : Places) (granule key : ℕ) (removed : Option (Vec ℕ Global)) (none before : Vec ℕ Global) (seen : List ℕ) → key ≡ granule
@@ -20,12 +20,12 @@ found_places kept granule key removed none before seen same taken empty is read 
     read ∙ (ap (λ (v : Vec ℕ Global). v.items) is ∙ (there_or_none removed none empty ∙ (ap items_of taken ∙ ap (places_of kept) same)))
 
 -- those of them that are left are still open when the operation starts
-left_places : (ops : List Observed) (place : ℕ) (kept : Places) (o : Observed) (addr : ℕ) (removed : Option (Vec ℕ Global)) (none before : Vec ℕ Global) (seen left : List ℕ)
-    → o ≡ at ops place → addr ≡ o.access.addr → removed ≡ get nat_eq kept (addr / 8) → none.items ≡ [] → before ≡ unwrap_or removed none → seen ≡ before.items
+left_places : (ops : List Operation) (place : ℕ) (kept : Places) (o : Operation) (granule : ℕ) (removed : Option (Vec ℕ Global)) (none before : Vec ℕ Global) (seen left : List ℕ)
+    → o ≡ at ops place → granule ≡ granule_of o → removed ≡ get nat_eq kept granule → none.items ≡ [] → before ≡ unwrap_or removed none → seen ≡ before.items
     → left ≡ ended_after ops o.start seen → left ≡ ended_after ops (at ops place).start (places_of kept (granule_of (at ops place)))
-left_places ops place kept o addr removed none before seen left read is taken empty had looked still =
-    let found = found_places kept (granule_of (at ops place)) (addr / 8) removed none before seen (own_granule ops place o addr read is) taken empty had looked in
-    still ∙ (ap (λ (o : Observed). ended_after ops o.start seen) read ∙ ap (ended_after ops (at ops place).start) found)
+left_places ops place kept o granule removed none before seen left read is taken empty had looked still =
+    let found = found_places kept (granule_of (at ops place)) granule removed none before seen (own_granule ops place o granule read is) taken empty had looked in
+    still ∙ (ap (λ (o : Operation). ended_after ops o.start seen) read ∙ ap (ended_after ops (at ops place).start) found)
 
 pub still_open-requires : goal.still_open-requires
 still_open-requires c =
@@ -33,7 +33,7 @@ still_open-requires c =
     let place = c.args.place in
     let kept = c.args.kept.now in
     let read = read_at ops place c.index-ops-place.result c.requires.place c.index-ops-place.is in
-    let own = own_granule ops place c.index-ops-place.result c.addr.result read c.addr.ensures.value in
+    let own = own_granule ops place c.index-ops-place.result c.granule-granule.result read c.granule-granule.ensures in
     let found = found_places kept (granule_of (at ops place)) _ _ _ _ _ own c.remove.ensures.value c.new.ensures.items c.unwrap_or-before.ensures c.deref.ensures.value in
     let inside : ℕ → Type 0 = λ j. j < length ops in
     subst (All inside) (sym found) (λ k d under. let first = c.requires.kept.places (granule_of (at ops place)) k d under in omega (arith, first, c.requires.place))
@@ -44,7 +44,7 @@ returns-clause-still_open c =
     let place = c.args.place in
     let kept = c.args.kept.now in
     let read = read_at ops place c.index-ops-place.result c.requires.place c.index-ops-place.is in
-    let left = left_places ops place kept c.index-ops-place.result c.addr.result _ _ _ _ c.in_ok-places.places.items read c.addr.ensures.value c.remove.ensures.value
+    let left = left_places ops place kept c.index-ops-place.result c.granule-granule.result _ _ _ _ c.in_ok-places.places.items read c.granule-granule.ensures c.remove.ensures.value
     c.new.ensures.items c.unwrap_or-before.ensures c.deref.ensures.value c.in_ok-places.ensures in
     left ∙ open_now ops place kept c.requires.traced c.requires.place c.requires.kept
 
@@ -54,10 +54,10 @@ returns-clause-kept c =
     let place = c.args.place in
     let kept = c.args.kept.now in
     let read = read_at ops place c.index-ops-place.result c.requires.place c.index-ops-place.is in
-    let own = own_granule ops place c.index-ops-place.result c.addr.result read c.addr.ensures.value in
-    let left = left_places ops place kept c.index-ops-place.result c.addr.result _ _ _ _ c.in_ok-places.places.items read c.addr.ensures.value c.remove.ensures.value
+    let own = own_granule ops place c.index-ops-place.result c.granule-granule.result read c.granule-granule.ensures in
+    let left = left_places ops place kept c.index-ops-place.result c.granule-granule.result _ _ _ _ c.in_ok-places.places.items read c.granule-granule.ensures c.remove.ensures.value
     c.new.ensures.items c.unwrap_or-before.ensures c.deref.ensures.value c.in_ok-places.ensures in
-    let key = c.addr.result / 8 in
+    let key = c.granule-granule.result in
     let after : c.push.new.self.items ≡ c.in_ok-places.places.items ++ place ∷ [] =
     c.in_ok-push.ensures.items ∙ ap (λ l. l ++ place ∷ []) (c.in_ok-after.ensures.items ∙ c.deref-2.ensures.value) in
     let new : (granule : ℕ) → places_of c.insert.new.self granule ≡ cond (granule_of (at ops place) == granule) (c.in_ok-places.places.items ++ place ∷ []) (places_of kept granule) =

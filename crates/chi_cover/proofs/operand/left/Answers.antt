@@ -7,7 +7,7 @@ use Rattle.chi_lanes.specs.Memory.{granule_start}
 use Rattle.chi_lanes.specs.Packet.{sent}
 use Rattle.chi_trace.specs.Granules.{with_word}
 use Rattle.chi_trace.proofs.Steps.{IsMemory-with_word}
-use Rattle.chi_search.proofs.Applied.{IsRegion-line, in_line, line, word_here, word_in_line}
+use Rattle.chi_trace.proofs.Applied.{IsRegion-line, in_line, line, word_here, word_in_line}
 use Rattle.chi_cover.proofs.Left.{left_bytes}
 use Rattle.chi_cover.proofs.operand.left.Goals as goal
 

@@ -1,7 +1,7 @@
 -- one transaction more
 use Rattle.std.proofs.Common.{◌≡◌, ◌<◌, Bool, sym, subst, ap, ◌∙◌, arith}
 use Rattle.std.proofs.lemmas.List.{get_or_default}
-use Rattle.chi_trace.specs.declared.observed.Observed.{Observed}
+use Rattle.chi_trace.specs.declared.operation.Operation.{Operation}
 use Rattle.chi_trace.specs.Explains.{at, nothing}
 use Rattle.chi_cover.specs.declared.bin.Bin.{Bin}
 use Rattle.chi_cover.specs.declared.bin.Bin.TheVariants.{Overlap}
@@ -21,7 +21,7 @@ loop-earlier-preserved c =
     let f : Transaction → Bin = λ t. Overlap t (transaction_of (at ops place).access.kind) in
     let p : Transaction → Bool = has_transaction ops c.args.places.now in
     let later : c.transaction_of-later.result ≡ transaction_of (at ops place).access.kind =
-    c.transaction_of-later.ensures ∙ ap transaction_of (c.kind.ensures.value ∙ ap (λ (o : Observed). o.access.kind) (get_or_default ops place c.index-ops-place.result nothing c.requires.place)) in
+    c.transaction_of-later.ensures ∙ ap transaction_of (c.kind.ensures.value ∙ ap (λ (o : Operation). o.access.kind) (get_or_default ops place c.index-ops-place.result nothing c.requires.place)) in
     let below : i < 6 = omega arith in
     elim c.if-has_transaction.branch [
       | then-has_transaction w ↦

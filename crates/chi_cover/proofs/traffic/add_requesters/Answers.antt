@@ -1,7 +1,7 @@
 -- one requester more
 use Rattle.std.proofs.Common.{◌≡◌, ◌<◌, Bool, false, ap, get_or, sym, subst, ◌∙◌, arith}
 use Rattle.std.proofs.lemmas.List.{get_or_default}
-use Rattle.chi_trace.specs.declared.observed.Observed.{Observed}
+use Rattle.chi_trace.specs.declared.operation.Operation.{Operation}
 use Rattle.chi_trace.specs.Explains.{at, nothing}
 use Rattle.chi_cover.specs.declared.bin.Bin.TheVariants.{Requester}
 use Rattle.chi_cover.specs.Added.{AreAdded}
@@ -18,7 +18,7 @@ loop-same-preserved c =
     let i = c.loop-same.same-index in
     let p : Bool → Bool = has_requester ops c.args.places.now (at ops place).src in
     let found : c.has_requester.result ≡ p (get_or yes_and_no i false) =
-    c.has_requester.ensures ∙ ap (λ (o : Observed). has_requester ops c.args.places.now o.src (get_or yes_and_no i false)) (get_or_default ops place c.index-ops-place.result nothing c.requires.place) in
+    c.has_requester.ensures ∙ ap (λ (o : Operation). has_requester ops c.args.places.now o.src (get_or yes_and_no i false)) (get_or_default ops place c.index-ops-place.result nothing c.requires.place) in
     let below : i < 2 = omega arith in
     elim c.if-has_requester.branch [
       | then-has_requester w ↦

@@ -1,7 +1,7 @@
 -- one list of bins after the other
 use Rattle.std.proofs.Common.{◌≡◌, ◌<◌, ℕ, List, All, filter, length, sym, subst, ap, ◌∙◌}
 use Rattle.std.proofs.lemmas.List.Elements.{All-filter}
-use Rattle.chi_trace.specs.declared.observed.Observed.{Observed}
+use Rattle.chi_trace.specs.declared.operation.Operation.{Operation}
 use Rattle.chi_trace.specs.Explains.{at}
 use Rattle.chi_cover.specs.Traffic.{have_common_byte, overlapping, traffic_bins}
 use Rattle.chi_cover.proofs.Sums.{added_then}
@@ -39,7 +39,7 @@ returns c =
     let ops = c.args.ops.now in
     let place = c.args.place in
     let op = read_at ops place c.index-ops-place.result c.requires.place c.index-ops-place.is in
-    let common : Observed → List ℕ → List ℕ = λ o places. filter (λ j. have_common_byte (at ops j).access o.access) places in
+    let common : Operation → List ℕ → List ℕ = λ o places. filter (λ j. have_common_byte (at ops j).access o.access) places in
     let found : c.in_ok-overlapping.overlapping.items ≡ overlapping ops place =
     c.in_ok-overlapping.ensures ∙ (ap (λ o. common o c.args.before.now) op ∙ ap (common (at ops place)) c.requires.before) in
     added_then (rw (c.depth_of.ensures, c.requires.before) at c.add_bin.ensures)

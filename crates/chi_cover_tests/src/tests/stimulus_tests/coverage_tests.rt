@@ -7,7 +7,7 @@ use chi_cover::{Bin, Covered};
 use chi_fields::{Access, Kind, Op, Request, decode};
 use chi_lanes::apply;
 use chi_script::Script;
-use chi_trace::Observed;
+use chi_trace::Operation;
 use std::alloc::Global;
 use std::test::Fail;
 
@@ -62,11 +62,13 @@ fn covered(alloc: Global, script: &Script, plant: Plant) -> Result<Covered, Fail
         let (after, reply) = apply(*word, &access);
         *word = after;
         time = time.wrapping_add(1);
-        ops.push(Observed {
+        ops.push(Operation {
+            number: time,
+            src: u16::from(request.src),
+            txn: u16::from(request.txn),
+            access,
             start: time,
             end: time,
-            src: u16::from(request.src),
-            access,
             reply: Some(reply),
         })?;
     }
@@ -87,7 +89,7 @@ fn scripts_by_chance_cover_all_operations(rt: HostRuntime) -> Result<(), Fail> {
 fn planted_faults_leave_bins_out(rt: HostRuntime) -> Result<(), Fail> {
     let alloc = rt.alloc();
     let script = script_of(alloc, &stimulus(1)?)?;
-    let big = Bin::Operation {
+    let big = Bin::Operand {
         kind: Kind::Swap,
         endian: true,
         len: 8,

@@ -1,7 +1,7 @@
 -- what was found of the granule's operations is so of the trace
 use Rattle.std.proofs.Common.{◌≡◌, filter, rules}
 use Rattle.chi_trace.specs.Chosen.{is_in}
-use Rattle.chi_verdict.specs.Words.{word_told}
+use Rattle.chi_trace.specs.Words.{word_told}
 use Rattle.chi_doubt.proofs.Answering.{far_in}
 use Rattle.chi_doubt.proofs.doubt.doubt_of.Goals as goal
 

@@ -3,8 +3,8 @@ use Rattle.std.proofs.Common.{◌≡◌, ◌<◌, length, refl, ◌∙◌}
 use Rattle.std.proofs.lemmas.List.{get_or_default}
 use Rattle.std.proofs.lemmas.List.Elements.{All-nil}
 use Rattle.chi_trace.specs.Explains.{at, nothing}
-use Rattle.chi_verdict.specs.Words.{AreInOrder}
-use Rattle.chi_verdict.specs.declared.words.GranuleWord.{GranuleWord}
+use Rattle.chi_trace.specs.Words.{AreInOrder}
+use Rattle.chi_trace.specs.declared.words.GranuleWord.{GranuleWord}
 use Rattle.chi_excerpt.proofs.Traced.{granule_traced}
 use Rattle.chi_excerpt.proofs.replies.granule_with.Goals as goal
 

@@ -1,15 +1,15 @@
 -- the operations of the granule, and what is found of them, said of the trace
-use Rattle.std.proofs.Common.{◌≡◌, ℕ, List, map, slice_index, sym, ap, subst, ◌∙◌}
+use Rattle.std.proofs.Common.{◌≡◌, ℕ, List, get_or, length, ltb-true, map, slice_index, sym, ap, subst, ◌∙◌}
 use Rattle.chi_trace.specs.Chosen.{chosen}
 use Rattle.chi_trace.specs.Granules.{ExplainsGranule}
 use Rattle.chi_granules.proofs.Own.{indices, inside, own_of, sorted, told_back, told_order, within}
 use Rattle.chi_granules.proofs.judge.search_granule.Goals as goal
 
-pub chosen-requires : goal.chosen-requires
-chosen-requires g c =
+pub operations_at-requires : goal.operations_at-requires
+operations_at-requires g c =
     let places = c.in_ok-places.places.items in
     let each = own_of c.args.ops.now c.args.granules.now c.args.granule places c.requires.granules c.in_ok-places.ensures.each in
-    rw c.deref.ensures.value (inside c.args.ops.now c.args.granule places each)
+    rw c.deref.ensures.value (λ k d below. ltb-true (get_or places k d) (length c.args.ops.now) (inside c.args.ops.now c.args.granule places each k d below))
 
 pub order_of-requires-clause-sorted : goal.order_of-requires-clause-sorted
 order_of-requires-clause-sorted g c =

@@ -2,7 +2,7 @@
 use Rattle.std.proofs.Common.{◌∙◌, rules}
 use Rattle.std.proofs.lemmas.List.Sorted.{IsNonDecreasingBy-from_sort_by_key}
 use Rattle.chi_trace.specs.Explains.{at}
-use Rattle.chi_verdict.proofs.Filling.{times_permuted}
+use Rattle.chi_trace.proofs.ToldAgain.{times_permuted}
 use Rattle.chi_granules.proofs.places.places_by_end.Goals as goal
 
 pub returns : goal.returns

@@ -3,7 +3,7 @@ use Rattle.std.proofs.Common.{◌≡◌, ◌++◌, List, ℕ, eqb, map, sym, ap,
 use Rattle.std.proofs.lemmas.List.{take_all}
 use Rattle.std.proofs.lemmas.List.Filters.{dedup_is}
 use Rattle.chi_trace.specs.Granules.{granule_of}
-use Rattle.chi_verdict.specs.declared.words.GranuleWord.{GranuleWord}
+use Rattle.chi_trace.specs.declared.words.GranuleWord.{GranuleWord}
 use Rattle.chi_granules.proofs.Numbers.{granule_told, has_both, has_sorted, numbers_more}
 use Rattle.chi_granules.proofs.whole.numbers.Goals as goal
 

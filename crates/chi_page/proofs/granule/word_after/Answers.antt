@@ -4,11 +4,11 @@ use Rattle.std.proofs.lemmas.Bool.{lt-ltb}
 use Rattle.chi_trace.specs.Explains.{at}
 use Rattle.chi_trace.specs.Granules.{next}
 use Rattle.chi_trace.proofs.Orders.{observed_at}
-use Rattle.chi_verdict.proofs.Traced.{at_read}
+use Rattle.chi_trace.proofs.Traced.{at_read}
 use Rattle.chi_page.proofs.granule.word_after.Goals as goal
 
-pub word_left-requires : goal.word_left-requires
-word_left-requires c =
+pub apply_operation-after-requires : goal.apply_operation-after-requires
+apply_operation-after-requires c =
     let ops = c.args.ops.now in
     let place = c.args.place in
     let read : at ops place ≡ c.index-ops-place.result = at_read ops place c.index-ops-place.result c.requires.place c.index-ops-place.is in
@@ -19,4 +19,4 @@ returns c =
     let ops = c.args.ops.now in
     let place = c.args.place in
     let read : at ops place ≡ c.index-ops-place.result = at_read ops place c.index-ops-place.result c.requires.place c.index-ops-place.is in
-    c.word_left.ensures ∙ ap (λ op. next op c.args.word) (sym read)
+    c.apply_operation-after.ensures.word ∙ ap (λ op. next op c.args.word) (sym read)

@@ -17,12 +17,12 @@ loop-at-preserved c =
 
 pub add_operation_at-requires : goal.add_operation_at-requires
 add_operation_at-requires c =
-    let count : length c.requests-requests.result.now ≡ length c.args.recorded.now.trace.operations = ap length c.requests-requests.ensures.requests ∙ c.requests-requests.ensures.matched in
+    let count : length c.operations-count.result.now ≡ length c.args.recorded.now.trace.operations = ap length (rw c.trace.ensures at c.operations-count.ensures.operations) in
     omega arith
 
 pub returns : goal.returns
 unfolding operations_json
 returns c =
-    let count : length c.requests-requests.result.now ≡ length c.args.recorded.now.trace.operations = ap length c.requests-requests.ensures.requests ∙ c.requests-requests.ensures.matched in
+    let count : length c.operations-count.result.now ≡ length c.args.recorded.now.trace.operations = ap length (rw c.trace.ensures at c.operations-count.ensures.operations) in
     let all : c.loop-at.at ≡ length c.args.recorded.now.trace.operations = omega arith in
     c.loop-at.invariant ∙ ap (λ (n : ℕ). c.args.to.now.items ++ listed (operation_at c.args.recorded.now) n) all

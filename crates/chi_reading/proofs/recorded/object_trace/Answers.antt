@@ -9,16 +9,12 @@ use Rattle.chi_reading.specs.Member.{member_name}
 use Rattle.chi_reading.specs.TraceText.{memory_text}
 use Rattle.chi_reading.specs.Unknown.{unknown_in}
 use Rattle.chi_reading.proofs.Decided.{all_observed}
-use Rattle.chi_reading.proofs.Matched.{all_matched}
 use Rattle.chi_reading.proofs.RegionText.{IsOnRegion, memory_on_region}
 use Rattle.chi_reading.proofs.ObjectText.{object_says, recorded_of}
 use Rattle.chi_reading.proofs.recorded.object_trace.Goals as goal
 
-pub in_order-requires-clause-matched : goal.in_order-requires-clause-matched
-in_order-requires-clause-matched c = all_matched c.in_ok-memory.memory.region _ _ c.in_ok-found.ensures.ok
-
-pub in_order-requires-clause-observed : goal.in_order-requires-clause-observed
-in_order-requires-clause-observed c =
+pub in_order-requires : goal.in_order-requires
+in_order-requires c =
     let d = view c.args.object.now in
     let memory = c.in_ok-memory.ensures.ok in
     let on_region : IfSome memory.0.region IsRegion = at_ok (memory_text d) memory.0 IsOnRegion memory.1 (memory_on_region d) in

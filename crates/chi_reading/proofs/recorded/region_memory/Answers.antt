@@ -1,7 +1,7 @@
 -- the text's region and words, and that the words are theirs
 use Rattle.std.proofs.Common.{◌≡◌, ℕ, ◌/◌, List, Option, refl, sym, subst}
 use Rattle.std.specs.Option.{option_map}
-use Rattle.chi_verdict.specs.Words.{told}
+use Rattle.chi_trace.specs.Words.{told}
 use Rattle.chi_reading.specs.TraceText.{region_final_words}
 use Rattle.chi_reading.proofs.RegionText.{AreWordsOf, handed_on, region_text}
 use Rattle.chi_reading.proofs.recorded.region_memory.Goals as goal

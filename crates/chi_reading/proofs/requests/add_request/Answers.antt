@@ -10,7 +10,7 @@ pub returns-in-Ok-clause-ok : goal.returns-in-Ok-clause-ok
 returns-in-Ok-clause-ok c = elim c.match-stated.branch [
   | in-Accepted+in_ok-operation-in-Accepted w ↦
       let operation = w.in_ok-operation-in-Accepted.operation in
-      let one = one_accepted c.args.place c.in_ok-stated.stated.asked operation in
+      let one = one_accepted operation in
       let is = accepted_at _ _ _ c.in_ok-stated.stated w.in-Accepted.reply operation (sym c.in_ok-stated.ensures) w.in-Accepted.is (sym w.in_ok-operation-in-Accepted.ensures) in
       let joins = subst (λ r. OnOk r (completed_in w.add_accepted-added.new.self ≡ joined (completed_in c.args.found.now) one)) (sym w.added-is ∙ c.in-Ok.is) w.add_accepted-added.ensures in
       (one, is, rw w.found-is joins)

@@ -2,7 +2,7 @@
 use Rattle.std.proofs.Common.{refl, arith}
 use Rattle.chi_reading.specs.Told.{region_words}
 use Rattle.chi_reading.proofs.OneMore.{has_next}
-use Rattle.chi_verdict.specs.Words.{told}
+use Rattle.chi_trace.specs.Words.{told}
 use Rattle.chi_reading.proofs.told.region_words.Goals as goal
 
 pub loop-word-init : goal.loop-word-init

@@ -3,7 +3,7 @@ use Rattle.std.proofs.Common.{◌≡◌, ℕ, ◌+◌, take}
 use Rattle.std.specs.BTreeMap.{get}
 use Rattle.std.specs.Ordering.{nat_cmp}
 use Rattle.chi_reading.specs.Told.{region_words}
-use Rattle.chi_verdict.specs.Words.{told}
+use Rattle.chi_trace.specs.Words.{told}
 use Rattle.chi_reading.proofs.told.region_words.Given as goal
 
 abbrev pub invariant-loop-word : goal.invariant-loop-word

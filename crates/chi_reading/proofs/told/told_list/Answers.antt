@@ -4,8 +4,8 @@ use Rattle.std.proofs.lemmas.Result.{IfOk-weaker}
 use Rattle.serde_json.specs.View.{items_view}
 use Rattle.chi_reading.specs.Told.{told_from}
 use Rattle.chi_reading.proofs.ToldSoFar.{all_so_far, none_so_far, none_told, told_again, told_next}
-use Rattle.chi_verdict.specs.declared.words.GranuleWord.{GranuleWord}
-use Rattle.chi_verdict.specs.Words.{told}
+use Rattle.chi_trace.specs.declared.words.GranuleWord.{GranuleWord}
+use Rattle.chi_trace.specs.Words.{told}
 use Rattle.chi_reading.proofs.told.told_list.Goals as goal
 
 pub loop-value-init : goal.loop-value-init

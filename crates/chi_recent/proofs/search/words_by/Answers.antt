@@ -2,7 +2,7 @@
 use Rattle.std.proofs.Common.{ℕ, ◌↔◌, List, ◌++◌, All, IfOk, subst, ◌∙◌}
 use Rattle.std.specs.List.{Contains}
 use Rattle.std.proofs.lemmas.Result.{IfOk-weaker}
-use Rattle.chi_trace.specs.declared.observed.Observed.{Observed}
+use Rattle.chi_trace.specs.declared.operation.Operation.{Operation}
 use Rattle.chi_trace.specs.Cuts.{cut}
 use Rattle.chi_search.specs.declared.words.Words.{Words}
 use Rattle.chi_search.specs.Found.{IfUnknown, IfWords}
@@ -18,7 +18,7 @@ pub returns-clause-words : goal.returns-clause-words
 returns-clause-words g c =
     let before = c.args.before.now in
     let known = c.deref.ensures.value ∙ c.in_ok-known.ensures in
-    subst (λ (ops : List Observed). IfOk c.words_after.result (λ (found : Words). IfWords found (λ each. (words : List ℕ) (told : List Observed) → Follows words told before → (v : ℕ) → Contains each v ↔ SomeLeads (told ++ ops) words v)))
+    subst (λ (ops : List Operation). IfOk c.words_after.result (λ (found : Words). IfWords found (λ each. (words : List ℕ) (told : List Operation) → Follows words told before → (v : ℕ) → Contains each v ↔ SomeLeads (told ++ ops) words v)))
     known c.words_after.ensures.words
 
 pub returns-clause-unknown : goal.returns-clause-unknown
@@ -27,7 +27,7 @@ returns-clause-unknown g c =
     let before = c.args.before.now in
     let more = c.args.more.now in
     let known = c.deref.ensures.value ∙ c.in_ok-known.ensures in
-    let said = subst (λ (ops : List Observed). IfOk c.words_after.result (λ (found : Words). IfUnknown found (MayBeTold before ops → All LiesWithin ops → looked))) known c.words_after.ensures.unknown in
+    let said = subst (λ (ops : List Operation). IfOk c.words_after.result (λ (found : Words). IfUnknown found (MayBeTold before ops → All LiesWithin ops → looked))) known c.words_after.ensures.unknown in
     IfOk-weaker c.words_after.result (λ (found : Words). IfUnknown found (MayBeTold before (cut c.args.time more) → All LiesWithin (cut c.args.time more) → looked))
     (λ (found : Words). IfUnknown found (MayBeTold before more → All LiesWithin more → looked))
     (λ found. unknown_implies found (MayBeTold before (cut c.args.time more) → All LiesWithin (cut c.args.time more) → looked) (MayBeTold before more → All LiesWithin more → looked)

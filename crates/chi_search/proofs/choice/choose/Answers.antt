@@ -1,7 +1,7 @@
 -- a step is a move, and a state without one is dead
 use Rattle.std.proofs.Common.{◌≡◌, ℕ, ◌<◌, ◌≤◌, IfSome, Option, get_or, length, refl, sym, subst, ◌∙◌, arith}
 use Rattle.std.proofs.lemmas.List.{get_or_read}
-use Rattle.chi_trace.specs.declared.observed.Observed.{Observed}
+use Rattle.chi_trace.specs.declared.operation.Operation.{Operation}
 use Rattle.chi_trace.specs.Explains.{at, nothing}
 use Rattle.chi_search.specs.Paths.{Moves}
 use Rattle.chi_search.specs.Positions.{position_of}
@@ -79,7 +79,7 @@ returns-clause-dead c =
     tried_all c.args.known.now.ops.now c.args.known.now.final_word c.args.dead.now (position_of c.args.state.now) c.loop-place.place c.requires.known.sorted c.requires.ready below c.loop-place.invariant
     (elim c.loop-place-test.branch [
       | then-loop-place-test+else-earliest-place w ↦
-          subst (λ (op : Observed). (i : ℕ) → c.loop-place.place ≤ i → i < length c.args.known.now.ops.now → op.end < (at c.args.known.now.ops.now i).start)
+          subst (λ (op : Operation). (i : ℕ) → c.loop-place.place ≤ i → i < length c.args.known.now.ops.now → op.end < (at c.args.known.now.ops.now i).start)
           (sym c.index-ops-state.is ∙ get_or_read c.args.known.now.ops.now c.args.state.now.first c.index-ops-state.result below c.index-ops-state.is nothing)
           (all_late c.args.known.now.ops.now c.args.known.now.earliest.now c.loop-place.place (get_or c.args.known.now.ops.now c.args.state.now.first c.index-ops-state.result).end c.requires.known.earliest w.if-earliest-place.false)
       | else-loop-place-test w ↦ λ i from inside. absurd (omega (arith, from, inside, w.loop-place-test.false))

@@ -2,14 +2,14 @@
 use Rattle.std.proofs.Common.{◌≡◌, ℕ, ◌<◌, List, [], ◌∷◌, ◌++◌, get_or, length, subst, sym, ap, ◌∙◌, arith, inl, inr, length-append, rules}
 use Rattle.std.proofs.lemmas.Bool.{cases_lt}
 use Rattle.std.proofs.lemmas.List.{get_or_append_left, get_or_default, get_or_push}
-use Rattle.chi_trace.specs.declared.observed.Observed.{Observed}
+use Rattle.chi_trace.specs.declared.operation.Operation.{Operation}
 use Rattle.chi_trace.specs.Explains.{at, nothing}
 use Rattle.chi_search.specs.declared.effect.Effect.{Effect}
 use Rattle.chi_search.specs.Effects.{AreEffects, HasEffect, no_effect}
 use Rattle.chi_search.proofs.effect.effects_of.Goals as goal
 
 -- one more after those of the first k
-pushed : (ops : List Observed) (effects : List Effect) (e : Effect) (k : ℕ) (op : Observed) → k < length ops → op ≡ get_or ops k op
+pushed : (ops : List Operation) (effects : List Effect) (e : Effect) (k : ℕ) (op : Operation) → k < length ops → op ≡ get_or ops k op
     → length effects ≡ k → AreEffects ops effects → HasEffect op e → AreEffects ops (effects ++ e ∷ [])
 pushed ops effects e k op below is long known has i within = elim (cases_lt i (length effects)) [
   | inl before ↦ subst (HasEffect (at ops i)) (sym (get_or_append_left effects (e ∷ []) no_effect i before)) (known i before)

@@ -1,7 +1,7 @@
 -- an order that goes on by the operation goes on by the equal one before it
 use Rattle.std.proofs.Common.{◌≡◌, ℕ, ◌<◌, ◌≤◌, Option, get_or, sym, ap, subst, ◌∙◌, arith}
 use Rattle.std.proofs.lemmas.List.{get_or_read}
-use Rattle.chi_trace.specs.declared.observed.Observed.{Observed}
+use Rattle.chi_trace.specs.declared.operation.Operation.{Operation}
 use Rattle.chi_trace.specs.Explains.{at, nothing}
 use Rattle.chi_search.specs.Equal.{AreEqual}
 use Rattle.chi_search.specs.Moves.{CanCome}
@@ -22,9 +22,9 @@ returns-then-is_left c _ =
     let other : c.index-ops-before.result ≡ at ops before =
     get_or_read ops before c.index-ops-before.result (omega arith) c.index-ops-before.is nothing in
     let equal : AreEqual (at ops place) (at ops before) =
-    subst (λ (o : Observed). AreEqual o (at ops before)) op
+    subst (λ (o : Operation). AreEqual o (at ops before)) op
     (subst (AreEqual c.index-ops-place.result) other (c.are_equal.ensures c.if-are_equal.true)) in
     let starts : (at ops before).start ≤ (at ops p.first).end =
-    omega (arith, c.if-other-end.true, ap (λ (o : Observed). o.end) first, ap (λ (o : Observed). o.start) other) in
+    omega (arith, c.if-other-end.true, ap (λ (o : Operation). o.end) first, ap (λ (o : Operation). o.start) other) in
     let comes : CanCome ops p before = (sym c.is_left.ensures ∙ c.if-is_left.true, starts) in
     (before, below, λ (final_word : Option ℕ). by_equal ops final_word p place before c.requires.sorted (omega (arith, below)) equal comes)

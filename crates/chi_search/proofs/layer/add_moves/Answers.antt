@@ -1,7 +1,7 @@
 -- the states after an operation that was taken, and without the first one
 use Rattle.std.proofs.Common.{◌+◌, ◌<◌, ◌++◌, length, length-append, ap, sym, subst, ◌∙◌, arith}
 use Rattle.std.proofs.lemmas.Result.{on_ok_weaker}
-use Rattle.chi_trace.specs.declared.observed.Observed.{Observed}
+use Rattle.chi_trace.specs.declared.operation.Operation.{Operation}
 use Rattle.chi_search.specs.declared.states.States.{States}
 use Rattle.chi_trace.specs.Granules.{Fits}
 use Rattle.chi_search.specs.Layers.{AreReady}
@@ -62,7 +62,7 @@ loop-place-preserved c =
             (grown_refused (ops ++ more) old now p place (c.loop-place.invariant.grown more after)
             (λ comes fits.
             c.in_ok-take-2.ensures.refused w.if-branch-2.false (comes_back ops more p place c.requires.first below comes)
-            (subst (λ (o : Observed). Fits o p.word) (at_before ops more place below) fits)));
+            (subst (λ (o : Operation). Fits o p.word) (at_before ops more place below) fits)));
         ready = λ all. subst (AreReady ops) (sym w.states-is) (c.loop-place.invariant.ready all);
       }
     ]
@@ -102,4 +102,4 @@ returns-else-branch-3-clause-ends c more after =
       | else-loop-place-test w ↦ λ i from inside. absurd (omega (arith, from, inside, w.loop-place-test.false))
     ])
     after.late)
-    (λ none. c.in_ok-leave_out.ensures.answered c.if-branch-3.false (ap (λ (o : Observed). o.reply) (sym (at_before ops more p.first c.requires.first)) ∙ none))
+    (λ none. c.in_ok-leave_out.ensures.answered c.if-branch-3.false (ap (λ (o : Operation). o.reply) (sym (at_before ops more p.first c.requires.first)) ∙ none))

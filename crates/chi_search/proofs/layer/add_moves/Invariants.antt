@@ -1,6 +1,6 @@
 -- the set has grown by the moves of the operations before the place, whatever follows
 use Rattle.std.proofs.Common.{◌-◌, List, ◌++◌, length}
-use Rattle.chi_trace.specs.declared.observed.Observed.{Observed}
+use Rattle.chi_trace.specs.declared.operation.Operation.{Operation}
 use Rattle.chi_trace.specs.Explains.{at}
 use Rattle.chi_search.specs.Layers.{AreReady, ComeAfter}
 use Rattle.chi_search.specs.Positions.{position_of}
@@ -9,7 +9,7 @@ use Rattle.chi_search.proofs.layer.add_moves.Given as goal
 
 abbrev pub invariant-loop-place : goal.invariant-loop-place
 invariant-loop-place l = record {
-  grown : (more : List Observed) → ComeAfter l.ops (at l.ops l.state.first).end more → Grown (l.ops ++ more) l.initial.states l.states (position_of l.state) l.place;
+  grown : (more : List Operation) → ComeAfter l.ops (at l.ops l.state.first).end more → Grown (l.ops ++ more) l.initial.states l.states (position_of l.state) l.place;
   ready : AreReady l.ops l.initial.states → AreReady l.ops l.states;
 }
 

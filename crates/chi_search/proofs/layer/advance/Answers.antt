@@ -1,6 +1,6 @@
 -- one layer more, and the last
 use Rattle.std.proofs.Common.{ℕ, ◌-◌, ◌↔◌, List, ◌++◌, IfSome, Option, subst, arith}
-use Rattle.chi_trace.specs.declared.observed.Observed.{Observed}
+use Rattle.chi_trace.specs.declared.operation.Operation.{Operation}
 use Rattle.chi_search.specs.declared.states.States.{States}
 use Rattle.chi_search.specs.Layers.{AreReady, MayFollow, SomeEnds}
 use Rattle.chi_search.proofs.FirstAndLast.{chained}
@@ -19,7 +19,7 @@ pub loop-alloc-preserved : goal.loop-alloc-preserved
 loop-alloc-preserved g c =
     let ops = c.args.ops.now in
     let layer = c.loop-alloc.layer in
-    let ends = subst (λ (o : Option States). IfSome o (λ next. (more : List Observed) → MayFollow ops c.args.horizon more → (v : ℕ) → SomeEnds (ops ++ more) next v ↔ SomeEnds (ops ++ more) layer v))
+    let ends = subst (λ (o : Option States). IfSome o (λ next. (more : List Operation) → MayFollow ops c.args.horizon more → (v : ℕ) → SomeEnds (ops ++ more) next v ↔ SomeEnds (ops ++ more) layer v))
     c.in-Some.is c.in_ok-next.ensures.ends in
     let under = c.loop-alloc.invariant.left in
     let spends = c.in_ok-next.ensures.spends in

@@ -2,7 +2,7 @@
 use Rattle.std.proofs.Common.{◌≡◌, ℕ, ◌<◌, ◌-◌, ◌∙◌, length, subst, sym, arith, inl, inr}
 use Rattle.std.proofs.lemmas.Bool.{cases_eq, cases_lt}
 use Rattle.std.proofs.lemmas.List.{get_or_default}
-use Rattle.chi_trace.specs.declared.observed.Observed.{Observed}
+use Rattle.chi_trace.specs.declared.operation.Operation.{Operation}
 use Rattle.chi_trace.specs.Explains.{at, nothing}
 use Rattle.chi_search.specs.Makers.{CannotMake, IsUnmade, Wants, later_than}
 use Rattle.chi_search.specs.Positions.{position_of}
@@ -29,7 +29,7 @@ loop-place-preserved-else-wanted t c = record {
         (λ left precedes. inr (record {
           wanted = c.wanted_of-wanted.result;
           within = c.wanted_of-wanted.ensures.within;
-          wants = subst (λ (op : Observed). Wants op c.args.bits c.args.word c.wanted_of-wanted.result) here c.wanted_of-wanted.ensures.wants;
+          wants = subst (λ (op : Operation). Wants op c.args.bits c.args.word c.wanted_of-wanted.result) here c.wanted_of-wanted.ensures.wants;
           unmade = c.has_maker.ensures c.if-has_maker.false;
           other = other;
         }))

@@ -1,7 +1,7 @@
 -- the word at the end has other bits, one operation more was tried, and all of them
 use Rattle.std.proofs.Common.{◌≡◌, ℕ, ◌<◌, ◌≤◌, List, Option, IfSome, get_or, inl, inr, length, ap, subst, sym, ◌∙◌, arith, below_more, true≢false}
 use Rattle.std.proofs.lemmas.List.{get_or_read}
-use Rattle.chi_trace.specs.declared.observed.Observed.{Observed}
+use Rattle.chi_trace.specs.declared.operation.Operation.{Operation}
 use Rattle.chi_trace.specs.Explains.{at, nothing}
 use Rattle.chi_search.specs.declared.outcomes.Outcomes.{Outcomes}
 use Rattle.chi_search.specs.Effects.{Agree}
@@ -30,7 +30,7 @@ none_by c all taking = elim c.if-ops-place.branch [
   | then-ops-place+then-is_left+in-Known+in_ok-leads_by+else-branch+in_ok-leads_by-2+else-branch-2 w ↦
       let read = w.index-ops-place-then-is_left.result in
       let same : at ops place ≡ read = sym (get_or_read ops place read c.loop-place-test.true w.index-ops-place-then-is_left.is nothing) in
-      let steps = subst (λ (op : Observed). StepsTo c.args.part.now.mask op c.args.state.now.word taking.leaves) same taking.steps in
+      let steps = subst (λ (op : Operation). StepsTo c.args.part.now.mask op c.args.state.now.word taking.leaves) same taking.steps in
       let each = subst (λ (o : Outcomes). IfKnown o (AreOutcomes c.args.part.now.mask read c.args.state.now.word)) w.in-Known.is w.outcomes_of-outcomes.ensures in
       elim (each taking.leaves steps) [
         | inl one ↦ w.in_ok-leads_by.ensures.dead w.if-branch.false c.args.known.now.final_word all taking.leaves one taking.rest
@@ -38,11 +38,11 @@ none_by c all taking = elim c.if-ops-place.branch [
       ]
   | else-ops-place w ↦ elim w.else-ops-place.branch [
     | else-ops-place-via-then-ops-place+else-is_left v ↦ true≢false (sym taking.comes.0 ∙ sym v.is_left.ensures ∙ v.if-is_left.false)
-    | else-ops-place-via-else-ops-place v ↦ omega (arith, v.if-ops-place.false, taking.comes.1, ap (λ (op : Observed). op.end) first, ap (λ (op : Observed). op.start) here)
+    | else-ops-place-via-else-ops-place v ↦ omega (arith, v.if-ops-place.false, taking.comes.1, ap (λ (op : Operation). op.end) first, ap (λ (op : Operation). op.start) here)
   ]
 ]
   where
-    ops : List Observed
+    ops : List Operation
     ops = c.args.known.now.ops.now
 
     place : ℕ
@@ -66,7 +66,7 @@ returns-clause-dead c all =
     (c.loop-place.invariant all)
     (elim c.loop-place-test.branch [
       | then-loop-place-test+else-known-place w ↦
-          subst (λ (op : Observed). (i : ℕ) → c.loop-place.place ≤ i → i < length c.args.known.now.ops.now → op.end < (at c.args.known.now.ops.now i).start)
+          subst (λ (op : Operation). (i : ℕ) → c.loop-place.place ≤ i → i < length c.args.known.now.ops.now → op.end < (at c.args.known.now.ops.now i).start)
           (sym c.index-ops-state.is ∙ get_or_read c.args.known.now.ops.now c.args.state.now.first c.index-ops-state.result below c.index-ops-state.is nothing)
           (all_late c.args.known.now.ops.now c.args.known.now.earliest.now c.loop-place.place (get_or c.args.known.now.ops.now c.args.state.now.first c.index-ops-state.result).end c.requires.known.earliest w.if-known-place.false)
       | else-loop-place-test w ↦ λ i from within. absurd (omega (arith, from, within, w.loop-place-test.false))

@@ -2,14 +2,14 @@
 use Rattle.std.proofs.Common.{◌≡◌, ℕ, ◌<◌, List, length, get_or, sym, ap, ◌∙◌, arith}
 use Rattle.std.proofs.lemmas.Bool.{false≢true}
 use Rattle.std.proofs.lemmas.List.{get_or_default}
-use Rattle.chi_trace.specs.declared.observed.Observed.{Observed}
+use Rattle.chi_trace.specs.declared.operation.Operation.{Operation}
 use Rattle.chi_trace.specs.Explains.{at, nothing}
-use Rattle.chi_search.proofs.InOrder.{next_no_less}
+use Rattle.chi_trace.proofs.Rising.{next_no_less}
 use Rattle.chi_search.proofs.searchable.are_searchable.Goals as goal
 use Rattle.chi_search.proofs.searchable.are_searchable.Goals.{then-op-before-via-then-op-before, then-op-before-via-else-op-before+then-op, then-op-before-via-else-op-before+else-op+then-addr-length}
 
 -- the operation that was read
-at_read : (ops : List Observed) (i : ℕ) (op : Observed) → i < length ops → op ≡ get_or ops i op → at ops i ≡ op
+at_read : (ops : List Operation) (i : ℕ) (op : Operation) → i < length ops → op ≡ get_or ops i op → at ops i ≡ op
 at_read ops i op below is = get_or_default ops i nothing op below ∙ sym is
 
 pub returns-then-op-before : goal.returns-then-op-before

@@ -1,6 +1,6 @@
 -- from the first states to the words of the last, where no operation comes later
 use Rattle.std.proofs.Common.{ℕ, ◌↔◌, List, [], ◌++◌, IfSome, None, Option, append-nil, subst}
-use Rattle.chi_trace.specs.declared.observed.Observed.{Observed}
+use Rattle.chi_trace.specs.declared.operation.Operation.{Operation}
 use Rattle.chi_search.specs.declared.states.States.{States}
 use Rattle.chi_search.specs.Layers.{MayFollow, SomeEnds, SomeLeads, Waits}
 use Rattle.chi_search.specs.Positions.{Position}
@@ -18,10 +18,10 @@ returns-in_ok-each-in-Some-clause-words g c =
     let words = c.args.words.now in
     let from = c.in_ok-first.first in
     let last = c.in-Some.last in
-    let ends = subst (λ (o : Option States). IfSome o (λ states. (more : List Observed) → MayFollow ops None more → (v : ℕ) → SomeEnds (ops ++ more) states v ↔ SomeEnds (ops ++ more) from v))
+    let ends = subst (λ (o : Option States). IfSome o (λ states. (more : List Operation) → MayFollow ops None more → (v : ℕ) → SomeEnds (ops ++ more) states v ↔ SomeEnds (ops ++ more) from v))
     c.in-Some.is c.in_ok-last.ensures.ends in
     let waiting = subst (λ (o : Option States). IfSome o (λ states. (p : Position) → Has states p → Waits ops None p.first)) c.in-Some.is c.in_ok-last.ensures.waiting in
     last_leads ops (λ v. SomeLeads ops words v) c.in_ok-each-in-Some.each.items last waiting c.in_ok-each-in-Some.ensures.words
     (λ v. chained (SomeEnds ops last v) (SomeEnds ops from v) (SomeLeads ops words v)
-    (subst (λ (all : List Observed). SomeEnds all last v ↔ SomeEnds all from v) (append-nil ops) (ends [] (none_follow ops c.requires.sorted) v))
+    (subst (λ (all : List Operation). SomeEnds all last v ↔ SomeEnds all from v) (append-nil ops) (ends [] (none_follow ops c.requires.sorted) v))
     (first_leads ops words from c.in_ok-first.ensures v))

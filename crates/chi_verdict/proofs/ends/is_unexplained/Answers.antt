@@ -1,5 +1,5 @@
 -- what was known by the time is a trace
-use Rattle.chi_verdict.proofs.Cuts.{IsTrace-cut}
+use Rattle.chi_trace.proofs.TracedCuts.{IsTrace-cut}
 use Rattle.chi_verdict.proofs.ends.is_unexplained.Goals as goal
 
 pub search_granule-requires-clause-traced : goal.search_granule-requires-clause-traced

@@ -7,7 +7,7 @@ use Rattle.chi_verdict.specs.declared.grouping.Placed.{Placed}
 use Rattle.chi_search.proofs.Looking.{none_more, some_after}
 use Rattle.chi_verdict.specs.Backwards.{IfAnswer, IfEarlier}
 use Rattle.chi_verdict.specs.Blames.{LookedForFirst}
-use Rattle.chi_verdict.specs.Words.{word_told}
+use Rattle.chi_trace.specs.Words.{word_told}
 use Rattle.chi_verdict.proofs.LastEnd.{last_unexplained}
 use Rattle.chi_search.specs.Looks.{LookedSome}
 use Rattle.chi_verdict.proofs.Spent.{first_after}

@@ -2,7 +2,7 @@
 use Rattle.std.proofs.Common.{ℕ, List, None}
 use Rattle.chi_trace.specs.Cuts.{cut}
 use Rattle.chi_trace.specs.Granules.{ExplainsGranule}
-use Rattle.chi_verdict.specs.Words.{word_told}
+use Rattle.chi_trace.specs.Words.{word_told}
 use Rattle.chi_search.specs.Looks.{LookedSome}
 use Rattle.chi_verdict.proofs.first.first_before.Given as goal
 

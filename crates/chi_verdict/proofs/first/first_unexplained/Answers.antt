@@ -6,7 +6,7 @@ use Rattle.chi_trace.specs.Granules.{ExplainsGranule}
 use Rattle.chi_verdict.specs.declared.verdict.Verdict.{Verdict}
 use Rattle.chi_verdict.specs.Blames.{LookedForFirst}
 use Rattle.chi_verdict.specs.Verdicts.{IfExplained, IfUndecided, IfUnexplained}
-use Rattle.chi_verdict.specs.Words.{memory_of, told, word_told}
+use Rattle.chi_trace.specs.Words.{memory_of, told, word_told}
 use Rattle.chi_verdict.proofs.Blamed.{none_is_told}
 use Rattle.chi_verdict.proofs.Spent.{first_after}
 use Rattle.chi_verdict.proofs.Whole.{cut_all}

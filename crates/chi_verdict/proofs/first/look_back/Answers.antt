@@ -2,17 +2,17 @@
 use Rattle.std.proofs.Common.{◌≡◌, ℕ, ◌+◌, ◌-◌, ◌≤◌, ◌↔◌, List, None, Option, inl, inr, refl, sym, ap, subst, ◌∙◌, arith}
 use Rattle.std.specs.List.{Contains}
 use Rattle.chi_search.specs.Found.{IfWords}
-use Rattle.chi_trace.specs.declared.observed.Observed.{Observed}
+use Rattle.chi_trace.specs.declared.operation.Operation.{Operation}
 use Rattle.chi_trace.specs.Cuts.{cut}
 use Rattle.chi_trace.specs.Explains.{Explains, IsTrace, unobserved}
 use Rattle.chi_trace.specs.Granules.{ExplainsGranule}
-use Rattle.chi_verdict.specs.declared.words.GranuleWord.{GranuleWord}
+use Rattle.chi_trace.specs.declared.words.GranuleWord.{GranuleWord}
 use Rattle.chi_verdict.specs.declared.verdict.Verdict.{Verdict}
-use Rattle.chi_verdict.specs.Traces.{CanHold, IsLegal, known_at}
+use Rattle.chi_trace.specs.Traces.{CanHold, IsLegal, known_at}
 use Rattle.chi_verdict.specs.Verdicts.{IfExplained, IfUndecided, IfUnexplained}
-use Rattle.chi_verdict.specs.Words.{memory_of, told, word_told}
+use Rattle.chi_trace.specs.Words.{memory_of, told, word_told}
 use Rattle.chi_verdict.proofs.Blamed.{none_is_told, unexplained_at, words_imply}
-use Rattle.chi_verdict.proofs.Cuts.{IsTrace-cut}
+use Rattle.chi_trace.proofs.TracedCuts.{IsTrace-cut}
 use Rattle.chi_search.proofs.Looking.{more_after, none_more}
 use Rattle.chi_verdict.proofs.Spent.{unknown_implies}
 use Rattle.chi_verdict.proofs.Whole.{unseen}
@@ -56,7 +56,7 @@ legal g c earlier next =
     (unseen memory c.deref.result.now items (subst (λ words. Explains memory (told words) c.deref.result.now items) c.none-none.ensures whole)))
 
 -- each of these words, where there is an order, can be held after the operations
-abbrev Holds : List GranuleWord → ℕ → List Observed → List ℕ → Type 0
+abbrev Holds : List GranuleWord → ℕ → List Operation → List ℕ → Type 0
 Holds opening n ops each = (order : List ℕ) → IsLegal (record { opening = opening; operations = ops }) order
     → (v : ℕ) → Contains each v ↔ CanHold (record { opening = opening; operations = ops }) n v
 
@@ -75,7 +75,7 @@ returns-in_ok-words-in-Explained-clause-answer g c = record {
         let opening = c.args.opening.now in
         let when : c.args.blamed.end - 1 ≡ earlier = omega (arith, next) in
         let found = c.in_ok-words-in-Explained.words in
-        let holds = subst (λ (ops : List Observed). IfWords found (Holds opening c.args.granule ops))
+        let holds = subst (λ (ops : List Operation). IfWords found (Holds opening c.args.granule ops))
         (rw c.in_ok-known.ensures at c.deref-in-Explained.ensures.value ∙ ap (λ (n : ℕ). cut n c.args.ops.now) when) c.in_ok-words-in-Explained.ensures.words in
         words_imply found (Holds opening c.args.granule (cut earlier c.args.ops.now))
         (λ each. (v : ℕ) → Contains each v ↔ CanHold (known_at earlier (record { opening = opening; operations = c.args.ops.now })) c.args.granule v)

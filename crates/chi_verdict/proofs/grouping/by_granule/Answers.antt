@@ -1,5 +1,5 @@
 -- one operation more, and the list once it is sorted twice
-use Rattle.std.proofs.Common.{◌≡◌, ◌/◌, true, refl, sym, ap, ◌∙◌, arith, rules}
+use Rattle.std.proofs.Common.{◌≡◌, true, refl, sym, ap, ◌∙◌, arith, rules}
 use Rattle.std.proofs.Math.Bool.{and-true}
 use Rattle.std.proofs.lemmas.List.{get_or_read}
 use Rattle.std.proofs.lemmas.List.Sorted.{IsNonDecreasingBy-from_sort_by_key, answers_always, ties_still_rise}
@@ -18,8 +18,8 @@ loop-place-preserved c =
     let place = c.loop-place.place in
     let op = c.index-ops-place.result in
     let read : op ≡ at ops place = get_or_read ops place op c.loop-place-test.true c.index-ops-place.is nothing in
-    let address : granule_of op ≡ c.addr.result / 8 = ap (λ n. n / 8) (sym c.addr.ensures.value) in
-    filled_more ops (λ i. true) place (c.addr.result / 8) c.loop-place.places.items c.push.new.self.items op c.loop-place.invariant refl read address
+    let address : granule_of op ≡ c.granule.result = sym c.granule.ensures in
+    filled_more ops (λ i. true) place c.granule.result c.loop-place.places.items c.push.new.self.items op c.loop-place.invariant refl read address
     c.in_ok-push.ensures.items
 
 pub returns : goal.returns

@@ -1,5 +1,5 @@
 -- an operation of the granule and another, and the list once it is sorted
-use Rattle.std.proofs.Common.{◌≡◌, ◌+◌, ◌/◌, sym, ap, subst, ◌∙◌, arith, rules}
+use Rattle.std.proofs.Common.{◌≡◌, ◌+◌, sym, ap, subst, ◌∙◌, arith, rules}
 use Rattle.std.proofs.lemmas.Bool.{eq-eqb, ne_eqb}
 use Rattle.std.proofs.lemmas.List.{get_or_read}
 use Rattle.std.proofs.lemmas.List.Sorted.{IsNonDecreasingBy-from_sort_by_key}
@@ -8,7 +8,7 @@ use Rattle.chi_trace.specs.Granules.{granule_of}
 use Rattle.chi_verdict.proofs.Filling.{IsFilled, filled_all, filled_more, filled_none, filled_permuted, filled_without, is_own}
 use Rattle.chi_verdict.proofs.OneGranule.{one_granule}
 use Rattle.chi_verdict.proofs.grouping.of_granule.Goals as goal
-use Rattle.chi_verdict.proofs.grouping.of_granule.Goals.{then-addr-granule+in_ok-push, else-addr-granule}
+use Rattle.chi_verdict.proofs.grouping.of_granule.Goals.{then-granule+in_ok-push, else-granule}
 
 pub loop-place-init : goal.loop-place-init
 loop-place-init c = filled_none c.args.ops.now (is_own c.args.ops.now c.args.granule) c.new-places.result.items c.new-places.ensures.items
@@ -20,16 +20,16 @@ loop-place-preserved c =
     let place = c.loop-place.place in
     let op = c.index-ops-place.result in
     let read : op ≡ at ops place = get_or_read ops place op c.loop-place-test.true c.index-ops-place.is nothing in
-    let address : granule_of op ≡ c.addr.result / 8 = ap (λ n. n / 8) (sym c.addr.ensures.value) in
-    elim c.if-addr-granule.branch [
-      | then-addr-granule+in_ok-push w ↦
-          let same : granule_of op ≡ g = address ∙ w.if-addr-granule.true in
-          filled_more ops (is_own ops g) place g c.loop-place.places.items c.if-addr-granule.places.items op c.loop-place.invariant
+    let address : granule_of op ≡ c.granule.result = sym c.granule.ensures in
+    elim c.if-granule.branch [
+      | then-granule+in_ok-push w ↦
+          let same : granule_of op ≡ g = address ∙ w.if-granule.true in
+          filled_more ops (is_own ops g) place g c.loop-place.places.items c.if-granule.places.items op c.loop-place.invariant
           (eq-eqb (granule_of (at ops place)) g (ap granule_of (sym read) ∙ same)) read same (ap (λ v. v.items) w.places-is ∙ w.in_ok-push.ensures.items)
-      | else-addr-granule w ↦
+      | else-granule w ↦
           subst (λ v. IsFilled ops (is_own ops g) (place + 1) v.items) (sym w.places-is)
           (filled_without ops (is_own ops g) place c.loop-place.places.items c.loop-place.invariant
-          (ne_eqb (granule_of (at ops place)) g (λ same. w.if-addr-granule.false (sym address ∙ ap granule_of read ∙ same))))
+          (ne_eqb (granule_of (at ops place)) g (λ same. w.if-granule.false (sym address ∙ ap granule_of read ∙ same))))
     ]
 
 pub returns : goal.returns

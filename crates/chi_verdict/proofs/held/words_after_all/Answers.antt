@@ -4,7 +4,7 @@ use Rattle.std.specs.List.{Contains}
 use Rattle.std.proofs.lemmas.Result.{IfOk-weaker}
 use Rattle.chi_search.specs.Found.{IfWords}
 use Rattle.chi_trace.specs.Granules.{ExplainsGranule}
-use Rattle.chi_verdict.specs.Traces.{CanHold, IsLegal, TraceValue}
+use Rattle.chi_trace.specs.Traces.{CanHold, IsLegal, TraceValue}
 use Rattle.chi_verdict.proofs.HeldAlone.{said_held}
 use Rattle.chi_verdict.proofs.held.words_after_all.Goals as goal
 

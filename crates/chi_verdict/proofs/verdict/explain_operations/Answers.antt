@@ -6,11 +6,11 @@ use Rattle.chi_search.specs.Found.{IfNothing, IfOrder, IfUndecided}
 use Rattle.chi_trace.specs.Explains.{is_place, word_of}
 use Rattle.chi_trace.specs.Granules.{ExplainsGranule, is_of}
 use Rattle.chi_verdict.specs.declared.weaving.Point.{Point}
-use Rattle.chi_verdict.specs.declared.words.GranuleWord.{GranuleWord}
+use Rattle.chi_trace.specs.declared.words.GranuleWord.{GranuleWord}
 use Rattle.chi_verdict.specs.Groups.{IsGrouped}
 use Rattle.chi_verdict.specs.Points.{order_of}
-use Rattle.chi_verdict.specs.Words.{memory_of, told, word_told}
-use Rattle.chi_verdict.proofs.Memory.{IsMemory-memory_of, word_of-memory_of}
+use Rattle.chi_trace.specs.Words.{memory_of, told, word_told}
+use Rattle.chi_trace.proofs.Memory.{IsMemory-memory_of, word_of-memory_of}
 use Rattle.chi_verdict.proofs.Parts.{group_of}
 use Rattle.chi_search.proofs.Looking.{more_after, none_more}
 use Rattle.chi_verdict.proofs.Spent.{looked_on}

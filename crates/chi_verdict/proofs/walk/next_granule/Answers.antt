@@ -1,7 +1,7 @@
 -- the least granule that is still to come
 use Rattle.std.proofs.Common.{ℕ, ◌<◌, min, arith}
 use Rattle.chi_verdict.specs.declared.grouping.Placed.{Placed}
-use Rattle.chi_verdict.specs.declared.words.GranuleWord.{GranuleWord}
+use Rattle.chi_trace.specs.declared.words.GranuleWord.{GranuleWord}
 use Rattle.chi_verdict.proofs.Ahead.{below_first, none_left, of_first, words_up}
 use Rattle.chi_verdict.proofs.walk.next_granule.Goals as goal
 

@@ -1,6 +1,6 @@
 -- what stands after a word
 use Rattle.std.proofs.Common.{◌+◌, ◌<◌, ◌≤◌, All, drop, subst, arith}
-use Rattle.chi_verdict.specs.declared.words.GranuleWord.{GranuleWord}
+use Rattle.chi_trace.specs.declared.words.GranuleWord.{GranuleWord}
 use Rattle.chi_verdict.proofs.Ahead.{below_first, of_first, words_after, words_up}
 use Rattle.chi_verdict.proofs.walk.past_word.Goals as goal
 

@@ -4,7 +4,7 @@ use crate::tests::comparison::assert_same;
 use chi_fields::{Region, Request, decode};
 use chi_lanes::Reply;
 use chi_search::{Found, NoProgress, Words, are_searchable, order_of, words_of};
-use chi_trace::Observed;
+use chi_trace::Operation;
 use std::alloc::Global;
 use std::process::Abort;
 use std::test::Fail;
@@ -89,18 +89,20 @@ pub(crate) fn done_at(times: (u64, u64), opcode: u8, byte: u32, word: u64) -> Ti
 }
 
 /// What was observed of an operation.
-pub(crate) fn seen(op: &Timed) -> Result<Observed, Fail> {
-    Ok(Observed {
+pub(crate) fn seen(op: &Timed) -> Result<Operation, Fail> {
+    Ok(Operation {
+        number: 0,
+        src: 1,
+        txn: u16::from(op.request.txn),
+        access: decode(&op.request, &Region::new(LAST - 56, 8)?)?,
         start: op.times.0,
         end: op.times.1,
-        src: 1,
-        access: decode(&op.request, &Region::new(LAST - 56, 8)?)?,
         reply: op.reply,
     })
 }
 
 /// What was observed of these operations.
-pub(crate) fn observed(alloc: Global, ops: &[Timed]) -> Result<Vec<Observed>, Fail> {
+pub(crate) fn observed(alloc: Global, ops: &[Timed]) -> Result<Vec<Operation>, Fail> {
     let mut list = Vec::new(alloc);
     for op in ops {
         list.push(seen(op)?)?;

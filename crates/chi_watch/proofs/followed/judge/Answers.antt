@@ -1,7 +1,7 @@
 -- The words of the search are those that the operations leave.
 use Rattle.std.proofs.Common.{ℕ, ◌↔◌, List, subst, sym}
 use Rattle.std.specs.List.{Contains}
-use Rattle.chi_trace.specs.declared.observed.Observed.{Observed}
+use Rattle.chi_trace.specs.declared.operation.Operation.{Operation}
 use Rattle.chi_search.specs.Found.{IfWords}
 use Rattle.chi_search.specs.Frontiers.{Follows, FrontierValue}
 use Rattle.chi_search.specs.Layers.{SomeLeads}
@@ -10,7 +10,7 @@ use Rattle.chi_watch.proofs.followed.judge.Goals as goal
 
 -- these are just the words that the operations leave
 abbrev AreLeft : FrontierValue → List ℕ → Type 0
-AreLeft f each = (words : List ℕ) (told : List Observed) → Follows words told f → (v : ℕ) → Contains each v ↔ SomeLeads told words v
+AreLeft f each = (words : List ℕ) (told : List Operation) → Follows words told f → (v : ℕ) → Contains each v ↔ SomeLeads told words v
 
 pub returns-then-fits-clause-explained : goal.returns-then-fits-clause-explained
 returns-then-fits-clause-explained g c words told follows =

@@ -6,7 +6,7 @@ use Rattle.chi_watch.proofs.followed.tell.Goals as goal
 
 pub returns-in_ok-add-2-clause-told : goal.returns-in_ok-add-2-clause-told
 returns-in_ok-add-2-clause-told g c known can =
-    let op = c.args.traced.now.op in
+    let op = c.args.op.now in
     let old = c.args.followed.now in
     let moved = c.in_ok-move_on.ensures.moved in
     let past : c.move_on.new.followed.frontier.horizon ≤ op.start = elim moved.horizon_is [

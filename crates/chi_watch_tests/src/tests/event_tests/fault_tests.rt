@@ -8,7 +8,7 @@ use crate::tests::comparison::assert_same;
 use chi_events::{EventFault, EventKind};
 use chi_fields::Refusal;
 use chi_lanes::Reply;
-use chi_reading::ReplyFault;
+use chi_trace::ReplyFault;
 use std::process::Abort;
 use std::test::Fail;
 

@@ -4,8 +4,7 @@ use crate::tests::comparison::assert_same;
 use chi_events::{Completion, Event, EventFault, EventKind, Outstanding, Packet, Requested};
 use chi_fields::{Access, Kind, Op, Refusal};
 use chi_lanes::Reply;
-use chi_reading::Asked;
-use chi_trace::Observed;
+use chi_trace::{Asked, Operation};
 use std::alloc::Global;
 use std::process::Abort;
 use std::test::Fail;
@@ -21,6 +20,7 @@ pub(crate) const OLD: [u8; 16] = [0, 0, 0, 0, 0, 0, 0, 0, 37, 0, 0, 0, 0, 0, 0, 
 /// An AtomicLoad ADD of eight bytes at 4104 by requester 513.
 fn load(be: u16, lanes: [u8; 16]) -> Asked {
     Asked {
+        number: 1,
         src: 513,
         txn: 9,
         opcode: 0x30,
@@ -55,6 +55,7 @@ pub(crate) fn read(id: u64, addr: u64) -> EventKind {
     EventKind::Request(Requested {
         id,
         asked: Asked {
+            number: 1,
             src: 2,
             txn: 65535,
             opcode: 0x04,
@@ -73,6 +74,7 @@ pub(crate) fn request(opcode: u8, size: u8, addr: u64, be: u16) -> EventKind {
     EventKind::Request(Requested {
         id: 9,
         asked: Asked {
+            number: 1,
             src: 1,
             txn: 0,
             opcode,
@@ -110,7 +112,7 @@ pub(crate) fn take(
     outstanding: &mut Outstanding,
     time: u64,
     kind: EventKind,
-) -> Result<Option<Observed>, EventFault> {
+) -> Result<Option<Operation>, EventFault> {
     outstanding.take(&Event { time, kind })
 }
 
@@ -152,7 +154,7 @@ fn is_load(access: &Access) -> bool {
 /// Compares what ended with the load with its data, at these times and with this reply.
 pub(crate) fn assert_load<R: Abort>(
     rt: &R,
-    ended: Option<Observed>,
+    ended: Option<Operation>,
     times: (u64, u64),
     reply: Option<Reply>,
 ) {

@@ -8,7 +8,7 @@ use crate::tests::comparison::assert_same;
 use chi_events::{EventFault, EventKind};
 use chi_fields::Kind;
 use chi_lanes::Reply;
-use chi_verdict::GranuleWord;
+use chi_trace::GranuleWord;
 use std::test::Fail;
 
 #[test]

@@ -1,9 +1,6 @@
 -- line after line is read
 use Rattle.std.proofs.Common.{ℕ, ◌-◌, ◌++◌, IfErr, IfSome, Option, Result, option_to_list, subst, ap, ◌∙◌, arith}
-use Rattle.std.specs.Prelude.{Vec}
-use Rattle.std.specs.declared.alloc.Global.{Global}
 use Rattle.chi_fields.specs.declared.refusal.Refusal.{Refusal}
-use Rattle.chi_trace.specs.declared.observed.Observed.{Observed}
 use Rattle.chi_events.specs.declared.event.Event.{Event}
 use Rattle.chi_events.specs.Outstanding.{refusal_by}
 use Rattle.chi_watch_text.specs.Operations.{IsOperationsFault}
@@ -23,7 +20,7 @@ loop-number-preserved g c =
     let start = g.R.Read.remaining c.args.from.now in
     let now = g.R.Read.remaining c.loop-number.from in
     let later = g.R.Read.remaining c.next_event.new.from in
-    let read = subst (λ (o : Option Event). IfSome now (λ text. IsRead text o later)) c.in-Some.is c.in_ok-event.ensures.told in
+    let read = subst (λ (o : Option Event). IfSome now (λ text. IsRead n text o later)) c.in-Some.is c.in_ok-event.ensures.told in
     subst (λ (k : ℕ). HasRead start k c.add_some.new.items.items c.add_some-in-loop-number.new.items.items c.take_event.new.outstanding later) (omega arith)
     (read_more start now later (n - 1) n c.loop-number.ops.items c.add_some.new.items.items c.loop-number.refusals.items c.add_some-in-loop-number.new.items.items c.loop-number.outstanding c.take_event.new.outstanding
     c.in-Some.event c.in_ok-ended.ended (refusal_by c.loop-number.outstanding.requests c.in-Some.event.kind) c.loop-number.invariant read c.in_ok-ended.ensures.tells c.in_ok-ended.ensures.refusals
@@ -34,16 +31,16 @@ returns-in_default-clause-told g c =
     let n = c.loop-number.number in
     let now = g.R.Read.remaining c.loop-number.from in
     let later = g.R.Read.remaining c.next_event.new.from in
-    let read = subst (λ (o : Option Event). IfSome now (λ text. IsRead text o later)) c.in_default.is c.in_ok-event.ensures.told in
-    all_read (g.R.Read.remaining c.args.from.now) now later (n - 1) c.loop-number.ops.items c.in_ok-in_order.field-0.items c.loop-number.refusals.items c.loop-number.outstanding c.loop-number.invariant read c.in_ok-in_order.ensures
+    let read = subst (λ (o : Option Event). IfSome now (λ text. IsRead n text o later)) c.in_default.is c.in_ok-event.ensures.told in
+    all_read (g.R.Read.remaining c.args.from.now) now later (n - 1) n c.loop-number.ops.items c.in_ok-in_order.field-0.items c.loop-number.refusals.items c.loop-number.outstanding c.loop-number.invariant read c.in_ok-in_order.ensures
 
 pub returns-in_default-clause-refusals : goal.returns-in_default-clause-refusals
 returns-in_default-clause-refusals g c =
     let n = c.loop-number.number in
     let now = g.R.Read.remaining c.loop-number.from in
     let later = g.R.Read.remaining c.next_event.new.from in
-    let read = subst (λ (o : Option Event). IfSome now (λ text. IsRead text o later)) c.in_default.is c.in_ok-event.ensures.told in
-    all_refused (g.R.Read.remaining c.args.from.now) now later (n - 1) c.loop-number.ops.items c.loop-number.refusals.items c.loop-number.outstanding c.loop-number.invariant read
+    let read = subst (λ (o : Option Event). IfSome now (λ text. IsRead n text o later)) c.in_default.is c.in_ok-event.ensures.told in
+    all_refused (g.R.Read.remaining c.args.from.now) now later (n - 1) n c.loop-number.ops.items c.loop-number.refusals.items c.loop-number.outstanding c.loop-number.invariant read
 
 pub returns-in_err-event-clause-fault : goal.returns-in_err-event-clause-fault
 returns-in_err-event-clause-fault g c =
@@ -59,7 +56,7 @@ returns-in_err-ended-clause-fault g c =
     let start = g.R.Read.remaining c.args.from.now in
     let now = g.R.Read.remaining c.loop-number.from in
     let later = g.R.Read.remaining c.next_event.new.from in
-    let read = subst (λ (o : Option Event). IfSome now (λ text. IsRead text o later)) c.in-Some.is c.in_ok-event.ensures.told in
+    let read = subst (λ (o : Option Event). IfSome now (λ text. IsRead n text o later)) c.in-Some.is c.in_ok-event.ensures.told in
     passed_on c.from_residual-in_err-ended.result c.in_err-ended.field-0.0 (λ (r : Result OperationsTold LinesFault). IfSome start (λ text. IfErr r (IsOperationsFault text)))
     c.from_residual-in_err-ended.ensures.1
     (event_refused start now later (n - 1) n c.loop-number.ops.items c.loop-number.refusals.items c.loop-number.outstanding c.in-Some.event c.in_err-ended.field-0.0 c.loop-number.invariant (omega arith) read c.in_err-ended.ensures.fault)

@@ -1,8 +1,8 @@
 -- one line after the other
-use Rattle.std.proofs.Common.{ℕ, List, ◌++◌, OnOk, flat_map, subst}
-use Rattle.chi_answer.specs.Lines.{blamed_line, word_lines}
+use Rattle.std.proofs.Common.{ℕ, List, ◌++◌, flat_map}
+use Rattle.chi_answer.specs.Lines.{blamed_line, open_line, word_lines}
 use Rattle.chi_text.proofs.Growing.{part_then}
-use Rattle.chi_watch_text.specs.ReachTexts.{kept_line, up_to_line}
+use Rattle.chi_watch_text.specs.ReachTexts.{up_to_line}
 use Rattle.chi_watch_text.specs.RowTexts.{rows_text}
 use Rattle.chi_watch_text.proofs.Rows.{rows_are}
 use Rattle.chi_watch_text.proofs.reach_lines.add_stop.Goals as goal
@@ -11,9 +11,9 @@ pub returns : goal.returns
 returns c =
     let stop = c.args.stop.now in
     let excerpt = c.in_ok-excerpt.excerpt in
-    let blamed : List ℕ = blamed_line stop.time stop.op.asked stop.op.op in
+    let blamed : List ℕ = blamed_line stop.time stop.op in
     let words : List ℕ = word_lines stop.words.items in
-    let open_ones : List ℕ = flat_map kept_line stop.overlapping.items in
+    let open_ones : List ℕ = flat_map open_line stop.overlapping.items in
     let up_to : List ℕ = up_to_line stop.time in
     let rows : List ℕ = rows_text stop in
     part_then c.add_excerpt.result c.args.to.now.items c.add_blamed.new.to.items c.add_excerpt.new.to.items blamed (words ++ (open_ones ++ (up_to ++ rows))) c.in_ok-add_blamed.ensures

@@ -34,13 +34,13 @@ pub loop-number-preserved : goal.loop-number-preserved
 loop-number-preserved g c =
     let before = c.loop-number.invariant in
     let settled_now =
-    settled (g.R.Read.remaining c.args.from.now) (g.R.Read.remaining c.loop-number.from) (g.R.Read.remaining c.next_event.new.from) (c.loop-number.number - 1) c.loop-number.time c.loop-number.found.items
-    c.settle.new.found.items c.loop-number.quiet.items c.settle.new.quiet.items c.loop-number.watch c.in_ok-next.next c.is_past-is_past.result before.taken c.in_ok-next.ensures.told c.is_past-is_past.ensures
+    settled (g.R.Read.remaining c.args.from.now) (g.R.Read.remaining c.loop-number.from) (g.R.Read.remaining c.next_event.new.from) (c.loop-number.number - 1) c.loop-number.number c.loop-number.time c.loop-number.found.items
+    c.settle.new.found.items c.loop-number.quiet.items c.settle.new.quiet.items c.loop-number.watch c.in_ok-next.next c.is_past-is_past.result before.taken (omega arith) c.in_ok-next.ensures.told c.is_past-is_past.ensures
     c.in_ok-settle.ensures.waits c.in_ok-settle.ensures.cleared c.in_ok-settle.ensures.each in
     let first = none_found c.is_past-is_past.result c.stops.result c.args.options.now.keep_going c.loop-number.found.items c.settle.new.found.items before.first
     (λ waits. (c.in_ok-settle.ensures.waits waits).0) c.if-stops.false (rw c.deref.ensures.value at c.stops.ensures.goes_on) in
     let some = some_after g.P.Progress.looked c.args.progress.now c.loop-number.progress c.settle.new.progress before.looked c.in_ok-settle.ensures.looked in
-    let read = subst (λ (o : Option Event). IfSome (g.R.Read.remaining c.loop-number.from) (λ text. IsRead text o (g.R.Read.remaining c.next_event.new.from))) c.in-Some.is c.in_ok-next.ensures.told in
+    let read = subst (λ (o : Option Event). IfSome (g.R.Read.remaining c.loop-number.from) (λ text. IsRead c.loop-number.number text o (g.R.Read.remaining c.next_event.new.from))) c.in-Some.is c.in_ok-next.ensures.told in
     record {
       taken = subst (λ (k : ℕ). HasTakenLines (g.R.Read.remaining c.args.from.now) k c.in-Some.event.time c.settle.new.found.items c.note_quiet.new.quiet.items c.take_event.new.watch (g.R.Read.remaining c.next_event.new.from)) (omega arith)
           (event_taken (g.R.Read.remaining c.args.from.now) (g.R.Read.remaining c.loop-number.from) (g.R.Read.remaining c.next_event.new.from) (c.loop-number.number - 1) c.loop-number.number c.loop-number.time c.settle.new.found.items c.settle.new.quiet.items
@@ -57,25 +57,25 @@ pub returns-then-stops-clause-outcome : goal.returns-then-stops-clause-outcome
 returns-then-stops-clause-outcome g c =
     let before = c.loop-number.invariant in
     let settled_now =
-    settled (g.R.Read.remaining c.args.from.now) (g.R.Read.remaining c.loop-number.from) (g.R.Read.remaining c.next_event.new.from) (c.loop-number.number - 1) c.loop-number.time c.loop-number.found.items
-    c.settle.new.found.items c.loop-number.quiet.items c.settle.new.quiet.items c.loop-number.watch c.in_ok-next.next c.is_past-is_past.result before.taken c.in_ok-next.ensures.told c.is_past-is_past.ensures
+    settled (g.R.Read.remaining c.args.from.now) (g.R.Read.remaining c.loop-number.from) (g.R.Read.remaining c.next_event.new.from) (c.loop-number.number - 1) c.loop-number.number c.loop-number.time c.loop-number.found.items
+    c.settle.new.found.items c.loop-number.quiet.items c.settle.new.quiet.items c.loop-number.watch c.in_ok-next.next c.is_past-is_past.result before.taken (omega arith) c.in_ok-next.ensures.told c.is_past-is_past.ensures
     c.in_ok-settle.ensures.waits c.in_ok-settle.ensures.cleared c.in_ok-settle.ensures.each in
-    at_stop (g.R.Read.remaining c.args.from.now) (g.R.Read.remaining c.loop-number.from) (g.R.Read.remaining c.next_event.new.from) (c.loop-number.number - 1) c.loop-number.time c.settle.new.found.items c.settle.new.quiet.items
-    c.args.options.now.keep_going c.is_past-is_past.result c.loop-number.watch c.in_ok-next.next c.stopped.result settled_now c.in_ok-next.ensures.told c.is_past-is_past.ensures (c.in_ok-settle.ensures.once before.once)
+    at_stop (g.R.Read.remaining c.args.from.now) (g.R.Read.remaining c.loop-number.from) (g.R.Read.remaining c.next_event.new.from) (c.loop-number.number - 1) c.loop-number.number c.loop-number.time c.settle.new.found.items c.settle.new.quiet.items
+    c.args.options.now.keep_going c.is_past-is_past.result c.loop-number.watch c.in_ok-next.next c.stopped.result settled_now (omega arith) c.in_ok-next.ensures.told c.is_past-is_past.ensures (c.in_ok-settle.ensures.once before.once)
     ((rw c.deref.ensures.value at c.stops.ensures.stops) c.if-stops.true) c.stopped.ensures.told c.stopped.ensures.ending
 
 pub returns-in_default-clause-outcome : goal.returns-in_default-clause-outcome
 returns-in_default-clause-outcome g c =
     let before = c.loop-number.invariant in
     let settled_now =
-    settled (g.R.Read.remaining c.args.from.now) (g.R.Read.remaining c.loop-number.from) (g.R.Read.remaining c.next_event.new.from) (c.loop-number.number - 1) c.loop-number.time c.loop-number.found.items
-    c.settle.new.found.items c.loop-number.quiet.items c.settle.new.quiet.items c.loop-number.watch c.in_ok-next.next c.is_past-is_past.result before.taken c.in_ok-next.ensures.told c.is_past-is_past.ensures
+    settled (g.R.Read.remaining c.args.from.now) (g.R.Read.remaining c.loop-number.from) (g.R.Read.remaining c.next_event.new.from) (c.loop-number.number - 1) c.loop-number.number c.loop-number.time c.loop-number.found.items
+    c.settle.new.found.items c.loop-number.quiet.items c.settle.new.quiet.items c.loop-number.watch c.in_ok-next.next c.is_past-is_past.result before.taken (omega arith) c.in_ok-next.ensures.told c.is_past-is_past.ensures
     c.in_ok-settle.ensures.waits c.in_ok-settle.ensures.cleared c.in_ok-settle.ensures.each in
     let first = none_found c.is_past-is_past.result c.stops.result c.args.options.now.keep_going c.loop-number.found.items c.settle.new.found.items before.first
     (λ waits. (c.in_ok-settle.ensures.waits waits).0) c.if-stops.false (rw c.deref.ensures.value at c.stops.ensures.goes_on) in
-    let read = subst (λ (o : Option Event). IfSome (g.R.Read.remaining c.loop-number.from) (λ text. IsRead text o (g.R.Read.remaining c.next_event.new.from))) c.in_default.is c.in_ok-next.ensures.told in
+    let read = subst (λ (o : Option Event). IfSome (g.R.Read.remaining c.loop-number.from) (λ text. IsRead c.loop-number.number text o (g.R.Read.remaining c.next_event.new.from))) c.in_default.is c.in_ok-next.ensures.told in
     let ended = c.in_ok-ended.ensures in
-    at_end (g.R.Read.remaining c.args.from.now) (g.R.Read.remaining c.loop-number.from) (g.R.Read.remaining c.next_event.new.from) (c.loop-number.number - 1) c.loop-number.time c.settle.new.found.items c.settle.new.quiet.items
+    at_end (g.R.Read.remaining c.args.from.now) (g.R.Read.remaining c.loop-number.from) (g.R.Read.remaining c.next_event.new.from) (c.loop-number.number - 1) c.loop-number.number c.loop-number.time c.settle.new.found.items c.settle.new.quiet.items
     c.args.options.now.keep_going c.loop-number.watch c.in_ok-ended.field-0 settled_now read (c.in_ok-settle.ensures.once before.once) first ended.told ended.ending ended.says
 
 pub returns-in_default-clause-undecided : goal.returns-in_default-clause-undecided
@@ -116,10 +116,10 @@ pub returns-in_err-seen-clause-outcome : goal.returns-in_err-seen-clause-outcome
 returns-in_err-seen-clause-outcome g c =
     let before = c.loop-number.invariant in
     let settled_now =
-    settled (g.R.Read.remaining c.args.from.now) (g.R.Read.remaining c.loop-number.from) (g.R.Read.remaining c.next_event.new.from) (c.loop-number.number - 1) c.loop-number.time c.loop-number.found.items
-    c.settle.new.found.items c.loop-number.quiet.items c.settle.new.quiet.items c.loop-number.watch c.in_ok-next.next c.is_past-is_past.result before.taken c.in_ok-next.ensures.told c.is_past-is_past.ensures
+    settled (g.R.Read.remaining c.args.from.now) (g.R.Read.remaining c.loop-number.from) (g.R.Read.remaining c.next_event.new.from) (c.loop-number.number - 1) c.loop-number.number c.loop-number.time c.loop-number.found.items
+    c.settle.new.found.items c.loop-number.quiet.items c.settle.new.quiet.items c.loop-number.watch c.in_ok-next.next c.is_past-is_past.result before.taken (omega arith) c.in_ok-next.ensures.told c.is_past-is_past.ensures
     c.in_ok-settle.ensures.waits c.in_ok-settle.ensures.cleared c.in_ok-settle.ensures.each in
-    let read = subst (λ (o : Option Event). IfSome (g.R.Read.remaining c.loop-number.from) (λ text. IsRead text o (g.R.Read.remaining c.next_event.new.from))) c.in-Some.is c.in_ok-next.ensures.told in
+    let read = subst (λ (o : Option Event). IfSome (g.R.Read.remaining c.loop-number.from) (λ text. IsRead c.loop-number.number text o (g.R.Read.remaining c.next_event.new.from))) c.in-Some.is c.in_ok-next.ensures.told in
     passed_on c.from_residual-in_err-seen.result c.in_err-seen.field-0.0 (λ (r : Result Watched LinesFault). IfSome (g.R.Read.remaining c.args.from.now) (λ text. IsOutcome text c.args.options.now.keep_going r)) c.from_residual-in_err-seen.ensures.1
     (where_not_taken (g.R.Read.remaining c.args.from.now) (g.R.Read.remaining c.loop-number.from) (g.R.Read.remaining c.next_event.new.from) (c.loop-number.number - 1) c.loop-number.number c.loop-number.time c.settle.new.found.items c.settle.new.quiet.items
     c.args.options.now.keep_going c.loop-number.watch c.in-Some.event c.in_err-seen.field-0.0 settled_now (omega arith) read c.in_err-seen.ensures.fault)

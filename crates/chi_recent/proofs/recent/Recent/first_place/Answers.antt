@@ -2,22 +2,22 @@
 use Rattle.std.proofs.Common.{◌≡◌, ℕ, ◌+◌, ◌-◌, ◌/◌, ◌<◌, ◌⊎◌, List, get_or, length, inl, inr, sym, ap, subst, ⊎_elim, arith}
 use Rattle.std.proofs.lemmas.List.{get_or_default}
 use Rattle.chi_trace.specs.Explains.{at, nothing}
-use Rattle.chi_trace.specs.declared.observed.Observed.{Observed}
+use Rattle.chi_trace.specs.declared.operation.Operation.{Operation}
 use Rattle.chi_search.proofs.Looking.{at_least_after, at_least_before, some_after}
 use Rattle.chi_search.specs.Looks.{LookedAtLeast}
 use Rattle.chi_recent.specs.Reaches.{IsRecentOf}
-use Rattle.chi_recent.specs.Recent.{RecentValue, operations}
+use Rattle.chi_recent.specs.Recent.{RecentValue}
 use Rattle.chi_recent.specs.Searches.{AreSeen, IsExplained, IsSeen}
 use Rattle.chi_recent.proofs.Reached.{place_seen}
 use Rattle.chi_recent.proofs.recent.Recent.first_place.Goals as goal
 
 -- an operation that is read ends where the one at its place does
-read_end : (ops : List Observed) (i : ℕ) (read : Observed) → i < length ops → (at ops i).end ≡ (get_or ops i read).end
-read_end ops i read below = ap (λ (o : Observed). o.end) (sym (get_or_default ops i read nothing below))
+read_end : (ops : List Operation) (i : ℕ) (read : Operation) → i < length ops → (at ops i).end ≡ (get_or ops i read).end
+read_end ops i read below = ap (λ (o : Operation). o.end) (sym (get_or_default ops i read nothing below))
 
 -- one of the first so many is seen
-read_seen : (r : RecentValue) (ops : List Observed) (count i : ℕ) (read : Observed) → ops ≡ operations r.kept → AreSeen r ops count → i < count → i < length ops
-    → (trace : List Observed) (n w : ℕ) → IsRecentOf trace n w r → IsSeen r (get_or ops i read).end
+read_seen : (r : RecentValue) (ops : List Operation) (count i : ℕ) (read : Operation) → ops ≡ r.kept → AreSeen r ops count → i < count → i < length ops
+    → (trace : List Operation) (n w : ℕ) → IsRecentOf trace n w r → IsSeen r (get_or ops i read).end
 read_seen r ops count i read kept seen first below trace n w is =
     subst (IsSeen r) (read_end ops i read below) (place_seen r ops count i kept seen first below trace n w is)
 

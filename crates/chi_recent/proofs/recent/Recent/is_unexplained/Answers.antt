@@ -4,7 +4,7 @@ use Rattle.std.proofs.lemmas.Bool.{eqb-false}
 use Rattle.chi_search.specs.declared.words.Words.{Words}
 use Rattle.chi_search.specs.Found.{IfUnknown, IfWords}
 use Rattle.chi_search.specs.Looks.{LookedMore}
-use Rattle.chi_trace.specs.declared.observed.Observed.{Observed}
+use Rattle.chi_trace.specs.declared.operation.Operation.{Operation}
 use Rattle.std.specs.Prelude.{ℕ, List}
 use Rattle.chi_recent.specs.Reaches.{IsRecentOf}
 use Rattle.chi_recent.specs.Searches.{AreWordsBy}
@@ -27,6 +27,6 @@ returns-in-Each-clause-explained g c filled trace n w is seen =
 
 pub returns-in-Unknown-clause-explained : goal.returns-in-Unknown-clause-explained
 returns-in-Unknown-clause-explained g c same trace n w is seen =
-    let all = subst (λ (f : Words). IfUnknown f ((t : List Observed) (m u : ℕ) → IsRecentOf t m u c.args.self.now → LookedMore g.P.Progress.looked c.args.progress.now c.words_at.new.progress c.args.budget))
+    let all = subst (λ (f : Words). IfUnknown f ((t : List Operation) (m u : ℕ) → IsRecentOf t m u c.args.self.now → LookedMore g.P.Progress.looked c.args.progress.now c.words_at.new.progress c.args.budget))
     c.in-Unknown.is c.in_ok-words.ensures.unknown in
     inr (c.args.budget, omega arith, all trace n w is)

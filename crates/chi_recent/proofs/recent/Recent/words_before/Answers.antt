@@ -3,7 +3,7 @@ use Rattle.std.proofs.Common.{◌≡◌, ℕ, ◌+◌, ◌-◌, List, inl, inr, 
 use Rattle.chi_search.specs.declared.words.Words.{Words}
 use Rattle.chi_search.specs.Found.{IfUnknown, IfWords}
 use Rattle.chi_search.specs.Looks.{LookedMore}
-use Rattle.chi_trace.specs.declared.observed.Observed.{Observed}
+use Rattle.chi_trace.specs.declared.operation.Operation.{Operation}
 use Rattle.chi_recent.specs.Reaches.{IsRecentOf}
 use Rattle.chi_recent.specs.Searches.{AreWordsBy}
 use Rattle.chi_recent.proofs.Leading.{unexplained_none}
@@ -11,7 +11,7 @@ use Rattle.chi_recent.proofs.recent.Recent.words_before.Goals as goal
 
 pub returns-in-Unknown-clause-none : goal.returns-in-Unknown-clause-none
 returns-in-Unknown-clause-none g c none trace n w is =
-    let all = subst (λ (f : Words). IfUnknown f ((t : List Observed) (m u : ℕ) → IsRecentOf t m u c.args.self.now → LookedMore g.P.Progress.looked c.args.progress.now c.words_at.new.progress c.args.budget))
+    let all = subst (λ (f : Words). IfUnknown f ((t : List Operation) (m u : ℕ) → IsRecentOf t m u c.args.self.now → LookedMore g.P.Progress.looked c.args.progress.now c.words_at.new.progress c.args.budget))
     c.in-Unknown.is c.in_ok-words_at.ensures.unknown in
     inr (c.args.budget, omega arith, all trace n w is)
 

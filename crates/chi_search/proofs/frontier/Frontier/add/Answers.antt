@@ -1,6 +1,6 @@
 -- one operation more is told
 use Rattle.std.proofs.Common.{◌+◌, ◌^◌, ◌≤◌, List, [], ◌∷◌, ◌++◌, sym, subst, arith}
-use Rattle.chi_trace.specs.declared.observed.Observed.{Observed}
+use Rattle.chi_trace.specs.declared.operation.Operation.{Operation}
 use Rattle.chi_search.specs.Frontiers.{CanBeTold, Follows, FrontierValue, IsFrontier}
 use Rattle.chi_search.specs.StateSets.{positions}
 use Rattle.chi_search.proofs.Telling.{follows_one, frontier_one}
@@ -13,7 +13,7 @@ invariant_of-self-2 c =
     let old : FrontierValue = record { positions = positions s.states; operations = s.operations.items; horizon = s.horizon; latest = s.latest } in
     let can : CanBeTold old op = record { lasting = omega arith; starts = omega arith; ends = omega arith } in
     let lies : op.access.addr + op.access.len ≤ 2 ^ 52 = omega arith in
-    subst (λ (ops : List Observed). IsFrontier (record { positions = positions s.states; operations = ops; horizon = s.horizon; latest = op.end })) (sym c.in_ok-push.ensures.items)
+    subst (λ (ops : List Operation). IsFrontier (record { positions = positions s.states; operations = ops; horizon = s.horizon; latest = op.end })) (sym c.in_ok-push.ensures.items)
     (frontier_one old op c.self.invariant can lies)
 
 pub returns-clause-told : goal.returns-clause-told
@@ -22,5 +22,5 @@ returns-clause-told c is words told follows =
     let op = c.args.op.now in
     let old : FrontierValue = record { positions = positions s.states; operations = s.operations.items; horizon = s.horizon; latest = s.latest } in
     let can : CanBeTold old op = record { lasting = omega arith; starts = omega arith; ends = omega arith } in
-    subst (λ (ops : List Observed). Follows words (told ++ op ∷ []) (record { positions = positions s.states; operations = ops; horizon = s.horizon; latest = op.end })) (sym c.in_ok-push.ensures.items)
+    subst (λ (ops : List Operation). Follows words (told ++ op ∷ []) (record { positions = positions s.states; operations = ops; horizon = s.horizon; latest = op.end })) (sym c.in_ok-push.ensures.items)
     (follows_one words told old op can (subst (Follows words told) (sym c.self.view_is) follows))

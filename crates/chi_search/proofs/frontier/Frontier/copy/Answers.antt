@@ -1,6 +1,6 @@
 -- the same operations, and a copy of the states
 use Rattle.std.proofs.Common.{◌≡◌, List, refl, sym, subst, ◌∙◌}
-use Rattle.chi_trace.specs.declared.observed.Observed.{Observed}
+use Rattle.chi_trace.specs.declared.operation.Operation.{Operation}
 use Rattle.chi_search.specs.Frontiers.{Follows, FrontierValue, IsFrontier}
 use Rattle.chi_search.specs.StateSets.{positions}
 use Rattle.chi_search.proofs.MovedBack.{follows_copied, frontier_copied}
@@ -11,7 +11,7 @@ invariant_of-result c =
     let s = c.self.inside in
     let old : FrontierValue = record { positions = positions s.states; operations = s.operations.items; horizon = s.horizon; latest = s.latest } in
     let items : c.in_ok-operations.operations.items ≡ s.operations.items = c.in_ok-operations.ensures.items ∙ c.deref.ensures.value in
-    subst (λ (ops : List Observed). IsFrontier (record { positions = positions c.in_ok-states.states; operations = ops; horizon = s.horizon; latest = s.latest })) (sym items)
+    subst (λ (ops : List Operation). IsFrontier (record { positions = positions c.in_ok-states.states; operations = ops; horizon = s.horizon; latest = s.latest })) (sym items)
     (frontier_copied old s.states c.in_ok-states.states refl c.in_ok-states.ensures c.self.invariant)
 
 pub returns-clause-follows : goal.returns-clause-follows
@@ -19,5 +19,5 @@ returns-clause-follows c words told follows =
     let s = c.self.inside in
     let old : FrontierValue = record { positions = positions s.states; operations = s.operations.items; horizon = s.horizon; latest = s.latest } in
     let items : c.in_ok-operations.operations.items ≡ s.operations.items = c.in_ok-operations.ensures.items ∙ c.deref.ensures.value in
-    subst (λ (ops : List Observed). Follows words told (record { positions = positions c.in_ok-states.states; operations = ops; horizon = s.horizon; latest = s.latest })) (sym items)
+    subst (λ (ops : List Operation). Follows words told (record { positions = positions c.in_ok-states.states; operations = ops; horizon = s.horizon; latest = s.latest })) (sym items)
     (follows_copied words told old s.states c.in_ok-states.states refl c.in_ok-states.ensures (subst (Follows words told) (sym c.self.view_is) follows))

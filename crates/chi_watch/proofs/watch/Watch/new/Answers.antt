@@ -2,7 +2,7 @@
 use Rattle.std.proofs.Common.{ℕ, List, [], All, IsTrue, is_some, arith, refl, sym, subst}
 use Rattle.std.proofs.lemmas.List.Elements.{All-nil}
 use Rattle.chi_events.specs.declared.outstanding.Open.{Open}
-use Rattle.chi_verdict.specs.Words.{told}
+use Rattle.chi_trace.specs.Words.{told}
 use Rattle.chi_watch.specs.declared.followed.Followed.{Followed}
 use Rattle.chi_watch.specs.Requests.{granule_asked}
 use Rattle.chi_watch.specs.Watches.{IsGranuleOf, granule}

@@ -8,7 +8,7 @@ use Rattle.chi_events.specs.declared.event.Event.{Event}
 use Rattle.chi_search.specs.Looks.{LookedAtLeast}
 use Rattle.chi_recent.specs.Reaches.{IfUndecided}
 use Rattle.chi_recent.specs.declared.reach.Reach.{Reach}
-use Rattle.chi_verdict.specs.Words.{word_told}
+use Rattle.chi_trace.specs.Words.{word_told}
 use Rattle.chi_watch.specs.Judged.{openings}
 use Rattle.chi_watch.specs.Reaching.{IsOfSomeTrace, IsReach, ReachesBy}
 use Rattle.chi_watch.specs.Requests.{granule_asked}

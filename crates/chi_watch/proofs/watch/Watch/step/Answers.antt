@@ -1,6 +1,6 @@
 -- one event more is taken
 use Rattle.std.specs.Prelude.{option_to_list}
-use Rattle.std.proofs.Common.{◌≡◌, ◌≤◌, List, ◌++◌, None, nat_lt, sym, subst, Option}
+use Rattle.std.proofs.Common.{◌≡◌, ◌≤◌, List, ◌++◌, None, nat_lt, sym, subst}
 use Rattle.std.proofs.lemmas.Bool.{ltb-false}
 use Rattle.std.specs.BTreeMap.{get}
 use Rattle.std.specs.Ordering.{nat_cmp}
@@ -10,7 +10,6 @@ use Rattle.chi_events.specs.Outstanding.{kind_fault}
 use Rattle.chi_watch.specs.Changes.{IsClosedBy}
 use Rattle.chi_watch.specs.Watches.{WatchValue, Watches, granule_fault}
 use Rattle.chi_watch.proofs.Taken.{none_of, taken}
-use Rattle.chi_trace.specs.declared.observed.Observed.{Observed}
 use Rattle.chi_watch.proofs.watch.Watch.step.Goals as goal
 
 pub returns-clause-taken : goal.returns-clause-taken
@@ -23,8 +22,7 @@ returns-clause-taken g c events (ended, is) =
     ltb-false e.time w.outstanding.time (none_of (nat_lt e.time w.outstanding.time) event_fault.TimeFalls (kind_fault w.outstanding.requests e.kind) c.in_ok-ended.ensures.taken) in
     let closed : IsClosedBy c.in_ok-ended.ended c.take.new.self.requests (get nat_cmp c.self.inside.granules) (get nat_cmp c.close_ended.new.granules) =
     subst (λ (requests : List Open). IsClosedBy c.in_ok-ended.ended requests (get nat_cmp c.self.inside.granules) (get nat_cmp c.close_ended.new.granules)) c.requests.ensures.requests
-    (subst (λ (op : Option Observed). IsClosedBy op c.requests.result.now (get nat_cmp c.self.inside.granules) (get nat_cmp c.close_ended.new.granules)) c.traced.ensures.op
-    c.in_ok-close_ended.ensures.closed) in (
+    c.in_ok-close_ended.ensures.closed in (
       ended ++ option_to_list c.in_ok-ended.ended,
       taken events ended w e c.take.new.self c.in_ok-ended.ended (get nat_cmp c.close_ended.new.granules) c.note.new.granules.entries c.one_more-self-inside.result fits c.in_ok-ended.ensures.time later c.in_ok-ended.ensures.requests
           c.in_ok-ended.ensures.ended closed c.in_ok-note.ensures (c.in_ok-ended.ensures.tells events ended before.tells) c.one_more-self-inside.ensures before,

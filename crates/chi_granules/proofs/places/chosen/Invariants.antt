@@ -1,7 +1,0 @@
--- the operations at the first places
-use Rattle.std.proofs.Common.{◌≡◌, take}
-use Rattle.chi_trace.specs.Chosen.{chosen}
-use Rattle.chi_granules.proofs.places.chosen.Given as goal
-
-abbrev pub invariant-loop-place : goal.invariant-loop-place
-invariant-loop-place l = l.own.items ≡ chosen l.ops (take l.place-index l.places)

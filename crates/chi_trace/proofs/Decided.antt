@@ -1,0 +1,106 @@
+-- the access that a home decides of a request of a trace is lawful, and lies within 2^52 bytes
+use Rattle.std.proofs.Common.{◌≡◌, ℕ, zero, suc, ◌+◌, ◌*◌, ◌/◌, ◌%◌, ◌^◌, ◌==◌, ◌≤◌, nat_le, nat_lt, ◌||◌, not, Bool, true, false, if◌then◌else◌, Option, Some, None, Result, Ok, Err, IfOk, IfSome, inl, inr, refl, eqb-true, arith}
+use Rattle.std.specs.Result.{result_ok}
+use Rattle.std.proofs.lemmas.Bool.{and_parts, leb-true, ltb-false, not-false, or_parts}
+use Rattle.chi_fields.specs.Access.{Access, IsLawful, IsLen, enables_fit, lane_of}
+use Rattle.chi_fields.specs.Extent.{Extent, IsRegion, lies_in, region_of}
+use Rattle.chi_fields.specs.Opcode.{kind_of}
+use Rattle.chi_fields.specs.Refusal.{access_as, decision, decision_as, decision_of, is_in_profile, len_of}
+use Rattle.chi_fields.specs.declared.kind.Kind.{Kind}
+use Rattle.chi_fields.specs.declared.kind.Kind.TheVariants.{Read, Write, Store, Load, Swap, Compare}
+use Rattle.chi_fields.specs.declared.refusal.Refusal.TheVariants.{BadByteEnable, Misaligned, OutOfRegion, ReservedSize, SizeOutOfProfile}
+use Rattle.chi_fields.specs.declared.region.RegionFault.TheVariants.{BaseNotLineAligned, EndPastAddresses, GranuleCount}
+use Rattle.chi_fields.specs.declared.request.Request.{Request}
+use Rattle.chi_trace.specs.Asked.{IsPacket, access_of, line_of, request_of}
+use Rattle.chi_trace.specs.declared.asked.Asked.{Asked}
+
+-- after a test that is to fail
+pub unless : {A E : Type 0} (b : Bool) (e : E) (r : Result A E) (P : A → Type 0) → (b ≡ false → IfOk r P) → IfOk (if b then Err e else r) P
+unless true e r P h = tt
+unless false e r P h = h refl
+
+-- where a fault is told as no value
+pub value_of : {A E : Type 0} (r : Result A E) (P : A → Type 0) → IfOk r P → IfSome (result_ok r) P
+value_of (Ok a) P h = h
+value_of (Err e) P h = tt
+
+-- a region that is not refused is one
+pub region_lawful : (base granules : ℕ) → IfOk (region_of base granules) IsRegion
+region_lawful base granules =
+    unless (not (base % 64 == 0)) BaseNotLineAligned _ IsRegion (λ aligned.
+    unless (nat_lt granules 1 || nat_lt 512 granules) GranuleCount _ IsRegion (λ counted.
+    unless (nat_lt (2 ^ 52) (base + 8 * granules)) EndPastAddresses (Ok (record { base = base; granules = granules })) IsRegion (λ ended.
+    let counts = or_parts (nat_lt granules 1) (nat_lt 512 granules) counted in
+    record {
+      line = eqb-true (base % 64) 0 (not-false _ aligned);
+      least = ltb-false granules 1 counts.0;
+      most = ltb-false 512 granules counts.1;
+      end = ltb-false (2 ^ 52) (base + 8 * granules) ended;
+    })))
+
+-- the operand's length is one of four, by the sizes of the profile
+len_power : (n : ℕ) → n ≤ 3 → IsLen (2 ^ n)
+len_power zero few = inl refl
+len_power (suc zero) few = inr (inl refl)
+len_power (suc (suc zero)) few = inr (inr (inl refl))
+len_power (suc (suc (suc zero))) few = inr (inr (inr refl))
+len_power (suc (suc (suc (suc n)))) few = absurd (omega arith)
+
+len_half : (n : ℕ) → 1 ≤ n → n ≤ 4 → IsLen (2 ^ n / 2)
+len_half zero some few = absurd (omega arith)
+len_half (suc zero) some few = inl refl
+len_half (suc (suc zero)) some few = inr (inl refl)
+len_half (suc (suc (suc zero))) some few = inr (inr (inl refl))
+len_half (suc (suc (suc (suc zero)))) some few = inr (inr (inr refl))
+len_half (suc (suc (suc (suc (suc n))))) some few = absurd (omega arith)
+
+len_within : (kind : Kind) (size : ℕ) → is_in_profile kind size ≡ true → IsLen (len_of kind size)
+len_within Read size fits = len_power size (leb-true size 3 fits)
+len_within Write size fits = len_power size (leb-true size 3 fits)
+len_within (Store op) size fits = len_power size (leb-true size 3 fits)
+len_within (Load op) size fits = len_power size (leb-true size 3 fits)
+len_within Swap size fits = len_power size (leb-true size 3 fits)
+len_within Compare size fits =
+    let parts = and_parts (nat_le 1 size) (nat_le size 4) fits in len_half size (leb-true 1 size parts.0) (leb-true size 4 parts.1)
+
+-- the access is lawful and lies within 2^52 bytes
+pub record IsWithin (a : Access) : Type 0 where
+  pub lawful : IsLawful a
+  pub below : a.addr + a.len ≤ 2 ^ 52
+
+decided_as : (kind : Kind) (q : Request) (region : Extent) → IsPacket q.be q.lanes → IsRegion region → IfOk (decision_as kind q region) IsWithin
+unfolding decision_as
+decided_as kind q region packet is =
+    unless (nat_le 7 q.size) ReservedSize _ IsWithin (λ small.
+    unless (not (is_in_profile kind q.size)) SizeOutOfProfile _ IsWithin (λ sized.
+    unless (not (q.addr % len_of kind q.size == 0)) Misaligned _ IsWithin (λ aligned.
+    unless (not (lies_in q.addr (len_of kind q.size) region)) OutOfRegion _ IsWithin (λ within.
+    unless (not (enables_fit kind (len_of kind q.size) (lane_of q.addr) q.be)) BadByteEnable (Ok (access_as kind q)) IsWithin (λ enabled.
+    let inside = and_parts (nat_le region.base q.addr) (nat_le (q.addr + len_of kind q.size) (region.base + 8 * region.granules)) (not-false _ within) in
+    let below = leb-true (q.addr + len_of kind q.size) (region.base + 8 * region.granules) inside.1 in
+    record {
+      lawful = record {
+        part = len_within kind q.size (not-false _ sized);
+        aligned = eqb-true (q.addr % len_of kind q.size) 0 (not-false _ aligned);
+        bits = packet.bits;
+        enabled = not-false _ enabled;
+        packet = packet.whole;
+        bytes = packet.bytes;
+      };
+      below = omega (arith, below, is.end);
+    })))))
+
+decided : (q : Request) (region : Extent) → IsPacket q.be q.lanes → IsRegion region → IfOk (decision q region) IsWithin
+decided q region packet is = by_kind (kind_of q.opcode)
+  where
+    by_kind : (kind : Option Kind) → IfOk (decision_of kind q region) IsWithin
+    by_kind (Some kind) = decided_as kind q region packet is
+    by_kind None = tt
+
+pub accessed : (region : Option Extent) (a : Asked) → IsPacket a.be a.lanes → IfSome region IsRegion → IfOk (access_of region a) IsWithin
+accessed (Some region) a has is = decided (request_of a) region has is
+accessed None a has is = by_line (line_of a.addr) refl (value_of (region_of (a.addr / 64 * 64) 8) IsRegion (region_lawful (a.addr / 64 * 64) 8))
+  where
+    by_line : (line : Option Extent) → line_of a.addr ≡ line → IfSome line IsRegion → IfOk (access_of None a) IsWithin
+    by_line (Some line) same is = rw same (decided (request_of a) line has is)
+    by_line None same is = rw same tt
