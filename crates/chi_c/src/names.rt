@@ -50,8 +50,6 @@ fn result_name(result_number: u32) -> &'static str
 /// ```
 /// let length = chi_op_name(0x30, &mut buffer);
 /// ```
-///
-/// Source: profile.
 #[unsafe(no_mangle)]
 pub extern "C" fn chi_op_name(opcode: u8, buffer: &mut [u8]) -> usize
     ensures length { result ≡ length (opcode_name opcode) }
@@ -69,8 +67,6 @@ pub extern "C" fn chi_op_name(opcode: u8, buffer: &mut [u8]) -> usize
 /// ```
 /// let length = chi_result_name(4, &mut buffer);
 /// ```
-///
-/// Source: profile.
 #[unsafe(no_mangle)]
 pub extern "C" fn chi_result_name(result_number: u32, buffer: &mut [u8]) -> usize
     ensures length { result ≡ length (result_name result_number) }
@@ -87,8 +83,6 @@ pub extern "C" fn chi_result_name(result_number: u32, buffer: &mut [u8]) -> usiz
 /// ```
 /// let length = chi_version(&mut buffer);
 /// ```
-///
-/// Source: profile.
 #[unsafe(no_mangle)]
 pub extern "C" fn chi_version(buffer: &mut [u8]) -> usize
     ensures length { result ≡ length version }

@@ -1,5 +1,5 @@
 //! chicheck: whether what was observed at a home node can be explained, from a trace or from events on standard input, and what the
-//! operations of traces or of events covered.
+//! operations of traces or of events covered. Source: profile.
 #![tactic(auto)]
 
 mod arguments;

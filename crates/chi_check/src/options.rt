@@ -5,8 +5,6 @@
 /// search begins that may take the time or the bytes beyond these. With `until` it is what had happened by that time that is
 /// judged. `around` is how many operations of a granule are shown before the one that is blamed. `html` is the path of a file
 /// that is to be the page of the trace.
-///
-/// Source: profile.
 #[derive(Clone, Copy)]
 pub struct CheckOptions<'a> {
     pub witness: bool,
@@ -21,8 +19,6 @@ pub struct CheckOptions<'a> {
 /// What is counted, and how. `require` is how many of a hundred bins have to have counted an operation. With `events` the inputs
 /// tell events, and are no traces. `files` are the paths of the inputs; where there is none it is the standard input. `html` is the path
 /// of a file that is to be the page of the counts.
-///
-/// Source: profile.
 #[derive(Drop)]
 pub struct CoverOptions<'a> {
     pub require: u64,

@@ -42,8 +42,6 @@ impl Model for Covered {
 impl Covered {
     /// A table in which no bin has counted an operation.
     ///
-    /// Source: profile.
-    ///
     /// ```
     /// let mut covered = Covered::new(alloc)?;
     /// ```
@@ -56,8 +54,6 @@ impl Covered {
     }
 
     /// Adds the operations of a trace: each bin counts those that it is of. Where memory is refused, none is added.
-    ///
-    /// Source: profile.
     ///
     /// ```
     /// covered.add(alloc, recorded.trace().operations())?;
@@ -75,8 +71,6 @@ impl Covered {
 
     /// How many operations a bin has counted.
     ///
-    /// Source: profile.
-    ///
     /// ```
     /// let additions = covered.count(Bin::Wrapped { len: 4 });
     /// ```
@@ -92,8 +86,6 @@ impl Covered {
 
     /// How many bins have counted an operation.
     ///
-    /// Source: profile.
-    ///
     /// ```
     /// let is_whole = covered.covered() == Covered::bins();
     /// ```
@@ -106,8 +98,6 @@ impl Covered {
 
     /// How many bins there are.
     ///
-    /// Source: profile.
-    ///
     /// ```
     /// let missing = Covered::bins() - covered.covered();
     /// ```
@@ -118,8 +108,6 @@ impl Covered {
     }
 
     /// How many of a hundred bins have counted an operation, rounded down.
-    ///
-    /// Source: profile.
     ///
     /// ```
     /// let is_enough = covered.percent() >= 90;

@@ -1,4 +1,4 @@
-//! What the operations of traces covered: functional coverage, counted by definition, and its table and page as texts.
+//! What the operations of traces covered: functional coverage, counted by definition, and its table and page. Source: profile.
 #![tactic(auto)]
 
 mod adding;

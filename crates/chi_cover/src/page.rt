@@ -164,8 +164,6 @@ fn add_back(to: &mut Vec<u8>) -> Result<(), AllocError>
 /// Adds the page of a coverage to a text: one HTML file that needs no other, with how many bins have counted an operation, and
 /// each bin's name and count, as data that a script draws.
 ///
-/// Source: profile.
-///
 /// ```
 /// add_page(alloc, &mut page, &covered)?;
 /// ```

@@ -100,8 +100,6 @@ fn add_all_missing(to: &mut Vec<u8>, refusals: &Refusals) -> Result<(), AllocErr
 /// Adds to a text how many reasons there were for which requests were refused, the count of each reason, and a line for each
 /// that there was not.
 ///
-/// Source: profile.
-///
 /// ```
 /// add_table(alloc, &mut text, &covered)?;
 /// add_refusals(&mut text, &refusals)?;

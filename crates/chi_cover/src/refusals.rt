@@ -60,8 +60,6 @@ impl Model for Refusals {
 impl Refusals {
     /// Counts of which each is 0.
     ///
-    /// Source: profile.
-    ///
     /// ```
     /// let mut refusals = Refusals::none();
     /// ```
@@ -73,8 +71,6 @@ impl Refusals {
 
     /// Adds the refusals of a trace: each reason counts the requests that were refused for it.
     ///
-    /// Source: profile.
-    ///
     /// ```
     /// refusals.add(recorded.refusals());
     /// ```
@@ -85,8 +81,6 @@ impl Refusals {
     }
 
     /// How many requests were refused for a reason.
-    ///
-    /// Source: profile.
     ///
     /// ```
     /// let misaligned = refusals.count(Refusal::Misaligned);

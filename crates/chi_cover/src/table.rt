@@ -174,8 +174,6 @@ fn add_all_missing(alloc: Global, to: &mut Vec<u8>, covered: &Covered) -> Result
 /// Adds the table of a coverage to a text: of each group how many of its bins have counted an operation, and the counts of all;
 /// how many bins of all have; and a line for each that has not.
 ///
-/// Source: profile.
-///
 /// ```
 /// add_table(alloc, &mut text, &covered)?;
 /// ```

@@ -28,8 +28,6 @@ pub struct Doubt {
 /// What is said of a granule that was not decided within so many states. The time up to which it is explained is looked for
 /// within as many again for each time that is tried: a bisection tries the ends of the operations that were answered.
 ///
-/// Source: profile.
-///
 /// ```
 /// let doubt = doubt_of(alloc, &trace, 0x1000 / 8, 1_000_000, &mut NoProgress)?;
 /// ```

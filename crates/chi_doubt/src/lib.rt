@@ -1,4 +1,4 @@
-//! What is said of a granule that was not decided: how far it is explained, and how crowded it was.
+//! What is said of a granule that was not decided: how far it is explained, and how crowded it was. Source: profile.
 #![tactic(auto)]
 
 mod doubt;

@@ -64,8 +64,6 @@ pub fn engine_run<T: AllocGlobal + Wait, R: Read, W: Write>(
 /// where there is no memory for the work or the text, nothing is. After a fault of the writer a prefix of the text has been
 /// written.
 ///
-/// Source: profile.
-///
 /// ```
 /// engine_trace(rt, &mut script.as_bytes(), &mut trace, &options)?;
 /// ```

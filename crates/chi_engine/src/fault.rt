@@ -37,8 +37,6 @@ pub enum EngineFault {
 
 /// The status that the program ends with on this fault: 3 where the script or the opening is refused, 4 out
 /// of memory, 5 where a device failed.
-///
-/// Source: profile.
 pub fn status_of(fault: &EngineFault) -> u8
     ensures { result ≡ status_of fault.now }
 {

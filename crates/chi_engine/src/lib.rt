@@ -1,4 +1,4 @@
-//! The engine: from a script's bytes to a transcript's bytes, or to a trace's, over the store of the options.
+//! The engine: from a script's bytes to a transcript's bytes, or to a trace's, over the store of the options. Source: profile.
 #![tactic(auto)]
 
 mod engine;

@@ -6,8 +6,6 @@ use chi_requester::Policy;
 /// The store that serves the requests: one cache line in a cell under a lock, which never answers by RetryAck, or a
 /// row of granule words without one. There `attempts` is how many tries a request gets before it is answered by
 /// RetryAck: 1 to 16, and with another number the store is not opened.
-///
-/// Source: profile.
 #[derive(Clone, Copy, Debug, PartialEq, Eq)]
 pub enum Store {
     Lock,
@@ -15,8 +13,6 @@ pub enum Store {
 }
 
 /// How a script is executed. A run ignores `workers`.
-///
-/// Source: profile.
 #[derive(Clone, Copy, Debug, PartialEq, Eq)]
 pub struct Options {
     pub store: Store,

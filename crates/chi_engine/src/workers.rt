@@ -5,8 +5,6 @@ ghost use Rattle.std.specs.Prelude.{◌≡◌};
 use std::marker::Model;
 
 /// So many requesters of a race, 1 to 7, who work at the same time: those of the numbers from 1 on.
-///
-/// Source: profile.
 #[derive(Clone, Copy, Debug, PartialEq, Eq)]
 pub struct Workers {
     count: u8,

@@ -1,4 +1,4 @@
-//! Events as lines of JSON, and how one is read.
+//! Events as lines of JSON, and how one is read. Source: profile.
 #![tactic(auto)]
 
 mod fault;

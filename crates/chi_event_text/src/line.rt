@@ -46,8 +46,6 @@ fn kind_told(object: &Value) -> Result<LineKind, MemberFault<Member>>
 /// The faults' order is that of `event`, `time`, the kind's members as they are listed here, and then members that it does
 /// not have. `Memory` is answered where a growth is refused before a fault is met.
 ///
-/// Source: profile.
-///
 /// ```
 /// let event = read_event(alloc, 1, b"{\"time\":70,\"event\":\"dropped\",\"id\":3}")?;
 /// ```

@@ -6,8 +6,6 @@ use chi_trace::{Asked, GranuleWord};
 
 /// A request that a home has taken. `id` is a number that no other outstanding request has. Its data have come with it, or are
 /// told by a later event; until then its byte enables and lanes are 0.
-///
-/// Source: profile.
 #[derive(Clone, Copy, Debug)]
 pub struct Requested {
     pub id: u64,
@@ -26,8 +24,6 @@ pub struct Packet {
 }
 
 /// The completion of a request. `reply` is `None` where it does not say what was done, as that of an error response.
-///
-/// Source: profile.
 #[derive(Clone, Copy, Debug)]
 pub struct Completion {
     pub id: u64,
@@ -58,8 +54,6 @@ pub enum EventKind {
 
 /// An event, and when it was seen: a count of one clock, of which only the order is looked at. A monitor tells events in the
 /// order of their times; those of one time may be told in any order.
-///
-/// Source: profile.
 #[derive(Clone, Copy, Debug)]
 pub struct Event {
     pub time: u64,

@@ -1,4 +1,4 @@
-//! Events of a home, as a monitor tells them, and the trace that they are.
+//! Events of a home, as a monitor tells them, and the trace that they are. Source: profile.
 #![tactic(auto)]
 
 mod bounds;

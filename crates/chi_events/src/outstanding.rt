@@ -46,8 +46,6 @@ impl Open {
 
 /// The requests that are outstanding, as events come.
 ///
-/// Source: profile.
-///
 /// ```
 /// let mut outstanding = Outstanding::new(alloc);
 /// for event in &events {

@@ -13,8 +13,6 @@ use chi_trace::Operation;
 use std::alloc::{AllocError, Global};
 
 /// The operation that is blamed, and replies of it that would have been legal.
-///
-/// Source: profile.
 #[derive(Debug, Drop)]
 pub struct Blamed {
     pub row: Operation,
@@ -25,8 +23,6 @@ pub struct Blamed {
 ///
 /// - `before`: those that ended before, in the order of their ends.
 /// - `open`: those that were open then.
-///
-/// Source: profile.
 #[derive(Debug, Drop)]
 pub struct Excerpt {
     pub before: Vec<Operation>,

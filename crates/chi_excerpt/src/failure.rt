@@ -20,8 +20,6 @@ use std::alloc::{AllocError, Global};
 /// - `suspects`: the places of operations of the granule that were answered then, without the answer of each of which the
 ///   granule's operations up to then can be explained.
 /// - `legal`: answers of the operation that is blamed with which they can.
-///
-/// Source: profile.
 #[derive(Debug, Drop)]
 pub struct Failure {
     pub blame: Blame,

@@ -1,4 +1,4 @@
-//! Operations of a granule as the rows of a table: when each was under way, what was sent, and what came back.
+//! Operations of a granule as the rows of a table: when each was under way, what was sent, and what came back. Source: profile.
 #![tactic(auto)]
 
 mod bar;

@@ -37,8 +37,6 @@ impl Op {
 
     /// The low three bits of the opcode of an AtomicStore or AtomicLoad of this operation.
     ///
-    /// Source: profile.
-    ///
     /// ```
     /// let number = Op::Eor.number(); // 2
     /// ```
@@ -67,8 +65,6 @@ impl Kind {
     ghost use Rattle.chi_fields.specs.Opcode.{kind_name};
 
     /// The name of the kind's opcode.
-    ///
-    /// Source: profile.
     ///
     /// ```
     /// let name = Kind::Load(Op::Add).name(); // AtomicLoad.ADD

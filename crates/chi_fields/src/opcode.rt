@@ -29,8 +29,6 @@ pub(crate) fn kind_of(opcode: u8) -> Option<Kind>
 }
 
 /// The name of an opcode, as `AtomicLoad.ADD` of 0x30; `Unknown` of one that names no request here.
-///
-/// Source: profile.
 pub fn op_name(opcode: u8) -> &'static str
     ensures { result.now ≡ opcode_name opcode }
 {

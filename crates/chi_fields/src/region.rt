@@ -24,8 +24,6 @@ pub enum RegionFault {
 }
 
 /// So many granules of eight bytes, from a base on that is a multiple of 64.
-///
-/// Source: profile.
 #[derive(Clone, Copy, Debug, PartialEq, Eq)]
 pub struct Region {
     base: u64,

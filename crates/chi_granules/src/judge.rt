@@ -64,8 +64,6 @@ fn unordered(alloc: Global, granule: u64, finding: Finding) -> Drawn
 /// What is found of a granule of a trace. `granules` has the number of each operation's granule (`granules_of`). `budget` is how
 /// many states may be looked at, and is left with how many more might have been.
 ///
-/// Source: profile.
-///
 /// ```
 /// let granules = granules_of(alloc, recorded.trace().operations())?;
 /// let drawn = judged_granule(alloc, &recorded, &granules, 0x1008 / 8, &mut budget, &mut NoProgress)?;

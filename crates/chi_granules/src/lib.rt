@@ -1,4 +1,4 @@
-//! What is found of each granule of a trace.
+//! What is found of each granule of a trace. Source: profile.
 #![tactic(auto)]
 
 mod judge;

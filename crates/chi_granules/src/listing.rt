@@ -35,8 +35,6 @@ fn judged_each<P: Progress>(
 
 /// What is found of the granules of these numbers, in this order. No more than `budget` states are looked at of each.
 ///
-/// Source: profile.
-///
 /// ```
 /// let drawn = judged_granules(alloc, &recorded, &[0x1000 / 8, 0x1008 / 8], 1_000_000, &mut NoProgress)?;
 /// ```

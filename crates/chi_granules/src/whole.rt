@@ -27,8 +27,6 @@ fn numbers(alloc: Global, recorded: &Recorded) -> Result<Vec<u64>, AllocError>
 
 /// What is found of the granules of a trace, each judged by itself. No more than `budget` states are looked at of each.
 ///
-/// Source: profile.
-///
 /// ```
 /// let granules = all_granules(alloc, &recorded, 1_000_000)?;
 /// ```
@@ -57,8 +55,6 @@ fn without(alloc: Global, numbers: &[u64], number: u64) -> Result<Vec<u64>, Allo
 
 /// The same of a trace that stops being explained. The granule that is blamed stands first, with the order that explains it up
 /// to the time before.
-///
-/// Source: profile.
 ///
 /// ```
 /// let granules = granules_around(alloc, &recorded, &blame, 1_000_000)?;

@@ -5,8 +5,6 @@ use chi_lanes::Reply;
 
 /// What became of a request: it was completed with this reply, it was refused, or it was answered by
 /// RetryAck.
-///
-/// Source: profile.
 #[derive(Clone, Copy, Debug, PartialEq, Eq)]
 pub enum Line {
     Completed(Request, Reply),

@@ -6,8 +6,6 @@ ghost use Rattle.chi_page.specs.Granules.{AreOfTrace};
 use chi_reading::Recorded;
 
 /// What was found of a granule: its operations can be explained, or they cannot, or neither was found.
-///
-/// Source: profile.
 #[derive(Clone, Copy, Debug, PartialEq, Eq)]
 pub enum Finding {
     Explained,
@@ -17,8 +15,6 @@ pub enum Finding {
 
 /// A granule, by its number, counted from address 0. `order` has places of the trace: the granule's operations in an order
 /// that explains them, as far as they can be explained.
-///
-/// Source: profile.
 #[derive(Debug, Drop)]
 pub struct Drawn {
     pub granule: u64,

@@ -1,4 +1,4 @@
-//! The page that shows a trace: its granules, their operations over time, and the order found of each.
+//! The page that shows a trace: its granules, their operations over time, and the order found of each. Source: profile.
 #![tactic(auto)]
 
 mod blame;

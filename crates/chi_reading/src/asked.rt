@@ -14,8 +14,6 @@ use serde_json::Value;
 
 /// The data packet that a request states, or an object like it: the member `lanes`, a text of 32 hex digits.
 ///
-/// Source: profile.
-///
 /// ```
 /// let lanes = lanes(&object)?;
 /// ```
@@ -27,8 +25,6 @@ pub fn lanes(object: &Value) -> Result<[u8; 16], MemberFault<Member>>
 
 /// The fields of a request that an object states, with no data: its byte enables and its lanes are 0. `number` says which part
 /// of the input the object is. The fields are read in the order `src`, `txn`, `op`, `size`, `addr`, `endian`.
-///
-/// Source: profile.
 ///
 /// ```
 /// let asked = request_fields(place, &object)?;
@@ -58,8 +54,6 @@ pub fn request_fields(number: u64, object: &Value) -> Result<Asked, MemberFault<
 
 /// The request that an object states, with its data, or the first fault of its members: those of `request_fields`, and
 /// then `be` and `lanes`.
-///
-/// Source: profile.
 ///
 /// ```
 /// let asked = request_asked(place, &object)?;

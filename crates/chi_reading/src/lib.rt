@@ -1,4 +1,4 @@
-//! Traces as JSON texts, and how one is read.
+//! Traces as JSON texts, and how one is read. Source: profile.
 #![tactic(auto)]
 
 mod asked;

@@ -35,8 +35,6 @@ fn with_name(name: &str, refusals: &[Refusal]) -> Option<Refusal>
 /// Why a home refused a request: the reason of a name, as `Misaligned`. `None` is answered where the value is none of the six
 /// names.
 ///
-/// Source: profile.
-///
 /// ```
 /// let reason = refusal_named(&value)?; // Refusal::Misaligned
 /// ```

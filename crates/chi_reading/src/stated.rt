@@ -73,8 +73,6 @@ fn answer(value: &Value) -> Option<Reply>
 /// What was answered, and `None` in it where that was not seen: `comp`, a data packet as 32 hex digits, or `null`. `None` is
 /// answered where the value is none of these.
 ///
-/// Source: profile.
-///
 /// ```
 /// let reply = seen_reply(&value)?; // Some(Reply::Comp)
 /// ```

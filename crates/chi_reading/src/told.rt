@@ -33,8 +33,6 @@ pub(crate) fn region_words(
 
 /// An address at which a granule starts: a multiple of 8 below 2^52. `None` is answered where the value is none.
 ///
-/// Source: profile.
-///
 /// ```
 /// let addr = granule_start(&value)?; // 4096
 /// ```
@@ -50,8 +48,6 @@ pub fn granule_start(value: &Value) -> Option<u64>
 
 /// The word of a granule: a text of 16 hex digits, which are its eight bytes in address order. `None` is answered where the
 /// value is none.
-///
-/// Source: profile.
 ///
 /// ```
 /// let word = granule_word(&value)?; // 1, of "0100000000000000"

@@ -128,8 +128,6 @@ fn is_known(name: &str, known: &[Member]) -> bool
 
 /// The name of the first member that is none of these, where there is one. Members whose name begins with `x-` are ignored.
 ///
-/// Source: profile.
-///
 /// ```
 /// let name = unknown_member(object.as_object()?, &[Member::Time, Member::Id])?;
 /// ```

@@ -1,4 +1,4 @@
-//! The operations of one granule that ended last, and how far they can be explained.
+//! The operations of one granule that ended last, and how far they can be explained. Source: profile.
 #![tactic(auto)]
 
 mod legal;

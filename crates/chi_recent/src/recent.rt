@@ -17,8 +17,6 @@ use std::marker::Model;
 /// ends, and are kept until it is sure that what came before can be explained. The last of those before them are kept to be
 /// shown.
 ///
-/// Source: profile.
-///
 /// ```
 /// let mut recent = Recent::new(alloc, 0)?;
 /// for ended in &ops {

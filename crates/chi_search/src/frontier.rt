@@ -21,8 +21,6 @@ use std::marker::Model;
 /// The search of one granule while its operations are told, in the order of their ends. `advanced` goes on without those that
 /// are settled for good, so that a granule that is never quiet can be followed for long.
 ///
-/// Source: profile.
-///
 /// ```
 /// let mut frontier = Frontier::new(alloc, &[0])?;
 /// for op in &ended {

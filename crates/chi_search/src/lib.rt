@@ -1,4 +1,4 @@
-//! The search of one granule: an order that explains its operations, and the words that they can leave.
+//! The search of one granule: an order that explains its operations, and the words that they can leave. Source: profile.
 #![tactic(auto)]
 
 mod absorbing;

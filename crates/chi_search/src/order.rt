@@ -118,8 +118,6 @@ fn search_by_rules<P: Progress>(
 /// at beside the first, and is left with how many more might have been. Where an operation is seen at once to find what no other
 /// can leave none of it is spent, or no more than eight for each operation where few can come next.
 ///
-/// Source: profile.
-///
 /// ```
 /// let mut budget = 1_000_000;
 /// match order_of(alloc, &ops, 0, None, &mut budget, &mut NoProgress)? {

@@ -4,8 +4,6 @@ ghost use Rattle.std.specs.Prelude.{⊤};
 
 /// What is told how far a search is, to show it or to count. What it does with that changes no answer.
 ///
-/// Source: profile.
-///
 /// ```
 /// #[derive(Drop)]
 /// struct States(u64);

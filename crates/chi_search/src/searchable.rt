@@ -7,8 +7,6 @@ use chi_trace::Operation;
 
 /// Whether the operations stand in the order of their ends, none ends before it starts, and all are within 2^52 bytes.
 ///
-/// Source: profile.
-///
 /// ```
 /// if !are_searchable(&ops) {
 ///     sort(&mut ops)?;

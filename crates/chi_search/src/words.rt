@@ -23,8 +23,6 @@ pub enum Words {
 /// their ends (`are_searchable`). `budget` is how many states may be looked at, and is left with how many more might have
 /// been.
 ///
-/// Source: profile.
-///
 /// ```
 /// let mut budget = 1_000_000;
 /// match words_of(alloc, &ops, &[0], &mut budget, &mut NoProgress)? {

@@ -129,8 +129,6 @@ fn requests<R: Rng>(
 /// of carry. Where the requests are executed in the script's order an AtomicCompare finds its compare value about as often as
 /// not.
 ///
-/// Source: profile.
-///
 /// ```
 /// let text = generated_script(alloc, &stimulus)?;
 /// let script = read_script(alloc, text.as_bytes(), 7)?;

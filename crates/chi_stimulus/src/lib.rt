@@ -1,4 +1,4 @@
-//! Scripts by chance, for a home node and its model to be tried on.
+//! Scripts by chance, for a home node and its model to be tried on. Source: profile.
 #![tactic(auto)]
 
 mod chance;

@@ -21,8 +21,6 @@ pub struct MixFault;
 const MOST_WEIGHT: u16 = 1000;
 
 /// How often each kind of request is drawn: in proportion to its weight.
-///
-/// Source: profile.
 #[derive(Clone, Copy, Debug, PartialEq, Eq)]
 pub struct Mix {
     weights: [u16; 6],
@@ -61,8 +59,6 @@ impl Mix {
     /// The weights that a text names, as `load=3,store=2`. An entry is KIND=WEIGHT, with a weight of 0 to 1000 that may
     /// follow a `+`. Of a kind the last entry counts; one that is not named has the weight 0. The text is refused where a part
     /// between commas is no entry, or where all weights are 0.
-    ///
-    /// Source: profile.
     ///
     /// ```
     /// let locks = Mix::named("compare=4,swap=1,read=1")?;

@@ -12,8 +12,6 @@ use chi_fields::Region;
 /// - `refused` of a hundred requests are refused, for each reason in turn.
 /// - `hot` of a hundred are of the region's first granule, and the others of any.
 /// - `mix` says how often each kind is drawn.
-///
-/// Source: profile.
 #[derive(Clone, Copy, Debug)]
 pub struct Stimulus {
     pub requests: u16,

@@ -65,8 +65,6 @@ impl Asked {
 /// The access that a home decides of a request: of a region, or of all addresses below 2^52, for which the line of 64 bytes
 /// around the address stands.
 ///
-/// Source: profile.
-///
 /// ```
 /// let access = access(&asked, &None)?;
 /// ```

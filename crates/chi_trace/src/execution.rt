@@ -36,8 +36,6 @@ fn by_granule(alloc: Global, words: &GranuleWords) -> Result<BTreeMap<u64, u64>,
 /// Executes the operations in this order, one after the other, on the memory that has the words at the opening. Whether their
 /// replies were seen does not count.
 ///
-/// Source: profile.
-///
 /// ```
 /// let executed = execute(alloc, &trace, &order)?;
 /// ```

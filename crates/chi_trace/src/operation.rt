@@ -14,8 +14,6 @@ use chi_lanes::Reply;
 /// the request, and `end` one at or after its response; of an operation that was still open when the observation ended, it is
 /// `u64::MAX`. Both are counts of one clock; only their order is looked at. `reply` is `None` where what was answered was not
 /// seen, or does not say what was done: such an operation may have taken effect or not.
-///
-/// Source: profile.
 #[derive(Clone, Copy, Debug)]
 pub struct Operation {
     pub number: u64,

@@ -14,8 +14,6 @@ use std::marker::Model;
 
 /// What was observed at a home: the words of granules at the opening, and the operations in the order of their starts. None
 /// ends before it starts, and all lie within 2^52 bytes. A granule of which no word is told holds 0.
-///
-/// Source: profile.
 #[derive(Debug, Drop)]
 pub struct Trace {
     opening: GranuleWords,

@@ -18,8 +18,6 @@ pub struct GranuleWord {
 }
 
 /// The words of some granules, in the order of the granules, each told once.
-///
-/// Source: profile.
 #[derive(Debug, Drop)]
 pub struct GranuleWords {
     words: Vec<GranuleWord>,

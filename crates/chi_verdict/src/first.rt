@@ -181,8 +181,6 @@ fn first_before<P: Progress>(
 /// Where a trace stops being explained, whatever the words at its end: the first time up to which no order explains it.
 /// `budget` is how many states of each granule may be looked at in each of the searches that this takes.
 ///
-/// Source: profile.
-///
 /// ```
 /// match first_unexplained(alloc, &trace, 1_000_000, &mut NoProgress)? {
 ///     First::Never => done(),

@@ -39,8 +39,6 @@ pub(crate) fn words_after_all<P: Progress>(
 /// `granule` is its number, counted from address 0: its address divided by 8. `budget` is how many states may be looked at, and
 /// is left with how many more might have been.
 ///
-/// Source: profile.
-///
 /// ```
 /// let mut budget = 1_000_000;
 /// let words = words_held(alloc, &trace, 0x1000 / 8, &mut budget, &mut NoProgress)?;

@@ -1,4 +1,4 @@
-//! Whether a whole trace is explained: by which order, or in which granule and from which time on it is not.
+//! Whether a whole trace is explained: by which order, or in which granule and from which time on it is not. Source: profile.
 #![tactic(auto)]
 
 mod ends;

@@ -97,8 +97,6 @@ pub(crate) fn explain_operations<P: Progress>(
 /// that ended before it started, and each reply that of the memory that those before it leave. `budget` is how many states of
 /// each granule may be looked at.
 ///
-/// Source: profile.
-///
 /// ```
 /// let verdict = explain(alloc, &trace, &GranuleWords::none(alloc), 1_000_000, &mut NoProgress)?;
 /// ```

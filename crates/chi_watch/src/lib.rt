@@ -1,4 +1,4 @@
-//! Granules that are watched while events come.
+//! Granules that are watched while events come. Source: profile.
 #![tactic(auto)]
 
 mod counts;

@@ -27,8 +27,6 @@ use std::marker::Model;
 
 /// The granules that events tell of, each followed as far as what is told of it allows.
 ///
-/// Source: profile.
-///
 /// ```
 /// let mut watch = Watch::new(alloc);
 /// for event in &events {

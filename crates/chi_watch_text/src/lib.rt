@@ -1,4 +1,4 @@
-//! Events that are read line by line: the operations that they tell, or what a watch of them finds, and the text of that.
+//! Events that are read line by line: the operations that they tell, or the text of what a watch of them finds. Source: profile.
 #![tactic(auto)]
 
 mod fault;

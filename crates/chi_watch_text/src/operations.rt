@@ -84,8 +84,6 @@ fn in_order(
 ///
 /// The last line needs no line feed. Operations that start at the same time stand in some order.
 ///
-/// Source: profile.
-///
 /// ```
 /// let ops = read_operations(alloc, &mut reader)?.operations;
 /// ```

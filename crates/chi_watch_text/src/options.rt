@@ -2,8 +2,6 @@
 
 /// How events are watched. `budget` is how many states are looked at for an answer. With `keep_going` a granule that no order
 /// explains does not end it.
-///
-/// Source: profile.
 #[derive(Clone, Copy, Debug, PartialEq, Eq)]
 pub struct WatchOptions {
     pub budget: u64,

@@ -4,8 +4,6 @@ use chi_search::{NoProgress, Progress};
 use chi_watch::Counts;
 
 /// What is told how far a watch is, to show it. What it does with that changes no answer.
-///
-/// Source: profile.
 pub trait WatchProgress: Progress {
     ghost use Rattle.std.specs.Prelude.{ℕ};
 

@@ -103,8 +103,6 @@ fn ended<P: WatchProgress>(
 /// A granule is judged when its last outstanding request has gone. As another may be told of the same time, it is found once
 /// the next event is later, or the text has ended. A line is read when it is there. The last line needs no line feed.
 ///
-/// Source: profile.
-///
 /// ```
 /// let watched = watch_lines(alloc, &mut reader, &options, &mut NoProgress)?;
 /// ```
