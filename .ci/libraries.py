@@ -1,13 +1,13 @@
 """The libraries below crates, proved and built side by side: `.ci/libraries`, and what `.ci/edits` stands on."""
 
 import concurrent.futures
-import contextlib
+import glob
 import os
 import shutil
 import subprocess
 import sys
 
-TOP = "libraries"
+ROOMS = "out/libraries"
 # No run of rt takes longer than this, in seconds.
 LIMIT = 3 * 3600
 
@@ -27,37 +27,13 @@ def below(crate, uses):
     return found
 
 
-@contextlib.contextmanager
-def copied(libraries, room):
-    """The libraries stand in the room, with what was built of them meanwhile, so that rt goes on from it."""
-    for it in libraries:
-        shutil.copytree(f"crates/{it}", f"{room}/crates/{it}", ignore=shutil.ignore_patterns("out", "must-fail"))
-        if os.path.isdir(f"crates/{it}/out"):
-            os.rename(f"crates/{it}/out", f"{room}/crates/{it}/out")
-    try:
-        yield
-    finally:
-        for it in libraries:
-            if os.path.isdir(f"{room}/crates/{it}/out"):
-                os.rename(f"{room}/crates/{it}/out", f"crates/{it}/out")
-
-
-def in_two(libraries, uses):
-    """Returns the libraries that are proved first, side by side, and then the others by what they wait for: those that the tallest
-    stand on one after the other, and those that stand on some of the first and that the tallest do not need."""
-    heights = {}
-    for it in sorted(libraries, key=lambda it: len(below(it, uses))):
-        heights[it] = 1 + max((heights[other] for other in uses[it]), default=0)
-    first, tallest = set(libraries), []
-    while True:
-        tops = [it for it in first if heights[it] == max(heights[other] for other in first)]
-        if len(tops) > 1 or len(first) < 2:
-            break
-        first -= {*tops}
-        tallest[:0] = tops
-    needed = set().union(*(below(it, uses) for it in tallest))
-    aside = [it for it in first if tallest and uses[it] and it not in needed]
-    return sorted(first - {*aside}), [tallest, *([it] for it in aside)]
+def longest(libraries, uses):
+    """Returns the libraries, those first that the longest chain of others waits for, by the bytes to be read and proved."""
+    ways = {}
+    for it in sorted(libraries, key=lambda it: -len(below(it, uses))):
+        files = [file for part in ("src", "specs", "proofs") for file in glob.glob(f"crates/{it}/{part}/**/*.*t", recursive=True)]
+        ways[it] = sum(map(os.path.getsize, files)) + max((ways[other] for other in ways if it in uses[other]), default=0)
+    return sorted(libraries, key=lambda it: -ways[it])
 
 
 def run(words, folder):
@@ -68,33 +44,49 @@ def run(words, folder):
         sys.exit(f"{ran.stdout[-3000:]}\n{' '.join(words)} failed in {folder}")
 
 
-def build_each(crates, room):
-    """Builds these libraries one after the other; with nothing beside it, one takes several processors."""
-    for it in crates:
-        run(["rt", "lib"], f"{room}/crates/{it}")
+def prove(crate, lines, uses, jobs):
+    """Proves and builds a library, where those below it are built, in a room of its own: into the folder of a library rt lets one
+    check at a time."""
+    room, stands_on = f"{ROOMS}/{crate}", below(crate, uses)
+    os.makedirs(room)
+    shutil.copy("HANDLES", room)
+    with open(f"{room}/crates.txt", "w", encoding="utf-8") as file:
+        file.writelines(lines[it] for it in [*stands_on, crate])
+    for it in [*stands_on, crate]:
+        shutil.copytree(f"crates/{it}", f"{room}/crates/{it}", ignore=shutil.ignore_patterns("out", "must-fail"))
+    for it in stands_on:
+        shutil.copytree(f"crates/{it}/out", f"{room}/crates/{it}/out", copy_function=os.link)
+    own, made = f"crates/{crate}/out", f"{room}/crates/{crate}/out"
+    if os.path.isdir(own):
+        # so that rt goes on from what was built before
+        os.rename(own, made)
+    try:
+        run(["rt", "lib", "--jobs", str(jobs)], f"{room}/crates/{crate}")
+    finally:
+        if os.path.isdir(made):
+            os.rename(made, own)
+    shutil.rmtree(room)
 
 
 def build(crates):
-    """Proves and builds the libraries below these crates, as many side by side as can be."""
+    """Proves and builds the libraries below these crates, as many side by side as there are processors. The one that most waits
+    for has two provers at least, and each those that no other waits for."""
     lines, uses = crates_txt()
-    libraries = sorted(set().union(*(below(it, uses) for it in crates)))
-    first, then = in_two(libraries, uses)
-    room = f"out/{TOP}"
-    shutil.rmtree(room, ignore_errors=True)
-    # rt builds side by side only what another crate uses
-    os.makedirs(f"{room}/crates/{TOP}/src")
-    with open(f"{room}/crates/{TOP}/src/lib.rt", "w", encoding="utf-8") as file:
-        file.write("//! Stands on the libraries that are to be built.\n#![tactic(auto)]\n")
-    shutil.copy("HANDLES", room)
-    with open(f"{room}/crates.txt", "w", encoding="utf-8") as file:
-        file.writelines([lines[it] for it in first] + [f"{TOP}: {' '.join(first)}\n"])
-    with copied(first, room):
-        # those that wait for others take no processor
-        run(["rt", "all", "check", "--jobs", str(len(first) + 1)], f"{room}/crates")
-        others = [it for wave in then for it in wave]
-        with open(f"{room}/crates.txt", "a", encoding="utf-8") as file:
-            file.writelines(lines[it] for it in others)
-        with copied(others, room), concurrent.futures.ThreadPoolExecutor() as pool:
-            for built in [pool.submit(build_each, wave, room) for wave in then]:
-                built.result()
-    shutil.rmtree(room)
+    processors = len(os.sched_getaffinity(0))
+    left, running = longest(set().union(*(below(it, uses) for it in crates)), uses), {}
+    shutil.rmtree(ROOMS, ignore_errors=True)
+    with concurrent.futures.ThreadPoolExecutor(len(lines)) as pool:
+        while left or running:
+            waiting = {*left, *(it for it, _ in running.values())}
+            ready = [it for it in left if not below(it, uses) & waiting]
+            for at, it in enumerate(ready):
+                idle = processors - sum(jobs for _, jobs in running.values())
+                if idle < 1:
+                    break
+                jobs = max(min(4, idle // (len(ready) - at)), 2 if it == left[0] else 1)
+                left.remove(it)
+                running[pool.submit(prove, it, lines, uses, jobs)] = it, jobs
+            for it in concurrent.futures.wait(running, return_when=concurrent.futures.FIRST_COMPLETED).done:
+                del running[it]
+                it.result()
+    shutil.rmtree(ROOMS, ignore_errors=True)
