@@ -14,10 +14,10 @@ use Rattle.chi_cover.specs.declared.bin.Bin.{Bin}
 use Rattle.chi_cover.specs.Counts.{count_in, count_of, most, percent_of}
 use Rattle.chi_cover.specs.Refusals.{refused_in, refused_times}
 use Rattle.chi_check.specs.Check.{most_bytes}
-use Rattle.chi_check.specs.Cover.{Adds, AddsFile, AreCounted, AreFilesFault, AreHeld, AreInputs, AreInputsFault, AreOf, AreOfEach, AreOfFiles, CoverOutcome, HasCounts, Told, cover_text, IsFileFault, IsInputFault, IsTraceFault, paths_of}
+use Rattle.chi_check.specs.Cover.{Adds, AddsFile, AreCounted, AreFilesFault, AreHeld, AreInputs, AreInputsFault, AreOf, AreOfEach, AreOfFiles, CoverOutcome, HasCounts, Told, cover_text, IsFileFault, IsInputFault, paths_of}
 use Rattle.chi_check.specs.declared.inputs.Counted.{Counted}
 use Rattle.chi_check.specs.declared.fault.CheckFault.{CheckFault}
-use Rattle.chi_check.specs.declared.fault.CheckFault.TheVariants.{Input, File, Page, Write}
+use Rattle.chi_check.specs.declared.fault.CheckFault.TheVariants.{File, Page, Write}
 use Rattle.chi_check.specs.declared.fault.SourceFault.{SourceFault}
 use Rattle.chi_check.specs.declared.fault.SourceFault.TheVariants as source_fault
 use Rattle.chi_check.specs.declared.options.CoverOptions.{CoverOptions}
@@ -125,16 +125,6 @@ module _ (holds : List ℕ → List ℕ → Type 0) (events : Bool) where
   files_refused paths None fault some is = tt
   files_refused [] (Some input) fault some is = absurd (some refl)
   files_refused (p ∷ paths) (Some input) fault some is = is
-
--- a fault of the standard input
-pub refused_input : (events : Bool) (remaining : Option (List ℕ)) (input : List ℕ) (fault : SourceFault) → IfSome remaining (λ bytes. input ≡ bytes) → IsTraceFault events input fault
-    → IfSome remaining (λ bytes. IsInputFault events bytes (Input fault))
-refused_input events None input fault same is = tt
-refused_input events (Some bytes) input source_fault.Read same is = absurd is
-refused_input events (Some bytes) input source_fault.TooLong same is = absurd is
-refused_input events (Some bytes) input source_fault.Memory same is = tt
-refused_input events (Some bytes) input (source_fault.Trace fault) same is = subst (λ (l : List ℕ). IsTraceFault events l (source_fault.Trace fault)) same is
-refused_input events (Some bytes) input (source_fault.Events fault) same is = subst (λ (l : List ℕ). IsTraceFault events l (source_fault.Events fault)) same is
 
 -- the counts are those of the input
 pub input_counted : (events : Bool) (remaining : Option (List ℕ)) (input : List ℕ) (counts : Counted) → IfSome remaining (λ bytes. input ≡ bytes) → AreCounted events (input ∷ []) counts

@@ -8,7 +8,7 @@ use Rattle.std.proofs.lemmas.List.Recursion.{max_bounds, max_least, max_push}
 use Rattle.chi_trace.specs.declared.operation.Operation.{Operation}
 use Rattle.chi_trace.specs.Explains.{IsTrace}
 use Rattle.chi_doubt.specs.Open.{count_open, greatest, is_open, most_at_once}
-use Rattle.chi_doubt.proofs.Granule.{all_observed}
+use Rattle.chi_trace.proofs.Traced.{all_observed}
 
 -- the ends of operations
 abbrev pub ends_of : List Operation → List ℕ

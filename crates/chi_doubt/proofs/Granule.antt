@@ -1,27 +1,9 @@
 -- a granule's operations, and what had happened of them by a time
-use Rattle.std.proofs.Common.{◌≡◌, ℕ, ◌≤◌, nat_le, Bool, true, false, cond, List, [], ◌∷◌, All, filter, map, None, refl, ap, subst, ◌∙◌}
+use Rattle.std.proofs.Common.{◌≡◌, ℕ, nat_le, Bool, true, false, cond, List, [], ◌∷◌, filter, map, None, refl, ap, subst, ◌∙◌}
 use Rattle.std.specs.Prelude.{IsPermutation}
-use Rattle.std.proofs.lemmas.List.Elements.{All-cons, All-filter, All-nil}
 use Rattle.chi_trace.specs.declared.operation.Operation.{Operation}
 use Rattle.chi_trace.specs.Chosen.{is_in}
 use Rattle.chi_trace.specs.Cuts.{cut, has_started, known}
-use Rattle.chi_trace.specs.Explains.{IsOperation, IsTrace}
-
--- those that pass a test stand in the order of their starts too
-pub IsTrace-filter : (p : Operation → Bool) (ops : List Operation) → IsTrace ops → IsTrace (filter p ops)
-unfolding IsTrace
-IsTrace-filter p [] is = tt
-IsTrace-filter p (op ∷ ops) is = by_test (p op) (IsTrace-filter p ops is.2)
-  where
-    by_test : (b : Bool) → IsTrace (filter p ops) → IsTrace (cond b (op ∷ filter p ops) (filter p ops))
-    by_test true rest = (is.0, All-filter p (λ later. op.start ≤ later.start) ops is.1, rest)
-    by_test false rest = rest
-
--- what is always true of an operation is true of each
-pub all_observed : (ops : List Operation) → IsTrace ops → All IsOperation ops
-unfolding IsTrace
-all_observed [] is = All-nil IsOperation
-all_observed (op ∷ ops) is = All-cons IsOperation op ops is.0 (all_observed ops is.2)
 
 -- its granule does not depend on what is known of it
 known_own : (g time : ℕ) (op : Operation) → is_in g (known time op) ≡ is_in g op

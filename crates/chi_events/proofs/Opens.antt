@@ -1,22 +1,15 @@
 -- what stays true of the outstanding requests, and of an operation that ends
 use Rattle.std.specs.Prelude.{if◌then◌else◌}
-use Rattle.std.proofs.Common.{◌≡◌, ℕ, ◌+◌, ◌*◌, ◌/◌, ◌%◌, ◌^◌, ◌≤◌, ◌==◌, nat_le, not, ◌&&◌, Bool, true, false, List, [], ◌∷◌, ◌++◌, All, Option, Some, None, is_some, IfOk, IfSome, Result, Ok, Err, nat_lt, ◌||◌, inl, inr, refl, sym, ap, subst, ◌∙◌, arith}
+use Rattle.std.proofs.Common.{◌≡◌, ℕ, ◌+◌, ◌^◌, ◌≤◌, ◌&&◌, Bool, true, false, List, [], ◌∷◌, ◌++◌, All, Option, Some, None, is_some, IfSome, inl, inr, refl, sym, ap, subst, ◌∙◌, arith}
 use Rattle.std.specs.List.{Contains}
 use Rattle.std.specs.Result.{result_ok}
-use Rattle.std.proofs.lemmas.Bool.{and_parts, leb-true, ltb-false, not-false}
 use Rattle.std.proofs.lemmas.List.Elements.{All-append, All-cons, All-contains, All-contains_itself, All-nil, All-weaker, Contains-append_left, Contains-append_right}
-use Rattle.chi_fields.specs.Access.{Access, enables_fit, lane_of}
-use Rattle.chi_fields.specs.Extent.{Extent, lies_in, region_of}
-use Rattle.chi_fields.specs.Opcode.{kind_of}
-use Rattle.chi_fields.specs.Refusal.{access_as, decision_as, decision_of, is_in_profile, len_of}
-use Rattle.chi_fields.specs.declared.kind.Kind.{Kind}
-use Rattle.chi_fields.specs.declared.refusal.Refusal.TheVariants.{BadByteEnable, Misaligned, OutOfRegion, ReservedSize, SizeOutOfProfile}
-use Rattle.chi_fields.specs.declared.region.RegionFault.TheVariants.{BaseNotLineAligned, EndPastAddresses, GranuleCount}
-use Rattle.chi_fields.specs.declared.request.Request.{Request}
+use Rattle.chi_fields.specs.Access.{Access}
 use Rattle.chi_lanes.specs.declared.reply.Reply.{Reply}
-use Rattle.chi_trace.specs.Asked.{access_of, line_of, request_of}
+use Rattle.chi_trace.specs.Asked.{access_of}
 use Rattle.chi_trace.specs.declared.asked.Asked.{Asked}
 use Rattle.chi_trace.specs.declared.operation.Operation.{Operation}
+use Rattle.chi_trace.proofs.Decided.{accessed_so, value_of}
 use Rattle.chi_events.specs.declared.event.Event.{Event}
 use Rattle.chi_events.specs.declared.event.EventKind.{EventKind}
 use Rattle.chi_events.specs.declared.event.EventKind.TheVariants as event_kind
@@ -31,49 +24,10 @@ pub record IsAccessAt (addr : ℕ) (a : Access) : Type 0 where
   pub at : a.addr ≡ addr
   pub within : a.addr + a.len ≤ 2 ^ 52
 
--- after a test that is to fail
-unless : {A E : Type 0} (b : Bool) (e : E) (r : Result A E) (P : A → Type 0) → (b ≡ false → IfOk r P) → IfOk (if b then Err e else r) P
-unless true e r P h = tt
-unless false e r P h = h refl
-
-value_of : {A E : Type 0} (r : Result A E) (P : A → Type 0) → IfOk r P → IfSome (result_ok r) P
-value_of (Ok a) P h = h
-value_of (Err e) P h = tt
-
--- a region ends within 2^52 bytes
-EndsWithin : Extent → Type 0
-EndsWithin region = region.base + 8 * region.granules ≤ 2 ^ 52
-
-region_ends : (base granules : ℕ) → IfOk (region_of base granules) EndsWithin
-unfolding EndsWithin
-region_ends base granules =
-    unless (not (base % 64 == 0)) BaseNotLineAligned _ EndsWithin (λ aligned.
-    unless (nat_lt granules 1 || nat_lt 512 granules) GranuleCount _ EndsWithin (λ counted.
-    unless (nat_lt (2 ^ 52) (base + 8 * granules)) EndPastAddresses (Ok (record { base = base; granules = granules })) EndsWithin (λ ends.
-    ltb-false (2 ^ 52) (base + 8 * granules) ends)))
-
-decided_as : (kind : Kind) (q : Request) (region : Extent) → EndsWithin region → IfOk (decision_as kind q region) (IsAccessAt q.addr)
-unfolding decision_as EndsWithin
-decided_as kind q region is =
-    unless (nat_le 7 q.size) ReservedSize _ (IsAccessAt q.addr) (λ small.
-    unless (not (is_in_profile kind q.size)) SizeOutOfProfile _ (IsAccessAt q.addr) (λ sized.
-    unless (not (q.addr % len_of kind q.size == 0)) Misaligned _ (IsAccessAt q.addr) (λ aligned.
-    unless (not (lies_in q.addr (len_of kind q.size) region)) OutOfRegion _ (IsAccessAt q.addr) (λ within.
-    unless (not (enables_fit kind (len_of kind q.size) (lane_of q.addr) q.be)) BadByteEnable (Ok (access_as kind q)) (IsAccessAt q.addr) (λ enabled.
-    let inside = and_parts (nat_le region.base q.addr) (nat_le (q.addr + len_of kind q.size) (region.base + 8 * region.granules)) (not-false _ within) in
-    let below = leb-true (q.addr + len_of kind q.size) (region.base + 8 * region.granules) inside.1 in
-    record { at = refl; within = omega (arith, below, is) })))))
-
 pub accessed : (a : Asked) → IfSome (result_ok (access_of None a)) (IsAccessAt a.addr)
-accessed a = value_of (access_of None a) (IsAccessAt a.addr) (by_line (line_of a.addr) refl (value_of (region_of (a.addr / 64 * 64) 8) EndsWithin (region_ends (a.addr / 64 * 64) 8)))
-  where
-    by_kind : (region : Extent) → EndsWithin region → (kind : Option Kind) → IfOk (decision_of kind (request_of a) region) (IsAccessAt a.addr)
-    by_kind region is (Some kind) = decided_as kind (request_of a) region is
-    by_kind region is None = tt
-
-    by_line : (line : Option Extent) → line_of a.addr ≡ line → IfSome line EndsWithin → IfOk (access_of None a) (IsAccessAt a.addr)
-    by_line (Some line) same is = rw same (by_kind line is (kind_of a.opcode))
-    by_line None same is = rw same tt
+accessed a =
+    value_of (access_of None a) (IsAccessAt a.addr)
+    (accessed_so None a (IsAccessAt a.addr) tt (λ line kind is passes. record { at = refl; within = omega (arith, passes.below, is.end) }))
 
 -- an open request by its access
 abbrev HasAccess : ℕ → Option Access → Type 0

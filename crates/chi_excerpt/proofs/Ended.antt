@@ -1,7 +1,7 @@
 -- the last operations that ended, one after the other
-use Rattle.std.proofs.Common.{◌≡◌, ℕ, ◌<◌, ◌≤◌, ◌==◌, ◌&&◌, nat_lt, nat_le, not, Bool, true, false, List, [], ◌∷◌, length, get_or, All, Option, None, Some, IfSome, ◌⊎◌, inl, inr, refl, sym, ◌∙◌, arith, eq-eqb, lt-ltb, ltb-true}
+use Rattle.std.proofs.Common.{◌≡◌, ℕ, ◌<◌, ◌==◌, ◌&&◌, nat_lt, nat_le, not, Bool, true, false, List, ◌∷◌, length, get_or, All, Option, Some, IfSome, ◌⊎◌, inl, inr, refl, sym, ◌∙◌, arith, eq-eqb, lt-ltb, ltb-true}
 use Rattle.std.proofs.lemmas.Bool.{and_from, and_parts, or_left, or_right}
-use Rattle.std.proofs.lemmas.List.Elements.{All-cons, All-nil}
+use Rattle.std.proofs.lemmas.List.Elements.{All-cons}
 use Rattle.std.proofs.lemmas.List.Kept.{AllPairs-cons}
 use Rattle.std.specs.List.{AllPairs, list_any}
 use Rattle.chi_trace.specs.declared.operation.Operation.{Operation}
@@ -47,15 +47,6 @@ pub record AreShown (ops : List Operation) (g time blamed : ℕ) (first : Option
   pub others : (i : ℕ) → may_be_shown ops g time blamed i ≡ true → (list_any (λ j. j == i) rows ≡ true) ⊎ (ends_before ops first i ≡ true)
   pub place : IfSome first (λ i. i < length ops)
 
-pub none_shown : (ops : List Operation) (g time blamed : ℕ) → AreShown ops g time blamed None []
-none_shown ops g time blamed = record {
-  in_order = λ i j d below within. absurd (omega (arith, within));
-  each = All-nil (λ i. may_be_shown ops g time blamed i ≡ true);
-  before = λ i is. All-nil (λ j. ends_first ops i j ≡ true);
-  others = λ i is. inr refl;
-  place = tt;
-}
-
 place_of_shown : (ops : List Operation) (g time blamed i : ℕ) → may_be_shown ops g time blamed i ≡ true → i < length ops
 place_of_shown ops g time blamed i is =
     let parts = and_parts (is_of ops g i) (nat_le (at ops i).end time && not (i == blamed)) is in
@@ -82,21 +73,6 @@ one_more_shown ops g time blamed first rows i are last = record {
     by_others : (j : ℕ) → may_be_shown ops g time blamed j ≡ true → (list_any (λ k. k == j) rows ≡ true) ⊎ (ends_before ops first j ≡ true) → (list_any (λ k. k == j) (i ∷ rows) ≡ true) ⊎ (ends_first ops j i ≡ true)
     by_others j may (inl there) = inl (or_right (i == j) (list_any (λ k. k == j) rows) there)
     by_others j may (inr earlier) = by_last j (last.others j (and_from (may_be_shown ops g time blamed j) (ends_before ops first j) may earlier))
-
--- no more can come
-pub all_shown : (ops : List Operation) (g time blamed most : ℕ) (first : Option ℕ) (rows : List ℕ) → AreShown ops g time blamed first rows → length rows ≤ most
-    → ((i : ℕ) → can_come ops g time blamed first i ≡ true → ⊥) → AreLast ops g time blamed most rows
-all_shown ops g time blamed most first rows are few none = record {
-  in_order = are.in_order;
-  each = are.each;
-  few = few;
-  others = λ i may. by_others i may (are.others i may);
-}
-  where
-    by_others : (i : ℕ) → may_be_shown ops g time blamed i ≡ true → (list_any (λ j. j == i) rows ≡ true) ⊎ (ends_before ops first i ≡ true)
-        → (list_any (λ j. j == i) rows ≡ true) ⊎ ((length rows ≡ most) × All (λ j. ends_first ops i j ≡ true) rows)
-    by_others i may (inl there) = inl there
-    by_others i may (inr earlier) = absurd (none i (and_from (may_be_shown ops g time blamed i) (ends_before ops first i) may earlier))
 
 -- there are as many as may be
 pub enough_shown : (ops : List Operation) (g time blamed most : ℕ) (first : Option ℕ) (rows : List ℕ) → AreShown ops g time blamed first rows → length rows ≡ most

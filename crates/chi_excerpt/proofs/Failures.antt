@@ -19,9 +19,6 @@ place_of ops g i is =
     let parts = and_parts (is_place ops i) (granule_of (at ops i) == g) is in
     ltb-true i (length ops) parts.0
 
-pub suspect_places : (t : TraceValue) (g time : ℕ) (places : List ℕ) → All (IsSuspect t g time) places → All (λ i. i < length t.operations) places
-suspect_places t g time places all = λ k d below. place_of t.operations g (get_or places k d) (all k d below).here
-
 pub granule_places : (t : TraceValue) (g : ℕ) (places : List ℕ) → All (λ i. is_of t.operations g i ≡ true) places → All (λ i. i < length t.operations) places
 granule_places t g places all = λ k d below. place_of t.operations g (get_or places k d) (all k d below)
 

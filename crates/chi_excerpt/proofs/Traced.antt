@@ -6,8 +6,7 @@ use Rattle.chi_trace.specs.declared.operation.Operation.{Operation}
 use Rattle.chi_trace.specs.Chosen.{is_in}
 use Rattle.chi_trace.specs.Cuts.{cut}
 use Rattle.chi_trace.specs.Explains.{IsOperation, IsTrace, at, nothing}
-use Rattle.chi_trace.proofs.TracedCuts.{IsTrace-cut}
-use Rattle.chi_doubt.proofs.Granule.{IsTrace-filter}
+use Rattle.chi_trace.proofs.TracedCuts.{IsTrace-cut, IsTrace-filter}
 use Rattle.chi_excerpt.specs.Replies.{with_reply}
 
 observed : (op : Operation) (reply : Option Reply) → IsOperation op → IsOperation (record op { reply = reply })

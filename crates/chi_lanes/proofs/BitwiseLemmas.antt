@@ -1,11 +1,10 @@
 -- lemmas on operations bit by bit: the bits of a number decide its bytes
-use Rattle.std.proofs.Common.{◌≡◌, ℕ, zero, suc, ◌+◌, ◌-◌, ◌*◌, ◌/◌, ◌%◌, ◌^◌, ◌<◌, ◌≤◌, min, max, List, [], ◌∷◌, bit_and, bit_or, bit_xor, slice_index, length, refl, ap, sym, ◌∙◌, arith, w64, mul-le-mul_right, le_of_suc-le-suc, pow-suc, mod-eq_of_lt}
+use Rattle.std.proofs.Common.{◌≡◌, ℕ, zero, suc, ◌+◌, ◌-◌, ◌*◌, ◌/◌, ◌%◌, ◌^◌, ◌<◌, ◌≤◌, min, max, List, [], ◌∷◌, bit_and, bit_or, bit_xor, slice_index, length, refl, ap, sym, ◌∙◌, arith, w64, mul-le-mul_right, le_of_suc-le-suc, pow-suc}
 use Rattle.std.specs.Int.{bit_at, bit_not}
 use Rattle.std.proofs.lemmas.Nat.{mod-pow-add, shr_split, shr-shr}
 use Rattle.std.proofs.lemmas.Nat.Bits.{bit_at_cat_low, bit_at_and, bit_at_or, bit_at_xor, bit_at_not, bit_at-lt}
-use Rattle.chi_lanes.specs.Bytes.{little, little_bytes}
+use Rattle.chi_lanes.specs.Bytes.{little_bytes}
 use Rattle.chi_lanes.specs.Combination.{from_bits, bitwise}
-use Rattle.chi_lanes.proofs.Digits.{little_little_bytes}
 
 -- the low bits of a number spell it, cut to so many bits
 from_bits_is : (k n : ℕ) → from_bits k (λ j. bit_at n j) ≡ n % 2 ^ k
@@ -102,9 +101,3 @@ unfolding bitwise
 length-bitwise f [] ys same = refl
 length-bitwise f (x ∷ xs) [] same = cc
 length-bitwise f (x ∷ xs) (y ∷ ys) same = ap suc (length-bitwise f xs ys (cc))
-
--- the number of the bytes that an operation bit by bit makes
-pub little-bitwise : (f : ℕ → ℕ → ℕ) (len x y n : ℕ) → ((j : ℕ) → j < 8 * len → bit_at n j ≡ f (bit_at x j) (bit_at y j)) →
-    n < 256 ^ len → little (bitwise f (little_bytes len x) (little_bytes len y)) ≡ n
-little-bitwise f len x y n is fits =
-    ap little (sym (bitwise_is f len x y n is)) ∙ (little_little_bytes len n ∙ mod-eq_of_lt fits)

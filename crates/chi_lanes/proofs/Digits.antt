@@ -86,11 +86,3 @@ pub three_runs : (a b c n p v q : ℕ) → n ≡ a + (b + c) → p < 256 ^ a →
     little_bytes n (p + 256 ^ a * (v + 256 ^ b * q)) ≡ little_bytes a p ++ (little_bytes b v ++ little_bytes c q)
 three_runs a b c n p v q split below_p below_v =
     rw (split, two_runs a (b + c) p (v + 256 ^ b * q) below_p, two_runs b c v q below_v) refl
-
--- the number of one run of bytes after another
-pub little-append : (xs ys : List ℕ) → little (xs ++ ys) ≡ little xs + 256 ^ length xs * little ys
-unfolding little
-little-append [] ys = rw pow-zero (omega arith)
-little-append (x ∷ xs) ys =
-    let step : 256 ^ suc (length xs) * little ys ≡ 256 * (256 ^ length xs * little ys) = rw (pow-succ', mul_assoc) refl in
-    rw (little-append xs ys, step) (omega arith)

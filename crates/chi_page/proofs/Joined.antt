@@ -1,5 +1,5 @@
 -- one text more
-use Rattle.std.proofs.Common.{◌≡◌, ℕ, ◌+◌, List, ◌++◌, append_assoc, add-one, sym, ap, ◌∙◌}
+use Rattle.std.proofs.Common.{◌≡◌, ℕ, ◌+◌, List, ◌++◌, append_assoc, add-one, ap, ◌∙◌}
 use Rattle.chi_page.specs.Listed.{comma, listed}
 
 pub listed_more : (text : ℕ → List ℕ) (start : List ℕ) (n : ℕ) (before middle last : List ℕ) → before ≡ start ++ listed text n

@@ -1,8 +1,7 @@
 -- lists that are filtered: told in another order, and what they contain
-use Rattle.std.proofs.Common.{◌≡◌, ℕ, zero, suc, ◌<◌, ◌&&◌, Bool, true, false, cond, List, [], ◌∷◌, All, filter, get_or, length, map, set, swap, refl, sym, ap, ◌∙◌, arith, true≢false}
+use Rattle.std.proofs.Common.{◌≡◌, ℕ, zero, suc, ◌<◌, ◌&&◌, Bool, true, false, cond, List, [], ◌∷◌, All, filter, get_or, length, set, swap, refl, ap, arith}
 use Rattle.std.specs.Prelude.{IsPermutation}
-use Rattle.std.specs.List.{Contains}
-use Rattle.std.proofs.lemmas.List.Elements.{All-cons, All-contains, All-contains_itself, All-head, All-nil, All-tail}
+use Rattle.std.proofs.lemmas.List.Elements.{All-head, All-tail}
 use Rattle.std.proofs.lemmas.List.Sorted.{IsPermutation-cons, IsPermutation-keeps, IsPermutation-middle, IsPermutation-refl, IsPermutation-trans}
 
 module _ {X : Type 0} (p : X → Bool) where
@@ -76,13 +75,3 @@ filter_both {X} p q (x ∷ xs) = by_tests (p x) (q x) refl (filter_both p q xs)
     by_tests true true is rest = rw is (ap (λ l. x ∷ l) rest)
     by_tests true false is rest = rw is rest
     by_tests false c is rest = rest
-
--- a test of what each becomes
-pub filter_map_comes : {X Y : Type 0} (p : Y → Bool) (f : X → Y) (xs : List X) → filter p (map f xs) ≡ map f (filter (λ x. p (f x)) xs)
-filter_map_comes p f [] = refl
-filter_map_comes p f (x ∷ xs) = by_test (p (f x)) (filter_map_comes p f xs)
-  where
-    by_test : (b : Bool) → filter p (map f xs) ≡ map f (filter (λ y. p (f y)) xs)
-        → cond b (f x ∷ filter p (map f xs)) (filter p (map f xs)) ≡ map f (cond b (x ∷ filter (λ y. p (f y)) xs) (filter (λ y. p (f y)) xs))
-    by_test true rest = ap (λ l. f x ∷ l) rest
-    by_test false rest = rest

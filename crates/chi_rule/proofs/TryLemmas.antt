@@ -56,10 +56,6 @@ then_done o held seen seen' seen'' src access reply n m first second =
     let t = then_lost o held seen seen' (seen' ++ second.0) access n m first (second.0, refl, second.2, second.3) in
     (t.0, second.1 ∙ ap (λ l. l ++ entry src access reply ∷ []) t.1, t.2, t.3)
 
--- what was seen, and nothing lost
-pub looked : (v : View) (mid : List Entry) (w : View) (access : Access) → Sees v mid w → Retries v.opening (has v.held) v.seen w.seen access 0
-looked v mid w access sees = (mid, ap (λ (z : View). z.seen) sees.now, sees.free, zero-le)
-
 -- a lost exchange: the word found is not the one that was loaded, so an entry between them changed the granule
 pub missed : (u : View) (mid : List Entry) (w : View) (access : Access) (x y : ℕ) → Sees u mid w → x ≡ shown u.opening u.seen (granule_of access.addr u.opening.region)
     → y ≡ shown u.opening (u.seen ++ mid) (granule_of access.addr u.opening.region) → y ≢ x → Retries u.opening (has u.held) u.seen w.seen access 1

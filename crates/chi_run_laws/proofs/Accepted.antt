@@ -22,11 +22,11 @@ use Rattle.chi_json.proofs.WalkLemmas.{at_ok}
 use Rattle.chi_json.proofs.WordLemmas.{AreDecoded-decode_sized}
 use Rattle.chi_trace.proofs.Decided.{IsWithin, accessed}
 use Rattle.chi_run_laws.proofs.Reading.{IsReply, asked, same_decision}
-use Rattle.chi_run_laws.proofs.Told.{IsTold}
+use Rattle.chi_script.specs.Script.{IsWritable}
 use Rattle.std.specs.Prelude.{Some}
 
 -- it is lawful
-pub lawful : (region : Extent) (q : Request) (a : Access) → IsRegion region → IsTold q → decision q region ≡ Ok a → IsLawful a
+pub lawful : (region : Extent) (q : Request) (a : Access) → IsRegion region → IsWritable q → decision q region ≡ Ok a → IsLawful a
 lawful region q a is told decided =
     let packet = AreDecoded-decode_sized (encode_lower q.lanes) 16 q.lanes told.lanes in
     let within : IsWithin a =

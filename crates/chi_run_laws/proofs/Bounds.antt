@@ -26,10 +26,9 @@ use Rattle.chi_trace.proofs.Decided.{region_lawful, unless}
 use Rattle.chi_reading.proofs.Faultless.{present}
 use Rattle.chi_script.specs.Faults.{as_fault}
 use Rattle.chi_script.specs.Member.{member_name}
-use Rattle.chi_script.specs.Script.{ScriptValue, element_of, object_script, on_region, request_of, requests_of, script}
+use Rattle.chi_script.specs.Script.{IsWritable, ScriptValue, element_of, object_script, on_region, request_of, requests_of, script}
 use Rattle.chi_script.specs.declared.fault.ScriptFault.TheVariants.{NotJson, NotObject, TooManyRequests}
 use Rattle.chi_script.specs.declared.member.Member.TheVariants.{Base, Granules, Image, Requests, Src, Txn, Opcode, Size, Addr, Endian, Be, Lanes}
-use Rattle.chi_run_laws.proofs.Told.{IsTold}
 
 -- each word has 64 bits
 abbrev pub AreWords : List ℕ → Type 0
@@ -44,7 +43,7 @@ pub record IsImage (granules : ℕ) (words : List ℕ) : Type 0 where
 pub record IsSound (s : ScriptValue) : Type 0 where
   pub region : IsRegion s.region
   pub image : IsImage s.region.granules s.image
-  pub requests : All IsTold s.requests
+  pub requests : All IsWritable s.requests
   pub few : length s.requests ≤ 4096
 
 -- the words of bytes
@@ -96,17 +95,17 @@ lanes_sound d =
     by_bytes None are = tt
     by_bytes (Some bytes) are = bytes_read bytes 16 are.0 are.1
 
-request_sound : (d : Data) → IfOk (request_of 7 d) IsTold
+request_sound : (d : Data) → IfOk (request_of 7 d) IsWritable
 unfolding request_of
 request_sound d =
-    then_ok (number_of member_name Src 7 d) _ IsTold (λ src e.
-    then_ok (number_of member_name Txn 255 d) _ IsTold (λ txn e1.
-    then_ok (number_of member_name Opcode 255 d) _ IsTold (λ opcode e2.
-    then_ok (number_of member_name Size 7 d) _ IsTold (λ size e3.
-    then_ok (number_of member_name Addr (2 ^ 64 - 1) d) _ IsTold (λ addr e4.
-    then_ok (number_of member_name Endian 1 d) _ IsTold (λ endian e5.
-    then_ok (number_of member_name Be 65535 d) _ IsTold (λ be e6.
-    then_ok (member_by member_name Lanes (hex_bytes 16) d) _ IsTold (λ lanes e7.
+    then_ok (number_of member_name Src 7 d) _ IsWritable (λ src e.
+    then_ok (number_of member_name Txn 255 d) _ IsWritable (λ txn e1.
+    then_ok (number_of member_name Opcode 255 d) _ IsWritable (λ opcode e2.
+    then_ok (number_of member_name Size 7 d) _ IsWritable (λ size e3.
+    then_ok (number_of member_name Addr (2 ^ 64 - 1) d) _ IsWritable (λ addr e4.
+    then_ok (number_of member_name Endian 1 d) _ IsWritable (λ endian e5.
+    then_ok (number_of member_name Be 65535 d) _ IsWritable (λ be e6.
+    then_ok (member_by member_name Lanes (hex_bytes 16) d) _ IsWritable (λ lanes e7.
     record {
       src = at_ok (number_of member_name Src 7 d) src (λ n. n ≤ 7) e (number_within member_name Src 7 d);
       txn = at_ok (number_of member_name Txn 255 d) txn (λ n. n ≤ 255) e1 (number_within member_name Txn 255 d);
@@ -118,19 +117,19 @@ request_sound d =
     }))))))))
 
 -- by cases on whether an element is an object
-element_by : (d : Data) (b : Bool) → IfOk (if b then request_of 7 d else Err (BadMember Requests)) IsTold
+element_by : (d : Data) (b : Bool) → IfOk (if b then request_of 7 d else Err (BadMember Requests)) IsWritable
 element_by d true = request_sound d
 element_by d false = tt
 
-requests_sound : (ds : Items) → IfOk (requests_of 7 ds) (All IsTold)
+requests_sound : (ds : Items) → IfOk (requests_of 7 ds) (All IsWritable)
 unfolding requests_of element_of
-requests_sound no_items = All-nil IsTold
+requests_sound no_items = All-nil IsWritable
 requests_sound (item d ds) =
-    then_ok (element_of 7 d) _ (All IsTold) (λ q e.
-    then_ok (requests_of 7 ds) _ (All IsTold) (λ qs e1.
-    All-cons IsTold q qs
-    (at_ok (element_of 7 d) q IsTold e (element_by d (is_some (as_object d))))
-    (at_ok (requests_of 7 ds) qs (All IsTold) e1 (requests_sound ds))))
+    then_ok (element_of 7 d) _ (All IsWritable) (λ q e.
+    then_ok (requests_of 7 ds) _ (All IsWritable) (λ qs e1.
+    All-cons IsWritable q qs
+    (at_ok (element_of 7 d) q IsWritable e (element_by d (is_some (as_object d))))
+    (at_ok (requests_of 7 ds) qs (All IsWritable) e1 (requests_sound ds))))
 
 -- a region that is not refused is one, of so many granules
 abbrev pub IsRegionOf : ℕ → Extent → Type 0
@@ -148,7 +147,7 @@ both P Q (Ok a) p q = (p, q)
 both P Q (Err e) p q = tt
 
 -- by cases on the region
-on_sound : (r : Result Extent RegionFault) (granules : ℕ) (image : List ℕ) (qs : List Request) → IfOk r (IsRegionOf granules) → IsImage granules image → All IsTold qs
+on_sound : (r : Result Extent RegionFault) (granules : ℕ) (image : List ℕ) (qs : List Request) → IfOk r (IsRegionOf granules) → IsImage granules image → All IsWritable qs
     → length qs ≤ 4096 → IfOk (on_region r image qs) IsSound
 on_sound (Ok region) granules image qs is imaged told few =
     record { region = is.0; image = subst (λ n. IsImage n image) (sym is.1) imaged; requests = told; few = few }
@@ -167,7 +166,7 @@ object_sound d =
     (both IsRegion (λ region. region.granules ≡ granules) (region_of base granules) (region_lawful base granules) (granules_same base granules))
     (at_ok (or_else as_fault (opening_words member_name Image granules d)) image (IsImage granules) e2
     (renamed as_fault (opening_words member_name Image granules d) (IsImage granules) (opening_sound granules d)))
-    (at_ok (or_else as_fault (requests_of 7 elements)) qs (All IsTold) e4 (renamed as_fault (requests_of 7 elements) (All IsTold) (requests_sound elements)))
+    (at_ok (or_else as_fault (requests_of 7 elements)) qs (All IsWritable) e4 (renamed as_fault (requests_of 7 elements) (All IsWritable) (requests_sound elements)))
     (ltb-false 4096 (length qs) few)))))))
 
 -- a script that is read

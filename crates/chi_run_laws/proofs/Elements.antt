@@ -24,7 +24,7 @@ use Rattle.chi_run_laws.specs.Executed.{done_at, refusals_in}
 use Rattle.chi_run_laws.proofs.Accepted.{answer_read, lawful}
 use Rattle.chi_run_laws.proofs.Executions.{ran, ran_accepted, ran_refused}
 use Rattle.chi_run_laws.proofs.Reading.{completed_reads, refused_reads}
-use Rattle.chi_run_laws.proofs.Told.{IsTold}
+use Rattle.chi_script.specs.Script.{IsWritable}
 
 -- the requests of lines, the first of which has this place
 abbrev pub data_from : ℕ → List Line → List Data
@@ -55,7 +55,7 @@ unfolding completed_of
 read_more region place d ds first rest one others = rw (one, others) refl
 
 -- the requests of a run are read as its operations and its refusals
-pub requests_read : (region : Extent) → IsRegion region → (qs : List Request) (place : ℕ) (m : Memory) → IsMemory m → All IsTold qs
+pub requests_read : (region : Extent) → IsRegion region → (qs : List Request) (place : ℕ) (m : Memory) → IsMemory m → All IsWritable qs
     → place + length qs ≤ 2 ^ 64 - 1 → IsReadAs region place qs m (items_of (data_from place (serial region qs m)))
 unfolding serial completed_of line_data
 requests_read region is [] place m is_m told within = record {
@@ -65,10 +65,10 @@ requests_read region is [] place m is_m told within = record {
   refusals = refl;
 }
 requests_read region is (q ∷ qs) place m is_m told within =
-    by_decision (decision q region) refl (λ m' is_m'. requests_read region is qs (place + 1) m' is_m' (All-tail IsTold q qs told) (omega arith))
+    by_decision (decision q region) refl (λ m' is_m'. requests_read region is qs (place + 1) m' is_m' (All-tail IsWritable q qs told) (omega arith))
   where
-    first_told : IsTold q
-    first_told = All-head IsTold q qs told
+    first_told : IsWritable q
+    first_told = All-head IsWritable q qs told
 
     here : place ≤ 2 ^ 64 - 1
     here = omega arith

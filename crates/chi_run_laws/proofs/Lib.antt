@@ -3,7 +3,6 @@ pub mod Executions
 pub mod Words
 pub mod Order
 pub mod Memory
-pub mod Told
 pub mod Reading
 pub mod Accepted
 pub mod Elements

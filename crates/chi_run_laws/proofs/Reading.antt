@@ -1,13 +1,12 @@
 -- the requests of a run's trace, as they are read
-use Rattle.std.proofs.Common.{◌≡◌, ℕ, ◌-◌, ◌^◌, ◌≤◌, ◌==◌, nat_lt, Bool, true, false, List, length, Option, None, Some, Ok, Err, refl, ap, ◌∙◌, arith}
+use Rattle.std.proofs.Common.{◌≡◌, ℕ, ◌-◌, ◌^◌, ◌≤◌, nat_lt, Bool, true, false, List, length, Option, None, Some, Ok, Err, refl, ap, ◌∙◌, arith}
 use Rattle.std.specs.Prelude.{codes}
 use Rattle.std.specs.Str.{bytes_eq}
-use Rattle.std.proofs.lemmas.Bool.{le-leb, le-ltb}
+use Rattle.std.proofs.lemmas.Bool.{le-ltb}
 use Rattle.std.proofs.lemmas.Slice.Eq.{bytes_eq-Decides}
 use Rattle.hex.specs.Hex.{encode_lower}
 use Rattle.hex.proofs.HexLemmas.{decode_sized-ok}
-use Rattle.serde_json.specs.Data.{Data, Members, number, object, put, string, unsigned}
-use Rattle.serde_json.specs.Find.{get}
+use Rattle.serde_json.specs.Data.{Data, Members, number, object, put, string}
 use Rattle.chi_fields.specs.Access.{Access}
 use Rattle.chi_fields.specs.Extent.{Extent}
 use Rattle.chi_fields.specs.Opcode.{kind_of}
@@ -20,7 +19,7 @@ use Rattle.chi_lanes.specs.After.{answer}
 use Rattle.chi_lanes.specs.Memory.{Memory}
 use Rattle.chi_lanes.specs.declared.reply.Reply.{Reply}
 use Rattle.chi_lanes.specs.declared.reply.Reply.TheVariants.{Comp, CompData}
-use Rattle.chi_json.specs.Members.{number_of}
+use Rattle.chi_json.proofs.ObjectLemmas.{number_here, order_here, order_within}
 use Rattle.chi_json.specs.Object.{IsReadBack, byte_order, with_bytes, with_number, with_request, with_text}
 use Rattle.chi_reading.specs.Member.{member_name}
 use Rattle.chi_reading.specs.Refused.{is_refused_so, refusal_of}
@@ -29,61 +28,46 @@ use Rattle.chi_trace.specs.Asked.{request_of}
 use Rattle.chi_reading.specs.Requests.{asked_of, completed_at, end_of, fields_of, observed_of, one_accepted, one_refused, refused_of, seen_of, stated_at, stated_of}
 use Rattle.chi_reading.specs.Unknown.{is_known, unknown_in}
 use Rattle.chi_trace.specs.declared.asked.Asked.{Asked}
-use Rattle.chi_reading.specs.declared.member.Member.{Member}
 use Rattle.chi_reading.specs.declared.member.Member.TheVariants.{Src, Txn, Opcode, Size, Addr, Endian, Be, Start, End}
 use Rattle.chi_trace.proofs.AnswersLie.{answer_is_faultless}
 use Rattle.chi_engine.specs.Trace.{taken_at, with_reply}
 use Rattle.chi_run_laws.specs.Executed.{done_at}
-use Rattle.chi_run_laws.proofs.Told.{IsTold}
+use Rattle.chi_script.specs.Script.{IsWritable}
 
 -- the same request, as a trace has it with this number
 abbrev pub asked : ℕ → Request → Asked
 asked n q = record { number = n; src = q.src; txn = q.txn; opcode = q.opcode; size = q.size; addr = q.addr; endian = q.endian; be = q.be; lanes = q.lanes }
 
--- a number that is there, and is not too great
-pub number_here : (m : Member) (top n : ℕ) (d : Data) → get (member_name m) d ≡ Some (number (unsigned n)) → n ≤ top → number_of member_name m top d ≡ Ok n
-unfolding number_of
-number_here m top n d at within = rw (at, le-leb n top within) refl
-
--- a byte order is read as it was written
-order_here : (endian : Bool) → (byte_order endian == 1) ≡ endian
-order_here true = refl
-order_here false = refl
-
-order_within : (endian : Bool) → byte_order endian ≤ 1
-order_within true = omega arith
-order_within false = omega arith
-
 -- the request of an object that was made of one, with a member `reply` more
-asked_answered : (time : ℕ) (q : Request) (x : Data) → IsTold q → asked_of time (object (put (codes "reply") x (taken_at time q))) ≡ Ok (asked time q)
+asked_answered : (time : ℕ) (q : Request) (x : Data) → IsWritable q → asked_of time (object (put (codes "reply") x (taken_at time q))) ≡ Ok (asked time q)
 unfolding asked_of fields_of taken_at with_request with_number with_bytes
 asked_answered time q x told =
     let d : Data = object (put (codes "reply") x (taken_at time q)) in
     rw (
-      number_here Src 65535 q.src d refl (omega (arith, told.src)),
-      number_here Txn 65535 q.txn d refl (omega (arith, told.txn)),
-      number_here Opcode 255 q.opcode d refl told.opcode,
-      number_here Size 7 q.size d refl told.size,
-      number_here Addr (2 ^ 64 - 1) q.addr d refl told.addr,
-      number_here Endian 1 (byte_order q.endian) d refl (order_within q.endian),
-      number_here Be 65535 q.be d refl told.be,
+      number_here member_name Src 65535 q.src d refl (omega (arith, told.src)),
+      number_here member_name Txn 65535 q.txn d refl (omega (arith, told.txn)),
+      number_here member_name Opcode 255 q.opcode d refl told.opcode,
+      number_here member_name Size 7 q.size d refl told.size,
+      number_here member_name Addr (2 ^ 64 - 1) q.addr d refl told.addr,
+      number_here member_name Endian 1 (byte_order q.endian) d refl (order_within q.endian),
+      number_here member_name Be 65535 q.be d refl told.be,
       told.lanes,
       order_here q.endian,
     ) refl
 
 -- the request of an object that was made of one, with a member `refused` more
-asked_refused : (time : ℕ) (q : Request) (x : Data) → IsTold q → asked_of time (object (put (codes "refused") x (taken_at time q))) ≡ Ok (asked time q)
+asked_refused : (time : ℕ) (q : Request) (x : Data) → IsWritable q → asked_of time (object (put (codes "refused") x (taken_at time q))) ≡ Ok (asked time q)
 unfolding asked_of fields_of taken_at with_request with_number with_bytes
 asked_refused time q x told =
     let d : Data = object (put (codes "refused") x (taken_at time q)) in
     rw (
-      number_here Src 65535 q.src d refl (omega (arith, told.src)),
-      number_here Txn 65535 q.txn d refl (omega (arith, told.txn)),
-      number_here Opcode 255 q.opcode d refl told.opcode,
-      number_here Size 7 q.size d refl told.size,
-      number_here Addr (2 ^ 64 - 1) q.addr d refl told.addr,
-      number_here Endian 1 (byte_order q.endian) d refl (order_within q.endian),
-      number_here Be 65535 q.be d refl told.be,
+      number_here member_name Src 65535 q.src d refl (omega (arith, told.src)),
+      number_here member_name Txn 65535 q.txn d refl (omega (arith, told.txn)),
+      number_here member_name Opcode 255 q.opcode d refl told.opcode,
+      number_here member_name Size 7 q.size d refl told.size,
+      number_here member_name Addr (2 ^ 64 - 1) q.addr d refl told.addr,
+      number_here member_name Endian 1 (byte_order q.endian) d refl (order_within q.endian),
+      number_here member_name Be 65535 q.be d refl told.be,
       told.lanes,
       order_here q.endian,
     ) refl
@@ -150,7 +134,7 @@ no_later : (time : ℕ) → nat_lt time time ≡ false
 no_later time = le-ltb time time (omega arith)
 
 -- a request that was answered reads as its operation
-answered_reads : (region : Extent) (place : ℕ) (q : Request) (a : Access) (reply : Reply) (x : Data) → IsTold q → place ≤ 2 ^ 64 - 1 → seen_of x ≡ Some (Some reply)
+answered_reads : (region : Extent) (place : ℕ) (q : Request) (a : Access) (reply : Reply) (x : Data) → IsWritable q → place ≤ 2 ^ 64 - 1 → seen_of x ≡ Some (Some reply)
     → decision q region ≡ Ok a → reply_fault a (Some reply) ≡ None
     → completed_at place (Some region) (object (put (codes "reply") x (taken_at place q))) ≡ Ok (one_accepted (done_at place q reply a))
 unfolding completed_at stated_at stated_of end_of observed_of unknown_in is_known taken_at with_request with_number with_bytes
@@ -158,8 +142,8 @@ answered_reads region place q a reply x told within seen is faultless =
     let d : Data = object (put (codes "reply") x (taken_at place q)) in
     rw (
       asked_answered place q x told,
-      number_here Start (2 ^ 64 - 1) place d refl within,
-      number_here End (2 ^ 64 - 1) place d refl within,
+      number_here member_name Start (2 ^ 64 - 1) place d refl within,
+      number_here member_name End (2 ^ 64 - 1) place d refl within,
       seen,
       same_decision place region q,
       is,
@@ -168,14 +152,14 @@ answered_reads region place q a reply x told within seen is faultless =
     ) refl
 
 -- so does one that was completed
-pub completed_reads : (region : Extent) (place : ℕ) (q : Request) (a : Access) (m : Memory) → IsTold q → place ≤ 2 ^ 64 - 1 → IsReply (answer a m) → decision q region ≡ Ok a
+pub completed_reads : (region : Extent) (place : ℕ) (q : Request) (a : Access) (m : Memory) → IsWritable q → place ≤ 2 ^ 64 - 1 → IsReply (answer a m) → decision q region ≡ Ok a
     → completed_at place (Some region) (object (with_reply (answer a m) (taken_at place q))) ≡ Ok (one_accepted (done_at place q (answer a m) a))
 completed_reads region place q a m told within back is =
     ap (λ (ms : Members). completed_at place (Some region) (object ms)) (with_reply_is (answer a m) (taken_at place q))
     ∙ answered_reads region place q a (answer a m) (reply_data (answer a m)) told within (reply_read (answer a m) back) is (answer_is_faultless a m)
 
 -- one that was refused reads as its refusal
-pub refused_reads : (region : Extent) (place : ℕ) (q : Request) (refusal : Refusal) → IsTold q → place ≤ 2 ^ 64 - 1 → decision q region ≡ Err refusal
+pub refused_reads : (region : Extent) (place : ℕ) (q : Request) (refusal : Refusal) → IsWritable q → place ≤ 2 ^ 64 - 1 → decision q region ≡ Err refusal
     → completed_at place (Some region) (object (with_text (codes "refused") (name_of refusal) (taken_at place q))) ≡ Ok (one_refused refusal)
 unfolding completed_at stated_at stated_of end_of refused_of unknown_in is_known with_text taken_at with_request with_number with_bytes
 refused_reads region place q refusal told within is =
@@ -183,8 +167,8 @@ refused_reads region place q refusal told within is =
     let d : Data = object (put (codes "refused") x (taken_at place q)) in
     rw (
       asked_refused place q x told,
-      number_here Start (2 ^ 64 - 1) place d refl within,
-      number_here End (2 ^ 64 - 1) place d refl within,
+      number_here member_name Start (2 ^ 64 - 1) place d refl within,
+      number_here member_name End (2 ^ 64 - 1) place d refl within,
       reason_read refusal,
       same_decision place region q,
       is,

@@ -23,7 +23,7 @@ use Rattle.chi_trace.specs.Explains.{Explains, IsTrace, at, is_place, times_in, 
 use Rattle.chi_trace.specs.Words.{memory_of, told}
 use Rattle.chi_trace.proofs.ToldAgain.{lifted, times_permuted}
 use Rattle.chi_script.specs.RunText.{granule_words}
-use Rattle.chi_script.specs.Script.{ScriptValue}
+use Rattle.chi_script.specs.Script.{IsWritable, ScriptValue}
 use Rattle.chi_script.proofs.GranuleWords.{length-granule_words}
 use Rattle.chi_engine.specs.Store.{opening_of, requester_count}
 use Rattle.chi_engine.specs.Trace.{final_words_of, lines_of}
@@ -36,20 +36,19 @@ use Rattle.chi_run_laws.proofs.Executions.{explained, ran_apart}
 use Rattle.chi_run_laws.proofs.Memory.{ending_is, memory_is}
 use Rattle.chi_run_laws.proofs.Order.{all_chosen, in_order}
 use Rattle.chi_run_laws.proofs.Ranges.{once_in_order}
-use Rattle.chi_run_laws.proofs.Told.{IsTold}
 use Rattle.chi_run_laws.proofs.Texts.{read_value, text_reads}
 
 -- the memory that requests leave is one of bytes
-end_is_memory : (region : Extent) → IsRegion region → (qs : List Request) (m : Memory) → IsMemory m → All IsTold qs → IsMemory (serial_end region qs m)
+end_is_memory : (region : Extent) → IsRegion region → (qs : List Request) (m : Memory) → IsMemory m → All IsWritable qs → IsMemory (serial_end region qs m)
 unfolding serial_end
 end_is_memory region is [] m is_m told = is_m
-end_is_memory region is (q ∷ qs) m is_m told = by_decision (decision q region) refl (λ m' is_m'. end_is_memory region is qs m' is_m' (All-tail IsTold q qs told))
+end_is_memory region is (q ∷ qs) m is_m told = by_decision (decision q region) refl (λ m' is_m'. end_is_memory region is qs m' is_m' (All-tail IsWritable q qs told))
   where
     by_decision : (r : Result Access Refusal) → decision q region ≡ r → ((m' : Memory) → IsMemory m' → IsMemory (serial_end region qs m'))
         → IsMemory (serial_end region qs (serial_after (decision q region) m))
     by_decision (Ok a) decided later =
         subst (λ (d : Result Access Refusal). IsMemory (serial_end region qs (serial_after d m))) (sym decided)
-        (later (after a m) (IsMemory-after a m is_m (lawful region q a is (All-head IsTold q qs told) decided)))
+        (later (after a m) (IsMemory-after a m is_m (lawful region q a is (All-head IsWritable q qs told) decided)))
     by_decision (Err refusal) decided later =
         subst (λ (d : Result Access Refusal). IsMemory (serial_end region qs (serial_after d m))) (sym decided) (later m is_m)
 

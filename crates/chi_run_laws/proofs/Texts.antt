@@ -6,6 +6,7 @@ use Rattle.serde_json.specs.View.{items_of}
 use Rattle.chi_fields.specs.Extent.{Extent, IsRegion, region_of}
 use Rattle.chi_history.specs.declared.line.Line.{Line}
 use Rattle.chi_json.specs.Members.{number_of, opening_words, stated_words}
+use Rattle.chi_json.proofs.ObjectLemmas.{number_here}
 use Rattle.chi_json.specs.Object.{with_array, with_bytes, with_number}
 use Rattle.chi_json.specs.Values.{json_value}
 use Rattle.chi_reading.specs.Member.{member_name}
@@ -16,7 +17,6 @@ use Rattle.chi_reading.specs.Unknown.{is_known, unknown_in}
 use Rattle.chi_reading.specs.declared.member.Member.TheVariants.{Base, Granules, Image, Final}
 use Rattle.chi_engine.specs.Trace.{lines_data, trace_data}
 use Rattle.chi_run_laws.proofs.Bounds.{IsImage}
-use Rattle.chi_run_laws.proofs.Reading.{number_here}
 use Rattle.chi_run_laws.proofs.Words.{words_of-word_bytes, words_read_back}
 use Rattle.chi_reading.proofs.RegionText.{region_text}
 
@@ -36,11 +36,11 @@ final_here region image words lines is = rw (words_read_back words region.granul
 
 base_here : (region : Extent) (image words : List ℕ) (lines : List Line) → IsRegion region → number_of member_name Base (2 ^ 64 - 1) (trace_data region image words lines) ≡ Ok region.base
 unfolding trace_data with_array with_bytes with_number
-base_here region image words lines is = number_here Base (2 ^ 64 - 1) region.base (trace_data region image words lines) refl (omega (arith, is.end))
+base_here region image words lines is = number_here member_name Base (2 ^ 64 - 1) region.base (trace_data region image words lines) refl (omega (arith, is.end))
 
 granules_here : (region : Extent) (image words : List ℕ) (lines : List Line) → IsRegion region → number_of member_name Granules 65535 (trace_data region image words lines) ≡ Ok region.granules
 unfolding trace_data with_array with_bytes with_number
-granules_here region image words lines is = number_here Granules 65535 region.granules (trace_data region image words lines) refl (omega (arith, is.most))
+granules_here region image words lines is = number_here member_name Granules 65535 region.granules (trace_data region image words lines) refl (omega (arith, is.most))
 
 -- what is read of the text
 abbrev pub read_value : Extent → List ℕ → List ℕ → Completed → TextValue

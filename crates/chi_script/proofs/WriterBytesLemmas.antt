@@ -27,14 +27,6 @@ taken_then (Some x) (Some y) (Some z) s t p q = q ∙ ap (λ l. l ++ t) p ∙ ap
 pub moves_none : (a : Option (List ℕ)) (held : List ℕ) → Moves a held a held []
 moves_none a held = record { front = []; whole = sym (append-nil held); taken = none_taken a }
 
--- the writer took all that the page held
-pub moves_page : (a b : Option (List ℕ)) (held : List ℕ) → Appends a b held → Moves a held b [] []
-moves_page a b held p = record { front = held; whole = refl; taken = p }
-
--- the text went to the page alone
-pub moves_kept : (a : Option (List ℕ)) (held text : List ℕ) → Moves a held a (held ++ text) text
-moves_kept a held text = record { front = []; whole = refl; taken = none_taken a }
-
 -- one text after the other
 pub moves_then : (a b c : Option (List ℕ)) (held mid last s t : List ℕ) → Moves a held b mid s → Moves b mid c last t → Moves a held c last (s ++ t)
 moves_then a b c held mid last s t p q = record {

@@ -1,5 +1,5 @@
 -- the script that a text is, or its first fault
-use Rattle.std.specs.Prelude.{ℕ, ◌-◌, ◌^◌, ◌==◌, nat_lt, if◌then◌else◌, List, [], ◌∷◌, length, is_some, Result, Ok, Err}
+use Rattle.std.specs.Prelude.{ℕ, ◌-◌, ◌^◌, ◌==◌, ◌≤◌, nat_lt, if◌then◌else◌, List, [], ◌∷◌, length, is_some, Result, Ok, Err}
 use Rattle.std.specs.Option.{ok_or}
 use Rattle.serde_json.specs.Data.{Data, Items, no_items, item}
 use Rattle.serde_json.specs.Find.{as_array, as_object}
@@ -7,6 +7,7 @@ use Rattle.chi_fields.specs.Extent.{Extent, region_of}
 use Rattle.chi_fields.specs.declared.region.RegionFault.{RegionFault}
 use Rattle.chi_fields.specs.declared.request.Request.{Request}
 use Rattle.chi_json.specs.Members.{◌>>=◌, member_by, number_of, opening_words, or_else}
+use Rattle.chi_json.specs.Object.{IsReadBack}
 use Rattle.chi_json.specs.Values.{hex_bytes, json_value}
 use Rattle.chi_json.specs.declared.member.MemberFault.{MemberFault}
 use Rattle.chi_json.specs.declared.member.MemberFault.TheVariants as member_fault
@@ -64,3 +65,13 @@ unfoldable pub script : List ℕ → ℕ → Result ScriptValue ScriptFault
 script text top = do
   d ← ok_or (json_value text) NotJson
   if is_some (as_object d) then object_script top d else Err NotObject
+
+-- a request that a script can have
+pub record IsWritable (q : Request) : Type 0 where
+  pub src : q.src ≤ 7
+  pub txn : q.txn ≤ 255
+  pub opcode : q.opcode ≤ 255
+  pub size : q.size ≤ 7
+  pub addr : q.addr ≤ 2 ^ 64 - 1
+  pub be : q.be ≤ 65535
+  pub lanes : IsReadBack 16 q.lanes

@@ -180,12 +180,6 @@ whole_answered ops old now p k grown sorted ready below late answered =
     whole ops old now p k grown (λ v. begins ops old now p k v grown sorted ready below late (λ dropping. absurd (answered dropping.0)))
 
 -- the empty set
-pub none_ready : (ops : List Operation) (states : States) → positions states ≡ [] → AreReady ops states
-none_ready ops states none p (x, below, same) = absurd (omega (arith, below, ap length none))
-
-pub none_ends : (ops : List Operation) (states : States) (v : ℕ) → positions states ≡ [] → SomeEnds ops states v → ⊥
-none_ends ops states v none (p, (x, below, same), ends) = omega (arith, below, ap length none)
-
 pub none_has : (states : States) (p : Position) → positions states ≡ [] → Has states p → ⊥
 none_has states p none (x, below, same) = omega (arith, below, ap length none)
 

@@ -1,50 +1,35 @@
 -- a script that was written is read as what it was written of
-use Rattle.std.proofs.Common.{◌≡◌, ◌<◌, slice_index_or, take, ℕ, ◌+◌, ◌*◌, ◌≤◌, ◌-◌, ◌^◌, ◌==◌, nat_lt, Bool, true, false, List, [], ◌∷◌, length, Option, None, Some, Ok, Bor, refl, subst, arith}
+use Rattle.std.proofs.Common.{◌≡◌, ◌<◌, slice_index_or, take, ℕ, ◌+◌, ◌*◌, ◌≤◌, ◌-◌, ◌^◌, nat_lt, true, false, List, [], ◌∷◌, length, Option, None, Some, Ok, Bor, refl, subst, arith}
 use Rattle.std.specs.Prelude.{All, IfSome}
-use Rattle.std.proofs.lemmas.Bool.{le-leb, le-ltb}
+use Rattle.std.proofs.lemmas.Bool.{le-ltb}
 use Rattle.std.proofs.lemmas.List.Elements.{All-head, All-more, All-tail}
 use Rattle.std.specs.Option.{option_map}
 use Rattle.std.specs.Str.{is_utf8}
-use Rattle.serde_json.specs.Data.{Data, number, unsigned, depth, items_depth}
-use Rattle.serde_json.specs.Find.{get}
+use Rattle.serde_json.specs.Data.{depth, items_depth}
 use Rattle.serde_json.specs.Read.{read}
 use Rattle.chi_fields.specs.Extent.{Extent, IsRegion, region_of}
 use Rattle.chi_fields.specs.declared.request.Request.{Request}
-use Rattle.chi_json.specs.Members.{number_of, opening_words, stated_words}
+use Rattle.chi_json.specs.Members.{opening_words, stated_words}
+use Rattle.chi_json.proofs.ObjectLemmas.{number_here, order_here, order_within}
 use Rattle.chi_json.specs.Object.{IsReadBack, byte_order, with_array, with_bytes, with_number, with_request}
 use Rattle.chi_json.specs.Values.{json_value}
-use Rattle.chi_script.specs.declared.member.Member.{Member}
 use Rattle.chi_script.specs.declared.member.Member.TheVariants.{Base, Granules, Src, Txn, Opcode, Size, Addr, Endian, Be}
 use Rattle.chi_script.specs.Member.{member_name}
-use Rattle.chi_script.specs.Script.{element_of, object_script, request_of, requests_of, script}
-use Rattle.chi_stimulus.specs.Object.{IsWritable, all_data, image_words, request_data, script_data}
-
--- a number that is there, and is not too great
-number_here : (m : Member) (top n : ℕ) (d : Data) → get (member_name m) d ≡ Some (number (unsigned n)) → n ≤ top → number_of member_name m top d ≡ Ok n
-unfolding number_of
-number_here m top n d at within = rw (at, le-leb n top within) refl
-
--- a byte order is read as it was written
-order_here : (endian : Bool) → (byte_order endian == 1) ≡ endian
-order_here true = refl
-order_here false = refl
-
-order_within : (endian : Bool) → byte_order endian ≤ 1
-order_within true = omega arith
-order_within false = omega arith
+use Rattle.chi_script.specs.Script.{IsWritable, element_of, object_script, request_of, requests_of, script}
+use Rattle.chi_stimulus.specs.Object.{all_data, image_words, request_data, script_data}
 
 pub element_reads : (q : Request) → IsWritable q → element_of 7 (request_data q) ≡ Ok q
 unfolding request_data with_request with_number with_bytes element_of request_of
 element_reads q w =
     let d = request_data q in
     rw (
-      number_here Src 7 q.src d refl w.src,
-      number_here Txn 255 q.txn d refl w.txn,
-      number_here Opcode 255 q.opcode d refl w.opcode,
-      number_here Size 7 q.size d refl w.size,
-      number_here Addr (2 ^ 64 - 1) q.addr d refl w.addr,
-      number_here Endian 1 (byte_order q.endian) d refl (order_within q.endian),
-      number_here Be 65535 q.be d refl w.be,
+      number_here member_name Src 7 q.src d refl w.src,
+      number_here member_name Txn 255 q.txn d refl w.txn,
+      number_here member_name Opcode 255 q.opcode d refl w.opcode,
+      number_here member_name Size 7 q.size d refl w.size,
+      number_here member_name Addr (2 ^ 64 - 1) q.addr d refl w.addr,
+      number_here member_name Endian 1 (byte_order q.endian) d refl (order_within q.endian),
+      number_here member_name Be 65535 q.be d refl w.be,
       w.lanes,
       order_here q.endian,
     ) refl
@@ -85,13 +70,13 @@ object_reads region None qs is shown written few =
     let base : region.base ≤ 2 ^ 64 - 1 = omega (arith, is.end) in
     let granules : region.granules ≤ 65535 = omega (arith, is.most) in
     let within : nat_lt 4096 (length qs) ≡ false = le-ltb 4096 (length qs) few in
-    rw (number_here Base (2 ^ 64 - 1) region.base d refl base, number_here Granules 65535 region.granules d refl granules, requests_read qs written, region_here region is, within) refl
+    rw (number_here member_name Base (2 ^ 64 - 1) region.base d refl base, number_here member_name Granules 65535 region.granules d refl granules, requests_read qs written, region_here region is, within) refl
 object_reads region (Some bytes) qs is shown written few =
     let d = script_data region (Some bytes) qs in
     let base : region.base ≤ 2 ^ 64 - 1 = omega (arith, is.end) in
     let granules : region.granules ≤ 65535 = omega (arith, is.most) in
     let within : nat_lt 4096 (length qs) ≡ false = le-ltb 4096 (length qs) few in
-    rw (number_here Base (2 ^ 64 - 1) region.base d refl base, number_here Granules 65535 region.granules d refl granules, shown, requests_read qs written, region_here region is, within) refl
+    rw (number_here member_name Base (2 ^ 64 - 1) region.base d refl base, number_here member_name Granules 65535 region.granules d refl granules, shown, requests_read qs written, region_here region is, within) refl
 
 -- one request more
 pub more_writable : (qs : List Request) (i : ℕ) (d : Request) → i < length qs → All IsWritable (take i qs) → IsWritable (slice_index_or qs i d) → All IsWritable (take (i + 1) qs)

@@ -1,10 +1,10 @@
 -- a request and a script as values of JSON
-use Rattle.std.specs.Prelude.{ℕ, ◌-◌, ◌^◌, ◌≤◌, replicate, List, map, Option, None, Some, codes}
+use Rattle.std.specs.Prelude.{ℕ, ◌≤◌, replicate, List, map, Option, None, Some, codes}
 use Rattle.serde_json.specs.Data.{Data, object, Items, Members, no_members}
 use Rattle.serde_json.specs.View.{items_of}
 use Rattle.chi_fields.specs.Extent.{Extent}
 use Rattle.chi_fields.specs.declared.request.Request.{Request}
-use Rattle.chi_json.specs.Object.{IsReadBack, with_array, with_bytes, with_number, with_request}
+use Rattle.chi_json.specs.Object.{with_array, with_bytes, with_number, with_request}
 use Rattle.chi_json.specs.Values.{words_of}
 
 -- a request
@@ -30,16 +30,6 @@ script_data region image requests = object (
 pub record IsSmall (q : Request) : Type 0 where
   pub src : q.src ≤ 7
   pub size : q.size ≤ 7
-
--- a request that a script can have
-pub record IsWritable (q : Request) : Type 0 where
-  pub src : q.src ≤ 7
-  pub txn : q.txn ≤ 255
-  pub opcode : q.opcode ≤ 255
-  pub size : q.size ≤ 7
-  pub addr : q.addr ≤ 2 ^ 64 - 1
-  pub be : q.be ≤ 65535
-  pub lanes : IsReadBack 16 q.lanes
 
 -- the words at the opening: those of the bytes that are told, and else zeros
 abbrev pub image_words : ℕ → Option (List ℕ) → List ℕ

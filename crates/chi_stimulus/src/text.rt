@@ -4,8 +4,8 @@ ghost use Rattle.std.specs.Prelude.{◌≡◌, ◌-◌, ◌*◌, ◌^◌, ◌≤
 ghost use Rattle.std.specs.Option.{option_map};
 ghost use Rattle.serde_json.specs.View.{view};
 ghost use Rattle.chi_json.specs.Object.{IsReadBack};
-ghost use Rattle.chi_script.specs.Script.{script};
-ghost use Rattle.chi_stimulus.specs.Object.{IsSmall, IsWritable, image_words, request_data, script_data};
+ghost use Rattle.chi_script.specs.Script.{IsWritable, script};
+ghost use Rattle.chi_stimulus.specs.Object.{IsSmall, image_words, request_data, script_data};
 
 use chi_fields::laws::region_is_lawful;
 use chi_fields::{Region, Request};

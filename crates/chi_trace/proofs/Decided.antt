@@ -63,44 +63,64 @@ len_within Swap size fits = len_power size (leb-true size 3 fits)
 len_within Compare size fits =
     let parts = and_parts (nat_le 1 size) (nat_le size 4) fits in len_half size (leb-true 1 size parts.0) (leb-true size 4 parts.1)
 
+-- what a home has tested of a request of a kind that it accepts
+pub record Passes (kind : Kind) (q : Request) (region : Extent) : Type 0 where
+  pub sized : is_in_profile kind q.size ≡ true
+  pub aligned : q.addr % len_of kind q.size ≡ 0
+  pub below : q.addr + len_of kind q.size ≤ region.base + 8 * region.granules
+  pub enabled : enables_fit kind (len_of kind q.size) (lane_of q.addr) q.be ≡ true
+
+passes_as : (kind : Kind) (q : Request) (region : Extent) (P : Access → Type 0) → (Passes kind q region → P (access_as kind q)) → IfOk (decision_as kind q region) P
+unfolding decision_as
+passes_as kind q region P holds =
+    unless (nat_le 7 q.size) ReservedSize _ P (λ small.
+    unless (not (is_in_profile kind q.size)) SizeOutOfProfile _ P (λ sized.
+    unless (not (q.addr % len_of kind q.size == 0)) Misaligned _ P (λ aligned.
+    unless (not (lies_in q.addr (len_of kind q.size) region)) OutOfRegion _ P (λ within.
+    unless (not (enables_fit kind (len_of kind q.size) (lane_of q.addr) q.be)) BadByteEnable (Ok (access_as kind q)) P (λ enabled.
+    let inside = and_parts (nat_le region.base q.addr) (nat_le (q.addr + len_of kind q.size) (region.base + 8 * region.granules)) (not-false _ within) in
+    holds (record {
+      sized = not-false _ sized;
+      aligned = eqb-true (q.addr % len_of kind q.size) 0 (not-false _ aligned);
+      below = leb-true (q.addr + len_of kind q.size) (region.base + 8 * region.granules) inside.1;
+      enabled = not-false _ enabled;
+    }))))))
+
+-- what is so of each access that passes is so of the one that a home decides
+pub decided : (q : Request) (region : Extent) (P : Access → Type 0)
+    → ((kind : Kind) → kind_of q.opcode ≡ Some kind → Passes kind q region → P (access_as kind q)) → IfOk (decision q region) P
+decided q region P holds = by_kind (kind_of q.opcode) refl
+  where
+    by_kind : (kind : Option Kind) → kind_of q.opcode ≡ kind → IfOk (decision_of kind q region) P
+    by_kind (Some kind) is = passes_as kind q region P (holds kind is)
+    by_kind None is = tt
+
+pub accessed_so : (region : Option Extent) (a : Asked) (P : Access → Type 0) → IfSome region IsRegion
+    → ((r : Extent) (kind : Kind) → IsRegion r → Passes kind (request_of a) r → P (access_as kind (request_of a))) → IfOk (access_of region a) P
+accessed_so (Some region) a P is holds = decided (request_of a) region P (λ kind named. holds region kind is)
+accessed_so None a P is holds = by_line (line_of a.addr) refl (value_of (region_of (a.addr / 64 * 64) 8) IsRegion (region_lawful (a.addr / 64 * 64) 8))
+  where
+    by_line : (line : Option Extent) → line_of a.addr ≡ line → IfSome line IsRegion → IfOk (access_of None a) P
+    by_line (Some line) same is = rw same (decided (request_of a) line P (λ kind named. holds line kind is))
+    by_line None same is = rw same tt
+
 -- the access is lawful and lies within 2^52 bytes
 pub record IsWithin (a : Access) : Type 0 where
   pub lawful : IsLawful a
   pub below : a.addr + a.len ≤ 2 ^ 52
 
-decided_as : (kind : Kind) (q : Request) (region : Extent) → IsPacket q.be q.lanes → IsRegion region → IfOk (decision_as kind q region) IsWithin
-unfolding decision_as
-decided_as kind q region packet is =
-    unless (nat_le 7 q.size) ReservedSize _ IsWithin (λ small.
-    unless (not (is_in_profile kind q.size)) SizeOutOfProfile _ IsWithin (λ sized.
-    unless (not (q.addr % len_of kind q.size == 0)) Misaligned _ IsWithin (λ aligned.
-    unless (not (lies_in q.addr (len_of kind q.size) region)) OutOfRegion _ IsWithin (λ within.
-    unless (not (enables_fit kind (len_of kind q.size) (lane_of q.addr) q.be)) BadByteEnable (Ok (access_as kind q)) IsWithin (λ enabled.
-    let inside = and_parts (nat_le region.base q.addr) (nat_le (q.addr + len_of kind q.size) (region.base + 8 * region.granules)) (not-false _ within) in
-    let below = leb-true (q.addr + len_of kind q.size) (region.base + 8 * region.granules) inside.1 in
-    record {
-      lawful = record {
-        part = len_within kind q.size (not-false _ sized);
-        aligned = eqb-true (q.addr % len_of kind q.size) 0 (not-false _ aligned);
-        bits = packet.bits;
-        enabled = not-false _ enabled;
-        packet = packet.whole;
-        bytes = packet.bytes;
-      };
-      below = omega (arith, below, is.end);
-    })))))
-
-decided : (q : Request) (region : Extent) → IsPacket q.be q.lanes → IsRegion region → IfOk (decision q region) IsWithin
-decided q region packet is = by_kind (kind_of q.opcode)
-  where
-    by_kind : (kind : Option Kind) → IfOk (decision_of kind q region) IsWithin
-    by_kind (Some kind) = decided_as kind q region packet is
-    by_kind None = tt
-
 pub accessed : (region : Option Extent) (a : Asked) → IsPacket a.be a.lanes → IfSome region IsRegion → IfOk (access_of region a) IsWithin
-accessed (Some region) a has is = decided (request_of a) region has is
-accessed None a has is = by_line (line_of a.addr) refl (value_of (region_of (a.addr / 64 * 64) 8) IsRegion (region_lawful (a.addr / 64 * 64) 8))
+accessed region a has is = accessed_so region a IsWithin is within
   where
-    by_line : (line : Option Extent) → line_of a.addr ≡ line → IfSome line IsRegion → IfOk (access_of None a) IsWithin
-    by_line (Some line) same is = rw same (decided (request_of a) line has is)
-    by_line None same is = rw same tt
+    within : (r : Extent) (kind : Kind) → IsRegion r → Passes kind (request_of a) r → IsWithin (access_as kind (request_of a))
+    within r kind region_is passes = record {
+      lawful = record {
+        part = len_within kind a.size passes.sized;
+        aligned = passes.aligned;
+        bits = has.bits;
+        enabled = passes.enabled;
+        packet = has.whole;
+        bytes = has.bytes;
+      };
+      below = omega (arith, passes.below, region_is.end);
+    }

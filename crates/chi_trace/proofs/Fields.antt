@@ -1,18 +1,16 @@
 -- an access tells the opcode and the size of its request
-use Rattle.std.proofs.Common.{◌≡◌, ℕ, zero, suc, ◌+◌, ◌-◌, ◌/◌, ◌%◌, ◌^◌, ◌==◌, ◌≤◌, ◌<◌, nat_le, ◌&&◌, not, Bool, true, false, if◌then◌else◌, Option, Some, None, Ok, IfOk, refl, sym, subst, eqb-true, arith}
-use Rattle.std.proofs.lemmas.Bool.{and_parts, leb-true, not-false}
-use Rattle.chi_fields.specs.Access.{Access, enables_fit, lane_of}
-use Rattle.chi_fields.specs.Extent.{Extent, lies_in}
+use Rattle.std.proofs.Common.{◌≡◌, ℕ, zero, suc, ◌+◌, ◌-◌, ◌/◌, ◌^◌, ◌==◌, ◌≤◌, ◌<◌, nat_le, ◌&&◌, Bool, true, false, if◌then◌else◌, Some, None, IfOk, refl, sym, subst, eqb-true, arith}
+use Rattle.std.proofs.lemmas.Bool.{and_parts, leb-true}
+use Rattle.chi_fields.specs.Extent.{Extent}
 use Rattle.chi_fields.specs.Opcode.{kind_of, numbered_op, op_number}
-use Rattle.chi_fields.specs.Refusal.{access_as, decision, decision_as, decision_of, is_in_profile, len_of}
+use Rattle.chi_fields.specs.Refusal.{decision, is_in_profile, len_of}
 use Rattle.chi_fields.specs.declared.kind.Kind.{Kind}
 use Rattle.chi_fields.specs.declared.kind.Kind.TheVariants.{Read, Write, Store, Load, Swap, Compare}
 use Rattle.chi_fields.specs.declared.kind.Op.{Op}
 use Rattle.chi_fields.specs.declared.kind.Op.TheVariants.{Add, Clr, Eor, Set, SMax, SMin, UMax, UMin}
-use Rattle.chi_fields.specs.declared.refusal.Refusal.TheVariants.{BadByteEnable, Misaligned, OutOfRegion, ReservedSize, SizeOutOfProfile}
 use Rattle.chi_fields.specs.declared.request.Request.{Request}
 use Rattle.chi_trace.specs.Fields.{opcode_of, size_of}
-use Rattle.chi_trace.proofs.Decided.{unless}
+use Rattle.chi_trace.proofs.Decided.{decided}
 
 -- an operation is one of eight
 pub op_below : (op : Op) → op_number op < 8
@@ -108,21 +106,7 @@ size_of-len_of Swap size fits = size_power size (leb-true size 3 fits)
 size_of-len_of Compare size fits =
     let parts = and_parts (nat_le 1 size) (nat_le size 4) fits in size_half size (leb-true 1 size parts.0) (leb-true size 4 parts.1)
 
-told_as : (kind : Kind) (q : Request) (region : Extent) → opcode_of kind ≡ q.opcode
-    → IfOk (decision_as kind q region) (λ access. (opcode_of access.kind ≡ q.opcode) × (size_of access.kind access.len ≡ q.size))
-unfolding decision_as
-told_as kind q region opcode =
-    let Told : Access → Type 0 = λ access. (opcode_of access.kind ≡ q.opcode) × (size_of access.kind access.len ≡ q.size) in
-    unless (nat_le 7 q.size) ReservedSize _ Told (λ small.
-    unless (not (is_in_profile kind q.size)) SizeOutOfProfile _ Told (λ sized.
-    unless (not (q.addr % len_of kind q.size == 0)) Misaligned _ Told (λ aligned.
-    unless (not (lies_in q.addr (len_of kind q.size) region)) OutOfRegion _ Told (λ within.
-    unless (not (enables_fit kind (len_of kind q.size) (lane_of q.addr) q.be)) BadByteEnable (Ok (access_as kind q)) Told (λ enabled.
-    (opcode, size_of-len_of kind q.size (not-false _ sized)))))))
-
 pub fields_told : (q : Request) (region : Extent) → IfOk (decision q region) (λ access. (opcode_of access.kind ≡ q.opcode) × (size_of access.kind access.len ≡ q.size))
-fields_told q region = by_kind (kind_of q.opcode) refl
-  where
-    by_kind : (kind : Option Kind) → kind_of q.opcode ≡ kind → IfOk (decision_of kind q region) (λ access. (opcode_of access.kind ≡ q.opcode) × (size_of access.kind access.len ≡ q.size))
-    by_kind (Some kind) is = told_as kind q region (opcode_of-kind_of q.opcode kind is)
-    by_kind None is = tt
+fields_told q region =
+    decided q region (λ access. (opcode_of access.kind ≡ q.opcode) × (size_of access.kind access.len ≡ q.size))
+    (λ kind named passes. (opcode_of-kind_of q.opcode kind named, size_of-len_of kind q.size passes.sized))

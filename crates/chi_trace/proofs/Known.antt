@@ -8,7 +8,7 @@ use Rattle.chi_trace.specs.declared.operation.Operation.{Operation}
 use Rattle.chi_trace.specs.Cuts.{known}
 use Rattle.chi_trace.specs.Explains.{Answers, IsInTime, at}
 
-known_start : (time : ℕ) (op : Operation) → (known time op).start ≡ op.start
+pub known_start : (time : ℕ) (op : Operation) → (known time op).start ≡ op.start
 known_start time op = by_test (nat_le op.end time)
   where
     by_test : (b : Bool) → (cond b op (record op { reply = None })).start ≡ op.start

@@ -42,6 +42,9 @@ IsTrace-sorted found ops each same up =
 pub observed_below : (ops : List Operation) (i : ℕ) → IsTrace ops → i < length ops → IsOperation (at ops i)
 observed_below ops i is under = observed_at ops i is (lt-ltb i (length ops) under)
 
+pub all_observed : (ops : List Operation) → IsTrace ops → All IsOperation ops
+all_observed ops is = All-from_get_or IsOperation ops nothing (λ i under. observed_below ops i is under)
+
 -- the operation that was read
 pub at_read : (ops : List Operation) (i : ℕ) (op : Operation) → i < length ops → op ≡ get_or ops i op → at ops i ≡ op
 at_read ops i op below is = get_or_default ops i nothing op below ∙ sym is

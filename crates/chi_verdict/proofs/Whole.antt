@@ -1,14 +1,12 @@
 -- a trace of which all is known, and words at the end that were not observed
-use Rattle.std.proofs.Common.{◌≡◌, ℕ, ◌≤◌, true, cond, List, [], ◌∷◌, All, None, filter, map, refl, ap, ◌∙◌, arith}
+use Rattle.std.proofs.Common.{◌≡◌, ℕ, ◌≤◌, cond, List, [], ◌∷◌, All, None, filter, map, refl, ap, ◌∙◌, arith}
 use Rattle.std.proofs.lemmas.Bool.{le-leb}
 use Rattle.std.proofs.lemmas.List.Elements.{All-head, All-tail}
 use Rattle.chi_lanes.specs.Memory.{Memory}
 use Rattle.chi_trace.specs.declared.operation.Operation.{Operation}
 use Rattle.chi_trace.specs.Cuts.{cut, has_started, known}
 use Rattle.chi_trace.specs.Explains.{Explains, IsTrace, unobserved}
-use Rattle.chi_trace.specs.Granules.{is_of}
 use Rattle.chi_trace.specs.Words.{told}
-use Rattle.chi_verdict.proofs.Later.{own_shown}
 
 -- by the latest end all is known
 pub cut_all : (time : ℕ) (ops : List Operation) → IsTrace ops → All (λ op. op.end ≤ time) ops → cut time ops ≡ ops
@@ -30,7 +28,3 @@ unseen opening ops order e = record { done = e.done; once = e.once; times = e.ti
 pub seen : (opening : Memory) (ops : List Operation) (order : List ℕ) → Explains opening unobserved ops order → Explains opening (told []) ops order
 unfolding told
 seen opening ops order e = record { done = e.done; once = e.once; times = e.times; answers = e.answers; ending = λ g. tt }
-
--- an operation of a granule of a trace as it was known at a time is one of the trace
-pub own_of_cut : (ops : List Operation) (g time i : ℕ) → IsTrace ops → is_of (cut time ops) g i ≡ true → is_of ops g i ≡ true
-own_of_cut ops g time i is own = (own_shown ops g time i is own).0

@@ -43,9 +43,6 @@ explainable_unknown f unknown known = absurd (true≢false (sym known ∙ unknow
 pub said_explained : (s : Standing) (A : Type 0) → s ≡ Explained → IfExplained s A → A
 said_explained s A is said = subst (λ t. IfExplained t A) is said
 
-pub said_unexplained : (s : Standing) (A : Type 0) → s ≡ Unexplained → IfUnexplained s A → A
-said_unexplained s A is said = subst (λ t. IfUnexplained t A) is said
-
 pub said_undecided : (s : Standing) (A : Type 0) → s ≡ Undecided → IfUndecided s A → A
 said_undecided s A is said = subst (λ t. IfUndecided t A) is said
 

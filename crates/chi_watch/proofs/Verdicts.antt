@@ -1,9 +1,9 @@
 -- what is said of events by what the operations of each granule lead to
-use Rattle.std.proofs.Common.{◌≡◌, ℕ, ◌/◌, ◌==◌, ◌<◌, ◌≤◌, ◌^◌, ◌++◌, Bool, true, false, cond, List, [], ◌∷◌, All, Option, Some, None, IfSome}
+use Rattle.std.proofs.Common.{◌≡◌, ℕ, ◌/◌, ◌==◌, ◌<◌, ◌^◌, ◌++◌, Bool, true, false, cond, List, [], ◌∷◌, All, Option, Some, None, IfSome}
 use Rattle.std.proofs.Common.{filter, refl, sym, ap, subst, ◌∙◌, arith, eqb-true, true≢false, le-ltb, ne_eqb}
 use Rattle.std.specs.Prelude.{IsPermutation, filter_map}
 use Rattle.std.specs.List.{cons_option}
-use Rattle.std.proofs.lemmas.List.Elements.{All-filter, All-head, All-nil, All-cons, All-contains, All-tail, All-weaker, Contains-get_or}
+use Rattle.std.proofs.lemmas.List.Elements.{All-head, All-nil, All-cons, All-contains, All-tail, All-weaker, Contains-get_or}
 use Rattle.std.proofs.lemmas.List.Sorted.{IsPermutation-refl}
 use Rattle.chi_fields.specs.Access.{Access}
 use Rattle.chi_events.specs.EventLaws.{OperationsAreTold}
@@ -15,11 +15,12 @@ use Rattle.chi_events.specs.declared.event.EventKind.TheVariants.{Request, Data,
 use Rattle.chi_events.specs.declared.outstanding.Open.{Open}
 use Rattle.chi_search.specs.Layers.{SomeLeads}
 use Rattle.chi_trace.specs.Chosen.{GranulesTold, is_in}
-use Rattle.chi_trace.specs.Explains.{IsInTime, IsTrace, is_place, times_in}
+use Rattle.chi_trace.specs.Explains.{IsInTime, is_place, times_in}
 use Rattle.chi_trace.specs.Granules.{ExplainsGranule, Finishes, Play, granule_of, is_of, last_word}
 use Rattle.chi_trace.specs.TraceLaws.{GranulesExplain, PartsExplain}
 use Rattle.chi_trace.specs.declared.operation.Operation.{Operation}
 use Rattle.chi_trace.specs.Words.{AreWords, memory_of, told, word_told}
+use Rattle.chi_trace.proofs.TracedCuts.{IsTrace-filter}
 use Rattle.chi_trace.proofs.Memory.{IsMemory-memory_of, word_of-memory_of}
 use Rattle.chi_watch.specs.Followed.{IsWord}
 use Rattle.chi_watch.specs.Judged.{IsExplained, final_of, final_words, is_known, judged, opening_in, openings}
@@ -44,16 +45,6 @@ openings_are_words events are =
     by_kind (Word w) is = is
     by_kind (Final w) is = tt
     by_kind (Unknown addr len) is = tt
-
--- some operations of a trace are a trace
-IsTrace-filter : (p : Operation → Bool) (ops : List Operation) → IsTrace ops → IsTrace (filter p ops)
-unfolding IsTrace
-IsTrace-filter p [] is = tt
-IsTrace-filter p (op ∷ ops) is = by_test (p op) (IsTrace-filter p ops is.2)
-  where
-    by_test : (b : Bool) → IsTrace (filter p ops) → IsTrace (cond b (op ∷ filter p ops) (filter p ops))
-    by_test true rest = (is.0, All-filter p (λ later. op.start ≤ later.start) ops is.1, rest)
-    by_test false rest = rest
 
 -- of a granule that the test passes all the operations are kept
 kept_all : (q : ℕ → Bool) (g : ℕ) → q g ≡ true → (ops : List Operation) → filter (is_in g) (filter (λ op. q (granule_of op)) ops) ≡ filter (is_in g) ops

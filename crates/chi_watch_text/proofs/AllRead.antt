@@ -107,11 +107,6 @@ event_refused (Some text) (Some rest) later count number ended refusals o e (fau
 event_refused (Some text) (Some rest) later count number ended refusals o e fault.TooManyLines has here read is = absurd is
 event_refused (Some text) (Some rest) later count number ended refusals o e fault.Memory has here read is = tt
 
--- a fault that does not tell of the text
-pub no_memory : (start : Option (List ℕ)) → IfSome start (λ text. IsOperationsFault text fault.Memory)
-no_memory None = tt
-no_memory (Some text) = tt
-
 -- operations of a trace are one in every order of their starts
 sorted_trace : (told ops : List Operation) → IsTrace told → IsPermutation told ops → IsNonDecreasingBy (λ (op : Operation). op.start) ops → IsTrace ops
 sorted_trace told ops trace = IsTrace-sorted told ops (λ k d under. rw (get_or_default told k d nothing under) (observed_below told k trace under))

@@ -1,5 +1,5 @@
 -- the states that were looked at on the way to the status
-use Rattle.std.proofs.Common.{◌≡◌, ℕ, ◌+◌, ◌∙◌, refl, sym, arith}
+use Rattle.std.proofs.Common.{◌+◌, ◌∙◌, refl, sym, arith}
 use Rattle.std.proofs.lemmas.Result.{IfOk-weaker}
 use Rattle.chi_search.proofs.Looking.{more_after}
 use Rattle.chi_check.proofs.CheckLemmas.{both, spent_where_undecided}

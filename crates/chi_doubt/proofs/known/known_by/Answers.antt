@@ -5,7 +5,7 @@ use Rattle.chi_trace.specs.declared.operation.Operation.{Operation}
 use Rattle.chi_trace.specs.Cuts.{cut}
 use Rattle.chi_trace.specs.Explains.{IsOperation, nothing}
 use Rattle.chi_trace.proofs.TracedCuts.{IsTrace-cut}
-use Rattle.chi_doubt.proofs.Granule.{all_observed}
+use Rattle.chi_trace.proofs.Traced.{all_observed}
 use Rattle.chi_doubt.proofs.known.known_by.Goals as goal
 
 pub returns-clause-sorted : goal.returns-clause-sorted

@@ -3,7 +3,7 @@ use Rattle.std.proofs.Common.{filter, sym, ap, subst, ◌∙◌, arith}
 use Rattle.std.proofs.lemmas.List.{take_all}
 use Rattle.chi_trace.specs.Chosen.{is_in}
 use Rattle.chi_trace.specs.Explains.{IsTrace}
-use Rattle.chi_doubt.proofs.Granule.{IsTrace-filter}
+use Rattle.chi_trace.proofs.TracedCuts.{IsTrace-filter}
 use Rattle.chi_doubt.proofs.own.own_operations.Goals as goal
 
 pub returns-clause-traced : goal.returns-clause-traced

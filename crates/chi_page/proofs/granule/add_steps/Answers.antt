@@ -1,5 +1,5 @@
 -- one operation more
-use Rattle.std.proofs.Common.{◌≡◌, ◌++◌, ℕ, List, length, get_or, take, refl, sym, ap, ◌∙◌, append-nil, arith}
+use Rattle.std.proofs.Common.{◌≡◌, ◌++◌, ℕ, List, length, get_or, refl, sym, ap, ◌∙◌, append-nil, arith}
 use Rattle.chi_trace.specs.Explains.{at}
 use Rattle.chi_trace.specs.Granules.{last_word, next}
 use Rattle.chi_page.specs.Granules.{step_at}
