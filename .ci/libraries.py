@@ -69,8 +69,8 @@ def prove(crate, lines, uses, jobs):
 
 
 def build(crates):
-    """Proves and builds the libraries below these crates, as many side by side as there are processors. The one that most waits
-    for has two provers at least, and each those that no other waits for."""
+    """Proves and builds the libraries below these crates, each as soon as those below it are built. A library has the provers that
+    no other one waits for, and that for which most wait two, where two are free."""
     lines, uses = crates_txt()
     processors = len(os.sched_getaffinity(0))
     left, running = longest(set().union(*(below(it, uses) for it in crates)), uses), {}
@@ -80,10 +80,8 @@ def build(crates):
             waiting = {*left, *(it for it, _ in running.values())}
             ready = [it for it in left if not below(it, uses) & waiting]
             for at, it in enumerate(ready):
-                idle = processors - sum(jobs for _, jobs in running.values())
-                if idle < 1:
-                    break
-                jobs = max(min(4, idle // (len(ready) - at)), 2 if it == left[0] else 1)
+                idle = max(processors - sum(jobs for _, jobs in running.values()), 0)
+                jobs = max(min(4, idle // (len(ready) - at)), 2 if it == left[0] and idle > 1 else 1)
                 left.remove(it)
                 running[pool.submit(prove, it, lines, uses, jobs)] = it, jobs
             for it in concurrent.futures.wait(running, return_when=concurrent.futures.FIRST_COMPLETED).done:
