@@ -1,8 +1,8 @@
 """The libraries below crates, proved and built side by side: `.ci/libraries`, and what `.ci/edits` stands on."""
 
 import concurrent.futures
-import glob
 import os
+import re
 import shutil
 import subprocess
 import sys
@@ -28,11 +28,13 @@ def below(crate, uses):
 
 
 def longest(libraries, uses):
-    """Returns the libraries, those first that the longest chain of others waits for, by the bytes to be read and proved."""
+    """Returns the libraries, those first for which the longest chain of others waits, by the seconds that docs/GATE.md tells of each
+    proof; one of which it tells nothing counts as a minute."""
+    with open("docs/GATE.md", encoding="utf-8") as file:
+        took = {it: int(seconds) for it, seconds in re.findall(r"\| `(\w+)` \| (\d+) \|", file.read())}
     ways = {}
     for it in sorted(libraries, key=lambda it: -len(below(it, uses))):
-        files = [file for part in ("src", "specs", "proofs") for file in glob.glob(f"crates/{it}/{part}/**/*.*t", recursive=True)]
-        ways[it] = sum(map(os.path.getsize, files)) + max((ways[other] for other in ways if it in uses[other]), default=0)
+        ways[it] = took.get(it, 60) + max((ways[other] for other in ways if it in uses[other]), default=0)
     return sorted(libraries, key=lambda it: -ways[it])
 
 
@@ -70,7 +72,7 @@ def prove(crate, lines, uses, jobs):
 
 def build(crates):
     """Proves and builds the libraries below these crates, each as soon as those below it are built. A library has the provers that
-    no other one waits for, and that for which most wait two, where two are free."""
+    no other one waits for; that for which most wait has two, where two are free, and the last one four."""
     lines, uses = crates_txt()
     processors = len(os.sched_getaffinity(0))
     left, running = longest(set().union(*(below(it, uses) for it in crates)), uses), {}
@@ -81,7 +83,7 @@ def build(crates):
             ready = [it for it in left if not below(it, uses) & waiting]
             for at, it in enumerate(ready):
                 idle = max(processors - sum(jobs for _, jobs in running.values()), 0)
-                jobs = max(min(4, idle // (len(ready) - at)), 2 if it == left[0] and idle > 1 else 1)
+                jobs = max(min(4, idle // (len(ready) - at)), 2 if it == left[0] and idle > 1 else 1) if left[1:] else min(4, processors)
                 left.remove(it)
                 running[pool.submit(prove, it, lines, uses, jobs)] = it, jobs
             for it in concurrent.futures.wait(running, return_when=concurrent.futures.FIRST_COMPLETED).done:
