@@ -28,8 +28,8 @@ def below(crate, uses):
 
 
 def longest(libraries, uses):
-    """Returns the libraries, those first for which the longest chain of others waits, by the seconds that docs/GATE.md tells of each
-    proof; one of which it tells nothing counts as a minute."""
+    """Returns the libraries, those first for which the longest chain of others waits, by the seconds that docs/GATE.md tells of
+    each proof; one of which it tells nothing counts as a minute."""
     with open("docs/GATE.md", encoding="utf-8") as file:
         took = {it: int(seconds) for it, seconds in re.findall(r"\| `(\w+)` \| (\d+) \|", file.read())}
     ways = {}
@@ -46,7 +46,7 @@ def run(words, folder):
         sys.exit(f"{ran.stdout[-3000:]}\n{' '.join(words)} failed in {folder}")
 
 
-def prove(crate, lines, uses, jobs):
+def prove(crate, lines, uses, jobs, priority):
     """Proves and builds a library, where those below it are built, in a room of its own: into the folder of a library rt lets one
     check at a time."""
     room, stands_on = f"{ROOMS}/{crate}", below(crate, uses)
@@ -63,7 +63,7 @@ def prove(crate, lines, uses, jobs):
         # so that rt goes on from what was built before
         os.rename(own, made)
     try:
-        run(["rt", "lib", "--jobs", str(jobs)], f"{room}/crates/{crate}")
+        run([*priority, "rt", "lib", "--jobs", str(jobs)], f"{room}/crates/{crate}")
     finally:
         if os.path.isdir(made):
             os.rename(made, own)
@@ -72,10 +72,13 @@ def prove(crate, lines, uses, jobs):
 
 def build(crates):
     """Proves and builds the libraries below these crates, each as soon as those below it are built. A library has the provers that
-    no other one waits for; that for which most wait has two, where two are free, and the last one four."""
+    no other one waits for; that for which most wait has two, where two are free, and the last one four. One on which no library
+    stands leaves the processors to the others."""
     lines, uses = crates_txt()
+    libraries = set().union(*(below(it, uses) for it in crates))
+    needed = {other for it in libraries for other in uses[it]}
     processors = len(os.sched_getaffinity(0))
-    left, running = longest(set().union(*(below(it, uses) for it in crates)), uses), {}
+    left, running = longest(libraries, uses), {}
     shutil.rmtree(ROOMS, ignore_errors=True)
     with concurrent.futures.ThreadPoolExecutor(len(lines)) as pool:
         while left or running:
@@ -83,9 +86,12 @@ def build(crates):
             ready = [it for it in left if not below(it, uses) & waiting]
             for at, it in enumerate(ready):
                 idle = max(processors - sum(jobs for _, jobs in running.values()), 0)
-                jobs = max(min(4, idle // (len(ready) - at)), 2 if it == left[0] and idle > 1 else 1) if left[1:] else min(4, processors)
+                jobs = max(min(4, idle // (len(ready) - at)), 2 if it == left[0] and idle > 1 else 1)
+                if len(left) == 1:
+                    jobs = min(4, processors)
+                priority = [] if it in needed or it == left[0] else ["nice"]
                 left.remove(it)
-                running[pool.submit(prove, it, lines, uses, jobs)] = it, jobs
+                running[pool.submit(prove, it, lines, uses, jobs, priority)] = it, jobs
             for it in concurrent.futures.wait(running, return_when=concurrent.futures.FIRST_COMPLETED).done:
                 del running[it]
                 it.result()
