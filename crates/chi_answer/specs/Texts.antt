@@ -3,7 +3,7 @@ use Rattle.std.specs.Prelude.{◌≡◌, ℕ, Bool, true, false, List, [], ◌�
 use Rattle.chi_search.specs.declared.words.Words.{Words}
 use Rattle.chi_search.specs.declared.words.Words.TheVariants.{Each, Unknown}
 use Rattle.chi_verdict.specs.declared.first.Blame.{Blame}
-use Rattle.chi_trace.specs.Words.{told}
+use Rattle.chi_trace.specs.Words.{find_word}
 use Rattle.chi_reading.specs.TraceText.{RecordedValue}
 use Rattle.chi_answer.specs.declared.answer.Answer.{Answer}
 use Rattle.chi_answer.specs.declared.answer.Answer.TheVariants.{Explained, Blamed, Unexplained, Undecided}
@@ -38,5 +38,5 @@ abbrev pub IsText : Bool → RecordedValue → Answer → List ℕ → Type 0
 IsText false r (Explained order) text = text ≡ codes "explained\n"
 IsText true r (Explained order) text = (witness : List ℕ) × IsWitness r order.items witness × (text ≡ codes "explained\n" ++ witness)
 IsText witness r (Blamed blame) text = text ≡ blame_text r blame
-IsText witness r (Unexplained granule words) text = text ≡ granule_line granule ++ end_text (told r.final_words granule) words
+IsText witness r (Unexplained granule words) text = text ≡ granule_line granule ++ end_text (find_word r.final_words granule) words
 IsText witness r (Undecided doubt) text = text ≡ doubt_text doubt

@@ -7,7 +7,7 @@ use Rattle.chi_trace.specs.Explains.{at}
 use Rattle.chi_trace.specs.declared.words.GranuleWord.{GranuleWord}
 use Rattle.chi_trace.specs.Executions.{told_after}
 use Rattle.chi_trace.specs.Traces.{TraceValue}
-use Rattle.chi_trace.specs.Words.{AreInOrder, memory_of, told}
+use Rattle.chi_trace.specs.Words.{AreInOrder, find_word, memory_of}
 use Rattle.chi_reading.specs.TraceText.{RecordedValue}
 use Rattle.chi_answer.specs.Lines.{operation_text}
 
@@ -24,7 +24,7 @@ memory_line w = granule_text (w.granule * 8 % 2 ^ 64) w.word
 -- the words after an order, of each granule of which one was told at the opening or that has an operation of the order
 pub record AreLeft (t : TraceValue) (order : List ℕ) (words : List GranuleWord) : Type 0 where
   pub in_order : AreInOrder words
-  pub each : (g : ℕ) → told words g ≡ told_after t order g
+  pub each : (g : ℕ) → find_word words g ≡ told_after t order g
 
 -- the lines of the operations in the order, and of the memory after them
 abbrev pub IsWitness : RecordedValue → List ℕ → List ℕ → Type 0

@@ -3,19 +3,19 @@
 use crate::comparison::assert_same;
 use chi_excerpt::{Blamed, Excerpt, add_excerpt};
 use chi_lanes::Reply;
-use chi_trace::{Asked, Operation, access};
+use chi_trace::{Operation, RequestFields, access};
 use std::alloc::Global;
 use std::test::Fail;
 
 // What was observed of a request of eight bytes or four.
-fn row(asked: Asked, start: u64, end: u64, reply: Option<Reply>) -> Option<Operation> {
-    let access = access(&asked, &None).ok()?;
-    Some(asked.operation(access, start, end, reply))
+fn row(fields: RequestFields, start: u64, end: u64, reply: Option<Reply>) -> Option<Operation> {
+    let access = access(&fields, &None).ok()?;
+    Some(fields.operation(access, start, end, reply))
 }
 
 // An AtomicLoad ADD of 1 to the granule at 0x1008.
-fn addition(number: u64, src: u16) -> Asked {
-    Asked {
+fn addition(number: u64, src: u16) -> RequestFields {
+    RequestFields {
         number,
         src,
         txn: 1,
@@ -29,8 +29,8 @@ fn addition(number: u64, src: u16) -> Asked {
 }
 
 // A write of three of the four bytes at 0x100c.
-fn writing() -> Asked {
-    Asked {
+fn writing() -> RequestFields {
+    RequestFields {
         number: 17,
         src: 3,
         txn: 4,

@@ -1,6 +1,6 @@
 pub mod CheckLemmas
-pub mod ChosenLemmas
 pub mod CommandLemmas
+pub mod OptionValuesLemmas
 mod CoverLemmas
 mod SearchLemmas
 mod WatchLemmas

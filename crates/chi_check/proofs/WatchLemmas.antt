@@ -8,11 +8,11 @@ use Rattle.chi_script.specs.declared.device.WriteFault.TheVariants.{Failed}
 use Rattle.chi_search.specs.Looks.{LookedAtLeast}
 use Rattle.chi_watch.specs.declared.ending.Ending.{Ending}
 use Rattle.chi_watch.specs.declared.ending.FoundAtEnd.{FoundAtEnd}
-use Rattle.chi_watch_text.specs.Found.{ending_verdict, found_verdict, listed_verdict, verdict_of}
+use Rattle.chi_watch_text.specs.FoundGranule.{ending_verdict, found_verdict, listed_verdict, verdict_of}
 use Rattle.chi_watch_text.specs.Outcomes.{IsWatched, WentBy}
 use Rattle.chi_watch_text.specs.Texts.{watched_text}
 use Rattle.chi_watch_text.specs.declared.options.WatchOptions.{WatchOptions}
-use Rattle.chi_watch_text.specs.declared.watched.Found.{Found}
+use Rattle.chi_watch_text.specs.declared.watched.FoundGranule.{FoundGranule}
 use Rattle.chi_watch_text.specs.declared.watched.Watched.{Watched}
 use Rattle.chi_check.specs.CheckStatus.{IsAnswerStatus}
 use Rattle.chi_check.specs.Cover.{cover_text}
@@ -51,7 +51,7 @@ spent_at_six looked old new budget status watched is went six = by_found watched
     by_ending None all is_six = cc
     by_ending (Some ending) all is_six = by_lists ending.unexplained.items ending.undecided.items all is_six
 
-    by_found : (found : List Found) (o : Option Ending) → IfSome o (λ ending. All (λ g. LookedAtLeast looked old new budget) ending.undecided.items)
+    by_found : (found : List FoundGranule) (o : Option Ending) → IfSome o (λ ending. All (λ g. LookedAtLeast looked old new budget) ending.undecided.items)
         → verdict_status (found_verdict found o) ≡ 6 → LookedAtLeast looked old new budget
     by_found (f ∷ found) o all is_six = cc
     by_found [] o all is_six = by_ending o all is_six

@@ -1,9 +1,9 @@
 pub mod Check
 pub mod CheckStatus
-pub mod Chosen
 pub mod CommandLine
 pub mod Cover
 pub mod Limits
+pub mod OptionValues
 pub mod Pages
 pub mod ProgramOutcome
 pub mod Watch

@@ -3,7 +3,7 @@ use Rattle.std.specs.Prelude.{◌≡◌, ℕ, ◌⊎◌, List, Option, Result, O
 use Rattle.clap.specs.Walk.{Text}
 use Rattle.chi_check.specs.Check.{KeepsUnanswered, Outcome}
 use Rattle.chi_check.specs.CheckStatus.{IsAnswerStatus, status_of}
-use Rattle.chi_check.specs.Chosen.{Chooses}
+use Rattle.chi_check.specs.OptionValues.{Chooses}
 use Rattle.chi_check.specs.CommandLine.{IsArgumentsFault, IsTaken}
 use Rattle.chi_check.specs.Cover.{CoverOutcome}
 use Rattle.chi_check.specs.declared.fault.CheckFault.{CheckFault}

@@ -2,7 +2,7 @@
 use Rattle.std.specs.Prelude.{◌≡◌, ℕ, List, Option, Result, Ok, Err}
 use Rattle.std.specs.Io.KnownBytes.{Appends}
 use Rattle.chi_script.specs.WriterBytes.{AppendsFront}
-use Rattle.chi_watch_text.specs.Found.{verdict_of}
+use Rattle.chi_watch_text.specs.FoundGranule.{verdict_of}
 use Rattle.chi_watch_text.specs.Outcomes.{IsOutcome, IsWatched}
 use Rattle.chi_watch_text.specs.Texts.{watched_text}
 use Rattle.chi_watch_text.specs.declared.options.WatchOptions.{WatchOptions}

@@ -5,10 +5,10 @@ ghost use Rattle.clap.specs.Matches.{found_of};
 ghost use Rattle.clap.specs.Simple.{app_of};
 ghost use Rattle.clap.specs.Values.{kind_of};
 ghost use Rattle.clap.specs.Walk.{rows_of};
-ghost use Rattle.chi_check.specs.Chosen.{Chooses, HasOptions, IsNamed, IsNamedFirst};
+ghost use Rattle.chi_check.specs.OptionValues.{Chooses, HasOptions, IsNamed, IsNamedFirst};
 ghost use Rattle.chi_check.specs.CommandLine.{IsArgumentsFault, IsTaken, program_app};
 
-use crate::chosen::{cover_options, explain_options, watch_options};
+use crate::option_values::{cover_options, explain_options, watch_options};
 use crate::options::{CheckOptions, CoverOptions};
 use crate::tasks::TASKS;
 use chi_program::program_command;
@@ -65,17 +65,17 @@ fn whole_command<'a>(alloc: Global) -> Result<Command<'a>, Error>
 fn chosen_task<'a>(
     alloc: Global,
     name: &str,
-    chosen: &ArgMatches<'a>,
+    matches: &ArgMatches<'a>,
 ) -> Result<Task<'a>, AllocError>
     ensures named { IfOk result (IsNamed name.now) }
-    ensures options { IfOk result (HasOptions (rows_of (found_of chosen.now))) }
+    ensures options { IfOk result (HasOptions (rows_of (found_of matches.now))) }
 {
     Ok(if name == "watch" {
-        Task::Watch(watch_options(chosen))
+        Task::Watch(watch_options(matches))
     } else if name == "cover" {
-        Task::Cover(cover_options(alloc, chosen)?)
+        Task::Cover(cover_options(alloc, matches)?)
     } else {
-        Task::Explain(explain_options(chosen))
+        Task::Explain(explain_options(matches))
     })
 }
 
@@ -94,8 +94,8 @@ pub fn task_of(alloc: Global, arguments: &[String]) -> Result<Task<'_>, Error>
     ensures refused { IfErr result (λ error. IsArgumentsFault (map string_bytes arguments.now) (kind_of error)) }
 {
     let matches = whole_command(alloc)?.try_get_matches_from(arguments)?;
-    let Some((name, chosen)) = matches.subcommand() else {
+    let Some((name, matches)) = matches.subcommand() else {
         unreachable!()
     };
-    Ok(chosen_task(alloc, name, chosen)?)
+    Ok(chosen_task(alloc, name, matches)?)
 }

@@ -4,13 +4,13 @@
 
 mod arguments;
 mod check;
-mod chosen;
 mod command;
 mod cover;
 mod fault;
 mod inputs;
 mod machine;
 mod meter;
+mod option_values;
 mod options;
 mod page;
 mod pages;

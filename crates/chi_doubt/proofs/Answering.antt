@@ -8,7 +8,7 @@ use Rattle.std.proofs.lemmas.List.{get_or_default}
 use Rattle.std.proofs.lemmas.List.Elements.{All-more, All-weaker, Contains-append_left, Contains-push}
 use Rattle.chi_lanes.specs.declared.reply.Reply.{Reply}
 use Rattle.chi_trace.specs.declared.operation.Operation.{Operation}
-use Rattle.chi_trace.specs.Chosen.{is_in}
+use Rattle.chi_trace.specs.AtPlaces.{is_in}
 use Rattle.chi_trace.specs.Explains.{is_answered}
 use Rattle.chi_doubt.specs.Explained.{AreAnsweredBeside, AreAnsweredBy, CannotBe, EndsBy, IsExplainedTo}
 use Rattle.chi_search.specs.Looks.{LookedAtLeast, LookedSome}

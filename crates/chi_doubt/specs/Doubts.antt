@@ -1,9 +1,9 @@
 -- what is said of a granule that was not decided
 use Rattle.std.specs.Prelude.{◌≡◌, ℕ, ◌⊎◌, IfSome}
 use Rattle.std.specs.List.{filter}
-use Rattle.chi_trace.specs.Chosen.{is_in}
+use Rattle.chi_trace.specs.AtPlaces.{is_in}
 use Rattle.chi_trace.specs.Traces.{TraceValue}
-use Rattle.chi_trace.specs.Words.{word_told}
+use Rattle.chi_trace.specs.Words.{word_or_zero}
 use Rattle.chi_doubt.specs.declared.doubt.Doubt.{Doubt}
 use Rattle.chi_doubt.specs.Explained.{AreAnsweredBeside, AreAnsweredBy, IsExplainedTo}
 use Rattle.chi_search.specs.Looks.{LookedAtLeast}
@@ -11,7 +11,7 @@ use Rattle.chi_doubt.specs.Open.{most_open}
 
 -- some order explains the granule's operations up to a time, from its word at the opening on
 abbrev pub IsExplainedBy : TraceValue → ℕ → ℕ → Type 0
-IsExplainedBy t g time = IsExplainedTo t.operations g (word_told t.opening g) time
+IsExplainedBy t g time = IsExplainedTo t.operations g (word_or_zero t.opening g) time
 
 -- the granule is explained up to the time, where there is one, and so many of its operations were open at most
 pub record IsDoubt (t : TraceValue) (doubt : Doubt) : Type 0 where

@@ -2,7 +2,7 @@
 use Rattle.std.specs.Prelude.{◌≡◌, ℕ, ◌≤◌, ◌⊎◌, true, List, All, Option, Some, None}
 use Rattle.std.specs.List.{filter}
 use Rattle.chi_trace.specs.declared.operation.Operation.{Operation}
-use Rattle.chi_trace.specs.Chosen.{is_in}
+use Rattle.chi_trace.specs.AtPlaces.{is_in}
 use Rattle.chi_trace.specs.Cuts.{cut}
 use Rattle.chi_trace.specs.Explains.{is_answered}
 use Rattle.chi_trace.specs.Granules.{ExplainsGranule}

@@ -2,7 +2,7 @@
 use Rattle.std.specs.Prelude.{ℕ, nat_le, max, Bool, ◌&&◌, List, [], ◌∷◌, length, map}
 use Rattle.std.specs.List.{filter}
 use Rattle.chi_trace.specs.declared.operation.Operation.{Operation}
-use Rattle.chi_trace.specs.Chosen.{is_in}
+use Rattle.chi_trace.specs.AtPlaces.{is_in}
 
 -- it had started by a time, and had not ended before
 abbrev pub is_open : ℕ → Operation → Bool

@@ -7,7 +7,7 @@ ghost use Rattle.chi_trace.specs.Explains.{IsTrace, is_answered};
 ghost use Rattle.chi_doubt.specs.Explained.{AreAnsweredBeside, AreAnsweredBy, CanBe, CannotBe};
 ghost use Rattle.chi_search.specs.Looks.{LookedAtLeast, LookedSome};
 
-use crate::known::is_explained;
+use crate::up_to_time::is_explained;
 use chi_search::Progress;
 use chi_trace::Operation;
 use std::alloc::{AllocError, Global};

@@ -3,8 +3,8 @@
 
 mod doubt;
 mod explained;
-mod known;
 mod open;
 mod own;
+mod up_to_time;
 
 pub use doubt::{Doubt, doubt_of};

@@ -2,7 +2,7 @@
 
 ghost use Rattle.std.specs.Prelude.{◌≡◌, IfOk};
 ghost use Rattle.std.specs.List.{filter};
-ghost use Rattle.chi_trace.specs.Chosen.{is_in};
+ghost use Rattle.chi_trace.specs.AtPlaces.{is_in};
 ghost use Rattle.chi_trace.specs.Explains.{IsTrace};
 
 use chi_trace::Operation;

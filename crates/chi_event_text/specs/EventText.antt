@@ -16,7 +16,7 @@ use Rattle.chi_reading.specs.declared.member.Member.TheVariants as name
 use Rattle.chi_reading.specs.Member.{member_name}
 use Rattle.chi_reading.specs.Faults.{faultless}
 use Rattle.chi_reading.specs.Refused.{refusal_of}
-use Rattle.chi_reading.specs.Requests.{asked_of, fields_of, seen_of}
+use Rattle.chi_reading.specs.Requests.{fields_of, seen_of, stated_request}
 use Rattle.chi_reading.specs.Told.{start_of, word_of as granule_word}
 use Rattle.chi_reading.specs.Unknown.{unknown_in}
 use Rattle.chi_events.specs.declared.event.Completion.{Completion}
@@ -74,8 +74,8 @@ members_of line.Unknown = name.Event ∷ name.Time ∷ name.Addr ∷ name.Length
 unfoldable pub requested_of : ℕ → Data → Result Requested (MemberFault Member)
 requested_of number d = do
   id ← number_of member_name name.Id (2 ^ 64 - 1) d
-  asked ← if has_data then asked_of number d else fields_of number d
-  Ok (record { id = id; asked = asked; has_data = has_data })
+  fields ← if has_data then stated_request number d else fields_of number d
+  Ok (record { id = id; fields = fields; has_data = has_data })
   where
     has_data : Bool
     has_data = is_some (get (member_name name.Be) d) || is_some (get (member_name name.Lanes) d)

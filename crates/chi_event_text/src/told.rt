@@ -17,7 +17,7 @@ use chi_fields::Refusal;
 use chi_json::{MemberFault, number};
 use chi_lanes::Reply;
 use chi_reading::{
-    Member, granule_start, granule_word, lanes, refusal_named, request_asked, request_fields,
+    Member, granule_start, granule_word, lanes, refusal_named, request_with_data, request_fields,
     seen_reply,
 };
 use chi_trace::GranuleWord;
@@ -40,14 +40,14 @@ fn requested(number_of_line: u64, object: &Value) -> Result<Requested, MemberFau
     let id = number(object, Member::Id, u64::MAX)?;
     let has_data = object.get(Member::Be.name()).is_some()
         || object.get(Member::Lanes.name()).is_some();
-    let asked = if has_data {
-        request_asked(number_of_line, object)?
+    let fields = if has_data {
+        request_with_data(number_of_line, object)?
     } else {
         request_fields(number_of_line, object)?
     };
     Ok(Requested {
         id,
-        asked,
+        fields,
         has_data,
     })
 }

@@ -2,19 +2,19 @@
 
 use chi_event_text::{LineFault, read_event};
 use chi_events::EventKind;
-use chi_trace::{Asked, GranuleWord};
+use chi_trace::{GranuleWord, RequestFields};
 use std::process::Abort;
 
-fn same_asked(asked: &Asked, want: &Asked) -> bool {
-    asked.number == want.number
-        && asked.src == want.src
-        && asked.txn == want.txn
-        && asked.opcode == want.opcode
-        && asked.size == want.size
-        && asked.addr == want.addr
-        && asked.endian == want.endian
-        && asked.be == want.be
-        && asked.lanes == want.lanes
+fn same_asked(fields: &RequestFields, want: &RequestFields) -> bool {
+    fields.number == want.number
+        && fields.src == want.src
+        && fields.txn == want.txn
+        && fields.opcode == want.opcode
+        && fields.size == want.size
+        && fields.addr == want.addr
+        && fields.endian == want.endian
+        && fields.be == want.be
+        && fields.lanes == want.lanes
 }
 
 fn same_word(told: &GranuleWord, want: &GranuleWord) -> bool {
@@ -26,7 +26,7 @@ fn same_kind(kind: &EventKind, want: &EventKind) -> bool {
         (EventKind::Request(told), EventKind::Request(want)) => {
             told.id == want.id
                 && told.has_data == want.has_data
-                && same_asked(&told.asked, &want.asked)
+                && same_asked(&told.fields, &want.fields)
         }
         (EventKind::Data(told), EventKind::Data(want)) => {
             told.id == want.id && told.be == want.be && told.lanes == want.lanes

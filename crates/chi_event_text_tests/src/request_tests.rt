@@ -4,15 +4,15 @@ use crate::comparison::{assert_fault, assert_tells};
 use chi_event_text::LineFault;
 use chi_events::{EventKind, Requested};
 use chi_reading::Member;
-use chi_trace::Asked;
+use chi_trace::RequestFields;
 
 #[test]
 fn requests_with_and_without_data(rt: HostRuntime) {
-    for (line, has_data, asked) in [
+    for (line, has_data, fields) in [
         (
             r#"{"time":70,"event":"request","id":3,"src":513,"txn":65535,"op":48,"size":3,"addr":4096,"endian":1,"be":255,"lanes":"01000000000000000000000000000000"}"#,
             true,
-            Asked {
+            RequestFields {
                 number: 4,
                 src: 513,
                 txn: 65535,
@@ -27,7 +27,7 @@ fn requests_with_and_without_data(rt: HostRuntime) {
         (
             r#"{"time":70,"event":"request","id":3,"src":65535,"txn":0,"op":255,"size":7,"addr":18446744073709551615,"endian":0}"#,
             false,
-            Asked {
+            RequestFields {
                 number: 4,
                 src: 65535,
                 txn: 0,
@@ -42,7 +42,7 @@ fn requests_with_and_without_data(rt: HostRuntime) {
     ] {
         let requested = Requested {
             id: 3,
-            asked,
+            fields,
             has_data,
         };
         assert_tells(&rt, line, EventKind::Request(requested));

@@ -7,11 +7,11 @@ use Rattle.chi_events.specs.declared.event.EventKind.{EventKind}
 use Rattle.chi_events.specs.declared.event.EventKind.TheVariants as event_kind
 use Rattle.chi_events.specs.declared.outstanding.Open.{Open}
 use Rattle.chi_events.specs.Outstanding.{IsEndOfAbout, request_about}
-use Rattle.chi_events.specs.Taking.{Takes, ended_by, with_data, with_reply}
+use Rattle.chi_events.specs.EventEffects.{Takes, ended_by, with_data, with_reply}
 
 module _ (before : List Open) (kind : EventKind) (request : Open) (is : request_about before kind ≡ Some request) where
   -- of a request as it is now, which kept its start and its requester
-  ends : (time : ℕ) (now : Open) → now.start ≡ request.start → now.asked.src ≡ request.asked.src → IfSome (ended_by time now) (IsEndOfAbout before kind)
+  ends : (time : ℕ) (now : Open) → now.start ≡ request.start → now.fields.src ≡ request.fields.src → IfSome (ended_by time now) (IsEndOfAbout before kind)
   ends time now start src = by_parts now.access now.completion
     where
       by_parts : (a : Option Access) (r : Option (Option Reply)) → IfSome (ended_by time (record now { access = a; completion = r })) (IsEndOfAbout before kind)
@@ -19,7 +19,7 @@ module _ (before : List Open) (kind : EventKind) (request : Open) (is : request_
       by_parts (Some a) None = tt
       by_parts (Some a) (Some r) = record { request = request; is = is; start = start; src = src }
 
-  ended : (op : Option Operation) (time : ℕ) (now : Open) → op ≡ ended_by time now → now.start ≡ request.start → now.asked.src ≡ request.asked.src → IfSome op (IsEndOfAbout before kind)
+  ended : (op : Option Operation) (time : ℕ) (now : Open) → op ≡ ended_by time now → now.start ≡ request.start → now.fields.src ≡ request.fields.src → IfSome op (IsEndOfAbout before kind)
   ended op time now same start src = subst (λ (o : Option Operation). IfSome o (IsEndOfAbout before kind)) (sym same) (ends time now start src)
 
 none_ended : (before : List Open) (kind : EventKind) (op : Option Operation) → op ≡ None → IfSome op (IsEndOfAbout before kind)

@@ -11,7 +11,7 @@ use Rattle.chi_events.specs.declared.fault.EventFault.{EventFault}
 use Rattle.chi_events.specs.declared.fault.EventFault.TheVariants as fault
 use Rattle.chi_events.specs.declared.outstanding.Open.{Open}
 use Rattle.chi_events.specs.Outstanding.{kind_fault, open_with}
-use Rattle.chi_events.specs.Taking.{Changes, Takes, ended_by, still_open}
+use Rattle.chi_events.specs.EventEffects.{Changes, Takes, ended_by, still_open}
 use Rattle.chi_events.proofs.Places.{IsAt, changes, no_place}
 
 -- no request has the number

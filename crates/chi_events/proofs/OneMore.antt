@@ -10,8 +10,8 @@ use Rattle.chi_events.specs.declared.event.Packet.{Packet}
 use Rattle.chi_events.specs.declared.outstanding.Open.{Open}
 use Rattle.chi_events.specs.Operations.{is_outstanding}
 use Rattle.chi_events.specs.Outstanding.{IsAccepted, IsEvent, OutstandingValue, Tells, data_fault, kind_fault, open_of, open_with, reply_fault, request_fault}
-use Rattle.chi_events.specs.Taking.{Changes, Takes, ended_by, still_open, with_data, with_reply}
-use Rattle.chi_events.specs.Told.{Told, later_of}
+use Rattle.chi_events.specs.EventEffects.{Changes, Takes, ended_by, still_open, with_data, with_reply}
+use Rattle.chi_events.specs.RequestEvents.{RequestEvents, later_of}
 use Rattle.chi_events.proofs.Extended.{IsAbout, with_event}
 use Rattle.chi_events.proofs.Later.{IsBy, Leaves}
 use Rattle.chi_events.proofs.Steps.{data_leaves, drop_leaves, reply_leaves}
@@ -54,7 +54,7 @@ module _ (events : List Event) (ended : List Operation) (o : OutstandingValue) (
 
   tell_change : (kind : EventKind) (id : ℕ) (left : Open → List Open) (end : Open → Option Operation) (op : Option Operation) (after : List Open)
       → Changes id left end o.requests op after → IsAbout id (record { time = time; kind = kind })
-      → ((t : Told) → IsBy time t → IsAccepted t → is_outstanding t ≡ true → kind_fault o.requests kind ≡ None → open_with id o.requests ≡ Some (open_of t)
+      → ((t : RequestEvents) → IsBy time t → IsAccepted t → is_outstanding t ≡ true → kind_fault o.requests kind ≡ None → open_with id o.requests ≡ Some (open_of t)
       → Leaves (with_event (record { time = time; kind = kind }) t) (left (open_of t)) (end (open_of t)) × IsAccepted (with_event (record { time = time; kind = kind }) t))
       → IsEvent (record { time = time; kind = kind }) → kind_fault o.requests kind ≡ None → Tell kind op after
   tell_change kind id left end op after k about step is_event fault =

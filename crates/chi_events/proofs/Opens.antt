@@ -6,8 +6,8 @@ use Rattle.std.specs.Result.{result_ok}
 use Rattle.std.proofs.lemmas.List.Elements.{All-append, All-cons, All-contains, All-contains_itself, All-nil, All-weaker, Contains-append_left, Contains-append_right}
 use Rattle.chi_fields.specs.Access.{Access}
 use Rattle.chi_lanes.specs.declared.reply.Reply.{Reply}
-use Rattle.chi_trace.specs.Asked.{access_of}
-use Rattle.chi_trace.specs.declared.asked.Asked.{Asked}
+use Rattle.chi_trace.specs.RequestFields.{access_of}
+use Rattle.chi_trace.specs.declared.request_fields.RequestFields.{RequestFields}
 use Rattle.chi_trace.specs.declared.operation.Operation.{Operation}
 use Rattle.chi_trace.proofs.Decided.{accessed_so, value_of}
 use Rattle.chi_events.specs.declared.event.Event.{Event}
@@ -17,14 +17,14 @@ use Rattle.chi_events.specs.declared.event.Requested.{Requested}
 use Rattle.chi_events.specs.declared.outstanding.Open.{Open}
 use Rattle.chi_events.specs.Operations.{is_whole, with_packet}
 use Rattle.chi_events.specs.Outstanding.{IsEndOf, IsOpen, StaysOrStarts}
-use Rattle.chi_events.specs.Taking.{Changes, Takes, ended_by, opened, still_open, with_data, with_reply}
+use Rattle.chi_events.specs.EventEffects.{Changes, Takes, ended_by, opened, still_open, with_data, with_reply}
 
 -- an access at an address, within 2^52 bytes
 pub record IsAccessAt (addr : ℕ) (a : Access) : Type 0 where
   pub at : a.addr ≡ addr
   pub within : a.addr + a.len ≤ 2 ^ 52
 
-pub accessed : (a : Asked) → IfSome (result_ok (access_of None a)) (IsAccessAt a.addr)
+pub accessed : (a : RequestFields) → IfSome (result_ok (access_of None a)) (IsAccessAt a.addr)
 accessed a =
     value_of (access_of None a) (IsAccessAt a.addr)
     (accessed_so None a (IsAccessAt a.addr) tt (λ line kind is passes. record { at = refl; within = omega (arith, passes.below, is.end) }))
@@ -33,35 +33,35 @@ accessed a =
 abbrev HasAccess : ℕ → Option Access → Type 0
 HasAccess addr o = IfSome o (IsAccessAt addr)
 
-open_from : (time : ℕ) (o : Open) → o.start ≤ time → HasAccess o.asked.addr o.access → IsOpen time o
+open_from : (time : ℕ) (o : Open) → o.start ≤ time → HasAccess o.fields.addr o.access → IsOpen time o
 open_from time o before has = record { start = before; at = at_of o.access has; within = within_of o.access has }
   where
-    at_of : (a : Option Access) → HasAccess o.asked.addr a → IfSome a (λ access. access.addr ≡ o.asked.addr)
+    at_of : (a : Option Access) → HasAccess o.fields.addr a → IfSome a (λ access. access.addr ≡ o.fields.addr)
     at_of None has = tt
     at_of (Some a) has = has.at
 
-    within_of : (a : Option Access) → HasAccess o.asked.addr a → IfSome a (λ access. access.addr + access.len ≤ 2 ^ 52)
+    within_of : (a : Option Access) → HasAccess o.fields.addr a → IfSome a (λ access. access.addr + access.len ≤ 2 ^ 52)
     within_of None has = tt
     within_of (Some a) has = has.within
 
-has_access : (time : ℕ) (o : Open) → IsOpen time o → HasAccess o.asked.addr o.access
+has_access : (time : ℕ) (o : Open) → IsOpen time o → HasAccess o.fields.addr o.access
 has_access time o is = by_access o.access is.at is.within
   where
-    by_access : (a : Option Access) → IfSome a (λ access. access.addr ≡ o.asked.addr) → IfSome a (λ access. access.addr + access.len ≤ 2 ^ 52) → HasAccess o.asked.addr a
+    by_access : (a : Option Access) → IfSome a (λ access. access.addr ≡ o.fields.addr) → IfSome a (λ access. access.addr + access.len ≤ 2 ^ 52) → HasAccess o.fields.addr a
     by_access None at within = tt
     by_access (Some a) at within = record { at = at; within = within }
 
 -- the request as an event leaves it, as it was asked
 pub record Follows (time : ℕ) (request now : Open) : Type 0 where
   pub start : now.start ≡ request.start
-  pub asked : now.asked ≡ request.asked
+  pub fields : now.fields ≡ request.fields
   pub before : now.start ≤ time
-  pub has : HasAccess now.asked.addr now.access
+  pub has : HasAccess now.fields.addr now.access
 
 ends_at : (before : List Open) (time : ℕ) (request now : Open) → Contains before request → Follows time request now → IfSome (ended_by time now) (IsEndOf before time)
 ends_at before time request now is follows = by_parts now.access now.completion follows.has
   where
-    by_parts : (a : Option Access) (r : Option (Option Reply)) → HasAccess now.asked.addr a
+    by_parts : (a : Option Access) (r : Option (Option Reply)) → HasAccess now.fields.addr a
         → IfSome (ended_by time (record now { access = a; completion = r })) (IsEndOf before time)
     by_parts None r has = tt
     by_parts (Some a) None has = tt
@@ -69,7 +69,7 @@ ends_at before time request now is follows = by_parts now.access now.completion 
       request = request;
       is = is;
       start = follows.start;
-      at = has.at ∙ ap (λ (a : Asked). a.addr) follows.asked;
+      at = has.at ∙ ap (λ (a : RequestFields). a.addr) follows.fields;
       within = has.within;
       end = refl;
       lasting = follows.before;
@@ -131,7 +131,7 @@ module _ (before : List Open) (first time : ℕ) (open_before : All (IsOpen firs
       now_changes now leaves ends follows = one_changes
           (subst (All (IsOpen time)) (sym leaves) (left_all (IsOpen time) (is_some now.access && is_some now.completion) now (open_from time now follows.before follows.has)))
           (subst (All (StaysOrStarts before e)) (sym leaves)
-          (left_all (StaysOrStarts before e) (is_some now.access && is_some now.completion) now (inr (k.request, has_request, follows.start, follows.asked))))
+          (left_all (StaysOrStarts before e) (is_some now.access && is_some now.completion) now (inr (k.request, has_request, follows.start, follows.fields))))
           (subst (λ (o : Option Operation). IfSome o (IsEndOf before time)) (sym ends) (ends_at before time k.request now has_request follows))
 
   -- a request is taken
@@ -146,8 +146,8 @@ module _ (before : List Open) (first time : ℕ) (open_before : All (IsOpen firs
             (All-cons (StaysOrStarts before e) (opened time r) [] (inl (refl, (r, refl, refl))) (All-nil (StaysOrStarts before e)));
       }
     where
-      by_whole : (b : Bool) → HasAccess r.asked.addr (if b then result_ok (access_of None r.asked) else None)
-      by_whole true = accessed r.asked
+      by_whole : (b : Bool) → HasAccess r.fields.addr (if b then result_ok (access_of None r.fields) else None)
+      by_whole true = accessed r.fields
       by_whole false = tt
 
   pub stays_more : (kind : EventKind) (op : Option Operation) (after : List Open) → Takes kind time before op after → Stays before (record { time = time; kind = kind }) op after
@@ -159,13 +159,13 @@ module _ (before : List Open) (first time : ℕ) (open_before : All (IsOpen firs
       let end = λ (o : Open). ended_by time (with_data p o) in
       let is = is_open takes.request (has_request (event_kind.Data p) p.id left end op after takes) in
       now_changes (event_kind.Data p) p.id left end op after takes (with_data p takes.request) refl refl
-      (record { start = refl; asked = refl; before = is.start; has = accessed (with_packet takes.request.asked p) })
+      (record { start = refl; fields = refl; before = is.start; has = accessed (with_packet takes.request.fields p) })
   stays_more (event_kind.Reply c) op after takes =
       let left = λ (o : Open). still_open (with_reply c o) in
       let end = λ (o : Open). ended_by time (with_reply c o) in
       let is = is_open takes.request (has_request (event_kind.Reply c) c.id left end op after takes) in
       now_changes (event_kind.Reply c) c.id left end op after takes (with_reply c takes.request) refl refl
-      (record { start = refl; asked = refl; before = is.start; has = has_access time takes.request is })
+      (record { start = refl; fields = refl; before = is.start; has = has_access time takes.request is })
   stays_more (event_kind.Dropped id) op after takes =
       let e : Event = record { time = time; kind = event_kind.Dropped id } in
       one_changes (event_kind.Dropped id) id (λ o. []) (λ o. None) op after takes (All-nil (IsOpen time)) (All-nil (StaysOrStarts before e)) tt

@@ -14,8 +14,8 @@ use Rattle.chi_events.specs.declared.event.EventKind.TheVariants as event_kind
 use Rattle.chi_events.specs.declared.outstanding.Open.{Open}
 use Rattle.chi_events.specs.Operations.{first, is_drop, is_outstanding, reason_of, refusal_told, refusals_told, refused_at, refused_told}
 use Rattle.chi_events.specs.Outstanding.{OutstandingValue, Tells, open_of, refusal_by}
-use Rattle.chi_events.specs.Taking.{Changes, Takes}
-use Rattle.chi_events.specs.Told.{Told, later_of, told}
+use Rattle.chi_events.specs.EventEffects.{Changes, Takes}
+use Rattle.chi_events.specs.RequestEvents.{RequestEvents, each_request, later_of}
 use Rattle.chi_events.proofs.Extended.{IsAbout, told_none, told_request, with_event}
 use Rattle.chi_events.proofs.Later.{or_else, refused_more, waiting}
 use Rattle.chi_events.proofs.OneMore.{data_about, drop_about, refused_about, reply_about}
@@ -38,7 +38,7 @@ not_refused (e ∷ later) kept =
 abbrev given_by : EventKind → Option Refusal → Option Refusal
 given_by k refused = option_and_then (λ given. option_or given refused) (refused_at k)
 
-module _ (t : Told) (outstanding : is_outstanding t ≡ true) where
+module _ (t : RequestEvents) (outstanding : is_outstanding t ≡ true) where
   none_before : refused_told t ≡ None
   none_before = not_refused t.later (waiting t outstanding).kept
 
@@ -65,7 +65,7 @@ module _ (events : List Event) (ended : List Operation) (o : OutstandingValue) (
 
   -- the event is about an outstanding request
   changed : (e : Event) (a : List Open) (x : Open) (b : List Open) (reason : Option Refusal) → o.requests ≡ a ++ x ∷ b → IsAbout x.id e
-      → ((t : Told) → open_of t ≡ x → given_by e.kind (refusal_told (with_event e t)) ≡ reason) → Refuses e reason
+      → ((t : RequestEvents) → open_of t ≡ x → given_by e.kind (refusal_told (with_event e t)) ≡ reason) → Refuses e reason
   changed e a x b reason has about given =
       let there = changed_at events ended o e a x b tells has about in
       let s = there.at in
@@ -82,7 +82,7 @@ module _ (events : List Event) (ended : List Operation) (o : OutstandingValue) (
 
   changed_by : (e : Event) (id : ℕ) (left : Open → List Open) (end : Open → Option Operation) (op : Option Operation) (after : List Open) (reason : Option Refusal)
       → (k : Changes id left end o.requests op after) → IsAbout id e
-      → ((t : Told) → open_of t ≡ k.request → given_by e.kind (refusal_told (with_event e t)) ≡ reason) → Refuses e reason
+      → ((t : RequestEvents) → open_of t ≡ k.request → given_by e.kind (refusal_told (with_event e t)) ≡ reason) → Refuses e reason
   changed_by e id left end op after reason k about given = changed e k.first k.request k.rest reason k.was (subst (λ n. IsAbout n e) (sym k.number) about) given
 
   pub refusals_more : (time : ℕ) (kind : EventKind) (op : Option Operation) (after : List Open) → Takes kind time o.requests op after
@@ -91,7 +91,7 @@ module _ (events : List Event) (ended : List Operation) (o : OutstandingValue) (
   refusals_more time (event_kind.Request r) op after takes =
       let e : Event = record { time = time; kind = event_kind.Request r } in
       same e (ap (filter_map reason_of) (told_request e r events refl (λ id. nothing (r.id == id)))
-      ∙ filter_map-append reason_of (told events) (record { time = time; request = r; later = [] } ∷ []) ∙ append-nil (refusals_told events))
+      ∙ filter_map-append reason_of (each_request events) (record { time = time; request = r; later = [] } ∷ []) ∙ append-nil (refusals_told events))
     where
       nothing : (b : Bool) → ◌≡◌ {A = List Event} (if b then [] else []) []
       nothing true = refl

@@ -7,7 +7,7 @@ use Rattle.std.proofs.Math.Bool.{or-false}
 use Rattle.chi_fields.specs.Access.{Access}
 use Rattle.chi_fields.specs.declared.refusal.Refusal.{Refusal}
 use Rattle.chi_lanes.specs.declared.reply.Reply.{Reply}
-use Rattle.chi_trace.specs.Asked.{access_of}
+use Rattle.chi_trace.specs.RequestFields.{access_of}
 use Rattle.chi_trace.specs.declared.operation.Operation.{Operation}
 use Rattle.chi_events.specs.declared.event.Completion.{Completion}
 use Rattle.chi_events.specs.declared.event.Event.{Event}
@@ -17,8 +17,8 @@ use Rattle.chi_events.specs.declared.event.Requested.{Requested}
 use Rattle.chi_events.specs.declared.outstanding.Open.{Open}
 use Rattle.chi_events.specs.Operations.{AccessAt, DataAt, ReplyAt, access_told, data_at, data_told, decided_at, is_drop, is_dropped, is_outstanding, is_whole, refusal_of, refusal_told, refusal_with, reply_at, reply_told, with_packet}
 use Rattle.chi_events.specs.Outstanding.{IsAccepted, data_fault, decided_fault, ended_fault, open_of, reply_fault}
-use Rattle.chi_events.specs.Taking.{ended_by, opened, still_open, with_data, with_reply}
-use Rattle.chi_events.specs.Told.{Told}
+use Rattle.chi_events.specs.EventEffects.{ended_by, opened, still_open, with_data, with_reply}
+use Rattle.chi_events.specs.RequestEvents.{RequestEvents}
 use Rattle.chi_events.proofs.Extended.{with_event}
 use Rattle.chi_events.proofs.Later.{IsBy, Leaves, access_by, data_more, drop_more, dropped, or_else, or_none, reply_by, reply_more, settled, waiting}
 
@@ -59,36 +59,36 @@ earlier_time : (time first second : ℕ) → first ≤ time → time ≡ second 
 earlier_time time first second before same = omega arith
 
 -- what is kept of a request, by whether it came with its data, and by its data and its completion
-abbrev open_by : Told → Bool → Option DataAt → Option ReplyAt → Open
+abbrev open_by : RequestEvents → Bool → Option DataAt → Option ReplyAt → Open
 open_by t whole d r = record {
   id = t.request.id;
   start = t.time;
-  asked = t.request.asked;
+  fields = t.request.fields;
   is_whole = not (not (whole || is_some d));
-  refusal = if whole then refusal_of true (access_of None t.request.asked) else refusal_with t.request.asked d;
+  refusal = if whole then refusal_of true (access_of None t.request.fields) else refusal_with t.request.fields d;
   access = option_map (λ (a : AccessAt). a.access)
-      (if whole then decided_at t.time t.request.asked else option_and_then (λ d. decided_at d.time (with_packet t.request.asked d.packet)) d);
+      (if whole then decided_at t.time t.request.fields else option_and_then (λ d. decided_at d.time (with_packet t.request.fields d.packet)) d);
   completion = option_map (λ (r : ReplyAt). r.reply) r;
 }
 
 -- where no data are told, the access and the refusal stay
-module _ (e : Event) (t : Told) (no_data : data_at e.time e.kind ≡ None) where
+module _ (e : Event) (t : RequestEvents) (no_data : data_at e.time e.kind ≡ None) where
   same_data : data_told (with_event e t) ≡ data_told t
   same_data = data_more e t ∙ ap (or_else (data_told t)) no_data ∙ or_none (data_told t)
 
   same_access : access_told (with_event e t) ≡ access_told t
-  same_access = ap (λ (o : Option DataAt). if is_whole t.request then decided_at t.time t.request.asked
-      else option_and_then (λ d. decided_at d.time (with_packet t.request.asked d.packet)) o) same_data
+  same_access = ap (λ (o : Option DataAt). if is_whole t.request then decided_at t.time t.request.fields
+      else option_and_then (λ d. decided_at d.time (with_packet t.request.fields d.packet)) o) same_data
 
   pub same_refusal : refusal_told (with_event e t) ≡ refusal_told t
-  same_refusal = ap (λ (o : Option DataAt). if is_whole t.request then refusal_of true (access_of None t.request.asked) else refusal_with t.request.asked o) same_data
+  same_refusal = ap (λ (o : Option DataAt). if is_whole t.request then refusal_of true (access_of None t.request.fields) else refusal_with t.request.fields o) same_data
 
   same_accepted : reply_at e.time e.kind ≡ None → IsAccepted t → IsAccepted (with_event e t)
   same_accepted no_reply accepted = record {
     decided = λ some. same_refusal ∙ accepted.decided (ap is_some (sym (reply_more e t ∙ ap (or_else (reply_told t)) no_reply ∙ or_none (reply_told t))) ∙ some);
   }
 
-module _ (time : ℕ) (t : Told) (by : IsBy time t) (accepted : IsAccepted t) (outstanding : is_outstanding t ≡ true) where
+module _ (time : ℕ) (t : RequestEvents) (by : IsBy time t) (accepted : IsAccepted t) (outstanding : is_outstanding t ≡ true) where
   -- an event by which it took no effect
   pub drop_leaves : (e : Event) → data_at e.time e.kind ≡ None → reply_at e.time e.kind ≡ None → is_drop e.kind ≡ true
       → Leaves (with_event e t) [] None × IsAccepted (with_event e t)
@@ -123,17 +123,17 @@ module _ (time : ℕ) (t : Told) (by : IsBy time t) (accepted : IsAccepted t) (o
       Leaves (with_event e t) (still_open (with_data p (open_of t))) (ended_by time (with_data p (open_of t))) × IsAccepted (with_event e t)
   data_leaves p fault =
       let e : Event = record { time = time; kind = event_kind.Data p } in
-      let decision = access_of None (with_packet t.request.asked p) in
+      let decision = access_of None (with_packet t.request.fields p) in
       let faults = no_fault _ _ (decided_fault (open_of t).completion decision) fault in
       let waits = or_parts (is_whole t.request) (is_some (data_told t)) (not-true _ (not-false _ faults.0)) in
       let at : DataAt = record { time = time; packet = p } in
       let came : data_told (with_event e t) ≡ Some at = data_more e t ∙ ap (λ o. or_else o (Some at)) (none_from (data_told t) waits.1) in
-      let access : access_told (with_event e t) ≡ decided_at time (with_packet t.request.asked p) =
-      ap (λ b. if b then decided_at t.time t.request.asked else option_and_then (λ d. decided_at d.time (with_packet t.request.asked d.packet)) (data_told (with_event e t))) waits.0
-      ∙ ap (λ (o : Option DataAt). option_and_then (λ d. decided_at d.time (with_packet t.request.asked d.packet)) o) came in
+      let access : access_told (with_event e t) ≡ decided_at time (with_packet t.request.fields p) =
+      ap (λ b. if b then decided_at t.time t.request.fields else option_and_then (λ d. decided_at d.time (with_packet t.request.fields d.packet)) (data_told (with_event e t))) waits.0
+      ∙ ap (λ (o : Option DataAt). option_and_then (λ d. decided_at d.time (with_packet t.request.fields d.packet)) o) came in
       let refused : refusal_told (with_event e t) ≡ refusal_of true decision =
-      ap (λ b. if b then refusal_of true (access_of None t.request.asked) else refusal_with t.request.asked (data_told (with_event e t))) waits.0
-      ∙ ap (refusal_with t.request.asked) came in
+      ap (λ b. if b then refusal_of true (access_of None t.request.fields) else refusal_with t.request.fields (data_told (with_event e t))) waits.0
+      ∙ ap (refusal_with t.request.fields) came in
       let reply : reply_told (with_event e t) ≡ reply_told t = reply_more e t ∙ or_none (reply_told t) in
       let same : open_of (with_event e t) ≡ with_data p (open_of t) =
       ap (λ b. open_by t b (data_told (with_event e t)) (reply_told (with_event e t))) waits.0
@@ -148,16 +148,16 @@ module _ (time : ℕ) (t : Told) (by : IsBy time t) (accepted : IsAccepted t) (o
       )
 
 -- what is left of a request that was taken
-abbrev pub new : ℕ → Requested → Told
+abbrev pub new : ℕ → Requested → RequestEvents
 new time r = record { time = time; request = r; later = [] }
 
 open_first : (time : ℕ) (r : Requested) (whole : Bool)
     → open_by (new time r) whole None None ≡ record (opened time r) {
       is_whole = whole;
-      refusal = refusal_of whole (access_of None r.asked);
-      access = if whole then result_ok (access_of None r.asked) else None;
+      refusal = refusal_of whole (access_of None r.fields);
+      access = if whole then result_ok (access_of None r.fields) else None;
     }
-open_first time r true = ap (λ (a : Option Access). record (open_by (new time r) true None None) { access = a }) (decided_access time (result_ok (access_of None r.asked)))
+open_first time r true = ap (λ (a : Option Access). record (open_by (new time r) true None None) { access = a }) (decided_access time (result_ok (access_of None r.fields)))
 open_first time r false = refl
 
 open_left : (a : Option Access) (o : Open) → a ≡ o.access → o.completion ≡ None → still_open o ≡ o ∷ []

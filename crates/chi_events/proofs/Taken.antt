@@ -15,8 +15,8 @@ use Rattle.chi_events.specs.declared.event.Requested.{Requested}
 use Rattle.chi_events.specs.declared.outstanding.Open.{Open}
 use Rattle.chi_events.specs.Operations.{is_outstanding, operation_of}
 use Rattle.chi_events.specs.Outstanding.{IsAccepted, IsEvent, OutstandingValue, Tells, open_of, open_with}
-use Rattle.chi_events.specs.Taking.{opened}
-use Rattle.chi_events.specs.Told.{Told, is_about, is_request_of, later_of, requested, told, told_by}
+use Rattle.chi_events.specs.EventEffects.{opened}
+use Rattle.chi_events.specs.RequestEvents.{RequestEvents, each_request, is_about, is_request_of, later_of, request_events, requested}
 use Rattle.chi_events.proofs.Extended.{IsAbout, has_id, told_at, told_none, told_request, with_event}
 use Rattle.chi_events.proofs.Later.{IsBy, Leaves}
 use Rattle.chi_events.proofs.Splits.{Split, all_changed, all_item, middle_last, pairs_changed, pairs_item, split_at}
@@ -36,15 +36,15 @@ module _ (time : ℕ) where
       by_tests false true here rest = All-cons (λ e. e.time ≤ time) e (later_of id events) here rest
       by_tests false false here rest = rest
 
-  pub all_by : (events : List Event) → All (λ e. e.time ≤ time) events → All (IsBy time) (told events)
-  unfolding told
+  pub all_by : (events : List Event) → All (λ e. e.time ≤ time) events → All (IsBy time) (each_request events)
+  unfolding each_request
   all_by [] all = All-nil (IsBy time)
   all_by (e ∷ events) all = by_request (requested e.kind) (all_by events (All-tail (λ e. e.time ≤ time) e events all))
     where
-      by_request : (q : Option Requested) → All (IsBy time) (told events) → All (IsBy time) (told_by e.time q events ++ told events)
+      by_request : (q : Option Requested) → All (IsBy time) (each_request events) → All (IsBy time) (request_events e.time q events ++ each_request events)
       by_request None rest = rest
       by_request (Some r) rest =
-          All-cons (IsBy time) (record { time = e.time; request = r; later = later_of r.id events }) (told events)
+          All-cons (IsBy time) (record { time = e.time; request = r; later = later_of r.id events }) (each_request events)
           (record { start = All-head (λ e. e.time ≤ time) e events all; later = later_by r.id events (All-tail (λ e. e.time ≤ time) e events all) }) rest
 
 -- lists in three parts
@@ -61,10 +61,10 @@ ended_middle p f xs t ys =
     ∙ ap (λ l. filter_map f (filter p xs) ++ l) (ap (filter_map f) (filter-append p (t ∷ []) ys) ∙ filter_map-append f (filter p (t ∷ [])) (filter p ys))
 
 -- an outstanding request, and one later of another number
-abbrev Parts : Told → Told → Type 0
+abbrev Parts : RequestEvents → RequestEvents → Type 0
 Parts t later = is_outstanding t ≡ true → t.request.id ≡ later.request.id → ⊥
 
-no_later : (n : ℕ) (ts : List Told) → All (λ t. n ≡ t.request.id → ⊥) ts → has_id n ts ≡ false
+no_later : (n : ℕ) (ts : List RequestEvents) → All (λ t. n ≡ t.request.id → ⊥) ts → has_id n ts ≡ false
 no_later n [] all = refl
 no_later n (t ∷ ts) all =
     or_from (t.request.id == n) (has_id n ts) (ne_eqb t.request.id n (λ same. All-head (λ t. n ≡ t.request.id → ⊥) t ts all (sym same)))
@@ -82,14 +82,14 @@ times_more events e time all later =
 
 -- the outstanding request that an event is about, and what the events and this one tell
 pub record IsChanged (events : List Event) (e : Event) (a : List Open) (x : Open) (b : List Open) : Type 0 where
-  pub at : Split is_outstanding open_of (told events) a x b
+  pub at : Split is_outstanding open_of (each_request events) a x b
   pub apart : All (λ y. at.item.request.id ≡ y.request.id → ⊥) at.after
-  pub is : told (events ++ e ∷ []) ≡ at.before ++ with_event e at.item ∷ at.after
+  pub is : each_request (events ++ e ∷ []) ≡ at.before ++ with_event e at.item ∷ at.after
 
 pub changed_at : (events : List Event) (ended : List Operation) (o : OutstandingValue) (e : Event) (a : List Open) (x : Open) (b : List Open)
     → Tells events ended o → o.requests ≡ a ++ x ∷ b → IsAbout x.id e → IsChanged events e a x b
 changed_at events ended o e a x b tells has about =
-    let s = split_at is_outstanding open_of (told events) a x b (sym tells.requests ∙ has) in
+    let s = split_at is_outstanding open_of (each_request events) a x b (sym tells.requests ∙ has) in
     let id : s.item.request.id ≡ x.id = ap (λ (o : Open). o.id) s.same in
     let after = pairs_item Parts s.before s.item s.after (subst (AllPairs Parts) s.is tells.last) in
     let apart : All (λ y. s.item.request.id ≡ y.request.id → ⊥) s.after = λ k d below same. after k d below s.passes same in
@@ -99,7 +99,7 @@ changed_at events ended o e a x b tells has about =
 -- the event is about an outstanding request
 pub changed : (events : List Event) (ended : List Operation) (o : OutstandingValue) (e : Event) (a : List Open) (x : Open) (b left : List Open) (op : Option Operation)
     → Tells events ended o → o.requests ≡ a ++ x ∷ b → IsAbout x.id e → o.time ≤ e.time → IsEvent e
-    → ((t : Told) → IsBy e.time t → IsAccepted t → is_outstanding t ≡ true → open_of t ≡ x → Leaves (with_event e t) left op × IsAccepted (with_event e t))
+    → ((t : RequestEvents) → IsBy e.time t → IsAccepted t → is_outstanding t ≡ true → open_of t ≡ x → Leaves (with_event e t) left op × IsAccepted (with_event e t))
     → Tells (events ++ e ∷ []) (ended ++ option_to_list op) (record { requests = a ++ (left ++ b); time = e.time })
 changed events ended o e a x b left op tells has about later is_event step =
     let there = changed_at events ended o e a x b tells has about in
@@ -114,18 +114,18 @@ changed events ended o e a x b left op tells has about later is_event step =
     let rest = filter_map operation_of (filter (λ x. not (is_outstanding x)) s.after) in
     let ends : IsPermutation (first ++ rest) ended =
     subst (λ (l : List Operation). IsPermutation l ended)
-    (ap (λ (l : List Told). filter_map operation_of (filter (λ x. not (is_outstanding x)) l)) s.is ∙ ended_middle (λ x. not (is_outstanding x)) operation_of s.before t s.after
+    (ap (λ (l : List RequestEvents). filter_map operation_of (filter (λ x. not (is_outstanding x)) l)) s.is ∙ ended_middle (λ x. not (is_outstanding x)) operation_of s.before t s.after
     ∙ ap (λ (c : Bool). first ++ (filter_map operation_of (cond (not c) (t ∷ []) []) ++ rest)) s.passes) tells.ends in
     record {
       bounds = All-push IsEvent events e tells.bounds is_event;
       in_time = in_time_more events e o.time tells.in_time tells.times later;
       times = times_more events e o.time tells.times later;
-      requests = sym (ap (λ (l : List Told). map open_of (filter is_outstanding l)) is ∙ kept_middle is_outstanding open_of s.before (with_event e t) s.after
+      requests = sym (ap (λ (l : List RequestEvents). map open_of (filter is_outstanding l)) is ∙ kept_middle is_outstanding open_of s.before (with_event e t) s.after
           ∙ ap (λ (l : List Open). l ++ (map open_of (filter is_outstanding (with_event e t ∷ [])) ++ map open_of (filter is_outstanding s.after))) s.first
           ∙ ap (λ (l : List Open). a ++ (l ++ map open_of (filter is_outstanding s.after))) done.0.keeps
           ∙ ap (λ (l : List Open). a ++ (left ++ l)) s.rest);
       ends = subst (λ (l : List Operation). IsPermutation l (ended ++ option_to_list op))
-          (sym (ap (λ (l : List Told). filter_map operation_of (filter (λ x. not (is_outstanding x)) l)) is
+          (sym (ap (λ (l : List RequestEvents). filter_map operation_of (filter (λ x. not (is_outstanding x)) l)) is
           ∙ ended_middle (λ x. not (is_outstanding x)) operation_of s.before (with_event e t) s.after ∙ ap (λ (l : List Operation). first ++ (l ++ rest)) done.0.ends))
           (middle_last first op rest ended ends);
       last = subst (AllPairs Parts) (sym is) (pairs_changed Parts s.before t (with_event e t) s.after last (λ z apart. apart) (λ k d below outstanding. there.apart k d below));
@@ -133,7 +133,7 @@ changed events ended o e a x b left op tells has about later is_event step =
     }
 
 -- no outstanding request has a number
-not_open : (n : ℕ) (ts : List Told) → open_with n (map open_of (filter is_outstanding ts)) ≡ None → All (λ t. is_outstanding t ≡ true → t.request.id ≡ n → ⊥) ts
+not_open : (n : ℕ) (ts : List RequestEvents) → open_with n (map open_of (filter is_outstanding ts)) ≡ None → All (λ t. is_outstanding t ≡ true → t.request.id ≡ n → ⊥) ts
 not_open n [] none = All-nil (λ t. is_outstanding t ≡ true → t.request.id ≡ n → ⊥)
 not_open n (t ∷ ts) none =
     let parts = by_test (is_outstanding t) none in
@@ -164,16 +164,16 @@ started events ended o time r tells later is_event none =
       bounds = All-push IsEvent events e tells.bounds is_event;
       in_time = in_time_more events e o.time tells.in_time tells.times later;
       times = times_more events e o.time tells.times later;
-      requests = sym (ap (λ (l : List Told). map open_of (filter is_outstanding l)) is ∙ kept_middle is_outstanding open_of (told events) (new time r) []
-          ∙ ap (λ (l : List Open). map open_of (filter is_outstanding (told events)) ++ (l ++ [])) leaves.keeps
+      requests = sym (ap (λ (l : List RequestEvents). map open_of (filter is_outstanding l)) is ∙ kept_middle is_outstanding open_of (each_request events) (new time r) []
+          ∙ ap (λ (l : List Open). map open_of (filter is_outstanding (each_request events)) ++ (l ++ [])) leaves.keeps
           ∙ ap (λ (l : List Open). l ++ opened time r ∷ []) (sym tells.requests));
       ends = subst (λ (l : List Operation). IsPermutation l ended)
-          (sym (ap (λ (l : List Told). filter_map operation_of (filter (λ x. not (is_outstanding x)) l)) is ∙ ended_middle (λ x. not (is_outstanding x)) operation_of (told events) (new time r) []
-          ∙ ap (λ (l : List Operation). filter_map operation_of (filter (λ x. not (is_outstanding x)) (told events)) ++ (l ++ [])) leaves.ends
-          ∙ append-nil (filter_map operation_of (filter (λ x. not (is_outstanding x)) (told events))))) tells.ends;
-      last = subst (AllPairs Parts) (sym is) (all_pairs_push Parts (told events) (new time r) tells.last
-          (not_open r.id (told events) (ap (open_with r.id) (sym tells.requests) ∙ none)));
-      accepted = subst (All IsAccepted) (sym is) (All-push IsAccepted (told events) (new time r) tells.accepted (request_accepted time r));
+          (sym (ap (λ (l : List RequestEvents). filter_map operation_of (filter (λ x. not (is_outstanding x)) l)) is ∙ ended_middle (λ x. not (is_outstanding x)) operation_of (each_request events) (new time r) []
+          ∙ ap (λ (l : List Operation). filter_map operation_of (filter (λ x. not (is_outstanding x)) (each_request events)) ++ (l ++ [])) leaves.ends
+          ∙ append-nil (filter_map operation_of (filter (λ x. not (is_outstanding x)) (each_request events))))) tells.ends;
+      last = subst (AllPairs Parts) (sym is) (all_pairs_push Parts (each_request events) (new time r) tells.last
+          (not_open r.id (each_request events) (ap (open_with r.id) (sym tells.requests) ∙ none)));
+      accepted = subst (All IsAccepted) (sym is) (All-push IsAccepted (each_request events) (new time r) tells.accepted (request_accepted time r));
     }
   where
     nothing : (b : Bool) → ◌≡◌ {A = List Event} (if b then [] else []) []
@@ -189,8 +189,8 @@ passed events ended o e tells later is_event no_request none =
       bounds = All-push IsEvent events e tells.bounds is_event;
       in_time = in_time_more events e o.time tells.in_time tells.times later;
       times = times_more events e o.time tells.times later;
-      requests = tells.requests ∙ ap (λ (l : List Told). map open_of (filter is_outstanding l)) (sym is);
-      ends = subst (λ (l : List Told). IsPermutation (filter_map operation_of (filter (λ x. not (is_outstanding x)) l)) ended) (sym is) tells.ends;
+      requests = tells.requests ∙ ap (λ (l : List RequestEvents). map open_of (filter is_outstanding l)) (sym is);
+      ends = subst (λ (l : List RequestEvents). IsPermutation (filter_map operation_of (filter (λ x. not (is_outstanding x)) l)) ended) (sym is) tells.ends;
       last = subst (AllPairs Parts) (sym is) tells.last;
       accepted = subst (All IsAccepted) (sym is) tells.accepted;
     }

@@ -1,5 +1,5 @@
-pub mod Told
+pub mod RequestEvents
 pub mod Operations
 pub mod Outstanding
-pub mod Taking
+pub mod EventEffects
 pub mod EventLaws

@@ -9,8 +9,8 @@ use Rattle.chi_fields.specs.declared.refusal.Refusal.{Refusal}
 use Rattle.chi_fields.specs.declared.refusal.Refusal.TheVariants as refusal
 use Rattle.chi_lanes.specs.declared.reply.Reply.{Reply}
 use Rattle.chi_trace.specs.Replies.{reply_fault as seen_fault}
-use Rattle.chi_trace.specs.Asked.{IsPacket, access_of, as_operation}
-use Rattle.chi_trace.specs.declared.asked.Asked.{Asked}
+use Rattle.chi_trace.specs.RequestFields.{IsPacket, access_of, as_operation}
+use Rattle.chi_trace.specs.declared.request_fields.RequestFields.{RequestFields}
 use Rattle.chi_trace.specs.declared.operation.Operation.{Operation}
 use Rattle.chi_events.specs.declared.event.Completion.{Completion}
 use Rattle.chi_events.specs.declared.event.Event.{Event}
@@ -22,7 +22,7 @@ use Rattle.chi_events.specs.declared.fault.EventFault.{EventFault}
 use Rattle.chi_events.specs.declared.fault.EventFault.TheVariants as fault
 use Rattle.chi_events.specs.declared.outstanding.Open.{Open}
 use Rattle.chi_events.specs.Operations.{access_told, is_outstanding, operation_of, refusal_of, refusal_told, reply_told, waits_for_data, with_packet}
-use Rattle.chi_events.specs.Told.{Told, requested, told}
+use Rattle.chi_events.specs.RequestEvents.{RequestEvents, each_request, requested}
 
 -- the outstanding requests in the order in which they were taken, and the time of the last event
 pub record OutstandingValue : Type 0 where
@@ -32,15 +32,15 @@ pub record OutstandingValue : Type 0 where
 -- it was taken by now, and its access, once its data have come, is at its address and within 2^52 bytes
 pub record IsOpen (time : ℕ) (o : Open) : Type 0 where
   pub start : o.start ≤ time
-  pub at : IfSome o.access (λ access. access.addr ≡ o.asked.addr)
+  pub at : IfSome o.access (λ access. access.addr ≡ o.fields.addr)
   pub within : IfSome o.access (λ access. access.addr + access.len ≤ 2 ^ 52)
 
 -- what is kept of a request
-abbrev pub open_of : Told → Open
+abbrev pub open_of : RequestEvents → Open
 open_of t = record {
   id = t.request.id;
   start = t.time;
-  asked = t.request.asked;
+  fields = t.request.fields;
   is_whole = not (waits_for_data t);
   refusal = refusal_told t;
   access = option_map (λ a. a.access) (access_told t);
@@ -49,11 +49,11 @@ open_of t = record {
 
 -- the operation that an outstanding request is, once its data have come: it is open
 abbrev pub open_operation : Open → Option Operation
-open_operation o = option_map (λ access. as_operation o.asked access o.start (2 ^ 64 - 1) None) o.access
+open_operation o = option_map (λ access. as_operation o.fields access o.start (2 ^ 64 - 1) None) o.access
 
 -- the data that an event tells are a packet
 abbrev pub HasPacket : EventKind → Type 0
-HasPacket (event_kind.Request r) = IsPacket r.asked.be r.asked.lanes
+HasPacket (event_kind.Request r) = IsPacket r.fields.be r.fields.lanes
 HasPacket (event_kind.Data p) = IsPacket p.be p.lanes
 HasPacket _ = Unit {0}
 
@@ -70,7 +70,7 @@ pub record IsEvent (e : Event) : Type 0 where
   pub word : HasWord e.kind
 
 -- a request whose completion has left was accepted: a home of all addresses does not refuse it, as far as that is decided
-pub record IsAccepted (t : Told) : Type 0 where
+pub record IsAccepted (t : RequestEvents) : Type 0 where
   pub decided : is_some (reply_told t) ≡ true → refusal_told t ≡ None
 
 -- These requests are outstanding after the events, and these operations had ended, in some order. An outstanding request is the
@@ -79,10 +79,10 @@ pub record Tells (events : List Event) (ended : List Operation) (o : Outstanding
   pub bounds : All IsEvent events
   pub in_time : IsNonDecreasingBy (λ (e : Event). e.time) events
   pub times : All (λ e. e.time ≤ o.time) events
-  pub requests : o.requests ≡ map open_of (filter is_outstanding (told events))
-  pub ends : IsPermutation (filter_map operation_of (filter (λ t. not (is_outstanding t)) (told events))) ended
-  pub last : AllPairs (λ t later. is_outstanding t ≡ true → t.request.id ≡ later.request.id → ⊥) (told events)
-  pub accepted : All IsAccepted (told events)
+  pub requests : o.requests ≡ map open_of (filter is_outstanding (each_request events))
+  pub ends : IsPermutation (filter_map operation_of (filter (λ t. not (is_outstanding t)) (each_request events))) ended
+  pub last : AllPairs (λ t later. is_outstanding t ≡ true → t.request.id ≡ later.request.id → ⊥) (each_request events)
+  pub accepted : All IsAccepted (each_request events)
 
 -- the outstanding request with this number
 abbrev pub open_with : ℕ → List Open → Option Open
@@ -114,7 +114,7 @@ decided_fault completion decision = ended_fault (refusal_of true decision) (resu
 
 abbrev pub data_fault : Packet → Option Open → Option EventFault
 data_fault p None = Some fault.NotOutstanding
-data_fault p (Some o) = if o.is_whole then Some fault.DataTwice else decided_fault o.completion (access_of None (with_packet o.asked p))
+data_fault p (Some o) = if o.is_whole then Some fault.DataTwice else decided_fault o.completion (access_of None (with_packet o.fields p))
 
 abbrev pub reply_fault : Completion → Option Open → Option EventFault
 reply_fault c None = Some fault.NotOutstanding
@@ -143,14 +143,14 @@ abbrev pub line_without : ℕ → Extent
 line_without addr = record { base = if nat_lt addr 64 then 64 else 0; granules = 8 }
 
 -- why a home refuses a request whose operand is not in its region
-abbrev pub refusal_elsewhere : Asked → Option Refusal
+abbrev pub refusal_elsewhere : RequestFields → Option Refusal
 refusal_elsewhere a = result_err (access_of (Some (line_without a.addr)) a)
 
 -- A home may refuse the request for this reason: a home of all addresses, or one of a region without the operand, or either for
 -- byte enables that are still to come.
 abbrev pub is_reason : Open → Refusal → Bool
 is_reason o reason =
-    is_given reason o.refusal || is_given reason (refusal_elsewhere o.asked)
+    is_given reason o.refusal || is_given reason (refusal_elsewhere o.fields)
     || (not o.is_whole && is_none o.refusal && is_same reason refusal.BadByteEnable)
 
 abbrev pub reason_fault : Open → Option Refusal → Option EventFault
@@ -182,18 +182,18 @@ fault_of o e = if nat_lt e.time o.time then Some fault.TimeFalls else kind_fault
 
 -- the event is its request
 abbrev pub IsTakenBy : Event → Open → Type 0
-IsTakenBy e o = (o.start ≡ e.time) × ((r : Requested) × (requested e.kind ≡ Some r) × (o.asked ≡ r.asked))
+IsTakenBy e o = (o.start ≡ e.time) × ((r : Requested) × (requested e.kind ≡ Some r) × (o.fields ≡ r.fields))
 
 -- an outstanding request was so before, or was taken by this event
 abbrev pub StaysOrStarts : List Open → Event → Open → Type 0
-StaysOrStarts before e o = IsTakenBy e o ⊎ ((p : Open) × Contains before p × (o.start ≡ p.start) × (o.asked ≡ p.asked))
+StaysOrStarts before e o = IsTakenBy e o ⊎ ((p : Open) × Contains before p × (o.start ≡ p.start) × (o.fields ≡ p.fields))
 
 -- the operation is one of these requests, and ended at this time
 pub record IsEndOf (before : List Open) (time : ℕ) (op : Operation) : Type 0 where
   pub request : Open
   pub is : Contains before request
   pub start : op.start ≡ request.start
-  pub at : op.access.addr ≡ request.asked.addr
+  pub at : op.access.addr ≡ request.fields.addr
   pub within : op.access.addr + op.access.len ≤ 2 ^ 52
   pub end : op.end ≡ time
   pub lasting : op.start ≤ op.end
@@ -203,4 +203,4 @@ pub record IsEndOfAbout (before : List Open) (kind : EventKind) (op : Operation)
   pub request : Open
   pub is : request_about before kind ≡ Some request
   pub start : op.start ≡ request.start
-  pub src : op.src ≡ request.asked.src
+  pub src : op.src ≡ request.fields.src

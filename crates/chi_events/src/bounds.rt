@@ -1,7 +1,7 @@
 //! What is true of every event, since its numbers fit their types. Each function does nothing: its contract is for proofs.
 
 ghost use Rattle.std.specs.Prelude.{◌^◌, ◌<◌};
-ghost use Rattle.chi_trace.specs.Asked.{IsPacket};
+ghost use Rattle.chi_trace.specs.RequestFields.{IsPacket};
 ghost use Rattle.chi_events.specs.Outstanding.{HasPacket, HasWord, IsEvent};
 
 use crate::event::{Event, EventKind};
@@ -22,7 +22,7 @@ fn kind_fits(kind: EventKind)
     ensures word { HasWord kind }
 {
     match kind {
-        EventKind::Request(requested) => packet_fits(requested.asked.be, requested.asked.lanes),
+        EventKind::Request(requested) => packet_fits(requested.fields.be, requested.fields.lanes),
         EventKind::Data(packet) => packet_fits(packet.be, packet.lanes),
         EventKind::Word(told) => word_fits(told.word),
         EventKind::Final(told) => word_fits(told.word),

@@ -2,14 +2,14 @@
 
 use chi_fields::Refusal;
 use chi_lanes::Reply;
-use chi_trace::{Asked, GranuleWord};
+use chi_trace::{GranuleWord, RequestFields};
 
 /// A request that a home has taken. `id` is a number that no other outstanding request has. Its data have come with it, or are
 /// told by a later event; until then its byte enables and lanes are 0.
 #[derive(Clone, Copy, Debug)]
 pub struct Requested {
     pub id: u64,
-    pub asked: Asked,
+    pub fields: RequestFields,
     pub has_data: bool,
 }
 

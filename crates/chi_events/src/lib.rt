@@ -1,13 +1,13 @@
 //! Events of a home, as a monitor tells them, and the trace that they are. Source: profile.
 #![tactic(auto)]
 
+mod apply_event;
 mod bounds;
 mod deciding;
 mod event;
 mod fault;
 pub mod laws;
 mod outstanding;
-mod taking;
 
 pub use event::{Completion, Event, EventKind, Packet, Requested};
 pub use fault::EventFault;

@@ -6,13 +6,13 @@ ghost use Rattle.chi_events.specs.declared.event.Event.{Event};
 ghost use Rattle.chi_events.specs.Operations.{refusals_told};
 ghost use Rattle.chi_events.specs.Outstanding.{IsEndOf, IsEndOfAbout, IsOpen, StaysOrStarts, Tells, fault_of, open_operation, refusal_by, request_about};
 
+use crate::apply_event::{apply_event, refusal_by, request_about};
 use crate::bounds::event_fits;
 use crate::event::Event;
 use crate::fault::EventFault;
-use crate::taking::{refusal_by, request_about, take_kind};
 use chi_fields::{Access, Refusal};
 use chi_lanes::Reply;
-use chi_trace::{Asked, Operation};
+use chi_trace::{Operation, RequestFields};
 use std::alloc::Global;
 use std::marker::Model;
 
@@ -23,7 +23,7 @@ use std::marker::Model;
 pub struct Open {
     pub id: u64,
     pub start: u64,
-    pub asked: Asked,
+    pub fields: RequestFields,
     pub is_whole: bool,
     pub refusal: Option<Refusal>,
     pub access: Option<Access>,
@@ -40,7 +40,7 @@ impl Open {
         ensures { result ≡ open_operation self.now }
     {
         let access = self.access?;
-        Some(self.asked.operation(access, self.start, u64::MAX, None))
+        Some(self.fields.operation(access, self.start, u64::MAX, None))
     }
 }
 
@@ -109,7 +109,7 @@ impl Outstanding {
             return Err(EventFault::TimeFalls);
         }
         event_fits(event);
-        let ended = take_kind(&mut self.requests, event.time, &event.kind)?;
+        let ended = apply_event(&mut self.requests, event.time, &event.kind)?;
         self.time = event.time;
         Ok(ended)
     }
@@ -119,11 +119,11 @@ impl Outstanding {
     /// ```
     /// let addr = outstanding.about(&event)?.addr;
     /// ```
-    pub fn about(&self, event: &Event) -> Option<Asked>
-        ensures { result ≡ option_map (λ o. o.asked) (request_about self.now.requests event.now.kind) }
+    pub fn about(&self, event: &Event) -> Option<RequestFields>
+        ensures { result ≡ option_map (λ o. o.fields) (request_about self.now.requests event.now.kind) }
     {
         let request = request_about(&self.requests, &event.kind)?;
-        Some(request.asked)
+        Some(request.fields)
     }
 
     /// Why a home refused a request, where the event tells that one did: the reason that is told, or else the one for which a

@@ -7,7 +7,7 @@ use Rattle.std.specs.List.{AllPairs, list_any}
 use Rattle.chi_trace.specs.declared.operation.Operation.{Operation}
 use Rattle.chi_trace.specs.Explains.{at, is_place}
 use Rattle.chi_trace.specs.Granules.{granule_of, is_of}
-use Rattle.chi_excerpt.specs.Chosen.{AreLast, IsLatest, can_come, ends_before, ends_first, may_be_shown}
+use Rattle.chi_excerpt.specs.LastEnded.{AreLast, IsLatest, can_come, ends_before, ends_first, may_be_shown}
 
 -- one ended before another: at an earlier time, or at the same and stands before it
 abbrev Earlier : List Operation → ℕ → ℕ → Type 0

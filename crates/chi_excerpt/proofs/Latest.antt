@@ -2,7 +2,7 @@
 use Rattle.std.proofs.Common.{◌≡◌, ℕ, ◌+◌, ◌<◌, ◌≤◌, nat_lt, Bool, true, false, List, Option, None, Some, ◌⊎◌, inl, inr, true≢false, ltb-true, ltb-false, refl, sym, ap, ◌∙◌, arith}
 use Rattle.chi_trace.specs.declared.operation.Operation.{Operation}
 use Rattle.chi_trace.specs.Explains.{at}
-use Rattle.chi_excerpt.specs.Chosen.{ends_first}
+use Rattle.chi_excerpt.specs.LastEnded.{ends_first}
 
 pub first_by_end : (ops : List Operation) (i j : ℕ) → i < j → (at ops i).end ≤ (at ops j).end → ends_first ops i j ≡ true
 first_by_end ops i j below ends = grind (arith, below, ends)

@@ -1,7 +1,7 @@
 -- what is shown of where a trace stops being explained
 use Rattle.std.specs.Prelude.{◌≡◌, ℕ, ◌-◌, nat_lt, All, List, [], ◌∷◌, ◌++◌, codes, decimal, drop, flat_map, length, if◌then◌else◌, slice_get, is_some, true, IfSome}
 use Rattle.std.specs.List.{filter}
-use Rattle.chi_trace.specs.Chosen.{chosen}
+use Rattle.chi_trace.specs.AtPlaces.{at_places}
 use Rattle.chi_trace.specs.Explains.{at}
 use Rattle.chi_trace.specs.Granules.{is_of}
 use Rattle.chi_verdict.specs.Blames.{IsBlame}
@@ -9,7 +9,7 @@ use Rattle.chi_reading.specs.TraceText.{RecordedValue}
 use Rattle.chi_answer.specs.Texts.{blame_text}
 use Rattle.chi_excerpt.specs.declared.excerpt.Excerpt.{Excerpt}
 use Rattle.chi_excerpt.specs.declared.failure.Failure.{Failure}
-use Rattle.chi_excerpt.specs.Chosen.{AreLast}
+use Rattle.chi_excerpt.specs.LastEnded.{AreLast}
 use Rattle.chi_excerpt.specs.Suspects.{AreLegal, IsSuspect}
 use Rattle.chi_excerpt.specs.Texts.{excerpt_text}
 
@@ -60,10 +60,10 @@ order_in r g order = filter (is_of r.trace.operations g) order
 pub record IsExcerptOf (r : RecordedValue) (f : Failure) (most : ℕ) (e : Excerpt) : Type 0 where
   pub places : List ℕ
   pub last : AreLast r.trace.operations f.blame.granule f.blame.time f.blame.op most places
-  pub before : e.before.items ≡ chosen r.trace.operations places
+  pub before : e.before.items ≡ at_places r.trace.operations places
   pub blamed : IfSome e.blamed (λ b. (b.row ≡ at r.trace.operations f.blame.op) × (b.legal.items ≡ f.legal.items))
   pub there : is_some e.blamed ≡ true
-  pub still_open : e.open.items ≡ chosen r.trace.operations (ended_after r f.blame.time f.blame.overlapping.items)
+  pub still_open : e.open.items ≡ at_places r.trace.operations (ended_after r f.blame.time f.blame.overlapping.items)
 
 -- the text of a failure, of which so many operations are shown before the one that is blamed
 abbrev pub IsFailureText : RecordedValue → ℕ → Failure → List ℕ → Type 0

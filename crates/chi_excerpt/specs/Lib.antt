@@ -1,7 +1,7 @@
 pub mod Bar
-pub mod Chosen
 pub mod Columns
 pub mod Failures
+pub mod LastEnded
 pub mod Operands
 pub mod Replies
 pub mod Rows

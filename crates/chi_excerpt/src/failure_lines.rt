@@ -3,9 +3,9 @@
 ghost use Rattle.std.specs.Prelude.{◌≡◌, ◌<◌, ◌++◌, All, IfOk, OnOk, flat_map, length};
 ghost use Rattle.chi_excerpt.specs.Failures.{IsExcerptOf, IsFailure, IsFailureText, ended_after, last_of, number_text, order_in, order_line, order_words, suspects_line};
 
-use crate::chosen::last_ended;
 use crate::excerpt::{Blamed, Excerpt, add_excerpt};
 use crate::failure::Failure;
+use crate::last_ended::last_ended;
 use chi_answer::add_blame;
 use chi_reading::Recorded;
 use chi_text::{Part, add_parts};

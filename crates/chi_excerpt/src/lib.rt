@@ -2,11 +2,11 @@
 #![tactic(auto)]
 
 mod bar;
-mod chosen;
 mod columns;
 mod excerpt;
 mod failure;
 mod failure_lines;
+mod last_ended;
 mod legal;
 mod line;
 mod operand;

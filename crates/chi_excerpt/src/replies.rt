@@ -2,7 +2,7 @@
 
 ghost use Rattle.std.specs.Prelude.{◌≡◌, ◌≢◌, ◌<◌, ◌⊎◌, false, length, IfOk, IfSome, IsTrue, None};
 ghost use Rattle.std.specs.List.{filter};
-ghost use Rattle.chi_trace.specs.Chosen.{is_in};
+ghost use Rattle.chi_trace.specs.AtPlaces.{is_in};
 ghost use Rattle.chi_search.specs.Looks.{LookedAtLeast, LookedSome};
 ghost use Rattle.chi_excerpt.specs.Replies.{IsExplainedWith, granule_with};
 

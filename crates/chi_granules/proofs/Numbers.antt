@@ -24,8 +24,8 @@ has_also r xs ys also has = record {
 }
 
 -- those of the operations, and those of the words at the end
-pub has_both : (r : RecordedValue) (numbers : List ℕ) → numbers ≡ map granule_of r.trace.operations ++ map granule_told r.final_words → HasGranules r numbers
-has_both r numbers are = subst (HasGranules r) (sym are) record {
+pub has_both : (r : RecordedValue) (granule_numbers : List ℕ) → granule_numbers ≡ map granule_of r.trace.operations ++ map granule_told r.final_words → HasGranules r granule_numbers
+has_both r granule_numbers are = subst (HasGranules r) (sym are) record {
   operations = All-weaker (Contains ops) (λ op. Contains (first ++ second) (granule_of op))
       (λ op there. Contains-append_left first second (granule_of op) (Contains-map granule_of ops op there)) ops (All-contains_itself ops);
   final_words = All-weaker (Contains r.final_words) (λ told. Contains (first ++ second) told.granule)
@@ -42,23 +42,23 @@ has_both r numbers are = subst (HasGranules r) (sym are) record {
     second = map granule_told r.final_words
 
 -- sorted, and each once
-pub has_sorted : (r : RecordedValue) (numbers sorted once : List ℕ) → HasGranules r numbers → IsPermutation numbers sorted → once ≡ dedup eqb sorted → HasGranules r once
-has_sorted r numbers sorted once has moved is =
-    subst (HasGranules r) (sym is) (has_also r numbers (dedup eqb sorted) (λ n there. Contains-dedup_nat sorted n (Contains-permutation numbers sorted n moved there)) has)
+pub has_sorted : (r : RecordedValue) (granule_numbers sorted once : List ℕ) → HasGranules r granule_numbers → IsPermutation granule_numbers sorted → once ≡ dedup eqb sorted → HasGranules r once
+has_sorted r granule_numbers sorted once has moved is =
+    subst (HasGranules r) (sym is) (has_also r granule_numbers (dedup eqb sorted) (λ n there. Contains-dedup_nat sorted n (Contains-permutation granule_numbers sorted n moved there)) has)
 
 -- one of them first, and then the others
-pub has_first : (r : RecordedValue) (numbers all : List ℕ) (g : ℕ) → HasGranules r numbers → all ≡ g ∷ filter (λ other. not (other == g)) numbers → HasGranules r all
-has_first r numbers all g has is = subst (HasGranules r) (sym is) (has_also r numbers (g ∷ others) kept has)
+pub has_first : (r : RecordedValue) (granule_numbers all : List ℕ) (g : ℕ) → HasGranules r granule_numbers → all ≡ g ∷ filter (λ other. not (other == g)) granule_numbers → HasGranules r all
+has_first r granule_numbers all g has is = subst (HasGranules r) (sym is) (has_also r granule_numbers (g ∷ others) kept has)
   where
     others : List ℕ
-    others = filter (λ other. not (other == g)) numbers
+    others = filter (λ other. not (other == g)) granule_numbers
 
-    kept : (n : ℕ) → Contains numbers n → Contains (g ∷ others) n
+    kept : (n : ℕ) → Contains granule_numbers n → Contains (g ∷ others) n
     kept n there = by_test (n == g) refl
       where
         by_test : (b : Bool) → (n == g) ≡ b → Contains (g ∷ others) n
         by_test true same = Contains-append_left (g ∷ []) others n (subst (Contains (g ∷ [])) (sym (eqb-true n g same)) (Contains-push [] g))
-        by_test false other = Contains-append_right (g ∷ []) others n (Contains-filter (λ m. not (m == g)) numbers n there (ap not other))
+        by_test false other = Contains-append_right (g ∷ []) others n (Contains-filter (λ m. not (m == g)) granule_numbers n there (ap not other))
 
 -- the number of one more word
 pub numbers_more : (start old new : List ℕ) (words : List GranuleWord) (k : ℕ) (d : GranuleWord) → k < length words → old ≡ start ++ map granule_told (take k words)

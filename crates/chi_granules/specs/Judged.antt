@@ -37,9 +37,9 @@ abbrev pub IsShown : RecordedValue → Blame → Drawn → Type 0
 IsShown r blame d = IsBlamed r blame d ⊎ IsJudged r d
 
 -- the number of each granule that has an operation, or of which a word was observed at the end, is among them
-pub record HasGranules (r : RecordedValue) (numbers : List ℕ) : Type 0 where
-  pub operations : All (λ op. Contains numbers (granule_of op)) r.trace.operations
-  pub final_words : All (λ told. Contains numbers told.granule) r.final_words
+pub record HasGranules (r : RecordedValue) (granule_numbers : List ℕ) : Type 0 where
+  pub operations : All (λ op. Contains granule_numbers (granule_of op)) r.trace.operations
+  pub final_words : All (λ told. Contains granule_numbers told.granule) r.final_words
 
 -- what is shown is of each of them
 abbrev pub AreAll : RecordedValue → List Drawn → Type 0

@@ -16,16 +16,16 @@ fn judged_each<P: Progress>(
     alloc: Global,
     recorded: &Recorded,
     granules: &[u64],
-    numbers: &[u64],
+    granule_numbers: &[u64],
     budget: u64,
     progress: &mut P,
 ) -> Result<Vec<Drawn>, AllocError>
     requires { granules.now ≡ map granule_of recorded.now.trace.operations }
     ensures judged { IfOk result (λ drawn. All (IsJudged recorded.now) drawn.items) }
-    ensures granules { IfOk result (λ drawn. map (λ d. d.granule) drawn.items ≡ numbers.now) }
+    ensures granules { IfOk result (λ drawn. map (λ d. d.granule) drawn.items ≡ granule_numbers.now) }
 {
-    let mut drawn = Vec::with_capacity(alloc, numbers.len())?;
-    for number in numbers {
+    let mut drawn = Vec::with_capacity(alloc, granule_numbers.len())?;
+    for number in granule_numbers {
         let mut left = budget;
         let judged = judged_granule(alloc, recorded, granules, *number, &mut left, progress)?;
         drawn.push(judged)?;
@@ -41,13 +41,13 @@ fn judged_each<P: Progress>(
 pub fn judged_granules<P: Progress>(
     alloc: Global,
     recorded: &Recorded,
-    numbers: &[u64],
+    granule_numbers: &[u64],
     budget: u64,
     progress: &mut P,
 ) -> Result<Vec<Drawn>, AllocError>
     ensures judged { IfOk result (λ drawn. All (IsJudged recorded.now) drawn.items) }
-    ensures granules { IfOk result (λ drawn. map (λ d. d.granule) drawn.items ≡ numbers.now) }
+    ensures granules { IfOk result (λ drawn. map (λ d. d.granule) drawn.items ≡ granule_numbers.now) }
 {
     let granules = granules_of(alloc, recorded.trace().operations())?;
-    judged_each(alloc, recorded, &granules, numbers, budget, progress)
+    judged_each(alloc, recorded, &granules, granule_numbers, budget, progress)
 }

@@ -13,16 +13,16 @@ use chi_verdict::Blame;
 use std::alloc::{AllocError, Global};
 
 /// The numbers of the granules of which there is an operation, or of which a word was observed at the end.
-fn numbers(alloc: Global, recorded: &Recorded) -> Result<Vec<u64>, AllocError>
-    ensures { IfOk result (λ numbers. HasGranules recorded.now numbers.items) }
+fn granule_numbers(alloc: Global, recorded: &Recorded) -> Result<Vec<u64>, AllocError>
+    ensures { IfOk result (λ granule_numbers. HasGranules recorded.now granule_numbers.items) }
 {
-    let mut numbers = granules_of(alloc, recorded.trace().operations())?;
+    let mut granule_numbers = granules_of(alloc, recorded.trace().operations())?;
     for told in recorded.final_words().as_slice() {
-        numbers.push(told.granule)?;
+        granule_numbers.push(told.granule)?;
     }
-    numbers.sort()?;
-    numbers.dedup();
-    Ok(numbers)
+    granule_numbers.sort()?;
+    granule_numbers.dedup();
+    Ok(granule_numbers)
 }
 
 /// What is found of the granules of a trace, each judged by itself. No more than `budget` states are looked at of each.
@@ -38,15 +38,15 @@ pub fn all_granules(
     ensures judged { IfOk result (λ drawn. All (IsJudged recorded.now) drawn.items) }
     ensures each { IfOk result (λ drawn. AreAll recorded.now drawn.items) }
 {
-    let numbers = numbers(alloc, recorded)?;
-    judged_granules(alloc, recorded, &numbers, budget, &mut NoProgress)
+    let granule_numbers = granule_numbers(alloc, recorded)?;
+    judged_granules(alloc, recorded, &granule_numbers, budget, &mut NoProgress)
 }
 
 /// These numbers without one.
-fn without(alloc: Global, numbers: &[u64], number: u64) -> Result<Vec<u64>, AllocError>
-    ensures { IfOk result (λ others. others.items ≡ filter (λ other. not (other == number)) numbers.now) }
+fn without(alloc: Global, granule_numbers: &[u64], number: u64) -> Result<Vec<u64>, AllocError>
+    ensures { IfOk result (λ others. others.items ≡ filter (λ other. not (other == number)) granule_numbers.now) }
 {
-    numbers
+    granule_numbers
         .iter()
         .copied()
         .filter(|other| *other != number)
@@ -68,7 +68,7 @@ pub fn granules_around(
     ensures shown { IfOk result (λ drawn. All (IsShown recorded.now blame.now) drawn.items) }
     ensures each { IfOk result (λ drawn. AreAll recorded.now drawn.items) }
 {
-    let others = without(alloc, &numbers(alloc, recorded)?, blame.granule)?;
+    let others = without(alloc, &granule_numbers(alloc, recorded)?, blame.granule)?;
     let mut drawn = judged_granules(alloc, recorded, &others, budget, &mut NoProgress)?;
     let order = order_in(alloc, recorded, blame.granule, &blame.order)?;
     drawn.insert(

@@ -13,12 +13,12 @@ use Rattle.clap.specs.declared.builder.value_parser.ValueParser.TheVariants as v
 use Rattle.clap.specs.declared.parser.matches.ArgMatches.{ArgMatches}
 use Rattle.clap.proofs.OnLiterals.{clap_on_literals}
 use Rattle.clap.proofs.WalkLemmas.{walk_stopped}
-use Rattle.chi_home.specs.Chosen.{HasOptions, IsChosen, IsNamed, IsNamedFirst, IsRun, IsScript, IsWork, is_generate, task_named}
-use Rattle.chi_program.specs.Found.{BeginsWith, has_word}
+use Rattle.chi_home.specs.OptionValues.{HasOptions, IsChosen, IsNamed, IsNamedFirst, IsRun, IsScript, IsWork, is_generate, task_named}
+use Rattle.chi_program.specs.OptionValues.{BeginsWith, has_word}
 use Rattle.chi_program.specs.Rules.{bare_app, option_rule}
 use Rattle.chi_program.proofs.CommandLemmas.{subcommand_found}
-use Rattle.chi_home.specs.declared.command.Asked.{Asked}
-use Rattle.chi_home.specs.declared.command.Asked.TheVariants.{Work, Script}
+use Rattle.chi_home.specs.declared.command.Job.{Job}
+use Rattle.chi_home.specs.declared.command.Job.TheVariants.{Work, Script}
 use Rattle.chi_home.specs.declared.command.Task.{Task}
 use Rattle.chi_home.specs.declared.command.Task.TheVariants.{Run, Race, Trace}
 use Rattle.chi_engine.specs.declared.options.Options.{Options}
@@ -111,12 +111,12 @@ pub program_is_simple : (app : App) → IsProgram app → is_simple_and_free app
 program_is_simple app p = ap is_simple_and_free (program_is app p) ∙ simple_whatever p.2.1.2.0 p.2.1.3.0 p.3.1.2.0 p.3.1.3.0
 
 -- each name is that of its own task alone
-race_named : (name : Text) (found : List Row) (asked : Asked) → IsNamed name asked → HasOptions found name asked → name ≡ codes "race" → IsWork Race asked
+race_named : (name : Text) (found : List Row) (job : Job) → IsNamed name job → HasOptions found name job → name ≡ codes "race" → IsWork Race job
 race_named name found (Work task options) named has is = has.0 ∙ ap (λ n. task_named n found) is
 race_named name found (Script options) named has is = cc (sym named ∙ ap is_generate is)
 
 -- a run has its transcript or its trace
-run_named : (name : Text) (found : List Row) (asked : Asked) → IsNamed name asked → HasOptions found name asked → name ≡ codes "run" → IsRun asked
+run_named : (name : Text) (found : List Row) (job : Job) → IsNamed name job → HasOptions found name job → name ≡ codes "run" → IsRun job
 run_named name found (Work task options) named has is = by_task task options (has_word found (codes "trace") (codes "true")) (has.0 ∙ ap (λ n. task_named n found) is)
   where
     by_task : (task : Task) (options : Options) (traced : Bool) → task ≡ cond traced Trace Run → IsRun (Work task options)
@@ -126,33 +126,33 @@ run_named name found (Work task options) named has is = by_task task options (ha
     by_task Trace options traced is = tt
 run_named name found (Script options) named has is = cc (sym named ∙ ap is_generate is)
 
-script_named : (name word : Text) (asked : Asked) → is_generate word ≡ true → IsNamed name asked → name ≡ word → IsScript asked
+script_named : (name word : Text) (job : Job) → is_generate word ≡ true → IsNamed name job → name ≡ word → IsScript job
 script_named name word (Work task options) generate named is = cc (sym named ∙ (ap is_generate is ∙ generate))
 script_named name word (Script options) generate named is = tt
 
 -- a subcommand that is the first argument is the one that is found
-module _ (app : App) (arguments : List Text) (name : Text) (found : List Row) (asked : Asked) (p : IsProgram app)
-    (is : subcommand_of app arguments ≡ Some (name, found)) (named : IsNamed name asked) (has : HasOptions found name asked) where
+module _ (app : App) (arguments : List Text) (name : Text) (found : List Row) (job : Job) (p : IsProgram app)
+    (is : subcommand_of app arguments ≡ Some (name, found)) (named : IsNamed name job) (has : HasOptions found name job) where
   begins_with : (word : Text) → (begins : BeginsWith arguments word)
       → name_found (program_of p.2.1.2.0 p.2.1.3.0 p.3.1.2.0 p.3.1.3.0) (word ∷ begins.0) ≡ Some word → name ≡ word
   unfolding name_found
   begins_with word begins first =
       ap (λ n. unwrap_or n name) (ap (option_map (λ p. p.0)) (sym is) ∙ (ap₂ name_found (program_is app p) begins.1 ∙ first))
 
-  pub named_first : IsNamedFirst arguments asked
+  pub named_first : IsNamedFirst arguments job
   named_first = (
-    λ race. race_named name found asked named has (begins_with (codes "race") race (raced_whatever p.2.1.2.0 p.2.1.3.0 p.3.1.2.0 p.3.1.3.0 race.0)),
-    λ run. run_named name found asked named has (begins_with (codes "run") run (run_whatever p.2.1.2.0 p.2.1.3.0 p.3.1.2.0 p.3.1.3.0 run.0)),
-    λ generate. script_named name (codes "generate") asked refl named (begins_with (codes "generate") generate (generate_whatever p.2.1.2.0 p.2.1.3.0 p.3.1.2.0 p.3.1.3.0 generate.0)),
+    λ race. race_named name found job named has (begins_with (codes "race") race (raced_whatever p.2.1.2.0 p.2.1.3.0 p.3.1.2.0 p.3.1.3.0 race.0)),
+    λ run. run_named name found job named has (begins_with (codes "run") run (run_whatever p.2.1.2.0 p.2.1.3.0 p.3.1.2.0 p.3.1.3.0 run.0)),
+    λ generate. script_named name (codes "generate") job refl named (begins_with (codes "generate") generate (generate_whatever p.2.1.2.0 p.2.1.3.0 p.3.1.2.0 p.3.1.3.0 generate.0)),
   )
 
 -- what is asked for, with its options, is what `clap` finds, and a first argument that is a task's name asks for that
-pub asked_found : (app : App) (arguments : List Text) (matches : ArgMatches) (name : Text) (found : List Row) (asked : Asked) → IsProgram app
+pub asked_found : (app : App) (arguments : List Text) (matches : ArgMatches) (name : Text) (found : List Row) (job : Job) → IsProgram app
     → HasMatchesOf app arguments matches → Some name ≡ subcommand_name_of matches → Some found ≡ option_map (λ p. p.1) (subcommand_rows_of matches)
-    → IsNamed name asked → HasOptions found name asked → IsChosen arguments asked × IsNamedFirst arguments asked
-asked_found app arguments matches name found asked program has is_named rows named options =
+    → IsNamed name job → HasOptions found name job → IsChosen arguments job × IsNamedFirst arguments job
+asked_found app arguments matches name found job program has is_named rows named options =
     let is = subcommand_found app arguments matches name found (program_is_simple app program) has is_named rows in
-    ((name, found, (app, program, is), named, options), named_first app arguments name found asked program is named options)
+    ((name, found, (app, program, is), named, options), named_first app arguments name found job program is named options)
 
 -- what `clap` refuses, and what it takes
 pub arguments_fault : (app : App) (arguments : List Text) (kind : ErrorKind) → IsProgram app

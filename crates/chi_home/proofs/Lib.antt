@@ -1,4 +1,4 @@
-pub mod ChosenLemmas
 pub mod CommandLemmas
+pub mod OptionValuesLemmas
 pub mod TaskLemmas
 pub mod Written

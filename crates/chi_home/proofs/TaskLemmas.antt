@@ -7,11 +7,11 @@ use Rattle.chi_engine.specs.declared.options.Store.{Store}
 use Rattle.chi_engine.specs.Engine.{ReportsOpening}
 use Rattle.chi_engine.specs.Store.{Opens}
 use Rattle.clap.specs.Walk.{Text}
-use Rattle.chi_home.specs.Chosen.{HasAttempts, IsChosen}
+use Rattle.chi_home.specs.OptionValues.{HasAttempts, IsChosen}
 use Rattle.chi_home.specs.CommandLine.{IsTaken}
 use Rattle.chi_home.specs.Task.{DoesTask, EndsAsked, IsUnrefused, MakesScript}
-use Rattle.chi_home.specs.declared.command.Asked.{Asked}
-use Rattle.chi_home.specs.declared.command.Asked.TheVariants.{Work, Script}
+use Rattle.chi_home.specs.declared.command.Job.{Job}
+use Rattle.chi_home.specs.declared.command.Job.TheVariants.{Work, Script}
 
 -- a store that opens with its tries is refused neither for its requesters nor for its tries
 pub unrefused : (store : Store) (result : Result (Unit {0}) EngineFault) → Opens store → ReportsOpening store result → IsUnrefused result
@@ -28,8 +28,8 @@ unrefused store (Err (Work fault)) opens reports = tt
 unrefused store (Err (Write fault)) opens reports = tt
 
 -- what came of the arguments is what came of what they ask for
-pub came_of : (arguments : List Text) (asked : Asked) (input old new : Option (List ℕ)) (status : ℕ) → IsTaken arguments → IsChosen arguments asked
-    → HasAttempts asked → EndsAsked asked input old new status → DoesTask arguments input old new status ⊎ MakesScript arguments old new status
+pub came_of : (arguments : List Text) (job : Job) (input old new : Option (List ℕ)) (status : ℕ) → IsTaken arguments → IsChosen arguments job
+    → HasAttempts job → EndsAsked job input old new status → DoesTask arguments input old new status ⊎ MakesScript arguments old new status
 came_of arguments (Work task options) input old new status taken chosen count ends =
     inl (taken, task, options, chosen, ends.0, count, unrefused options.store ends.0 count ends.1, ends.2, ends.3, ends.4)
 came_of arguments (Script options) input old new status taken chosen count ends = inr (taken, options, chosen, ends)

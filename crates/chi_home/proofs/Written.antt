@@ -111,6 +111,6 @@ ended task options remaining old mid new done status opens keeps outcome (inr is
 -- a script that was made is written whole, whether it can be flushed or not
 pub made : (options : GenerateOptions) (old mid new : Option (List ℕ)) (done : Unit {0}) (status : ℕ) → Keeps mid new
     → WritesScript options old mid (Ok done) → (status ≡ 0) ⊎ (status ≡ 5) → Makes options old new status
-made options old mid new done status keeps (text, asked, appends) (inl is) = (Ok done, (text, asked, appends_kept old mid new text appends keeps), is)
-made options old mid new done status keeps (text, asked, appends) (inr is) =
-    (Err (Write Failed), (text, asked, flushed_front old mid new text appends keeps), is)
+made options old mid new done status keeps (text, job, appends) (inl is) = (Ok done, (text, job, appends_kept old mid new text appends keeps), is)
+made options old mid new done status keeps (text, job, appends) (inr is) =
+    (Err (Write Failed), (text, job, flushed_front old mid new text appends keeps), is)

@@ -4,7 +4,7 @@ use Rattle.std.specs.Io.KnownBytes.{Appends, Keeps}
 use Rattle.clap.specs.Walk.{Row, first_of, one_of}
 use Rattle.chi_fields.specs.Extent.{Extent, region_of}
 use Rattle.chi_fields.specs.declared.region.RegionFault.{RegionFault}
-use Rattle.chi_program.specs.Found.{IsNumberOr, has_word}
+use Rattle.chi_program.specs.OptionValues.{IsNumberOr, has_word}
 use Rattle.chi_script.specs.Script.{ScriptValue, script}
 use Rattle.chi_script.specs.WriterBytes.{AppendsFront}
 use Rattle.chi_stimulus.specs.Generated.{IsGenerated}

@@ -1,5 +1,5 @@
 pub mod ProgramStatus
 pub mod CommandLine
 pub mod Generating
-pub mod Chosen
+pub mod OptionValues
 pub mod Task

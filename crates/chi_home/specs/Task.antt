@@ -5,14 +5,14 @@ use Rattle.chi_history.specs.declared.opening.OpenFault.TheVariants as open_faul
 use Rattle.chi_home.specs.Generating.{WritesScript, generate_status}
 use Rattle.chi_home.specs.declared.generation.GenerateFault.{GenerateFault}
 use Rattle.chi_home.specs.declared.generation.GenerateOptions.{GenerateOptions}
-use Rattle.chi_home.specs.declared.command.Asked.{Asked}
-use Rattle.chi_home.specs.declared.command.Asked.TheVariants.{Work, Script}
+use Rattle.chi_home.specs.declared.command.Job.{Job}
+use Rattle.chi_home.specs.declared.command.Job.TheVariants.{Work, Script}
 use Rattle.chi_home.specs.declared.command.Task.{Task}
 use Rattle.chi_home.specs.declared.command.Task.TheVariants.{Run, Race, Trace}
 use Rattle.chi_engine.specs.declared.fault.EngineFault.{EngineFault}
 use Rattle.chi_engine.specs.declared.fault.EngineFault.TheVariants.{Open}
 use Rattle.chi_engine.specs.declared.options.Options.{Options}
-use Rattle.chi_home.specs.Chosen.{IsChosen}
+use Rattle.chi_home.specs.OptionValues.{IsChosen}
 use Rattle.chi_home.specs.CommandLine.{IsTaken, IsArgumentsFault}
 use Rattle.chi_engine.specs.Trace.{TraceOutcome}
 use Rattle.chi_engine.specs.Engine.{KeepsUnexecuted, ReportsOpening}
@@ -65,7 +65,7 @@ Makes options old new status =
     (result : Result (Unit {0}) GenerateFault) × WritesScript options old new result × (status ≡ made_status result)
 
 -- what came of what was asked for
-abbrev pub EndsAsked : Asked → Option (List ℕ) → Option (List ℕ) → Option (List ℕ) → ℕ → Type 0
+abbrev pub EndsAsked : Job → Option (List ℕ) → Option (List ℕ) → Option (List ℕ) → ℕ → Type 0
 EndsAsked (Work task options) input old new status = Ends task options input old new status
 EndsAsked (Script options) input old new status = Makes options old new status
 

@@ -5,7 +5,7 @@ ghost use Rattle.chi_engine.specs.Engine.{KeepsUnexecuted, ReportsOpening};
 ghost use Rattle.chi_home.specs.ProgramStatus.{IsStatus};
 ghost use Rattle.chi_home.specs.Task.{Ends, EndsAsked, Makes, ProgramOutcome, TaskOutcome};
 
-use crate::command::{Asked, PROGRAM, Task, asked_of};
+use crate::command::{Job, PROGRAM, Task, job_of};
 use crate::fault::HomeFault;
 use crate::generation::{GenerateOptions, generate};
 use chi_engine::{EngineFault, Options, engine_race, engine_run, engine_trace};
@@ -73,17 +73,17 @@ fn end_generate<W: Write, E: Write>(
 // Does what is asked for, and reports its fault. The status is 0 where it was done.
 fn end_asked<T: AllocGlobal + Threads + Wait + Sync, R: Read, W: Write, E: Write>(
     rt: &T,
-    asked: &Asked<'_>,
+    job: &Job<'_>,
     from: &mut R,
     to: &mut W,
     errors: &mut E,
 ) -> u8
-    ensures ends { EndsAsked asked.now (R.remaining from.old) (W.contents to.old) (W.contents to.new) result }
+    ensures ends { EndsAsked job.now (R.remaining from.old) (W.contents to.old) (W.contents to.new) result }
     ensures status { IsStatus result }
 {
-    match asked {
-        Asked::Work(task, options) => end_task(rt, *task, options, from, to, errors),
-        Asked::Script(options) => end_generate(rt.alloc(), options, to, errors),
+    match job {
+        Job::Work(task, options) => end_task(rt, *task, options, from, to, errors),
+        Job::Script(options) => end_generate(rt.alloc(), options, to, errors),
     }
 }
 
@@ -104,8 +104,8 @@ pub fn run_words<T: AllocGlobal + Threads + Wait + Sync, R: Read, W: Write, E: W
     ensures outcome { ProgramOutcome (map string_bytes arguments.now) (R.remaining from.old) (W.contents to.old) (W.contents to.new) result }
     ensures status { IsStatus result }
 {
-    match asked_of(rt.alloc(), arguments) {
-        Ok(asked) => end_asked(rt, &asked, from, to, errors),
+    match job_of(rt.alloc(), arguments) {
+        Ok(job) => end_asked(rt, &job, from, to, errors),
         Err(error) => report_arguments::<HomeFault, _, _>(PROGRAM, &error, to, errors),
     }
 }

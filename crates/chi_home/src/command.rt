@@ -6,7 +6,7 @@ ghost use Rattle.clap.specs.Simple.{app_of};
 ghost use Rattle.clap.specs.Values.{kind_of};
 ghost use Rattle.clap.specs.Walk.{rows_of};
 ghost use Rattle.chi_engine.specs.Store.{Opens};
-ghost use Rattle.chi_home.specs.Chosen.{HasAttempts, HasOptions, IsChosen, IsNamed, IsNamedFirst, attempts_of, options_of_task, policy_of, store_of, task_named, workers_of};
+ghost use Rattle.chi_home.specs.OptionValues.{HasAttempts, HasOptions, IsChosen, IsNamed, IsNamedFirst, attempts_of, options_of_task, policy_of, store_of, task_named, workers_of};
 ghost use Rattle.chi_home.specs.CommandLine.{IsProgram, IsTaken, IsArgumentsFault};
 
 use crate::generation::{GenerateOptions, generate_options};
@@ -29,7 +29,7 @@ pub enum Task {
 
 /// What the arguments ask for: that a script is executed, or that one is made.
 #[derive(Clone, Copy)]
-pub enum Asked<'a> {
+pub enum Job<'a> {
     Work(Task, Options),
     Script(GenerateOptions<'a>),
 }
@@ -136,16 +136,16 @@ fn chosen_task(name: &str, chosen: &ArgMatches<'_>) -> Task
 }
 
 // What the subcommand of this name asks for, with its options.
-fn chosen_asked<'a>(name: &str, chosen: &ArgMatches<'a>) -> Asked<'a>
+fn chosen_asked<'a>(name: &str, chosen: &ArgMatches<'a>) -> Job<'a>
     ensures named { IsNamed name.now result }
     ensures options { HasOptions (rows_of (found_of chosen.now)) name.now result }
     ensures attempts { HasAttempts result }
 {
     if name == "generate" {
-        Asked::Script(generate_options(chosen))
+        Job::Script(generate_options(chosen))
     } else {
         let task = chosen_task(name, chosen);
-        Asked::Work(task, chosen_options(task, chosen))
+        Job::Work(task, chosen_options(task, chosen))
     }
 }
 
@@ -156,11 +156,11 @@ fn chosen_asked<'a>(name: &str, chosen: &ArgMatches<'a>) -> Asked<'a>
 /// `.ci/program` shows it.
 ///
 /// ```
-/// let asked = asked_of(alloc, &arguments)?; // race --store lock --policy return
+/// let job = job_of(alloc, &arguments)?; // race --store lock --policy return
 /// ```
-pub fn asked_of(alloc: Global, arguments: &[String]) -> Result<Asked<'_>, Error>
-    ensures chosen { IfOk result (λ asked. IsChosen (map string_bytes arguments.now) asked) }
-    ensures first { IfOk result (λ asked. IsNamedFirst (map string_bytes arguments.now) asked) }
+pub fn job_of(alloc: Global, arguments: &[String]) -> Result<Job<'_>, Error>
+    ensures chosen { IfOk result (λ job. IsChosen (map string_bytes arguments.now) job) }
+    ensures first { IfOk result (λ job. IsNamedFirst (map string_bytes arguments.now) job) }
     ensures attempts { IfOk result HasAttempts }
     ensures taken { IfOk result (λ _. IsTaken (map string_bytes arguments.now)) }
     ensures refused { IfErr result (λ error. IsArgumentsFault (map string_bytes arguments.now) (kind_of error)) }

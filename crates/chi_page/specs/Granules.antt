@@ -6,7 +6,7 @@ use Rattle.chi_text.specs.Part.{address_text, word_text}
 use Rattle.chi_trace.specs.declared.operation.Operation.{Operation}
 use Rattle.chi_trace.specs.Granules.{last_word}
 use Rattle.chi_verdict.specs.declared.first.Blame.{Blame}
-use Rattle.chi_trace.specs.Words.{told, word_told}
+use Rattle.chi_trace.specs.Words.{find_word, word_or_zero}
 use Rattle.chi_reading.specs.TraceText.{RecordedValue}
 use Rattle.chi_page.specs.declared.drawn.Drawn.{Drawn}
 use Rattle.chi_page.specs.declared.drawn.Finding.{Finding}
@@ -54,8 +54,8 @@ head_json granule finding word final_word =
 -- the same with the order found
 unfoldable pub drawn_json : RecordedValue → Drawn → List ℕ
 drawn_json r d =
-    let word = word_told r.trace.opening d.granule in
-    head_json d.granule d.finding word (told r.final_words d.granule)
+    let word = word_or_zero r.trace.opening d.granule in
+    head_json d.granule d.finding word (find_word r.final_words d.granule)
     ++ (codes ",\"steps\":[" ++ (steps_json r.trace.operations word d.order.items ++ codes "]}"))
 
 -- the one at a place of a list

@@ -1,3 +1,3 @@
 pub mod CommandLemmas
-pub mod FoundLemmas
+pub mod OptionValuesLemmas
 pub mod TaskLemmas

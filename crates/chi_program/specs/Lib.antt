@@ -1,4 +1,4 @@
 pub mod Answered
-pub mod Found
+pub mod OptionValues
 pub mod Rules
 pub mod Tasks

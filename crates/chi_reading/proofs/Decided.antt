@@ -8,7 +8,7 @@ use Rattle.chi_fields.specs.Extent.{Extent, IsRegion}
 use Rattle.chi_json.specs.Members.{or_else}
 use Rattle.chi_json.proofs.WalkLemmas.{at_ok, renamed, then_ok}
 use Rattle.chi_lanes.specs.declared.reply.Reply.{Reply}
-use Rattle.chi_trace.specs.Asked.{IsPacket, access_of, as_operation}
+use Rattle.chi_trace.specs.RequestFields.{IsPacket, access_of, as_operation}
 use Rattle.chi_trace.specs.Explains.{IsOperation}
 use Rattle.chi_trace.specs.Replies.{reply_fault}
 use Rattle.chi_trace.proofs.Decided.{IsWithin, accessed, unless}
@@ -22,23 +22,23 @@ use Rattle.chi_reading.specs.Requests.{Completed, all_completed, completed_at, c
 use Rattle.chi_reading.proofs.Faultless.{without_fault}
 use Rattle.chi_reading.proofs.Packets.{stated_packet}
 
-observed_within : (place : ℕ) (region : Option Extent) (s : Stated) (reply : Option Reply) → IsPacket s.asked.be s.asked.lanes → IfSome region IsRegion
+observed_within : (place : ℕ) (region : Option Extent) (s : Stated) (reply : Option Reply) → IsPacket s.fields.be s.fields.lanes → IfSome region IsRegion
     → IfOk (observed_of place region s reply) IsOperation
 unfolding observed_of
 observed_within place region s reply has is =
-    then_ok (or_else (λ refusal. InRequest place (request_fault.Refused refusal)) (access_of region s.asked)) _ IsOperation (λ access e.
-    let operation = as_operation s.asked access s.start s.end reply in
+    then_ok (or_else (λ refusal. InRequest place (request_fault.Refused refusal)) (access_of region s.fields)) _ IsOperation (λ access e.
+    let operation = as_operation s.fields access s.start s.end reply in
     unless (nat_lt s.end s.start) (InRequest place request_fault.EndsBeforeStart) (faultless (λ fault. InRequest place (request_fault.Reply fault)) (reply_fault access reply) operation) IsOperation (λ lasting.
     without_fault (λ fault. InRequest place (request_fault.Reply fault)) (reply_fault access reply) operation IsOperation (
-    let within = at_ok (or_else (λ refusal. InRequest place (request_fault.Refused refusal)) (access_of region s.asked)) access IsWithin e
-    (renamed (λ refusal. InRequest place (request_fault.Refused refusal)) (access_of region s.asked) IsWithin (accessed region s.asked has is)) in
+    let within = at_ok (or_else (λ refusal. InRequest place (request_fault.Refused refusal)) (access_of region s.fields)) access IsWithin e
+    (renamed (λ refusal. InRequest place (request_fault.Refused refusal)) (access_of region s.fields) IsWithin (accessed region s.fields has is)) in
     record { lawful = within.lawful; within = within.below; lasting = ltb-false s.end s.start lasting })))
 
 -- each operation is such as can be observed
 abbrev AreObserved : Completed → Type 0
 AreObserved c = All IsOperation c.operations
 
-by_within : (place : ℕ) (region : Option Extent) (s : Stated) (outcome : Outcome) → IsPacket s.asked.be s.asked.lanes → IfSome region IsRegion
+by_within : (place : ℕ) (region : Option Extent) (s : Stated) (outcome : Outcome) → IsPacket s.fields.be s.fields.lanes → IfSome region IsRegion
     → IfOk (completed_by place region s outcome) AreObserved
 by_within place region s (Accepted reply) has is =
     then_ok (observed_of place region s reply) _ AreObserved (λ op e.
@@ -50,7 +50,7 @@ at_within : (place : ℕ) (region : Option Extent) (d : Data) → IfSome region 
 unfolding completed_at
 at_within place region d is =
     then_ok (stated_at place d) _ AreObserved (λ s e.
-    by_within place region s s.outcome (at_ok (stated_at place d) s (λ (t : Stated). IsPacket t.asked.be t.asked.lanes) e (stated_packet place d)) is)
+    by_within place region s s.outcome (at_ok (stated_at place d) s (λ (t : Stated). IsPacket t.fields.be t.fields.lanes) e (stated_packet place d)) is)
 
 completed_within : (place : ℕ) (region : Option Extent) (ds : Items) → IfSome region IsRegion → IfOk (completed_of place region ds) AreObserved
 unfolding completed_of

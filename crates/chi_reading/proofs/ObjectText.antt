@@ -2,7 +2,7 @@
 use Rattle.std.proofs.Common.{◌≡◌, None, Some, Ok, refl, ap, ◌∙◌}
 use Rattle.serde_json.specs.Data.{Data, Items, Members}
 use Rattle.serde_json.specs.Find.{as_array, get}
-use Rattle.chi_trace.specs.Words.{told}
+use Rattle.chi_trace.specs.Words.{find_word}
 use Rattle.chi_reading.specs.declared.member.Member.TheVariants as member
 use Rattle.chi_reading.specs.Member.{member_name}
 use Rattle.chi_reading.specs.declared.recorded.Memory.{Memory}
@@ -20,8 +20,8 @@ pub recorded_of : (t : MemoryText) (m : Memory) (c : Completed) (r : RecordedVal
     → IsOf (record { memory = t; completed = c }) r
 recorded_of t m c r is recorded = record {
   region = recorded.region ∙ is.region;
-  opening = λ g. ap (λ words. told words g) recorded.opening ∙ is.opening g;
-  final_words = λ g. ap (λ words. told words g) recorded.final_words ∙ is.final_words g;
+  opening = λ g. ap (λ words. find_word words g) recorded.opening ∙ is.opening g;
+  final_words = λ g. ap (λ words. find_word words g) recorded.final_words ∙ is.final_words g;
   operations = recorded.operations;
   refusals = recorded.refusals;
 }

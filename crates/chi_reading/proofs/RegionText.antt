@@ -8,7 +8,7 @@ use Rattle.chi_fields.specs.Extent.{Extent, IsRegion, region_of}
 use Rattle.chi_json.specs.Members.{number_of, opening_words, or_else, stated_words}
 use Rattle.chi_json.proofs.WalkLemmas.{at_ok, renamed, then_ok}
 use Rattle.chi_trace.specs.declared.words.GranuleWord.{GranuleWord}
-use Rattle.chi_trace.specs.Words.{told}
+use Rattle.chi_trace.specs.Words.{find_word}
 use Rattle.chi_reading.specs.declared.member.Member.TheVariants as member
 use Rattle.chi_reading.specs.Member.{member_name}
 use Rattle.chi_reading.specs.declared.fault.TraceFault.TheVariants.{RegionRefused}
@@ -19,7 +19,7 @@ use Rattle.chi_trace.proofs.Decided.{region_lawful}
 
 -- the list has the words of a region's granules, the first of which has this number
 abbrev pub AreWordsOf : ℕ → List ℕ → List GranuleWord → Type 0
-AreWordsOf first words list = (g : ℕ) → told list g ≡ told (region_words first words) g
+AreWordsOf first words list = (g : ℕ) → find_word list g ≡ find_word (region_words first words) g
 
 -- what is true of a value is true of it where it is handed on
 pub handed_on : {T D E : Type 0} (P : T → Type 0) (Q : D → Type 0) (r : Result T D) (s : Result T E) (y : T) → MatchResult r (λ x. s ≡ Ok x) Q

@@ -10,17 +10,17 @@ use Rattle.serde_json.specs.declared.value.Value.{Value}
 use Rattle.chi_reading.specs.Told.{told_from, told_more, told_of}
 use Rattle.chi_reading.proofs.OneMore.{has_more}
 use Rattle.chi_trace.specs.declared.words.GranuleWord.{GranuleWord}
-use Rattle.chi_trace.specs.Words.{told}
+use Rattle.chi_trace.specs.Words.{find_word}
 
 -- a map has the words that the elements before a place told, and with those from there on they are the words of the list
 pub record IsSoFar (map : BTreeMap ℕ ℕ) (values : List Value) (i : ℕ) : Type 0 where
   pub seen : List GranuleWord
   pub list : told_from [] (items_view values) ≡ told_from seen (items_view (drop i values))
-  pub has : (g : ℕ) → get nat_cmp map g ≡ told seen g
+  pub has : (g : ℕ) → get nat_cmp map g ≡ find_word seen g
 
 -- before the first element
 pub none_so_far : (map : BTreeMap ℕ ℕ) (values : List Value) → map.entries ≡ [] → IsSoFar map values 0
-unfolding told
+unfolding find_word
 none_so_far map values empty = record { seen = []; list = refl; has = λ g. rw empty refl }
 
 -- past the last element

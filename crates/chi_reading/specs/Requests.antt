@@ -13,9 +13,9 @@ use Rattle.chi_json.specs.declared.member.MemberFault.{MemberFault}
 use Rattle.chi_json.specs.declared.member.MemberFault.TheVariants as member_fault
 use Rattle.chi_json.specs.Members.{◌>>=◌, member_by, number_of, or_else}
 use Rattle.chi_json.specs.Values.{hex_bytes}
-use Rattle.chi_trace.specs.Asked.{access_of, as_operation}
+use Rattle.chi_trace.specs.RequestFields.{access_of, as_operation}
 use Rattle.chi_trace.specs.Replies.{reply_fault}
-use Rattle.chi_trace.specs.declared.asked.Asked.{Asked}
+use Rattle.chi_trace.specs.declared.request_fields.RequestFields.{RequestFields}
 use Rattle.chi_trace.specs.declared.operation.Operation.{Operation}
 use Rattle.chi_reading.specs.declared.member.Member.{Member}
 use Rattle.chi_reading.specs.declared.member.Member.TheVariants as member
@@ -31,7 +31,7 @@ use Rattle.chi_reading.specs.Refused.{is_refused_so, refusal_of}
 use Rattle.chi_reading.specs.Unknown.{refused_members, request_members, unknown_in}
 
 -- the fields of the request with this number that an object states, with no data
-unfoldable pub fields_of : ℕ → Data → Result Asked (MemberFault Member)
+unfoldable pub fields_of : ℕ → Data → Result RequestFields (MemberFault Member)
 fields_of number d = do
   src ← number_of member_name member.Src 65535 d
   txn ← number_of member_name member.Txn 65535 d
@@ -42,8 +42,8 @@ fields_of number d = do
   Ok (record { number = number; src = src; txn = txn; opcode = opcode; size = size; addr = addr; endian = endian == 1; be = 0; lanes = replicate 16 0 })
 
 -- the request with this number that an object states, with its data
-unfoldable pub asked_of : ℕ → Data → Result Asked (MemberFault Member)
-asked_of number d = do
+unfoldable pub stated_request : ℕ → Data → Result RequestFields (MemberFault Member)
+stated_request number d = do
   fields ← fields_of number d
   be ← number_of member_name member.Be 65535 d
   lanes ← member_by member_name member.Lanes (hex_bytes 16) d
@@ -79,11 +79,11 @@ outcome_by (Some refused) reply end = do
 -- what the request with this number states
 unfoldable pub stated_of : ℕ → Data → Result Stated (MemberFault Member)
 stated_of number d = do
-  asked ← asked_of number d
+  fields ← stated_request number d
   start ← number_of member_name member.Start (2 ^ 64 - 1) d
   end ← end_of d
   outcome ← outcome_by (get (member_name member.Refused) d) (get (member_name member.Reply) d) (get (member_name member.End) d)
-  Ok (record { asked = asked; start = start; end = end; outcome = outcome })
+  Ok (record { fields = fields; start = start; end = end; outcome = outcome })
 
 -- the members that a request of this outcome has
 abbrev pub members_of : Outcome → List Member
@@ -100,15 +100,15 @@ stated_at place d = do
 -- the operation that was observed of the request at a place, with this reply
 unfoldable pub observed_of : ℕ → Option Extent → Stated → Option Reply → Result Operation TraceFault
 observed_of place region s reply = do
-  access ← or_else (λ refusal. InRequest place (request_fault.Refused refusal)) (access_of region s.asked)
+  access ← or_else (λ refusal. InRequest place (request_fault.Refused refusal)) (access_of region s.fields)
   if nat_lt s.end s.start then Err (InRequest place request_fault.EndsBeforeStart)
       else faultless (λ fault. InRequest place (request_fault.Reply fault)) (reply_fault access reply)
-      (as_operation s.asked access s.start s.end reply)
+      (as_operation s.fields access s.start s.end reply)
 
 -- why the request at a place was refused, where the home refuses it for this reason
 unfoldable pub refused_of : ℕ → Option Extent → Stated → Refusal → Result Refusal TraceFault
 refused_of place region s reason =
-    if not (is_refused_so reason (access_of region s.asked)) then Err (InRequest place request_fault.NotRefusedSo)
+    if not (is_refused_so reason (access_of region s.fields)) then Err (InRequest place request_fault.NotRefusedSo)
     else if nat_lt s.end s.start then Err (InRequest place request_fault.EndsBeforeStart)
     else Ok reason
 

@@ -8,7 +8,7 @@ use Rattle.chi_json.specs.declared.member.MemberFault.{MemberFault}
 use Rattle.chi_json.specs.declared.member.MemberFault.TheVariants.{BadMember}
 use Rattle.chi_json.specs.Values.{hex_bytes}
 use Rattle.chi_trace.specs.declared.words.GranuleWord.{GranuleWord}
-use Rattle.chi_trace.specs.Words.{told}
+use Rattle.chi_trace.specs.Words.{find_word}
 use Rattle.chi_reading.specs.declared.member.Member.{Member}
 use Rattle.chi_reading.specs.Member.{member_name}
 
@@ -34,7 +34,7 @@ told_of d =
 -- one more word, of a granule that none was told of
 abbrev pub told_more : List GranuleWord → Option GranuleWord → Option (List GranuleWord)
 told_more seen None = None
-told_more seen (Some w) = if is_some (told seen w.granule) then None else Some (seen ++ w ∷ [])
+told_more seen (Some w) = if is_some (find_word seen w.granule) then None else Some (seen ++ w ∷ [])
 
 -- the words that were told, and those of the elements to come
 unfoldable pub told_from : List GranuleWord → Items → Option (List GranuleWord)

@@ -8,8 +8,8 @@ use Rattle.chi_fields.specs.declared.refusal.Refusal.{Refusal}
 use Rattle.chi_json.specs.Members.{◌>>=◌, member_by, number_of, opening_words, or_else, stated_words}
 use Rattle.chi_json.specs.Values.{json_value}
 use Rattle.chi_trace.specs.declared.words.GranuleWord.{GranuleWord}
-use Rattle.chi_trace.specs.Traces.{TraceValue, known_at}
-use Rattle.chi_trace.specs.Words.{told}
+use Rattle.chi_trace.specs.Traces.{TraceValue, trace_at}
+use Rattle.chi_trace.specs.Words.{find_word}
 use Rattle.chi_reading.specs.declared.member.Member.TheVariants as member
 use Rattle.chi_reading.specs.Member.{member_name}
 use Rattle.chi_reading.specs.declared.recorded.Memory.{Memory}
@@ -83,13 +83,13 @@ pub record RecordedValue : Type 0 where
 
 -- What had happened by a time. No words are told at the end, and no refusals, whose times are not kept.
 abbrev pub cut_at : ℕ → RecordedValue → RecordedValue
-cut_at time r = record r { trace = known_at time r.trace; final_words = []; refusals = [] }
+cut_at time r = record r { trace = trace_at time r.trace; final_words = []; refusals = [] }
 
 -- the memory that was read is what the text says
 pub record IsMemoryOf (t : MemoryText) (m : Memory) : Type 0 where
   pub region : m.region ≡ t.region
-  pub opening : (g : ℕ) → told m.opening g ≡ told t.opening g
-  pub final_words : (g : ℕ) → told m.final_words g ≡ told t.final_words g
+  pub opening : (g : ℕ) → find_word m.opening g ≡ find_word t.opening g
+  pub final_words : (g : ℕ) → find_word m.final_words g ≡ find_word t.final_words g
 
 -- The trace that was read has this memory, and these operations, in some order; and why the other requests were refused.
 pub record IsRecorded (m : Memory) (c : Completed) (r : RecordedValue) : Type 0 where
@@ -102,7 +102,7 @@ pub record IsRecorded (m : Memory) (c : Completed) (r : RecordedValue) : Type 0 
 -- It is what the text says: its operations, in some order; why the other requests were refused; and the same words of granules.
 pub record IsOf (t : TextValue) (r : RecordedValue) : Type 0 where
   pub region : r.region ≡ t.memory.region
-  pub opening : (g : ℕ) → told r.trace.opening g ≡ told t.memory.opening g
-  pub final_words : (g : ℕ) → told r.final_words g ≡ told t.memory.final_words g
+  pub opening : (g : ℕ) → find_word r.trace.opening g ≡ find_word t.memory.opening g
+  pub final_words : (g : ℕ) → find_word r.final_words g ≡ find_word t.memory.final_words g
   pub operations : IsPermutation t.completed.operations r.trace.operations
   pub refusals : r.refusals ≡ t.completed.refusals

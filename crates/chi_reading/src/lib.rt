@@ -1,8 +1,8 @@
 //! Traces as JSON texts, and how one is read. Source: profile.
 #![tactic(auto)]
 
-mod asked;
 mod fault;
+mod fields;
 mod member;
 mod observed;
 mod recorded;
@@ -12,8 +12,8 @@ mod stated;
 mod told;
 mod unknown;
 
-pub use asked::{lanes, request_asked, request_fields};
 pub use fault::{MOST_OPERATIONS, RequestFault, TraceFault};
+pub use fields::{lanes, request_fields, request_with_data};
 pub use member::Member;
 pub use recorded::{Recorded, read_trace};
 pub use refused::refusal_named;

@@ -19,7 +19,7 @@ pub(crate) fn observed(
 ) -> Result<Operation, TraceFault>
     ensures { result ≡ observed_of place region.now stated.now reply }
 {
-    let access = match access(&stated.asked, region) {
+    let access = match access(&stated.fields, region) {
         Ok(access) => access,
         Err(refusal) => {
             return Err(TraceFault::InRequest {
@@ -42,7 +42,7 @@ pub(crate) fn observed(
     }
     Ok(
         stated
-            .asked
+            .fields
             .operation(access, stated.start, stated.end, reply),
     )
 }

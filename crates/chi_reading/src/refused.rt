@@ -3,13 +3,13 @@
 ghost use Rattle.std.specs.Prelude.{◌≡◌};
 ghost use Rattle.serde_json.specs.View.{view};
 ghost use Rattle.chi_reading.specs.Refused.{is_refused_so, refusal_of, refusal_with};
-ghost use Rattle.chi_trace.specs.Asked.{access_of};
+ghost use Rattle.chi_trace.specs.RequestFields.{access_of};
 ghost use Rattle.chi_reading.specs.Requests.{refused_of};
 
 use crate::fault::{RequestFault, TraceFault};
 use crate::stated::Stated;
 use chi_fields::{Refusal, Region, refusal_name};
-use chi_trace::{Asked, access};
+use chi_trace::{RequestFields, access};
 use serde_json::Value;
 
 /// The reasons, in the order in which a home meets them.
@@ -46,10 +46,10 @@ pub fn refusal_named(value: &Value) -> Option<Refusal>
 }
 
 /// Whether a home, of a region or of all addresses, refuses the request for this reason.
-fn is_refused_so(asked: &Asked, region: &Option<Region>, reason: Refusal) -> bool
-    ensures { result ≡ is_refused_so reason (access_of region.now asked.now) }
+fn is_refused_so(fields: &RequestFields, region: &Option<Region>, reason: Refusal) -> bool
+    ensures { result ≡ is_refused_so reason (access_of region.now fields.now) }
 {
-    match access(asked, region) {
+    match access(fields, region) {
         Ok(_) => false,
         Err(refusal) => refusal_name(refusal) == refusal_name(reason),
     }
@@ -65,7 +65,7 @@ pub(crate) fn refused(
 ) -> Result<Refusal, TraceFault>
     ensures { result ≡ refused_of place region.now stated.now reason }
 {
-    if !is_refused_so(&stated.asked, region, reason) {
+    if !is_refused_so(&stated.fields, region, reason) {
         return Err(TraceFault::InRequest {
             place,
             fault: RequestFault::NotRefusedSo,

@@ -6,15 +6,15 @@ ghost use Rattle.serde_json.specs.View.{view};
 ghost use Rattle.chi_reading.specs.Member.{member_name};
 ghost use Rattle.chi_reading.specs.Requests.{answer_of, end_of, members_of, outcome_by, reply_by, seen_of, stated_at, stated_of};
 
-use crate::asked::request_asked;
 use crate::fault::{RequestFault, TraceFault, fault_in};
+use crate::fields::request_with_data;
 use crate::member::Member;
 use crate::refused::refusal_named;
 use crate::unknown::{refused_members, request_members, unknown_member};
 use chi_fields::Refusal;
 use chi_json::{MemberFault, hex_bytes, number};
 use chi_lanes::Reply;
-use chi_trace::Asked;
+use chi_trace::RequestFields;
 use serde_json::Value;
 
 /// What came of a request.
@@ -42,7 +42,7 @@ impl Outcome {
 /// A request, its times, and what came of it. The end of one that was open when the trace ended is 2^64 - 1.
 #[derive(Clone, Copy)]
 pub(crate) struct Stated {
-    pub asked: Asked,
+    pub fields: RequestFields,
     pub start: u64,
     pub end: u64,
     pub outcome: Outcome,
@@ -121,12 +121,12 @@ fn outcome_stated(object: &Value) -> Result<Outcome, MemberFault<Member>>
 fn request_stated(place: usize, object: &Value) -> Result<Stated, MemberFault<Member>>
     ensures { result ≡ stated_of place (view object.now) }
 {
-    let asked = request_asked(place as u64, object)?;
+    let fields = request_with_data(place as u64, object)?;
     let start = number(object, Member::Start, u64::MAX)?;
     let end = end(object)?;
     let outcome = outcome_stated(object)?;
     Ok(Stated {
-        asked,
+        fields,
         start,
         end,
         outcome,

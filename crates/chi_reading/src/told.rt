@@ -4,7 +4,7 @@ ghost use Rattle.std.specs.Prelude.{◌≡◌, ◌≢◌, ◌≤◌, ◌^◌, �
 ghost use Rattle.serde_json.specs.View.{items_view, view};
 ghost use Rattle.chi_reading.specs.Told.{region_words, start_of, stated_list, told_from, told_of, word_of};
 ghost use Rattle.chi_trace.specs.declared.words.GranuleWord.{GranuleWord};
-ghost use Rattle.chi_trace.specs.Words.{told};
+ghost use Rattle.chi_trace.specs.Words.{find_word};
 
 use crate::member::Member;
 use chi_json::{MemberFault, hex_bytes};
@@ -20,7 +20,7 @@ pub(crate) fn region_words(
     words: &[u64],
 ) -> Result<GranuleWords, AllocError>
     requires { first ≤ 2 ^ 61 }
-    ensures { IfOk result (λ list. (g : ℕ) → told list g ≡ told (region_words first words.now) g) }
+    ensures { IfOk result (λ list. (g : ℕ) → find_word list g ≡ find_word (region_words first words.now) g) }
 {
     let mut map = BTreeMap::new(alloc);
     let mut granule = first;
@@ -77,7 +77,7 @@ fn told_list(
     list: &[Value],
     member: Member,
 ) -> Result<GranuleWords, MemberFault<Member>>
-    ensures ok { IfOk result (λ words. (each : List GranuleWord) × (told_from [] (items_view list.now) ≡ Some each) × ((g : ℕ) → told words g ≡ told each g)) }
+    ensures ok { IfOk result (λ words. (each : List GranuleWord) × (told_from [] (items_view list.now) ≡ Some each) × ((g : ℕ) → find_word words g ≡ find_word each g)) }
     ensures fault { IfErr result (λ f. f ≢ MemberFault.Memory → (f ≡ MemberFault.BadMember member) × (told_from [] (items_view list.now) ≡ None)) }
 {
     let mut map = BTreeMap::new(alloc);
@@ -101,7 +101,7 @@ pub(crate) fn stated_list(
     object: &Value,
     member: Member,
 ) -> Result<GranuleWords, MemberFault<Member>>
-    ensures ok { IfOk result (λ words. (each : List GranuleWord) × (stated_list member (view object.now) ≡ Ok each) × ((g : ℕ) → told words g ≡ told each g)) }
+    ensures ok { IfOk result (λ words. (each : List GranuleWord) × (stated_list member (view object.now) ≡ Ok each) × ((g : ℕ) → find_word words g ≡ find_word each g)) }
     ensures fault { IfErr result (λ f. f ≢ MemberFault.Memory → stated_list member (view object.now) ≡ Err f) }
 {
     let Some(value) = object.get(member.name()) else {

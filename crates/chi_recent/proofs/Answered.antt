@@ -6,7 +6,7 @@ use Rattle.std.proofs.lemmas.List.Elements.{All-cons, All-head, All-tail, filter
 use Rattle.std.proofs.lemmas.List.Sorted.{All-permutation, IsPermutation-middle, IsPermutation-sym, IsPermutation-trans}
 use Rattle.chi_lanes.specs.declared.reply.Reply.{Reply}
 use Rattle.chi_trace.specs.declared.operation.Operation.{Operation}
-use Rattle.chi_trace.specs.Chosen.{GranulesTold, is_in}
+use Rattle.chi_trace.specs.AtPlaces.{GranulesStandAlone, is_in}
 use Rattle.chi_trace.specs.Cuts.{cut}
 use Rattle.chi_trace.specs.Explains.{at, nothing}
 use Rattle.chi_search.specs.Layers.{SomeLeads}
@@ -22,7 +22,7 @@ use Rattle.chi_recent.proofs.Lists.{filter_each}
 regrouped : (a b c d : List Operation) (op : Operation) → (a ++ b) ++ op ∷ (c ++ d) ≡ a ++ ((b ++ op ∷ c) ++ d)
 regrouped a b c d op = append_assoc a b (op ∷ (c ++ d)) ∙ ap (λ (l : List Operation). a ++ l) (sym (append_assoc b (op ∷ c) d))
 
-module _ (law : GranulesTold) (trace : List Operation) (g w : ℕ) (r : RecentValue) (is : IsRecentOf trace g w r) (time : ℕ) (seen : IsSeen r time) (place : ℕ) (within : place < length r.kept) where
+module _ (law : GranulesStandAlone) (trace : List Operation) (g w : ℕ) (r : RecentValue) (is : IsRecentOf trace g w r) (time : ℕ) (seen : IsSeen r time) (place : ℕ) (within : place < length r.kept) where
   abbrev k : Keeps (w ∷ []) is.told is.now r
   k = is.keeps
 

@@ -5,7 +5,7 @@ use Rattle.std.proofs.lemmas.Bool.{le-leb, lt-leb}
 use Rattle.std.proofs.lemmas.List.{map-append}
 use Rattle.std.proofs.lemmas.List.Elements.{All-cons, All-head, All-nil, All-tail, filter-append}
 use Rattle.chi_trace.specs.declared.operation.Operation.{Operation}
-use Rattle.chi_trace.specs.Cuts.{cut, has_started, known}
+use Rattle.chi_trace.specs.Cuts.{cut, has_started, operation_at}
 use Rattle.chi_trace.specs.Explains.{at}
 use Rattle.chi_search.specs.Frontiers.{CanBeTold, FrontierValue, MayBeTold}
 use Rattle.chi_search.specs.Searchable.{AreSorted}
@@ -13,7 +13,7 @@ use Rattle.chi_search.proofs.Telling.{sorted_after, sorted_one}
 use Rattle.chi_recent.specs.Recent.{LiesWithin}
 
 pub cut-append : (time : ℕ) (a b : List Operation) → cut time (a ++ b) ≡ cut time a ++ cut time b
-cut-append time a b = ap (map (known time)) (filter-append (has_started time) a b) ∙ map-append (known time) (filter (has_started time) a) (filter (has_started time) b)
+cut-append time a b = ap (map (operation_at time)) (filter-append (has_started time) a b) ∙ map-append (operation_at time) (filter (has_started time) a) (filter (has_started time) b)
 
 -- it started no earlier than it ended, and ended by a time
 abbrev pub EndedBy : ℕ → Operation → Type 0
@@ -29,10 +29,10 @@ cut_whole time (op ∷ ops) all =
     by_tests (nat_le op.start time) (nat_le op.end time) started ended (cut_whole time ops (All-tail (EndedBy time) op ops all))
   where
     by_tests : (s e : Bool) → s ≡ true → e ≡ true → cut time ops ≡ ops
-        → map (known time) (cond s (op ∷ filter (has_started time) ops) (filter (has_started time) ops)) ≡ op ∷ ops
+        → map (operation_at time) (cond s (op ∷ filter (has_started time) ops) (filter (has_started time) ops)) ≡ op ∷ ops
     by_tests true e s_is e_is rest = by_end (nat_le op.end time) (le-leb op.end time (All-head (EndedBy time) op ops all).1)
       where
-        by_end : (b : Bool) → nat_le op.end time ≡ true → known time op ∷ cut time ops ≡ op ∷ ops
+        by_end : (b : Bool) → nat_le op.end time ≡ true → operation_at time op ∷ cut time ops ≡ op ∷ ops
         by_end b is = ap (λ (o : Operation). o ∷ cut time ops) (ap (λ (t : Bool). cond t op (record op { reply = None })) is) ∙ ap (λ (l : List Operation). op ∷ l) rest
     by_tests false e s_is e_is rest = absurd (true≢false (sym s_is))
 
@@ -44,22 +44,22 @@ cut_later time (op ∷ ops) all =
     (cut_later time ops (All-tail (λ (o : Operation). time < o.start) op ops all))
   where
     by_test : (s : Bool) → s ≡ false → cut time ops ≡ []
-        → map (known time) (cond s (op ∷ filter (has_started time) ops) (filter (has_started time) ops)) ≡ []
+        → map (operation_at time) (cond s (op ∷ filter (has_started time) ops) (filter (has_started time) ops)) ≡ []
     by_test true is rest = absurd (true≢false is)
     by_test false is rest = rest
 
 -- what holds of each operation, whatever is known of its reply, holds of each in a cut
-pub All-cut : (P : Operation → Type 0) → ((time : ℕ) (op : Operation) → P op → P (known time op)) → (time : ℕ) (ops : List Operation) → All P ops → All P (cut time ops)
+pub All-cut : (P : Operation → Type 0) → ((time : ℕ) (op : Operation) → P op → P (operation_at time op)) → (time : ℕ) (ops : List Operation) → All P ops → All P (cut time ops)
 All-cut P stays time [] all = All-nil P
 All-cut P stays time (op ∷ ops) all =
     by_test (has_started time op) (stays time op (All-head P op ops all)) (All-cut P stays time ops (All-tail P op ops all))
   where
-    by_test : (s : Bool) → P (known time op) → All P (cut time ops) → All P (map (known time) (cond s (op ∷ filter (has_started time) ops) (filter (has_started time) ops)))
-    by_test true first rest = All-cons P (known time op) (cut time ops) first rest
+    by_test : (s : Bool) → P (operation_at time op) → All P (cut time ops) → All P (map (operation_at time) (cond s (op ∷ filter (has_started time) ops) (filter (has_started time) ops)))
+    by_test true first rest = All-cons P (operation_at time op) (cut time ops) first rest
     by_test false first rest = rest
 
 -- a fact that speaks of no reply stays
-pub stays_known : (P : Operation → Type 0) → ((op : Operation) → P op → P (record op { reply = None })) → (time : ℕ) (op : Operation) → P op → P (known time op)
+pub stays_known : (P : Operation → Type 0) → ((op : Operation) → P op → P (record op { reply = None })) → (time : ℕ) (op : Operation) → P op → P (operation_at time op)
 stays_known P without time op is = by_test (nat_le op.end time)
   where
     by_test : (b : Bool) → P (cond b op (record op { reply = None }))
@@ -86,15 +86,15 @@ pub cut_sorted : (time : ℕ) (ops : List Operation) → AreSorted ops → AreSo
 cut_sorted time [] sorted = sorted
 cut_sorted time (op ∷ ops) sorted = by_test (has_started time op) (cut_sorted time ops (sorted_tail op ops sorted))
   where
-    lasting : (known time op).start ≤ (known time op).end
+    lasting : (operation_at time op).start ≤ (operation_at time op).end
     lasting = stays_known (λ o. o.start ≤ o.end) (λ o is. is) time op (All-head (λ (o : Operation). o.start ≤ o.end) op ops sorted.1)
 
-    no_later : (known time op).end ≤ op.end
+    no_later : (operation_at time op).end ≤ op.end
     no_later = stays_known (λ o. o.end ≤ op.end) (λ o is. is) time op (omega arith)
 
-    by_test : (s : Bool) → AreSorted (cut time ops) → AreSorted (map (known time) (cond s (op ∷ filter (has_started time) ops) (filter (has_started time) ops)))
-    by_test true rest = sorted_after (known time op ∷ []) (cut time ops) op.end (sorted_one (known time op) lasting) rest
-        (All-cons (λ (o : Operation). o.end ≤ op.end) (known time op) [] no_later (All-nil (λ (o : Operation). o.end ≤ op.end)))
+    by_test : (s : Bool) → AreSorted (cut time ops) → AreSorted (map (operation_at time) (cond s (op ∷ filter (has_started time) ops) (filter (has_started time) ops)))
+    by_test true rest = sorted_after (operation_at time op ∷ []) (cut time ops) op.end (sorted_one (operation_at time op) lasting) rest
+        (All-cons (λ (o : Operation). o.end ≤ op.end) (operation_at time op) [] no_later (All-nil (λ (o : Operation). o.end ≤ op.end)))
         (All-cut (λ o. op.end ≤ o.end) (stays_known (λ o. op.end ≤ o.end) (λ o is. is)) time ops (ends_after op ops sorted))
     by_test false rest = rest
 

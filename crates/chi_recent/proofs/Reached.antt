@@ -7,7 +7,7 @@ use Rattle.std.proofs.lemmas.List.{get_or-take, get_or_default, length-take-le}
 use Rattle.std.proofs.lemmas.List.Elements.{All-append, All-contains, All-nil, All-weaker, filter-append}
 use Rattle.std.proofs.lemmas.List.Sorted.{All-permutation, Contains-permutation, IsPermutation-sym, IsPermutation-trans}
 use Rattle.chi_trace.specs.declared.operation.Operation.{Operation}
-use Rattle.chi_trace.specs.Chosen.{GranulesTold, is_in}
+use Rattle.chi_trace.specs.AtPlaces.{GranulesStandAlone, is_in}
 use Rattle.chi_trace.specs.Cuts.{cut}
 use Rattle.chi_trace.specs.Explains.{at, is_answered, is_place, nothing}
 use Rattle.chi_trace.specs.Granules.{granule_of, is_of}
@@ -33,7 +33,7 @@ pub seen_before : (r : RecentValue) (ops : List Operation) (count : ℕ) → cou
 seen_before r ops count within before i below stopped =
     subst (λ (o : Operation). o.end < r.horizon) (get_or-take count ops i nothing below) (before i nothing (omega (arith, below, within, length-take-le count ops within)))
 
-module _ (law : GranulesTold) (trace : List Operation) (g w : ℕ) (r : RecentValue) (is : IsRecentOf trace g w r) where
+module _ (law : GranulesStandAlone) (trace : List Operation) (g w : ℕ) (r : RecentValue) (is : IsRecentOf trace g w r) where
   abbrev k : Keeps (w ∷ []) is.told is.now r
   k = is.keeps
 
@@ -310,7 +310,7 @@ module _ (law : GranulesTold) (trace : List Operation) (g w : ℕ) (r : RecentVa
             lasts = k.next.sorted.1
 
 -- the words that a search found, of the operations before those that are kept and of these
-pub words_by_time : GranulesTold → (r : RecentValue) (before : FrontierValue) (more : List Operation) (time : ℕ) (each : List ℕ) → before ≡ r.before → more ≡ r.kept
+pub words_by_time : GranulesStandAlone → (r : RecentValue) (before : FrontierValue) (more : List Operation) (time : ℕ) (each : List ℕ) → before ≡ r.before → more ≡ r.kept
     → ((words : List ℕ) (told : List Operation) → Follows words told before → (v : ℕ) → Contains each v ↔ SomeLeads (told ++ cut time more) words v)
     → AreWordsBy r time each
 words_by_time law r before more time each same ops_is found seen trace g w is v =
@@ -319,7 +319,7 @@ words_by_time law r before more time each same ops_is found seen trace g w is v 
     let leaves = words_seen law trace g w r is time seen v in
     (λ there. leaves.0 (leads.0 there), λ can. leads.1 (leaves.1 can))
 
-pub words_of_all : GranulesTold → (r : RecentValue) (before : FrontierValue) (more : List Operation) (each : List ℕ) → before ≡ r.before → more ≡ r.kept
+pub words_of_all : GranulesStandAlone → (r : RecentValue) (before : FrontierValue) (more : List Operation) (each : List ℕ) → before ≡ r.before → more ≡ r.kept
     → ((words : List ℕ) (told : List Operation) → Follows words told before → (v : ℕ) → Contains each v ↔ SomeLeads (told ++ more) words v)
     → r.is_stopped ≡ false → (trace : List Operation) (g w : ℕ) → IsRecentOf trace g w r → (v : ℕ) → Contains each v ↔ CanLeave trace g w v
 words_of_all law r before more each same ops_is found goes trace g w is v =
@@ -338,7 +338,7 @@ pub record StopsAt (r : RecentValue) (trace : List Operation) (g w : ℕ) (kept 
   pub overlapping : (during : List Operation) → IsPermutation (filter (is_during time) kept) during → IsPermutation (filter (is_open_at g time) trace) during
   pub has : (during : List Operation) → IsPermutation (filter (is_during time) kept) during → (t : Operation) → Contains kept t → t.end ≡ time → Contains during t
 
-pub stops_at : GranulesTold → (r : RecentValue) (more : List Operation) (kept : List Operation) (place : ℕ) (d : Operation) → more ≡ r.kept → kept ≡ r.kept
+pub stops_at : GranulesStandAlone → (r : RecentValue) (more : List Operation) (kept : List Operation) (place : ℕ) (d : Operation) → more ≡ r.kept → kept ≡ r.kept
     → place < length more → AreSeen r more (place + 1) → IsUnexplained r (at more place).end → (trace : List Operation) (g w : ℕ) → IsRecentOf trace g w r
     → StopsAt r trace g w kept more place (get_or more place d).end
 stops_at law r more kept place d ops_is kept_is within seen unexplained trace g w is =
@@ -369,7 +369,7 @@ place_seen r more count place ops_is seen first within trace g w is =
     record { since = omega (arith, from); before = seen place first }
 
 -- the last end before the horizon, where it has stopped
-pub last_before : GranulesTold → (r : RecentValue) (more : List Operation) (count : ℕ) → more ≡ r.kept → r.is_stopped ≡ true
+pub last_before : GranulesStandAlone → (r : RecentValue) (more : List Operation) (count : ℕ) → more ≡ r.kept → r.is_stopped ≡ true
     → count ≤ length more → All (λ op. op.end < r.horizon) (take count more) → (count < length more → r.horizon ≤ (at more count).end)
     → (trace : List Operation) (g w : ℕ) → IsRecentOf trace g w r → (0 < count) × (IsExplained (at more (count - 1)).end trace g w → ⊥)
 last_before law r more count ops_is stopped within before first trace g w is =
@@ -378,7 +378,7 @@ last_before law r more count ops_is stopped within before first trace g w is =
     (stopped_last law trace g w r is stopped count) within before first
 
 -- and of all, where it has not
-pub last_of_all : GranulesTold → (r : RecentValue) (more : List Operation) (count : ℕ) (words : List ℕ) → more ≡ r.kept → r.is_stopped ≡ false → count ≡ length more → length words ≡ 0
+pub last_of_all : GranulesStandAlone → (r : RecentValue) (more : List Operation) (count : ℕ) (words : List ℕ) → more ≡ r.kept → r.is_stopped ≡ false → count ≡ length more → length words ≡ 0
     → ((trace : List Operation) (g w : ℕ) → IsRecentOf trace g w r → (v : ℕ) → Contains words v ↔ CanLeave trace g w v)
     → (trace : List Operation) (g w : ℕ) → IsRecentOf trace g w r → (0 < count) × (IsExplained (at more (count - 1)).end trace g w → ⊥)
 last_of_all law r more count words ops_is goes count_is none each trace g w is =

@@ -4,7 +4,7 @@ use Rattle.std.specs.List.{filter}
 use Rattle.chi_lanes.specs.declared.reply.Reply.{Reply}
 use Rattle.chi_search.specs.Frontiers.{Follows, FrontierValue}
 use Rattle.chi_search.specs.Layers.{SomeLeads}
-use Rattle.chi_trace.specs.Chosen.{is_in}
+use Rattle.chi_trace.specs.AtPlaces.{is_in}
 use Rattle.chi_trace.specs.Cuts.{cut}
 use Rattle.chi_trace.specs.Explains.{at}
 use Rattle.chi_trace.specs.Granules.{ExplainsGranule}

@@ -1,7 +1,7 @@
 -- how far a granule's operations can be explained
 use Rattle.std.specs.Prelude.{◌≡◌, ℕ, ◌+◌, ◌<◌, nat_le, Bool, true, ◌&&◌, List, [], ◌∷◌, All, length, None, Some, ◌↔◌, IsPermutation}
 use Rattle.std.specs.List.{Contains, filter}
-use Rattle.chi_trace.specs.Chosen.{is_in}
+use Rattle.chi_trace.specs.AtPlaces.{is_in}
 use Rattle.chi_trace.specs.Cuts.{cut}
 use Rattle.chi_trace.specs.Explains.{IsTrace, is_answered}
 use Rattle.chi_trace.specs.Granules.{ExplainsGranule}

@@ -1,7 +1,7 @@
 -- which operations are shown of those that ended before a granule's stop being explained
 use Rattle.std.specs.Prelude.{◌≡◌, ℕ, ◌-◌, ◌<◌, ◌≤◌, nat_le, Bool, ◌&&◌, List, [], ◌∷◌, ◌++◌, drop, length, IsPermutation}
 use Rattle.std.specs.List.{AllPairs, filter}
-use Rattle.chi_trace.specs.Chosen.{is_in}
+use Rattle.chi_trace.specs.AtPlaces.{is_in}
 use Rattle.chi_trace.specs.declared.operation.Operation.{Operation}
 
 -- the last so many of a list

@@ -16,7 +16,7 @@ use crate::search::{words_after, words_by};
 use crate::shown::{answered_at, before_at, open_at};
 use chi_search::{Progress, Words};
 use chi_trace::Operation;
-use chi_trace::laws::granules_told;
+use chi_trace::laws::granules_stand_alone;
 use std::alloc::{AllocError, Global};
 
 impl Recent {
@@ -33,7 +33,7 @@ impl Recent {
         ensures unknown { IfOk result (λ found. IfUnknown found ((trace : List Operation) (g w : ℕ) → IsRecentOf trace g w self.now → LookedMore P.looked progress.old progress.new budget)) }
         ensures looked { IfOk result (λ _. LookedSome P.looked progress.old progress.new) }
     {
-        granules_told();
+        granules_stand_alone();
         words_after(alloc, &self.before, ops, budget, progress)
     }
 
@@ -51,7 +51,7 @@ impl Recent {
         ensures unknown { IfOk result (λ found. IfUnknown found ((trace : List Operation) (g w : ℕ) → IsRecentOf trace g w self.now → LookedMore P.looked progress.old progress.new budget)) }
         ensures looked { IfOk result (λ _. LookedSome P.looked progress.old progress.new) }
     {
-        granules_told();
+        granules_stand_alone();
         words_by(alloc, &self.before, ops, time, budget, progress)
     }
 
@@ -157,7 +157,7 @@ impl Recent {
         ensures undecided { IfOk result (λ reach. IfUndecided reach ((trace : List Operation) (g w : ℕ) → IsRecentOf trace g w self.now → ((i : ℕ) → i + 1 ≡ place → IsExplained (at ops.now i).end trace g w) → LookedAtLeast P.looked progress.old progress.new budget)) }
         ensures looked { IfOk result (λ _. LookedSome P.looked progress.old progress.new) }
     {
-        granules_told();
+        granules_stand_alone();
         let time = ops[place].end;
         let Some(words) = self.words_before(alloc, ops, time, budget, progress)? else {
             return Ok(Reach::Undecided);
@@ -221,7 +221,7 @@ impl Recent {
         ensures undecided { IfOk result (λ reach. IfUndecided reach ((trace : List Operation) (g w : ℕ) → IsRecentOf trace g w self.now → LookedAtLeast P.looked progress.old progress.new budget)) }
         ensures looked { IfOk result (λ _. LookedSome P.looked progress.old progress.new) }
     {
-        granules_told();
+        granules_stand_alone();
         let ops = Vec::from_slice(alloc, &self.kept)?;
         if self.is_stopped {
             let count = ended_before(&ops, self.horizon);

@@ -5,7 +5,7 @@ use Rattle.chi_history.specs.declared.opening.Opening.{Opening}
 use Rattle.chi_history.specs.NumberLists.{has}
 use Rattle.chi_history.specs.NumberSets.{Apart}
 use Rattle.chi_history.specs.HomeClauses.{Joins}
-use Rattle.chi_rule.specs.declared.view.Part.{Part}
+use Rattle.chi_rule.specs.declared.view.Half.{Half}
 use Rattle.chi_rule.specs.declared.view.View.{View}
 
 -- every number below this one
@@ -47,8 +47,8 @@ abbrev pub alone : ℕ → View → View
 alone src v = knower v.opening (src ∷ []) v.seen
 
 -- what a seat knows that is made one with another
-abbrev pub part : View → Part
-part v = record { held = v.held; seen = v.seen }
+abbrev pub half : View → Half
+half v = record { held = v.held; seen = v.seen }
 
 -- two seats made one, which keeps what both knew
 abbrev pub both : View → View → View
@@ -58,10 +58,10 @@ both v w = record {
   opening = v.opening;
   held = v.held ++ w.held;
   seen = longest_of v.seen w.seen;
-  joint = Some (part v, part w);
+  joint = Some (half v, half w);
 }
 
 -- what is known of two seats that were made one
-abbrev pub IsJoint : List Entry → Option (Part × Part) → Type 0
+abbrev pub IsJoint : List Entry → Option (Half × Half) → Type 0
 IsJoint seen None = Unit {0}
 IsJoint seen (Some p) = Apart (has p.0.held) (has p.1.held) × Joins (has p.0.held) p.0.seen (has p.1.held) p.1.seen seen

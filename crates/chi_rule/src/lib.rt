@@ -9,4 +9,4 @@ mod view;
 pub use purpose::Purpose;
 pub use split_off::{SplitNumber, SplitOff};
 pub use values::OpeningValues;
-pub use view::{Part, View};
+pub use view::{Half, View};

@@ -5,7 +5,7 @@ use std::collections::LinkedList;
 
 /// What one of two seats knew that were made one: the numbers that it held, and the history that it had seen.
 #[derive(Drop)]
-pub struct Part {
+pub struct Half {
     pub held: LinkedList<u8>,
     pub seen: LinkedList<Entry>,
 }
@@ -22,5 +22,5 @@ pub struct View {
     pub opening: Opening,
     pub held: LinkedList<u8>,
     pub seen: LinkedList<Entry>,
-    pub joint: Option<(Part, Part)>,
+    pub joint: Option<(Half, Half)>,
 }

@@ -21,7 +21,7 @@ use Rattle.chi_json.proofs.ObjectLemmas.{bytes_read}
 use Rattle.chi_json.proofs.WalkLemmas.{at_ok}
 use Rattle.chi_json.proofs.WordLemmas.{AreDecoded-decode_sized}
 use Rattle.chi_trace.proofs.Decided.{IsWithin, accessed}
-use Rattle.chi_run_laws.proofs.Reading.{IsReply, asked, same_decision}
+use Rattle.chi_run_laws.proofs.Reading.{IsReply, fields, same_decision}
 use Rattle.chi_script.specs.Script.{IsWritable}
 use Rattle.std.specs.Prelude.{Some}
 
@@ -31,7 +31,7 @@ lawful region q a is told decided =
     let packet = AreDecoded-decode_sized (encode_lower q.lanes) 16 q.lanes told.lanes in
     let within : IsWithin a =
     at_ok _ a IsWithin (same_decision 0 region q ∙ decided)
-    (accessed (Some region) (asked 0 q) (record { bits = omega (arith, told.be); whole = packet.0; bytes = packet.1 }) is) in
+    (accessed (Some region) (fields 0 q) (record { bits = omega (arith, told.be); whole = packet.0; bytes = packet.1 }) is) in
     within.lawful
 
 zeros : (n : ℕ) → AreBytes (replicate n 0)

@@ -13,20 +13,20 @@ use Rattle.chi_script.specs.RunText.{granule_words}
 use Rattle.chi_script.proofs.GranuleWords.{get_or-granule_words, length-granule_words}
 use Rattle.chi_trace.specs.Explains.{word_of}
 use Rattle.chi_trace.specs.declared.words.GranuleWord.{GranuleWord}
-use Rattle.chi_trace.specs.Words.{memory_of, told}
+use Rattle.chi_trace.specs.Words.{find_word, memory_of}
 use Rattle.chi_reading.specs.Told.{region_words}
 
 -- no word is told of a granule before a region's first
-told_before : (first : ℕ) (words : List ℕ) (g : ℕ) → g < first → told (region_words first words) g ≡ None
-unfolding told region_words
+told_before : (first : ℕ) (words : List ℕ) (g : ℕ) → g < first → find_word (region_words first words) g ≡ None
+unfolding find_word region_words
 told_before first [] g before = refl
 told_before first (word ∷ words) g before =
     let other : (first == g) ≡ false = grind (arith, nat_tests) in
     rw other (told_before (first + 1) words g (omega arith))
 
 -- the words that are told of a region's granules
-pub told_in : (first : ℕ) (words : List ℕ) (i : ℕ) → i < length words → told (region_words first words) (first + i) ≡ Some (slice_index words i)
-unfolding told region_words
+pub told_in : (first : ℕ) (words : List ℕ) (i : ℕ) → i < length words → find_word (region_words first words) (first + i) ≡ Some (slice_index words i)
+unfolding find_word region_words
 told_in first [] i inside = absurd (omega arith)
 told_in first (word ∷ words) zero inside =
     let here : (first == first + 0) ≡ true = grind (arith, nat_tests) in
@@ -34,11 +34,11 @@ told_in first (word ∷ words) zero inside =
 told_in first (word ∷ words) (suc i) inside =
     let other : (first == first + suc i) ≡ false = grind (arith, nat_tests) in
     let next : first + 1 + i ≡ first + suc i = omega arith in
-    rw other (ap (told (region_words (first + 1) words)) (sym next) ∙ told_in (first + 1) words i (omega arith))
+    rw other (ap (find_word (region_words (first + 1) words)) (sym next) ∙ told_in (first + 1) words i (omega arith))
 
 -- none is told past the last
-told_past : (first : ℕ) (words : List ℕ) (g : ℕ) → first + length words ≤ g → told (region_words first words) g ≡ None
-unfolding told region_words
+told_past : (first : ℕ) (words : List ℕ) (g : ℕ) → first + length words ≤ g → find_word (region_words first words) g ≡ None
+unfolding find_word region_words
 told_past first [] g past = refl
 told_past first (word ∷ words) g past =
     let other : (first == g) ≡ false = grind (arith, nat_tests) in
@@ -46,10 +46,10 @@ told_past first (word ∷ words) g past =
 
 -- what is told of a granule, by where it lies
 by_place : (P : Option ℕ → Type 0) (first : ℕ) (words : List ℕ) (g : ℕ) → (g < first → P None) → ((i : ℕ) → i < length words → g ≡ first + i → P (Some (slice_index words i)))
-    → (first + length words ≤ g → P None) → P (told (region_words first words) g)
+    → (first + length words ≤ g → P None) → P (find_word (region_words first words) g)
 by_place P first words g before inside past = by_tests (nat_lt g first) refl (nat_lt g (first + length words)) refl
   where
-    by_tests : (a : Bool) → nat_lt g first ≡ a → (b : Bool) → nat_lt g (first + length words) ≡ b → P (told (region_words first words) g)
+    by_tests : (a : Bool) → nat_lt g first ≡ a → (b : Bool) → nat_lt g (first + length words) ≡ b → P (find_word (region_words first words) g)
     by_tests true is b there =
         let below : g < first = ltb-true g first is in
         subst P (sym (told_before first words g below)) (before below)
@@ -58,14 +58,14 @@ by_place P first words g before inside past = by_tests (nat_lt g first) refl (na
         let below : g < first + length words = ltb-true g (first + length words) there in
         let i : ℕ = g - first in
         let at : first + i ≡ g = omega arith in
-        subst P (sym (ap (told (region_words first words)) (sym at) ∙ told_in first words i (omega arith))) (inside i (omega arith) (sym at))
+        subst P (sym (ap (find_word (region_words first words)) (sym at) ∙ told_in first words i (omega arith))) (inside i (omega arith) (sym at))
     by_tests false is false there =
         let above : first + length words ≤ g = ltb-false g (first + length words) there in
         subst P (sym (told_past first words g above)) (past above)
 
 -- a word at the end that is told is the memory's
 pub ending_is : (m : Memory) (region : Extent) (g : ℕ) → IsRegion region
-    → IfSome (told (region_words (region.base / 8) (granule_words m region.base region.granules)) g) (λ w. word_of m g ≡ w)
+    → IfSome (find_word (region_words (region.base / 8) (granule_words m region.base region.granules)) g) (λ w. word_of m g ≡ w)
 ending_is m region g is =
     by_place (λ o. IfSome o (λ w. word_of m g ≡ w)) (region.base / 8) (granule_words m region.base region.granules) g
     (λ before. tt)
@@ -98,7 +98,7 @@ above_region region requesters image x above past =
 
 -- the memory of the words of a region's image is that at the opening
 byte_is : (region : Extent) (requesters : ℕ) (image : List ℕ) (words : List GranuleWord) (x : ℕ) → IsRegion region → length image ≡ region.granules
-    → ((g : ℕ) → told words g ≡ told (region_words (region.base / 8) image) g)
+    → ((g : ℕ) → find_word words g ≡ find_word (region_words (region.base / 8) image) g)
     → memory_of words x ≡ opening_memory (opened region requesters image) x
 byte_is region requesters image words x is count same =
     ap (λ (o : Option ℕ). unwrap_or o 0 / 256 ^ (x % 8) % 256) (same (x / 8))
@@ -117,6 +117,6 @@ byte_is region requesters image words x is count same =
     zero_byte x ∙ sym (above_region region requesters image x (omega (arith, past, line)) (omega (arith, past, line, count))))
 
 pub memory_is : (region : Extent) (requesters : ℕ) (image : List ℕ) (words : List GranuleWord) → IsRegion region → length image ≡ region.granules
-    → ((g : ℕ) → told words g ≡ told (region_words (region.base / 8) image) g)
+    → ((g : ℕ) → find_word words g ≡ find_word (region_words (region.base / 8) image) g)
     → opening_memory (opened region requesters image) ≡ memory_of words
 memory_is region requesters image words is count same = fun_ext (λ x. sym (byte_is region requesters image words x is count same))

@@ -8,7 +8,7 @@ use Rattle.std.specs.List.{range_with_len}
 use Rattle.std.specs.Prelude.{map}
 use Rattle.chi_history.specs.History.{one_if}
 use Rattle.chi_trace.specs.declared.operation.Operation.{Operation}
-use Rattle.chi_trace.specs.Chosen.{chosen}
+use Rattle.chi_trace.specs.AtPlaces.{at_places}
 use Rattle.chi_trace.specs.Explains.{IsTrace, at, is_place, nothing, times_in}
 use Rattle.chi_run_laws.proofs.Executions.{AreApart}
 
@@ -29,13 +29,13 @@ starts_before (op ∷ ops) place (suc i) zero apart earlier below = absurd (omeg
 starts_before (op ∷ ops) place (suc i) (suc j) apart earlier below = starts_before ops (op.start + 1) i j apart.2 (omega arith) (omega arith)
 
 -- what is so of each operation that was chosen is so of one of them
-one_chosen : (P : Operation → Type 0) (ops : List Operation) (order : List ℕ) (i : ℕ) → 1 ≤ times_in order i → All P (chosen ops order) → P (at ops i)
+one_chosen : (P : Operation → Type 0) (ops : List Operation) (order : List ℕ) (i : ℕ) → 1 ≤ times_in order i → All P (at_places ops order) → P (at ops i)
 unfolding times_in
 one_chosen P ops [] i there each = absurd (omega arith)
-one_chosen P ops (j ∷ order) i there each = by_test (j == i) refl (λ later. one_chosen P ops order i later (All-tail P (at ops j) (chosen ops order) each))
+one_chosen P ops (j ∷ order) i there each = by_test (j == i) refl (λ later. one_chosen P ops order i later (All-tail P (at ops j) (at_places ops order) each))
   where
     by_test : (b : Bool) → (j == i) ≡ b → (1 ≤ times_in order i → P (at ops i)) → P (at ops i)
-    by_test true same later = let is : j ≡ i = eqb-true j i same in subst (λ k. P (at ops k)) is (All-head P (at ops j) (chosen ops order) each)
+    by_test true same later = let is : j ≡ i = eqb-true j i same in subst (λ k. P (at ops k)) is (All-head P (at ops j) (at_places ops order) each)
     by_test false other later = let not_here : one_if (j == i) ≡ 0 = ap one_if other in later (omega (arith, there, not_here))
 
 -- how often each place stands in an order: those from the first on once, so many of them
@@ -52,7 +52,7 @@ here : (j : ℕ) → one_if (j == j) ≡ 1
 here j = ap one_if (eq-eqb j j refl)
 
 -- an order in which they stand by their starts is that of their places
-order_is : (ops : List Operation) (place a n : ℕ) (order : List ℕ) → AreApart place ops → a + n ≡ length ops → IsOnce a n order → IsTrace (chosen ops order)
+order_is : (ops : List Operation) (place a n : ℕ) (order : List ℕ) → AreApart place ops → a + n ≡ length ops → IsOnce a n order → IsTrace (at_places ops order)
     → order ≡ range_with_len a n
 unfolding IsTrace times_in
 order_is ops place a zero [] apart count once sorted = refl
@@ -141,8 +141,8 @@ all_chosen before (op ∷ rest) =
     ap (λ (o : Operation). o ∷ map (at (before ++ op ∷ rest)) (range_with_len (length before + 1) (length rest))) first ∙ ap (λ (l : List Operation). op ∷ l) later
 
 -- the operations that are apart, each once and by their starts, are those operations
-pub in_order : (ops : List Operation) (order : List ℕ) → AreApart 0 ops → ((i : ℕ) → times_in order i ≡ one_if (is_place ops i)) → IsTrace (chosen ops order)
-    → chosen ops order ≡ ops
+pub in_order : (ops : List Operation) (order : List ℕ) → AreApart 0 ops → ((i : ℕ) → times_in order i ≡ one_if (is_place ops i)) → IsTrace (at_places ops order)
+    → at_places ops order ≡ ops
 in_order ops order apart each sorted =
     ap (map (at ops)) (order_is ops 0 0 (length ops) order apart (omega arith) (record { before = before; inside = inside; past = past }) sorted) ∙ all_chosen [] ops
   where

@@ -24,10 +24,10 @@ use Rattle.chi_json.specs.Object.{IsReadBack, byte_order, with_bytes, with_numbe
 use Rattle.chi_reading.specs.Member.{member_name}
 use Rattle.chi_reading.specs.Refused.{is_refused_so, refusal_of}
 use Rattle.chi_trace.specs.Replies.{reply_fault}
-use Rattle.chi_trace.specs.Asked.{request_of}
-use Rattle.chi_reading.specs.Requests.{asked_of, completed_at, end_of, fields_of, observed_of, one_accepted, one_refused, refused_of, seen_of, stated_at, stated_of}
+use Rattle.chi_trace.specs.RequestFields.{request_of}
+use Rattle.chi_reading.specs.Requests.{completed_at, end_of, fields_of, observed_of, one_accepted, one_refused, refused_of, seen_of, stated_at, stated_of, stated_request}
 use Rattle.chi_reading.specs.Unknown.{is_known, unknown_in}
-use Rattle.chi_trace.specs.declared.asked.Asked.{Asked}
+use Rattle.chi_trace.specs.declared.request_fields.RequestFields.{RequestFields}
 use Rattle.chi_reading.specs.declared.member.Member.TheVariants.{Src, Txn, Opcode, Size, Addr, Endian, Be, Start, End}
 use Rattle.chi_trace.proofs.AnswersLie.{answer_is_faultless}
 use Rattle.chi_engine.specs.Trace.{taken_at, with_reply}
@@ -35,12 +35,12 @@ use Rattle.chi_run_laws.specs.Executed.{done_at}
 use Rattle.chi_script.specs.Script.{IsWritable}
 
 -- the same request, as a trace has it with this number
-abbrev pub asked : ℕ → Request → Asked
-asked n q = record { number = n; src = q.src; txn = q.txn; opcode = q.opcode; size = q.size; addr = q.addr; endian = q.endian; be = q.be; lanes = q.lanes }
+abbrev pub fields : ℕ → Request → RequestFields
+fields n q = record { number = n; src = q.src; txn = q.txn; opcode = q.opcode; size = q.size; addr = q.addr; endian = q.endian; be = q.be; lanes = q.lanes }
 
 -- the request of an object that was made of one, with a member `reply` more
-asked_answered : (time : ℕ) (q : Request) (x : Data) → IsWritable q → asked_of time (object (put (codes "reply") x (taken_at time q))) ≡ Ok (asked time q)
-unfolding asked_of fields_of taken_at with_request with_number with_bytes
+asked_answered : (time : ℕ) (q : Request) (x : Data) → IsWritable q → stated_request time (object (put (codes "reply") x (taken_at time q))) ≡ Ok (fields time q)
+unfolding stated_request fields_of taken_at with_request with_number with_bytes
 asked_answered time q x told =
     let d : Data = object (put (codes "reply") x (taken_at time q)) in
     rw (
@@ -56,8 +56,8 @@ asked_answered time q x told =
     ) refl
 
 -- the request of an object that was made of one, with a member `refused` more
-asked_refused : (time : ℕ) (q : Request) (x : Data) → IsWritable q → asked_of time (object (put (codes "refused") x (taken_at time q))) ≡ Ok (asked time q)
-unfolding asked_of fields_of taken_at with_request with_number with_bytes
+asked_refused : (time : ℕ) (q : Request) (x : Data) → IsWritable q → stated_request time (object (put (codes "refused") x (taken_at time q))) ≡ Ok (fields time q)
+unfolding stated_request fields_of taken_at with_request with_number with_bytes
 asked_refused time q x told =
     let d : Data = object (put (codes "refused") x (taken_at time q)) in
     rw (
@@ -122,11 +122,11 @@ refused_so OutOfRegion = refl
 refused_so BadByteEnable = refl
 
 -- a home does not look at the requester and the transaction
-pub same_decision : (place : ℕ) (region : Extent) (q : Request) → decision (request_of (asked place q)) region ≡ decision q region
+pub same_decision : (place : ℕ) (region : Extent) (q : Request) → decision (request_of (fields place q)) region ≡ decision q region
 unfolding decision_as
 same_decision place region q = by_kind (kind_of q.opcode)
   where
-    by_kind : (k : Option Kind) → decision_of k (request_of (asked place q)) region ≡ decision_of k q region
+    by_kind : (k : Option Kind) → decision_of k (request_of (fields place q)) region ≡ decision_of k q region
     by_kind None = refl
     by_kind (Some kind) = refl
 

@@ -20,7 +20,7 @@ use Rattle.chi_history.specs.Lines.{serial_after, serial_end}
 use Rattle.chi_history.proofs.WordLemmas.{IsMemory-opening_memory}
 use Rattle.chi_trace.specs.declared.operation.Operation.{Operation}
 use Rattle.chi_trace.specs.Explains.{Explains, IsTrace, at, is_place, times_in, word_of}
-use Rattle.chi_trace.specs.Words.{memory_of, told}
+use Rattle.chi_trace.specs.Words.{find_word, memory_of}
 use Rattle.chi_trace.proofs.ToldAgain.{lifted, times_permuted}
 use Rattle.chi_script.specs.RunText.{granule_words}
 use Rattle.chi_script.specs.Script.{IsWritable, ScriptValue}
@@ -41,14 +41,14 @@ use Rattle.chi_run_laws.proofs.Texts.{read_value, text_reads}
 -- the memory that requests leave is one of bytes
 end_is_memory : (region : Extent) → IsRegion region → (qs : List Request) (m : Memory) → IsMemory m → All IsWritable qs → IsMemory (serial_end region qs m)
 unfolding serial_end
-end_is_memory region is [] m is_m told = is_m
-end_is_memory region is (q ∷ qs) m is_m told = by_decision (decision q region) refl (λ m' is_m'. end_is_memory region is qs m' is_m' (All-tail IsWritable q qs told))
+end_is_memory region is [] m is_m writable = is_m
+end_is_memory region is (q ∷ qs) m is_m writable = by_decision (decision q region) refl (λ m' is_m'. end_is_memory region is qs m' is_m' (All-tail IsWritable q qs writable))
   where
     by_decision : (r : Result Access Refusal) → decision q region ≡ r → ((m' : Memory) → IsMemory m' → IsMemory (serial_end region qs m'))
         → IsMemory (serial_end region qs (serial_after (decision q region) m))
     by_decision (Ok a) decided later =
         subst (λ (d : Result Access Refusal). IsMemory (serial_end region qs (serial_after d m))) (sym decided)
-        (later (after a m) (IsMemory-after a m is_m (lawful region q a is (All-head IsWritable q qs told) decided)))
+        (later (after a m) (IsMemory-after a m is_m (lawful region q a is (All-head IsWritable q qs writable) decided)))
     by_decision (Err refusal) decided later =
         subst (λ (d : Result Access Refusal). IsMemory (serial_end region qs (serial_after d m))) (sym decided) (later m is_m)
 
@@ -96,10 +96,10 @@ is_explained input s t r read is recorded sorted =
     let ops : List Operation = executed (lines_of s) in
     let left : Memory = serial_end s.region s.requests (start s) in
     let order : List ℕ = range_with_len 0 (length ops) in
-    let ending : (g : ℕ) → IfSome (told r.final_words g) (λ w. word_of left g ≡ w) =
-    λ g. subst (λ (o : Option ℕ). IfSome o (λ w. word_of left g ≡ w)) (sym (recorded.final_words g ∙ ap (λ words. told words g) is.final_words)) (ending_is left s.region g sound.region) in
+    let ending : (g : ℕ) → IfSome (find_word r.final_words g) (λ w. word_of left g ≡ w) =
+    λ g. subst (λ (o : Option ℕ). IfSome o (λ w. word_of left g ≡ w)) (sym (recorded.final_words g ∙ ap (λ words. find_word words g) is.final_words)) (ending_is left s.region g sound.region) in
     let opening : start s ≡ memory_of r.trace.opening =
-    memory_is s.region requester_count s.image r.trace.opening sound.region sound.image.count (λ g. recorded.opening g ∙ ap (λ words. told words g) is.opening) in
-    let by_memory : Explains (start s) (told r.final_words) ops order = explained s.region s.requests (start s) (told r.final_words) ending in
-    let by_words : Explains (memory_of r.trace.opening) (told r.final_words) ops order = subst (λ (m : Memory). Explains m (told r.final_words) ops order) opening by_memory in
-    (order, subst (λ (l : List Operation). Explains (memory_of r.trace.opening) (told r.final_words) l order) (sym (read_in_order s t r is recorded sorted)) by_words)
+    memory_is s.region requester_count s.image r.trace.opening sound.region sound.image.count (λ g. recorded.opening g ∙ ap (λ words. find_word words g) is.opening) in
+    let by_memory : Explains (start s) (find_word r.final_words) ops order = explained s.region s.requests (start s) (find_word r.final_words) ending in
+    let by_words : Explains (memory_of r.trace.opening) (find_word r.final_words) ops order = subst (λ (m : Memory). Explains m (find_word r.final_words) ops order) opening by_memory in
+    (order, subst (λ (l : List Operation). Explains (memory_of r.trace.opening) (find_word r.final_words) l order) (sym (read_in_order s t r is recorded sorted)) by_words)

@@ -7,9 +7,9 @@ pub mod laws;
 mod member;
 mod page;
 mod parts;
+mod requests;
 mod script;
 mod transcript;
-mod walk;
 
 pub use device::{WriteFault, write_bytes};
 pub use fault::{MOST_REQUESTS, ScriptFault};

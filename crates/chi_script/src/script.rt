@@ -7,7 +7,7 @@ ghost use Rattle.chi_script.specs.Script.{object_script, script};
 
 use crate::fault::{MOST_REQUESTS, ScriptFault};
 use crate::member::Member;
-use crate::walk::requests;
+use crate::requests::requests;
 use chi_fields::{Region, Request};
 use chi_json::{json, number, opening_words};
 use serde_json::Value;

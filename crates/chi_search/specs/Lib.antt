@@ -4,7 +4,6 @@ pub mod Effects
 pub mod Equal
 pub mod Found
 pub mod Frontiers
-pub mod Knowing
 pub mod Layers
 pub mod Looks
 pub mod Makers
@@ -13,6 +12,7 @@ pub mod Outcomes
 pub mod Parts
 pub mod Paths
 pub mod Positions
+pub mod Problems
 pub mod Searchable
 pub mod StateSets
 pub mod Within

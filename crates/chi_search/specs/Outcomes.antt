@@ -2,7 +2,7 @@
 use Rattle.std.specs.Prelude.{ℕ, ◌⊎◌, Option, None, Some}
 use Rattle.chi_trace.specs.declared.operation.Operation.{Operation}
 use Rattle.chi_search.specs.declared.outcomes.Outcomes.{Outcomes}
-use Rattle.chi_search.specs.declared.outcomes.Outcomes.TheVariants.{Known, Unknown}
+use Rattle.chi_search.specs.declared.outcomes.Outcomes.TheVariants.{Problem, Unknown}
 use Rattle.chi_search.specs.Effects.{Agree}
 use Rattle.chi_search.specs.Within.{StepsTo}
 
@@ -16,5 +16,5 @@ abbrev pub AreOutcomes : ℕ → Operation → ℕ → Option ℕ → Option ℕ
 AreOutcomes mask op v one other = (u : ℕ) → StepsTo mask op v u → HasBits mask u one ⊎ HasBits mask u other
 
 abbrev pub IfKnown : Outcomes → (Option ℕ → Option ℕ → Type 0) → Type 0
-IfKnown (Known one other) P = P one other
+IfKnown (Problem one other) P = P one other
 IfKnown Unknown P = Unit {0}

@@ -4,14 +4,14 @@ ghost use Rattle.std.specs.Prelude.{◌≡◌, ◌<◌, ◌≤◌, IfSome, IsTru
 ghost use Rattle.chi_trace.specs.declared.operation.Operation.{Operation};
 ghost use Rattle.chi_trace.specs.Explains.{at};
 ghost use Rattle.chi_search.specs.Effects.{AreEffects, HasEffect};
-ghost use Rattle.chi_search.specs.Knowing.{IsKnown};
+ghost use Rattle.chi_search.specs.Problems.{IsProblem};
 ghost use Rattle.chi_search.specs.Moves.{IsIdle};
 ghost use Rattle.chi_search.specs.Positions;
 ghost use Rattle.chi_search.specs.Positions.{IsReady, position_of};
 ghost use Rattle.chi_search.specs.Within.{GoesOnWithin, KeepsWithin};
 
 use crate::effect::Effect;
-use crate::known::Known;
+use crate::problem::Problem;
 use crate::state::{State, is_left, settle};
 use chi_trace::Operation;
 use std::alloc::AllocError;
@@ -27,7 +27,7 @@ fn is_kept(effect: &Effect, mask: u64, word: u64) -> bool
 /// Whether the operation at a place is known to change nothing, and finds the word as it is. `effects` has what is known of each
 /// operation, or is empty.
 pub(crate) fn keeps_word(ops: &[Operation], effects: &[Effect], place: usize, word: u64) -> bool
-    requires known { AreEffects ops.now effects.now }
+    requires effects { AreEffects ops.now effects.now }
     requires place { place < length ops.now }
     ensures { IsTrue result → IsIdle (at ops.now place) }
 {
@@ -37,21 +37,21 @@ pub(crate) fn keeps_word(ops: &[Operation], effects: &[Effect], place: usize, wo
 }
 
 // The place of an operation that keeps the bits of the mask and can come next, if there is one.
-fn kept_next(known: &Known, mask: u64, state: &State) -> Option<usize>
-    requires known { IsKnown known.now }
-    requires each { length known.now.ops.now ≤ length known.now.effects.now }
-    ensures left { IfSome result (λ place. Positions.is_left (length known.now.ops.now) (position_of state.now) place ≡ true) }
-    ensures keeps { IfSome result (λ place. KeepsWithin mask (at known.now.ops.now place)) }
+fn kept_next(problem: &Problem, mask: u64, state: &State) -> Option<usize>
+    requires problem { IsProblem problem.now }
+    requires each { length problem.now.ops.now ≤ length problem.now.effects.now }
+    ensures left { IfSome result (λ place. Positions.is_left (length problem.now.ops.now) (position_of state.now) place ≡ true) }
+    ensures keeps { IfSome result (λ place. KeepsWithin mask (at problem.now.ops.now place)) }
 {
-    let ops = known.ops;
+    let ops = problem.ops;
     if state.first >= ops.len() {
         return None;
     }
     let end = ops[state.first].end;
     let mut place = state.first;
-    while place < ops.len() && known.earliest[place] <= end {
+    while place < ops.len() && problem.earliest[place] <= end {
         if ops[place].start <= end
-            && is_kept(&known.effects[place], mask, state.word)
+            && is_kept(&problem.effects[place], mask, state.word)
             && is_left(state, ops.len(), place)
         {
             return Some(place);
@@ -63,21 +63,21 @@ fn kept_next(known: &Known, mask: u64, state: &State) -> Option<usize>
 
 /// Settles all such operations that can come, one after the other. `spare` is written over.
 pub(crate) fn absorb(
-    known: &Known,
+    problem: &Problem,
     mask: u64,
     state: &mut State,
     spare: &mut State,
 ) -> Result<(), AllocError>
-    requires known { IsKnown known.now }
-    requires each { length known.now.ops.now ≤ length known.now.effects.now }
-    requires ready { IsReady (length known.now.ops.now) (position_of state.now) }
-    ensures ready { OnOk result (IsReady (length known.now.ops.now) (position_of state.new)) }
-    ensures goes_on { OnOk result (GoesOnWithin mask known.now.ops.now (position_of state.old) (position_of state.new)) }
+    requires problem { IsProblem problem.now }
+    requires each { length problem.now.ops.now ≤ length problem.now.effects.now }
+    requires ready { IsReady (length problem.now.ops.now) (position_of state.now) }
+    ensures ready { OnOk result (IsReady (length problem.now.ops.now) (position_of state.new)) }
+    ensures goes_on { OnOk result (GoesOnWithin mask problem.now.ops.now (position_of state.old) (position_of state.new)) }
 {
-    for _ in 0..known.ops.len() {
-        match kept_next(known, mask, state) {
+    for _ in 0..problem.ops.len() {
+        match kept_next(problem, mask, state) {
             Some(place) => {
-                settle(state, known.ops.len(), place, state.word, spare)?;
+                settle(state, problem.ops.len(), place, state.word, spare)?;
                 mem::swap(state, spare);
             }
             None => return Ok(()),

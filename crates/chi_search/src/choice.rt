@@ -5,7 +5,7 @@ ghost use Rattle.chi_trace.specs.Explains.{at};
 ghost use Rattle.chi_trace.specs.Granules.{Fits};
 ghost use Rattle.chi_search.specs.Choices.{IfDead, IfEnded, IfStep, IfTried};
 ghost use Rattle.chi_search.specs.Effects.{AreEffects};
-ghost use Rattle.chi_search.specs.Knowing.{IsKnown};
+ghost use Rattle.chi_search.specs.Problems.{IsProblem};
 ghost use Rattle.chi_search.specs.Moves.{CanCome, Drops, IsIdle, Takes};
 ghost use Rattle.chi_search.specs.Paths.{AllDead, AreEarliest, AreTried, IsDead, Moves};
 ghost use Rattle.chi_search.specs.Positions.{IsReady, position_of};
@@ -15,9 +15,9 @@ use crate::absorbing::keeps_word;
 use crate::commuting::commuting_next;
 use crate::effect::Effect;
 use crate::equal::has_equal_before;
-use crate::known::Known;
 use crate::makers::{FOLLOWED, lacks_maker};
 use crate::narrowest::narrowest_next;
+use crate::problem::Problem;
 use crate::state::{State, is_left, settle};
 use crate::states::{States, has};
 use crate::step::{stays, step};
@@ -81,7 +81,7 @@ pub(crate) fn idle_next(
     state: &State,
 ) -> Option<usize>
     requires within { AreWithin ops.now }
-    requires known { AreEffects ops.now effects.now }
+    requires effects { AreEffects ops.now effects.now }
     requires earliest { AreEarliest ops.now earliest.now }
     requires first { state.now.first < length ops.now }
     ensures place { IfSome result (λ place. place < length ops.now) }
@@ -127,36 +127,36 @@ pub(crate) fn leave_out(
 /// `dead` is a set of states from which no order goes on. Where nothing is known of the operations only the rule is used that takes
 /// what changes nothing. `by_width` says whether what changes fewer bits is tried first.
 pub(crate) fn choose(
-    known: &Known,
+    problem: &Problem,
     dead: &States,
     state: &State,
     tried: usize,
     by_width: bool,
     next: &mut State,
 ) -> Result<Choice, AllocError>
-    requires known { IsKnown known.now }
-    requires ready { IsReady (length known.now.ops.now) (position_of state.now) }
-    requires tried { AreTried known.now.ops.now known.now.final_word (position_of state.now) tried }
-    ensures ended { IfOk result (λ choice. IfEnded choice ((length known.now.ops.now ≤ state.now.first) × IfSome known.now.final_word (λ seen. state.now.word ≡ seen))) }
-    ensures moves { IfOk result (λ choice. IfStep choice (λ op. Moves known.now.ops.now (position_of state.now) op (position_of next.new))) }
-    ensures ready { IfOk result (λ choice. IfStep choice (λ op. IsReady (length known.now.ops.now) (position_of next.new))) }
-    ensures tried { IfOk result (λ choice. IfTried choice (λ place. AllDead known.now.ops.now known.now.final_word dead.now → AreTried known.now.ops.now known.now.final_word (position_of state.now) place)) }
-    ensures dead { IfOk result (λ choice. IfDead choice (AllDead known.now.ops.now known.now.final_word dead.now → IsDead known.now.ops.now known.now.final_word (position_of state.now))) }
+    requires problem { IsProblem problem.now }
+    requires ready { IsReady (length problem.now.ops.now) (position_of state.now) }
+    requires tried { AreTried problem.now.ops.now problem.now.final_word (position_of state.now) tried }
+    ensures ended { IfOk result (λ choice. IfEnded choice ((length problem.now.ops.now ≤ state.now.first) × IfSome problem.now.final_word (λ seen. state.now.word ≡ seen))) }
+    ensures moves { IfOk result (λ choice. IfStep choice (λ op. Moves problem.now.ops.now (position_of state.now) op (position_of next.new))) }
+    ensures ready { IfOk result (λ choice. IfStep choice (λ op. IsReady (length problem.now.ops.now) (position_of next.new))) }
+    ensures tried { IfOk result (λ choice. IfTried choice (λ place. AllDead problem.now.ops.now problem.now.final_word dead.now → AreTried problem.now.ops.now problem.now.final_word (position_of state.now) place)) }
+    ensures dead { IfOk result (λ choice. IfDead choice (AllDead problem.now.ops.now problem.now.final_word dead.now → IsDead problem.now.ops.now problem.now.final_word (position_of state.now))) }
 {
-    let ops = known.ops;
-    let earliest = known.earliest;
+    let ops = problem.ops;
+    let earliest = problem.earliest;
     if state.first >= ops.len() {
-        return match known.final_word {
+        return match problem.final_word {
             Some(seen) if seen != state.word => Ok(Choice::Dead),
             _ => Ok(Choice::Ended),
         };
     }
-    let with_rules = !known.effects.is_empty();
+    let with_rules = !problem.effects.is_empty();
     // That the word is one of 64 bits is known here once it is read.
     let _word = state.word;
     let end = ops[state.first].end;
     if tried <= state.first {
-        if let Some(place) = idle_next(ops, known.effects, earliest, state) {
+        if let Some(place) = idle_next(ops, problem.effects, earliest, state) {
             if take(ops, state, place, next)? {
                 if has(dead, next) {
                     return Ok(Choice::Dead);
@@ -168,7 +168,7 @@ pub(crate) fn choose(
                 });
             }
         }
-        if lacks_maker(known, state, u64::MAX, end, end, LOOKED_AT, FOLLOWED) {
+        if lacks_maker(problem, state, u64::MAX, end, end, LOOKED_AT, FOLLOWED) {
             return Ok(Choice::Dead);
         }
         // Where some order goes on, one goes on by this operation.
@@ -183,7 +183,7 @@ pub(crate) fn choose(
             return Ok(Choice::Dead);
         }
     }
-    if let Some(place) = narrowest_next(known, dead, state, by_width, next)? {
+    if let Some(place) = narrowest_next(problem, dead, state, by_width, next)? {
         return Ok(Choice::Step {
             op: Some(place),
             tried,

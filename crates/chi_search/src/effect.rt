@@ -160,7 +160,7 @@ fn effect_of(op: &Operation) -> Effect
 /// What is known of each of the operations.
 pub(crate) fn effects_of(alloc: Global, ops: &[Operation]) -> Result<Vec<Effect>, AllocError>
     requires { AreWithin ops.now }
-    ensures known { IfOk result (λ effects. AreEffects ops.now effects.items) }
+    ensures effects { IfOk result (λ effects. AreEffects ops.now effects.items) }
     ensures each { IfOk result (λ effects. length effects.items ≡ length ops.now) }
 {
     let mut effects = Vec::with_capacity(alloc, ops.len())?;

@@ -71,7 +71,7 @@ fn add_moves(
 fn waits(ops: &[Operation], horizon: Option<u64>, first: usize) -> bool
     ensures waits { IsTrue result → Waits ops.now horizon first }
     ensures first { result ≡ false → first < length ops.now }
-    ensures known { result ≡ false → IfSome horizon (λ time. (at ops.now first).end < time) }
+    ensures passed { result ≡ false → IfSome horizon (λ time. (at ops.now first).end < time) }
 {
     if first >= ops.len() {
         return true;

@@ -2,14 +2,14 @@
 
 ghost use Rattle.std.specs.Prelude.{◌≡◌, ℕ, ◌<◌, ◌≤◌, true, IsTrue, IfSome, Option, None, length};
 ghost use Rattle.chi_trace.specs.Explains.{at, is_answered};
-ghost use Rattle.chi_search.specs.Knowing.{IsKnown};
+ghost use Rattle.chi_search.specs.Problems.{IsProblem};
 ghost use Rattle.chi_search.specs.Makers.{IsOutOfReach, IsPart};
 ghost use Rattle.chi_search.specs.Positions;
 ghost use Rattle.chi_search.specs.Positions.{position_of};
 ghost use Rattle.chi_search.specs.Within.{IsDeadWithin, IsRun};
 
-use crate::known::Known;
 use crate::making::{Later, has_maker};
+use crate::problem::Problem;
 use crate::state::{State, is_left};
 use chi_trace::Operation;
 
@@ -19,7 +19,7 @@ pub(crate) const FOLLOWED: usize = 3;
 // Whether the word is not that of the state in these bits, and no run that stands before the other one is seen to lead to all of
 // them, or to those of one byte.
 fn is_out_of_reach(
-    known: &Known,
+    problem: &Problem,
     state: &State,
     other: Option<usize>,
     word: u64,
@@ -27,12 +27,12 @@ fn is_out_of_reach(
     mask: u64,
     depth: usize,
 ) -> bool
-    requires known { IsKnown known.now }
-    requires each { length known.now.ops.now ≤ length known.now.effects.now }
-    requires other { IfSome other (λ after. after < length known.now.ops.now) }
+    requires problem { IsProblem problem.now }
+    requires each { length problem.now.ops.now ≤ length problem.now.effects.now }
+    requires other { IfSome other (λ after. after < length problem.now.ops.now) }
     requires run { IsRun mask }
     requires bits { IsPart bits mask }
-    ensures { IsTrue result → IsOutOfReach mask known.now.ops.now (position_of state.now) (record { next = other; second = None; third = None; fourth = None }) word bits }
+    ensures { IsTrue result → IsOutOfReach mask problem.now.ops.now (position_of state.now) (record { next = other; second = None; third = None; fourth = None }) word bits }
 {
     let differing = word ^ state.word;
     if differing & bits == 0 {
@@ -44,12 +44,12 @@ fn is_out_of_reach(
         third: None,
         fourth: None,
     };
-    if !has_maker(known, state, later, word, bits, mask, depth) {
+    if !has_maker(problem, state, later, word, bits, mask, depth) {
         return true;
     }
     for byte in 0..8_u32 {
         let part = bits & (0xff << (8 * byte));
-        if differing & part != 0 && !has_maker(known, state, later, word, part, mask, depth) {
+        if differing & part != 0 && !has_maker(problem, state, later, word, part, mask, depth) {
             return true;
         }
     }
@@ -69,7 +69,7 @@ fn must_find(ops: &[Operation], state: &State, place: usize) -> bool
 /// leave. So many operations from the first on are looked at, and of these the ones that start by `until`. Of those that start by
 /// `time` a run is followed back over `depth` operations beyond the last one.
 pub(crate) fn lacks_maker(
-    known: &Known,
+    problem: &Problem,
     state: &State,
     mask: u64,
     time: u64,
@@ -77,27 +77,27 @@ pub(crate) fn lacks_maker(
     count: usize,
     depth: usize,
 ) -> bool
-    requires known { IsKnown known.now }
+    requires problem { IsProblem problem.now }
     requires run { IsRun mask }
-    ensures { IsTrue result → IsDeadWithin mask known.now.ops.now known.now.final_word (position_of state.now) }
+    ensures { IsTrue result → IsDeadWithin mask problem.now.ops.now problem.now.final_word (position_of state.now) }
 {
-    let ops = known.ops;
-    let effects = known.effects;
+    let ops = problem.ops;
+    let effects = problem.effects;
     if effects.len() < ops.len() {
         return false;
     }
-    if let Some(seen) = known.final_word
-        && is_out_of_reach(known, state, None, seen, mask, mask, depth)
+    if let Some(seen) = problem.final_word
+        && is_out_of_reach(problem, state, None, seen, mask, mask, depth)
     {
         return true;
     }
     let mut place = state.first;
-    while place < ops.len() && known.earliest[place] <= until && place - state.first < count {
+    while place < ops.len() && problem.earliest[place] <= until && place - state.first < count {
         let followed = if ops[place].start <= time { depth } else { 0 };
         if ops[place].start <= until
             && must_find(ops, state, place)
             && is_out_of_reach(
-                known,
+                problem,
                 state,
                 Some(place),
                 effects[place].found,

@@ -3,14 +3,14 @@
 ghost use Rattle.std.specs.Prelude.{◌≡◌, ℕ, ◌^◌, ◌<◌, ◌≤◌, ◌↔◌, false, IsTrue, IfSome, Option, length};
 ghost use Rattle.chi_trace.specs.declared.operation.Operation.{Operation};
 ghost use Rattle.chi_search.specs.Effects.{Agree, AreEffects, HasEffect};
-ghost use Rattle.chi_search.specs.Knowing.{IsKnown};
+ghost use Rattle.chi_search.specs.Problems.{IsProblem};
 ghost use Rattle.chi_search.specs.Makers.{ArePlaces, CannotMake, IsPart, IsUnmade, MakesNone, MayPrecede, MayPrecedeEach};
 ghost use Rattle.chi_search.specs.Paths.{AreEarliest};
 ghost use Rattle.chi_search.specs.Positions.{position_of};
 ghost use Rattle.chi_search.specs.Within.{IsRun};
 
 use crate::effect::Effect;
-use crate::known::Known;
+use crate::problem::Problem;
 use crate::state::{State, is_left};
 use crate::wanted::wanted_of;
 use chi_trace::Operation;
@@ -66,7 +66,7 @@ fn may_make(
     bits: u64,
     place: usize,
 ) -> bool
-    requires known { AreEffects ops.now effects.now }
+    requires effects { AreEffects ops.now effects.now }
     requires each { length ops.now ≤ length effects.now }
     requires place { place < length ops.now }
     requires later { ArePlaces ops.now later }
@@ -104,7 +104,7 @@ fn bound_of(ops: &[Operation], earliest: &[u64], other: Option<usize>) -> usize
 /// Whether a run that stands before those that come later may lead to these bits of the word, as far as can be seen from so
 /// many of its last operations. The bits are bits of the mask, which is that of a run of bytes.
 pub(crate) fn has_maker(
-    known: &Known,
+    problem: &Problem,
     state: &State,
     later: Later,
     word: u64,
@@ -112,19 +112,19 @@ pub(crate) fn has_maker(
     mask: u64,
     depth: usize,
 ) -> bool
-    requires known { IsKnown known.now }
-    requires each { length known.now.ops.now ≤ length known.now.effects.now }
-    requires later { ArePlaces known.now.ops.now later }
+    requires problem { IsProblem problem.now }
+    requires each { length problem.now.ops.now ≤ length problem.now.effects.now }
+    requires later { ArePlaces problem.now.ops.now later }
     requires run { IsRun mask }
     requires bits { IsPart bits mask }
-    ensures { result ≡ false → IsUnmade mask known.now.ops.now (position_of state.now) later word bits }
+    ensures { result ≡ false → IsUnmade mask problem.now.ops.now (position_of state.now) later word bits }
 {
-    let ops = known.ops;
-    let effects = known.effects;
+    let ops = problem.ops;
+    let effects = problem.effects;
     if (word ^ state.word) & bits == 0 {
         return true;
     }
-    let mut place = bound_of(ops, known.earliest, later.next);
+    let mut place = bound_of(ops, problem.earliest, later.next);
     while place > state.first {
         place -= 1;
         if may_make(ops, effects, state, later, word, bits, place) {
@@ -139,7 +139,7 @@ pub(crate) fn has_maker(
                 fourth: later.third,
             };
             if has_maker(
-                known,
+                problem,
                 state,
                 before,
                 wanted.word,
@@ -151,7 +151,7 @@ pub(crate) fn has_maker(
             }
             if wanted.other != wanted.word
                 && has_maker(
-                    known,
+                    problem,
                     state,
                     before,
                     wanted.other,

@@ -35,11 +35,8 @@ pub(crate) fn has_narrow(narrow: &Narrow, state: NarrowState) -> bool
             Some(found) if found < narrow.states.len() => found,
             _ => return false,
         };
-        let known = narrow.states[found];
-        if known.word == state.word
-            && known.first == state.first
-            && known.settled == state.settled
-        {
+        let kept = narrow.states[found];
+        if kept.word == state.word && kept.first == state.first && kept.settled == state.settled {
             return true;
         }
         place = older(&narrow.chains, found);
@@ -57,8 +54,8 @@ pub(crate) fn add_narrow(
 {
     if is_full(&narrow.chains) {
         let mut chains = wider(alloc, &narrow.chains)?;
-        for known in &narrow.states {
-            link(&mut chains, hash(*known))?;
+        for kept in &narrow.states {
+            link(&mut chains, hash(*kept))?;
         }
         narrow.chains = chains;
     }

@@ -1,13 +1,13 @@
 //! The operation that changes the fewest bits, of those that can come next.
 
 ghost use Rattle.std.specs.Prelude.{◌<◌, IfOk, IfSome, Some, length};
-ghost use Rattle.chi_search.specs.Knowing.{IsKnown};
+ghost use Rattle.chi_search.specs.Problems.{IsProblem};
 ghost use Rattle.chi_search.specs.Paths.{Moves};
 ghost use Rattle.chi_search.specs.Positions.{IsReady, position_of};
 
 use crate::choice::take;
 use crate::equal::has_equal_before;
-use crate::known::Known;
+use crate::problem::Problem;
 use crate::state::State;
 use crate::states::{States, has};
 use std::alloc::AllocError;
@@ -15,20 +15,20 @@ use std::alloc::AllocError;
 /// Makes `next` the state after the operation that changes the fewest bits, of those that can be taken and lead to a state that
 /// is not known to be dead. None where it is not asked.
 pub(crate) fn narrowest_next(
-    known: &Known,
+    problem: &Problem,
     dead: &States,
     state: &State,
     is_asked: bool,
     next: &mut State,
 ) -> Result<Option<usize>, AllocError>
-    requires known { IsKnown known.now }
-    requires first { state.now.first < length known.now.ops.now }
-    requires ready { IsReady (length known.now.ops.now) (position_of state.now) }
-    ensures moves { IfOk result (λ found. IfSome found (λ op. Moves known.now.ops.now (position_of state.now) (Some op) (position_of next.new))) }
-    ensures ready { IfOk result (λ found. IfSome found (λ op. IsReady (length known.now.ops.now) (position_of next.new))) }
+    requires problem { IsProblem problem.now }
+    requires first { state.now.first < length problem.now.ops.now }
+    requires ready { IsReady (length problem.now.ops.now) (position_of state.now) }
+    ensures moves { IfOk result (λ found. IfSome found (λ op. Moves problem.now.ops.now (position_of state.now) (Some op) (position_of next.new))) }
+    ensures ready { IfOk result (λ found. IfSome found (λ op. IsReady (length problem.now.ops.now) (position_of next.new))) }
 {
-    let ops = known.ops;
-    let effects = known.effects;
+    let ops = problem.ops;
+    let effects = problem.effects;
     if !is_asked {
         return Ok(None);
     }
@@ -36,7 +36,7 @@ pub(crate) fn narrowest_next(
     let mut least = u32::MAX;
     let mut found = None;
     let mut place = state.first;
-    while place < ops.len() && place < effects.len() && known.earliest[place] <= end {
+    while place < ops.len() && place < effects.len() && problem.earliest[place] <= end {
         let bits = effects[place].changed_mask.count_ones();
         if bits < least
             && take(ops, state, place, next)?

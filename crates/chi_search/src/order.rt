@@ -4,15 +4,15 @@ ghost use Rattle.std.specs.Prelude.{◌≡◌, ℕ, ◌-◌, ◌≤◌, List, If
 ghost use Rattle.chi_trace.specs.Explains.{is_place};
 ghost use Rattle.chi_trace.specs.Granules.{Finishes};
 ghost use Rattle.chi_search.specs.Found.{IfNothing, IfOrder, IfUndecided};
-ghost use Rattle.chi_search.specs.Knowing.{IsKnown};
+ghost use Rattle.chi_search.specs.Problems.{IsProblem};
 ghost use Rattle.chi_search.specs.Looks.{LookedMore};
 ghost use Rattle.chi_search.specs.Searchable.{AreSorted, AreWithin};
 
 use crate::earliest::earliest_starts;
 use crate::effect::effects_of;
-use crate::known::Known;
 use crate::makers::lacks_maker;
 use crate::parts::{add_parts, are_mostly_writes, parts_of};
+use crate::problem::Problem;
 use crate::progress::Progress;
 use crate::searching::search;
 use crate::state::first_state;
@@ -54,50 +54,50 @@ fn most_next(ops: &[Operation], earliest: &[u64]) -> usize {
 }
 
 // Whether an operation is seen at once to find what no other can leave, or the end to have it.
-fn is_hopeless(alloc: Global, known: &Known, word: u64) -> Result<bool, AllocError>
-    requires { IsKnown known.now }
-    ensures { IfOk result (λ is. IsTrue is → (order : List ℕ) → Finishes known.now.ops.now (is_place known.now.ops.now) word known.now.final_word order → ⊥) }
+fn is_hopeless(alloc: Global, problem: &Problem, word: u64) -> Result<bool, AllocError>
+    requires { IsProblem problem.now }
+    ensures { IfOk result (λ is. IsTrue is → (order : List ℕ) → Finishes problem.now.ops.now (is_place problem.now.ops.now) word problem.now.final_word order → ⊥) }
 {
-    let effects = effects_of(alloc, known.ops)?;
-    let known = Known {
+    let effects = effects_of(alloc, problem.ops)?;
+    let problem = Problem {
         effects: &effects,
-        ..*known
+        ..*problem
     };
     let first = first_state(alloc, word);
-    Ok(lacks_maker(&known, &first, u64::MAX, u64::MAX, u64::MAX, LOOKED_AT, 0))
+    Ok(lacks_maker(&problem, &first, u64::MAX, u64::MAX, u64::MAX, LOOKED_AT, 0))
 }
 
 // Searches as `order_of` does with all rules. Where most are writes and that takes long, the parts of four bytes are asked too,
 // and the search begins again from time to time.
 fn search_by_rules<P: Progress>(
     alloc: Global,
-    known: &Known,
+    problem: &Problem,
     word: u64,
     budget: &mut u64,
     progress: &mut P,
 ) -> Result<Found, AllocError>
-    requires { IsKnown known.now }
-    ensures order { IfOk result (λ found. IfOrder found (λ order. Finishes known.now.ops.now (is_place known.now.ops.now) word known.now.final_word order)) }
-    ensures nothing { IfOk result (λ found. IfNothing found ((order : List ℕ) → Finishes known.now.ops.now (is_place known.now.ops.now) word known.now.final_word order → ⊥)) }
+    requires { IsProblem problem.now }
+    ensures order { IfOk result (λ found. IfOrder found (λ order. Finishes problem.now.ops.now (is_place problem.now.ops.now) word problem.now.final_word order)) }
+    ensures nothing { IfOk result (λ found. IfNothing found ((order : List ℕ) → Finishes problem.now.ops.now (is_place problem.now.ops.now) word problem.now.final_word order → ⊥)) }
     ensures undecided { IfOk result (λ found. IfUndecided found (budget.new ≡ 0)) }
     ensures spends { IfOk result (λ found. (budget.new ≤ budget.old) × LookedMore P.looked progress.old progress.new (budget.old - budget.new)) }
 {
-    let (ops, final_word) = (known.ops, known.final_word);
+    let (ops, final_word) = (problem.ops, problem.final_word);
     let effects = effects_of(alloc, ops)?;
-    let known = Known {
+    let problem = Problem {
         effects: &effects,
-        ..*known
+        ..*problem
     };
     let mut parts = parts_of(alloc, ops, final_word)?;
     if !are_mostly_writes(ops) {
-        return search(alloc, &known, &mut parts, word, u64::MAX, budget, progress);
+        return search(alloc, &problem, &mut parts, word, u64::MAX, budget, progress);
     }
     let span = (ops.len() as u64).saturating_mul(SPAN_STATES);
     let short = span.min(*budget);
     let mut left = short;
     let found = search(
         alloc,
-        &known,
+        &problem,
         &mut parts,
         word,
         u64::MAX,
@@ -110,7 +110,7 @@ fn search_by_rules<P: Progress>(
     }
     let mut more_parts = parts_of(alloc, ops, final_word)?;
     add_parts(alloc, ops, final_word, 4, &mut more_parts)?;
-    search(alloc, &known, &mut more_parts, word, span, budget, progress)
+    search(alloc, &problem, &mut more_parts, word, span, budget, progress)
 }
 
 /// Searches for an order of the operations of one granule, from its word at the opening on, which leaves `last` where that was
@@ -142,26 +142,26 @@ pub fn order_of<P: Progress>(
     ensures spends { IfOk result (λ found. (budget.new ≤ budget.old) × LookedMore P.looked progress.old progress.new (budget.old - budget.new)) }
 {
     let earliest = earliest_starts(alloc, ops)?;
-    let known = Known {
+    let problem = Problem {
         ops,
         final_word,
         effects: &[],
         earliest: &earliest,
     };
     let is_hot = most_next(ops, &earliest) > FEW_NEXT;
-    if is_hot && is_hopeless(alloc, &known, word)? {
+    if is_hot && is_hopeless(alloc, &problem, word)? {
         return Ok(Found::Nothing);
     }
     // Most operations have an order that a plain search finds at once.
     let plain = (ops.len() as u64).saturating_mul(PLAIN_STATES).min(*budget);
     let mut left = plain;
-    let found = search(alloc, &known, &mut [], word, u64::MAX, &mut left, progress)?;
+    let found = search(alloc, &problem, &mut [], word, u64::MAX, &mut left, progress)?;
     *budget -= plain - left;
     if let Found::Order(_) | Found::Nothing = found {
         return Ok(found);
     }
-    if !is_hot && is_hopeless(alloc, &known, word)? {
+    if !is_hot && is_hopeless(alloc, &problem, word)? {
         return Ok(Found::Nothing);
     }
-    search_by_rules(alloc, &known, word, budget, progress)
+    search_by_rules(alloc, &problem, word, budget, progress)
 }

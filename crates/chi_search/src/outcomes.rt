@@ -13,7 +13,7 @@ use chi_trace::Operation;
 /// The words of which one has the bits that the operation leaves: none, one or two; or they are not known.
 #[derive(Clone, Copy)]
 pub(crate) enum Outcomes {
-    Known {
+    Problem {
         one: Option<u64>,
         other: Option<u64>,
     },
@@ -28,7 +28,7 @@ fn whole_outcome(op: &Operation, mask: u64, word: u64) -> Outcomes
     if operand_mask(op) & !mask != 0 {
         return Outcomes::Unknown;
     }
-    Outcomes::Known {
+    Outcomes::Problem {
         one: step(op, word),
         other: None,
     }
@@ -44,12 +44,12 @@ fn outcomes_by_effect(op: &Operation, effect: &Effect, mask: u64, word: u64) -> 
         return Outcomes::Unknown;
     }
     if (effect.found ^ word) & (effect.found_mask & mask) != 0 {
-        return Outcomes::Known {
+        return Outcomes::Problem {
             one: None,
             other: None,
         };
     }
-    Outcomes::Known {
+    Outcomes::Problem {
         one: Some((word & !left_mask) | (effect.left & left_mask)),
         other: if effect.may_stay { Some(word) } else { None },
     }
@@ -64,7 +64,7 @@ fn bitwise_outcome(op: &Operation, mask: u64, word: u64) -> Outcomes
     // What is true of each access is known here once it is read.
     let _addr = op.access.addr();
     match step(op, word) {
-        Some(after) => Outcomes::Known {
+        Some(after) => Outcomes::Problem {
             one: Some(after),
             other: None,
         },
@@ -82,7 +82,7 @@ fn sum_outcomes(op: &Operation, mask: u64, word: u64) -> Outcomes
     // What is true of each access is known here once it is read.
     let _addr = op.access.addr();
     match (step(op, word & mask), step(op, word | !mask)) {
-        (Some(low), Some(high)) => Outcomes::Known {
+        (Some(low), Some(high)) => Outcomes::Problem {
             one: Some(low),
             other: Some(high),
         },
@@ -97,11 +97,11 @@ pub(crate) fn outcomes_of(op: &Operation, effect: &Effect, mask: u64, word: u64)
     requires run { IsRun mask }
     ensures { IfKnown result (AreOutcomes mask op.now word) }
 {
-    if let Outcomes::Known { one, other } = whole_outcome(op, mask, word) {
-        return Outcomes::Known { one, other };
+    if let Outcomes::Problem { one, other } = whole_outcome(op, mask, word) {
+        return Outcomes::Problem { one, other };
     }
-    if let Outcomes::Known { one, other } = outcomes_by_effect(op, effect, mask, word) {
-        return Outcomes::Known { one, other };
+    if let Outcomes::Problem { one, other } = outcomes_by_effect(op, effect, mask, word) {
+        return Outcomes::Problem { one, other };
     }
     match op.access.kind() {
         Kind::Store(Op::Eor) | Kind::Load(Op::Eor) => bitwise_outcome(op, mask, word),

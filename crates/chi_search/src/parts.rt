@@ -1,14 +1,14 @@
 //! The word of a granule in parts of one, two or four bytes, which are asked whether the search can go on.
 
 ghost use Rattle.std.specs.Prelude.{◌-◌, ◌≤◌, All, IfOk, IsTrue, OnOk, length};
-ghost use Rattle.chi_search.specs.Knowing.{IsKnown};
+ghost use Rattle.chi_search.specs.Problems.{IsProblem};
 ghost use Rattle.chi_search.specs.Looks.{LookedMore};
 ghost use Rattle.chi_search.specs.Parts.{IsPartOf};
 ghost use Rattle.chi_search.specs.Paths.{IsDead};
 ghost use Rattle.chi_search.specs.Positions.{IsReady, position_of};
 
-use crate::known::Known;
-use crate::part::{Part, lacks_order, part_from};
+use crate::part::{WordPart, lacks_order, part_from};
+use crate::problem::Problem;
 use crate::progress::Progress;
 use crate::state::State;
 use chi_fields::Kind;
@@ -43,7 +43,7 @@ pub(crate) fn add_parts(
     ops: &[Operation],
     final_word: Option<u64>,
     len: usize,
-    parts: &mut Vec<Part>,
+    parts: &mut Vec<WordPart>,
 ) -> Result<(), AllocError>
     requires some { 1 ≤ len }
     requires parts { All (IsPartOf ops.now final_word) parts.now.items }
@@ -63,7 +63,7 @@ pub(crate) fn parts_of(
     alloc: Global,
     ops: &[Operation],
     final_word: Option<u64>,
-) -> Result<Vec<Part>, AllocError>
+) -> Result<Vec<WordPart>, AllocError>
     ensures { IfOk result (λ parts. All (IsPartOf ops.now final_word) parts.items) }
 {
     let mut parts = Vec::new(alloc);
@@ -80,24 +80,24 @@ pub(crate) fn parts_of(
 /// Whether in one of the parts no order of what is left goes on, as far as that is seen. So many states may be looked at.
 pub(crate) fn has_dead_part<P: Progress>(
     alloc: Global,
-    known: &Known,
-    parts: &mut [Part],
+    problem: &Problem,
+    parts: &mut [WordPart],
     state: &State,
     budget: &mut u64,
     progress: &mut P,
 ) -> Result<bool, AllocError>
-    requires known { IsKnown known.now }
-    requires each { length known.now.ops.now ≤ length known.now.effects.now }
-    requires ready { IsReady (length known.now.ops.now) (position_of state.now) }
-    requires parts { All (IsPartOf known.now.ops.now known.now.final_word) parts.now }
-    ensures dead { IfOk result (λ is. IsTrue is → IsDead known.now.ops.now known.now.final_word (position_of state.now)) }
-    ensures parts { OnOk result (All (IsPartOf known.now.ops.now known.now.final_word) parts.new) }
+    requires problem { IsProblem problem.now }
+    requires each { length problem.now.ops.now ≤ length problem.now.effects.now }
+    requires ready { IsReady (length problem.now.ops.now) (position_of state.now) }
+    requires parts { All (IsPartOf problem.now.ops.now problem.now.final_word) parts.now }
+    ensures dead { IfOk result (λ is. IsTrue is → IsDead problem.now.ops.now problem.now.final_word (position_of state.now)) }
+    ensures parts { OnOk result (All (IsPartOf problem.now.ops.now problem.now.final_word) parts.new) }
     ensures spends { IfOk result (λ is. (budget.new ≤ budget.old) × LookedMore P.looked progress.old progress.new (budget.old - budget.new)) }
 {
     // That the word is one of 64 bits is known here once it is read.
     let _word = state.word;
     for place in 0..parts.len() {
-        if lacks_order(alloc, known, &mut parts[place], state, budget, progress)? {
+        if lacks_order(alloc, problem, &mut parts[place], state, budget, progress)? {
             return Ok(true);
         }
     }

@@ -4,7 +4,7 @@ ghost use Rattle.std.specs.Prelude.{◌≡◌, ℕ, ◌-◌, ◌≤◌, ◌⊎�
 ghost use Rattle.chi_trace.specs.Explains.{is_place};
 ghost use Rattle.chi_trace.specs.Granules.{Finishes};
 ghost use Rattle.chi_search.specs.Found.{IfNothing, IfOrder, IfUndecided};
-ghost use Rattle.chi_search.specs.Knowing.{IsKnown};
+ghost use Rattle.chi_search.specs.Problems.{IsProblem};
 ghost use Rattle.chi_search.specs.Looks.{LookedMore};
 ghost use Rattle.chi_search.specs.Choices.{IfDead, IfEnded, IfStep, IfTried};
 ghost use Rattle.chi_search.specs.Parts.{IsPartOf};
@@ -12,11 +12,11 @@ ghost use Rattle.chi_search.specs.Paths.{AllDead, AreTried, IsDead, Moves};
 ghost use Rattle.chi_search.specs.Positions.{IsReady, position_of};
 
 use crate::choice::{Choice, choose};
-use crate::known::Known;
 use crate::order::Found;
-use crate::part::Part;
+use crate::part::WordPart;
 use crate::parts::has_dead_part;
 use crate::path::{Step, taken};
+use crate::problem::Problem;
 use crate::progress::Progress;
 use crate::state::{State, first_state};
 use crate::states::{States, add, no_states};
@@ -26,9 +26,9 @@ use std::alloc::{AllocError, Global};
 // some.
 fn decide<P: Progress>(
     alloc: Global,
-    known: &Known,
+    problem: &Problem,
     dead: &States,
-    parts: &mut [Part],
+    parts: &mut [WordPart],
     state: &State,
     tried: usize,
     is_new: bool,
@@ -37,25 +37,25 @@ fn decide<P: Progress>(
     budget: &mut u64,
     progress: &mut P,
 ) -> Result<Choice, AllocError>
-    requires known { IsKnown known.now }
-    requires ready { IsReady (length known.now.ops.now) (position_of state.now) }
-    requires tried { AreTried known.now.ops.now known.now.final_word (position_of state.now) tried }
-    requires parts { All (IsPartOf known.now.ops.now known.now.final_word) parts.now }
-    ensures ended { IfOk result (λ choice. IfEnded choice ((length known.now.ops.now ≤ state.now.first) × IfSome known.now.final_word (λ seen. state.now.word ≡ seen))) }
-    ensures moves { IfOk result (λ choice. IfStep choice (λ op. Moves known.now.ops.now (position_of state.now) op (position_of next.new))) }
-    ensures ready { IfOk result (λ choice. IfStep choice (λ op. IsReady (length known.now.ops.now) (position_of next.new))) }
-    ensures tried { IfOk result (λ choice. IfTried choice (λ place. AllDead known.now.ops.now known.now.final_word dead.now → AreTried known.now.ops.now known.now.final_word (position_of state.now) place)) }
-    ensures dead { IfOk result (λ choice. IfDead choice (AllDead known.now.ops.now known.now.final_word dead.now → IsDead known.now.ops.now known.now.final_word (position_of state.now))) }
-    ensures parts { OnOk result (All (IsPartOf known.now.ops.now known.now.final_word) parts.new) }
+    requires problem { IsProblem problem.now }
+    requires ready { IsReady (length problem.now.ops.now) (position_of state.now) }
+    requires tried { AreTried problem.now.ops.now problem.now.final_word (position_of state.now) tried }
+    requires parts { All (IsPartOf problem.now.ops.now problem.now.final_word) parts.now }
+    ensures ended { IfOk result (λ choice. IfEnded choice ((length problem.now.ops.now ≤ state.now.first) × IfSome problem.now.final_word (λ seen. state.now.word ≡ seen))) }
+    ensures moves { IfOk result (λ choice. IfStep choice (λ op. Moves problem.now.ops.now (position_of state.now) op (position_of next.new))) }
+    ensures ready { IfOk result (λ choice. IfStep choice (λ op. IsReady (length problem.now.ops.now) (position_of next.new))) }
+    ensures tried { IfOk result (λ choice. IfTried choice (λ place. AllDead problem.now.ops.now problem.now.final_word dead.now → AreTried problem.now.ops.now problem.now.final_word (position_of state.now) place)) }
+    ensures dead { IfOk result (λ choice. IfDead choice (AllDead problem.now.ops.now problem.now.final_word dead.now → IsDead problem.now.ops.now problem.now.final_word (position_of state.now))) }
+    ensures parts { OnOk result (All (IsPartOf problem.now.ops.now problem.now.final_word) parts.new) }
     ensures spends { IfOk result (λ choice. (budget.new ≤ budget.old) × LookedMore P.looked progress.old progress.new (budget.old - budget.new)) }
 {
     if is_new
-        && known.effects.len() >= known.ops.len()
-        && has_dead_part(alloc, known, parts, state, budget, progress)?
+        && problem.effects.len() >= problem.ops.len()
+        && has_dead_part(alloc, problem, parts, state, budget, progress)?
     {
         return Ok(Choice::Dead);
     }
-    choose(known, dead, state, tried, by_width, next)
+    choose(problem, dead, state, tried, by_width, next)
 }
 
 /// Searches as `order_of` does, from the start on. Where nothing is known of the operations it goes without the rules that take
@@ -63,17 +63,17 @@ fn decide<P: Progress>(
 /// states that it found dead, and tries what changes fewer bits first every other time.
 pub(crate) fn search<P: Progress>(
     alloc: Global,
-    known: &Known,
-    parts: &mut [Part],
+    problem: &Problem,
+    parts: &mut [WordPart],
     word: u64,
     span: u64,
     budget: &mut u64,
     progress: &mut P,
 ) -> Result<Found, AllocError>
-    requires known { IsKnown known.now }
-    requires parts { All (IsPartOf known.now.ops.now known.now.final_word) parts.now }
-    ensures order { IfOk result (λ found. IfOrder found (λ order. Finishes known.now.ops.now (is_place known.now.ops.now) word known.now.final_word order)) }
-    ensures nothing { IfOk result (λ found. IfNothing found ((order : List ℕ) → Finishes known.now.ops.now (is_place known.now.ops.now) word known.now.final_word order → ⊥)) }
+    requires problem { IsProblem problem.now }
+    requires parts { All (IsPartOf problem.now.ops.now problem.now.final_word) parts.now }
+    ensures order { IfOk result (λ found. IfOrder found (λ order. Finishes problem.now.ops.now (is_place problem.now.ops.now) word problem.now.final_word order)) }
+    ensures nothing { IfOk result (λ found. IfNothing found ((order : List ℕ) → Finishes problem.now.ops.now (is_place problem.now.ops.now) word problem.now.final_word order → ⊥)) }
     ensures undecided { IfOk result (λ found. IfUndecided found (budget.new ≡ 0)) }
     ensures spends { IfOk result (λ found. (budget.new ≤ budget.old) × LookedMore P.looked progress.old progress.new (budget.old - budget.new)) }
 {
@@ -87,7 +87,7 @@ pub(crate) fn search<P: Progress>(
     let mut due = budget.saturating_sub(span);
     while *budget > 0 {
         match decide(
-            alloc, known, &dead, parts, &state, tried, is_new, by_width, &mut next, budget,
+            alloc, problem, &dead, parts, &state, tried, is_new, by_width, &mut next, budget,
             progress,
         )? {
             Choice::Ended => {

@@ -71,8 +71,8 @@ pub(crate) fn add_wide(alloc: Global, wide: &mut Wide, state: &State) -> Result<
 {
     if is_full(&wide.chains) {
         let mut chains = wider(alloc, &wide.chains)?;
-        for known in &wide.states {
-            link(&mut chains, hash(known))?;
+        for kept in &wide.states {
+            link(&mut chains, hash(kept))?;
         }
         wide.chains = chains;
     }

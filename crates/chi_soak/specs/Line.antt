@@ -7,7 +7,7 @@ use Rattle.chi_lanes.specs.declared.reply.Reply.{Reply}
 use Rattle.chi_lanes.specs.declared.reply.Reply.TheVariants.{Comp, CompData}
 use Rattle.chi_text.specs.Part.{word_text}
 use Rattle.chi_trace.specs.declared.words.GranuleWord.{GranuleWord}
-use Rattle.chi_trace.specs.declared.asked.Asked.{Asked}
+use Rattle.chi_trace.specs.declared.request_fields.RequestFields.{RequestFields}
 use Rattle.chi_events.specs.declared.event.Completion.{Completion}
 use Rattle.chi_events.specs.declared.event.Event.{Event}
 use Rattle.chi_events.specs.declared.event.EventKind.{EventKind}
@@ -20,7 +20,7 @@ abbrev pub byte_order : Bool → ℕ
 byte_order endian = if endian then 1 else 0
 
 -- a request's fields, each after a comma
-unfoldable pub fields_text : Asked → List ℕ
+unfoldable pub fields_text : RequestFields → List ℕ
 fields_text a =
     codes ",\"src\":" ++ decimal a.src ++ codes ",\"txn\":" ++ decimal a.txn ++ codes ",\"op\":" ++ decimal a.opcode
     ++ codes ",\"size\":" ++ decimal a.size ++ codes ",\"addr\":" ++ decimal a.addr ++ codes ",\"endian\":" ++ decimal (byte_order a.endian)
@@ -35,7 +35,7 @@ quoted_text lanes = codes "\"" ++ encode_lower lanes ++ codes "\""
 
 -- the data of a request, where they have come with it
 abbrev pub data_text : Requested → List ℕ
-data_text r = if r.has_data then packet_text r.asked.be r.asked.lanes else []
+data_text r = if r.has_data then packet_text r.fields.be r.fields.lanes else []
 
 -- what completed a request, as a value of JSON
 abbrev pub completion_text : Option Reply → List ℕ
@@ -49,7 +49,7 @@ granule_text w end = codes "word\",\"addr\":" ++ decimal (w.granule * 8 % 2 ^ 64
 
 -- a request, and its data
 unfoldable pub request_text : Requested → List ℕ
-request_text r = codes "request\",\"id\":" ++ decimal r.id ++ fields_text r.asked ++ data_text r
+request_text r = codes "request\",\"id\":" ++ decimal r.id ++ fields_text r.fields ++ data_text r
 
 -- the data of a request that come after it
 unfoldable pub late_text : Packet → List ℕ

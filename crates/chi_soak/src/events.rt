@@ -6,7 +6,7 @@ use chi_events::{Completion, Event, EventKind, Requested};
 use chi_fields::Request;
 use chi_history::Line;
 use chi_lanes::Reply;
-use chi_trace::{Asked, GranuleWord};
+use chi_trace::{GranuleWord, RequestFields};
 use std::alloc::AllocError;
 
 /// The events that are told, and the number of the next request.
@@ -17,8 +17,8 @@ pub(crate) struct Told {
 }
 
 /// The request with this number as a monitor sees it, with its data.
-fn asked(number: u64, request: &Request) -> Asked {
-    Asked {
+fn fields(number: u64, request: &Request) -> RequestFields {
+    RequestFields {
         number,
         src: u16::from(request.src),
         txn: u16::from(request.txn),
@@ -49,7 +49,7 @@ impl Told {
         self.next_id = id.wrapping_add(1);
         let requested = Requested {
             id,
-            asked: asked(id, request),
+            fields: fields(id, request),
             has_data: true,
         };
         self.events.push(Event {

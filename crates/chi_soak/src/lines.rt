@@ -7,7 +7,7 @@ use chi_events::{Completion, Event, EventKind, Packet, Requested};
 use chi_fields::{Refusal, refusal_name};
 use chi_lanes::Reply;
 use chi_text::{Part, add_parts};
-use chi_trace::{Asked, GranuleWord};
+use chi_trace::{GranuleWord, RequestFields};
 use std::alloc::AllocError;
 
 /// The number of a byte order: 1 is big-endian.
@@ -18,24 +18,24 @@ fn byte_order(endian: bool) -> u64
 }
 
 /// The fields of a request, without its data.
-fn add_fields(to: &mut Vec<u8>, asked: &Asked) -> Result<(), AllocError>
-    ensures { OnOk result (to.new.items ≡ to.old.items ++ fields_text asked.now) }
+fn add_fields(to: &mut Vec<u8>, fields: &RequestFields) -> Result<(), AllocError>
+    ensures { OnOk result (to.new.items ≡ to.old.items ++ fields_text fields.now) }
 {
     add_parts(
         to,
         &[
             Part::Text(",\"src\":"),
-            Part::Number(asked.src as u64),
+            Part::Number(fields.src as u64),
             Part::Text(",\"txn\":"),
-            Part::Number(asked.txn as u64),
+            Part::Number(fields.txn as u64),
             Part::Text(",\"op\":"),
-            Part::Number(asked.opcode as u64),
+            Part::Number(fields.opcode as u64),
             Part::Text(",\"size\":"),
-            Part::Number(asked.size as u64),
+            Part::Number(fields.size as u64),
             Part::Text(",\"addr\":"),
-            Part::Number(asked.addr),
+            Part::Number(fields.addr),
             Part::Text(",\"endian\":"),
-            Part::Number(byte_order(asked.endian)),
+            Part::Number(byte_order(fields.endian)),
         ],
     )
 }
@@ -61,7 +61,7 @@ fn add_data(to: &mut Vec<u8>, request: &Requested) -> Result<(), AllocError>
     ensures { OnOk result (to.new.items ≡ to.old.items ++ data_text request.now) }
 {
     if request.has_data {
-        add_packet(to, request.asked.be, request.asked.lanes)
+        add_packet(to, request.fields.be, request.fields.lanes)
     } else {
         Ok(())
     }
@@ -75,7 +75,7 @@ fn add_request(to: &mut Vec<u8>, request: &Requested) -> Result<(), AllocError>
         to,
         &[Part::Text("request\",\"id\":"), Part::Number(request.id)],
     )?;
-    add_fields(to, &request.asked)?;
+    add_fields(to, &request.fields)?;
     add_data(to, request)
 }
 

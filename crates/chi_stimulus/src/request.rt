@@ -5,7 +5,7 @@ ghost use Rattle.chi_stimulus.specs.Operand.{IsOperand};
 
 use crate::chance::packet;
 use crate::operation::Operation;
-use crate::value::{Found, any, compared, ones, sent};
+use crate::value::{OperandValue, any, compared, ones, sent};
 use chi_fields::Request;
 use rand::RngExt;
 use rand_core::Rng;
@@ -103,7 +103,7 @@ fn data<R: Rng>(rng: &mut R, opcode: u8, operand: Operand, word: u64) -> (u16, u
 {
     let Operand { lane, len, .. } = operand;
     let packet = packet(rng);
-    let found = Found {
+    let found = OperandValue {
         bits: 8 * len,
         value: in_order(word & ones(8 * len), operand),
     };

@@ -7,7 +7,7 @@ use rand_core::Rng;
 
 /// An operand as a number: how many bits it has, and what the memory holds there.
 #[derive(Clone, Copy, Debug)]
-pub(crate) struct Found {
+pub(crate) struct OperandValue {
     pub(crate) bits: u32,
     pub(crate) value: u64,
 }
@@ -25,7 +25,7 @@ fn sign(bits: u32) -> u64
 }
 
 /// A number beside an edge: of 0, of the least signed one, of a carry into the second byte, or of the one that is found.
-fn edge<R: Rng>(rng: &mut R, found: Found) -> u64 {
+fn edge<R: Rng>(rng: &mut R, found: OperandValue) -> u64 {
     let edge = match rng.random_range(0u8..6) {
         0 => 0,
         1 | 2 => sign(found.bits),
@@ -41,7 +41,7 @@ fn edge<R: Rng>(rng: &mut R, found: Found) -> u64 {
 }
 
 /// A number: three times of four one beside an edge.
-pub(crate) fn any<R: Rng>(rng: &mut R, found: Found) -> u64 {
+pub(crate) fn any<R: Rng>(rng: &mut R, found: OperandValue) -> u64 {
     if rng.random_range(0u8..4) == 0 {
         rng.next_u64()
     } else {
@@ -50,7 +50,7 @@ pub(crate) fn any<R: Rng>(rng: &mut R, found: Found) -> u64 {
 }
 
 /// What has to be sent so that this operation (ADD is 0, UMIN 7) leaves what is found.
-fn keeping<R: Rng>(rng: &mut R, operation: u8, found: Found) -> u64 {
+fn keeping<R: Rng>(rng: &mut R, operation: u8, found: OperandValue) -> u64 {
     match operation {
         0 | 2 => 0,
         1 => rng.next_u64() & !found.value,
@@ -60,7 +60,7 @@ fn keeping<R: Rng>(rng: &mut R, operation: u8, found: Found) -> u64 {
 }
 
 /// Whether this operation can leave a number of the other sign.
-fn can_turn(operation: u8, found: Found) -> bool {
+fn can_turn(operation: u8, found: OperandValue) -> bool {
     let is_negative = found.value & sign(found.bits) != 0;
     match operation {
         0 | 2 => true,
@@ -70,7 +70,7 @@ fn can_turn(operation: u8, found: Found) -> bool {
 }
 
 /// What has to be sent so that this operation leaves a number of the other sign, where it can.
-fn turning<R: Rng>(rng: &mut R, operation: u8, found: Found) -> u64 {
+fn turning<R: Rng>(rng: &mut R, operation: u8, found: OperandValue) -> u64 {
     let sign = sign(found.bits);
     match operation {
         0 | 5 => sign,
@@ -82,7 +82,7 @@ fn turning<R: Rng>(rng: &mut R, operation: u8, found: Found) -> u64 {
 
 /// What an AtomicStore or an AtomicLoad of this operation sends: what keeps the number that is found, what leaves one of the
 /// other sign, or any.
-pub(crate) fn sent<R: Rng>(rng: &mut R, operation: u8, found: Found) -> u64 {
+pub(crate) fn sent<R: Rng>(rng: &mut R, operation: u8, found: OperandValue) -> u64 {
     match rng.random_range(0u8..4) {
         0 => keeping(rng, operation, found),
         1 | 2 if can_turn(operation, found) => turning(rng, operation, found),
@@ -91,7 +91,7 @@ pub(crate) fn sent<R: Rng>(rng: &mut R, operation: u8, found: Found) -> u64 {
 }
 
 /// The compare value of an AtomicCompare: in half of the draws the one that is found.
-pub(crate) fn compared<R: Rng>(rng: &mut R, found: Found) -> u64 {
+pub(crate) fn compared<R: Rng>(rng: &mut R, found: OperandValue) -> u64 {
     match rng.random_range(0u8..4) {
         0 | 1 => found.value,
         2 => found.value ^ 1 << rng.random_range(0..found.bits.clamp(1, 64)),

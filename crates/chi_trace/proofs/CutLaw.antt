@@ -9,7 +9,7 @@ use Rattle.chi_trace.specs.Cuts.{cut, has_started}
 use Rattle.chi_trace.specs.Explains.{Explains, IsTrace, at, is_answered, is_place, times_in, unobserved}
 use Rattle.chi_trace.proofs.Before.{all_before, answers_before, before, ended_stands, in_time_before, started_before, stands_no_more}
 use Rattle.chi_trace.proofs.Cuts.{Shows, cut_shows}
-use Rattle.chi_trace.proofs.Known.{AreKnown, answers_known, in_time_known}
+use Rattle.chi_trace.proofs.OperationAt.{AreKnown, answers_known, in_time_known}
 use Rattle.chi_trace.proofs.Orders.{observed_at, places_of}
 use Rattle.chi_trace.proofs.Places.{of_member}
 

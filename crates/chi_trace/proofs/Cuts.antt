@@ -3,7 +3,7 @@ use Rattle.std.proofs.Common.{◌≡◌, ℕ, zero, suc, ◌<◌, ◌≤◌, ◌
 use Rattle.std.proofs.lemmas.Bool.{and_left, leb-true, le-leb, le-ltb, lt-ltb, ltb-false, ltb-true}
 use Rattle.std.proofs.lemmas.List.Elements.{All-head, All-tail}
 use Rattle.chi_trace.specs.declared.operation.Operation.{Operation}
-use Rattle.chi_trace.specs.Cuts.{cut, has_started, known}
+use Rattle.chi_trace.specs.Cuts.{cut, has_started, operation_at}
 use Rattle.chi_trace.specs.Explains.{IsTrace, at, is_place}
 
 pub no_place : (i : ℕ) → is_place [] i ≡ false
@@ -45,7 +45,7 @@ none_there time op (other ∷ ts) (suc k) is all =
 
 -- the operation at this place is that of the trace, where it had started by a time, as it was known then
 abbrev pub Shows : List Operation → ℕ → List Operation → ℕ → Type 0
-Shows ts time ys i = (is_place ys i ≡ (is_place ts i && has_started time (at ts i))) × (is_place ys i ≡ true → at ys i ≡ known time (at ts i))
+Shows ts time ys i = (is_place ys i ≡ (is_place ts i && has_started time (at ts i))) × (is_place ys i ≡ true → at ys i ≡ operation_at time (at ts i))
 
 pub cut_shows : (ts : List Operation) → IsTrace ts → (time i : ℕ) → Shows ts time (cut time ts) i
 unfolding IsTrace
@@ -63,13 +63,13 @@ cut_shows (op ∷ ts) h time i = by_test (has_started time op) refl i (λ k. cut
     )
 
     by_test : (b : Bool) → has_started time op ≡ b → (k : ℕ) → ((j : ℕ) → Shows ts time (cut time ts) j)
-        → Shows (op ∷ ts) time (map (known time) (cond b (op ∷ filter (has_started time) ts) (filter (has_started time) ts))) k
+        → Shows (op ∷ ts) time (map (operation_at time) (cond b (op ∷ filter (has_started time) ts) (filter (has_started time) ts))) k
     by_test true is zero rest = (
-      first_place (known time op) (cut time ts) ∙ sym (ap (λ b. b && has_started time op) (first_place op ts) ∙ is),
+      first_place (operation_at time op) (cut time ts) ∙ sym (ap (λ b. b && has_started time op) (first_place op ts) ∙ is),
       λ _. refl,
     )
     by_test true is (suc k) rest = (
-      next_place (known time op) (cut time ts) k ∙ ((rest k).0 ∙ ap (λ b. b && has_started time (at ts k)) (sym (next_place op ts k))),
-      λ there. (rest k).1 (sym (next_place (known time op) (cut time ts) k) ∙ there),
+      next_place (operation_at time op) (cut time ts) k ∙ ((rest k).0 ∙ ap (λ b. b && has_started time (at ts k)) (sym (next_place op ts k))),
+      λ there. (rest k).1 (sym (next_place (operation_at time op) (cut time ts) k) ∙ there),
     )
     by_test false is k rest = rw (none_started time op ts is h.1) (not_there is k)

@@ -11,8 +11,8 @@ use Rattle.chi_fields.specs.declared.kind.Kind.TheVariants.{Read, Write, Store, 
 use Rattle.chi_fields.specs.declared.refusal.Refusal.TheVariants.{BadByteEnable, Misaligned, OutOfRegion, ReservedSize, SizeOutOfProfile}
 use Rattle.chi_fields.specs.declared.region.RegionFault.TheVariants.{BaseNotLineAligned, EndPastAddresses, GranuleCount}
 use Rattle.chi_fields.specs.declared.request.Request.{Request}
-use Rattle.chi_trace.specs.Asked.{IsPacket, access_of, line_of, request_of}
-use Rattle.chi_trace.specs.declared.asked.Asked.{Asked}
+use Rattle.chi_trace.specs.RequestFields.{IsPacket, access_of, line_of, request_of}
+use Rattle.chi_trace.specs.declared.request_fields.RequestFields.{RequestFields}
 
 -- after a test that is to fail
 pub unless : {A E : Type 0} (b : Bool) (e : E) (r : Result A E) (P : A → Type 0) → (b ≡ false → IfOk r P) → IfOk (if b then Err e else r) P
@@ -95,7 +95,7 @@ decided q region P holds = by_kind (kind_of q.opcode) refl
     by_kind (Some kind) is = passes_as kind q region P (holds kind is)
     by_kind None is = tt
 
-pub accessed_so : (region : Option Extent) (a : Asked) (P : Access → Type 0) → IfSome region IsRegion
+pub accessed_so : (region : Option Extent) (a : RequestFields) (P : Access → Type 0) → IfSome region IsRegion
     → ((r : Extent) (kind : Kind) → IsRegion r → Passes kind (request_of a) r → P (access_as kind (request_of a))) → IfOk (access_of region a) P
 accessed_so (Some region) a P is holds = decided (request_of a) region P (λ kind named. holds region kind is)
 accessed_so None a P is holds = by_line (line_of a.addr) refl (value_of (region_of (a.addr / 64 * 64) 8) IsRegion (region_lawful (a.addr / 64 * 64) 8))
@@ -109,7 +109,7 @@ pub record IsWithin (a : Access) : Type 0 where
   pub lawful : IsLawful a
   pub below : a.addr + a.len ≤ 2 ^ 52
 
-pub accessed : (region : Option Extent) (a : Asked) → IsPacket a.be a.lanes → IfSome region IsRegion → IfOk (access_of region a) IsWithin
+pub accessed : (region : Option Extent) (a : RequestFields) → IsPacket a.be a.lanes → IfSome region IsRegion → IfOk (access_of region a) IsWithin
 accessed region a has is = accessed_so region a IsWithin is within
   where
     within : (r : Extent) (kind : Kind) → IsRegion r → Passes kind (request_of a) r → IsWithin (access_as kind (request_of a))

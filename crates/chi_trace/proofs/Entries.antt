@@ -9,7 +9,7 @@ use Rattle.std.proofs.lemmas.Bool.Decides.{nat_tests}
 use Rattle.std.proofs.lemmas.Cmp.{ranked}
 use Rattle.std.proofs.lemmas.List.Elements.{All-from_recursion}
 use Rattle.chi_trace.specs.declared.words.GranuleWord.{GranuleWord}
-use Rattle.chi_trace.specs.Words.{AreInOrder, told}
+use Rattle.chi_trace.specs.Words.{AreInOrder, find_word}
 
 -- an entry as a word
 abbrev pub word_of_entry : ℕ × ℕ → GranuleWord
@@ -20,12 +20,12 @@ pub same_key : (k g : ℕ) → is_eq (nat_cmp k g) ≡ (k == g)
 same_key k g = grind (arith, nat_tests)
 
 -- the word that is told is the one that the map has
-pub told-entries : (es : List (ℕ × ℕ)) (g : ℕ) → told (map word_of_entry es) g ≡ lookup (λ k. is_eq (nat_cmp g k)) es
-unfolding told
+pub told-entries : (es : List (ℕ × ℕ)) (g : ℕ) → find_word (map word_of_entry es) g ≡ lookup (λ k. is_eq (nat_cmp g k)) es
+unfolding find_word
 told-entries [] g = refl
 told-entries (e ∷ es) g =
     let same : (e.0 == g) ≡ is_eq (nat_cmp g e.0) = grind (arith, nat_tests) in
-    ap (λ b. cond b (Some e.1) (told (map word_of_entry es) g)) same ∙ ap (λ rest. cond (is_eq (nat_cmp g e.0)) (Some e.1) rest) (told-entries es g)
+    ap (λ b. cond b (Some e.1) (find_word (map word_of_entry es) g)) same ∙ ap (λ rest. cond (is_eq (nat_cmp g e.0)) (Some e.1) rest) (told-entries es g)
 
 above : (g : ℕ) (es : List (ℕ × ℕ)) → AllByRecursion (λ k. nat_cmp g k ≡ Less) (keys_of es) → AllByRecursion (λ w. g < w.granule) (map word_of_entry es)
 above g [] less = tt
@@ -38,8 +38,8 @@ AreInOrder-entries [] sorted = tt
 AreInOrder-entries (e ∷ es) sorted = (All-from_recursion (λ w. e.0 < w.granule) (map word_of_entry es) (above e.0 es sorted.0), AreInOrder-entries es sorted.1)
 
 told_suc : (words : List GranuleWord) (i : ℕ) (d : GranuleWord) (g : ℕ) → AreInOrder words → i < length words
-    → told (take (suc i) words) g ≡ cond ((get_or words i d).granule == g) (Some (get_or words i d).word) (told (take i words) g)
-unfolding told AreInOrder
+    → find_word (take (suc i) words) g ≡ cond ((get_or words i d).granule == g) (Some (get_or words i d).word) (find_word (take i words) g)
+unfolding find_word AreInOrder
 told_suc [] i d g is under = absurd (omega arith)
 told_suc (w ∷ words) zero d g is under = refl
 told_suc (w ∷ words) (suc i) d g is under =
@@ -48,7 +48,7 @@ told_suc (w ∷ words) (suc i) d g is under =
     ∙ by_test (w.granule == g) refl ((get_or words i d).granule == g) refl
   where
     by_test : (b : Bool) → (w.granule == g) ≡ b → (c : Bool) → ((get_or words i d).granule == g) ≡ c
-        → cond b (Some w.word) (cond c (Some (get_or words i d).word) (told (take i words) g)) ≡ cond c (Some (get_or words i d).word) (cond b (Some w.word) (told (take i words) g))
+        → cond b (Some w.word) (cond c (Some (get_or words i d).word) (find_word (take i words) g)) ≡ cond c (Some (get_or words i d).word) (cond b (Some w.word) (find_word (take i words) g))
     by_test true here true there =
         let rest : i < length words = omega arith in
         absurd (omega (arith, eqb-true w.granule g here, eqb-true (get_or words i d).granule g there, is.0 i d rest))
@@ -57,5 +57,5 @@ told_suc (w ∷ words) (suc i) d g is under =
 
 -- the words told so far, and one more
 pub told_more : (words : List GranuleWord) (i : ℕ) (d : GranuleWord) (g : ℕ) → AreInOrder words → i < length words
-    → told (take (i + 1) words) g ≡ cond ((get_or words i d).granule == g) (Some (get_or words i d).word) (told (take i words) g)
+    → find_word (take (i + 1) words) g ≡ cond ((get_or words i d).granule == g) (Some (get_or words i d).word) (find_word (take i words) g)
 told_more words i d g is under = rw (add-one i) (told_suc words i d g is under)

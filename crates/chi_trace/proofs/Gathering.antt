@@ -6,12 +6,12 @@ use Rattle.chi_trace.specs.declared.operation.Operation.{Operation}
 use Rattle.chi_trace.specs.Explains.{IsInTime, IsTrace, at, is_place}
 use Rattle.chi_trace.specs.Granules.{granule_of, is_of}
 use Rattle.chi_trace.proofs.Orders.{ArePlaces, observed_at}
-use Rattle.chi_trace.proofs.Weaving.{Lasts, all_woven, first_kept, in_time_woven, none_kept, second_kept, weave}
+use Rattle.chi_trace.proofs.MergedOrders.{Lasts, all_merged, first_kept, in_time_woven, merge, none_kept, second_kept}
 
 -- the orders of the granules below a number
 unfoldable pub gather : List Operation → (ℕ → List ℕ) → ℕ → List ℕ
 gather ts orders zero = []
-gather ts orders (suc n) = weave ts (gather ts orders n) (orders n)
+gather ts orders (suc n) = merge ts (gather ts orders n) (orders n)
 
 -- each place of the order is one of the trace, of a granule below a number
 abbrev pub AreBelow : List Operation → ℕ → List ℕ → Type 0
@@ -55,10 +55,10 @@ gathered ts orders is own times (suc n) = add (gathered ts orders is own times n
     lasts_own : All (Lasts ts) (orders n)
     lasts_own k d under = (observed_at ts _ is (granule_is ts n _ (own n k d under)).0).lasting
 
-    add : Gathered ts orders n (gather ts orders n) → Gathered ts orders (suc n) (weave ts (gather ts orders n) (orders n))
+    add : Gathered ts orders n (gather ts orders n) → Gathered ts orders (suc n) (merge ts (gather ts orders n) (orders n))
     add h = record {
       times = in_time_woven ts (gather ts orders n) (orders n) (lasts (gather ts orders n) h.below) h.times lasts_own (times n);
-      below = all_woven (λ i. (is_place ts i ≡ true) × (granule_of (at ts i) < suc n)) ts (gather ts orders n) (orders n) below here;
+      below = all_merged (λ i. (is_place ts i ≡ true) × (granule_of (at ts i) < suc n)) ts (gather ts orders n) (orders n) below here;
       kept = λ g under. by_test g under (g == n) refl;
     }
       where
@@ -68,10 +68,10 @@ gathered ts orders is own times (suc n) = add (gathered ts orders is own times n
         here : AreBelow ts (suc n) (orders n)
         here k d under = let each = granule_is ts n _ (own n k d under) in let same = each.1 in (each.0, omega (arith, same))
 
-        by_test : (g : ℕ) → g < suc n → (b : Bool) → (g == n) ≡ b → filter (is_of ts g) (weave ts (gather ts orders n) (orders n)) ≡ orders g
+        by_test : (g : ℕ) → g < suc n → (b : Bool) → (g == n) ≡ b → filter (is_of ts g) (merge ts (gather ts orders n) (orders n)) ≡ orders g
         by_test g under true same =
             let is_n : g ≡ n = eqb-true g n same in
-            ap (λ k. filter (is_of ts k) (weave ts (gather ts orders n) (orders n))) is_n
+            ap (λ k. filter (is_of ts k) (merge ts (gather ts orders n) (orders n))) is_n
             ∙ (second_kept (is_of ts n) ts (gather ts orders n) (orders n) (λ k d less. of_other ts n _ (λ there. absurd (let under_n = (h.below k d less).1 in omega (arith, under_n, there))))
             ∙ (all_kept (is_of ts n) (orders n) (own n) ∙ ap orders (sym is_n)))
         by_test g under false other =

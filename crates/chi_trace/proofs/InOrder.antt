@@ -7,7 +7,7 @@ use Rattle.std.proofs.lemmas.Bool.{cases_lt, eq-eqb, ne_eqb}
 use Rattle.std.proofs.lemmas.Bool.Decides.{nat_tests}
 use Rattle.std.proofs.lemmas.Cmp.{ranked}
 use Rattle.chi_trace.specs.declared.words.GranuleWord.{GranuleWord}
-use Rattle.chi_trace.specs.Words.{AreInOrder, told}
+use Rattle.chi_trace.specs.Words.{AreInOrder, find_word}
 use Rattle.chi_trace.proofs.Memory.{none_told}
 
 -- each granule comes before those that stand after it, not only before the next
@@ -57,15 +57,15 @@ AreInOrder-from_rising words rising = from_far words far
 
 -- the word at a place is told of its granule
 pub told_at : (words : List GranuleWord) (i : ℕ) (d : GranuleWord) → AreInOrder words → i < length words
-    → told words (get_or words i d).granule ≡ Some (get_or words i d).word
-unfolding told AreInOrder
+    → find_word words (get_or words i d).granule ≡ Some (get_or words i d).word
+unfolding find_word AreInOrder
 told_at [] i d is under = absurd (omega arith)
-told_at (w ∷ words) zero d is under = ap (λ b. cond b (Some w.word) (told words w.granule)) (eq-eqb w.granule w.granule refl)
+told_at (w ∷ words) zero d is under = ap (λ b. cond b (Some w.word) (find_word words w.granule)) (eq-eqb w.granule w.granule refl)
 told_at (w ∷ words) (suc i) d is under =
     let rest : i < length words = omega arith in
     let less : w.granule < (get_or words i d).granule = is.0 i d rest in
     let granule : ℕ = (get_or words i d).granule in
-    ap (λ b. cond b (Some w.word) (told words granule)) (ne_eqb w.granule granule (λ same. absurd (omega arith)))
+    ap (λ b. cond b (Some w.word) (find_word words granule)) (ne_eqb w.granule granule (λ same. absurd (omega arith)))
     ∙ told_at words i d is.1 rest
 
 module _ (words : List GranuleWord) (is : AreInOrder words) (g : ℕ) where
@@ -77,7 +77,7 @@ module _ (words : List GranuleWord) (is : AreInOrder words) (g : ℕ) where
 
   -- a search by the granule finds the word that is told of it, where one is
   pub searched : (r : Result ℕ ℕ) → IsSearchInRange r (length words) → IsBinarySearchResult (λ (w : GranuleWord). nat_cmp w.granule g) words r
-      → MatchResult r (λ i. (d : GranuleWord) → told words g ≡ Some (get_or words i d).word) (λ i. told words g ≡ None)
+      → MatchResult r (λ i. (d : GranuleWord) → find_word words g ≡ Some (get_or words i d).word) (λ i. find_word words g ≡ None)
   searched (Ok at) inside equal =
       λ d. rw (← ranked (get_or words at d).granule g _ (sym (equal d))) (told_at words at d is inside)
   searched (Err at) inside parted = none_told words g other

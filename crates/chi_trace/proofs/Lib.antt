@@ -3,9 +3,9 @@ pub mod Agree
 pub mod AnswersLie
 pub mod Applied
 pub mod Assembly
+pub mod AtPlaces
 pub mod Before
 pub mod BeforeQuiet
-pub mod Chosen
 pub mod CutLaw
 pub mod Cuts
 pub mod Decided
@@ -14,19 +14,19 @@ pub mod Fields
 pub mod Gathering
 pub mod Granules
 pub mod InOrder
-pub mod Known
 pub mod Legal
 pub mod Memory
 pub mod Moved
+pub mod OperationAt
 pub mod Orders
 pub mod Places
 pub mod Projection
 mod Replayed
+pub mod MergedOrders
 pub mod Rising
 pub mod Segments
 pub mod Steps
 pub mod ToldAgain
 pub mod Traced
 pub mod TracedCuts
-pub mod Weaving
 pub mod Whole

@@ -17,7 +17,7 @@ use Rattle.chi_trace.proofs.Orders.{ArePlaces, observed_at}
 use Rattle.chi_trace.proofs.Steps.{word_of-next, word_of-other}
 use Rattle.chi_trace.specs.Executions.{is_known, replies_in}
 use Rattle.chi_trace.specs.Traces.{TraceValue}
-use Rattle.chi_trace.specs.Words.{told}
+use Rattle.chi_trace.specs.Words.{find_word}
 use Rattle.chi_trace.proofs.Entries.{same_key}
 
 pub IsMemory-memory_after : (ops : List Operation) (m : Memory) (order : List ℕ) → IsTrace ops → IsMemory m → ArePlaces ops order → IsMemory (memory_after ops m order)
@@ -94,8 +94,8 @@ known_step t order i g k word old new places under here known new_is =
 
     more : is_known t (take (i + 1) order) g ≡ (is_known t (take i order) g || (k == g))
     more =
-        ap (λ b. is_some (told t.opening g) || b) (list_any_more (is_of t.operations g) order i 0 under ∙ ap (λ b. list_any (is_of t.operations g) (take i order) || b) own)
-        ∙ sym (or_assoc (is_some (told t.opening g)) (list_any (is_of t.operations g) (take i order)) (k == g))
+        ap (λ b. is_some (find_word t.opening g) || b) (list_any_more (is_of t.operations g) order i 0 under ∙ ap (λ b. list_any (is_of t.operations g) (take i order) || b) own)
+        ∙ sym (or_assoc (is_some (find_word t.opening g)) (list_any (is_of t.operations g) (take i order)) (k == g))
 
 -- an option is known by whether there is a number, and by the number
 pub option_is : (o : Option ℕ) (b : Bool) (w : ℕ) → is_some o ≡ b → unwrap_or o 0 ≡ w → o ≡ cond b (Some w) None

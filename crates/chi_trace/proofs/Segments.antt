@@ -8,7 +8,7 @@ use Rattle.chi_trace.specs.Explains.{IsInTime, at, is_place, nothing, times_in}
 use Rattle.chi_trace.specs.Segments.{AreApart}
 use Rattle.chi_trace.proofs.Orders.{ArePlaces, times_in-filter}
 use Rattle.chi_trace.proofs.Places.{of_each}
-use Rattle.chi_trace.proofs.Weaving.{none_kept}
+use Rattle.chi_trace.proofs.MergedOrders.{none_kept}
 
 -- an operation of the earlier stands in the whole where it stood
 pub at_earlier : (a b : List Operation) (i : ℕ) → is_place a i ≡ true → at (a ++ b) i ≡ at a i

@@ -6,10 +6,10 @@ use Rattle.std.proofs.lemmas.List.Sorted.{IsPermutation-keeps, IsPermutation-ref
 use Rattle.std.proofs.lemmas.List.Sums.{sum_by-cons}
 use Rattle.chi_history.specs.History.{one_if}
 use Rattle.chi_trace.specs.declared.operation.Operation.{Operation}
-use Rattle.chi_trace.specs.Chosen.{chosen, is_in}
+use Rattle.chi_trace.specs.AtPlaces.{at_places, is_in}
 use Rattle.chi_trace.specs.Explains.{at, is_place, times_in}
 use Rattle.chi_trace.specs.Granules.{ExplainsGranule, Finishes, granule_of, is_of}
-use Rattle.chi_trace.proofs.Chosen.{told_back, told_there}
+use Rattle.chi_trace.proofs.AtPlaces.{told_back, told_there}
 use Rattle.chi_trace.proofs.Cuts.{first_place, next_place, no_place}
 use Rattle.chi_trace.proofs.Moved.{times_moved}
 
@@ -19,18 +19,18 @@ places_in [] g = []
 places_in (op ∷ trace) g = cond (is_in g op) (0 ∷ map suc (places_in trace g)) (map suc (places_in trace g))
 
 -- behind one more operation each place is the next
-chosen_behind : (op : Operation) (trace : List Operation) (places : List ℕ) → chosen (op ∷ trace) (map suc places) ≡ chosen trace places
+chosen_behind : (op : Operation) (trace : List Operation) (places : List ℕ) → at_places (op ∷ trace) (map suc places) ≡ at_places trace places
 chosen_behind op trace [] = refl
 chosen_behind op trace (i ∷ places) = ap (λ l. at trace i ∷ l) (chosen_behind op trace places)
 
 -- at these places stand the granule's operations
-chosen_in : (trace : List Operation) (g : ℕ) → chosen trace (places_in trace g) ≡ filter (is_in g) trace
+chosen_in : (trace : List Operation) (g : ℕ) → at_places trace (places_in trace g) ≡ filter (is_in g) trace
 unfolding places_in
 chosen_in [] g = refl
 chosen_in (op ∷ trace) g = by_test (is_in g op) (chosen_behind op trace (places_in trace g) ∙ chosen_in trace g)
   where
-    by_test : (b : Bool) → chosen (op ∷ trace) (map suc (places_in trace g)) ≡ filter (is_in g) trace
-        → chosen (op ∷ trace) (cond b (0 ∷ map suc (places_in trace g)) (map suc (places_in trace g)))
+    by_test : (b : Bool) → at_places (op ∷ trace) (map suc (places_in trace g)) ≡ filter (is_in g) trace
+        → at_places (op ∷ trace) (cond b (0 ∷ map suc (places_in trace g)) (map suc (places_in trace g)))
         ≡ cond b (op ∷ filter (is_in g) trace) (filter (is_in g) trace)
     by_test true rest = ap (λ l. op ∷ l) rest
     by_test false rest = rest
@@ -114,7 +114,7 @@ lifted {X} {Y} f xs ys moved = IsPermutation-keeps (map f xs) (Lifts f xs) (xs, 
 
 -- the operations of a granule, told in another order, stand at each of its places once
 places_told : (trace ops : List Operation) (g : ℕ) → IsPermutation (filter (is_in g) trace) ops
-    → (places : List ℕ) × (chosen trace places ≡ ops) × ((i : ℕ) → times_in places i ≡ one_if (is_of trace g i))
+    → (places : List ℕ) × (at_places trace places ≡ ops) × ((i : ℕ) → times_in places i ≡ one_if (is_of trace g i))
 places_told trace ops g moved =
     let own = lifted (at trace) (places_in trace g) ops (subst (λ l. IsPermutation l ops) (sym (chosen_in trace g)) moved) in
     (own.0, own.1, λ i. times_permuted (places_in trace g) own.0 i own.2 ∙ each_in trace g i)
@@ -127,7 +127,7 @@ told_again trace ops g w final_word moved = (
   λ h. (map (slice_index there.0) h.0, told_there trace (is_of trace g) there.0 w final_word there.2 h.0 (subst (Told h.0) (sym there.1) h.1)),
 )
   where
-    there : (places : List ℕ) × (chosen trace places ≡ ops) × ((i : ℕ) → times_in places i ≡ one_if (is_of trace g i))
+    there : (places : List ℕ) × (at_places trace places ≡ ops) × ((i : ℕ) → times_in places i ≡ one_if (is_of trace g i))
     there = places_told trace ops g moved
 
     Told : List ℕ → List Operation → Type 0

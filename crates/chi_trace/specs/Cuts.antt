@@ -8,9 +8,9 @@ abbrev pub has_started : ℕ → Operation → Bool
 has_started time op = nat_le op.start time
 
 -- what was known of it then: its reply, where it had ended
-abbrev pub known : ℕ → Operation → Operation
-known time op = if nat_le op.end time then op else record op { reply = None }
+abbrev pub operation_at : ℕ → Operation → Operation
+operation_at time op = if nat_le op.end time then op else record op { reply = None }
 
 -- the operations that had started by a time, with the replies of those that had ended
 abbrev pub cut : ℕ → List Operation → List Operation
-cut time trace = map (known time) (filter (has_started time) trace)
+cut time trace = map (operation_at time) (filter (has_started time) trace)

@@ -1,10 +1,10 @@
 pub mod Explains
 pub mod Cuts
 pub mod Granules
-pub mod Chosen
+pub mod AtPlaces
 pub mod TraceLaws
 pub mod Segments
-pub mod Asked
+pub mod RequestFields
 pub mod Fields
 pub mod Replies
 pub mod Words

@@ -5,7 +5,7 @@ ghost use Rattle.std.specs.BTreeMap.{get};
 ghost use Rattle.std.specs.Ordering.{nat_cmp};
 ghost use Rattle.chi_trace.specs.Explains.{is_place};
 ghost use Rattle.chi_trace.specs.Executions.{replies_in, told_after};
-ghost use Rattle.chi_trace.specs.Words.{memory_of, told};
+ghost use Rattle.chi_trace.specs.Words.{find_word, memory_of};
 
 use crate::effect::apply_operation;
 use crate::trace::Trace;
@@ -24,7 +24,7 @@ pub struct Executed {
 
 /// The words, by their granules.
 fn by_granule(alloc: Global, words: &GranuleWords) -> Result<BTreeMap<u64, u64>, AllocError>
-    ensures { IfOk result (λ map. (g : ℕ) → get nat_cmp map g ≡ told words.now g) }
+    ensures { IfOk result (λ map. (g : ℕ) → get nat_cmp map g ≡ find_word words.now g) }
 {
     let mut map = BTreeMap::new(alloc);
     for told in words.as_slice() {
@@ -42,7 +42,7 @@ fn by_granule(alloc: Global, words: &GranuleWords) -> Result<BTreeMap<u64, u64>,
 pub fn execute(alloc: Global, trace: &Trace, order: &[usize]) -> Result<Executed, AllocError>
     requires { All (λ i. is_place trace.now.operations i ≡ true) order.now }
     ensures replies { IfOk result (λ executed. executed.replies.items ≡ replies_in trace.now.operations (memory_of trace.now.opening) order.now) }
-    ensures words { IfOk result (λ executed. (g : ℕ) → told executed.words g ≡ told_after trace.now order.now g) }
+    ensures words { IfOk result (λ executed. (g : ℕ) → find_word executed.words g ≡ told_after trace.now order.now g) }
 {
     let ops = trace.operations();
     let mut words = by_granule(alloc, trace.opening())?;

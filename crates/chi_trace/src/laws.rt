@@ -1,6 +1,6 @@
 //! Laws of traces. Each function does nothing: its contract is the law, for proofs that call it.
 
-ghost use Rattle.chi_trace.specs.Chosen.{GranulesTold, PlacesExplain};
+ghost use Rattle.chi_trace.specs.AtPlaces.{GranulesStandAlone, PlacesExplain};
 ghost use Rattle.chi_trace.specs.Fields.{FieldsAreTold};
 ghost use Rattle.chi_trace.specs.Replies.{FaultyRepliesAreNoAnswers};
 ghost use Rattle.chi_trace.specs.Segments.{QuietTimesDivide};
@@ -32,8 +32,8 @@ pub fn granules_explain()
 {}
 
 /// A granule's operations can be explained exactly where they can by themselves, told in any order.
-pub fn granules_told()
-    ensures { GranulesTold }
+pub fn granules_stand_alone()
+    ensures { GranulesStandAlone }
 {}
 
 /// Orders of the granules' operations make one of the whole trace.

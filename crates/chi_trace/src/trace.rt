@@ -1,7 +1,7 @@
 //! Traces: what was observed at a home, from the words at the opening on.
 
 ghost use Rattle.std.specs.Prelude.{◌≡◌, ◌<◌, ◌↔◌, All, None, IfOk, IfSome, IsTrue, length};
-ghost use Rattle.chi_trace.specs.Chosen.{chosen};
+ghost use Rattle.chi_trace.specs.AtPlaces.{at_places};
 ghost use Rattle.chi_trace.specs.Cuts.{cut};
 ghost use Rattle.chi_trace.specs.Explains.{IsTrace};
 ghost use Rattle.chi_trace.specs.Words.{AreInOrder, AreWords};
@@ -86,7 +86,7 @@ pub fn operations_at(
     places: &[usize],
 ) -> Result<Vec<Operation>, AllocError>
     requires { All (λ place. place < length ops.now) places.now }
-    ensures { IfOk result (λ own. own.items ≡ chosen ops.now places.now) }
+    ensures { IfOk result (λ own. own.items ≡ at_places ops.now places.now) }
 {
     let mut own = Vec::with_capacity(alloc, places.len())?;
     for place in places {

@@ -3,7 +3,7 @@
 ghost use Rattle.std.specs.Prelude.{◌≡◌, ℕ, [], None, IfSome, IfOk};
 ghost use Rattle.std.specs.BTreeMap.{get};
 ghost use Rattle.std.specs.Ordering.{nat_cmp};
-ghost use Rattle.chi_trace.specs.Words.{AreInOrder, AreWords, told, word_told};
+ghost use Rattle.chi_trace.specs.Words.{AreInOrder, AreWords, find_word, word_or_zero};
 
 use std::alloc::{AllocError, Global};
 use std::collections::BTreeMap;
@@ -74,7 +74,7 @@ impl GranuleWords {
     /// let opening = GranuleWords::of_map(alloc, &words)?;
     /// ```
     pub fn of_map(alloc: Global, map: &BTreeMap<u64, u64>) -> Result<GranuleWords, AllocError>
-        ensures { IfOk result (λ words. (g : ℕ) → told words g ≡ get nat_cmp map.now g) }
+        ensures { IfOk result (λ words. (g : ℕ) → find_word words g ≡ get nat_cmp map.now g) }
     {
         let mut words = Vec::with_capacity(alloc, map.len())?;
         for (granule, word) in map {
@@ -107,7 +107,7 @@ impl GranuleWords {
     /// let word = final_words.get(0x1000 / 8);
     /// ```
     pub fn get(&self, granule: u64) -> Option<u64>
-        ensures { result ≡ told self.now granule }
+        ensures { result ≡ find_word self.now granule }
     {
         match self
             .words
@@ -124,7 +124,7 @@ impl GranuleWords {
     /// let word = trace.opening().word(0x1000 / 8);
     /// ```
     pub fn word(&self, granule: u64) -> u64
-        ensures { result ≡ word_told self.now granule }
+        ensures { result ≡ word_or_zero self.now granule }
     {
         self.get(granule).unwrap_or(0)
     }

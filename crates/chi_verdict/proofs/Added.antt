@@ -5,7 +5,7 @@ use Rattle.std.proofs.lemmas.List.Elements.{All-cons, All-head, All-nil, All-tai
 use Rattle.chi_trace.specs.declared.operation.Operation.{Operation}
 use Rattle.chi_trace.specs.Explains.{IsInTime, IsTrace, at, is_place}
 use Rattle.chi_trace.proofs.Orders.{observed_at}
-use Rattle.chi_verdict.specs.declared.weaving.Point.{Point}
+use Rattle.chi_verdict.specs.declared.merge_orders.Point.{Point}
 use Rattle.chi_verdict.specs.Points.{ArePoints, order_of}
 use Rattle.chi_verdict.proofs.Woven.{IsPointOf, time_of}
 

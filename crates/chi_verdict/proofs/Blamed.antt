@@ -9,13 +9,13 @@ use Rattle.chi_trace.specs.Explains.{Explains, IsTrace, unobserved}
 use Rattle.chi_trace.specs.Granules.{ExplainsGranule, is_of}
 use Rattle.chi_trace.specs.TraceLaws.{PartsExplain}
 use Rattle.chi_trace.specs.declared.words.GranuleWord.{GranuleWord}
-use Rattle.chi_trace.specs.Words.{AreWords, memory_of, told, word_told}
+use Rattle.chi_trace.specs.Words.{AreWords, find_word, memory_of, word_or_zero}
 use Rattle.chi_trace.proofs.TracedCuts.{IsTrace-cut}
 use Rattle.chi_trace.proofs.Memory.{IsMemory-memory_of, word_of-memory_of}
 
 -- where no order explains a granule's operations, none explains the whole
 pub whole_unexplained : PartsExplain → (opening : List GranuleWord) (ops : List Operation) (g : ℕ) → AreWords opening → IsTrace ops
-    → ((order : List ℕ) → ExplainsGranule ops g (word_told opening g) None order → ⊥)
+    → ((order : List ℕ) → ExplainsGranule ops g (word_or_zero opening g) None order → ⊥)
     → (order : List ℕ) → Explains (memory_of opening) unobserved ops order → ⊥
 whole_unexplained parts opening ops g words is none order explains =
     none (filter (is_of ops g) order)
@@ -24,13 +24,13 @@ whole_unexplained parts opening ops g words is none order explains =
 
 -- the same at a time
 pub unexplained_at : PartsExplain → (opening : List GranuleWord) (ops : List Operation) (g time : ℕ) → AreWords opening → IsTrace ops
-    → ((order : List ℕ) → ExplainsGranule (cut time ops) g (word_told opening g) None order → ⊥)
+    → ((order : List ℕ) → ExplainsGranule (cut time ops) g (word_or_zero opening g) None order → ⊥)
     → (order : List ℕ) → Explains (memory_of opening) unobserved (cut time ops) order → ⊥
 unexplained_at parts opening ops g time words is none = whole_unexplained parts opening (cut time ops) g words (IsTrace-cut time ops is) none
 
 -- no word is told where none are
-pub none_is_told : (g : ℕ) → told [] g ≡ None
-unfolding told
+pub none_is_told : (g : ℕ) → find_word [] g ≡ None
+unfolding find_word
 none_is_told g = refl
 
 -- what follows from what is said of the words that were found

@@ -10,7 +10,7 @@ use Rattle.chi_trace.specs.Explains.{IsTrace, memory_after, unobserved, word_of}
 use Rattle.chi_trace.specs.Granules.{ExplainsGranule, is_of, last_word}
 use Rattle.chi_trace.specs.TraceLaws.{OrdersOfGranulesExplain, PartsExplain}
 use Rattle.chi_trace.specs.Traces.{CanHold, IsLegal, TraceValue}
-use Rattle.chi_trace.specs.Words.{AreWords, memory_of, word_told}
+use Rattle.chi_trace.specs.Words.{AreWords, memory_of, word_or_zero}
 use Rattle.chi_trace.proofs.Memory.{IsMemory-memory_of, word_of-memory_of}
 
 -- an order that explains a granule and leaves a word explains it where that word was observed at the end
@@ -25,7 +25,7 @@ unended ops g w v own explains =
 
 -- where some order explains the whole trace, its granules' orders can each be chosen alone
 pub held_alone : OrdersOfGranulesExplain → PartsExplain → (t : TraceValue) → AreWords t.opening → IsTrace t.operations → (order : List ℕ) → IsLegal t order → (g v : ℕ)
-    → ((own : List ℕ) × ExplainsGranule t.operations g (word_told t.opening g) (Some v) own) ↔ CanHold t g v
+    → ((own : List ℕ) × ExplainsGranule t.operations g (word_or_zero t.opening g) (Some v) own) ↔ CanHold t g v
 held_alone joins parts t words is order legal g v = (forth, back)
   where
     ops : List Operation
@@ -34,14 +34,14 @@ held_alone joins parts t words is order legal g v = (forth, back)
     memory : Memory
     memory = memory_of t.opening
 
-    word : word_of memory g ≡ word_told t.opening g
+    word : word_of memory g ≡ word_or_zero t.opening g
     word = word_of-memory_of t.opening g words
 
-    forth : ((own : List ℕ) × ExplainsGranule ops g (word_told t.opening g) (Some v) own) → CanHold t g v
-    forth (own, explains) = (whole.0, whole.1, (whole.2 g).1 ∙ ap (last_word ops (word_of memory g)) here ∙ chosen.ending)
+    forth : ((own : List ℕ) × ExplainsGranule ops g (word_or_zero t.opening g) (Some v) own) → CanHold t g v
+    forth (own, explains) = (whole.0, whole.1, (whole.2 g).1 ∙ ap (last_word ops (word_of memory g)) here ∙ from_memory.ending)
       where
-        chosen : ExplainsGranule ops g (word_of memory g) (Some v) own
-        chosen = subst (λ w. ExplainsGranule ops g w (Some v) own) (sym word) explains
+        from_memory : ExplainsGranule ops g (word_of memory g) (Some v) own
+        from_memory = subst (λ w. ExplainsGranule ops g w (Some v) own) (sym word) explains
 
         orders : ℕ → List ℕ
         orders h = cond (h == g) own (filter (is_of ops h) order)
@@ -54,14 +54,14 @@ held_alone joins parts t words is order legal g v = (forth, back)
           where
             by_test : (b : Bool) → (h == g) ≡ b → ExplainsGranule ops h (word_of memory h) None (cond b own (filter (is_of ops h) order))
             by_test true same =
-                subst (λ k. ExplainsGranule ops k (word_of memory k) None own) (sym (eqb-true h g same)) (unended ops g (word_of memory g) v own chosen)
+                subst (λ k. ExplainsGranule ops k (word_of memory k) None own) (sym (eqb-true h g same)) (unended ops g (word_of memory g) v own from_memory)
             by_test false other = (parts memory unobserved ops order (IsMemory-memory_of t.opening) is legal h).0
 
         whole : (joined : List ℕ) × IsLegal t joined
             × ((h : ℕ) → (filter (is_of ops h) joined ≡ orders h) × (word_of (memory_after ops memory joined) h ≡ last_word ops (word_of memory h) (orders h)))
         whole = joins memory unobserved ops orders (IsMemory-memory_of t.opening) is each
 
-    back : CanHold t g v → (own : List ℕ) × ExplainsGranule ops g (word_told t.opening g) (Some v) own
+    back : CanHold t g v → (own : List ℕ) × ExplainsGranule ops g (word_or_zero t.opening g) (Some v) own
     back (held, explains, left) =
         let part = parts memory unobserved ops held (IsMemory-memory_of t.opening) is explains g in
         let own = filter (is_of ops g) held in
@@ -69,7 +69,7 @@ held_alone joins parts t words is order legal g v = (forth, back)
 
 -- the words that a granule's operations leave are those that it can hold, where the trace can be explained
 pub said_held : OrdersOfGranulesExplain → PartsExplain → (t : TraceValue) → AreWords t.opening → IsTrace t.operations → (g : ℕ) (found : Words)
-    → IfWords found (λ each. (v : ℕ) → Contains each v ↔ ((own : List ℕ) × ExplainsGranule t.operations g (word_told t.opening g) (Some v) own))
+    → IfWords found (λ each. (v : ℕ) → Contains each v ↔ ((own : List ℕ) × ExplainsGranule t.operations g (word_or_zero t.opening g) (Some v) own))
     → IfWords found (λ each. (order : List ℕ) → IsLegal t order → (v : ℕ) → Contains each v ↔ CanHold t g v)
 said_held joins parts t words is g (Each each) h =
     λ order legal v.

@@ -5,7 +5,7 @@ use Rattle.std.proofs.lemmas.List.{map-id}
 use Rattle.chi_lanes.specs.declared.reply.Reply.{Reply}
 use Rattle.chi_history.specs.History.{one_if}
 use Rattle.chi_trace.specs.declared.operation.Operation.{Operation}
-use Rattle.chi_trace.specs.Cuts.{cut, has_started, known}
+use Rattle.chi_trace.specs.Cuts.{cut, has_started, operation_at}
 use Rattle.chi_trace.specs.Explains.{IsInTime, IsTrace, at, is_answered, is_place, times_in}
 use Rattle.chi_trace.specs.Granules.{ExplainsGranule, Play, granule_of, is_of}
 use Rattle.chi_trace.proofs.Cuts.{cut_shows}
@@ -14,7 +14,7 @@ use Rattle.chi_trace.proofs.Orders.{observed_at}
 use Rattle.chi_trace.proofs.Places.{passes}
 
 -- what was known of an operation at a time says its granule
-known_granule : (time : ℕ) (op : Operation) → granule_of (known time op) ≡ granule_of op
+known_granule : (time : ℕ) (op : Operation) → granule_of (operation_at time op) ≡ granule_of op
 known_granule time op = by_test (nat_le op.end time)
   where
     by_test : (b : Bool) → granule_of (cond b op (record op { reply = None })) ≡ granule_of op
@@ -22,7 +22,7 @@ known_granule time op = by_test (nat_le op.end time)
     by_test false = refl
 
 -- of an operation whose reply was never seen the same is known at all times
-known_unanswered : (time : ℕ) (op : Operation) → is_answered op ≡ false → known time op ≡ op
+known_unanswered : (time : ℕ) (op : Operation) → is_answered op ≡ false → operation_at time op ≡ op
 known_unanswered time op unseen = by_test (nat_le op.end time)
   where
     without : (reply : Option Reply) → is_answered (record op { reply = reply }) ≡ false → record op { reply = None } ≡ record op { reply = reply }
@@ -34,7 +34,7 @@ known_unanswered time op unseen = by_test (nat_le op.end time)
     by_test false = without op.reply unseen
 
 -- the same is known of an operation at two times where it was answered by both or by neither
-known_alike : (early late : ℕ) (op : Operation) → early ≤ late → (is_answered op ≡ true → early < op.end → late < op.end) → known early op ≡ known late op
+known_alike : (early late : ℕ) (op : Operation) → early ≤ late → (is_answered op ≡ true → early < op.end → late < op.end) → operation_at early op ≡ operation_at late op
 known_alike early late op le none = by_reply (is_answered op) refl
   where
     by_test : (early < op.end → late < op.end) → (b : Bool) → nat_le op.end early ≡ b → (d : Bool) → nat_le op.end late ≡ d
@@ -50,13 +50,13 @@ known_alike early late op le none = by_reply (is_answered op) refl
         absurd (omega (arith, lasted, ended))
     by_test lasts false first false second = refl
 
-    by_reply : (b : Bool) → is_answered op ≡ b → known early op ≡ known late op
+    by_reply : (b : Bool) → is_answered op ≡ b → operation_at early op ≡ operation_at late op
     by_reply true seen = by_test (none seen) (nat_le op.end early) refl (nat_le op.end late) refl
     by_reply false unseen = known_unanswered early op unseen ∙ sym (known_unanswered late op unseen)
 
 -- an operation of a granule stands in a cut where it had started, as it was known then
 pub own_shown : (ops : List Operation) (g time i : ℕ) → IsTrace ops → is_of (cut time ops) g i ≡ true
-    → (is_of ops g i ≡ true) × (has_started time (at ops i) ≡ true) × (at (cut time ops) i ≡ known time (at ops i))
+    → (is_of ops g i ≡ true) × (has_started time (at ops i) ≡ true) × (at (cut time ops) i ≡ operation_at time (at ops i))
 own_shown ops g time i is own =
     let parts = and_parts (is_place (cut time ops) i) (granule_of (at (cut time ops) i) == g) own in
     let shows = cut_shows ops is time i in
@@ -75,10 +75,10 @@ shown_own ops g time i is own started =
     and_from (is_place (cut time ops) i) (granule_of (at (cut time ops) i) == g) place (ap (λ k. k == g) granule ∙ parts.1)
 
 -- an operation that is answered later, or never, was not by a time
-not_yet : (time : ℕ) (op : Operation) → (is_answered op ≡ true → time < op.end) → is_answered (known time op) ≡ false
+not_yet : (time : ℕ) (op : Operation) → (is_answered op ≡ true → time < op.end) → is_answered (operation_at time op) ≡ false
 not_yet time op lasts = by_reply (is_answered op) refl
   where
-    by_reply : (b : Bool) → is_answered op ≡ b → is_answered (known time op) ≡ false
+    by_reply : (b : Bool) → is_answered op ≡ b → is_answered (operation_at time op) ≡ false
     by_reply true seen = ap (λ b. is_answered (cond b op (record op { reply = None }))) (lt-leb op.end time (lasts seen))
     by_reply false unseen = ap is_answered (known_unanswered time op unseen) ∙ unseen
 
@@ -127,7 +127,7 @@ later_explains ops g w early late order is le none h = record {
         (λ ended. taken (shown_own ops g early i is shown.0 (le-leb (at ops i).start early (omega (arith, lasting, ended)))))
         (cases_lt early (at ops i).end)
       where
-        shown : (is_of ops g i ≡ true) × (has_started late (at ops i) ≡ true) × (at (cut late ops) i ≡ known late (at ops i))
+        shown : (is_of ops g i ≡ true) × (has_started late (at ops i) ≡ true) × (at (cut late ops) i ≡ operation_at late (at ops i))
         shown = own_shown ops g late i is own
 
         lasting : (at ops i).start ≤ (at ops i).end

@@ -6,7 +6,7 @@ use Rattle.std.proofs.lemmas.List.{get_or-map, get_or_default, length-map}
 use Rattle.std.proofs.lemmas.List.Sorted.{IsNonDecreasingBy-from_all_adjacent}
 use Rattle.chi_history.specs.History.{one_if}
 use Rattle.chi_trace.specs.declared.operation.Operation.{Operation}
-use Rattle.chi_trace.specs.Chosen.{chosen}
+use Rattle.chi_trace.specs.AtPlaces.{at_places}
 use Rattle.chi_trace.specs.Explains.{IsOperation, IsTrace, at, is_place, nothing, times_in}
 use Rattle.chi_trace.specs.Granules.{granule_of, is_of}
 use Rattle.chi_trace.proofs.Orders.{observed_at}
@@ -51,36 +51,36 @@ abbrev none : Placed
 none = record { granule = 0; end = 0; place = 0 }
 
 -- the operation at an index of those that were chosen
-chosen_at : (ops : List Operation) (run : List Placed) (k : ℕ) → k < length run → at (chosen ops (places_of run)) k ≡ at ops (get_or run k none).place
+chosen_at : (ops : List Operation) (run : List Placed) (k : ℕ) → k < length run → at (at_places ops (places_of run)) k ≡ at ops (get_or run k none).place
 chosen_at ops run k below =
     let size : length (places_of run) ≡ length run = length-map run (λ p. p.place) in
     get_or-map (at ops) (places_of run) k 0 nothing (omega (arith, size, below)) ∙ ap (at ops) (get_or-map (λ (p : Placed). p.place) run k none 0 below)
 
 -- as many were chosen as there are places
-pub length_chosen : (ops : List Operation) (run : List Placed) → length (chosen ops (places_of run)) ≡ length run
+pub length_chosen : (ops : List Operation) (run : List Placed) → length (at_places ops (places_of run)) ≡ length run
 length_chosen ops run = length-map (places_of run) (at ops) ∙ length-map run (λ p. p.place)
 
 -- each of them is an operation of a trace
-chosen_observed : (ops : List Operation) (g : ℕ) (run : List Placed) → IsTrace ops → HasEach ops g run → All IsOperation (chosen ops (places_of run))
+chosen_observed : (ops : List Operation) (g : ℕ) (run : List Placed) → IsTrace ops → HasEach ops g run → All IsOperation (at_places ops (places_of run))
 chosen_observed ops g run is each k d below =
     let index : k < length run = omega (arith, length_chosen ops run, below) in
     let place = (get_or run k none).place in
     let own = and_parts (is_place ops place) (granule_of (at ops place) == g) (own_places ops g run each k none index) in
-    subst IsOperation (sym (get_or_default (chosen ops (places_of run)) k d nothing below ∙ chosen_at ops run k index)) (observed_at ops place is own.0)
+    subst IsOperation (sym (get_or_default (at_places ops (places_of run)) k d nothing below ∙ chosen_at ops run k index)) (observed_at ops place is own.0)
 
 -- the chosen operations stand in the order of their ends, and none ends before it starts
-pub sorted : (ops : List Operation) (g : ℕ) (run : List Placed) → IsTrace ops → IsGrouped ops (is_of ops g) run → AreSorted (chosen ops (places_of run))
+pub sorted : (ops : List Operation) (g : ℕ) (run : List Placed) → IsTrace ops → IsGrouped ops (is_of ops g) run → AreSorted (at_places ops (places_of run))
 sorted ops g run is grouped = (by_end, λ k d below. (chosen_observed ops g run is grouped.each k d below).lasting)
   where
-    end_at : (k : ℕ) → k < length run → (at (chosen ops (places_of run)) k).end ≡ (get_or run k none).end
+    end_at : (k : ℕ) → k < length run → (at (at_places ops (places_of run)) k).end ≡ (get_or run k none).end
     end_at k below = ap (λ (op : Operation). op.end) (chosen_at ops run k below) ∙ (grouped.placed k none below).1
 
-    by_end : AreByEnd (chosen ops (places_of run))
+    by_end : AreByEnd (at_places ops (places_of run))
     by_end i j order below =
         let last : j < length run = omega (arith, length_chosen ops run, below) in
         let first : i < length run = omega (arith, order, last) in
         omega (arith, by_ends ops g run grouped i j none order last, end_at i first, end_at j last)
 
 -- and all lie within 2^52 bytes
-pub within : (ops : List Operation) (g : ℕ) (run : List Placed) → IsTrace ops → IsGrouped ops (is_of ops g) run → AreWithin (chosen ops (places_of run))
+pub within : (ops : List Operation) (g : ℕ) (run : List Placed) → IsTrace ops → IsGrouped ops (is_of ops g) run → AreWithin (at_places ops (places_of run))
 within ops g run is grouped i below = (chosen_observed ops g run is grouped.each i nothing below).within

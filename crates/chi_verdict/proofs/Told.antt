@@ -3,7 +3,7 @@ use Rattle.std.proofs.Common.{◌≡◌, ℕ, ◌<◌, ◌↔◌, List, [], ◌�
 use Rattle.std.specs.List.{Contains}
 use Rattle.std.proofs.lemmas.List.Elements.{All-cons, All-contains, All-nil, Contains-get_or}
 use Rattle.chi_trace.specs.declared.operation.Operation.{Operation}
-use Rattle.chi_trace.specs.Chosen.{PlacesExplain, chosen}
+use Rattle.chi_trace.specs.AtPlaces.{PlacesExplain, at_places}
 use Rattle.chi_trace.specs.Explains.{is_place}
 use Rattle.chi_trace.specs.Granules.{ExplainsGranule, Finishes, is_of}
 use Rattle.chi_trace.proofs.Places.{passes}
@@ -16,7 +16,7 @@ use Rattle.chi_verdict.specs.Groups.{places_of}
 use Rattle.chi_verdict.proofs.OneGranule.{HasEach, length_chosen}
 
 -- an order of the chosen operations has only indices of their places
-pub indices : (ops own : List Operation) (run : List Placed) (w : ℕ) (final_word : Option ℕ) (order : List ℕ) → own ≡ chosen ops (places_of run)
+pub indices : (ops own : List Operation) (run : List Placed) (w : ℕ) (final_word : Option ℕ) (order : List ℕ) → own ≡ at_places ops (places_of run)
     → Finishes own (is_place own) w final_word order → All (λ k. k < length run) order
 indices ops own run w final_word order is finishes n d below =
     let under = ltb-true (get_or order n d) (length own) (passes (is_place own) order finishes.once n d below) in
@@ -25,21 +25,21 @@ indices ops own run w final_word order is finishes n d below =
 
 -- and explains the granule, moved to the trace
 pub told_order : PlacesExplain → (ops own : List Operation) (g : ℕ) (run : List Placed) (w : ℕ) (final_word : Option ℕ) (order : List ℕ)
-    → own ≡ chosen ops (places_of run) → HasEach ops g run → Finishes own (is_place own) w final_word order
+    → own ≡ at_places ops (places_of run) → HasEach ops g run → Finishes own (is_place own) w final_word order
     → ExplainsGranule ops g w final_word (map (slice_index (places_of run)) order)
 told_order law ops own g run w final_word order is each finishes =
     (law ops (is_of ops g) (places_of run) w final_word each).0 order (subst (λ o. Finishes o (is_place o) w final_word order) is finishes)
 
 -- and each that explains the granule is one that was moved
 pub told_back : PlacesExplain → (ops own : List Operation) (g : ℕ) (run : List Placed) (w : ℕ) (final_word : Option ℕ) (order : List ℕ)
-    → own ≡ chosen ops (places_of run) → HasEach ops g run → ExplainsGranule ops g w final_word order
+    → own ≡ at_places ops (places_of run) → HasEach ops g run → ExplainsGranule ops g w final_word order
     → (moved : List ℕ) × Finishes own (is_place own) w final_word moved
 told_back law ops own g run w final_word order is each explains =
     let back = (law ops (is_of ops g) (places_of run) w final_word each).1 order explains in
     (back.0, subst (λ o. Finishes o (is_place o) w final_word back.0) (sym is) back.1)
 
 -- the words to which an order leads are those that one of the granule leaves
-pub told_words : PlacesExplain → (ops own : List Operation) (g : ℕ) (run : List Placed) (w v : ℕ) → own ≡ chosen ops (places_of run) → HasEach ops g run
+pub told_words : PlacesExplain → (ops own : List Operation) (g : ℕ) (run : List Placed) (w v : ℕ) → own ≡ at_places ops (places_of run) → HasEach ops g run
     → SomeLeads own (w ∷ []) v ↔ ((order : List ℕ) × ExplainsGranule ops g w (Some v) order)
 told_words law ops own g run w v is each = (forth, back)
   where

@@ -8,14 +8,14 @@ use Rattle.chi_history.specs.History.{one_if}
 use Rattle.chi_trace.specs.declared.operation.Operation.{Operation}
 use Rattle.chi_trace.specs.Explains.{IsInTime, at, is_answered, is_place, times_in}
 use Rattle.chi_trace.specs.Granules.{ExplainsGranule, Play, granule_of, is_of, last_word}
-use Rattle.chi_trace.proofs.Weaving.{none_kept}
+use Rattle.chi_trace.proofs.MergedOrders.{none_kept}
 use Rattle.chi_verdict.specs.declared.grouping.Placed.{Placed}
-use Rattle.chi_verdict.specs.declared.weaving.Point.{Point}
+use Rattle.chi_verdict.specs.declared.merge_orders.Point.{Point}
 use Rattle.chi_trace.specs.declared.words.GranuleWord.{GranuleWord}
 use Rattle.chi_verdict.specs.Groups.{ArePlaced, IsGrouped, places_of}
 use Rattle.chi_verdict.specs.Points.{ArePoints, AreOrdered, order_of}
-use Rattle.chi_verdict.specs.Walks.{IsPast}
-use Rattle.chi_trace.specs.Words.{told, word_told}
+use Rattle.chi_verdict.specs.PastGranules.{IsPast}
+use Rattle.chi_trace.specs.Words.{find_word, word_or_zero}
 
 -- the walk goes past one granule, from the first to the second of two places and of two words
 pub record Passes (places : List Placed) (from to : ℕ) (final_words : List GranuleWord) (word next : ℕ) (g : ℕ) : Type 0 where
@@ -38,7 +38,7 @@ pub record Walked (opening final_words : List GranuleWord) (ops : List Operation
   pub inside : All (λ p. is_place ops p.place ≡ true) points
   pub past : All (λ p. IsPast places from final_words word (granule_of (at ops p.place))) points
   pub explained : undecided ≡ None → (g : ℕ) → IsPast places from final_words word g
-      → ExplainsGranule ops g (word_told opening g) (told final_words g) (filter (is_of ops g) (order_of points))
+      → ExplainsGranule ops g (word_or_zero opening g) (find_word final_words g) (filter (is_of ops g) (order_of points))
 
 -- what is above each number below g is at least g
 pub no_lower : {X : Type 0} (n : X → ℕ) (xs : List X) (g : ℕ) → ((h : ℕ) → h < g → All (λ x. h < n x) xs) → All (λ x. g ≤ n x) xs

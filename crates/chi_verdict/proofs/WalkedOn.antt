@@ -9,12 +9,12 @@ use Rattle.chi_trace.specs.Explains.{at, is_place}
 use Rattle.chi_trace.specs.Granules.{ExplainsGranule, granule_of, is_of}
 use Rattle.chi_trace.proofs.Places.{passes as passes_all}
 use Rattle.chi_verdict.specs.declared.grouping.Placed.{Placed}
-use Rattle.chi_verdict.specs.declared.weaving.Point.{Point}
+use Rattle.chi_verdict.specs.declared.merge_orders.Point.{Point}
 use Rattle.chi_trace.specs.declared.words.GranuleWord.{GranuleWord}
 use Rattle.chi_verdict.specs.Groups.{IsGrouped}
 use Rattle.chi_verdict.specs.Points.{ArePoints, AreOrdered, order_of}
-use Rattle.chi_verdict.specs.Walks.{IsPast}
-use Rattle.chi_trace.specs.Words.{told, word_told}
+use Rattle.chi_verdict.specs.PastGranules.{IsPast}
+use Rattle.chi_trace.specs.Words.{find_word, word_or_zero}
 use Rattle.chi_verdict.proofs.Gained.{ordered_on}
 use Rattle.chi_trace.proofs.Memory.{none_told}
 use Rattle.chi_verdict.proofs.Walked.{Passes, Walked, all_of, at_most, never, none_of, not_there, now_past, other_granule, own_granule, parts_of, past_below, untouched}
@@ -24,7 +24,7 @@ pub record Finds (opening final_words : List GranuleWord) (ops : List Operation)
   pub pointed : ArePoints ops added
   pub ordered : AreOrdered ops (points ++ added)
   pub own : All (λ p. is_of ops g p.place ≡ true) added
-  pub explained : after ≡ None → (undecided ≡ None) × ExplainsGranule ops g (word_told opening g) (told final_words g) (order_of added)
+  pub explained : after ≡ None → (undecided ≡ None) × ExplainsGranule ops g (word_or_zero opening g) (find_word final_words g) (order_of added)
 
 -- of each point that stands already the granule comes before
 pub earlier : (opening final_words : List GranuleWord) (ops : List Operation) (places : List Placed) (from to word next : ℕ) (undecided : Option ℕ) (points : List Point) (g : ℕ)
@@ -77,7 +77,7 @@ goes_on opening final_words ops places from to word next undecided after points 
         (λ k d under. past_below places from final_words word g (get_or (take word final_words) k d).granule passes.there (walked.behind_words k d under)) passes.own_words
 
     Is : ℕ → List ℕ → Type 0
-    Is h order = ExplainsGranule ops h (word_told opening h) (told final_words h) order
+    Is h order = ExplainsGranule ops h (word_or_zero opening h) (find_word final_words h) order
 
     before : (h : ℕ) → h < g → undecided ≡ None → Is h (filter (is_of ops h) (order_of (points ++ added)))
     before h below none =
@@ -99,7 +99,7 @@ goes_on opening final_words ops places from to word next undecided after points 
         let nothing : filter (is_of ops h) (order_of (points ++ added)) ≡ [] =
         parts_of ops h points added ∙ ap (λ x. x ++ filter (is_of ops h) (order_of added)) none ∙ none_of ops h added else in
         subst (Is h) (sym nothing)
-        (untouched ops h (word_told opening h) (told final_words h) (not_there ops places h grouped (never (λ (p : Placed). p.granule) places to g h above places_most passed.0))
+        (untouched ops h (word_or_zero opening h) (find_word final_words h) (not_there ops places h grouped (never (λ (p : Placed). p.granule) places to g h above places_most passed.0))
         (none_told final_words h (never (λ (w : GranuleWord). w.granule) final_words next g h above words_most passed.1)))
 
     by_order : (h : ℕ) → (b : Bool) → nat_lt h g ≡ b → (c : Bool) → nat_lt g h ≡ c → (undecided ≡ None) × Is g (order_of added) → IsPast places to final_words next h
@@ -120,7 +120,7 @@ begins opening final_words ops places grouped = record {
   ordered = λ g i j d between under. absurd (omega (arith, under));
   inside = λ k d under. absurd (omega (arith, under));
   past = λ k d under. absurd (omega (arith, under));
-  explained = λ none g passed. untouched ops g (word_told opening g) (told final_words g)
+  explained = λ none g passed. untouched ops g (word_or_zero opening g) (find_word final_words g)
       (not_there ops places g grouped (λ k d under. let above = passed.0 k d under in grind (arith, nat_tests, above)))
       (none_told final_words g (λ k d under. let above = passed.1 k d under in grind (arith, nat_tests, above)));
 }
@@ -134,14 +134,14 @@ of_points P (p ∷ points) all =
 -- an order of the granule was found
 pub found : (opening final_words : List GranuleWord) (ops : List Operation) (places : List Placed) (from to word next : ℕ) (undecided : Option ℕ) (points added : List Point) (g : ℕ) (order : List ℕ)
     → Walked opening final_words ops places from word undecided points → Passes places from to final_words word next g
-    → ExplainsGranule ops g (word_told opening g) (told final_words g) order
+    → ExplainsGranule ops g (word_or_zero opening g) (find_word final_words g) order
     → order_of added ≡ order → ArePoints ops added → IsNonDecreasingBy (λ (p : Point). p.time) added
     → Finds opening final_words ops g undecided undecided points added
 found opening final_words ops places from to word next undecided points added g order walked passes explains same pointed rises = record {
   pointed = pointed;
   ordered = ordered_on ops points added g walked.ordered rises (others opening final_words ops places from to word next undecided points g g walked passes (omega arith)) own;
   own = own;
-  explained = λ none. (none, subst (ExplainsGranule ops g (word_told opening g) (told final_words g)) (sym same) explains);
+  explained = λ none. (none, subst (ExplainsGranule ops g (word_or_zero opening g) (find_word final_words g)) (sym same) explains);
 }
   where
     own : All (λ (p : Point). is_of ops g p.place ≡ true) added

@@ -7,7 +7,7 @@ use Rattle.std.proofs.lemmas.List.Kept.{IsNonDecreasingBy-filter}
 use Rattle.chi_trace.specs.declared.operation.Operation.{Operation}
 use Rattle.chi_trace.specs.Explains.{IsInTime, at}
 use Rattle.chi_trace.specs.Granules.{is_of}
-use Rattle.chi_verdict.specs.declared.weaving.Point.{Point}
+use Rattle.chi_verdict.specs.declared.merge_orders.Point.{Point}
 use Rattle.chi_verdict.specs.Points.{AreOrdered, ArePoints, order_of, points_of}
 use Rattle.chi_verdict.proofs.Ties.{agree_by_key, filter-map, filters_swap, same_order, tied}
 

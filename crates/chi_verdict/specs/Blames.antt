@@ -10,8 +10,8 @@ use Rattle.chi_trace.specs.Granules.{ExplainsGranule, is_of}
 use Rattle.chi_verdict.specs.declared.first.Blame.{Blame}
 use Rattle.chi_verdict.specs.declared.first.First.{First}
 use Rattle.chi_verdict.specs.declared.first.First.TheVariants.{Never, At, Undecided}
-use Rattle.chi_trace.specs.Traces.{CanHold, IsLegal, TraceValue, known_at}
-use Rattle.chi_trace.specs.Words.{word_told}
+use Rattle.chi_trace.specs.Traces.{CanHold, IsLegal, TraceValue, trace_at}
+use Rattle.chi_trace.specs.Words.{word_or_zero}
 
 -- an operation of the granule had started by a time, and had not ended before
 abbrev pub is_open_at : List Operation → ℕ → ℕ → ℕ → Bool
@@ -21,15 +21,15 @@ is_open_at ops time g i = is_of ops g i && (nat_le (at ops i).start time && nat_
 -- is one, this order does. The operation is one of the granule that was answered then, those that were open are listed once
 -- each, and the words are those that the granule can hold up to the time before.
 pub record IsBlame (t : TraceValue) (blame : Blame) : Type 0 where
-  pub before : (earlier : ℕ) → earlier + 1 ≡ blame.time → IsLegal (known_at earlier t) blame.order.items
-  pub after : (order : List ℕ) → IsLegal (known_at blame.time t) order → ⊥
-  pub granule : (order : List ℕ) → ExplainsGranule (known_at blame.time t).operations blame.granule (word_told t.opening blame.granule) None order → ⊥
+  pub before : (earlier : ℕ) → earlier + 1 ≡ blame.time → IsLegal (trace_at earlier t) blame.order.items
+  pub after : (order : List ℕ) → IsLegal (trace_at blame.time t) order → ⊥
+  pub granule : (order : List ℕ) → ExplainsGranule (trace_at blame.time t).operations blame.granule (word_or_zero t.opening blame.granule) None order → ⊥
   pub here : is_of t.operations blame.granule blame.op ≡ true
   pub ends : (at t.operations blame.op).end ≡ blame.time
   pub answered : is_answered (at t.operations blame.op) ≡ true
   pub overlapping : (i : ℕ) → times_in blame.overlapping.items i ≡ one_if (is_open_at t.operations blame.time blame.granule i)
   pub words : (earlier : ℕ) → earlier + 1 ≡ blame.time
-      → IfWords blame.words (λ each. (v : ℕ) → Contains each v ↔ CanHold (known_at earlier t) blame.granule v)
+      → IfWords blame.words (λ each. (v : ℕ) → Contains each v ↔ CanHold (trace_at earlier t) blame.granule v)
 
 -- A, where the trace is explained at each time
 abbrev pub IfNever : First → Type 0 → Type 0

@@ -2,6 +2,6 @@ pub mod Backwards
 pub mod Blames
 pub mod Ends
 pub mod Groups
+pub mod PastGranules
 pub mod Points
 pub mod Verdicts
-pub mod Walks

@@ -5,7 +5,7 @@ use Rattle.std.specs.List.Sorted.{IsNonDecreasingBy}
 use Rattle.chi_trace.specs.declared.operation.Operation.{Operation}
 use Rattle.chi_trace.specs.Explains.{at}
 use Rattle.chi_trace.specs.Granules.{is_of}
-use Rattle.chi_verdict.specs.declared.weaving.Point.{Point}
+use Rattle.chi_verdict.specs.declared.merge_orders.Point.{Point}
 
 -- the operations in their order
 abbrev pub order_of : List Point → List ℕ

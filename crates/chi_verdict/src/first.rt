@@ -8,8 +8,8 @@ ghost use Rattle.chi_trace.specs.Explains.{IsTrace, at, is_answered, times_in};
 ghost use Rattle.chi_trace.specs.Granules.{ExplainsGranule, is_of};
 ghost use Rattle.chi_verdict.specs.Backwards.{IfAnswer, IfEarlier, IsFirst};
 ghost use Rattle.chi_verdict.specs.Blames.{IfAt, IfNever, IfNotFound, IsBlame, LookedForFirst, is_open_at};
-ghost use Rattle.chi_trace.specs.Traces.{IsLegal, known_at};
-ghost use Rattle.chi_trace.specs.Words.{AreWords, word_told};
+ghost use Rattle.chi_trace.specs.Traces.{IsLegal, trace_at};
+ghost use Rattle.chi_trace.specs.Words.{AreWords, word_or_zero};
 
 use crate::ends::{answered_by, first_end};
 use crate::grouping::Placed;
@@ -105,10 +105,10 @@ fn look_back<P: Progress>(
     requires own { is_of ops.now granule blamed.place ≡ true }
     requires answered { is_answered (at ops.now blamed.place) ≡ true }
     requires ends { (at ops.now blamed.place).end ≡ blamed.end }
-    requires unexplained { (order : List ℕ) → ExplainsGranule (cut blamed.end ops.now) granule (word_told opening.now granule) None order → ⊥ }
+    requires unexplained { (order : List ℕ) → ExplainsGranule (cut blamed.end ops.now) granule (word_or_zero opening.now granule) None order → ⊥ }
     ensures answer { IfOk result (λ back. IfAnswer back (IsFirst (record { opening = opening.now; operations = ops.now }) budget)) }
     ensures later { IfOk result (λ back. IfEarlier back (λ failing. failing.time + 1 ≡ blamed.end)) }
-    ensures earlier { IfOk result (λ back. IfEarlier back (λ failing. (order : List ℕ) → ExplainsGranule (cut failing.time ops.now) failing.granule (word_told opening.now failing.granule) None order → ⊥)) }
+    ensures earlier { IfOk result (λ back. IfEarlier back (λ failing. (order : List ℕ) → ExplainsGranule (cut failing.time ops.now) failing.granule (word_or_zero opening.now failing.granule) None order → ⊥)) }
     ensures spent { IfOk result (λ back. IfAnswer back (LookedForFirst P.looked progress.old progress.new budget)) }
     ensures looked { IfOk result (λ back. IfEarlier back (λ failing. (k : ℕ) × LookedMore P.looked progress.old progress.new k)) }
 {
@@ -160,7 +160,7 @@ fn first_before<P: Progress>(
 ) -> Result<First, AllocError>
     requires words { AreWords opening.now }
     requires traced { IsTrace ops.now }
-    requires unexplained { (order : List ℕ) → ExplainsGranule (cut failing.time ops.now) failing.granule (word_told opening.now failing.granule) None order → ⊥ }
+    requires unexplained { (order : List ℕ) → ExplainsGranule (cut failing.time ops.now) failing.granule (word_or_zero opening.now failing.granule) None order → ⊥ }
     ensures first { IfOk result (IsFirst (record { opening = opening.now; operations = ops.now }) budget) }
     ensures spent { IfOk result (LookedForFirst P.looked progress.old progress.new budget) }
 {
@@ -194,7 +194,7 @@ pub fn first_unexplained<P: Progress>(
     budget: u64,
     progress: &mut P,
 ) -> Result<First, AllocError>
-    ensures never { IfOk result (λ first. IfNever first ((time : ℕ) → (order : List ℕ) × IsLegal (known_at time trace.now) order)) }
+    ensures never { IfOk result (λ first. IfNever first ((time : ℕ) → (order : List ℕ) × IsLegal (trace_at time trace.now) order)) }
     ensures blame { IfOk result (λ first. IfAt first (IsBlame trace.now)) }
     ensures undecided { IfOk result (λ first. IfNotFound first (λ states. states ≡ budget)) }
     ensures spent { IfOk result (LookedForFirst P.looked progress.old progress.new budget) }

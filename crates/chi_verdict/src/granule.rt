@@ -4,7 +4,7 @@ ghost use Rattle.std.specs.Prelude.{◌≡◌, ℕ, ◌-◌, ◌≤◌, ◌↔�
 ghost use Rattle.std.specs.List.{Contains};
 ghost use Rattle.chi_search.specs.Found.{IfNothing, IfOrder, IfUndecided, IfUnknown, IfWords};
 ghost use Rattle.chi_search.specs.Looks.{LookedMore};
-ghost use Rattle.chi_trace.specs.Chosen.{chosen};
+ghost use Rattle.chi_trace.specs.AtPlaces.{at_places};
 ghost use Rattle.chi_trace.specs.Explains.{IsTrace};
 ghost use Rattle.chi_trace.specs.Granules.{ExplainsGranule, is_of};
 ghost use Rattle.chi_verdict.specs.Groups.{AreInside, IsGrouped, places_of};
@@ -16,9 +16,9 @@ use chi_trace::laws::places_explain;
 use std::alloc::{AllocError, Global};
 
 /// The operations at these places.
-fn chosen(alloc: Global, ops: &[Operation], run: &[Placed]) -> Result<Vec<Operation>, AllocError>
+fn at_places(alloc: Global, ops: &[Operation], run: &[Placed]) -> Result<Vec<Operation>, AllocError>
     requires { AreInside ops.now run.now }
-    ensures { IfOk result (λ own. own.items ≡ chosen ops.now (places_of run.now)) }
+    ensures { IfOk result (λ own. own.items ≡ at_places ops.now (places_of run.now)) }
 {
     let mut own = Vec::with_capacity(alloc, run.len())?;
     for placed in run {
@@ -53,7 +53,7 @@ pub(crate) fn search_granule<P: Progress>(
     ensures spends { IfOk result (λ found. (budget.new ≤ budget.old) × LookedMore P.looked progress.old progress.new (budget.old - budget.new)) }
 {
     let run = group.run;
-    let own = chosen(alloc, ops, run)?;
+    let own = at_places(alloc, ops, run)?;
     places_explain();
     match order_of(alloc, &own, word, final_word, budget, progress)? {
         Found::Order(places) => {
@@ -83,7 +83,7 @@ pub(crate) fn words_left<P: Progress>(
     ensures spends { IfOk result (λ found. (budget.new ≤ budget.old) × LookedMore P.looked progress.old progress.new (budget.old - budget.new)) }
 {
     let run = of_granule(alloc, ops, granule)?;
-    let own = chosen(alloc, ops, &run)?;
+    let own = at_places(alloc, ops, &run)?;
     places_explain();
     words_of(alloc, &own, &[word], budget, progress)
 }

@@ -6,9 +6,9 @@ mod first;
 mod granule;
 mod grouping;
 mod held;
+mod merge_orders;
+mod next_granule;
 mod verdict;
-mod walk;
-mod weaving;
 
 pub use first::{Blame, First, first_unexplained};
 pub use held::words_held;

@@ -5,12 +5,12 @@ ghost use Rattle.chi_trace.specs.Explains.{Explains, IsTrace};
 ghost use Rattle.chi_trace.specs.Granules.{ExplainsGranule};
 ghost use Rattle.chi_trace.specs.Traces.{IsExplained, IsExplainedIn};
 ghost use Rattle.chi_verdict.specs.Verdicts.{IfExplained, IfUndecided, IfUnexplained, LookedForVerdict};
-ghost use Rattle.chi_trace.specs.Words.{AreWords, memory_of, told, word_told};
+ghost use Rattle.chi_trace.specs.Words.{AreWords, find_word, memory_of, word_or_zero};
 
 use crate::granule::{Group, search_granule};
 use crate::grouping::by_granule;
-use crate::walk::{next_granule, past_granule, past_word};
-use crate::weaving::{Point, add_points, weave};
+use crate::merge_orders::{Point, add_points, merge_orders};
+use crate::next_granule::{next_granule, past_granule, past_word};
 use chi_search::{Found, Progress};
 use chi_trace::laws::{parts_explain, parts_join};
 use chi_trace::{GranuleWords, Operation, Trace};
@@ -39,9 +39,9 @@ pub(crate) fn explain_operations<P: Progress>(
 ) -> Result<Verdict, AllocError>
     requires words { AreWords opening.now }
     requires traced { IsTrace ops.now }
-    ensures explained { IfOk result (λ verdict. IfExplained verdict (λ order. Explains (memory_of opening.now) (told final_words.now) ops.now order)) }
-    ensures unexplained { IfOk result (λ verdict. IfUnexplained verdict (λ granule. (order : List ℕ) → Explains (memory_of opening.now) (told final_words.now) ops.now order → ⊥)) }
-    ensures granule { IfOk result (λ verdict. IfUnexplained verdict (λ granule. (order : List ℕ) → ExplainsGranule ops.now granule (word_told opening.now granule) (told final_words.now granule) order → ⊥)) }
+    ensures explained { IfOk result (λ verdict. IfExplained verdict (λ order. Explains (memory_of opening.now) (find_word final_words.now) ops.now order)) }
+    ensures unexplained { IfOk result (λ verdict. IfUnexplained verdict (λ granule. (order : List ℕ) → Explains (memory_of opening.now) (find_word final_words.now) ops.now order → ⊥)) }
+    ensures granule { IfOk result (λ verdict. IfUnexplained verdict (λ granule. (order : List ℕ) → ExplainsGranule ops.now granule (word_or_zero opening.now granule) (find_word final_words.now granule) order → ⊥)) }
     ensures undecided { IfOk result (λ verdict. IfUndecided verdict (λ states. states ≡ budget)) }
     ensures spent { IfOk result (λ verdict. LookedForVerdict P.looked progress.old progress.new verdict) }
 {
@@ -88,7 +88,7 @@ pub(crate) fn explain_operations<P: Progress>(
             states: budget,
         });
     }
-    let order = weave(alloc, ops, &mut points)?;
+    let order = merge_orders(alloc, ops, &mut points)?;
     Ok(Verdict::Explained(order))
 }
 

@@ -12,10 +12,10 @@ use Rattle.chi_recent.specs.Recent.{Keeps}
 use Rattle.chi_recent.proofs.Keeping.{keeps_later}
 use Rattle.chi_search.specs.Frontiers.{Follows}
 use Rattle.chi_search.specs.Layers.{SomeLeads}
-use Rattle.chi_trace.specs.Chosen.{GranulesTold, is_in}
+use Rattle.chi_trace.specs.AtPlaces.{GranulesStandAlone, is_in}
 use Rattle.chi_trace.specs.TraceLaws.{GranulesExplain, PartsExplain}
 use Rattle.chi_trace.specs.declared.operation.Operation.{Operation}
-use Rattle.chi_trace.specs.Words.{told, word_told}
+use Rattle.chi_trace.specs.Words.{find_word, word_or_zero}
 use Rattle.chi_watch.specs.Endings.{AreToldTo, CanClose, IsExplainable, IsInexplicableAt, IsListed}
 use Rattle.chi_watch.specs.Followed.{IsWord}
 use Rattle.chi_watch.specs.Judged.{IsExplained, final_words, is_known, openings}
@@ -39,7 +39,7 @@ operations_of ended w g = filter (is_in g) (ended ++ filter_map open_operation w
 
 -- they lead to a word that may have been its last
 abbrev SomeWordFits : List Event → List Operation → WatchValue → ℕ → Type 0
-SomeWordFits events ended w g = (v : ℕ) × SomeLeads (operations_of ended w g) (word_told (openings events) g ∷ []) v × IsWord (told (final_words events) g) v
+SomeWordFits events ended w g = (v : ℕ) × SomeLeads (operations_of ended w g) (word_or_zero (openings events) g ∷ []) v × IsWord (find_word (final_words events) g) v
 
 module _ (events : List Event) (ended : List Operation) (w : WatchValue) (new : ℕ → Option Followed) (is : Watches events ended w) (closed : AreClosed w new) where
   parted : (g : ℕ) → filter (is_in g) ended ++ own_open g w.outstanding.requests ≡ operations_of ended w g
@@ -48,26 +48,26 @@ module _ (events : List Event) (ended : List Operation) (w : WatchValue) (new : 
   -- Of a granule that is watched the search follows all of them.
   record IsFollowed (g : ℕ) (f : Followed) : Type 0 where
     known : f.is_known ≡ is_known events g
-    follows : is_known events g ≡ true → Follows (word_told (openings events) g ∷ []) (operations_of ended w g) f.frontier
-    recent : is_known events g ≡ true → Keeps (word_told (openings events) g ∷ []) (operations_of ended w g) (2 ^ 64 - 1) f.recent
-    final_word : f.final_word ≡ told (final_words events) g
+    follows : is_known events g ≡ true → Follows (word_or_zero (openings events) g ∷ []) (operations_of ended w g) f.frontier
+    recent : is_known events g ≡ true → Keeps (word_or_zero (openings events) g ∷ []) (operations_of ended w g) (2 ^ 64 - 1) f.recent
+    final_word : f.final_word ≡ find_word (final_words events) g
 
   followed : (g : ℕ) (a : Option Followed) (f : Followed) → IsGranuleOf events ended w.outstanding g a → AreToldTo (own_open g w.outstanding.requests) a (Some f) → IsFollowed g f
   followed g None f was more = absurd more
   followed g (Some before) f was more = record {
     known = more.known ∙ was.known;
     follows = λ known.
-        subst (λ l. Follows (word_told (openings events) g ∷ []) l f.frontier) (parted g)
-        (more.follows (was.known ∙ known) (word_told (openings events) g ∷ []) (filter (is_in g) ended) (was.follows (was.known ∙ known)));
+        subst (λ l. Follows (word_or_zero (openings events) g ∷ []) l f.frontier) (parted g)
+        (more.follows (was.known ∙ known) (word_or_zero (openings events) g ∷ []) (filter (is_in g) ended) (was.follows (was.known ∙ known)));
     recent = λ known.
-        subst (λ l. Keeps (word_told (openings events) g ∷ []) l (2 ^ 64 - 1) f.recent) (parted g)
-        (more.recent (was.known ∙ known) (word_told (openings events) g ∷ []) (filter (is_in g) ended)
-        (keeps_later (word_told (openings events) g ∷ []) (filter (is_in g) ended) w.outstanding.time before.recent (was.recent (was.known ∙ known)) (2 ^ 64 - 1) (omega (arith, is.time))));
+        subst (λ l. Keeps (word_or_zero (openings events) g ∷ []) l (2 ^ 64 - 1) f.recent) (parted g)
+        (more.recent (was.known ∙ known) (word_or_zero (openings events) g ∷ []) (filter (is_in g) ended)
+        (keeps_later (word_or_zero (openings events) g ∷ []) (filter (is_in g) ended) w.outstanding.time before.recent (was.recent (was.known ∙ known)) (2 ^ 64 - 1) (omega (arith, is.time))));
     final_word = more.final_word ∙ was.final_word;
   }
 
   -- and the last of them are kept.
-  closed_recent : OperationsAreTold → (g : ℕ) (f : Followed) → IsFollowed g f → is_known events g ≡ true → IsRecentOf (operations events) g (word_told (openings events) g) f.recent
+  closed_recent : OperationsAreTold → (g : ℕ) (f : Followed) → IsFollowed g f → is_known events g ≡ true → IsRecentOf (operations events) g (word_or_zero (openings events) g) f.recent
   closed_recent operations_law g f own known = record {
     traced = (operations_law events ended w.outstanding is.tells).0;
     told = operations_of ended w g;
@@ -80,13 +80,13 @@ module _ (events : List Event) (ended : List Operation) (w : WatchValue) (new : 
   none_followed : (g : ℕ) (a : Option Followed) → IsGranuleOf events ended w.outstanding g a → AreToldTo (own_open g w.outstanding.requests) a None → SomeWordFits events ended w g
   none_followed g (Some before) was more = absurd more
   none_followed g None was more = (
-    word_told (openings events) g,
-    subst (λ l. SomeLeads l (word_told (openings events) g ∷ []) (word_told (openings events) g)) (sym (ap (λ l. l ++ own_open g w.outstanding.requests) was.none ∙ more) ∙ parted g)
-        (leads_none (word_told (openings events) g)),
-    subst (λ o. IsWord o (word_told (openings events) g)) (sym was.final_word) tt,
+    word_or_zero (openings events) g,
+    subst (λ l. SomeLeads l (word_or_zero (openings events) g ∷ []) (word_or_zero (openings events) g)) (sym (ap (λ l. l ++ own_open g w.outstanding.requests) was.none ∙ more) ∙ parted g)
+        (leads_none (word_or_zero (openings events) g)),
+    subst (λ o. IsWord o (word_or_zero (openings events) g)) (sym was.final_word) tt,
   )
 
-  inexplicable : OperationsAreTold → GranulesTold → PartsExplain → (g : ℕ) → IsInexplicableAt (new g) → IsUnexplained events g
+  inexplicable : OperationsAreTold → GranulesStandAlone → PartsExplain → (g : ℕ) → IsInexplicableAt (new g) → IsUnexplained events g
   inexplicable operations_law granules_law parts_law g = by_case (new g) (closed g)
     where
       by_case : (b : Option Followed) → AreToldTo (own_open g w.outstanding.requests) (granule w g) b → IsInexplicableAt b → IsUnexplained events g
@@ -95,7 +95,7 @@ module _ (events : List Event) (ended : List Operation) (w : WatchValue) (new : 
           let own = followed g (granule w g) f (is.each g) more in
           let known : is_known events g ≡ true = sym own.known ∙ not.known in
           unexplained operations_law granules_law parts_law events ended w.outstanding g is.tells known
-          (λ v leads word. not.none (word_told (openings events) g ∷ []) _ (own.follows known) v leads (subst (λ o. IsWord o v) (sym own.final_word) word))
+          (λ v leads word. not.none (word_or_zero (openings events) g ∷ []) _ (own.follows known) v leads (subst (λ o. IsWord o v) (sym own.final_word) word))
 
   found_here : OperationsAreTold → (found : FoundAtEnd) → IsUnexplained events found.granule → IsInexplicableAt (new found.granule) → IsFoundIn new found → IsFoundAtEnd events found
   found_here operations_law found not none said = by_case (new found.granule) (closed found.granule) none said.final_word said.reach
@@ -108,7 +108,7 @@ module _ (events : List Event) (ended : List Operation) (w : WatchValue) (new : 
           record {
             unexplained = not;
             final_word = final_word ∙ own.final_word;
-            reach = reach (operations events) found.granule (word_told (openings events) found.granule) (closed_recent operations_law found.granule f own not.known);
+            reach = reach (operations events) found.granule (word_or_zero (openings events) found.granule) (closed_recent operations_law found.granule f own not.known);
           }
 
   unreached_here : OperationsAreTold → (A : Type 0) (found : FoundAtEnd) → IsUnexplained events found.granule → IsInexplicableAt (new found.granule)
@@ -121,39 +121,39 @@ module _ (events : List Event) (ended : List Operation) (w : WatchValue) (new : 
       by_case (Some f) more none spent =
           let own = followed found.granule (granule w found.granule) f (is.each found.granule) more in
           undecided_weaker found.reach
-          (λ so. so (operations events, found.granule, word_told (openings events) found.granule, closed_recent operations_law found.granule f own not.known)) spent
+          (λ so. so (operations events, found.granule, word_or_zero (openings events) found.granule, closed_recent operations_law found.granule f own not.known)) spent
 
   word_fits : (g : ℕ) → is_known events g ≡ true → (b : Option Followed) → AreToldTo (own_open g w.outstanding.requests) (granule w g) b → IfSome b IsExplainable → SomeWordFits events ended w g
   word_fits g known None more can = none_followed g (granule w g) (is.each g) more
   word_fits g known (Some f) more can =
       let own = followed g (granule w g) f (is.each g) more in
-      let led = can (own.known ∙ known) (word_told (openings events) g ∷ []) _ (own.follows known) in
+      let led = can (own.known ∙ known) (word_or_zero (openings events) g ∷ []) _ (own.follows known) in
       (led.0, led.1, subst (λ o. IsWord o led.0) own.final_word led.2)
 
-  explainable : OperationsAreTold → GranulesTold → GranulesExplain → ((g : ℕ) → IfSome (new g) IsExplainable) → IsExplained events
+  explainable : OperationsAreTold → GranulesStandAlone → GranulesExplain → ((g : ℕ) → IfSome (new g) IsExplainable) → IsExplained events
   explainable operations_law granules_law whole_law each =
       explained operations_law granules_law whole_law events ended w.outstanding is.tells (λ g known. word_fits g known (new g) (closed g) (each g))
 
-  explainable_here : OperationsAreTold → GranulesTold → (g : ℕ) → is_known events g ≡ true → IfSome (new g) IsExplainable → CanBeExplained events g
+  explainable_here : OperationsAreTold → GranulesStandAlone → (g : ℕ) → is_known events g ≡ true → IfSome (new g) IsExplainable → CanBeExplained events g
   explainable_here operations_law granules_law g known can =
       let fits = word_fits g known (new g) (closed g) can in
       one_explained operations_law granules_law events ended w.outstanding g is.tells known fits.0 fits.1 fits.2
 
-pub ended_found : OperationsAreTold → GranulesTold → PartsExplain → (w : WatchValue) (new : ℕ → Option Followed) → All (IsOpen w.outstanding.time) w.outstanding.requests
+pub ended_found : OperationsAreTold → GranulesStandAlone → PartsExplain → (w : WatchValue) (new : ℕ → Option Followed) → All (IsOpen w.outstanding.time) w.outstanding.requests
     → (All (CanClose (granule w)) w.outstanding.requests → AreClosed w new) → (found : FoundAtEnd) → IsInexplicableAt (new found.granule) → IsFoundIn new found
     → (events : List Event) → HasTaken events w → IsFoundAtEnd events found
 ended_found operations_law granules_law parts_law w new are_open closes found none said events (ended, is) =
     let closed = closes (all_can_close events ended w is are_open) in
     found_here events ended w new is closed operations_law found (inexplicable events ended w new is closed operations_law granules_law parts_law found.granule none) none said
 
-pub ended_unreached : OperationsAreTold → GranulesTold → PartsExplain → (A : Type 0) (w : WatchValue) (new : ℕ → Option Followed) → All (IsOpen w.outstanding.time) w.outstanding.requests
+pub ended_unreached : OperationsAreTold → GranulesStandAlone → PartsExplain → (A : Type 0) (w : WatchValue) (new : ℕ → Option Followed) → All (IsOpen w.outstanding.time) w.outstanding.requests
     → (All (CanClose (granule w)) w.outstanding.requests → AreClosed w new) → (found : FoundAtEnd) → IsInexplicableAt (new found.granule)
     → IfSome (new found.granule) (λ f. IfUndecided found.reach (IsOfSomeTrace f.recent → A)) → (events : List Event) → HasTaken events w → IfUndecided found.reach A
 ended_unreached operations_law granules_law parts_law A w new are_open closes found none spent events (ended, is) =
     let closed = closes (all_can_close events ended w is are_open) in
     unreached_here events ended w new is closed operations_law A found (inexplicable events ended w new is closed operations_law granules_law parts_law found.granule none) none spent
 
-pub ended_explained : OperationsAreTold → GranulesTold → GranulesExplain → (w : WatchValue) (new : ℕ → Option Followed) → All (IsOpen w.outstanding.time) w.outstanding.requests
+pub ended_explained : OperationsAreTold → GranulesStandAlone → GranulesExplain → (w : WatchValue) (new : ℕ → Option Followed) → All (IsOpen w.outstanding.time) w.outstanding.requests
     → (All (CanClose (granule w)) w.outstanding.requests → AreClosed w new) → ((g : ℕ) → IfSome (new g) IsExplainable) → (events : List Event) → HasTaken events w → IsExplained events
 ended_explained operations_law granules_law whole_law w new are_open closes each events (ended, is) =
     explainable events ended w new is (closes (all_can_close events ended w is are_open)) operations_law granules_law whole_law each
@@ -162,7 +162,7 @@ ended_explained operations_law granules_law whole_law w new are_open closes each
 abbrev CanOr : Type 0 → Option Followed → Type 0
 CanOr A o = IfSome o (λ f. IsExplainable f ⊎ A)
 
-pub ended_each : OperationsAreTold → GranulesTold → (A : Type 0) (w : WatchValue) (new : ℕ → Option Followed) → All (IsOpen w.outstanding.time) w.outstanding.requests
+pub ended_each : OperationsAreTold → GranulesStandAlone → (A : Type 0) (w : WatchValue) (new : ℕ → Option Followed) → All (IsOpen w.outstanding.time) w.outstanding.requests
     → (All (CanClose (granule w)) w.outstanding.requests → AreClosed w new) → (g : ℕ) → IfSome (new g) (λ f. IsExplainable f ⊎ A) → (events : List Event) → HasTaken events w
     → is_known events g ≡ true → CanBeExplained events g ⊎ A
 ended_each operations_law granules_law A w new are_open closes g said events (ended, is) known = by_case (new g) said here

@@ -8,14 +8,14 @@ use Rattle.chi_events.specs.Outstanding.{IsEndOf, OutstandingValue, StaysOrStart
 use Rattle.chi_recent.specs.Recent.{Keeps}
 use Rattle.chi_recent.proofs.Keeping.{keeps_later}
 use Rattle.chi_search.specs.Frontiers.{Follows}
-use Rattle.chi_trace.specs.Chosen.{is_in}
+use Rattle.chi_trace.specs.AtPlaces.{is_in}
 use Rattle.chi_trace.specs.Granules.{granule_of}
 use Rattle.chi_trace.specs.declared.operation.Operation.{Operation}
-use Rattle.chi_trace.specs.Words.{word_told}
+use Rattle.chi_trace.specs.Words.{word_or_zero}
 use Rattle.chi_watch.specs.declared.followed.Followed.{Followed}
 use Rattle.chi_watch.specs.Changes.{CanEnd, IsClosed, IsClosedBy, IsTold, IsToldIfKnown}
 use Rattle.chi_watch.specs.Judged.{openings}
-use Rattle.chi_watch.specs.Requests.{StartsBy, granule_asked}
+use Rattle.chi_watch.specs.Requests.{StartsBy, granule_of_request}
 use Rattle.chi_watch.specs.Watches.{IsGranuleOf, IsWatched}
 
 -- the operations of a granule, with one more of it, or of another
@@ -30,25 +30,25 @@ module _ (events : List Event) (ended : List Operation) (before after : Outstand
     (stay : All (StaysOrStarts before.requests e) after.requests) where
   -- a horizon stays one, since a request that is taken now starts no earlier
   starts_on : (g horizon : ℕ) → horizon ≤ before.time → StartsBy before.requests g horizon → StartsBy after.requests g horizon
-  starts_on g horizon past starts = All-weaker (StaysOrStarts before.requests e) (λ p. granule_asked p ≡ g → horizon ≤ p.start) each after.requests stay
+  starts_on g horizon past starts = All-weaker (StaysOrStarts before.requests e) (λ p. granule_of_request p ≡ g → horizon ≤ p.start) each after.requests stay
     where
-      each : (p : Open) → StaysOrStarts before.requests e p → granule_asked p ≡ g → horizon ≤ p.start
+      each : (p : Open) → StaysOrStarts before.requests e p → granule_of_request p ≡ g → horizon ≤ p.start
       each p (inl taken) is = omega (arith, taken.0, past, later)
-      each p (inr (old, has, start, asked)) is =
-          let starts_by : horizon ≤ old.start = All-contains (λ (q : Open). granule_asked q ≡ g → horizon ≤ q.start) before.requests old starts has (ap (λ a. a.addr / 8) (sym asked) ∙ is) in
+      each p (inr (old, has, start, fields)) is =
+          let starts_by : horizon ≤ old.start = All-contains (λ (q : Open). granule_of_request q ≡ g → horizon ≤ q.start) before.requests old starts has (ap (λ a. a.addr / 8) (sym fields) ∙ is) in
           omega (arith, start, starts_by)
 
   -- where no operation of the granule ended
   watched_on : (g : ℕ) (f : Followed) (more : List Operation) → filter (is_in g) more ≡ filter (is_in g) ended → IsWatched events ended before g f → IsWatched events more after g f
   watched_on g f more same w = record {
     known = w.known;
-    follows = λ known. subst (λ (ops : List Operation). Follows (word_told (openings events) g ∷ []) ops f.frontier) (sym same) (w.follows known);
+    follows = λ known. subst (λ (ops : List Operation). Follows (word_or_zero (openings events) g ∷ []) ops f.frontier) (sym same) (w.follows known);
     latest = omega (arith, w.latest, later, now);
     past = omega (arith, w.past, later, now);
     horizon = starts_on g f.frontier.horizon w.past w.horizon;
     recent = λ known.
-        subst (λ (ops : List Operation). Keeps (word_told (openings events) g ∷ []) ops after.time f.recent) (sym same)
-        (keeps_later (word_told (openings events) g ∷ []) (filter (is_in g) ended) before.time f.recent (w.recent known) after.time (omega (arith, later, now)));
+        subst (λ (ops : List Operation). Keeps (word_or_zero (openings events) g ∷ []) ops after.time f.recent) (sym same)
+        (keeps_later (word_or_zero (openings events) g ∷ []) (filter (is_in g) ended) before.time f.recent (w.recent known) after.time (omega (arith, later, now)));
     recent_past = omega (arith, w.recent_past, later, now);
     recent_horizon = starts_on g f.recent.horizon w.recent_past w.recent_horizon;
     final_word = w.final_word;
@@ -62,9 +62,9 @@ module _ (events : List Event) (ended : List Operation) (before after : Outstand
   module _ (op : Operation) (ends : IsEndOf before.requests e.time op) (horizon : ℕ) (early : horizon ≤ op.start) (g : ℕ) (is : granule_of op ≡ g) (earliest : StartsBy after.requests g horizon) where
     can_end : (f : Followed) → IsWatched events ended before g f → CanEnd horizon f op
     can_end f w =
-        let own : granule_asked ends.request ≡ g = ap (λ n. n / 8) (sym ends.at) ∙ is in
-        let starts : f.frontier.horizon ≤ ends.request.start = All-contains (λ (q : Open). granule_asked q ≡ g → f.frontier.horizon ≤ q.start) before.requests ends.request w.horizon ends.is own in
-        let recent : f.recent.horizon ≤ ends.request.start = All-contains (λ (q : Open). granule_asked q ≡ g → f.recent.horizon ≤ q.start) before.requests ends.request w.recent_horizon ends.is own in
+        let own : granule_of_request ends.request ≡ g = ap (λ n. n / 8) (sym ends.at) ∙ is in
+        let starts : f.frontier.horizon ≤ ends.request.start = All-contains (λ (q : Open). granule_of_request q ≡ g → f.frontier.horizon ≤ q.start) before.requests ends.request w.horizon ends.is own in
+        let recent : f.recent.horizon ≤ ends.request.start = All-contains (λ (q : Open). granule_of_request q ≡ g → f.recent.horizon ≤ q.start) before.requests ends.request w.recent_horizon ends.is own in
         record {
           past = omega (arith, starts, ends.start);
           recent = omega (arith, recent, ends.start);
@@ -77,13 +77,13 @@ module _ (events : List Event) (ended : List Operation) (before after : Outstand
     told_on : (old new : Followed) → IsTrue old.is_known → IsTold op horizon old new → IsWatched events ended before g old → IsWatched events (ended ++ op ∷ []) after g new
     told_on old new known t w = record {
       known = t.known ∙ w.known;
-      follows = λ so. subst (λ (ops : List Operation). Follows (word_told (openings events) g ∷ []) ops new.frontier) (sym (own_more g ended op is)) (t.follows (word_told (openings events) g ∷ []) (filter (is_in g) ended) (w.follows known));
+      follows = λ so. subst (λ (ops : List Operation). Follows (word_or_zero (openings events) g ∷ []) ops new.frontier) (sym (own_more g ended op is)) (t.follows (word_or_zero (openings events) g ∷ []) (filter (is_in g) ended) (w.follows known));
       latest = omega (arith, t.latest, ends.end, now);
       past = past old.frontier.horizon new.frontier.horizon w.past t.horizon_is;
       horizon = starts old.frontier.horizon new.frontier.horizon w.past w.horizon t.horizon_is;
       recent = λ so.
-          subst (λ (ops : List Operation). Keeps (word_told (openings events) g ∷ []) ops after.time new.recent) (sym (own_more g ended op is))
-          (keeps_later (word_told (openings events) g ∷ []) (filter (is_in g) ended ++ op ∷ []) op.end new.recent (kept so) after.time (omega (arith, ends.end, now)));
+          subst (λ (ops : List Operation). Keeps (word_or_zero (openings events) g ∷ []) ops after.time new.recent) (sym (own_more g ended op is))
+          (keeps_later (word_or_zero (openings events) g ∷ []) (filter (is_in g) ended ++ op ∷ []) op.end new.recent (kept so) after.time (omega (arith, ends.end, now)));
       recent_past = past old.recent.horizon new.recent.horizon w.recent_past t.recent_horizon;
       recent_horizon = starts old.recent.horizon new.recent.horizon w.recent_past w.recent_horizon t.recent_horizon;
       final_word = t.final_word ∙ w.final_word;
@@ -94,13 +94,13 @@ module _ (events : List Event) (ended : List Operation) (before after : Outstand
         past from to was (inr same) = omega (arith, same, was, later, now)
 
         starts : (from to : ℕ) → from ≤ before.time → StartsBy before.requests g from → (to ≤ horizon) ⊎ (to ≡ from) → StartsBy after.requests g to
-        starts from to was by (inl below) = All-weaker (λ (p : Open). granule_asked p ≡ g → horizon ≤ p.start) (λ (p : Open). granule_asked p ≡ g → to ≤ p.start)
+        starts from to was by (inl below) = All-weaker (λ (p : Open). granule_of_request p ≡ g → horizon ≤ p.start) (λ (p : Open). granule_of_request p ≡ g → to ≤ p.start)
             (λ p so own. let here : horizon ≤ p.start = so own in omega (arith, below, here)) after.requests earliest
         starts from to was by (inr same) = subst (StartsBy after.requests g) (sym same) (starts_on g from was by)
 
-        kept : IsTrue new.is_known → Keeps (word_told (openings events) g ∷ []) (filter (is_in g) ended ++ op ∷ []) op.end new.recent
-        kept so = t.recent (word_told (openings events) g ∷ []) (filter (is_in g) ended)
-            (keeps_later (word_told (openings events) g ∷ []) (filter (is_in g) ended) before.time old.recent (w.recent known) op.end (omega (arith, later, ends.end)))
+        kept : IsTrue new.is_known → Keeps (word_or_zero (openings events) g ∷ []) (filter (is_in g) ended ++ op ∷ []) op.end new.recent
+        kept so = t.recent (word_or_zero (openings events) g ∷ []) (filter (is_in g) ended)
+            (keeps_later (word_or_zero (openings events) g ∷ []) (filter (is_in g) ended) before.time old.recent (w.recent known) op.end (omega (arith, later, ends.end)))
 
     unknown_on : (old : Followed) → old.is_known ≡ false → IsWatched events ended before g old → IsWatched events (ended ++ op ∷ []) after g old
     unknown_on old unknown w = record {
@@ -128,7 +128,7 @@ module _ (events : List Event) (ended : List Operation) (before after : Outstand
     closed_on (Some old) (Some new) some t w = closes_on old new t w
 
   -- what is known of each granule
-  pub closed : (old new : ℕ → Option Followed) (op : Option Operation) → IfSome op (IsEndOf before.requests e.time) → All (λ p. IsTrue (is_some (old (granule_asked p)))) before.requests
+  pub closed : (old new : ℕ → Option Followed) (op : Option Operation) → IfSome op (IsEndOf before.requests e.time) → All (λ p. IsTrue (is_some (old (granule_of_request p)))) before.requests
       → IsClosedBy op after.requests old new → (g : ℕ) → IsGranuleOf events ended before g (old g) → IsGranuleOf events (ended ++ option_to_list op) after g (new g)
   closed old new None ends requested t g w =
       subst (IsGranuleOf events (ended ++ []) after g) (sym (t g)) (stays_on g (old g) (ended ++ []) (ap (filter (is_in g)) (append-nil ended)) w)
@@ -137,8 +137,8 @@ module _ (events : List Event) (ended : List Operation) (before after : Outstand
       by_granule : (b : Bool) → (granule_of op == g) ≡ b → IsGranuleOf events (ended ++ op ∷ []) after g (new g)
       by_granule true same =
           let is : granule_of op ≡ g = eqb-true (granule_of op) g same in
-          let at : granule_asked ends.request ≡ g = ap (λ n. n / 8) (sym ends.at) ∙ is in
-          let some : IsTrue (is_some (old g)) = subst (λ n. IsTrue (is_some (old n))) at (All-contains (λ (p : Open). IsTrue (is_some (old (granule_asked p)))) before.requests ends.request requested ends.is) in
+          let at : granule_of_request ends.request ≡ g = ap (λ n. n / 8) (sym ends.at) ∙ is in
+          let some : IsTrue (is_some (old g)) = subst (λ n. IsTrue (is_some (old n))) at (All-contains (λ (p : Open). IsTrue (is_some (old (granule_of_request p)))) before.requests ends.request requested ends.is) in
           closed_on op ends horizon early g is (rw (← is) earliest) (old g) (new g) some (rw (← is) more.own) w
       by_granule false other =
           subst (IsGranuleOf events (ended ++ op ∷ []) after g) (sym (more.others g (λ same. absurd (true≢false (sym (eq-eqb (granule_of op) g (sym same)) ∙ other)))))

@@ -5,7 +5,7 @@ use Rattle.std.proofs.lemmas.List.{length-map}
 use Rattle.std.proofs.lemmas.List.Sorted.{length_permutation}
 use Rattle.std.proofs.lemmas.List.Sums.{sum_by-cons}
 use Rattle.chi_events.specs.Operations.{is_outstanding}
-use Rattle.chi_events.specs.Told.{told}
+use Rattle.chi_events.specs.RequestEvents.{each_request}
 use Rattle.chi_events.specs.declared.event.Event.{Event}
 use Rattle.chi_trace.specs.declared.operation.Operation.{Operation}
 use Rattle.chi_watch.specs.Counts.{ended_operations}
@@ -16,7 +16,7 @@ module _ (events : List Event) (ended : List Operation) (w : WatchValue) (is : W
   pub ended_counted : w.ended ≡ min (length (ended_operations events)) (2 ^ 64 - 1)
   ended_counted = is.count ∙ ap (λ n. min n (2 ^ 64 - 1)) (length_permutation (ended_operations events) ended is.tells.ends)
 
-  pub outstanding_counted : length w.outstanding.requests ≡ length (filter is_outstanding (told events))
+  pub outstanding_counted : length w.outstanding.requests ≡ length (filter is_outstanding (each_request events))
   outstanding_counted = ap length is.tells.requests ∙ simp length-map
 
 -- the granules that are not judged

@@ -15,8 +15,8 @@ use Rattle.chi_search.specs.Looks.{LookedMore, LookedSome}
 use Rattle.chi_trace.specs.declared.operation.Operation.{Operation}
 use Rattle.chi_watch.specs.Endings.{IsExplainable, IsInexplicableAt, IsListed}
 use Rattle.chi_watch.specs.Followed.{IfExplained, IfUndecided, IfUnexplained, IsWord}
-use Rattle.chi_watch.specs.Listing.{IsListedAs}
-use Rattle.chi_watch.specs.declared.listing.Listed.{Listed}
+use Rattle.chi_watch.specs.ListedAs.{IsListedAs}
+use Rattle.chi_watch.specs.declared.judge_all.Listed.{Listed}
 use Rattle.chi_watch.specs.declared.followed.Followed.{Followed}
 use Rattle.chi_watch.specs.declared.followed.Standing.{Standing}
 use Rattle.chi_watch.specs.declared.followed.Standing.TheVariants.{Explained, Undecided, Unexplained}

@@ -10,44 +10,44 @@ use Rattle.chi_events.specs.Outstanding.{OutstandingValue}
 use Rattle.chi_recent.specs.Recent.{Keeps}
 use Rattle.chi_recent.proofs.Keeping.{keeps_later}
 use Rattle.chi_search.specs.Frontiers.{Follows}
-use Rattle.chi_trace.specs.Chosen.{is_in}
+use Rattle.chi_trace.specs.AtPlaces.{is_in}
 use Rattle.chi_trace.specs.declared.operation.Operation.{Operation}
 use Rattle.chi_trace.specs.declared.words.GranuleWord.{GranuleWord}
-use Rattle.chi_trace.specs.Words.{told, word_told}
+use Rattle.chi_trace.specs.Words.{find_word, word_or_zero}
 use Rattle.chi_watch.specs.declared.followed.Followed.{Followed}
 use Rattle.chi_watch.specs.Changes.{IsUntouched}
 use Rattle.chi_watch.specs.Judged.{covers, final_in, final_words, is_known, opening_in, openings}
-use Rattle.chi_watch.specs.Requests.{StartsBy, granule_asked}
+use Rattle.chi_watch.specs.Requests.{StartsBy, granule_of_request}
 use Rattle.chi_watch.specs.Watches.{IsGranuleOf, IsWatched}
 
 -- what is told of a granule by two lists of words
-told_both : (xs ys : List GranuleWord) (g : ℕ) → told xs g ≡ None → told (xs ++ ys) g ≡ told ys g
-unfolding told
+told_both : (xs ys : List GranuleWord) (g : ℕ) → find_word xs g ≡ None → find_word (xs ++ ys) g ≡ find_word ys g
+unfolding find_word
 told_both [] ys g none = refl
 told_both (w ∷ xs) ys g none = by_test (w.granule == g) none (told_both xs ys g)
   where
-    by_test : (b : Bool) → cond b (Some w.word) (told xs g) ≡ None → (told xs g ≡ None → told (xs ++ ys) g ≡ told ys g) → cond b (Some w.word) (told (xs ++ ys) g) ≡ told ys g
+    by_test : (b : Bool) → cond b (Some w.word) (find_word xs g) ≡ None → (find_word xs g ≡ None → find_word (xs ++ ys) g ≡ find_word ys g) → cond b (Some w.word) (find_word (xs ++ ys) g) ≡ find_word ys g
     by_test true some rest = absurd (true≢false (ap is_some some))
     by_test false none rest = rest none
 
 -- a word of another granule
-pub told_other : (xs : List GranuleWord) (w : GranuleWord) (g : ℕ) → (w.granule == g) ≡ false → told (xs ++ w ∷ []) g ≡ told xs g
-unfolding told
+pub told_other : (xs : List GranuleWord) (w : GranuleWord) (g : ℕ) → (w.granule == g) ≡ false → find_word (xs ++ w ∷ []) g ≡ find_word xs g
+unfolding find_word
 told_other [] w g other = ap (λ (b : Bool). cond b (Some w.word) None) other
 told_other (x ∷ xs) w g other = ap (λ (o : Option ℕ). cond (x.granule == g) (Some x.word) o) (told_other xs w g other)
 
 -- and of this one
-pub told_own : (xs : List GranuleWord) (w : GranuleWord) → told xs w.granule ≡ None → told (xs ++ w ∷ []) w.granule ≡ Some w.word
-unfolding told
+pub told_own : (xs : List GranuleWord) (w : GranuleWord) → find_word xs w.granule ≡ None → find_word (xs ++ w ∷ []) w.granule ≡ Some w.word
+unfolding find_word
 told_own xs w none = told_both xs (w ∷ []) w.granule none ∙ ap (λ (b : Bool). cond b (Some w.word) None) (eq-eqb w.granule w.granule refl)
 
 -- no request starts before time 0
 pub from_start : (o : OutstandingValue) (g horizon : ℕ) → horizon ≡ 0 → StartsBy o.requests g horizon
-from_start o g horizon none = All-weaker (λ (p : Open). Unit {0}) (λ (p : Open). granule_asked p ≡ g → horizon ≤ p.start) (λ p all is. omega (arith, none)) o.requests (λ i d below. tt)
+from_start o g horizon none = All-weaker (λ (p : Open). Unit {0}) (λ (p : Open). granule_of_request p ≡ g → horizon ≤ p.start) (λ p all is. omega (arith, none)) o.requests (λ i d below. tt)
 
 -- a granule that is watched from now on
-pub begun : (events : List Event) (ended : List Operation) (o : OutstandingValue) (g word : ℕ) (f : Followed) → is_known events g ≡ true → filter (is_in g) ended ≡ [] → word_told (openings events) g ≡ word
-    → told (final_words events) g ≡ None → IsUntouched word f → IsWatched events ended o g f
+pub begun : (events : List Event) (ended : List Operation) (o : OutstandingValue) (g word : ℕ) (f : Followed) → is_known events g ≡ true → filter (is_in g) ended ≡ [] → word_or_zero (openings events) g ≡ word
+    → find_word (final_words events) g ≡ None → IsUntouched word f → IsWatched events ended o g f
 begun events ended o g word f known none opening final_word u = record {
   known = u.known ∙ sym known;
   follows = λ so. subst (λ (w : ℕ). Follows (w ∷ []) (filter (is_in g) ended) f.frontier) (sym opening) (subst (λ (ops : List Operation). Follows (word ∷ []) ops f.frontier) (sym none) u.follows);
@@ -88,8 +88,8 @@ module _ (events : List Event) (e : Event) where
 
   module _ (ended : List Operation) (o : OutstandingValue) where
     -- where the event tells nothing of the granule
-    pub retold : (g : ℕ) (x : Option Followed) → is_known (events ++ e ∷ []) g ≡ is_known events g → told (openings (events ++ e ∷ [])) g ≡ told (openings events) g
-        → told (final_words (events ++ e ∷ [])) g ≡ told (final_words events) g → IsGranuleOf events ended o g x → IsGranuleOf (events ++ e ∷ []) ended o g x
+    pub retold : (g : ℕ) (x : Option Followed) → is_known (events ++ e ∷ []) g ≡ is_known events g → find_word (openings (events ++ e ∷ [])) g ≡ find_word (openings events) g
+        → find_word (final_words (events ++ e ∷ [])) g ≡ find_word (final_words events) g → IsGranuleOf events ended o g x → IsGranuleOf (events ++ e ∷ []) ended o g x
     retold g None known opening final_word w = record { known = known ∙ w.known; none = w.none; opening = opening ∙ w.opening; final_word = final_word ∙ w.final_word }
     retold g (Some f) known opening final_word w = record {
       known = w.known ∙ sym known;

@@ -7,12 +7,12 @@ use Rattle.chi_events.specs.declared.event.EventKind.TheVariants.{Request, Data,
 use Rattle.chi_events.specs.Outstanding.{OutstandingValue}
 use Rattle.chi_recent.specs.Recent.{Keeps, RecentValue}
 use Rattle.chi_search.specs.Frontiers.{Follows, FrontierValue}
-use Rattle.chi_trace.specs.Chosen.{is_in}
+use Rattle.chi_trace.specs.AtPlaces.{is_in}
 use Rattle.chi_trace.specs.declared.operation.Operation.{Operation}
 use Rattle.chi_trace.specs.declared.words.GranuleWord.{GranuleWord}
-use Rattle.chi_trace.specs.Words.{told}
+use Rattle.chi_trace.specs.Words.{find_word}
 use Rattle.chi_watch.specs.declared.followed.Followed.{Followed}
-use Rattle.chi_watch.specs.Changes.{IsForgotten, IsGone, IsNoted, IsSameOrUntouched, IsTouched, IsTouchedAndMarked}
+use Rattle.chi_watch.specs.Changes.{IsForgotten, IsGone, IsSameOrUntouched, IsTouched, IsTouchedAndMarked, IsUpdated}
 use Rattle.chi_watch.specs.Judged.{covers, final_in, final_words, opening_in, openings}
 use Rattle.chi_watch.specs.Requests.{StartsBy}
 use Rattle.chi_watch.specs.Watches.{IsGranuleOf, IsUntold, IsWatched, has_final_word}
@@ -31,11 +31,11 @@ Fits (Final told) old = has_final_word (old told.granule) ≡ false
 Fits _ old = Unit {0}
 
 module _ (events : List Event) (e : Event) (ended : List Operation) (o : OutstandingValue) where
-  no_opening : opening_in e.kind ≡ None → (g : ℕ) → told (openings (events ++ e ∷ [])) g ≡ told (openings events) g
-  no_opening none g = ap (λ (words : List GranuleWord). told words g) (openings_more events e ∙ (ap (λ words. openings events ++ words) (one_none (λ (x : Event). opening_in x.kind) e none) ∙ append-nil (openings events)))
+  no_opening : opening_in e.kind ≡ None → (g : ℕ) → find_word (openings (events ++ e ∷ [])) g ≡ find_word (openings events) g
+  no_opening none g = ap (λ (words : List GranuleWord). find_word words g) (openings_more events e ∙ (ap (λ words. openings events ++ words) (one_none (λ (x : Event). opening_in x.kind) e none) ∙ append-nil (openings events)))
 
-  no_final : final_in e.kind ≡ None → (g : ℕ) → told (final_words (events ++ e ∷ [])) g ≡ told (final_words events) g
-  no_final none g = ap (λ (words : List GranuleWord). told words g) (finals_more events e ∙ (ap (λ words. final_words events ++ words) (one_none (λ (x : Event). final_in x.kind) e none) ∙ append-nil (final_words events)))
+  no_final : final_in e.kind ≡ None → (g : ℕ) → find_word (final_words (events ++ e ∷ [])) g ≡ find_word (final_words events) g
+  no_final none g = ap (λ (words : List GranuleWord). find_word words g) (finals_more events e ∙ (ap (λ words. final_words events ++ words) (one_none (λ (x : Event). final_in x.kind) e none) ∙ append-nil (final_words events)))
 
   one_opening : (w : GranuleWord) → opening_in e.kind ≡ Some w → openings (events ++ e ∷ []) ≡ openings events ++ w ∷ []
   one_opening w some = openings_more events e ∙ ap (λ words. openings events ++ words) (one_some (λ (x : Event). opening_in x.kind) e w some)
@@ -79,10 +79,10 @@ module _ (events : List Event) (e : Event) (ended : List Operation) (o : Outstan
     worded : (w : GranuleWord) → e.kind ≡ Word w → old w.granule ≡ None → IsTouched old new w.granule w.word → (g : ℕ) → Will g (new g)
     worded w is none t = by_other w.granule
         (λ g other. moved g (old g) (t.others g other) (retold events e ended o g (old g) (known_same events e g (ap (covers g) is))
-        (ap (λ (words : List GranuleWord). told words g) (one_opening w (ap opening_in is)) ∙ told_other (openings events) w g (ne_eqb w.granule g (λ same. other (sym same))))
+        (ap (λ (words : List GranuleWord). find_word words g) (one_opening w (ap opening_in is)) ∙ told_other (openings events) w g (ne_eqb w.granule g (λ same. other (sym same))))
         (no_final (ap final_in is) g) (each g)))
         (moved w.granule (Some t.followed) t.is (begun (events ++ e ∷ []) ended o w.granule w.word t.followed (known_same events e w.granule (ap (covers w.granule) is) ∙ untold.known) untold.none
-        (ap (λ (word : Option ℕ). unwrap_or word 0) (ap (λ (words : List GranuleWord). told words w.granule) (one_opening w (ap opening_in is)) ∙ told_own (openings events) w untold.opening))
+        (ap (λ (word : Option ℕ). unwrap_or word 0) (ap (λ (words : List GranuleWord). find_word words w.granule) (one_opening w (ap opening_in is)) ∙ told_own (openings events) w untold.opening))
         (no_final (ap final_in is) w.granule ∙ untold.final_word) (subst (λ (x : Option Followed). IsSameOrUntouched w.word x t.followed) none t.was)))
       where
         untold : IsUntold events ended w.granule
@@ -99,7 +99,7 @@ module _ (events : List Event) (e : Event) (ended : List Operation) (o : Outstan
       recent = λ so. subst (λ (word : Option ℕ). Keeps (unwrap_or word 0 ∷ []) (filter (is_in w.granule) ended) o.time f.recent) (sym (no_opening (ap opening_in is) w.granule)) (base.recent so);
       recent_past = base.recent_past;
       recent_horizon = base.recent_horizon;
-      final_word = sym (ap (λ (words : List GranuleWord). told words w.granule) (one_final w (ap final_in is)) ∙ told_own (final_words events) w (sym base.final_word ∙ none));
+      final_word = sym (ap (λ (words : List GranuleWord). find_word words w.granule) (one_final w (ap final_in is)) ∙ told_own (final_words events) w (sym base.final_word ∙ none));
     }
 
     final_own : (w : GranuleWord) → e.kind ≡ Final w → (x : Option Followed) (f : Followed) → IsSameOrUntouched 0 x f → has_final_word x ≡ false → Is w.granule x
@@ -116,7 +116,7 @@ module _ (events : List Event) (e : Event) (ended : List Operation) (o : Outstan
     ended_with : (w : GranuleWord) → e.kind ≡ Final w → has_final_word (old w.granule) ≡ false → IsTouchedAndMarked w.granule (λ f. record f { final_word = Some w.word }) old new → (g : ℕ) → Will g (new g)
     ended_with w is none t = by_other w.granule
         (λ g other. moved g (old g) (t.others g other) (retold events e ended o g (old g) (known_same events e g (ap (covers g) is)) (no_opening (ap opening_in is) g)
-        (ap (λ (words : List GranuleWord). told words g) (one_final w (ap final_in is)) ∙ told_other (final_words events) w g (ne_eqb w.granule g (λ same. other (sym same)))) (each g)))
+        (ap (λ (words : List GranuleWord). find_word words g) (one_final w (ap final_in is)) ∙ told_other (final_words events) w g (ne_eqb w.granule g (λ same. other (sym same)))) (each g)))
         (moved w.granule (Some (record t.followed { final_word = Some w.word })) t.is (final_own w is (old w.granule) t.followed t.was none (each w.granule)))
 
     -- something that is not told
@@ -155,8 +155,8 @@ module _ (events : List Event) (e : Event) (ended : List Operation) (o : Outstan
     stays : opening_in e.kind ≡ None → final_in e.kind ≡ None → ((g : ℕ) → covers g e.kind ≡ false) → ((g : ℕ) → new g ≡ old g) → (g : ℕ) → Will g (new g)
     stays none none_final uncovered same g = moved g (old g) (same g) (passes none none_final g (old g) (uncovered g) (each g))
 
-    pub noted : (k : EventKind) → e.kind ≡ k → Fits k old → IsNoted k old new → (g : ℕ) → Will g (new g)
-    noted (Request r) is fits t = touched (ap opening_in is) (ap final_in is) (λ g. ap (covers g) is) (r.asked.addr / 8) t
+    pub noted : (k : EventKind) → e.kind ≡ k → Fits k old → IsUpdated k old new → (g : ℕ) → Will g (new g)
+    noted (Request r) is fits t = touched (ap opening_in is) (ap final_in is) (λ g. ap (covers g) is) (r.fields.addr / 8) t
     noted (Word w) is fits t = worded w is fits t
     noted (Final w) is fits t = ended_with w is fits t
     noted (Unknown addr len) is fits t = forgotten (ap opening_in is) (ap final_in is) (λ g. subst (λ (k : EventKind). IsForgotten (covers g k) (old g) (new g)) (sym is) (t g))

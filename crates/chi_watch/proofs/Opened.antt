@@ -7,12 +7,12 @@ use Rattle.chi_events.specs.Outstanding.{IsOpen, open_operation}
 use Rattle.chi_events.specs.declared.event.Event.{Event}
 use Rattle.chi_events.specs.declared.outstanding.Open.{Open}
 use Rattle.chi_recent.specs.Recent.{Keeps}
-use Rattle.chi_trace.specs.Chosen.{is_in}
+use Rattle.chi_trace.specs.AtPlaces.{is_in}
 use Rattle.chi_trace.specs.Granules.{granule_of}
 use Rattle.chi_trace.specs.declared.operation.Operation.{Operation}
 use Rattle.chi_watch.specs.Changes.{CanEnd, HasOneMore, IsClosed}
 use Rattle.chi_watch.specs.Endings.{AreToldTo, CanClose, TakesOpen}
-use Rattle.chi_watch.specs.Requests.{granule_asked}
+use Rattle.chi_watch.specs.Requests.{granule_of_request}
 use Rattle.chi_watch.specs.Watches.{IsGranuleOf, WatchValue, Watches, granule}
 use Rattle.chi_watch.specs.declared.followed.Followed.{Followed}
 use Rattle.chi_watch.proofs.ToldAtTheEnd.{told_none}
@@ -21,14 +21,14 @@ use Rattle.chi_watch.proofs.ToldAtTheEnd.{told_none}
 pub record IsOpened (p : Open) (op : Operation) : Type 0 where
   pub start : op.start ≡ p.start
   pub end : op.end ≡ 2 ^ 64 - 1
-  pub granule : granule_of op ≡ granule_asked p
+  pub granule : granule_of op ≡ granule_of_request p
   pub lasting : op.start ≤ op.end
   pub within : op.access.addr + op.access.len ≤ 2 ^ 52
 
 pub opened : (granules : ℕ → Option Followed) (p : Open) (op : Operation) → CanClose granules p → Some op ≡ open_operation p → IsOpened p op
 opened granules p op can = by_access p.access can.at can.within
   where
-    by_access : (a : Option Access) → IfSome a (λ access. access.addr ≡ p.asked.addr) → IfSome a (λ access. access.addr + access.len ≤ 2 ^ 52)
+    by_access : (a : Option Access) → IfSome a (λ access. access.addr ≡ p.fields.addr) → IfSome a (λ access. access.addr + access.len ≤ 2 ^ 52)
         → Some op ≡ open_operation (record p { access = a }) → IsOpened p op
     by_access None at within is = absurd (true≢false (ap is_some is))
     by_access (Some access) at within is =
@@ -93,15 +93,15 @@ module _ (p : Open) (op : Operation) (old new : ℕ → Option Followed) (can : 
 
   -- and the others can still be told
   closes_on : (q : Open) → CanClose old q → CanClose new q
-  closes_on q c = record { at = c.at; within = c.within; lasting = c.lasting; takes = by_test (granule_of op == granule_asked q) refl }
+  closes_on q c = record { at = c.at; within = c.within; lasting = c.lasting; takes = by_test (granule_of op == granule_of_request q) refl }
     where
-      by_test : (b : Bool) → (granule_of op == granule_asked q) ≡ b → TakesOpen q.start (new (granule_asked q))
+      by_test : (b : Bool) → (granule_of op == granule_of_request q) ≡ b → TakesOpen q.start (new (granule_of_request q))
       by_test true here =
-          let at : granule_of op ≡ granule_asked q = eqb-true (granule_of op) (granule_asked q) here in
+          let at : granule_of op ≡ granule_of_request q = eqb-true (granule_of op) (granule_of_request q) here in
           subst (λ g. TakesOpen q.start (new g)) at
           (takes_on op own.lasting own.within own.end q.start (old (granule_of op)) (new (granule_of op)) takes more.own (subst (λ g. TakesOpen q.start (old g)) (sym at) c.takes))
       by_test false other =
-          subst (TakesOpen q.start) (sym (more.others (granule_asked q) (λ same. absurd (true≢false (sym (eq-eqb (granule_of op) (granule_asked q) (sym same)) ∙ other))))) c.takes
+          subst (TakesOpen q.start) (sym (more.others (granule_of_request q) (λ same. absurd (true≢false (sym (eq-eqb (granule_of op) (granule_of_request q) (sym same)) ∙ other))))) c.takes
 
   pub all_close_on : (requests : List Open) → All (CanClose old) requests → All (CanClose new) requests
   all_close_on = All-weaker (CanClose old) (CanClose new) closes_on
@@ -109,12 +109,12 @@ module _ (p : Open) (op : Operation) (old new : ℕ → Option Followed) (can : 
 -- each outstanding request's operation can be told, where the watch took the events
 module _ (events : List Event) (ended : List Operation) (w : WatchValue) (is : Watches events ended w) (are_open : All (IsOpen w.outstanding.time) w.outstanding.requests) where
   takes_open : (p : Open) → p.start ≤ w.outstanding.time → Contains w.outstanding.requests p → (x : Option Followed) → IsTrue (is_some x)
-      → IsGranuleOf events ended w.outstanding (granule_asked p) x → TakesOpen p.start x
+      → IsGranuleOf events ended w.outstanding (granule_of_request p) x → TakesOpen p.start x
   takes_open p start has None some of = absurd (true≢false (sym some))
   takes_open p start has (Some f) some of = (
-    All-contains (λ (q : Open). granule_asked q ≡ granule_asked p → f.frontier.horizon ≤ q.start) w.outstanding.requests p of.horizon has refl,
+    All-contains (λ (q : Open). granule_of_request q ≡ granule_of_request p → f.frontier.horizon ≤ q.start) w.outstanding.requests p of.horizon has refl,
     let time : w.outstanding.time < 2 ^ 64 = is.time in let latest : f.frontier.latest ≤ w.outstanding.time = of.latest in omega arith,
-    All-contains (λ (q : Open). granule_asked q ≡ granule_asked p → f.recent.horizon ≤ q.start) w.outstanding.requests p of.recent_horizon has refl,
+    All-contains (λ (q : Open). granule_of_request q ≡ granule_of_request p → f.recent.horizon ≤ q.start) w.outstanding.requests p of.recent_horizon has refl,
   )
 
   can_close : (p : Open) → Contains w.outstanding.requests p → CanClose (granule w) p
@@ -125,8 +125,8 @@ module _ (events : List Event) (ended : List Operation) (w : WatchValue) (is : W
         at = o.at;
         within = o.within;
         lasting = omega (arith, o.start);
-        takes = takes_open p o.start has (granule w (granule_asked p))
-            (All-contains (λ (q : Open). IsTrue (is_some (granule w (granule_asked q)))) w.outstanding.requests p is.requested has) (is.each (granule_asked p));
+        takes = takes_open p o.start has (granule w (granule_of_request p))
+            (All-contains (λ (q : Open). IsTrue (is_some (granule w (granule_of_request q)))) w.outstanding.requests p is.requested has) (is.each (granule_of_request p));
       }
 
   pub all_can_close : All (CanClose (granule w)) w.outstanding.requests

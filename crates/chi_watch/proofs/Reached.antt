@@ -12,13 +12,13 @@ use Rattle.chi_recent.specs.Reaches.{AreLast, IfStops, IfUndecided, IfWhole, IsR
 use Rattle.chi_recent.specs.Recent.{RecentValue}
 use Rattle.chi_recent.specs.declared.reach.Reach.{Reach}
 use Rattle.chi_recent.specs.declared.reach.Reach.TheVariants.{Whole, Stops, Undecided}
-use Rattle.chi_trace.specs.Chosen.{GranulesTold, is_in}
+use Rattle.chi_trace.specs.AtPlaces.{GranulesStandAlone, is_in}
 use Rattle.chi_trace.specs.declared.operation.Operation.{Operation}
-use Rattle.chi_trace.specs.Words.{word_told}
+use Rattle.chi_trace.specs.Words.{word_or_zero}
 use Rattle.chi_watch.specs.Endings.{IsExplainable}
 use Rattle.chi_watch.specs.Judged.{openings}
 use Rattle.chi_watch.specs.Reaching.{IsOfSomeTrace, IsUnreachedIn, ReachesBy}
-use Rattle.chi_watch.specs.Requests.{granule_asked}
+use Rattle.chi_watch.specs.Requests.{granule_of_request}
 use Rattle.chi_watch.specs.Watches.{HasTaken, IsGranuleOf, IsUnexplained, IsWatched, WatchValue, granule}
 use Rattle.chi_watch.specs.declared.ending.FoundAtEnd.{FoundAtEnd}
 use Rattle.chi_watch.specs.declared.followed.Followed.{Followed}
@@ -40,8 +40,8 @@ undecided_weaker Undecided f is = f is
 
 -- the operations of a granule of which no request is outstanding were told, and the last of them are kept
 pub quiet_recent : OperationsAreTold → (events : List Event) (w : WatchValue) → All (IsOpen w.outstanding.time) w.outstanding.requests → HasTaken events w
-    → (g : ℕ) (f : Followed) → granule w g ≡ Some f → IsTrue f.is_known → list_any (λ p. granule_asked p == g) w.outstanding.requests ≡ false
-    → IsRecentOf (operations events) g (word_told (openings events) g) f.recent
+    → (g : ℕ) (f : Followed) → granule w g ≡ Some f → IsTrue f.is_known → list_any (λ p. granule_of_request p == g) w.outstanding.requests ≡ false
+    → IsRecentOf (operations events) g (word_or_zero (openings events) g) f.recent
 quiet_recent law events w are_open (ended, is) g f here known quiet = record {
   traced = (law events ended w.outstanding is.tells).0;
   told = filter (is_in g) ended;
@@ -76,8 +76,8 @@ module _ {P : Type 0} (looked : P → ℕ → Type 0) (old middle new : P) (budg
       by_granule (Some f) is = undecided_weaker found.reach (λ spent some. at_least_after looked old middle new budget before (spent some)) is
 
 -- a granule that is not watched is not unexplained
-pub untold_explained : OperationsAreTold → GranulesTold → (events : List Event) (w : WatchValue) → All (IsOpen w.outstanding.time) w.outstanding.requests → HasTaken events w
-    → (g : ℕ) → granule w g ≡ None → list_any (λ p. granule_asked p == g) w.outstanding.requests ≡ false → IsUnexplained events g → ⊥
+pub untold_explained : OperationsAreTold → GranulesStandAlone → (events : List Event) (w : WatchValue) → All (IsOpen w.outstanding.time) w.outstanding.requests → HasTaken events w
+    → (g : ℕ) → granule w g ≡ None → list_any (λ p. granule_of_request p == g) w.outstanding.requests ≡ false → IsUnexplained events g → ⊥
 untold_explained operations_law granules_law events w are_open has g none quiet not =
     elim (not_found_is operations_law granules_law ⊥ events w are_open has g quiet (subst (λ o. IfSome o (λ f. IsExplainable f ⊎ ⊥)) (sym none) tt) not.known) [
       | inl can ↦ not.none can.0 can.1

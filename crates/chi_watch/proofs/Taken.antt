@@ -9,14 +9,14 @@ use Rattle.chi_events.specs.declared.event.EventKind.TheVariants.{Request, Data,
 use Rattle.chi_events.specs.declared.event.Requested.{Requested}
 use Rattle.chi_events.specs.declared.outstanding.Open.{Open}
 use Rattle.chi_events.specs.Outstanding.{IsEndOf, IsEvent, OutstandingValue, StaysOrStarts, Tells}
-use Rattle.chi_events.specs.Told.{requested}
+use Rattle.chi_events.specs.RequestEvents.{requested}
 use Rattle.chi_trace.specs.Granules.{granule_of}
 use Rattle.chi_trace.specs.declared.operation.Operation.{Operation}
 use Rattle.chi_watch.specs.declared.followed.Followed.{Followed}
 use Rattle.chi_watch.specs.declared.fault.WatchFault.TheVariants as fault
-use Rattle.chi_watch.specs.Changes.{IsClosed, IsClosedBy, IsGone, IsNoted, OthersStay}
+use Rattle.chi_watch.specs.Changes.{IsClosed, IsClosedBy, IsGone, IsUpdated, OthersStay}
 use Rattle.chi_watch.specs.Judged.{covers}
-use Rattle.chi_watch.specs.Requests.{granule_asked}
+use Rattle.chi_watch.specs.Requests.{granule_of_request}
 use Rattle.chi_watch.specs.Watches.{WatchValue, Watches, granule, granule_fault, has_final_word}
 use Rattle.chi_watch.proofs.Closing.{closed}
 use Rattle.chi_watch.proofs.NotedKinds.{Fits, noted}
@@ -58,8 +58,8 @@ module _ (old new : ℕ → Option Followed) where
       by_granule true same = let at : g ≡ here = eqb-true g here same in rw at (ap is_some is)
       by_granule false other = ap is_some (others g (λ same. absurd (true≢false (sym (eq-eqb g here same) ∙ other)))) ∙ some
 
-  noted_some : (k : EventKind) → IsNoted k old new → (g : ℕ) → IsTrue (is_some (old g)) → IsTrue (is_some (new g))
-  noted_some (Request r) t g some = others_some (r.asked.addr / 8) t.followed t.is t.others g some
+  noted_some : (k : EventKind) → IsUpdated k old new → (g : ℕ) → IsTrue (is_some (old g)) → IsTrue (is_some (new g))
+  noted_some (Request r) t g some = others_some (r.fields.addr / 8) t.followed t.is t.others g some
   noted_some (Word w) t g some = others_some w.granule t.followed t.is t.others g some
   noted_some (Final w) t g some = others_some w.granule (record t.followed { final_word = Some w.word }) t.is t.others g some
   noted_some (Unknown addr len) t g some = by_test (covers g (Unknown addr len)) refl
@@ -77,8 +77,8 @@ module _ (old new : ℕ → Option Followed) where
   noted_some (Refused id reason) t g some = ap is_some (t g) ∙ some
 
   -- the granule of a request that is taken is watched
-  request_some : (k : EventKind) (r : Requested) → requested k ≡ Some r → IsNoted k old new → IsTrue (is_some (new (r.asked.addr / 8)))
-  request_some (Request q) r is t = subst (λ (o : Option Requested). IfSome o (λ s. IsTrue (is_some (new (s.asked.addr / 8))))) is (ap is_some t.is)
+  request_some : (k : EventKind) (r : Requested) → requested k ≡ Some r → IsUpdated k old new → IsTrue (is_some (new (r.fields.addr / 8)))
+  request_some (Request q) r is t = subst (λ (o : Option Requested). IfSome o (λ s. IsTrue (is_some (new (s.fields.addr / 8))))) is (ap is_some t.is)
   request_some (Word w) r is t = absurd (true≢false (ap is_some (sym is)))
   request_some (Final w) r is t = absurd (true≢false (ap is_some (sym is)))
   request_some (Unknown addr len) r is t = absurd (true≢false (ap is_some (sym is)))
@@ -108,7 +108,7 @@ module _ (events : List Event) (ended : List Operation) (w : WatchValue) (e : Ev
   fits c (Word told) is = none_is (mid told.granule) (same_some o.requests (granule w) mid op c told.granule ∙ none_of (is_some (granule w told.granule)) fault.WordLate None is)
   fits c (Final told) is =
       same_final_word o.requests (granule w) mid op c told.granule
-      ∙ none_of (has_final_word (granule w told.granule)) fault.FinalTwice (if list_any (λ p. granule_asked p == told.granule) w.outstanding.requests then Some fault.FinalEarly else None) is
+      ∙ none_of (has_final_word (granule w told.granule)) fault.FinalTwice (if list_any (λ p. granule_of_request p == told.granule) w.outstanding.requests then Some fault.FinalEarly else None) is
   fits c (Request r) is = tt
   fits c (Unknown addr len) is = tt
   fits c (Data p) is = tt
@@ -117,21 +117,21 @@ module _ (events : List Event) (ended : List Operation) (w : WatchValue) (e : Ev
   fits c (Refused id reason) is = tt
 
   pub taken : granule_fault w e.kind ≡ None → o.time ≡ e.time → w.outstanding.time ≤ e.time → All (StaysOrStarts w.outstanding.requests e) o.requests → IfSome op (IsEndOf w.outstanding.requests e.time)
-      → IsClosedBy op o.requests (granule w) mid → IsNoted e.kind mid (granule now) → Tells (events ++ e ∷ []) (ended ++ option_to_list op) o
+      → IsClosedBy op o.requests (granule w) mid → IsUpdated e.kind mid (granule now) → Tells (events ++ e ∷ []) (ended ++ option_to_list op) o
       → count ≡ min (w.ended + length (option_to_list op)) (2 ^ 64 - 1) → Watches events ended w → Watches (events ++ e ∷ []) (ended ++ option_to_list op) now
   taken none at later stay ends c t tells more is = record {
     tells = tells;
     time = subst (λ n. n < 2 ^ 64) (sym at) (All-pop IsEvent (events ++ e ∷ []) events (Some e) refl tells.bounds).1.time;
     each = noted events e (ended ++ option_to_list op) o mid (granule now)
         (λ g. closed events ended w.outstanding o e at later stay (granule w) mid op ends is.requested c g (is.each g)) e.kind refl (fits c e.kind none) t;
-    requested = All-weaker (StaysOrStarts w.outstanding.requests e) (λ (p : Open). IsTrue (is_some (granule now (granule_asked p)))) each o.requests stay;
+    requested = All-weaker (StaysOrStarts w.outstanding.requests e) (λ (p : Open). IsTrue (is_some (granule now (granule_of_request p)))) each o.requests stay;
     count = counted more is.count;
   }
     where
-      each : (p : Open) → StaysOrStarts w.outstanding.requests e p → IsTrue (is_some (granule now (granule_asked p)))
-      each p (inl (start, (r, is_r, asked))) =
-          subst (λ (n : ℕ). IsTrue (is_some (granule now n))) (ap (λ a. a.addr / 8) (sym asked)) (request_some mid (granule now) e.kind r is_r t)
-      each p (inr (old, has, start, asked)) =
-          let before : IsTrue (is_some (granule w (granule_asked old))) = All-contains (λ (q : Open). IsTrue (is_some (granule w (granule_asked q)))) w.outstanding.requests old is.requested has in
-          let middle : IsTrue (is_some (mid (granule_asked old))) = same_some o.requests (granule w) mid op c (granule_asked old) ∙ before in
-          subst (λ (n : ℕ). IsTrue (is_some (granule now n))) (ap (λ a. a.addr / 8) (sym asked)) (noted_some mid (granule now) e.kind t (granule_asked old) middle)
+      each : (p : Open) → StaysOrStarts w.outstanding.requests e p → IsTrue (is_some (granule now (granule_of_request p)))
+      each p (inl (start, (r, is_r, fields))) =
+          subst (λ (n : ℕ). IsTrue (is_some (granule now n))) (ap (λ a. a.addr / 8) (sym fields)) (request_some mid (granule now) e.kind r is_r t)
+      each p (inr (old, has, start, fields)) =
+          let before : IsTrue (is_some (granule w (granule_of_request old))) = All-contains (λ (q : Open). IsTrue (is_some (granule w (granule_of_request q)))) w.outstanding.requests old is.requested has in
+          let middle : IsTrue (is_some (mid (granule_of_request old))) = same_some o.requests (granule w) mid op c (granule_of_request old) ∙ before in
+          subst (λ (n : ℕ). IsTrue (is_some (granule now n))) (ap (λ a. a.addr / 8) (sym fields)) (noted_some mid (granule now) e.kind t (granule_of_request old) middle)

@@ -9,7 +9,7 @@ use Rattle.chi_events.specs.Outstanding.{open_operation}
 use Rattle.chi_events.specs.declared.outstanding.Open.{Open}
 use Rattle.chi_recent.specs.Recent.{Keeps}
 use Rattle.chi_search.specs.Frontiers.{Follows}
-use Rattle.chi_trace.specs.Chosen.{is_in}
+use Rattle.chi_trace.specs.AtPlaces.{is_in}
 use Rattle.chi_trace.specs.declared.operation.Operation.{Operation}
 use Rattle.chi_watch.specs.Endings.{AreToldTo}
 use Rattle.chi_watch.specs.declared.followed.Followed.{Followed}

@@ -14,18 +14,18 @@ use Rattle.chi_events.specs.declared.event.EventKind.{EventKind}
 use Rattle.chi_events.specs.declared.event.EventKind.TheVariants.{Request, Data, Reply, Dropped, Refused, Word, Final, Unknown}
 use Rattle.chi_events.specs.declared.outstanding.Open.{Open}
 use Rattle.chi_search.specs.Layers.{SomeLeads}
-use Rattle.chi_trace.specs.Chosen.{GranulesTold, is_in}
+use Rattle.chi_trace.specs.AtPlaces.{GranulesStandAlone, is_in}
 use Rattle.chi_trace.specs.Explains.{IsInTime, is_place, times_in}
 use Rattle.chi_trace.specs.Granules.{ExplainsGranule, Finishes, Play, granule_of, is_of, last_word}
 use Rattle.chi_trace.specs.TraceLaws.{GranulesExplain, PartsExplain}
 use Rattle.chi_trace.specs.declared.operation.Operation.{Operation}
-use Rattle.chi_trace.specs.Words.{AreWords, memory_of, told, word_told}
+use Rattle.chi_trace.specs.Words.{AreWords, find_word, memory_of, word_or_zero}
 use Rattle.chi_trace.proofs.TracedCuts.{IsTrace-filter}
 use Rattle.chi_trace.proofs.Memory.{IsMemory-memory_of, word_of-memory_of}
 use Rattle.chi_watch.specs.Followed.{IsWord}
 use Rattle.chi_watch.specs.Judged.{IsExplained, final_of, final_words, is_known, judged, opening_in, openings}
 use Rattle.chi_watch.specs.Quiet.{CanBeExplained}
-use Rattle.chi_watch.specs.Requests.{IsQuiet, granule_asked}
+use Rattle.chi_watch.specs.Requests.{IsQuiet, granule_of_request}
 use Rattle.chi_watch.specs.Watches.{IsUnexplained}
 use Rattle.chi_recent.proofs.Lists.{IsPermutation-filter}
 use Rattle.chi_watch.proofs.Lists.{All-filter_map}
@@ -75,7 +75,7 @@ kept_none q g is (op ∷ ops) = by_tests (q (granule_of op)) (granule_of op == g
     by_tests false b passes own rest = rest
 
 -- an order that explains a granule leads to a word that may have been its last
-leads_from : GranulesTold → (trace ops : List Operation) (g w : ℕ) (final_word : Option ℕ) → IsPermutation (filter (is_in g) trace) ops
+leads_from : GranulesStandAlone → (trace ops : List Operation) (g w : ℕ) (final_word : Option ℕ) → IsPermutation (filter (is_in g) trace) ops
     → (order : List ℕ) → ExplainsGranule trace g w final_word order → (v : ℕ) × SomeLeads ops (w ∷ []) v × IsWord final_word v
 leads_from law trace ops g w final_word moved order explains =
     let own = (law trace ops g w final_word moved).0 (order, explains) in (
@@ -89,7 +89,7 @@ leads_from law trace ops g w final_word moved order explains =
     by_last (Some u) v is = sym is
 
 -- and the other way round
-explains_from : GranulesTold → (trace ops : List Operation) (g w : ℕ) (final_word : Option ℕ) → IsPermutation (filter (is_in g) trace) ops
+explains_from : GranulesStandAlone → (trace ops : List Operation) (g w : ℕ) (final_word : Option ℕ) → IsPermutation (filter (is_in g) trace) ops
     → (v : ℕ) → SomeLeads ops (w ∷ []) v → IsWord final_word v → (order : List ℕ) × ExplainsGranule trace g w final_word order
 explains_from law trace ops g w final_word moved v (u, one, (order, finishes)) is =
     let first = All-contains (λ x. x ≡ w) (w ∷ []) u (All-cons (λ x. x ≡ w) w [] refl (All-nil (λ x. x ≡ w))) one in
@@ -122,9 +122,9 @@ all_judged law events ended o g tells known =
     (sym (kept_all (is_known events) g known (operations events))) (all_told law events ended o g tells)
 
 -- Where the operations of a granule lead to no word that may have been its last, they are not explained.
-pub unexplained : OperationsAreTold → GranulesTold → PartsExplain → (events : List Event) (ended : List Operation) (o : OutstandingValue) (g : ℕ)
+pub unexplained : OperationsAreTold → GranulesStandAlone → PartsExplain → (events : List Event) (ended : List Operation) (o : OutstandingValue) (g : ℕ)
     → Tells events ended o → is_known events g ≡ true
-    → ((v : ℕ) → SomeLeads (filter (is_in g) (ended ++ filter_map open_operation o.requests)) (word_told (openings events) g ∷ []) v → IsWord (told (final_words events) g) v → ⊥)
+    → ((v : ℕ) → SomeLeads (filter (is_in g) (ended ++ filter_map open_operation o.requests)) (word_or_zero (openings events) g ∷ []) v → IsWord (find_word (final_words events) g) v → ⊥)
     → IsUnexplained events g
 unexplained operations_law granules_law parts_law events ended o g tells known none = record {
   known = known;
@@ -138,17 +138,17 @@ unexplained operations_law granules_law parts_law events ended o g tells known n
 }
   where
     refuted : (trace : List Operation) → IsPermutation (filter (is_in g) trace) (filter (is_in g) (ended ++ filter_map open_operation o.requests))
-        → (order : List ℕ) → ExplainsGranule trace g (word_told (openings events) g) (final_of events g) order → ⊥
+        → (order : List ℕ) → ExplainsGranule trace g (word_or_zero (openings events) g) (final_of events g) order → ⊥
     refuted trace moved order explains =
-        let final_word : final_of events g ≡ told (final_words events) g = ap (λ b. cond b (told (final_words events) g) None) known in
-        let led = leads_from granules_law trace _ g (word_told (openings events) g) (told (final_words events) g) moved order
-        (subst (λ f. ExplainsGranule trace g (word_told (openings events) g) f order) final_word explains) in
+        let final_word : final_of events g ≡ find_word (final_words events) g = ap (λ b. cond b (find_word (final_words events) g) None) known in
+        let led = leads_from granules_law trace _ g (word_or_zero (openings events) g) (find_word (final_words events) g) moved order
+        (subst (λ f. ExplainsGranule trace g (word_or_zero (openings events) g) f order) final_word explains) in
         none led.0 led.1 led.2
 
 -- Where those of each granule of which all is told lead to such a word, they all are explained.
-pub explained : OperationsAreTold → GranulesTold → GranulesExplain → (events : List Event) (ended : List Operation) (o : OutstandingValue) → Tells events ended o
+pub explained : OperationsAreTold → GranulesStandAlone → GranulesExplain → (events : List Event) (ended : List Operation) (o : OutstandingValue) → Tells events ended o
     → ((g : ℕ) → is_known events g ≡ true
-    → (v : ℕ) × SomeLeads (filter (is_in g) (ended ++ filter_map open_operation o.requests)) (word_told (openings events) g ∷ []) v × IsWord (told (final_words events) g) v)
+    → (v : ℕ) × SomeLeads (filter (is_in g) (ended ++ filter_map open_operation o.requests)) (word_or_zero (openings events) g ∷ []) v × IsWord (find_word (final_words events) g) v)
     → IsExplained events
 explained operations_law granules_law whole_law events ended o tells each =
     (whole_law (memory_of (openings events)) (final_of events) (judged events) (IsMemory-memory_of (openings events))
@@ -156,40 +156,40 @@ explained operations_law granules_law whole_law events ended o tells each =
     (λ g. subst (λ (w : ℕ). (order : List ℕ) × ExplainsGranule (judged events) g w (final_of events g) order)
     (sym (word_of-memory_of (openings events) g (openings_are_words events tells.bounds))) (by_known g (is_known events g) refl))
   where
-    by_known : (g : ℕ) (b : Bool) → is_known events g ≡ b → (order : List ℕ) × ExplainsGranule (judged events) g (word_told (openings events) g) (final_of events g) order
+    by_known : (g : ℕ) (b : Bool) → is_known events g ≡ b → (order : List ℕ) × ExplainsGranule (judged events) g (word_or_zero (openings events) g) (final_of events g) order
     by_known g true known =
         let led = each g known in
-        explains_from granules_law (judged events) _ g (word_told (openings events) g) (final_of events g)
+        explains_from granules_law (judged events) _ g (word_or_zero (openings events) g) (final_of events g)
         (all_judged operations_law events ended o g tells known) led.0 led.1
-        (subst (λ f. IsWord f led.0) (sym (ap (λ b. cond b (told (final_words events) g) None) known)) led.2)
+        (subst (λ f. IsWord f led.0) (sym (ap (λ b. cond b (find_word (final_words events) g) None) known)) led.2)
     by_known g false unknown =
-        let w = word_told (openings events) g in
+        let w = word_or_zero (openings events) g in
         explains_from granules_law (judged events) [] g w (final_of events g)
         (subst (λ l. IsPermutation l []) (sym (kept_none (is_known events) g unknown (operations events))) (IsPermutation-refl [])) w (leads_none w)
-        (subst (λ f. IsWord f w) (sym (ap (λ b. cond b (told (final_words events) g) None) unknown)) tt)
+        (subst (λ f. IsWord f w) (sym (ap (λ b. cond b (find_word (final_words events) g) None) unknown)) tt)
 
 -- Where those of one granule of which all is told lead to such a word, some order explains them.
-pub one_explained : OperationsAreTold → GranulesTold → (events : List Event) (ended : List Operation) (o : OutstandingValue) (g : ℕ) → Tells events ended o → is_known events g ≡ true
-    → (v : ℕ) → SomeLeads (filter (is_in g) (ended ++ filter_map open_operation o.requests)) (word_told (openings events) g ∷ []) v → IsWord (told (final_words events) g) v → CanBeExplained events g
+pub one_explained : OperationsAreTold → GranulesStandAlone → (events : List Event) (ended : List Operation) (o : OutstandingValue) (g : ℕ) → Tells events ended o → is_known events g ≡ true
+    → (v : ℕ) → SomeLeads (filter (is_in g) (ended ++ filter_map open_operation o.requests)) (word_or_zero (openings events) g ∷ []) v → IsWord (find_word (final_words events) g) v → CanBeExplained events g
 one_explained operations_law granules_law events ended o g tells known v leads word =
-    explains_from granules_law (operations events) _ g (word_told (openings events) g) (final_of events g) (all_told operations_law events ended o g tells) v leads
-    (subst (λ f. IsWord f v) (sym (ap (λ b. cond b (told (final_words events) g) None) known)) word)
+    explains_from granules_law (operations events) _ g (word_or_zero (openings events) g) (final_of events g) (all_told operations_law events ended o g tells) v leads
+    (subst (λ f. IsWord f v) (sym (ap (λ b. cond b (find_word (final_words events) g) None) known)) word)
 
 -- the access of a request, once its data have come, is at its address
 abbrev IsAt : Open → Type 0
-IsAt p = IfSome p.access (λ access. access.addr ≡ p.asked.addr)
+IsAt p = IfSome p.access (λ access. access.addr ≡ p.fields.addr)
 
 -- none of these requests' operations is of a granule of which no request is outstanding
-pub quiet_none : (requests : List Open) (g : ℕ) → All (λ p. IfSome p.access (λ access. access.addr ≡ p.asked.addr)) requests → IsQuiet requests g
+pub quiet_none : (requests : List Open) (g : ℕ) → All (λ p. IfSome p.access (λ access. access.addr ≡ p.fields.addr)) requests → IsQuiet requests g
     → filter (is_in g) (filter_map open_operation requests) ≡ []
 quiet_none [] g at quiet = refl
 quiet_none (p ∷ requests) g at quiet =
-    by_access p.access (All-head IsAt p requests at) (quiet_none requests g (All-tail IsAt p requests at) (All-tail (λ q. granule_asked q ≡ g → ⊥) p requests quiet))
+    by_access p.access (All-head IsAt p requests at) (quiet_none requests g (All-tail IsAt p requests at) (All-tail (λ q. granule_of_request q ≡ g → ⊥) p requests quiet))
   where
-    by_access : (a : Option Access) → IfSome a (λ access. access.addr ≡ p.asked.addr) → filter (is_in g) (filter_map open_operation requests) ≡ []
+    by_access : (a : Option Access) → IfSome a (λ access. access.addr ≡ p.fields.addr) → filter (is_in g) (filter_map open_operation requests) ≡ []
         → filter (is_in g) (cons_option (open_operation (record p { access = a })) (filter_map open_operation requests)) ≡ []
     by_access None is rest = rest
     by_access (Some access) is rest =
-        let other : access.addr / 8 ≡ g → ⊥ = λ same. All-head (λ q. granule_asked q ≡ g → ⊥) p requests quiet (ap (λ addr. addr / 8) (sym is) ∙ same) in
+        let other : access.addr / 8 ≡ g → ⊥ = λ same. All-head (λ q. granule_of_request q ≡ g → ⊥) p requests quiet (ap (λ addr. addr / 8) (sym is) ∙ same) in
         let other_granule : (access.addr / 8 == g) ≡ false = ne_eqb (access.addr / 8) g other in
         rw other_granule rest

@@ -100,12 +100,12 @@ pub record IsForgotten (covered : Bool) (old new : Option Followed) : Type 0 whe
   pub gone : covered ≡ true → IsGone old new
 
 -- what is noted of the granules by an event
-abbrev pub IsNoted : EventKind → (ℕ → Option Followed) → (ℕ → Option Followed) → Type 0
-IsNoted (Request r) old new = IsTouched old new (r.asked.addr / 8) 0
-IsNoted (Word told) old new = IsTouched old new told.granule told.word
-IsNoted (Final told) old new = IsTouchedAndMarked told.granule (λ f. record f { final_word = Some told.word }) old new
-IsNoted (Unknown addr len) old new = (g : ℕ) → IsForgotten (covers g (Unknown addr len)) (old g) (new g)
-IsNoted _ old new = (g : ℕ) → new g ≡ old g
+abbrev pub IsUpdated : EventKind → (ℕ → Option Followed) → (ℕ → Option Followed) → Type 0
+IsUpdated (Request r) old new = IsTouched old new (r.fields.addr / 8) 0
+IsUpdated (Word told) old new = IsTouched old new told.granule told.word
+IsUpdated (Final told) old new = IsTouchedAndMarked told.granule (λ f. record f { final_word = Some told.word }) old new
+IsUpdated (Unknown addr len) old new = (g : ℕ) → IsForgotten (covers g (Unknown addr len)) (old g) (new g)
+IsUpdated _ old new = (g : ℕ) → new g ≡ old g
 
 -- the bytes that are unknown lie below 2^52
 abbrev pub HasLength : EventKind → Type 0

@@ -7,7 +7,7 @@ use Rattle.chi_search.specs.Frontiers.{Follows}
 use Rattle.chi_search.specs.Layers.{SomeLeads}
 use Rattle.chi_trace.specs.declared.operation.Operation.{Operation}
 use Rattle.chi_watch.specs.Followed.{IsWord}
-use Rattle.chi_watch.specs.Requests.{granule_asked}
+use Rattle.chi_watch.specs.Requests.{granule_of_request}
 use Rattle.chi_watch.specs.declared.followed.Followed.{Followed}
 
 -- the granule is listed: as one that no order explains, or as one of which that is not decided
@@ -21,10 +21,10 @@ TakesOpen start (Some f) = (f.frontier.horizon ≤ start) × (f.frontier.latest 
 
 -- an outstanding request's operation can be told, once its data have come
 pub record CanClose (granules : ℕ → Option Followed) (p : Open) : Type 0 where
-  pub at : IfSome p.access (λ access. access.addr ≡ p.asked.addr)
+  pub at : IfSome p.access (λ access. access.addr ≡ p.fields.addr)
   pub within : IfSome p.access (λ access. access.addr + access.len ≤ 2 ^ 52)
   pub lasting : p.start ≤ 2 ^ 64 - 1
-  pub takes : TakesOpen p.start (granules (granule_asked p))
+  pub takes : TakesOpen p.start (granules (granule_of_request p))
 
 -- these operations more were told to the granule's search, where all that wrote to the granule is told
 pub record AreTold (ops : List Operation) (old new : Followed) : Type 0 where

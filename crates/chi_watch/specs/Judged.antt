@@ -8,7 +8,7 @@ use Rattle.chi_events.specs.Operations.{operations}
 use Rattle.chi_trace.specs.Explains.{Explains}
 use Rattle.chi_trace.specs.Granules.{granule_of}
 use Rattle.chi_trace.specs.declared.operation.Operation.{Operation}
-use Rattle.chi_trace.specs.Words.{memory_of, told}
+use Rattle.chi_trace.specs.Words.{find_word, memory_of}
 use Rattle.chi_trace.specs.declared.words.GranuleWord.{GranuleWord}
 
 -- a word that is told before a granule's first request
@@ -41,7 +41,7 @@ judged events = filter (λ op. is_known events (granule_of op)) (operations even
 
 -- the word that was told of a granule at the end
 abbrev pub final_of : List Event → ℕ → Option ℕ
-final_of events g = if is_known events g then told (final_words events) g else None
+final_of events g = if is_known events g then find_word (final_words events) g else None
 
 -- the order explains the operations that are judged, and leaves the words that were told at the end
 abbrev pub IsExplainedBy : List Event → List ℕ → Type 0

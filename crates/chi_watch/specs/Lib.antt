@@ -4,7 +4,7 @@ pub mod Changes
 pub mod Counts
 pub mod Endings
 pub mod Faults
-pub mod Listing
+pub mod ListedAs
 pub mod Quiet
 pub mod Reaching
 pub mod Requests

@@ -8,7 +8,7 @@ use Rattle.chi_recent.specs.Recent.{RecentValue}
 use Rattle.chi_recent.specs.declared.reach.Reach.{Reach}
 use Rattle.chi_recent.specs.declared.reach.Reach.TheVariants.{Whole, Stops, Undecided}
 use Rattle.chi_trace.specs.declared.operation.Operation.{Operation}
-use Rattle.chi_trace.specs.Words.{told, word_told}
+use Rattle.chi_trace.specs.Words.{find_word, word_or_zero}
 use Rattle.chi_watch.specs.Judged.{final_words, openings}
 use Rattle.chi_watch.specs.Watches.{IsUnexplained}
 use Rattle.chi_watch.specs.declared.ending.FoundAtEnd.{FoundAtEnd}
@@ -22,7 +22,7 @@ IsReachIn trace g w Undecided = Unit {0}
 
 -- those that the events tell, from its word at the opening on
 abbrev pub IsReach : List Event → ℕ → Reach → Type 0
-IsReach events g reach = IsReachIn (operations events) g (word_told (openings events) g) reach
+IsReach events g reach = IsReachIn (operations events) g (word_or_zero (openings events) g) reach
 
 -- those of which the last are kept, in whichever trace they are
 abbrev pub ReachesBy : RecentValue → Reach → Type 0
@@ -48,5 +48,5 @@ granules_of found = map (λ f. f.granule) found
 -- No order explains the granule. The word is the one that was told of it at the end, and its operations can be explained so far.
 pub record IsFoundAtEnd (events : List Event) (found : FoundAtEnd) : Type 0 where
   pub unexplained : IsUnexplained events found.granule
-  pub final_word : found.final_word ≡ told (final_words events) found.granule
+  pub final_word : found.final_word ≡ find_word (final_words events) found.granule
   pub reach : IsReach events found.granule found.reach

@@ -13,16 +13,16 @@ use Rattle.chi_events.specs.declared.event.EventKind.TheVariants.{Request, Word,
 use Rattle.chi_recent.specs.Recent.{Keeps}
 use Rattle.chi_search.specs.Frontiers.{Follows}
 use Rattle.chi_search.specs.Layers.{SomeLeads}
-use Rattle.chi_trace.specs.Chosen.{is_in}
+use Rattle.chi_trace.specs.AtPlaces.{is_in}
 use Rattle.chi_trace.specs.Granules.{ExplainsGranule}
 use Rattle.chi_trace.specs.declared.operation.Operation.{Operation}
-use Rattle.chi_trace.specs.Words.{told, word_told}
+use Rattle.chi_trace.specs.Words.{find_word, word_or_zero}
 use Rattle.chi_watch.specs.declared.followed.Followed.{Followed}
 use Rattle.chi_watch.specs.declared.fault.WatchFault.{WatchFault}
 use Rattle.chi_watch.specs.declared.fault.WatchFault.TheVariants as fault
 use Rattle.chi_watch.specs.Faults.{as_watch_fault}
 use Rattle.chi_watch.specs.Followed.{IsWord}
-use Rattle.chi_watch.specs.Requests.{StartsBy, granule_asked}
+use Rattle.chi_watch.specs.Requests.{StartsBy, granule_of_request}
 use Rattle.chi_watch.specs.Judged.{IsExplainedBy, final_of, final_words, is_known, openings}
 
 -- the requests that are outstanding, each granule of which something was told, and how many operations had ended: 2^64 - 1 stands
@@ -40,21 +40,21 @@ granule w g = lookup (is_at (nat_cmp g)) w.granules
 -- word at the opening on, and the last of them are kept.
 pub record IsWatched (events : List Event) (ended : List Operation) (o : OutstandingValue) (g : ℕ) (f : Followed) : Type 0 where
   pub known : f.is_known ≡ is_known events g
-  pub follows : IsTrue f.is_known → Follows (word_told (openings events) g ∷ []) (filter (is_in g) ended) f.frontier
+  pub follows : IsTrue f.is_known → Follows (word_or_zero (openings events) g ∷ []) (filter (is_in g) ended) f.frontier
   pub latest : f.frontier.latest ≤ o.time
   pub past : f.frontier.horizon ≤ o.time
   pub horizon : StartsBy o.requests g f.frontier.horizon
-  pub recent : IsTrue f.is_known → Keeps (word_told (openings events) g ∷ []) (filter (is_in g) ended) o.time f.recent
+  pub recent : IsTrue f.is_known → Keeps (word_or_zero (openings events) g ∷ []) (filter (is_in g) ended) o.time f.recent
   pub recent_past : f.recent.horizon ≤ o.time
   pub recent_horizon : StartsBy o.requests g f.recent.horizon
-  pub final_word : f.final_word ≡ told (final_words events) g
+  pub final_word : f.final_word ≡ find_word (final_words events) g
 
 -- nothing was told of the granule
 pub record IsUntold (events : List Event) (ended : List Operation) (g : ℕ) : Type 0 where
   pub known : is_known events g ≡ true
   pub none : filter (is_in g) ended ≡ []
-  pub opening : told (openings events) g ≡ None
-  pub final_word : told (final_words events) g ≡ None
+  pub opening : find_word (openings events) g ≡ None
+  pub final_word : find_word (final_words events) g ≡ None
 
 abbrev pub IsGranuleOf : List Event → List Operation → OutstandingValue → ℕ → Option Followed → Type 0
 IsGranuleOf events ended o g None = IsUntold events ended g
@@ -65,7 +65,7 @@ pub record Watches (events : List Event) (ended : List Operation) (w : WatchValu
   pub tells : Tells events ended w.outstanding
   pub time : w.outstanding.time < 2 ^ 64
   pub each : (g : ℕ) → IsGranuleOf events ended w.outstanding g (granule w g)
-  pub requested : All (λ p. IsTrue (is_some (granule w (granule_asked p)))) w.outstanding.requests
+  pub requested : All (λ p. IsTrue (is_some (granule w (granule_of_request p)))) w.outstanding.requests
   pub count : w.ended ≡ min (length ended) (2 ^ 64 - 1)
 
 abbrev pub HasTaken : List Event → WatchValue → Type 0
@@ -75,7 +75,7 @@ HasTaken events w = (ended : List Operation) × Watches events ended w
 -- told at the end.
 pub record IsUnexplained (events : List Event) (g : ℕ) : Type 0 where
   pub known : is_known events g ≡ true
-  pub none : (order : List ℕ) → ExplainsGranule (operations events) g (word_told (openings events) g) (final_of events g) order → ⊥
+  pub none : (order : List ℕ) → ExplainsGranule (operations events) g (word_or_zero (openings events) g) (final_of events g) order → ⊥
   pub whole : (order : List ℕ) → IsExplainedBy events order → ⊥
 
 -- All that wrote to the granule is told, no request of it is outstanding, and its search goes on to no word.
@@ -83,7 +83,7 @@ pub record IsFound (w : WatchValue) (g : ℕ) : Type 0 where
   pub followed : Followed
   pub is : granule w g ≡ Some followed
   pub known : IsTrue followed.is_known
-  pub quiet : list_any (λ p. granule_asked p == g) w.outstanding.requests ≡ false
+  pub quiet : list_any (λ p. granule_of_request p == g) w.outstanding.requests ≡ false
   pub none : (words : List ℕ) (told : List Operation) → Follows words told followed.frontier → (v : ℕ) → SomeLeads told words v → IsWord followed.final_word v → ⊥
 
 -- why the granules do not take an event
@@ -92,15 +92,15 @@ has_final_word None = false
 has_final_word (Some f) = is_some f.final_word
 
 abbrev pub final_fault : Bool → Bool → Option WatchFault
-final_fault told outstanding = if told then Some fault.FinalTwice else if outstanding then Some fault.FinalEarly else None
+final_fault find_word outstanding = if find_word then Some fault.FinalTwice else if outstanding then Some fault.FinalEarly else None
 
 abbrev pub length_fault : ℕ → ℕ → Option WatchFault
 length_fault addr len = if nat_lt 0 len && nat_le len 4096 && nat_le (addr + len) (2 ^ 52) then None else Some fault.TooLong
 
 abbrev pub granule_fault : WatchValue → EventKind → Option WatchFault
-granule_fault w (Request r) = if has_final_word (granule w (r.asked.addr / 8)) then Some fault.AfterFinal else None
+granule_fault w (Request r) = if has_final_word (granule w (r.fields.addr / 8)) then Some fault.AfterFinal else None
 granule_fault w (Word told) = if is_some (granule w told.granule) then Some fault.WordLate else None
-granule_fault w (Final told) = final_fault (has_final_word (granule w told.granule)) (list_any (λ p. granule_asked p == told.granule) w.outstanding.requests)
+granule_fault w (Final told) = final_fault (has_final_word (granule w told.granule)) (list_any (λ p. granule_of_request p == told.granule) w.outstanding.requests)
 granule_fault w (Unknown addr len) = length_fault addr len
 granule_fault w _ = None
 

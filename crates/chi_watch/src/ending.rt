@@ -7,7 +7,7 @@ ghost use Rattle.chi_events.specs.Outstanding.{open_operation};
 ghost use Rattle.chi_events.specs.declared.event.Event.{Event};
 ghost use Rattle.chi_search.specs.Looks.{LookedAtLeast, LookedSome};
 ghost use Rattle.chi_recent.specs.Reaches.{IfUndecided};
-ghost use Rattle.chi_trace.specs.Chosen.{is_in};
+ghost use Rattle.chi_trace.specs.AtPlaces.{is_in};
 ghost use Rattle.chi_watch.specs.Endings.{AreToldTo, CanClose, IsListed};
 ghost use Rattle.chi_watch.specs.Judged.{IsExplained, is_known};
 ghost use Rattle.chi_watch.specs.Quiet.{CanBeExplained};
@@ -16,14 +16,14 @@ ghost use Rattle.chi_watch.specs.Watches.{HasTaken};
 
 use crate::followed::Followed;
 use crate::granules::close;
-use crate::listing::judge_all;
+use crate::judge_all::judge_all;
 use crate::reaching::reach_of;
 use crate::watch::Watch;
 use chi_events::Open;
 use chi_events::laws::operations_are_told;
 use chi_recent::Reach;
 use chi_search::Progress;
-use chi_trace::laws::{granules_explain, granules_told, parts_explain};
+use chi_trace::laws::{granules_explain, granules_stand_alone, parts_explain};
 use std::alloc::{AllocError, Global};
 use std::collections::BTreeMap;
 
@@ -133,7 +133,7 @@ impl Watch {
         ensures looked { IfOk result (λ _. LookedSome P.looked progress.old progress.new) }
     {
         operations_are_told();
-        granules_told();
+        granules_stand_alone();
         parts_explain();
         granules_explain();
         let mut granules = self.granules;

@@ -7,10 +7,10 @@ mod ending;
 mod fault;
 mod followed;
 mod granules;
-mod listing;
-mod noting;
+mod judge_all;
 mod quiet;
 mod reaching;
+mod update_granules;
 mod watch;
 
 pub use counts::Counts;

@@ -2,7 +2,7 @@
 
 ghost use Rattle.std.specs.Prelude.{◌≡◌, ◌+◌, ◌^◌, ◌≤◌, ◌==◌, ◌&&◌, nat_le, nat_lt};
 ghost use Rattle.std.specs.List.{list_any};
-ghost use Rattle.chi_watch.specs.Requests.{StartsBy, granule_asked};
+ghost use Rattle.chi_watch.specs.Requests.{StartsBy, granule_of_request};
 
 use chi_events::Open;
 
@@ -13,7 +13,7 @@ pub(crate) fn earliest(requests: &[Open], granule: u64, time: u64) -> u64
 {
     let mut least = time;
     for request in requests {
-        if request.asked.addr / 8 == granule {
+        if request.fields.addr / 8 == granule {
             least = least.min(request.start);
         }
     }
@@ -22,11 +22,11 @@ pub(crate) fn earliest(requests: &[Open], granule: u64, time: u64) -> u64
 
 /// Whether a request of the granule is outstanding.
 pub(crate) fn is_open(requests: &[Open], granule: u64) -> bool
-    ensures { result ≡ list_any (λ p. granule_asked p == granule) requests.now }
+    ensures { result ≡ list_any (λ p. granule_of_request p == granule) requests.now }
 {
     requests
         .iter()
-        .any(|request| request.asked.addr / 8 == granule)
+        .any(|request| request.fields.addr / 8 == granule)
 }
 
 /// Whether this is a length from 1 to 4,096 of bytes below 2^52.

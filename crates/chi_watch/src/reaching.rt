@@ -6,7 +6,7 @@ ghost use Rattle.chi_events.specs.declared.event.Event.{Event};
 ghost use Rattle.chi_search.specs.Looks.{LookedAtLeast, LookedSome};
 ghost use Rattle.chi_recent.specs.Reaches.{IfUndecided};
 ghost use Rattle.chi_watch.specs.Reaching.{IsOfSomeTrace, IsReach, ReachesBy};
-ghost use Rattle.chi_watch.specs.Requests.{granule_asked};
+ghost use Rattle.chi_watch.specs.Requests.{granule_of_request};
 ghost use Rattle.chi_watch.specs.Watches.{HasTaken, IsUnexplained};
 
 use crate::followed::Followed;
@@ -14,7 +14,7 @@ use crate::watch::Watch;
 use chi_events::laws::operations_are_told;
 use chi_recent::Reach;
 use chi_search::Progress;
-use chi_trace::laws::granules_told;
+use chi_trace::laws::granules_stand_alone;
 use std::alloc::{AllocError, Global};
 
 /// How far the operations that were told of a granule can be explained.
@@ -46,11 +46,11 @@ impl Watch {
         progress: &mut P,
     ) -> Result<Reach, AllocError>
         ensures right { IfOk result (λ reach. (events : List Event) → HasTaken events self.now → IsReach events granule reach) }
-        ensures undecided { IfOk result (λ reach. IfUndecided reach (list_any (λ p. granule_asked p == granule) self.now.outstanding.requests ≡ false → (events : List Event) → HasTaken events self.now → IsUnexplained events granule → LookedAtLeast P.looked progress.old progress.new budget)) }
+        ensures undecided { IfOk result (λ reach. IfUndecided reach (list_any (λ p. granule_of_request p == granule) self.now.outstanding.requests ≡ false → (events : List Event) → HasTaken events self.now → IsUnexplained events granule → LookedAtLeast P.looked progress.old progress.new budget)) }
         ensures looked { IfOk result (λ _. LookedSome P.looked progress.old progress.new) }
     {
         operations_are_told();
-        granules_told();
+        granules_stand_alone();
         let _requests = self.outstanding.requests();
         let Some(followed) = self.granules.get(&granule) else {
             return Ok(Reach::Undecided);

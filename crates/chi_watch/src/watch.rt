@@ -8,19 +8,19 @@ ghost use Rattle.chi_watch.specs.Endings.{IsExplainable};
 ghost use Rattle.chi_watch.specs.Judged.{is_known};
 ghost use Rattle.chi_search.specs.Looks.{LookedAtLeast, LookedSome};
 ghost use Rattle.chi_watch.specs.Quiet.{BecomesQuiet, CanBeExplained, granule_about};
-ghost use Rattle.chi_watch.specs.Requests.{granule_asked};
+ghost use Rattle.chi_watch.specs.Requests.{granule_of_request};
 ghost use Rattle.chi_watch.specs.Watches.{HasTaken, IsFound, IsUnexplained, fault_of, granule as granule_of, granule_fault, has_final_word};
 
 use crate::ended::close_ended;
 use crate::fault::WatchFault;
 use crate::followed::{Followed, Standing, judge};
-use crate::noting::note;
 use crate::quiet::{has_length, is_open};
+use crate::update_granules::update_granules;
 use chi_events::laws::operations_are_told;
 use chi_events::{Event, EventKind, Outstanding};
 use chi_search::Progress;
 use chi_trace::Operation;
-use chi_trace::laws::{granules_told, parts_explain};
+use chi_trace::laws::{granules_stand_alone, parts_explain};
 use std::alloc::{AllocError, Global};
 use std::collections::BTreeMap;
 use std::marker::Model;
@@ -88,7 +88,7 @@ impl Watch {
 
     /// Whether a request of the granule is outstanding.
     pub(crate) fn is_open(&self, granule: u64) -> bool
-        ensures { result ≡ list_any (λ p. granule_asked p == granule) self.now.outstanding.requests }
+        ensures { result ≡ list_any (λ p. granule_of_request p == granule) self.now.outstanding.requests }
     {
         is_open(self.outstanding.requests(), granule)
     }
@@ -101,7 +101,7 @@ impl Watch {
     {
         match kind {
             EventKind::Request(request) => {
-                if self.has_final_word(request.asked.addr / 8) {
+                if self.has_final_word(request.fields.addr / 8) {
                     return Err(WatchFault::AfterFinal);
                 }
                 Ok(())
@@ -135,8 +135,8 @@ impl Watch {
     fn granule_about(&self, event: &Event) -> Option<u64>
         ensures { result ≡ granule_about self.now event.now }
     {
-        let asked = self.outstanding.about(event)?;
-        Some(asked.addr / 8)
+        let fields = self.outstanding.about(event)?;
+        Some(fields.addr / 8)
     }
 
     /// Whether all that wrote to the granule is told, no request of it is outstanding, and its search goes on to no word.
@@ -148,7 +148,7 @@ impl Watch {
         progress: &mut P,
     ) -> Result<bool, AllocError>
         ensures found { IfOk result (λ is. IsTrue is → IsFound self.now granule) }
-        ensures none { IfOk result (λ is. is ≡ false → list_any (λ p. granule_asked p == granule) self.now.outstanding.requests ≡ false → IfSome (granule_of self.now granule) (λ f. IsExplainable f ⊎ LookedAtLeast P.looked progress.old progress.new budget)) }
+        ensures none { IfOk result (λ is. is ≡ false → list_any (λ p. granule_of_request p == granule) self.now.outstanding.requests ≡ false → IfSome (granule_of self.now granule) (λ f. IsExplainable f ⊎ LookedAtLeast P.looked progress.old progress.new budget)) }
         ensures looked { IfOk result (λ _. LookedSome P.looked progress.old progress.new) }
     {
         let Some(followed) = self.granules.get(&granule) else {
@@ -177,12 +177,12 @@ impl Watch {
         progress: &mut P,
     ) -> Result<bool, AllocError>
         ensures found { IfOk result (λ is. IsTrue is → (events : List Event) → HasTaken events self.now → IsUnexplained events granule) }
-        ensures quiet { IfOk result (λ is. IsTrue is → list_any (λ p. granule_asked p == granule) self.now.outstanding.requests ≡ false) }
-        ensures judged { IfOk result (λ is. is ≡ false → list_any (λ p. granule_asked p == granule) self.now.outstanding.requests ≡ false → (events : List Event) → HasTaken events self.now → is_known events granule ≡ true → CanBeExplained events granule ⊎ LookedAtLeast P.looked progress.old progress.new budget) }
+        ensures quiet { IfOk result (λ is. IsTrue is → list_any (λ p. granule_of_request p == granule) self.now.outstanding.requests ≡ false) }
+        ensures judged { IfOk result (λ is. is ≡ false → list_any (λ p. granule_of_request p == granule) self.now.outstanding.requests ≡ false → (events : List Event) → HasTaken events self.now → is_known events granule ≡ true → CanBeExplained events granule ⊎ LookedAtLeast P.looked progress.old progress.new budget) }
         ensures looked { IfOk result (λ _. LookedSome P.looked progress.old progress.new) }
     {
         operations_are_told();
-        granules_told();
+        granules_stand_alone();
         parts_explain();
         let _requests = self.outstanding.requests();
         self.is_found(alloc, granule, budget, progress)
@@ -211,7 +211,7 @@ impl Watch {
             budget,
             progress,
         )?;
-        note(alloc, &mut self.granules, &event.kind)?;
+        update_granules(alloc, &mut self.granules, &event.kind)?;
         self.ended = one_more(self.ended, &ended);
         Ok(())
     }

@@ -14,7 +14,7 @@ use Rattle.chi_events.specs.declared.event.Event.{Event}
 use Rattle.chi_events.specs.EventLaws.{OperationsAreTold}
 use Rattle.chi_events.specs.Operations.{operations, refusals_told}
 use Rattle.chi_events.specs.Outstanding.{OutstandingValue, Tells, open_operation}
-use Rattle.chi_events.specs.Told.{told}
+use Rattle.chi_events.specs.RequestEvents.{each_request}
 use Rattle.chi_events.specs.declared.outstanding.Open.{Open}
 use Rattle.chi_event_text.specs.EventText.{event_text}
 use Rattle.chi_watch_text.specs.Lines.{AreEvents, AreLines, AreTold}
@@ -41,7 +41,7 @@ HasRead (Some text) count ended refusals o (Some rest) = AreRead text count ende
 -- nothing was read
 pub none_read : (start : Option (List ℕ)) (o : OutstandingValue) (ended : List Operation) (refusals : List Refusal) → Tells [] [] o → ended ≡ [] → refusals ≡ []
     → HasRead start 0 ended refusals o start
-unfolding AreEvents AreLines told
+unfolding AreEvents AreLines each_request
 none_read None o ended refusals tells none no_refusals = tt
 none_read (Some text) o ended refusals tells none no_refusals = record {
   events = [];
@@ -108,8 +108,8 @@ event_refused (Some text) (Some rest) later count number ended refusals o e faul
 event_refused (Some text) (Some rest) later count number ended refusals o e fault.Memory has here read is = tt
 
 -- operations of a trace are one in every order of their starts
-sorted_trace : (told ops : List Operation) → IsTrace told → IsPermutation told ops → IsNonDecreasingBy (λ (op : Operation). op.start) ops → IsTrace ops
-sorted_trace told ops trace = IsTrace-sorted told ops (λ k d under. rw (get_or_default told k d nothing under) (observed_below told k trace under))
+sorted_trace : (each_request ops : List Operation) → IsTrace each_request → IsPermutation each_request ops → IsNonDecreasingBy (λ (op : Operation). op.start) ops → IsTrace ops
+sorted_trace each_request ops trace = IsTrace-sorted each_request ops (λ k d under. rw (get_or_default each_request k d nothing under) (observed_below each_request k trace under))
 
 -- those that had ended and those that are open, once they are sorted
 pub all_in_order : OperationsAreTold → (events : List Event) (ended all ops : List Operation) (o : OutstandingValue) → Tells events ended o

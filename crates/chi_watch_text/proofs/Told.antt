@@ -15,12 +15,12 @@ use Rattle.chi_recent.specs.declared.reach.Reach.{Reach}
 use Rattle.chi_watch.proofs.Reached.{undecided_weaker}
 use Rattle.chi_watch.specs.Reaching.{IsFoundAtEnd}
 use Rattle.chi_watch.specs.Watches.{HasTaken, IsUnexplained, WatchValue}
-use Rattle.chi_watch_text.specs.Found.{is_found, with_quiet}
+use Rattle.chi_watch_text.specs.FoundGranule.{is_found, with_quiet}
 use Rattle.chi_watch_text.specs.Lines.{AreEvents, AreLines, AreTold}
 use Rattle.chi_watch_text.specs.declared.fault.LinesFault.{LinesFault}
 use Rattle.chi_watch_text.specs.declared.fault.LinesFault.TheVariants as fault
 use Rattle.chi_watch_text.specs.declared.quiet.Quiet.{Quiet}
-use Rattle.chi_watch_text.specs.declared.watched.Found.{Found}
+use Rattle.chi_watch_text.specs.declared.watched.FoundGranule.{FoundGranule}
 use Rattle.chi_watch_text.specs.declared.watched.Watched.{Watched}
 use Rattle.chi_watch_text.specs.Outcomes.{AreUnreached, EndsAt, HasTakenLines, IsEventFault, IsFoundBy, IsOutcome, IsPast, IsQuietBy, IsSeenBy, IsSettled, IsStillFound, IsTold, IsUnreached, IsWatched, ReachedBy, SaysAtEnd, SaysOf, TakesEvent, WentBy}
 use Rattle.chi_watch_text.specs.Reading.{IsRead, IsRefused}
@@ -52,7 +52,7 @@ told_more text count events rest e told some is = record {
 }
 
 -- nothing was read
-pub none_taken : (start : Option (List ℕ)) (w : WatchValue) (found : List Found) (quiet : List Quiet) → HasTaken [] w → found ≡ [] → quiet ≡ [] → HasTakenLines start 0 0 found quiet w start
+pub none_taken : (start : Option (List ℕ)) (w : WatchValue) (found : List FoundGranule) (quiet : List Quiet) → HasTaken [] w → found ≡ [] → quiet ≡ [] → HasTakenLines start 0 0 found quiet w start
 unfolding AreEvents AreLines
 none_taken None w found quiet has none calm = tt
 none_taken (Some text) w found quiet has none calm = record {
@@ -71,35 +71,35 @@ latest events e w has k d below =
     (has.1.tells.in_time k (length events) d (omega (arith, below, length-append events (e ∷ []))) (omega (arith, length-append events (e ∷ []))))
 
 -- Each granule is found once.
-found_once : (it : Found) (found : List Found) → is_found it.granule found ≡ false → AllPairs (λ a b. a.granule ≢ b.granule) found → AllPairs (λ a b. a.granule ≢ b.granule) (found ++ it ∷ [])
-found_once it found is once = all_pairs_push (λ (x y : Found). x.granule ≢ y.granule) found it once (others found is)
+found_once : (it : FoundGranule) (found : List FoundGranule) → is_found it.granule found ≡ false → AllPairs (λ a b. a.granule ≢ b.granule) found → AllPairs (λ a b. a.granule ≢ b.granule) (found ++ it ∷ [])
+found_once it found is once = all_pairs_push (λ (x y : FoundGranule). x.granule ≢ y.granule) found it once (others found is)
   where
-    others : (l : List Found) → is_found it.granule l ≡ false → All (λ (x : Found). x.granule ≢ it.granule) l
-    others [] none = All-nil (λ (x : Found). x.granule ≢ it.granule)
+    others : (l : List FoundGranule) → is_found it.granule l ≡ false → All (λ (x : FoundGranule). x.granule ≢ it.granule) l
+    others [] none = All-nil (λ (x : FoundGranule). x.granule ≢ it.granule)
     others (f ∷ l) none = by_head (f.granule == it.granule) refl none (others l)
       where
-        by_head : (b : Bool) → (f.granule == it.granule) ≡ b → (b || is_found it.granule l) ≡ false → (is_found it.granule l ≡ false → All (λ (x : Found). x.granule ≢ it.granule) l)
-            → All (λ (x : Found). x.granule ≢ it.granule) (f ∷ l)
+        by_head : (b : Bool) → (f.granule == it.granule) ≡ b → (b || is_found it.granule l) ≡ false → (is_found it.granule l ≡ false → All (λ (x : FoundGranule). x.granule ≢ it.granule) l)
+            → All (λ (x : FoundGranule). x.granule ≢ it.granule) (f ∷ l)
         by_head true same none rest = absurd (true≢false none)
-        by_head false other none rest = All-cons (λ (x : Found). x.granule ≢ it.granule) f l (λ same. true≢false (sym (eq-eqb f.granule it.granule same) ∙ other)) (rest none)
+        by_head false other none rest = All-cons (λ (x : FoundGranule). x.granule ≢ it.granule) f l (λ same. true≢false (sym (eq-eqb f.granule it.granule same) ∙ other)) (rest none)
 
 -- those that were looked at are settled
-pub still_first : (w : WatchValue) (quiet : List Quiet) (found : List Found) → All (IsStillFound w quiet found) found
+pub still_first : (w : WatchValue) (quiet : List Quiet) (found : List FoundGranule) → All (IsStillFound w quiet found) found
 still_first w quiet found = All-weaker (Contains found) (IsStillFound w quiet found) (λ f here. inl here) found (All-contains_itself found)
 
-pub still_more : (w : WatchValue) (quiet : List Quiet) (found before after : List Found) (i : ℕ) (d : Quiet) → i < length quiet → IsSettled w (get_or quiet i d) before after
+pub still_more : (w : WatchValue) (quiet : List Quiet) (found before after : List FoundGranule) (i : ℕ) (d : Quiet) → i < length quiet → IsSettled w (get_or quiet i d) before after
     → All (IsStillFound w quiet found) before → All (IsStillFound w quiet found) after
 still_more w quiet found before after i d below (inl same) all = subst (All (IsStillFound w quiet found)) (sym same) all
 still_more w quiet found before after i d below (inr (f, is, other, noted)) all =
     subst (All (IsStillFound w quiet found)) (sym is) (All-push (IsStillFound w quiet found) before f all (inr (get_or quiet i d, Contains-get_or quiet i d below, noted)))
 
-pub once_more : (w : WatchValue) (q : Quiet) (before after : List Found) → IsSettled w q before after → AllPairs (λ a b. a.granule ≢ b.granule) before → AllPairs (λ a b. a.granule ≢ b.granule) after
-once_more w q before after (inl same) once = subst (AllPairs (λ (x y : Found). x.granule ≢ y.granule)) (sym same) once
-once_more w q before after (inr (f, is, other, noted)) once = subst (AllPairs (λ (x y : Found). x.granule ≢ y.granule)) (sym is) (found_once f before other once)
+pub once_more : (w : WatchValue) (q : Quiet) (before after : List FoundGranule) → IsSettled w q before after → AllPairs (λ a b. a.granule ≢ b.granule) before → AllPairs (λ a b. a.granule ≢ b.granule) after
+once_more w q before after (inl same) once = subst (AllPairs (λ (x y : FoundGranule). x.granule ≢ y.granule)) (sym same) once
+once_more w q before after (inr (f, is, other, noted)) once = subst (AllPairs (λ (x y : FoundGranule). x.granule ≢ y.granule)) (sym is) (found_once f before other once)
 
 module _ {P : Type 0} (w : WatchValue) (looked : P → ℕ → Type 0) where
   -- what is said of how far those can be explained that are found more
-  pub unreached_same : (old new : P) (budget : ℕ) (before after : List Found) → after ≡ before → AreUnreached w looked old new budget before after
+  pub unreached_same : (old new : P) (budget : ℕ) (before after : List FoundGranule) → after ≡ before → AreUnreached w looked old new budget before after
   unreached_same old new budget before after same events has =
       subst (All (λ f. Contains before f ⊎ IsUnreached looked old new budget f.reach)) (sym same)
       (All-weaker (Contains before) (λ f. Contains before f ⊎ IsUnreached looked old new budget f.reach) (λ f here. inl here) before (All-contains_itself before))
@@ -110,28 +110,28 @@ module _ {P : Type 0} (w : WatchValue) (looked : P → ℕ → Type 0) where
       undecided_weaker reach (λ whole. at_least_before looked old new last budget (at_least_after looked old middle new budget first whole) further) is
 
   -- some, and then others
-  pub unreached_more : (old middle new : P) (budget : ℕ) (before between after : List Found) → LookedSome looked old middle → LookedSome looked middle new
+  pub unreached_more : (old middle new : P) (budget : ℕ) (before between after : List FoundGranule) → LookedSome looked old middle → LookedSome looked middle new
       → AreUnreached w looked old middle budget before between → AreUnreached w looked middle new budget between after → AreUnreached w looked old new budget before after
   unreached_more old middle new budget before between after some more first further events has =
       All-weaker (λ f. Contains between f ⊎ IsUnreached looked middle new budget f.reach) (λ f. Contains before f ⊎ IsUnreached looked old new budget f.reach)
       (λ f is. by_side f is) after (further events has)
     where
-      passed : (f : Found) → Contains before f ⊎ IsUnreached looked old middle budget f.reach → Contains before f ⊎ IsUnreached looked old new budget f.reach
+      passed : (f : FoundGranule) → Contains before f ⊎ IsUnreached looked old middle budget f.reach → Contains before f ⊎ IsUnreached looked old new budget f.reach
       passed f (inl here) = inl here
       passed f (inr is) = inr (unreached_wider old old middle new budget f.reach (looked_none looked old) more is)
 
-      by_side : (f : Found) → Contains between f ⊎ IsUnreached looked middle new budget f.reach → Contains before f ⊎ IsUnreached looked old new budget f.reach
+      by_side : (f : FoundGranule) → Contains between f ⊎ IsUnreached looked middle new budget f.reach → Contains before f ⊎ IsUnreached looked old new budget f.reach
       by_side f (inl here) = passed f (All-contains (λ x. Contains before x ⊎ IsUnreached looked old middle budget x.reach) between f (first events has) here)
       by_side f (inr is) = inr (unreached_wider old middle new new budget f.reach some (looked_none looked new) is)
 
   -- so of each that is found, and of each found before
-  pub unreached_all : (old middle new last : P) (budget : ℕ) (before after : List Found) → LookedSome looked old middle → LookedSome looked middle new → LookedSome looked new last
+  pub unreached_all : (old middle new last : P) (budget : ℕ) (before after : List FoundGranule) → LookedSome looked old middle → LookedSome looked middle new → LookedSome looked new last
       → (events : List Event) → HasTaken events w → AreUnreached w looked middle new budget before after
       → All (λ f. IsUnreached looked old middle budget f.reach) before → All (λ f. IsUnreached looked old last budget f.reach) after
   unreached_all old middle new last budget before after some more rest events has further all =
       All-weaker (λ f. Contains before f ⊎ IsUnreached looked middle new budget f.reach) (λ f. IsUnreached looked old last budget f.reach) (λ f is. by_side f is) after (further events has)
     where
-      by_side : (f : Found) → Contains before f ⊎ IsUnreached looked middle new budget f.reach → IsUnreached looked old last budget f.reach
+      by_side : (f : FoundGranule) → Contains before f ⊎ IsUnreached looked middle new budget f.reach → IsUnreached looked old last budget f.reach
       by_side f (inl here) = unreached_wider old old middle last budget f.reach (looked_none looked old) (some_after looked middle new last more rest)
           (All-contains (λ x. IsUnreached looked old middle budget x.reach) before f all here)
       by_side f (inr is) = unreached_wider old middle new last budget f.reach some rest is
@@ -156,7 +156,7 @@ quiet_noted P (Some g) line quiet all one =
     All-push P (filter (λ q. not (q.granule == g)) quiet) (record { granule = g; line = line }) (All-filter (λ q. not (q.granule == g)) P quiet all) one
 
 -- one event more was taken
-pub event_taken : (start now later : Option (List ℕ)) (count line time : ℕ) (found : List Found) (quiet after : List Quiet) (old new : WatchValue) (e : Event) (seen : Option ℕ)
+pub event_taken : (start now later : Option (List ℕ)) (count line time : ℕ) (found : List FoundGranule) (quiet after : List Quiet) (old new : WatchValue) (e : Event) (seen : Option ℕ)
     → HasTakenLines start count time found quiet old now → IfSome now (λ text. IsRead line text (Some e) later) → TakesEvent old e new seen → line ≡ count + 1 → after ≡ with_quiet seen line quiet
     → HasTakenLines start line e.time found after new later
 event_taken None now later count line time found quiet after old new e seen has next takes here is = tt
@@ -189,7 +189,7 @@ past count number events time rest (Some e) later here times (some, tells, left)
     inr (e, subst (λ n. event_text n (take_through 10 rest) ≡ Ok e) here tells, All-weaker (λ d. d.time ≤ time) (λ d. d.time < e.time) (λ d le. omega (arith, le, after)) events times)
 
 -- those of a time that is past are found
-pub settled : (start now later : Option (List ℕ)) (count number time : ℕ) (found found_after : List Found) (quiet quiet_after : List Quiet) (w : WatchValue) (next : Option Event) (is_past : Bool)
+pub settled : (start now later : Option (List ℕ)) (count number time : ℕ) (found found_after : List FoundGranule) (quiet quiet_after : List Quiet) (w : WatchValue) (next : Option Event) (is_past : Bool)
     → HasTakenLines start count time found quiet w now → number ≡ count + 1 → IfSome now (λ text. IsRead number text next later) → (is_past ≡ true → IfSome next (λ e. time < e.time))
     → (is_past ≡ false → (found_after ≡ found) × (quiet_after ≡ quiet)) → (is_past ≡ true → quiet_after ≡ []) → (is_past ≡ true → All (IsStillFound w quiet found) found_after)
     → HasTakenLines start count time found_after quiet_after w now
@@ -212,7 +212,7 @@ settled (Some text) (Some rest) later count number time found found_after quiet 
   quiet_by = subst (All (IsQuietBy text)) (sym (cleared refl)) (All-nil (IsQuietBy text));
 }
   where
-    is_found_by : (f : Found) → IsStillFound w quiet found f → IsFoundBy text f
+    is_found_by : (f : FoundGranule) → IsStillFound w quiet found f → IsFoundBy text f
     is_found_by f (inl before) = All-contains (IsFoundBy text) found f has.found_by before
     is_found_by f (inr (q, calm, noted)) = record {
       seen = subst (λ g. IsSeenBy text g f.line) (sym noted.granule) (subst (IsSeenBy text q.granule) (sym noted.line) (All-contains (IsQuietBy text) quiet q has.quiet_by calm));
@@ -226,7 +226,7 @@ settled (Some text) (Some rest) later count number time found found_after quiet 
     }
 
 -- where it does not keep going none is found before it stops
-pub none_found : (is_past stop going : Bool) (found after : List Found) → (going ≡ false → found ≡ []) → (is_past ≡ false → after ≡ found) → stop ≡ false
+pub none_found : (is_past stop going : Bool) (found after : List FoundGranule) → (going ≡ false → found ≡ []) → (is_past ≡ false → after ≡ found) → stop ≡ false
     → (stop ≡ false → is_past ≡ true → going ≡ false → after ≡ []) → going ≡ false → after ≡ []
 none_found true stop going found after first waits goes none ends = none goes refl ends
 none_found false stop going found after first waits goes none ends = waits refl ∙ first ends
@@ -240,7 +240,7 @@ says_of w events has ending says = record {
 }
 
 -- what is said of the text where it ends at its end
-pub at_end : (start now later : Option (List ℕ)) (count number time : ℕ) (found : List Found) (quiet : List Quiet) (going : Bool) (w : WatchValue) (watched : Watched) → HasTakenLines start count time found quiet w now
+pub at_end : (start now later : Option (List ℕ)) (count number time : ℕ) (found : List FoundGranule) (quiet : List Quiet) (going : Bool) (w : WatchValue) (watched : Watched) → HasTakenLines start count time found quiet w now
     → IfSome now (λ text. IsRead number text None later) → AllPairs (λ a b. a.granule ≢ b.granule) found → (going ≡ false → found ≡ []) → IsTold w found watched → watched.ending ≢ None
     → IfSome watched.ending (SaysAtEnd w) → IfSome start (λ text. IsWatched text going watched)
 at_end None now later count number time found quiet going w watched has read once first told some says = tt
@@ -251,7 +251,7 @@ at_end (Some text) (Some rest) later count number time found quiet going w watch
   rest = [];
   told = subst (AreTold text count has.events) read has.told;
   found = subst (All (IsFoundBy text)) (sym told.found_is) has.found_by;
-  once = subst (AllPairs (λ (x y : Found). x.granule ≢ y.granule)) (sym told.found_is) once;
+  once = subst (AllPairs (λ (x y : FoundGranule). x.granule ≢ y.granule)) (sym told.found_is) once;
   ends = subst (λ l. EndsAt going count [] has.events l watched.ending) (sym told.found_is) (by_ending watched.ending some says);
   counted = told.counted has.events has.taken;
   watch = w;
@@ -265,7 +265,7 @@ at_end (Some text) (Some rest) later count number time found quiet going w watch
     by_ending (Some ending) is_some said = (refl, says_of w has.events has.taken ending said, first)
 
 -- what is said of the text where it stops
-pub at_stop : (start now later : Option (List ℕ)) (count number time : ℕ) (found : List Found) (quiet : List Quiet) (going is_past : Bool) (w : WatchValue) (next : Option Event) (watched : Watched)
+pub at_stop : (start now later : Option (List ℕ)) (count number time : ℕ) (found : List FoundGranule) (quiet : List Quiet) (going is_past : Bool) (w : WatchValue) (next : Option Event) (watched : Watched)
     → HasTakenLines start count time found quiet w now → number ≡ count + 1 → IfSome now (λ text. IsRead number text next later) → (is_past ≡ true → IfSome next (λ e. time < e.time))
     → AllPairs (λ a b. a.granule ≢ b.granule) found → (is_past ≡ true) × (going ≡ false) × (0 < length found) → IsTold w found watched → watched.ending ≡ None
     → IfSome start (λ text. IsWatched text going watched)
@@ -277,7 +277,7 @@ at_stop (Some text) (Some rest) later count number time found quiet going is_pas
   rest = rest;
   told = has.told;
   found = subst (All (IsFoundBy text)) (sym told.found_is) has.found_by;
-  once = subst (AllPairs (λ (x y : Found). x.granule ≢ y.granule)) (sym told.found_is) once;
+  once = subst (AllPairs (λ (x y : FoundGranule). x.granule ≢ y.granule)) (sym told.found_is) once;
   ends = subst (EndsAt going count rest has.events watched.found.items) (sym none)
       (stops.1, subst (λ l. 0 < length l) (sym told.found_is) stops.2, past count number has.events time rest next later here has.times read (after stops.0));
   counted = told.counted has.events has.taken;
@@ -288,7 +288,7 @@ at_stop (Some text) (Some rest) later count number time found quiet going is_pas
 }
 
 -- what is said of the text where a line tells no event
-pub where_refused : (start now : Option (List ℕ)) (count number time : ℕ) (found : List Found) (quiet : List Quiet) (going : Bool) (w : WatchValue) (f : LinesFault) → HasTakenLines start count time found quiet w now
+pub where_refused : (start now : Option (List ℕ)) (count number time : ℕ) (found : List FoundGranule) (quiet : List Quiet) (going : Bool) (w : WatchValue) (f : LinesFault) → HasTakenLines start count time found quiet w now
     → number ≡ count + 1 → IfSome now (λ text. IsRefused (take_through 10 text) number f) → IfSome start (λ text. IsOutcome text going (Err f))
 where_refused None now count number time found quiet going w f has here is = tt
 where_refused (Some text) None count number time found quiet going w f has here is = absurd has
@@ -299,7 +299,7 @@ where_refused (Some text) (Some rest) count number time found quiet going w faul
 where_refused (Some text) (Some rest) count number time found quiet going w fault.Memory has here is = tt
 
 -- or one whose event is not taken
-pub where_not_taken : (start now later : Option (List ℕ)) (count number time : ℕ) (found : List Found) (quiet : List Quiet) (going : Bool) (w : WatchValue) (e : Event) (f : LinesFault)
+pub where_not_taken : (start now later : Option (List ℕ)) (count number time : ℕ) (found : List FoundGranule) (quiet : List Quiet) (going : Bool) (w : WatchValue) (e : Event) (f : LinesFault)
     → HasTakenLines start count time found quiet w now → number ≡ count + 1 → IfSome now (λ text. IsRead number text (Some e) later) → IsEventFault w e number f → IfSome start (λ text. IsOutcome text going (Err f))
 where_not_taken None now later count number time found quiet going w e f has here read is = tt
 where_not_taken (Some text) None later count number time found quiet going w e f has here read is = absurd has
@@ -326,7 +326,7 @@ undecided_after looked old middle new budget watched some went = by_ending watch
         All-weaker (λ g. LookedAtLeast looked middle new budget) (λ g. LookedAtLeast looked old new budget) (λ g whole. at_least_after looked old middle new budget some whole) ending.undecided.items all
 
 -- and for each of which it is not known how far it can be explained
-pub reached_by_found : {P : Type 0} (looked : P → ℕ → Type 0) (old new : P) (budget : ℕ) (found : List Found) (watched : Watched) → watched.found.items ≡ found
+pub reached_by_found : {P : Type 0} (looked : P → ℕ → Type 0) (old new : P) (budget : ℕ) (found : List FoundGranule) (watched : Watched) → watched.found.items ≡ found
     → All (λ f. IsUnreached looked old new budget f.reach) found → IfSome watched.ending (λ ending. All (λ f. IsUnreached looked old new budget f.reach) ending.unexplained.items)
     → ReachedBy looked old new budget watched
 reached_by_found looked old new budget found watched same all at_end = record {

@@ -1,4 +1,4 @@
-pub mod Found
+pub mod FoundGranule
 pub mod Lines
 pub mod Operations
 pub mod Outcomes

@@ -14,12 +14,12 @@ use Rattle.chi_watch.specs.Quiet.{CanBeExplained}
 use Rattle.chi_watch.specs.Reaching.{IsFoundAtEnd, IsReach, granules_of}
 use Rattle.chi_watch.specs.Watches.{HasTaken, IsUnexplained, WatchValue, fault_of}
 use Rattle.chi_watch.specs.declared.ending.Ending.{Ending}
-use Rattle.chi_watch_text.specs.Found.{is_found}
+use Rattle.chi_watch_text.specs.FoundGranule.{is_found}
 use Rattle.chi_watch_text.specs.Lines.{AreTold}
 use Rattle.chi_watch_text.specs.declared.fault.LinesFault.{LinesFault}
 use Rattle.chi_watch_text.specs.declared.fault.LinesFault.TheVariants as fault
 use Rattle.chi_watch_text.specs.declared.quiet.Quiet.{Quiet}
-use Rattle.chi_watch_text.specs.declared.watched.Found.{Found}
+use Rattle.chi_watch_text.specs.declared.watched.FoundGranule.{FoundGranule}
 use Rattle.chi_watch_text.specs.declared.watched.Watched.{Watched}
 
 -- the watch took the event, and the granule that was answered is one whose operations no order explains
@@ -52,7 +52,7 @@ IsPast count events rest = (rest ≡ []) ⊎ ((e : Event) × (event_text (count 
 
 -- No order explains the granule by the lines up to the one that is named, and none does once all events of that time are told. By
 -- these its operations can be explained so far.
-pub record IsFoundBy (text : List ℕ) (f : Found) : Type 0 where
+pub record IsFoundBy (text : List ℕ) (f : FoundGranule) : Type 0 where
   pub seen : IsSeenBy text f.granule f.line
   pub events : List Event
   pub count : ℕ
@@ -63,26 +63,26 @@ pub record IsFoundBy (text : List ℕ) (f : Found) : Type 0 where
   pub reach : IsReach events f.granule f.reach
 
 -- the granule that became quiet is noted: no order explains it, and its operations can be explained so far
-pub record IsNotedAs (w : WatchValue) (q : Quiet) (f : Found) : Type 0 where
+pub record IsNotedAs (w : WatchValue) (q : Quiet) (f : FoundGranule) : Type 0 where
   pub granule : f.granule ≡ q.granule
   pub line : f.line ≡ q.line
   pub unexplained : (events : List Event) → HasTaken events w → IsUnexplained events f.granule
   pub reach : (events : List Event) → HasTaken events w → IsReach events f.granule f.reach
 
 -- a granule that was found before, or is one of these that became quiet and is still unexplained
-abbrev pub IsStillFound : WatchValue → List Quiet → List Found → Found → Type 0
+abbrev pub IsStillFound : WatchValue → List Quiet → List FoundGranule → FoundGranule → Type 0
 IsStillFound w quiet found f = Contains found f ⊎ ((q : Quiet) × Contains quiet q × IsNotedAs w q f)
 
 -- the granule is noted only where no order explains it, and once
-abbrev pub IsSettled : WatchValue → Quiet → List Found → List Found → Type 0
-IsSettled w q old new = (new ≡ old) ⊎ ((f : Found) × (new ≡ old ++ f ∷ []) × (is_found f.granule old ≡ false) × IsNotedAs w q f)
+abbrev pub IsSettled : WatchValue → Quiet → List FoundGranule → List FoundGranule → Type 0
+IsSettled w q old new = (new ≡ old) ⊎ ((f : FoundGranule) × (new ≡ old ++ f ∷ []) × (is_found f.granule old ≡ false) × IsNotedAs w q f)
 
 -- where it is not known how far a granule can be explained, at least as many states as the budget were looked at
 abbrev pub IsUnreached : {P : Type 0} → (P → ℕ → Type 0) → P → P → ℕ → Reach → Type 0
 IsUnreached looked old new budget reach = IfUndecided reach (LookedAtLeast looked old new budget)
 
 -- so of each granule that is found more, where the watch took some events
-abbrev pub AreUnreached : {P : Type 0} → WatchValue → (P → ℕ → Type 0) → P → P → ℕ → List Found → List Found → Type 0
+abbrev pub AreUnreached : {P : Type 0} → WatchValue → (P → ℕ → Type 0) → P → P → ℕ → List FoundGranule → List FoundGranule → Type 0
 AreUnreached w looked old new budget before after =
     (events : List Event) → HasTaken events w → All (λ f. Contains before f ⊎ IsUnreached looked old new budget f.reach) after
 
@@ -95,7 +95,7 @@ pub record SaysOf (events : List Event) (ending : Ending) : Type 0 where
 
 -- where the reading ends after so many lines: at the end of the text, or, where it does not keep going, once all events are told of
 -- a time at which a granule was found
-abbrev pub EndsAt : Bool → ℕ → List ℕ → List Event → List Found → Option Ending → Type 0
+abbrev pub EndsAt : Bool → ℕ → List ℕ → List Event → List FoundGranule → Option Ending → Type 0
 EndsAt going count rest events found (Some ending) = (rest ≡ []) × SaysOf events ending × (going ≡ false → found ≡ [])
 EndsAt going count rest events found None = (going ≡ false) × (0 < length found) × IsPast count events rest
 
@@ -126,7 +126,7 @@ IsOutcome text going (Err fault.TooManyLines) = Unit {0}
 IsOutcome text going (Err fault.Memory) = Unit {0}
 
 -- what a watch says once its events have ended, or where it stops
-pub record IsTold (w : WatchValue) (found : List Found) (watched : Watched) : Type 0 where
+pub record IsTold (w : WatchValue) (found : List FoundGranule) (watched : Watched) : Type 0 where
   pub found_is : watched.found.items ≡ found
   pub counted : (events : List Event) → HasTaken events w → AreCounted events watched.counts
   pub granules : watched.counts.granules ≡ length w.granules
@@ -140,7 +140,7 @@ pub record SaysAtEnd (w : WatchValue) (ending : Ending) : Type 0 where
 
 -- After so many lines a watch took their events, of which none is later than this time. These granules were found by them, and these
 -- others became quiet at this time. The rest follows.
-pub record AreTaken (text : List ℕ) (count time : ℕ) (found : List Found) (quiet : List Quiet) (watch : WatchValue) (rest : List ℕ) : Type 0 where
+pub record AreTaken (text : List ℕ) (count time : ℕ) (found : List FoundGranule) (quiet : List Quiet) (watch : WatchValue) (rest : List ℕ) : Type 0 where
   pub events : List Event
   pub told : AreTold text count events rest
   pub taken : HasTaken events watch
@@ -149,7 +149,7 @@ pub record AreTaken (text : List ℕ) (count time : ℕ) (found : List Found) (q
   pub quiet_by : All (IsQuietBy text) quiet
 
 -- the same of a text that may not be known
-abbrev pub HasTakenLines : Option (List ℕ) → ℕ → ℕ → List Found → List Quiet → WatchValue → Option (List ℕ) → Type 0
+abbrev pub HasTakenLines : Option (List ℕ) → ℕ → ℕ → List FoundGranule → List Quiet → WatchValue → Option (List ℕ) → Type 0
 HasTakenLines None count time found quiet watch rest = Unit {0}
 HasTakenLines (Some text) count time found quiet watch None = ⊥
 HasTakenLines (Some text) count time found quiet watch (Some rest) = AreTaken text count time found quiet watch rest

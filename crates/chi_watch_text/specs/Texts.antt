@@ -4,19 +4,19 @@ use Rattle.chi_answer.specs.Lines.{granule_line, undecided_line}
 use Rattle.chi_watch.specs.declared.counts.Counts.{Counts}
 use Rattle.chi_watch.specs.declared.ending.Ending.{Ending}
 use Rattle.chi_watch.specs.declared.ending.FoundAtEnd.{FoundAtEnd}
-use Rattle.chi_watch_text.specs.Found.{is_found, verdict_of}
+use Rattle.chi_watch_text.specs.FoundGranule.{is_found, verdict_of}
 use Rattle.chi_watch_text.specs.ReachTexts.{reach_text}
-use Rattle.chi_watch_text.specs.declared.watched.Found.{Found}
+use Rattle.chi_watch_text.specs.declared.watched.FoundGranule.{FoundGranule}
 use Rattle.chi_watch_text.specs.declared.watched.Watched.{Watched}
 use Rattle.chi_watch_text.specs.declared.watched.WatchVerdict.{WatchVerdict}
 use Rattle.chi_watch_text.specs.declared.watched.WatchVerdict.TheVariants.{Explained, Unexplained, Undecided}
 
 -- a granule, how far it can be explained, and the line by which it was found
-unfoldable pub found_text : Found → List ℕ
+unfoldable pub found_text : FoundGranule → List ℕ
 found_text f = granule_line f.granule ++ (reach_text None f.reach ++ (codes "  at line " ++ decimal f.line ++ codes "\n"))
 
 -- one that is not explained at the end, where it was not found before
-unfoldable pub end_text : List Found → FoundAtEnd → List ℕ
+unfoldable pub end_text : List FoundGranule → FoundAtEnd → List ℕ
 end_text found f = if is_found f.granule found then [] else granule_line f.granule ++ (reach_text f.final_word f.reach ++ codes "  at the end\n")
 
 -- one that is not decided
@@ -24,7 +24,7 @@ abbrev pub undecided_text : ℕ → ℕ → List ℕ
 undecided_text budget g = undecided_line g budget
 
 -- what is said at the end
-abbrev pub ending_text : ℕ → List Found → Option Ending → List ℕ
+abbrev pub ending_text : ℕ → List FoundGranule → Option Ending → List ℕ
 ending_text budget found None = []
 ending_text budget found (Some ending) = flat_map (end_text found) ending.unexplained.items ++ flat_map (undecided_text budget) ending.undecided.items
 

@@ -17,5 +17,5 @@ pub use operations::{OperationsTold, read_operations};
 pub use options::WatchOptions;
 pub use progress::WatchProgress;
 pub use text::watched_text;
-pub use watched::{Found, WatchVerdict, Watched};
+pub use watched::{FoundGranule, WatchVerdict, Watched};
 pub use watching::watch_lines;

@@ -3,10 +3,10 @@
 ghost use Rattle.std.specs.Prelude.{◌≡◌, ◌==◌, ◌≢◌, [], true, false, All, not, filter, IfOk};
 ghost use Rattle.std.specs.List.{AllPairs};
 ghost use Rattle.chi_search.specs.Looks.{LookedSome};
-ghost use Rattle.chi_watch_text.specs.Found.{with_quiet};
+ghost use Rattle.chi_watch_text.specs.FoundGranule.{with_quiet};
 ghost use Rattle.chi_watch_text.specs.Outcomes.{AreUnreached, IsSettled, IsStillFound};
 
-use crate::watched::{Found, is_found};
+use crate::watched::{FoundGranule, is_found};
 use chi_search::Progress;
 use chi_watch::Watch;
 use std::alloc::{AllocError, Global};
@@ -49,11 +49,11 @@ pub(crate) fn note_quiet(
 }
 
 /// Notes a granule, where it is still quiet and unexplained and was not noted before.
-fn settle_one<P: Progress>(
+fn judge_one<P: Progress>(
     alloc: Global,
     watch: &Watch,
     it: Quiet,
-    found: &mut Vec<Found>,
+    found: &mut Vec<FoundGranule>,
     budget: u64,
     progress: &mut P,
 ) -> Result<(), AllocError>
@@ -66,7 +66,7 @@ fn settle_one<P: Progress>(
     }
     if watch.is_unexplained(alloc, it.granule, budget, progress)? {
         let reach = watch.reach(alloc, it.granule, budget, progress)?;
-        found.push(Found {
+        found.push(FoundGranule {
             granule: it.granule,
             line: it.line,
             reach,
@@ -76,11 +76,11 @@ fn settle_one<P: Progress>(
 }
 
 /// Notes those that are still quiet and unexplained.
-fn settle_each<P: Progress>(
+fn judge_each<P: Progress>(
     alloc: Global,
     watch: &Watch,
     quiet: &[Quiet],
-    found: &mut Vec<Found>,
+    found: &mut Vec<FoundGranule>,
     budget: u64,
     progress: &mut P,
 ) -> Result<(), AllocError>
@@ -90,18 +90,18 @@ fn settle_each<P: Progress>(
     ensures looked { IfOk result (λ _. LookedSome P.looked progress.old progress.new) }
 {
     for it in quiet {
-        settle_one(alloc, watch, *it, found, budget, progress)?;
+        judge_one(alloc, watch, *it, found, budget, progress)?;
     }
     Ok(())
 }
 
 /// Notes those that are still quiet and unexplained, where all events of their time are told.
-pub(crate) fn settle<P: Progress>(
+pub(crate) fn judge_quiet<P: Progress>(
     alloc: Global,
     watch: &Watch,
     is_past: bool,
     quiet: &mut Vec<Quiet>,
-    found: &mut Vec<Found>,
+    found: &mut Vec<FoundGranule>,
     budget: u64,
     progress: &mut P,
 ) -> Result<(), AllocError>
@@ -115,7 +115,7 @@ pub(crate) fn settle<P: Progress>(
     if !is_past {
         return Ok(());
     }
-    settle_each(alloc, watch, quiet, found, budget, progress)?;
+    judge_each(alloc, watch, quiet, found, budget, progress)?;
     quiet.clear();
     Ok(())
 }

@@ -4,14 +4,14 @@ ghost use Rattle.std.specs.Prelude.{◌≡◌, ◌++◌, IfOk, OnOk, flat_map};
 ghost use Rattle.chi_watch_text.specs.Texts.{answer_text, counts_text, end_text, ending_text, found_text, undecided_text, watched_text};
 
 use crate::reach_lines::add_reach;
-use crate::watched::{Found, WatchVerdict, Watched, is_found};
+use crate::watched::{FoundGranule, WatchVerdict, Watched, is_found};
 use chi_answer::{add_granule, add_undecided};
 use chi_text::{Part, add_parts};
 use chi_watch::{Counts, Ending, FoundAtEnd};
 use std::alloc::{AllocError, Global};
 
 /// The lines of a granule that was found.
-fn add_found(alloc: Global, to: &mut Vec<u8>, found: &Found) -> Result<(), AllocError>
+fn add_found(alloc: Global, to: &mut Vec<u8>, found: &FoundGranule) -> Result<(), AllocError>
     ensures { OnOk result (to.new.items ≡ to.old.items ++ found_text found.now) }
 {
     add_granule(to, found.granule)?;
@@ -30,7 +30,7 @@ fn add_found(alloc: Global, to: &mut Vec<u8>, found: &Found) -> Result<(), Alloc
 fn add_at_end(
     alloc: Global,
     to: &mut Vec<u8>,
-    found: &[Found],
+    found: &[FoundGranule],
     it: &FoundAtEnd,
 ) -> Result<(), AllocError>
     ensures { OnOk result (to.new.items ≡ to.old.items ++ end_text found.now it.now) }
@@ -44,7 +44,7 @@ fn add_at_end(
 }
 
 /// The lines of granules that were found.
-fn add_all_found(alloc: Global, to: &mut Vec<u8>, found: &[Found]) -> Result<(), AllocError>
+fn add_all_found(alloc: Global, to: &mut Vec<u8>, found: &[FoundGranule]) -> Result<(), AllocError>
     ensures { OnOk result (to.new.items ≡ to.old.items ++ flat_map found_text found.now) }
 {
     for it in found {
@@ -57,7 +57,7 @@ fn add_all_found(alloc: Global, to: &mut Vec<u8>, found: &[Found]) -> Result<(),
 fn add_all_at_end(
     alloc: Global,
     to: &mut Vec<u8>,
-    found: &[Found],
+    found: &[FoundGranule],
     unexplained: &[FoundAtEnd],
 ) -> Result<(), AllocError>
     ensures { OnOk result (to.new.items ≡ to.old.items ++ flat_map (end_text found.now) unexplained.now) }
@@ -82,7 +82,7 @@ fn add_all_undecided(to: &mut Vec<u8>, undecided: &[u64], budget: u64) -> Result
 fn add_ending(
     alloc: Global,
     to: &mut Vec<u8>,
-    found: &[Found],
+    found: &[FoundGranule],
     ending: &Option<Ending>,
     budget: u64,
 ) -> Result<(), AllocError>

@@ -1,7 +1,7 @@
 //! What is found of events that are read line by line.
 
 ghost use Rattle.std.specs.Prelude.{◌≡◌};
-ghost use Rattle.chi_watch_text.specs.Found.{is_found, verdict_of};
+ghost use Rattle.chi_watch_text.specs.FoundGranule.{is_found, verdict_of};
 
 use chi_recent::Reach;
 use chi_watch::{Counts, Ending};
@@ -9,7 +9,7 @@ use chi_watch::{Counts, Ending};
 /// A granule that no order explains, by its number; the line by which its last outstanding request had gone, counted from 1; and
 /// how far its operations can be explained.
 #[derive(Debug, Drop)]
-pub struct Found {
+pub struct FoundGranule {
     pub granule: u64,
     pub line: u64,
     pub reach: Reach,
@@ -20,7 +20,7 @@ pub struct Found {
 /// told. `unjudged` is of how many granules that were told of nothing is said.
 #[derive(Debug, Drop)]
 pub struct Watched {
-    pub found: Vec<Found>,
+    pub found: Vec<FoundGranule>,
     pub ending: Option<Ending>,
     pub counts: Counts,
     pub unjudged: u64,
@@ -66,7 +66,7 @@ impl Watched {
 }
 
 /// Whether a granule was found.
-pub(crate) fn is_found(found: &[Found], granule: u64) -> bool
+pub(crate) fn is_found(found: &[FoundGranule], granule: u64) -> bool
     ensures { result ≡ is_found granule found.now }
 {
     found.iter().any(|it| it.granule == granule)

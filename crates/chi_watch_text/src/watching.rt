@@ -10,8 +10,8 @@ use crate::fault::LinesFault;
 use crate::lines::next_event;
 use crate::options::WatchOptions;
 use crate::progress::WatchProgress;
-use crate::quiet::{note_quiet, settle};
-use crate::watched::{Found, Watched};
+use crate::quiet::{judge_quiet, note_quiet};
+use crate::watched::{FoundGranule, Watched};
 use chi_events::Event;
 use chi_watch::{Watch, WatchFault};
 use std::alloc::{AllocError, Global};
@@ -51,7 +51,7 @@ fn is_past(time: u64, next: &Option<Event>) -> bool
 }
 
 /// Whether it stops: all events of a time are told at which a granule was found, and it does not keep going.
-fn stops(is_past: bool, found: &[Found], keep_going: bool) -> bool
+fn stops(is_past: bool, found: &[FoundGranule], keep_going: bool) -> bool
     ensures stops { result ≡ true → (is_past ≡ true) × (keep_going ≡ false) × (0 < length found.now) }
     ensures goes_on { result ≡ false → is_past ≡ true → keep_going ≡ false → found.now ≡ [] }
 {
@@ -59,7 +59,7 @@ fn stops(is_past: bool, found: &[Found], keep_going: bool) -> bool
 }
 
 /// What is said where it stops.
-fn stopped(watch: &Watch, found: Vec<Found>) -> Watched
+fn stopped(watch: &Watch, found: Vec<FoundGranule>) -> Watched
     ensures told { IsTold watch.now found.items result }
     ensures ending { result.ending ≡ None }
 {
@@ -75,7 +75,7 @@ fn stopped(watch: &Watch, found: Vec<Found>) -> Watched
 fn ended<P: WatchProgress>(
     alloc: Global,
     watch: Watch,
-    found: Vec<Found>,
+    found: Vec<FoundGranule>,
     budget: u64,
     progress: &mut P,
 ) -> Result<Watched, AllocError>
@@ -124,7 +124,7 @@ pub fn watch_lines<R: BufRead, P: WatchProgress>(
     for number in 1..u64::MAX {
         let next = next_event(alloc, from, &mut line, number)?;
         let is_past = is_past(time, &next);
-        settle(
+        judge_quiet(
             alloc,
             &watch,
             is_past,

@@ -4,7 +4,7 @@ use crate::tests::comparison::assert_same;
 use chi_events::{Completion, Event, EventKind, Packet, Requested};
 use chi_lanes::Reply;
 use chi_search::NoProgress;
-use chi_trace::{Asked, GranuleWord};
+use chi_trace::{GranuleWord, RequestFields};
 use chi_watch::{Ending, Watch, WatchFault};
 use std::alloc::Global;
 use std::process::Abort;
@@ -21,7 +21,7 @@ pub(crate) fn lanes(value: u8) -> [u8; 16] {
 fn request(id: u64, opcode: u8, addr: u64, be: u16, value: u8, has_data: bool) -> EventKind {
     EventKind::Request(Requested {
         id,
-        asked: Asked {
+        fields: RequestFields {
             number: 0,
             src: 1,
             txn: 0,
@@ -116,7 +116,7 @@ pub(crate) fn dropped(id: u64) -> EventKind {
 fn event(time: u64, kind: EventKind) -> Event {
     match kind {
         EventKind::Request(mut request) => {
-            request.asked.number = time;
+            request.fields.number = time;
             Event {
                 time,
                 kind: EventKind::Request(request),

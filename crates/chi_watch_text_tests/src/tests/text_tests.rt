@@ -6,7 +6,7 @@ use crate::tests::events::{
 };
 use chi_recent::Reach;
 use chi_watch::{Counts, Ending, FoundAtEnd};
-use chi_watch_text::{Found, WatchOptions, Watched, watched_text};
+use chi_watch_text::{FoundGranule, WatchOptions, Watched, watched_text};
 use std::process::Abort;
 use std::test::Fail;
 
@@ -112,7 +112,7 @@ fn at_end(granule: u64) -> FoundAtEnd {
 // A granule that was found by a line is not told of at the end. The address of the granule 2^52 / 8 - 1 is 2^52 - 8.
 #[test]
 fn all_there_is_to_tell(rt: HostRuntime) -> Result<(), Fail> {
-    let found = Found {
+    let found = FoundGranule {
         granule: 513,
         line: 18446744073709551614,
         reach: Reach::Undecided,

@@ -3,7 +3,7 @@
 use crate::tests::comparison::assert_same;
 use chi_recent::Reach;
 use chi_watch::{Counts, Ending, FoundAtEnd};
-use chi_watch_text::{Found, WatchVerdict, Watched};
+use chi_watch_text::{FoundGranule, WatchVerdict, Watched};
 use std::alloc::{AllocError, Global};
 use std::test::Fail;
 
@@ -16,7 +16,7 @@ fn verdict(
 ) -> Result<WatchVerdict, AllocError> {
     let mut by_line = Vec::new(alloc);
     for _ in 0..found {
-        by_line.push(Found {
+        by_line.push(FoundGranule {
             granule: 512,
             line: 4,
             reach: Reach::Undecided,

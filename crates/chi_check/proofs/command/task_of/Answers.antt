@@ -26,7 +26,7 @@ returns-clause-chosen c =
     let app = app_of c.in_ok-whole_command.field-0 in
     let is = c.in_ok-whole_command.ensures.app in
     let name = c.in-Some.name.now in
-    let found = rows_of (found_of c.in-Some.chosen.now) in
+    let found = rows_of (found_of c.in-Some.matches.now) in
     let found_so = finds app (map string_bytes c.args.arguments.now) c.in_ok-matches.matches name found is c.in_ok-matches.ensures.matches c.in-Some.ensures.name c.in-Some.ensures.rows in
     (name, found, found_so, c.in_ok-chosen_task.ensures.named, c.in_ok-chosen_task.ensures.options)
 
@@ -36,6 +36,6 @@ returns-clause-first c =
     let is = c.in_ok-whole_command.ensures.app in
     let arguments = map string_bytes c.args.arguments.now in
     let name = c.in-Some.name.now in
-    let found = rows_of (found_of c.in-Some.chosen.now) in
+    let found = rows_of (found_of c.in-Some.matches.now) in
     let found_so = finds app arguments c.in_ok-matches.matches name found is c.in_ok-matches.ensures.matches c.in-Some.ensures.name c.in-Some.ensures.rows in
     named_first arguments name found c.in_ok-chosen_task.field-0 found_so c.in_ok-chosen_task.ensures.named

@@ -1,7 +1,7 @@
 -- those of the granule stand in the order of their starts too
 use Rattle.std.proofs.Common.{filter, sym, ap, subst, ◌∙◌, arith}
 use Rattle.std.proofs.lemmas.List.{take_all}
-use Rattle.chi_trace.specs.Chosen.{is_in}
+use Rattle.chi_trace.specs.AtPlaces.{is_in}
 use Rattle.chi_trace.specs.Explains.{IsTrace}
 use Rattle.chi_trace.proofs.TracedCuts.{IsTrace-filter}
 use Rattle.chi_doubt.proofs.own.own_operations.Goals as goal

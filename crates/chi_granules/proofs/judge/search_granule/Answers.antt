@@ -1,6 +1,6 @@
 -- the operations of the granule, and what is found of them, said of the trace
 use Rattle.std.proofs.Common.{◌≡◌, ℕ, List, get_or, length, ltb-true, map, slice_index, sym, ap, subst, ◌∙◌}
-use Rattle.chi_trace.specs.Chosen.{chosen}
+use Rattle.chi_trace.specs.AtPlaces.{at_places}
 use Rattle.chi_trace.specs.Granules.{ExplainsGranule}
 use Rattle.chi_granules.proofs.Own.{indices, inside, own_of, sorted, told_back, told_order, within}
 use Rattle.chi_granules.proofs.judge.search_granule.Goals as goal
@@ -26,7 +26,7 @@ order_of-requires-clause-within g c =
 pub moved-requires : goal.moved-requires
 moved-requires g c =
     let places = c.in_ok-places.places.items in
-    let own : c.deref-2.result.now ≡ chosen c.args.ops.now places = c.deref-2.ensures.value ∙ c.in_ok-own.ensures ∙ ap (chosen c.args.ops.now) c.deref.ensures.value in
+    let own : c.deref-2.result.now ≡ at_places c.args.ops.now places = c.deref-2.ensures.value ∙ c.in_ok-own.ensures ∙ ap (at_places c.args.ops.now) c.deref.ensures.value in
     let finishes = rw c.in-Order.is at c.in_ok-found.ensures.order in
     rw (c.deref-in-Order.ensures.value, c.deref-in-Order-2.ensures.value)
     (indices c.args.ops.now c.deref-2.result.now places c.args.word c.args.final_word c.in-Order.found.items own finishes)
@@ -36,7 +36,7 @@ returns-in-Order-clause-order g c =
     let ops = c.args.ops.now in
     let places = c.in_ok-places.places.items in
     let each = own_of ops c.args.granules.now c.args.granule places c.requires.granules c.in_ok-places.ensures.each in
-    let own : c.deref-2.result.now ≡ chosen ops places = c.deref-2.ensures.value ∙ c.in_ok-own.ensures ∙ ap (chosen ops) c.deref.ensures.value in
+    let own : c.deref-2.result.now ≡ at_places ops places = c.deref-2.ensures.value ∙ c.in_ok-own.ensures ∙ ap (at_places ops) c.deref.ensures.value in
     let finishes = rw c.in-Order.is at c.in_ok-found.ensures.order in
     let whole : c.in_ok-order-in-Order.order.items ≡ map (slice_index places) c.in-Order.found.items =
     c.in_ok-order-in-Order.ensures
@@ -50,7 +50,7 @@ returns-in-Nothing-clause-nothing g c order explains =
     let ops = c.args.ops.now in
     let places = c.in_ok-places.places.items in
     let each = own_of ops c.args.granules.now c.args.granule places c.requires.granules c.in_ok-places.ensures.each in
-    let own : c.deref-2.result.now ≡ chosen ops places = c.deref-2.ensures.value ∙ c.in_ok-own.ensures ∙ ap (chosen ops) c.deref.ensures.value in
+    let own : c.deref-2.result.now ≡ at_places ops places = c.deref-2.ensures.value ∙ c.in_ok-own.ensures ∙ ap (at_places ops) c.deref.ensures.value in
     let none = rw c.in-Nothing.is at c.in_ok-found.ensures.nothing in
     let moved = told_back c.places_explain.ensures ops c.deref-2.result.now c.args.granule places c.args.word c.args.final_word order own each explains in
     none moved.0 moved.1

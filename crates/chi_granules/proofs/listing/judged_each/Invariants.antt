@@ -6,5 +6,5 @@ use Rattle.chi_granules.proofs.listing.judged_each.Given as goal
 abbrev pub invariant-loop-number : goal.invariant-loop-number
 invariant-loop-number g l = record {
   judged : All (IsJudged l.recorded) l.drawn.items;
-  granules : map (λ d. d.granule) l.drawn.items ≡ take l.number-index l.numbers;
+  granules : map (λ d. d.granule) l.drawn.items ≡ take l.number-index l.granule_numbers;
 }

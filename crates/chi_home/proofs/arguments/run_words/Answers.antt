@@ -6,4 +6,4 @@ use Rattle.chi_home.proofs.arguments.run_words.Goals as goal
 pub returns-in-Ok-clause-outcome : goal.returns-in-Ok-clause-outcome
 returns-in-Ok-clause-outcome g c =
     let chosen = c.in-Ok.ensures in
-    inr (came_of (map string_bytes c.args.arguments.now) c.in-Ok.asked _ _ _ _ chosen.taken chosen.chosen chosen.attempts c.end_asked.ensures.ends)
+    inr (came_of (map string_bytes c.args.arguments.now) c.in-Ok.job _ _ _ _ chosen.taken chosen.chosen chosen.attempts c.end_asked.ensures.ends)

@@ -3,7 +3,7 @@ use Rattle.std.proofs.Common.{rules, codes, ◌≡◌, ◌∙◌}
 use Rattle.std.specs.Option.{option_map_or}
 use Rattle.clap.specs.Matches.{found_of}
 use Rattle.clap.specs.Walk.{byte_or_zero, one_of, rows_of}
-use Rattle.chi_home.proofs.ChosenLemmas.{number_found}
+use Rattle.chi_home.proofs.OptionValuesLemmas.{number_found}
 use Rattle.chi_home.proofs.command.chosen_attempts.Goals as goal
 
 pub returns-then-attempts-le-MOST_ATTEMPTS : goal.returns-then-attempts-le-MOST_ATTEMPTS

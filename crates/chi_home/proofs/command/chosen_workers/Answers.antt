@@ -3,8 +3,8 @@ use Rattle.std.proofs.Common.{ap, codes, ◌≡◌, ◌∙◌}
 use Rattle.std.specs.Option.{option_map_or, unwrap_or}
 use Rattle.clap.specs.Matches.{found_of}
 use Rattle.clap.specs.Walk.{byte_or_zero, one_of, rows_of}
-use Rattle.chi_home.proofs.ChosenLemmas.{number_found}
-use Rattle.chi_home.specs.Chosen.{workers_or_two}
+use Rattle.chi_home.proofs.OptionValuesLemmas.{number_found}
+use Rattle.chi_home.specs.OptionValues.{workers_or_two}
 use Rattle.chi_home.proofs.command.chosen_workers.Goals as goal
 
 pub returns : goal.returns

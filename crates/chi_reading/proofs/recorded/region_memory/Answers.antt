@@ -1,7 +1,7 @@
 -- the text's region and words, and that the words are theirs
 use Rattle.std.proofs.Common.{◌≡◌, ℕ, ◌/◌, List, Option, refl, sym, subst}
 use Rattle.std.specs.Option.{option_map}
-use Rattle.chi_trace.specs.Words.{told}
+use Rattle.chi_trace.specs.Words.{find_word}
 use Rattle.chi_reading.specs.TraceText.{region_final_words}
 use Rattle.chi_reading.proofs.RegionText.{AreWordsOf, handed_on, region_text}
 use Rattle.chi_reading.proofs.recorded.region_memory.Goals as goal
@@ -18,7 +18,7 @@ opening c =
     subst (λ words. AreWordsOf (first c) words c.in_ok-opening.opening) c.deref.ensures.value
     (handed_on (AreWordsOf (first c) c.deref.result.now) _ _ _ c.in_ok-opening.opening c.map_err.ensures.cases c.map_err.ensures.variant c.in_ok-opening.was c.region_words.ensures)
 
-final_words : (c : After-drop-image-2) → (g : ℕ) → told c.match-final_words-2.final_words g ≡ told (region_final_words (first c) (last_words c)) g
+final_words : (c : After-drop-image-2) → (g : ℕ) → find_word c.match-final_words-2.final_words g ≡ find_word (region_final_words (first c) (last_words c)) g
 final_words c g = elim c.match-final_words-2.branch [
   | in-Some+in_ok-final_words-in-Some w ↦
       let words = handed_on (AreWordsOf (first c) w.deref-in-Some.result.now) _ _ _ w.in_ok-final_words-in-Some.final_words w.map_err-in-Some.ensures.cases w.map_err-in-Some.ensures.variant

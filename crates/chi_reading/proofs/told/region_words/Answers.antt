@@ -2,11 +2,11 @@
 use Rattle.std.proofs.Common.{refl, arith}
 use Rattle.chi_reading.specs.Told.{region_words}
 use Rattle.chi_reading.proofs.OneMore.{has_next}
-use Rattle.chi_trace.specs.Words.{told}
+use Rattle.chi_trace.specs.Words.{find_word}
 use Rattle.chi_reading.proofs.told.region_words.Goals as goal
 
 pub loop-word-init : goal.loop-word-init
-unfolding told region_words
+unfolding find_word region_words
 loop-word-init c = record { next = omega arith; has = λ g. rw c.new-map.ensures.empty refl }
 
 pub loop-word-preserved : goal.loop-word-preserved

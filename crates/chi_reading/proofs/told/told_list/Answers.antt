@@ -5,7 +5,7 @@ use Rattle.serde_json.specs.View.{items_view}
 use Rattle.chi_reading.specs.Told.{told_from}
 use Rattle.chi_reading.proofs.ToldSoFar.{all_so_far, none_so_far, none_told, told_again, told_next}
 use Rattle.chi_trace.specs.declared.words.GranuleWord.{GranuleWord}
-use Rattle.chi_trace.specs.Words.{told}
+use Rattle.chi_trace.specs.Words.{find_word}
 use Rattle.chi_reading.proofs.told.told_list.Goals as goal
 
 pub loop-value-init : goal.loop-value-init
@@ -29,6 +29,6 @@ pub returns-clause-ok : goal.returns-clause-ok
 returns-clause-ok c =
     let so_far = c.loop-value.invariant in
     let list = all_so_far c.loop-value.map c.args.list.now c.loop-value.value-index so_far c.loop-value-test.false in
-    let all = IfOk-weaker c.of_map.result _ (λ words. (each : List GranuleWord) × (told_from [] (items_view c.args.list.now) ≡ Some each) × ((g : ℕ) → told words g ≡ told each g))
+    let all = IfOk-weaker c.of_map.result _ (λ words. (each : List GranuleWord) × (told_from [] (items_view c.args.list.now) ≡ Some each) × ((g : ℕ) → find_word words g ≡ find_word each g))
     (λ words is. (so_far.seen, list, λ g. is g ∙ so_far.has g)) c.of_map.ensures in
     search (rules, all)

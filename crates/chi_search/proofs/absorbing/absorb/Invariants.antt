@@ -6,6 +6,6 @@ use Rattle.chi_search.proofs.absorbing.absorb.Given as goal
 
 abbrev pub invariant-loop : goal.invariant-loop
 invariant-loop l = record {
-  ready : IsReady (length l.known.ops.now) (position_of l.state);
-  goes_on : GoesOnWithin l.mask l.known.ops.now (position_of l.initial.state) (position_of l.state);
+  ready : IsReady (length l.problem.ops.now) (position_of l.state);
+  goes_on : GoesOnWithin l.mask l.problem.ops.now (position_of l.initial.state) (position_of l.state);
 }

@@ -12,4 +12,4 @@ returns-then-place-effects c is =
     idle_kept (at c.args.ops.now c.args.place)
     (subst (λ (op : Operation). IsLawful op.access) (get_or_default c.args.ops.now c.args.place c.index-ops-place.result nothing c.requires.place)
     c.addr-addr.ensures.lawful)
-    (c.is_kept.ensures is (at c.args.ops.now c.args.place) (c.requires.known c.args.place c.if-place-effects.true))
+    (c.is_kept.ensures is (at c.args.ops.now c.args.place) (c.requires.effects c.args.place c.if-place-effects.true))

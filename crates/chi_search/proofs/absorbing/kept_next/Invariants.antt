@@ -3,4 +3,4 @@ use Rattle.std.proofs.Common.{◌-◌, length}
 use Rattle.chi_search.proofs.absorbing.kept_next.Given as goal
 
 abbrev pub decreases-loop-place : goal.decreases-loop-place
-decreases-loop-place l = length l.known.ops.now - l.place
+decreases-loop-place l = length l.problem.ops.now - l.place

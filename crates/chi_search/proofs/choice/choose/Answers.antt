@@ -13,14 +13,14 @@ use Rattle.chi_search.proofs.choice.choose.Goals.{else-branch-2-via-else-branch-
 
 pub returns-in-Some-clause-dead : goal.returns-in-Some-clause-dead
 returns-in-Some-clause-dead c all (x, ends) =
-    let past : length c.args.known.now.ops.now ≤ c.args.state.now.first = omega arith in
-    let last = at_end c.args.known.now.ops.now c.args.known.now.final_word (position_of c.args.state.now) x past ends in
+    let past : length c.args.problem.now.ops.now ≤ c.args.state.now.first = omega arith in
+    let last = at_end c.args.problem.now.ops.now c.args.problem.now.final_word (position_of c.args.state.now) x past ends in
     let same : c.args.state.now.word ≡ c.in-Some.seen = subst (λ (o : Option ℕ). IfSome o (λ v. c.args.state.now.word ≡ v)) c.in-Some.is last in
     c.if-seen-state.true (sym same)
 
 pub returns-then-has-clause-dead : goal.returns-then-has-clause-dead
 returns-then-has-clause-dead c =
-    idle_dead c.args.known.now.ops.now c.args.known.now.final_word c.args.dead.now (position_of c.args.state.now) (position_of c.take.new.next) c.in-Some-idle_next.place
+    idle_dead c.args.problem.now.ops.now c.args.problem.now.final_word c.args.dead.now (position_of c.args.state.now) (position_of c.take.new.next) c.in-Some-idle_next.place
     (c.in_ok-take.ensures.finds c.if-branch.true) (c.in_ok-take.ensures.comes c.if-branch.true) c.in-Some-idle_next.ensures.idle
     (c.in_ok-take.ensures.takes c.if-branch.true) (c.has.ensures c.if-has.true)
 
@@ -34,15 +34,15 @@ lacks_maker-requires-clause-run c = record { lane = 0; len = 8; some = omega ari
 
 pub returns-then-lacks_maker-clause-dead : goal.returns-then-lacks_maker-clause-dead
 returns-then-lacks_maker-clause-dead c _ =
-    dead_within _ c.args.known.now.ops.now c.args.known.now.final_word (position_of c.args.state.now) (omega arith) (c.lacks_maker.ensures c.if-lacks_maker.true)
+    dead_within _ c.args.problem.now.ops.now c.args.problem.now.final_word (position_of c.args.state.now) (omega arith) (c.lacks_maker.ensures c.if-lacks_maker.true)
 
 pub returns-in-Some-commuting_next-clause-dead : goal.returns-in-Some-commuting_next-clause-dead
 returns-in-Some-commuting_next-clause-dead c = elim c.else-branch-2.branch [
   | else-branch-2-via-then-branch-2+else-not-has w ↦
-      first_dead c.args.known.now.ops.now c.args.known.now.final_word c.args.dead.now (position_of c.args.state.now) (position_of c.take-in-Some-commuting_next.new.next) c.in-Some-commuting_next.place
+      first_dead c.args.problem.now.ops.now c.args.problem.now.final_word c.args.dead.now (position_of c.args.state.now) (position_of c.take-in-Some-commuting_next.new.next) c.in-Some-commuting_next.place
       c.in-Some-commuting_next.ensures.first (c.in_ok-take-2.ensures.takes w.if-branch-2.true) (w.has-then-branch-2.ensures w.if-not-has.false)
   | else-branch-2-via-else-branch-2 w ↦ λ _.
-      first_refused c.args.known.now.ops.now c.args.known.now.final_word (position_of c.args.state.now) c.in-Some-commuting_next.place c.in-Some-commuting_next.ensures.first
+      first_refused c.args.problem.now.ops.now c.args.problem.now.final_word (position_of c.args.state.now) c.in-Some-commuting_next.place c.in-Some-commuting_next.ensures.first
       (c.in_ok-take-2.ensures.refused w.if-branch-2.false)
 ]
 
@@ -59,13 +59,13 @@ returns-then-not-has_equal_before-clause-moves c =
 pub loop-place-preserved : goal.loop-place-preserved
 loop-place-preserved c = elim c.else-branch-3.branch [
   | else-branch-3-via-then-branch-3+then-not-has-2+else-not-has_equal_before w ↦
-      equal_more c.args.known.now.ops.now c.args.known.now.final_word c.args.dead.now (position_of c.args.state.now) c.loop-place.place c.loop-place.invariant
+      equal_more c.args.problem.now.ops.now c.args.problem.now.final_word c.args.dead.now (position_of c.args.state.now) c.loop-place.place c.loop-place.invariant
       (w.has_equal_before.ensures w.if-not-has_equal_before.false)
   | else-branch-3-via-then-branch-3+else-not-has-2 w ↦
-      dead_more c.args.known.now.ops.now c.args.known.now.final_word c.args.dead.now (position_of c.args.state.now) (position_of c.take-in-loop-place.new.next) c.loop-place.place c.loop-place.invariant
+      dead_more c.args.problem.now.ops.now c.args.problem.now.final_word c.args.dead.now (position_of c.args.state.now) (position_of c.take-in-loop-place.new.next) c.loop-place.place c.loop-place.invariant
       (c.in_ok-take-3.ensures.takes w.if-branch-3.true) (w.has-then-branch-3.ensures w.if-not-has-2.false)
   | else-branch-3-via-else-branch-3 w ↦
-      refused_more c.args.known.now.ops.now c.args.known.now.final_word c.args.dead.now (position_of c.args.state.now) c.loop-place.place c.loop-place.invariant
+      refused_more c.args.problem.now.ops.now c.args.problem.now.final_word c.args.dead.now (position_of c.args.state.now) c.loop-place.place c.loop-place.invariant
       (c.in_ok-take-3.ensures.refused w.if-branch-3.false)
 ]
 
@@ -75,13 +75,13 @@ returns-then-not-has-3-clause-moves c = (c.requires.ready, omega arith, c.in_ok-
 
 pub returns-clause-dead : goal.returns-clause-dead
 returns-clause-dead c =
-    let below : c.args.state.now.first < length c.args.known.now.ops.now = omega arith in
-    tried_all c.args.known.now.ops.now c.args.known.now.final_word c.args.dead.now (position_of c.args.state.now) c.loop-place.place c.requires.known.sorted c.requires.ready below c.loop-place.invariant
+    let below : c.args.state.now.first < length c.args.problem.now.ops.now = omega arith in
+    tried_all c.args.problem.now.ops.now c.args.problem.now.final_word c.args.dead.now (position_of c.args.state.now) c.loop-place.place c.requires.problem.sorted c.requires.ready below c.loop-place.invariant
     (elim c.loop-place-test.branch [
       | then-loop-place-test+else-earliest-place w ↦
-          subst (λ (op : Operation). (i : ℕ) → c.loop-place.place ≤ i → i < length c.args.known.now.ops.now → op.end < (at c.args.known.now.ops.now i).start)
-          (sym c.index-ops-state.is ∙ get_or_read c.args.known.now.ops.now c.args.state.now.first c.index-ops-state.result below c.index-ops-state.is nothing)
-          (all_late c.args.known.now.ops.now c.args.known.now.earliest.now c.loop-place.place (get_or c.args.known.now.ops.now c.args.state.now.first c.index-ops-state.result).end c.requires.known.earliest w.if-earliest-place.false)
+          subst (λ (op : Operation). (i : ℕ) → c.loop-place.place ≤ i → i < length c.args.problem.now.ops.now → op.end < (at c.args.problem.now.ops.now i).start)
+          (sym c.index-ops-state.is ∙ get_or_read c.args.problem.now.ops.now c.args.state.now.first c.index-ops-state.result below c.index-ops-state.is nothing)
+          (all_late c.args.problem.now.ops.now c.args.problem.now.earliest.now c.loop-place.place (get_or c.args.problem.now.ops.now c.args.state.now.first c.index-ops-state.result).end c.requires.problem.earliest w.if-earliest-place.false)
       | else-loop-place-test w ↦ λ i from inside. absurd (omega (arith, from, inside, w.loop-place-test.false))
     ])
     (λ all dropping. elim c.else-branch-4.branch [

@@ -11,8 +11,8 @@ use Rattle.chi_search.proofs.effect.effects_of.Goals as goal
 -- one more after those of the first k
 pushed : (ops : List Operation) (effects : List Effect) (e : Effect) (k : ℕ) (op : Operation) → k < length ops → op ≡ get_or ops k op
     → length effects ≡ k → AreEffects ops effects → HasEffect op e → AreEffects ops (effects ++ e ∷ [])
-pushed ops effects e k op below is long known has i within = elim (cases_lt i (length effects)) [
-  | inl before ↦ subst (HasEffect (at ops i)) (sym (get_or_append_left effects (e ∷ []) no_effect i before)) (known i before)
+pushed ops effects e k op below is long are has i within = elim (cases_lt i (length effects)) [
+  | inl before ↦ subst (HasEffect (at ops i)) (sym (get_or_append_left effects (e ∷ []) no_effect i before)) (are i before)
   | inr from ↦
       let here : length effects ≡ i = omega (arith, from, within, length-append effects (e ∷ [])) in
       let read : op ≡ at ops i = is ∙ get_or_default ops k op nothing below ∙ ap (at ops) (sym long ∙ here) in
@@ -21,9 +21,9 @@ pushed ops effects e k op below is long known has i within = elim (cases_lt i (l
 
 pub loop-op-preserved : goal.loop-op-preserved
 loop-op-preserved c = record {
-  known =
+  are =
       subst (AreEffects c.args.ops.now) (sym c.in_ok-push.ensures.items)
       (pushed c.args.ops.now c.loop-op.effects.items c.effect_of.result c.loop-op.op-index c.op-item.result c.loop-op-test.true c.op-item.is
-      c.loop-op.invariant.each c.loop-op.invariant.known c.effect_of.ensures);
+      c.loop-op.invariant.each c.loop-op.invariant.are c.effect_of.ensures);
   each = search rules;
 }

@@ -5,6 +5,6 @@ use Rattle.chi_search.proofs.effect.effects_of.Given as goal
 
 abbrev pub invariant-loop-op : goal.invariant-loop-op
 invariant-loop-op l = record {
-  known : AreEffects l.ops l.effects.items;
+  are : AreEffects l.ops l.effects.items;
   each : length l.effects.items ≡ l.op-index;
 }

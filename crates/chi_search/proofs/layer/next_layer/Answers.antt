@@ -37,7 +37,7 @@ loop-place-preserved g c =
             subst (λ (now : States). SomeEnds (ops ++ more) now v ↔ SomeOf (Ends (ops ++ more) (Some v)) (take (k + 1) xs)) (sym w.states-is)
             (some_step (Ends (ops ++ more) (Some v)) (SomeEnds (ops ++ more) old v) (SomeEnds (ops ++ more) w.add_moves.new.states v) xs k p c.in_ok-read.ensures
             (c.loop-place.invariant.ends more follow v)
-            (w.in_ok-add_moves.ensures.ends more (come_after ops c.args.horizon (at ops p.first).end more follow (c.waits.ensures.known w.if-waits.false)) v));
+            (w.in_ok-add_moves.ensures.ends more (come_after ops c.args.horizon (at ops p.first).end more follow (c.waits.ensures.passed w.if-waits.false)) v));
         ready = subst (AreReady ops) (sym w.states-is) (w.in_ok-add_moves.ensures.ready c.loop-place.invariant.ready);
         one_each = omega arith;
         looked = looked;

@@ -6,4 +6,4 @@ abbrev pub invariant-loop-place : goal.invariant-loop-place
 invariant-loop-place l = l.state.first ≤ l.place
 
 abbrev pub decreases-loop-place : goal.decreases-loop-place
-decreases-loop-place l = length l.known.ops.now - l.place
+decreases-loop-place l = length l.problem.ops.now - l.place

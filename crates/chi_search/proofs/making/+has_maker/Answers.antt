@@ -16,7 +16,7 @@ pub loop-place-init : goal.loop-place-init
 loop-place-init t c = record {
   within = c.bound_of-place.ensures.within;
   tried = λ i from left precedes.
-      let is = left_is (length c.args.known.now.ops.now) (position_of c.args.state.now) i left in
+      let is = left_is (length c.args.problem.now.ops.now) (position_of c.args.state.now) i left in
       absurd (c.bound_of-place.ensures.late i from is.0 precedes.0);
 }
 
@@ -25,7 +25,7 @@ loop-place-preserved-else-wanted t c = record {
   within = omega (arith, c.loop-place.invariant.within);
   tried = λ i from. elim (cases_eq i (c.loop-place.place - 1)) [
     | inl same ↦
-        subst (CannotMake c.args.mask c.args.known.now.ops.now (position_of c.args.state.now) c.args.later c.args.word c.args.bits) (sym same)
+        subst (CannotMake c.args.mask c.args.problem.now.ops.now (position_of c.args.state.now) c.args.later c.args.word c.args.bits) (sym same)
         (λ left precedes. inr (record {
           wanted = c.wanted_of-wanted.result;
           within = c.wanted_of-wanted.ensures.within;
@@ -37,18 +37,18 @@ loop-place-preserved-else-wanted t c = record {
   ];
 }
   where
-    below : c.loop-place.place - 1 < length c.args.known.now.ops.now
+    below : c.loop-place.place - 1 < length c.args.problem.now.ops.now
     below = omega (arith, c.loop-place.invariant.within, c.loop-place-test.true)
 
-    here : c.index-ops-place.result ≡ at c.args.known.now.ops.now (c.loop-place.place - 1)
-    here = c.index-ops-place.is ∙ get_or_default c.args.known.now.ops.now (c.loop-place.place - 1) c.index-ops-place.result nothing below
+    here : c.index-ops-place.result ≡ at c.args.problem.now.ops.now (c.loop-place.place - 1)
+    here = c.index-ops-place.is ∙ get_or_default c.args.problem.now.ops.now (c.loop-place.place - 1) c.index-ops-place.result nothing below
 
-    other : IsUnmade c.args.mask c.args.known.now.ops.now (position_of c.args.state.now) (later_than (c.loop-place.place - 1) c.args.later)
+    other : IsUnmade c.args.mask c.args.problem.now.ops.now (position_of c.args.state.now) (later_than (c.loop-place.place - 1) c.args.later)
         c.wanted_of-wanted.result.other c.wanted_of-wanted.result.bits
     other = elim c.else-wanted.branch [
       | else-wanted-via-then-wanted+else-has_maker-2 w ↦ w.has_maker-then-wanted.ensures w.if-has_maker-2.false
       | else-wanted-via-else-wanted w ↦
-          subst (λ (word : ℕ). IsUnmade c.args.mask c.args.known.now.ops.now (position_of c.args.state.now) (later_than (c.loop-place.place - 1) c.args.later)
+          subst (λ (word : ℕ). IsUnmade c.args.mask c.args.problem.now.ops.now (position_of c.args.state.now) (later_than (c.loop-place.place - 1) c.args.later)
           word c.wanted_of-wanted.result.bits) (sym w.if-wanted.false) (c.has_maker.ensures c.if-has_maker.false)
     ]
 
@@ -57,7 +57,7 @@ loop-place-preserved t c = record {
   within = omega (arith, c.loop-place.invariant.within);
   tried = λ i from. elim (cases_eq i (c.loop-place.place - 1)) [
     | inl same ↦
-        subst (CannotMake c.args.mask c.args.known.now.ops.now (position_of c.args.state.now) c.args.later c.args.word c.args.bits) (sym same)
+        subst (CannotMake c.args.mask c.args.problem.now.ops.now (position_of c.args.state.now) c.args.later c.args.word c.args.bits) (sym same)
         (c.may_make.ensures c.if-may_make.false c.args.mask)
     | inr apart ↦ c.loop-place.invariant.tried i (omega (arith, from, apart))
   ];
@@ -65,9 +65,9 @@ loop-place-preserved t c = record {
 
 pub returns : goal.returns
 returns t c _ =
-    unmade c.args.mask c.args.known.now.ops.now (position_of c.args.state.now) c.args.later c.args.word c.args.bits c.requires.bits
+    unmade c.args.mask c.args.problem.now.ops.now (position_of c.args.state.now) c.args.later c.args.word c.args.bits c.requires.bits
     (λ agree. c.if-word-state-eq0.false (agree_to c.args.word c.args.state.now.word c.args.bits agree))
     (λ i. elim (cases_lt i c.loop-place.place) [
-      | inl before ↦ λ left. let is = left_is (length c.args.known.now.ops.now) (position_of c.args.state.now) i left in absurd (omega (arith, is.1, before, c.loop-place-test.false))
+      | inl before ↦ λ left. let is = left_is (length c.args.problem.now.ops.now) (position_of c.args.state.now) i left in absurd (omega (arith, is.1, before, c.loop-place-test.false))
       | inr from ↦ c.loop-place.invariant.tried i from
     ])

@@ -9,8 +9,8 @@ decreases-has_maker l = l.depth
 
 abbrev pub invariant-loop-place : goal.invariant-loop-place
 invariant-loop-place l = record {
-  within : l.place ≤ length l.known.ops.now;
-  tried : (i : ℕ) → l.place ≤ i → CannotMake l.mask l.known.ops.now (position_of l.state) l.later l.word l.bits i;
+  within : l.place ≤ length l.problem.ops.now;
+  tried : (i : ℕ) → l.place ≤ i → CannotMake l.mask l.problem.ops.now (position_of l.state) l.later l.word l.bits i;
 }
 
 abbrev pub decreases-loop-place : goal.decreases-loop-place

@@ -3,7 +3,7 @@ use Rattle.std.proofs.Common.{◌-◌, ◌<◌, IfSome, length}
 use Rattle.chi_search.proofs.narrowest.narrowest_next.Given as goal
 
 abbrev pub invariant-loop-place : goal.invariant-loop-place
-invariant-loop-place l = IfSome l.found (λ place. place < length l.known.ops.now)
+invariant-loop-place l = IfSome l.found (λ place. place < length l.problem.ops.now)
 
 abbrev pub decreases-loop-place : goal.decreases-loop-place
-decreases-loop-place l = length l.known.ops.now - l.place
+decreases-loop-place l = length l.problem.ops.now - l.place

@@ -9,5 +9,5 @@ use Rattle.chi_search.proofs.order.is_hopeless.Goals as goal
 pub returns : goal.returns
 returns c is order finishes =
     let below = subst (λ (p : Position). p.word < 2 ^ 64) (sym c.first_state-first.ensures) c.ranges.word.fits in
-    let dead = dead_within _ c.args.known.now.ops.now c.args.known.now.final_word (position_of c.first_state-first.result) below (c.lacks_maker.ensures is) in
-    subst (IsDead c.args.known.now.ops.now c.args.known.now.final_word) c.first_state-first.ensures dead (order, at_start c.args.known.now.ops.now c.args.word c.args.known.now.final_word order finishes)
+    let dead = dead_within _ c.args.problem.now.ops.now c.args.problem.now.final_word (position_of c.first_state-first.result) below (c.lacks_maker.ensures is) in
+    subst (IsDead c.args.problem.now.ops.now c.args.problem.now.final_word) c.first_state-first.ensures dead (order, at_start c.args.problem.now.ops.now c.args.word c.args.problem.now.final_word order finishes)

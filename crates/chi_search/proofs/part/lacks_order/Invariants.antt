@@ -9,10 +9,10 @@ use Rattle.chi_search.proofs.part.lacks_order.Given as goal
 abbrev pub invariant-loop-budget : goal.invariant-loop-budget
 invariant-loop-budget g l = record {
   mask : l.part.mask ≡ l.initial.part.mask;
-  dead : AllDeadWithin l.part.mask l.known.ops.now l.known.final_word l.part.dead;
-  ready : IsReady (length l.known.ops.now) (position_of l.state);
-  tried : AreTriedWithin l.part.mask l.known.ops.now l.known.final_word (position_of l.state) l.tried;
-  before : All (IsTriedStep l.part.mask l.known.ops.now l.known.final_word) l.path.items;
+  dead : AllDeadWithin l.part.mask l.problem.ops.now l.problem.final_word l.part.dead;
+  ready : IsReady (length l.problem.ops.now) (position_of l.state);
+  tried : AreTriedWithin l.part.mask l.problem.ops.now l.problem.final_word (position_of l.state) l.tried;
+  before : All (IsTriedStep l.part.mask l.problem.ops.now l.problem.final_word) l.path.items;
   left : l.budget ≤ l.initial.budget;
   looked : LookedMore g.P.Progress.looked l.initial.progress l.progress (l.initial.budget - l.budget);
 }

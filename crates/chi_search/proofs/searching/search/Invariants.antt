@@ -8,12 +8,12 @@ use Rattle.chi_search.proofs.searching.search.Given as goal
 
 abbrev pub invariant-loop-budget : goal.invariant-loop-budget
 invariant-loop-budget g l = record {
-  walks : Walks l.known.ops.now (start l.fn.word) l.path.items (position_of l.state);
-  ready : IsReady (length l.known.ops.now) (position_of l.state);
-  dead : AllDead l.known.ops.now l.known.final_word l.dead;
-  tried : AreTried l.known.ops.now l.known.final_word (position_of l.state) l.tried;
-  before : AreTriedBefore l.known.ops.now l.known.final_word l.path.items;
-  parts : All (IsPartOf l.known.ops.now l.known.final_word) l.parts;
+  walks : Walks l.problem.ops.now (start l.fn.word) l.path.items (position_of l.state);
+  ready : IsReady (length l.problem.ops.now) (position_of l.state);
+  dead : AllDead l.problem.ops.now l.problem.final_word l.dead;
+  tried : AreTried l.problem.ops.now l.problem.final_word (position_of l.state) l.tried;
+  before : AreTriedBefore l.problem.ops.now l.problem.final_word l.path.items;
+  parts : All (IsPartOf l.problem.ops.now l.problem.final_word) l.parts;
   left : l.budget ≤ l.initial.budget;
   looked : LookedMore g.P.Progress.looked l.initial.progress l.progress (l.initial.budget - l.budget);
 }

@@ -1,12 +1,12 @@
 -- one more word, of a later granule
 use Rattle.std.proofs.Common.{refl, get_or, arith}
 use Rattle.chi_trace.specs.declared.words.GranuleWord.{GranuleWord}
-use Rattle.chi_trace.specs.Words.{AreInOrder, told}
+use Rattle.chi_trace.specs.Words.{AreInOrder, find_word}
 use Rattle.chi_trace.proofs.Entries.{same_key, told_more}
 use Rattle.chi_trace.proofs.execution.by_granule.Goals as goal
 
 pub loop-told-init : goal.loop-told-init
-unfolding told
+unfolding find_word
 loop-told-init c g = rw c.new-map.ensures.empty refl
 
 pub loop-told-preserved : goal.loop-told-preserved

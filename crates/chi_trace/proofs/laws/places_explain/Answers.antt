@@ -1,5 +1,5 @@
 -- What finishes the operations told in another order is what finishes them in the trace.
-use Rattle.chi_trace.proofs.Chosen.{told_back, told_there}
+use Rattle.chi_trace.proofs.AtPlaces.{told_back, told_there}
 use Rattle.chi_trace.proofs.laws.places_explain.Goals as goal
 
 pub returns : goal.returns

@@ -7,7 +7,7 @@ use Rattle.chi_verdict.specs.declared.grouping.Placed.{Placed}
 use Rattle.chi_search.proofs.Looking.{none_more, some_after}
 use Rattle.chi_verdict.specs.Backwards.{IfAnswer, IfEarlier}
 use Rattle.chi_verdict.specs.Blames.{LookedForFirst}
-use Rattle.chi_trace.specs.Words.{word_told}
+use Rattle.chi_trace.specs.Words.{word_or_zero}
 use Rattle.chi_verdict.proofs.LastEnd.{last_unexplained}
 use Rattle.chi_search.specs.Looks.{LookedSome}
 use Rattle.chi_verdict.proofs.Spent.{first_after}
@@ -55,7 +55,7 @@ pub loop-ends-preserved : goal.loop-ends-preserved
 loop-ends-preserved g c =
     let then = subst (λ (b : Back). IfEarlier b (λ failing. LookedSome g.P.Progress.looked c.first_end.new.progress c.look_back.new.progress)) c.in-Earlier.is c.in_ok-first.ensures.looked in
     record {
-      unexplained = subst (λ (b : Back). IfEarlier b (λ failing. (order : List ℕ) → ExplainsGranule (cut failing.time c.args.ops.now) failing.granule (word_told c.args.opening.now failing.granule) None order → ⊥))
+      unexplained = subst (λ (b : Back). IfEarlier b (λ failing. (order : List ℕ) → ExplainsGranule (cut failing.time c.args.ops.now) failing.granule (word_or_zero c.args.opening.now failing.granule) None order → ⊥))
           c.in-Earlier.is c.in_ok-first.ensures.earlier;
       looked = some_after g.P.Progress.looked c.args.progress.now c.first_end.new.progress c.look_back.new.progress
           (some_after g.P.Progress.looked c.args.progress.now c.loop-ends.progress c.first_end.new.progress c.loop-ends.invariant.looked c.in_ok-place.ensures.looked) then;

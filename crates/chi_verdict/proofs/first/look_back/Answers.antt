@@ -8,9 +8,9 @@ use Rattle.chi_trace.specs.Explains.{Explains, IsTrace, unobserved}
 use Rattle.chi_trace.specs.Granules.{ExplainsGranule}
 use Rattle.chi_trace.specs.declared.words.GranuleWord.{GranuleWord}
 use Rattle.chi_verdict.specs.declared.verdict.Verdict.{Verdict}
-use Rattle.chi_trace.specs.Traces.{CanHold, IsLegal, known_at}
+use Rattle.chi_trace.specs.Traces.{CanHold, IsLegal, trace_at}
 use Rattle.chi_verdict.specs.Verdicts.{IfExplained, IfUndecided, IfUnexplained}
-use Rattle.chi_trace.specs.Words.{memory_of, told, word_told}
+use Rattle.chi_trace.specs.Words.{find_word, memory_of, word_or_zero}
 use Rattle.chi_verdict.proofs.Blamed.{none_is_told, unexplained_at, words_imply}
 use Rattle.chi_trace.proofs.TracedCuts.{IsTrace-cut}
 use Rattle.chi_search.proofs.Looking.{more_after, none_more}
@@ -49,11 +49,11 @@ legal : (g : Over) (c : goal.After-drop-none-inside-in-Explained-1 g) (earlier :
 legal g c earlier next =
     let items = c.in-Explained.order.items in
     let memory = memory_of c.args.opening.now in
-    let whole = subst (λ (v : Verdict). IfExplained v (λ order. Explains memory (told c.none-none.result) c.deref.result.now order)) c.in-Explained.is c.in_ok-order.ensures.explained in
+    let whole = subst (λ (v : Verdict). IfExplained v (λ order. Explains memory (find_word c.none-none.result) c.deref.result.now order)) c.in-Explained.is c.in_ok-order.ensures.explained in
     let when : c.args.blamed.end - 1 ≡ earlier = omega (arith, next) in
     subst (λ (n : ℕ). Explains memory unobserved (cut n c.args.ops.now) items) when
     (subst (λ ops. Explains memory unobserved ops items) (rw c.in_ok-known.ensures at c.deref.ensures.value)
-    (unseen memory c.deref.result.now items (subst (λ words. Explains memory (told words) c.deref.result.now items) c.none-none.ensures whole)))
+    (unseen memory c.deref.result.now items (subst (λ words. Explains memory (find_word words) c.deref.result.now items) c.none-none.ensures whole)))
 
 -- each of these words, where there is an order, can be held after the operations
 abbrev Holds : List GranuleWord → ℕ → List Operation → List ℕ → Type 0
@@ -78,7 +78,7 @@ returns-in_ok-words-in-Explained-clause-answer g c = record {
         let holds = subst (λ (ops : List Operation). IfWords found (Holds opening c.args.granule ops))
         (rw c.in_ok-known.ensures at c.deref-in-Explained.ensures.value ∙ ap (λ (n : ℕ). cut n c.args.ops.now) when) c.in_ok-words-in-Explained.ensures.words in
         words_imply found (Holds opening c.args.granule (cut earlier c.args.ops.now))
-        (λ each. (v : ℕ) → Contains each v ↔ CanHold (known_at earlier (record { opening = opening; operations = c.args.ops.now })) c.args.granule v)
+        (λ each. (v : ℕ) → Contains each v ↔ CanHold (trace_at earlier (record { opening = opening; operations = c.args.ops.now })) c.args.granule v)
         (λ each all. all c.in-Explained.order.items (legal g c earlier next)) holds;
   };
   undecided = tt;
@@ -87,11 +87,11 @@ returns-in_ok-words-in-Explained-clause-answer g c = record {
 pub returns-in-Unexplained-clause-earlier : goal.returns-in-Unexplained-clause-earlier
 returns-in-Unexplained-clause-earlier g c order explains =
     let n = c.in-Unexplained.granule in
-    let word = word_told c.args.opening.now n in
-    let none = subst (λ (v : Verdict). IfUnexplained v (λ m. (x : List ℕ) → ExplainsGranule c.deref.result.now m (word_told c.args.opening.now m) (told c.none-none.result m) x → ⊥))
+    let word = word_or_zero c.args.opening.now n in
+    let none = subst (λ (v : Verdict). IfUnexplained v (λ m. (x : List ℕ) → ExplainsGranule c.deref.result.now m (word_or_zero c.args.opening.now m) (find_word c.none-none.result m) x → ⊥))
     c.in-Unexplained.is c.in_ok-order.ensures.granule in
     none order
-    (subst (λ (f : Option ℕ). ExplainsGranule c.deref.result.now n word f order) (sym (ap (λ words. told words n) c.none-none.ensures ∙ none_is_told n))
+    (subst (λ (f : Option ℕ). ExplainsGranule c.deref.result.now n word f order) (sym (ap (λ words. find_word words n) c.none-none.ensures ∙ none_is_told n))
     (subst (λ ops. ExplainsGranule ops n word None order) (sym (rw c.in_ok-known.ensures at c.deref.ensures.value)) explains))
 
 pub returns-then-blamed-eq0-clause-spent : goal.returns-then-blamed-eq0-clause-spent

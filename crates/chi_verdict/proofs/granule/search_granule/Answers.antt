@@ -7,8 +7,8 @@ use Rattle.chi_verdict.proofs.OneGranule.{inside, sorted, within}
 use Rattle.chi_verdict.proofs.Told.{indices, told_back, told_order}
 use Rattle.chi_verdict.proofs.granule.search_granule.Goals as goal
 
-pub chosen-requires : goal.chosen-requires
-chosen-requires g c = inside c.args.ops.now c.args.group.now.granule c.args.group.now.run.now c.requires.grouped.each
+pub at_places-requires : goal.at_places-requires
+at_places-requires g c = inside c.args.ops.now c.args.group.now.granule c.args.group.now.run.now c.requires.grouped.each
 
 pub order_of-requires-clause-sorted : goal.order_of-requires-clause-sorted
 order_of-requires-clause-sorted g c =

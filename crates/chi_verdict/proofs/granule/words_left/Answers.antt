@@ -2,7 +2,7 @@
 use Rattle.std.proofs.Common.{◌≡◌, ℕ, ◌↔◌, List, [], ◌∷◌, Some, ap, ◌∙◌}
 use Rattle.std.specs.List.{Contains}
 use Rattle.std.proofs.lemmas.Result.{IfOk-weaker}
-use Rattle.chi_trace.specs.Chosen.{chosen}
+use Rattle.chi_trace.specs.AtPlaces.{at_places}
 use Rattle.chi_trace.specs.Granules.{ExplainsGranule}
 use Rattle.chi_search.specs.Found.{IfWords}
 use Rattle.chi_search.specs.Layers.{SomeLeads}
@@ -11,8 +11,8 @@ use Rattle.chi_verdict.proofs.OneGranule.{inside, sorted, within}
 use Rattle.chi_verdict.proofs.Told.{said, told_words}
 use Rattle.chi_verdict.proofs.granule.words_left.Goals as goal
 
-pub chosen-requires : goal.chosen-requires
-chosen-requires g c = rw c.deref.ensures.value (inside c.args.ops.now c.args.granule c.in_ok-run.run'.items c.in_ok-run.ensures.each)
+pub at_places-requires : goal.at_places-requires
+at_places-requires g c = rw c.deref.ensures.value (inside c.args.ops.now c.args.granule c.in_ok-run.run'.items c.in_ok-run.ensures.each)
 
 pub words_of-requires-clause-sorted : goal.words_of-requires-clause-sorted
 words_of-requires-clause-sorted g c =
@@ -28,8 +28,8 @@ pub returns-clause-words : goal.returns-clause-words
 returns-clause-words g c =
     let ops = c.args.ops.now in
     let run = c.in_ok-run.run'.items in
-    let own : c.deref-2.result.now ≡ chosen ops (places_of run) =
-    c.deref-2.ensures.value ∙ c.in_ok-own.ensures ∙ ap (λ x. chosen ops (places_of x)) c.deref.ensures.value in
+    let own : c.deref-2.result.now ≡ at_places ops (places_of run) =
+    c.deref-2.ensures.value ∙ c.in_ok-own.ensures ∙ ap (λ x. at_places ops (places_of x)) c.deref.ensures.value in
     let Found = λ (v : ℕ). SomeLeads c.deref-2.result.now (c.args.word ∷ []) v in
     let Left = λ (v : ℕ). (order : List ℕ) × ExplainsGranule ops c.args.granule c.args.word (Some v) order in
     IfOk-weaker c.words_of.result (λ found. IfWords found (λ each. (v : ℕ) → Contains each v ↔ Found v)) (λ found. IfWords found (λ each. (v : ℕ) → Contains each v ↔ Left v))

@@ -5,11 +5,11 @@ use Rattle.chi_search.specs.declared.order.Found.{Found}
 use Rattle.chi_search.specs.Found.{IfNothing, IfOrder, IfUndecided}
 use Rattle.chi_trace.specs.Explains.{is_place, word_of}
 use Rattle.chi_trace.specs.Granules.{ExplainsGranule, is_of}
-use Rattle.chi_verdict.specs.declared.weaving.Point.{Point}
+use Rattle.chi_verdict.specs.declared.merge_orders.Point.{Point}
 use Rattle.chi_trace.specs.declared.words.GranuleWord.{GranuleWord}
 use Rattle.chi_verdict.specs.Groups.{IsGrouped}
 use Rattle.chi_verdict.specs.Points.{order_of}
-use Rattle.chi_trace.specs.Words.{memory_of, told, word_told}
+use Rattle.chi_trace.specs.Words.{find_word, memory_of, word_or_zero}
 use Rattle.chi_trace.proofs.Memory.{IsMemory-memory_of, word_of-memory_of}
 use Rattle.chi_verdict.proofs.Parts.{group_of}
 use Rattle.chi_search.proofs.Looking.{more_after, none_more}
@@ -57,7 +57,7 @@ returns-in-Nothing-clause-unexplained g c order explains =
     let n = c.in-Some.granule in
     let memory = memory_of c.args.opening.now in
     let none = subst (λ (f : Found). IfNothing f ((x : List ℕ) → ExplainsGranule ops n c.word.result c.get-final_word.result x → ⊥)) c.in-Nothing.is c.in_ok-order.ensures.nothing in
-    let part = (c.parts_explain.ensures memory (told c.args.final_words.now) ops order (IsMemory-memory_of c.args.opening.now) c.requires.traced explains n).0 in
+    let part = (c.parts_explain.ensures memory (find_word c.args.final_words.now) ops order (IsMemory-memory_of c.args.opening.now) c.requires.traced explains n).0 in
     let word = word_of-memory_of c.args.opening.now n c.requires.words ∙ sym c.word.ensures in
     none (filter (is_of ops n) order)
     (subst (λ (w : ℕ). ExplainsGranule ops n w c.get-final_word.result (filter (is_of ops n) order)) word
@@ -112,8 +112,8 @@ loop-granule-preserved g c =
         | in-Order+in_ok-add_points-in-Order w ↦
             let added = w.in_ok-add_points-in-Order.ensures in
             let explains = subst (λ (f : Found). IfOrder f (λ order. ExplainsGranule ops n c.word.result c.get-final_word.result order)) w.in-Order.is c.in_ok-order.ensures.order in
-            let own = subst (λ (v : ℕ). ExplainsGranule ops n v (told words n) w.in-Order.order.items) c.word.ensures
-            (subst (λ (f : Option ℕ). ExplainsGranule ops n c.word.result f w.in-Order.order.items) (c.get-final_word.ensures ∙ ap (λ ws. told ws n) (sym c.as_slice-words.ensures.words)) explains) in
+            let own = subst (λ (v : ℕ). ExplainsGranule ops n v (find_word words n) w.in-Order.order.items) c.word.ensures
+            (subst (λ (f : Option ℕ). ExplainsGranule ops n c.word.result f w.in-Order.order.items) (c.get-final_word.ensures ∙ ap (λ ws. find_word ws n) (sym c.as_slice-words.ensures.words)) explains) in
             subst (λ (o : Option ℕ). Walked opening words ops places to next o c.match-branch-4.points.items) (sym w.undecided-is)
             (subst (Walked opening words ops places to next undecided) (sym (ap (λ v. v.items) w.points-is ∙ added.1))
             (goes_on opening words ops places from to word next undecided undecided points added.0 n grouped walked (passes g c)
@@ -134,11 +134,11 @@ loop-granule-preserved g c =
           ]);
     }
 
-pub weave-requires-clause-points : goal.weave-requires-clause-points
-weave-requires-clause-points g c = c.loop-granule.invariant.walked.pointed
+pub merge_orders-requires-clause-points : goal.merge_orders-requires-clause-points
+merge_orders-requires-clause-points g c = c.loop-granule.invariant.walked.pointed
 
-pub weave-requires-clause-ordered : goal.weave-requires-clause-ordered
-weave-requires-clause-ordered g c = c.loop-granule.invariant.walked.ordered
+pub merge_orders-requires-clause-ordered : goal.merge_orders-requires-clause-ordered
+merge_orders-requires-clause-ordered g c = c.loop-granule.invariant.walked.ordered
 
 pub returns-clause-explained : goal.returns-clause-explained
 returns-clause-explained g c =
@@ -149,10 +149,10 @@ returns-clause-explained g c =
     let points = c.loop-granule.points.items in
     let places = c.in_ok-order-2.ensures.places (All-map (λ i. is_place ops i ≡ true) (λ (p : Point). p.place) points walked.inside) in
     let final_words = c.as_slice-words.ensures.words in
-    (c.parts_join.ensures (memory_of opening) (told c.args.final_words.now) ops order (IsMemory-memory_of opening) c.requires.traced places c.in_ok-order-2.ensures.times
-    (λ n. subst (λ (w : ℕ). ExplainsGranule ops n w (told c.args.final_words.now n) (filter (is_of ops n) order)) (sym (word_of-memory_of opening n c.requires.words))
-    (subst (ExplainsGranule ops n (word_told opening n) (told c.args.final_words.now n)) (sym (c.in_ok-order-2.ensures.parts n))
-    (subst (λ ws. ExplainsGranule ops n (word_told opening n) (told ws n) (filter (is_of ops n) (order_of points))) final_words
+    (c.parts_join.ensures (memory_of opening) (find_word c.args.final_words.now) ops order (IsMemory-memory_of opening) c.requires.traced places c.in_ok-order-2.ensures.times
+    (λ n. subst (λ (w : ℕ). ExplainsGranule ops n w (find_word c.args.final_words.now n) (filter (is_of ops n) order)) (sym (word_of-memory_of opening n c.requires.words))
+    (subst (ExplainsGranule ops n (word_or_zero opening n) (find_word c.args.final_words.now n)) (sym (c.in_ok-order-2.ensures.parts n))
+    (subst (λ ws. ExplainsGranule ops n (word_or_zero opening n) (find_word ws n) (filter (is_of ops n) (order_of points))) final_words
     (walked.explained c.in_default-undecided.is n (c.in_default.ensures.none refl n)))))).0
 
 pub returns-in-Nothing-clause-spent : goal.returns-in-Nothing-clause-spent

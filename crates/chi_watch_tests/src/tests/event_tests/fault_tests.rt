@@ -148,8 +148,8 @@ fn replies_that_no_home_gives(rt: HostRuntime) -> Result<(), Fail> {
             "ends a request that has a reply with a byte outside its operand",
         ),
     ] {
-        let asked = request(*opcode, 3, 4104, ENABLES);
-        let mut outstanding = after(rt.alloc(), &[(10, asked)])?;
+        let fields = request(*opcode, 3, 4104, ENABLES);
+        let mut outstanding = after(rt.alloc(), &[(10, fields)])?;
         let found = take(&mut outstanding, 11, reply(9, Some(*sent))).err();
         assert_fault(&rt, found, EventFault::Reply(*fault), text)?;
     }

@@ -4,7 +4,7 @@ use crate::tests::comparison::assert_same;
 use chi_events::{Completion, Event, EventFault, EventKind, Outstanding, Packet, Requested};
 use chi_fields::{Access, Kind, Op, Refusal};
 use chi_lanes::Reply;
-use chi_trace::{Asked, Operation};
+use chi_trace::{Operation, RequestFields};
 use std::alloc::Global;
 use std::process::Abort;
 use std::test::Fail;
@@ -18,8 +18,8 @@ pub(crate) const ENABLES: u16 = 0xff00;
 pub(crate) const OLD: [u8; 16] = [0, 0, 0, 0, 0, 0, 0, 0, 37, 0, 0, 0, 0, 0, 0, 0];
 
 /// An AtomicLoad ADD of eight bytes at 4104 by requester 513.
-fn load(be: u16, lanes: [u8; 16]) -> Asked {
-    Asked {
+fn load(be: u16, lanes: [u8; 16]) -> RequestFields {
+    RequestFields {
         number: 1,
         src: 513,
         txn: 9,
@@ -36,7 +36,7 @@ fn load(be: u16, lanes: [u8; 16]) -> Asked {
 pub(crate) fn load_with_data(id: u64) -> EventKind {
     EventKind::Request(Requested {
         id,
-        asked: load(ENABLES, LANES),
+        fields: load(ENABLES, LANES),
         has_data: true,
     })
 }
@@ -45,7 +45,7 @@ pub(crate) fn load_with_data(id: u64) -> EventKind {
 pub(crate) fn load_without_data(id: u64) -> EventKind {
     EventKind::Request(Requested {
         id,
-        asked: load(0, [0; 16]),
+        fields: load(0, [0; 16]),
         has_data: false,
     })
 }
@@ -54,7 +54,7 @@ pub(crate) fn load_without_data(id: u64) -> EventKind {
 pub(crate) fn read(id: u64, addr: u64) -> EventKind {
     EventKind::Request(Requested {
         id,
-        asked: Asked {
+        fields: RequestFields {
             number: 1,
             src: 2,
             txn: 65535,
@@ -73,7 +73,7 @@ pub(crate) fn read(id: u64, addr: u64) -> EventKind {
 pub(crate) fn request(opcode: u8, size: u8, addr: u64, be: u16) -> EventKind {
     EventKind::Request(Requested {
         id: 9,
-        asked: Asked {
+        fields: RequestFields {
             number: 1,
             src: 1,
             txn: 0,

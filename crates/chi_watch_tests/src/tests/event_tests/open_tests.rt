@@ -62,20 +62,20 @@ fn request_as_it_was_asked(rt: HostRuntime) -> Result<(), Fail> {
     let [load, read] = outstanding.requests() else {
         return Err(Fail::new("there are not two requests"));
     };
-    let asked = load.asked;
-    let numbers = (load.id, load.start, asked.src, asked.txn);
+    let fields = load.fields;
+    let numbers = (load.id, load.start, fields.src, fields.txn);
     assert_same(&rt, numbers, (3, 10, 513, 9));
-    let what = (asked.opcode, asked.size, asked.addr);
-    let lanes = asked.lanes;
+    let what = (fields.opcode, fields.size, fields.addr);
+    let lanes = fields.lanes;
     assert_same(
         &rt,
-        (what, asked.be, lanes),
+        (what, fields.be, lanes),
         ((0x30, 3, 4104), ENABLES, LANES),
     );
-    let asked = read.asked;
+    let fields = read.fields;
     assert_same(
         &rt,
-        (read.id, read.start, asked.src, asked.txn, asked.endian),
+        (read.id, read.start, fields.src, fields.txn, fields.endian),
         (7, 10, 2, 65535, true),
     );
     Ok(())

@@ -69,8 +69,8 @@ fn reasons_by_the_request(rt: HostRuntime) -> Result<(), Fail> {
             &[Refusal::OutOfRegion, Refusal::Misaligned],
         ),
     ] {
-        let asked = request(*opcode, *size, *addr, *be);
-        assert_reasons(&rt, &[(10, asked)], 9, wanted)?;
+        let fields = request(*opcode, *size, *addr, *be);
+        assert_reasons(&rt, &[(10, fields)], 9, wanted)?;
     }
     Ok(())
 }
@@ -99,12 +99,12 @@ fn reasons_before_the_data(rt: HostRuntime) -> Result<(), Fail> {
 // Without a reason each may be refused.
 #[test]
 fn refused_without_a_reason(rt: HostRuntime) -> Result<(), Fail> {
-    for (asked, id) in &[
+    for (fields, id) in &[
         (request(0x30, 3, 4105, 0xff00), 9),
         (load_with_data(3), 3),
         (load_without_data(3), 3),
     ] {
-        let mut outstanding = after(rt.alloc(), &[(10, *asked)])?;
+        let mut outstanding = after(rt.alloc(), &[(10, *fields)])?;
         let found = take(&mut outstanding, 11, refused(*id, None))?;
         let left = outstanding.requests().len();
         assert_same(&rt, (*id, found.is_none(), left), (*id, true, 0));

@@ -8,7 +8,7 @@ use Rattle.chi_watch.specs.declared.ending.FoundAtEnd.{FoundAtEnd}
 use Rattle.chi_watch_text.specs.Outcomes.{HasTakenLines, IsOutcome, IsUnreached}
 use Rattle.chi_watch_text.specs.Reading.{IsRead}
 use Rattle.chi_watch_text.specs.declared.fault.LinesFault.{LinesFault}
-use Rattle.chi_watch_text.specs.declared.watched.Found.{Found}
+use Rattle.chi_watch_text.specs.declared.watched.FoundGranule.{FoundGranule}
 use Rattle.chi_watch_text.specs.declared.watched.Watched.{Watched}
 use Rattle.chi_watch_text.proofs.Told.{at_end, at_stop, event_taken, none_found, none_taken, passed_on, reached_by_found, settled, undecided_after, unreached_all, unreached_at_end, where_not_taken, where_refused}
 use Rattle.chi_watch_text.proofs.watching.watch_lines.Goals as goal
@@ -18,8 +18,8 @@ loop-number-init g c = record {
   taken = none_taken (g.R.Read.remaining c.args.from.now) c.new-watch.result c.new-found.result.items c.new-quiet.result.items c.new-watch.ensures c.new-found.ensures.items c.new-quiet.ensures.items;
   once = λ i j d before below. absurd (let none = ap length c.new-found.ensures.items in omega (arith, before, below, none));
   told = ([], c.new-watch.ensures);
-  unreached = subst (All (λ (f : Found). IsUnreached g.P.Progress.looked c.args.progress.now c.args.progress.now c.args.options.now.budget f.reach)) (sym c.new-found.ensures.items)
-      (All-nil (λ (f : Found). IsUnreached g.P.Progress.looked c.args.progress.now c.args.progress.now c.args.options.now.budget f.reach));
+  unreached = subst (All (λ (f : FoundGranule). IsUnreached g.P.Progress.looked c.args.progress.now c.args.progress.now c.args.options.now.budget f.reach)) (sym c.new-found.ensures.items)
+      (All-nil (λ (f : FoundGranule). IsUnreached g.P.Progress.looked c.args.progress.now c.args.progress.now c.args.options.now.budget f.reach));
   first = λ stop. c.new-found.ensures.items;
   looked = looked_none g.P.Progress.looked c.args.progress.now;
 }
@@ -35,22 +35,22 @@ loop-number-preserved g c =
     let before = c.loop-number.invariant in
     let settled_now =
     settled (g.R.Read.remaining c.args.from.now) (g.R.Read.remaining c.loop-number.from) (g.R.Read.remaining c.next_event.new.from) (c.loop-number.number - 1) c.loop-number.number c.loop-number.time c.loop-number.found.items
-    c.settle.new.found.items c.loop-number.quiet.items c.settle.new.quiet.items c.loop-number.watch c.in_ok-next.next c.is_past-is_past.result before.taken (omega arith) c.in_ok-next.ensures.told c.is_past-is_past.ensures
-    c.in_ok-settle.ensures.waits c.in_ok-settle.ensures.cleared c.in_ok-settle.ensures.each in
-    let first = none_found c.is_past-is_past.result c.stops.result c.args.options.now.keep_going c.loop-number.found.items c.settle.new.found.items before.first
-    (λ waits. (c.in_ok-settle.ensures.waits waits).0) c.if-stops.false (rw c.deref.ensures.value at c.stops.ensures.goes_on) in
-    let some = some_after g.P.Progress.looked c.args.progress.now c.loop-number.progress c.settle.new.progress before.looked c.in_ok-settle.ensures.looked in
+    c.judge_quiet.new.found.items c.loop-number.quiet.items c.judge_quiet.new.quiet.items c.loop-number.watch c.in_ok-next.next c.is_past-is_past.result before.taken (omega arith) c.in_ok-next.ensures.told c.is_past-is_past.ensures
+    c.in_ok-judge_quiet.ensures.waits c.in_ok-judge_quiet.ensures.cleared c.in_ok-judge_quiet.ensures.each in
+    let first = none_found c.is_past-is_past.result c.stops.result c.args.options.now.keep_going c.loop-number.found.items c.judge_quiet.new.found.items before.first
+    (λ waits. (c.in_ok-judge_quiet.ensures.waits waits).0) c.if-stops.false (rw c.deref.ensures.value at c.stops.ensures.goes_on) in
+    let some = some_after g.P.Progress.looked c.args.progress.now c.loop-number.progress c.judge_quiet.new.progress before.looked c.in_ok-judge_quiet.ensures.looked in
     let read = subst (λ (o : Option Event). IfSome (g.R.Read.remaining c.loop-number.from) (λ text. IsRead c.loop-number.number text o (g.R.Read.remaining c.next_event.new.from))) c.in-Some.is c.in_ok-next.ensures.told in
     record {
-      taken = subst (λ (k : ℕ). HasTakenLines (g.R.Read.remaining c.args.from.now) k c.in-Some.event.time c.settle.new.found.items c.note_quiet.new.quiet.items c.take_event.new.watch (g.R.Read.remaining c.next_event.new.from)) (omega arith)
-          (event_taken (g.R.Read.remaining c.args.from.now) (g.R.Read.remaining c.loop-number.from) (g.R.Read.remaining c.next_event.new.from) (c.loop-number.number - 1) c.loop-number.number c.loop-number.time c.settle.new.found.items c.settle.new.quiet.items
+      taken = subst (λ (k : ℕ). HasTakenLines (g.R.Read.remaining c.args.from.now) k c.in-Some.event.time c.judge_quiet.new.found.items c.note_quiet.new.quiet.items c.take_event.new.watch (g.R.Read.remaining c.next_event.new.from)) (omega arith)
+          (event_taken (g.R.Read.remaining c.args.from.now) (g.R.Read.remaining c.loop-number.from) (g.R.Read.remaining c.next_event.new.from) (c.loop-number.number - 1) c.loop-number.number c.loop-number.time c.judge_quiet.new.found.items c.judge_quiet.new.quiet.items
           c.note_quiet.new.quiet.items c.loop-number.watch c.take_event.new.watch c.in-Some.event c.in_ok-seen.seen settled_now read c.in_ok-seen.ensures.taken (omega arith) c.in_ok-note_quiet.ensures);
-      once = c.in_ok-settle.ensures.once before.once;
+      once = c.in_ok-judge_quiet.ensures.once before.once;
       told = (before.told.0 ++ c.in-Some.event ∷ [], c.in_ok-seen.ensures.taken.taken before.told.0 before.told.1);
-      unreached = unreached_all c.loop-number.watch g.P.Progress.looked c.args.progress.now c.loop-number.progress c.settle.new.progress c.take_event.new.progress c.args.options.now.budget
-          c.loop-number.found.items c.settle.new.found.items before.looked c.in_ok-settle.ensures.looked c.in_ok-seen.ensures.looked before.told.0 before.told.1 c.in_ok-settle.ensures.unreached before.unreached;
+      unreached = unreached_all c.loop-number.watch g.P.Progress.looked c.args.progress.now c.loop-number.progress c.judge_quiet.new.progress c.take_event.new.progress c.args.options.now.budget
+          c.loop-number.found.items c.judge_quiet.new.found.items before.looked c.in_ok-judge_quiet.ensures.looked c.in_ok-seen.ensures.looked before.told.0 before.told.1 c.in_ok-judge_quiet.ensures.unreached before.unreached;
       first = first;
-      looked = some_after g.P.Progress.looked c.args.progress.now c.settle.new.progress c.take_event.new.progress some c.in_ok-seen.ensures.looked;
+      looked = some_after g.P.Progress.looked c.args.progress.now c.judge_quiet.new.progress c.take_event.new.progress some c.in_ok-seen.ensures.looked;
     }
 
 pub returns-then-stops-clause-outcome : goal.returns-then-stops-clause-outcome
@@ -58,10 +58,10 @@ returns-then-stops-clause-outcome g c =
     let before = c.loop-number.invariant in
     let settled_now =
     settled (g.R.Read.remaining c.args.from.now) (g.R.Read.remaining c.loop-number.from) (g.R.Read.remaining c.next_event.new.from) (c.loop-number.number - 1) c.loop-number.number c.loop-number.time c.loop-number.found.items
-    c.settle.new.found.items c.loop-number.quiet.items c.settle.new.quiet.items c.loop-number.watch c.in_ok-next.next c.is_past-is_past.result before.taken (omega arith) c.in_ok-next.ensures.told c.is_past-is_past.ensures
-    c.in_ok-settle.ensures.waits c.in_ok-settle.ensures.cleared c.in_ok-settle.ensures.each in
-    at_stop (g.R.Read.remaining c.args.from.now) (g.R.Read.remaining c.loop-number.from) (g.R.Read.remaining c.next_event.new.from) (c.loop-number.number - 1) c.loop-number.number c.loop-number.time c.settle.new.found.items c.settle.new.quiet.items
-    c.args.options.now.keep_going c.is_past-is_past.result c.loop-number.watch c.in_ok-next.next c.stopped.result settled_now (omega arith) c.in_ok-next.ensures.told c.is_past-is_past.ensures (c.in_ok-settle.ensures.once before.once)
+    c.judge_quiet.new.found.items c.loop-number.quiet.items c.judge_quiet.new.quiet.items c.loop-number.watch c.in_ok-next.next c.is_past-is_past.result before.taken (omega arith) c.in_ok-next.ensures.told c.is_past-is_past.ensures
+    c.in_ok-judge_quiet.ensures.waits c.in_ok-judge_quiet.ensures.cleared c.in_ok-judge_quiet.ensures.each in
+    at_stop (g.R.Read.remaining c.args.from.now) (g.R.Read.remaining c.loop-number.from) (g.R.Read.remaining c.next_event.new.from) (c.loop-number.number - 1) c.loop-number.number c.loop-number.time c.judge_quiet.new.found.items c.judge_quiet.new.quiet.items
+    c.args.options.now.keep_going c.is_past-is_past.result c.loop-number.watch c.in_ok-next.next c.stopped.result settled_now (omega arith) c.in_ok-next.ensures.told c.is_past-is_past.ensures (c.in_ok-judge_quiet.ensures.once before.once)
     ((rw c.deref.ensures.value at c.stops.ensures.stops) c.if-stops.true) c.stopped.ensures.told c.stopped.ensures.ending
 
 pub returns-in_default-clause-outcome : goal.returns-in_default-clause-outcome
@@ -69,34 +69,34 @@ returns-in_default-clause-outcome g c =
     let before = c.loop-number.invariant in
     let settled_now =
     settled (g.R.Read.remaining c.args.from.now) (g.R.Read.remaining c.loop-number.from) (g.R.Read.remaining c.next_event.new.from) (c.loop-number.number - 1) c.loop-number.number c.loop-number.time c.loop-number.found.items
-    c.settle.new.found.items c.loop-number.quiet.items c.settle.new.quiet.items c.loop-number.watch c.in_ok-next.next c.is_past-is_past.result before.taken (omega arith) c.in_ok-next.ensures.told c.is_past-is_past.ensures
-    c.in_ok-settle.ensures.waits c.in_ok-settle.ensures.cleared c.in_ok-settle.ensures.each in
-    let first = none_found c.is_past-is_past.result c.stops.result c.args.options.now.keep_going c.loop-number.found.items c.settle.new.found.items before.first
-    (λ waits. (c.in_ok-settle.ensures.waits waits).0) c.if-stops.false (rw c.deref.ensures.value at c.stops.ensures.goes_on) in
+    c.judge_quiet.new.found.items c.loop-number.quiet.items c.judge_quiet.new.quiet.items c.loop-number.watch c.in_ok-next.next c.is_past-is_past.result before.taken (omega arith) c.in_ok-next.ensures.told c.is_past-is_past.ensures
+    c.in_ok-judge_quiet.ensures.waits c.in_ok-judge_quiet.ensures.cleared c.in_ok-judge_quiet.ensures.each in
+    let first = none_found c.is_past-is_past.result c.stops.result c.args.options.now.keep_going c.loop-number.found.items c.judge_quiet.new.found.items before.first
+    (λ waits. (c.in_ok-judge_quiet.ensures.waits waits).0) c.if-stops.false (rw c.deref.ensures.value at c.stops.ensures.goes_on) in
     let read = subst (λ (o : Option Event). IfSome (g.R.Read.remaining c.loop-number.from) (λ text. IsRead c.loop-number.number text o (g.R.Read.remaining c.next_event.new.from))) c.in_default.is c.in_ok-next.ensures.told in
     let ended = c.in_ok-ended.ensures in
-    at_end (g.R.Read.remaining c.args.from.now) (g.R.Read.remaining c.loop-number.from) (g.R.Read.remaining c.next_event.new.from) (c.loop-number.number - 1) c.loop-number.number c.loop-number.time c.settle.new.found.items c.settle.new.quiet.items
-    c.args.options.now.keep_going c.loop-number.watch c.in_ok-ended.field-0 settled_now read (c.in_ok-settle.ensures.once before.once) first ended.told ended.ending ended.says
+    at_end (g.R.Read.remaining c.args.from.now) (g.R.Read.remaining c.loop-number.from) (g.R.Read.remaining c.next_event.new.from) (c.loop-number.number - 1) c.loop-number.number c.loop-number.time c.judge_quiet.new.found.items c.judge_quiet.new.quiet.items
+    c.args.options.now.keep_going c.loop-number.watch c.in_ok-ended.field-0 settled_now read (c.in_ok-judge_quiet.ensures.once before.once) first ended.told ended.ending ended.says
 
 pub returns-in_default-clause-undecided : goal.returns-in_default-clause-undecided
 returns-in_default-clause-undecided g c =
-    let some = some_after g.P.Progress.looked c.args.progress.now c.loop-number.progress c.settle.new.progress c.loop-number.invariant.looked c.in_ok-settle.ensures.looked in
-    undecided_after g.P.Progress.looked c.args.progress.now c.settle.new.progress c.ended.new.progress c.args.options.now.budget c.in_ok-ended.field-0 some c.in_ok-ended.ensures.undecided
+    let some = some_after g.P.Progress.looked c.args.progress.now c.loop-number.progress c.judge_quiet.new.progress c.loop-number.invariant.looked c.in_ok-judge_quiet.ensures.looked in
+    undecided_after g.P.Progress.looked c.args.progress.now c.judge_quiet.new.progress c.ended.new.progress c.args.options.now.budget c.in_ok-ended.field-0 some c.in_ok-ended.ensures.undecided
 
 pub returns-in_default-clause-unreached : goal.returns-in_default-clause-unreached
 returns-in_default-clause-unreached g c =
     let looked = g.P.Progress.looked in
     let old = c.args.progress.now in
     let middle = c.loop-number.progress in
-    let new = c.settle.new.progress in
+    let new = c.judge_quiet.new.progress in
     let last = c.ended.new.progress in
     let budget = c.args.options.now.budget in
     let w = c.loop-number.watch in
     let before = c.loop-number.invariant in
-    let some = some_after looked old middle new before.looked c.in_ok-settle.ensures.looked in
-    reached_by_found looked old last budget c.settle.new.found.items c.in_ok-ended.field-0 c.in_ok-ended.ensures.told.found_is
-    (unreached_all w looked old middle new last budget c.loop-number.found.items c.settle.new.found.items before.looked c.in_ok-settle.ensures.looked c.in_ok-ended.ensures.looked before.told.0 before.told.1
-    c.in_ok-settle.ensures.unreached before.unreached)
+    let some = some_after looked old middle new before.looked c.in_ok-judge_quiet.ensures.looked in
+    reached_by_found looked old last budget c.judge_quiet.new.found.items c.in_ok-ended.field-0 c.in_ok-ended.ensures.told.found_is
+    (unreached_all w looked old middle new last budget c.loop-number.found.items c.judge_quiet.new.found.items before.looked c.in_ok-judge_quiet.ensures.looked c.in_ok-ended.ensures.looked before.told.0 before.told.1
+    c.in_ok-judge_quiet.ensures.unreached before.unreached)
     (unreached_at_end looked old new last budget w some before.told.0 before.told.1 c.in_ok-ended.field-0.ending c.in_ok-ended.ensures.unreached)
 
 pub returns-then-stops-clause-unreached : goal.returns-then-stops-clause-unreached
@@ -104,12 +104,12 @@ returns-then-stops-clause-unreached g c =
     let looked = g.P.Progress.looked in
     let old = c.args.progress.now in
     let middle = c.loop-number.progress in
-    let new = c.settle.new.progress in
+    let new = c.judge_quiet.new.progress in
     let budget = c.args.options.now.budget in
     let before = c.loop-number.invariant in
-    reached_by_found looked old new budget c.settle.new.found.items c.stopped.result c.stopped.ensures.told.found_is
-    (unreached_all c.loop-number.watch looked old middle new new budget c.loop-number.found.items c.settle.new.found.items before.looked c.in_ok-settle.ensures.looked (looked_none looked new) before.told.0
-    before.told.1 c.in_ok-settle.ensures.unreached before.unreached)
+    reached_by_found looked old new budget c.judge_quiet.new.found.items c.stopped.result c.stopped.ensures.told.found_is
+    (unreached_all c.loop-number.watch looked old middle new new budget c.loop-number.found.items c.judge_quiet.new.found.items before.looked c.in_ok-judge_quiet.ensures.looked (looked_none looked new) before.told.0
+    before.told.1 c.in_ok-judge_quiet.ensures.unreached before.unreached)
     (subst (λ (o : Option Ending). IfSome o (λ ending. All (λ (f : FoundAtEnd). IsUnreached looked old new budget f.reach) ending.unexplained.items)) (sym c.stopped.ensures.ending) tt)
 
 pub returns-in_err-seen-clause-outcome : goal.returns-in_err-seen-clause-outcome
@@ -117,9 +117,9 @@ returns-in_err-seen-clause-outcome g c =
     let before = c.loop-number.invariant in
     let settled_now =
     settled (g.R.Read.remaining c.args.from.now) (g.R.Read.remaining c.loop-number.from) (g.R.Read.remaining c.next_event.new.from) (c.loop-number.number - 1) c.loop-number.number c.loop-number.time c.loop-number.found.items
-    c.settle.new.found.items c.loop-number.quiet.items c.settle.new.quiet.items c.loop-number.watch c.in_ok-next.next c.is_past-is_past.result before.taken (omega arith) c.in_ok-next.ensures.told c.is_past-is_past.ensures
-    c.in_ok-settle.ensures.waits c.in_ok-settle.ensures.cleared c.in_ok-settle.ensures.each in
+    c.judge_quiet.new.found.items c.loop-number.quiet.items c.judge_quiet.new.quiet.items c.loop-number.watch c.in_ok-next.next c.is_past-is_past.result before.taken (omega arith) c.in_ok-next.ensures.told c.is_past-is_past.ensures
+    c.in_ok-judge_quiet.ensures.waits c.in_ok-judge_quiet.ensures.cleared c.in_ok-judge_quiet.ensures.each in
     let read = subst (λ (o : Option Event). IfSome (g.R.Read.remaining c.loop-number.from) (λ text. IsRead c.loop-number.number text o (g.R.Read.remaining c.next_event.new.from))) c.in-Some.is c.in_ok-next.ensures.told in
     passed_on c.from_residual-in_err-seen.result c.in_err-seen.field-0.0 (λ (r : Result Watched LinesFault). IfSome (g.R.Read.remaining c.args.from.now) (λ text. IsOutcome text c.args.options.now.keep_going r)) c.from_residual-in_err-seen.ensures.1
-    (where_not_taken (g.R.Read.remaining c.args.from.now) (g.R.Read.remaining c.loop-number.from) (g.R.Read.remaining c.next_event.new.from) (c.loop-number.number - 1) c.loop-number.number c.loop-number.time c.settle.new.found.items c.settle.new.quiet.items
+    (where_not_taken (g.R.Read.remaining c.args.from.now) (g.R.Read.remaining c.loop-number.from) (g.R.Read.remaining c.next_event.new.from) (c.loop-number.number - 1) c.loop-number.number c.loop-number.time c.judge_quiet.new.found.items c.judge_quiet.new.quiet.items
     c.args.options.now.keep_going c.loop-number.watch c.in-Some.event c.in_err-seen.field-0.0 settled_now (omega arith) read c.in_err-seen.ensures.fault)

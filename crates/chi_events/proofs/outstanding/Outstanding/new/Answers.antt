@@ -4,11 +4,11 @@ use Rattle.std.proofs.lemmas.List.Elements.{All-nil}
 use Rattle.std.proofs.lemmas.List.Sorted.{IsPermutation-refl}
 use Rattle.chi_events.specs.declared.event.Event.{Event}
 use Rattle.chi_events.specs.Outstanding.{IsAccepted, IsEvent}
-use Rattle.chi_events.specs.Told.{told}
+use Rattle.chi_events.specs.RequestEvents.{each_request}
 use Rattle.chi_events.proofs.outstanding.Outstanding.new.Goals as goal
 
 pub returns-clause-tells : goal.returns-clause-tells
-unfolding told
+unfolding each_request
 returns-clause-tells c = record {
   bounds = All-nil IsEvent;
   in_time = λ i j d from below. absurd (omega arith);

@@ -16,5 +16,5 @@ returns-clause-words g c =
     ok_words_imply c.words_after.result
     (λ each. (words : List ℕ) (told : List Operation) → Follows words told c.self.inside.before → (v : ℕ) → Contains each v ↔ SomeLeads (told ++ c.args.ops.now) words v)
     (λ each. r.is_stopped ≡ false → (trace : List Operation) (n w : ℕ) → IsRecentOf trace n w r → (v : ℕ) → Contains each v ↔ CanLeave trace n w v)
-    (λ each found. words_of_all c.granules_told.ensures r c.self.inside.before c.args.ops.now each (ap (λ (v : RecentValue). v.before) c.self.view_is) c.requires.kept found)
+    (λ each found. words_of_all c.granules_stand_alone.ensures r c.self.inside.before c.args.ops.now each (ap (λ (v : RecentValue). v.before) c.self.view_is) c.requires.kept found)
     c.words_after.ensures.words

@@ -28,7 +28,7 @@ stop_within-requires-clause-last g c trace n w is =
     let ops_is : more ≡ r.kept = c.deref-then-self.ensures.value ∙ (c.in_ok-ops.ensures.items ∙ kept) in
     let same : more ≡ c.deref-then-self-2.result.now = c.deref-then-self.ensures.value ∙ sym c.deref-then-self-2.ensures.value in
     subst (λ (l : List Operation). (0 < count) × (IsExplained (at l (count - 1)).end trace n w → ⊥)) same
-    (last_before c.granules_told.ensures r more count ops_is stopped c.ended_before-count.ensures.within before first trace n w is)
+    (last_before c.granules_stand_alone.ensures r more count ops_is stopped c.ended_before-count.ensures.within before first trace n w is)
 
 -- they are the words of all
 abbrev AreAll : RecentValue → List ℕ → Type 0
@@ -42,7 +42,7 @@ stop_within-requires-then-is_empty-clause-last g c trace n w is =
     let goes : r.is_stopped ≡ false = ap (λ (v : RecentValue). v.is_stopped) (sym c.self.view_is) ∙ c.if-self.false in
     let kept : c.deref.result.now ≡ r.kept = c.deref.ensures.value ∙ ap (λ (v : RecentValue). v.kept) c.self.view_is in
     let ops_is : more ≡ r.kept = c.deref-then-is_empty.ensures.value ∙ (c.in_ok-ops.ensures.items ∙ kept) in
-    last_of_all c.granules_told.ensures r more c.len.result words.items ops_is goes
+    last_of_all c.granules_stand_alone.ensures r more c.len.result words.items ops_is goes
     (c.len.ensures ∙ (c.in_ok-ops.ops.ok.0 ∙ ap length (sym c.deref-then-is_empty.ensures.value)))
     (sym words.ok.0 ∙ eqb-true words.len 0 (sym c.is_empty.ensures ∙ c.if-is_empty.true))
     (subst (λ (f : Words). IfWords f (AreAll r)) c.in-Each.is c.in_ok-last_words.ensures.words goes) trace n w is

@@ -19,14 +19,14 @@ use Rattle.chi_recent.proofs.recent.Recent.stop_at.Goals as goal
 pub returns-in_default-clause-undecided : goal.returns-in_default-clause-undecided
 returns-in_default-clause-undecided g c trace n w is first =
     let r = c.args.self.now in
-    let stop = stops_at c.granules_told.ensures r c.args.ops.now r.kept c.args.place c.index-ops-place.result c.requires.kept refl c.requires.within c.requires.seen c.requires.unexplained trace n w is in
+    let stop = stops_at c.granules_stand_alone.ensures r c.args.ops.now r.kept c.args.place c.index-ops-place.result c.requires.kept refl c.requires.within c.requires.seen c.requires.unexplained trace n w is in
     ⊎_elim (λ none. absurd (none.2 (stop.seen none.0 none.1) (stop.before first none.0 none.1))) (λ least. least) (c.in_ok-words.ensures.none c.in_default.is trace n w is)
 
 pub returns-in_default-answered_at-clause-undecided : goal.returns-in_default-answered_at-clause-undecided
 returns-in_default-answered_at-clause-undecided g c trace n w is first =
     let r = c.args.self.now in
     let time = (get_or c.args.ops.now c.args.place c.index-ops-place.result).end in
-    let stop = stops_at c.granules_told.ensures r c.args.ops.now r.kept c.args.place c.index-ops-place.result c.requires.kept refl c.requires.within c.requires.seen c.requires.unexplained trace n w is in
+    let stop = stops_at c.granules_stand_alone.ensures r c.args.ops.now r.kept c.args.place c.index-ops-place.result c.requires.kept refl c.requires.within c.requires.seen c.requires.unexplained trace n w is in
     let words = subst (λ (f : Option (Vec ℕ Global)). IfSome f (λ ws. (earlier : ℕ) → earlier + 1 ≡ time → AreWordsBy r earlier ws.items)) c.in-Some.is c.in_ok-words.ensures.words in
     let some = subst (λ (f : Option (Vec ℕ Global)). IfSome f (λ ws. (earlier : ℕ) → earlier + 1 ≡ time → 0 < length ws.items)) c.in-Some.is c.in_ok-words.ensures.some in
     absurd (stop.answered
@@ -42,7 +42,7 @@ returns-clause-stops g c trace n w is =
     let kept : c.deref-2.result.now ≡ r.kept = c.deref-2.ensures.value ∙ ap (λ (v : RecentValue). v.kept) c.self.view_is in
     let kept_too : c.deref-4.result.now ≡ r.kept = c.deref-4.ensures.value ∙ ap (λ (v : RecentValue). v.kept) c.self.view_is in
     let left : c.deref-3.result.now ≡ r.left = c.deref-3.ensures.value ∙ ap (λ (v : RecentValue). v.left) c.self.view_is in
-    let stop = stops_at c.granules_told.ensures r given c.deref-2.result.now c.args.place c.index-ops-place.result c.requires.kept kept c.requires.within c.requires.seen c.requires.unexplained trace n w is in
+    let stop = stops_at c.granules_stand_alone.ensures r given c.deref-2.result.now c.args.place c.index-ops-place.result c.requires.kept kept c.requires.within c.requires.seen c.requires.unexplained trace n w is in
     let op : Operation = c.index.result.now in
     let words = subst (λ (f : Option (Vec ℕ Global)). IfSome f (λ ws. (earlier : ℕ) → earlier + 1 ≡ time → AreWordsBy r earlier ws.items)) c.in-Some.is c.in_ok-words.ensures.words in
     let some = subst (λ (f : Option (Vec ℕ Global)). IfSome f (λ ws. (earlier : ℕ) → earlier + 1 ≡ time → 0 < length ws.items)) c.in-Some.is c.in_ok-words.ensures.some in
@@ -66,7 +66,7 @@ returns-clause-stops g c trace n w is =
           (are_before trace n w r is time stop.seen_then blamed below ends_there c.in_ok-before_at.field-0.items shown);
       legal = All-weaker (LeadsWith c.self.inside.before given time blamed) (IsLegal trace n w time op)
           (λ reply leads. subst (λ (o : Operation). IsLegal trace n w time o reply) op_is
-          (is_legal c.granules_told.ensures trace n w r is time stop.seen_then blamed below reply
+          (is_legal c.granules_stand_alone.ensures trace n w r is time stop.seen_then blamed below reply
           (subst (λ (l : List Operation). LeadsWith r.before l time blamed reply) c.requires.kept
           (subst (λ (v : RecentValue). LeadsWith v.before given time blamed reply) c.self.view_is leads))))
           c.in_ok-legal.legal.items c.in_ok-legal.ensures;

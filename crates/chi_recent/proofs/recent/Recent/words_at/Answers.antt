@@ -18,5 +18,5 @@ returns-clause-words g c =
     ok_words_imply c.words_by.result
     (λ each. (words : List ℕ) (told : List Operation) → Follows words told c.self.inside.before → (v : ℕ) → Contains each v ↔ SomeLeads (told ++ cut time c.args.ops.now) words v)
     (AreWordsBy r time)
-    (λ each found. words_by_time c.granules_told.ensures r c.self.inside.before c.args.ops.now time each (ap (λ (v : RecentValue). v.before) c.self.view_is) c.requires.kept found)
+    (λ each found. words_by_time c.granules_stand_alone.ensures r c.self.inside.before c.args.ops.now time each (ap (λ (v : RecentValue). v.before) c.self.view_is) c.requires.kept found)
     c.words_by.ensures.words

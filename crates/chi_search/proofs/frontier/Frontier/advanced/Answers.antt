@@ -22,13 +22,13 @@ advance-requires-clause-ready g c =
 pub invariant_of-result : goal.invariant_of-result
 invariant_of-result g c =
     let s = c.self.inside in
-    let known = c.deref-in-Some.result.now in
+    let problem = c.deref-in-Some.result.now in
     let by = c.passed-by.result in
     let old : FrontierValue = record { positions = positions s.states; operations = s.operations.items; horizon = s.horizon; latest = s.latest } in
     let last = c.in-Some.last in
     let back = c.in_ok-states-in-Some.states in
     let items : c.in_ok-operations-in-Some.operations.items ≡ drop by s.operations.items =
-    c.in_ok-operations-in-Some.ensures.items ∙ rest by known ∙ ap (drop by) c.deref-in-Some.ensures.value in
+    c.in_ok-operations-in-Some.ensures.items ∙ rest by problem ∙ ap (drop by) c.deref-in-Some.ensures.value in
     let within : by ≤ length s.operations.items = subst (λ (ops : List Operation). by ≤ length ops) c.deref-in-Some.ensures.value (omega arith) in
     let ready = subst (λ (o : Option States). IfSome o (AreReady c.deref.result.now)) c.in-Some.is c.in_ok-last.ensures.ready in
     subst (λ (ops : List Operation). IsFrontier (record { positions = positions back; operations = ops; horizon = c.max-horizon.result; latest = s.latest })) (sym items)
@@ -38,7 +38,7 @@ invariant_of-result g c =
 pub returns-in_ok-operations-in-Some-clause-follows : goal.returns-in_ok-operations-in-Some-clause-follows
 returns-in_ok-operations-in-Some-clause-follows g c words told follows =
     let s = c.self.inside in
-    let known = c.deref-in-Some.result.now in
+    let problem = c.deref-in-Some.result.now in
     let by = c.passed-by.result in
     let horizon = c.max-horizon.result in
     let old : FrontierValue = record { positions = positions s.states; operations = s.operations.items; horizon = s.horizon; latest = s.latest } in
@@ -46,7 +46,7 @@ returns-in_ok-operations-in-Some-clause-follows g c words told follows =
     let last = c.in-Some.last in
     let back = c.in_ok-states-in-Some.states in
     let items : c.in_ok-operations-in-Some.operations.items ≡ drop by s.operations.items =
-    c.in_ok-operations-in-Some.ensures.items ∙ rest by known ∙ ap (drop by) c.deref-in-Some.ensures.value in
+    c.in_ok-operations-in-Some.ensures.items ∙ rest by problem ∙ ap (drop by) c.deref-in-Some.ensures.value in
     let within : by ≤ length s.operations.items = subst (λ (ops : List Operation). by ≤ length ops) c.deref-in-Some.ensures.value (omega arith) in
     let later : s.horizon ≤ horizon = omega arith in
     let ends = subst (λ (o : Option States). IfSome o (λ states. (more : List Operation) → MayFollow c.deref.result.now (Some horizon) more → (v : ℕ)
@@ -60,13 +60,13 @@ returns-in_ok-operations-in-Some-clause-follows g c words told follows =
 pub returns-in_ok-operations-in-Some-clause-waiting : goal.returns-in_ok-operations-in-Some-clause-waiting
 returns-in_ok-operations-in-Some-clause-waiting g c =
     let s = c.self.inside in
-    let known = c.deref-in-Some.result.now in
+    let problem = c.deref-in-Some.result.now in
     let by = c.passed-by.result in
     let horizon = c.max-horizon.result in
     let last = c.in-Some.last in
     let back = c.in_ok-states-in-Some.states in
     let items : c.in_ok-operations-in-Some.operations.items ≡ drop by s.operations.items =
-    c.in_ok-operations-in-Some.ensures.items ∙ rest by known ∙ ap (drop by) c.deref-in-Some.ensures.value in
+    c.in_ok-operations-in-Some.ensures.items ∙ rest by problem ∙ ap (drop by) c.deref-in-Some.ensures.value in
     let within : by ≤ length s.operations.items = subst (λ (ops : List Operation). by ≤ length ops) c.deref-in-Some.ensures.value (omega arith) in
     let waiting = subst (λ (ops : List Operation). (p : Position) → Has last p → Waits ops (Some horizon) p.first) c.deref.ensures.value
     (subst (λ (o : Option States). IfSome o (λ states. (p : Position) → Has states p → Waits c.deref.result.now (Some horizon) p.first)) c.in-Some.is c.in_ok-last.ensures.waiting) in

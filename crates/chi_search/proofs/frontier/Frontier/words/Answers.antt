@@ -22,11 +22,11 @@ returns-in_ok-each-in-Some-clause-words g c words told follows =
     let old : FrontierValue = record { positions = positions s.states; operations = ops; horizon = s.horizon; latest = s.latest } in
     let from = c.in_ok-from.from in
     let last = c.in-Some.last in
-    let known = c.deref.ensures.value in
-    let ends = subst (λ (all : List Operation). (more : List Operation) → MayFollow all None more → (v : ℕ) → SomeEnds (all ++ more) last v ↔ SomeEnds (all ++ more) from v) known
+    let problem = c.deref.ensures.value in
+    let ends = subst (λ (all : List Operation). (more : List Operation) → MayFollow all None more → (v : ℕ) → SomeEnds (all ++ more) last v ↔ SomeEnds (all ++ more) from v) problem
     (subst (λ (o : Option States). IfSome o (λ states. (more : List Operation) → MayFollow c.deref.result.now None more → (v : ℕ)
     → SomeEnds (c.deref.result.now ++ more) states v ↔ SomeEnds (c.deref.result.now ++ more) from v)) c.in-Some.is c.in_ok-last.ensures.ends) in
-    let waiting = subst (λ (all : List Operation). (p : Position) → Has last p → Waits all None p.first) known
+    let waiting = subst (λ (all : List Operation). (p : Position) → Has last p → Waits all None p.first) problem
     (subst (λ (o : Option States). IfSome o (λ states. (p : Position) → Has states p → Waits c.deref.result.now None p.first)) c.in-Some.is c.in_ok-last.ensures.waiting) in
     last_leads ops (λ v. SomeLeads told words v) c.in_ok-each-in-Some.each.items last waiting c.in_ok-each-in-Some.ensures.words
     (follows_all words told old s.states from last c.self.invariant refl c.in_ok-from.ensures ends (subst (Follows words told) (sym c.self.view_is) follows))

@@ -39,7 +39,7 @@ returns-clause-explained g c unexplained undecided events has =
     let un = c.in_ok-listed.listed.unexplained.items in
     let same : granules_of c.in_ok-unexplained.unexplained.items ≡ un = c.in_ok-unexplained.ensures.granules ∙ c.deref.ensures.value in
     let no_un : un ≡ [] = sym same ∙ ap granules_of unexplained in
-    ended_explained c.operations_are_told.ensures c.granules_told.ensures c.granules_explain.ensures c.args.self new are_open closes
+    ended_explained c.operations_are_told.ensures c.granules_stand_alone.ensures c.granules_explain.ensures c.args.self new are_open closes
     (λ h. none_listed h un c.in_ok-listed.listed.undecided.items no_un undecided (new h) (c.in_ok-listed.ensures.each h)) events has
 
 pub returns-clause-each : goal.returns-clause-each
@@ -50,7 +50,7 @@ returns-clause-each g c h events has known =
     let un = c.in_ok-listed.listed.unexplained.items in
     let same : granules_of c.in_ok-unexplained.unexplained.items ≡ un = c.in_ok-unexplained.ensures.granules ∙ c.deref.ensures.value in
     subst (λ (l : List ℕ). CanBeExplained events h ⊎ IsListed h l c.in_ok-listed.listed.undecided.items) (sym same)
-    (ended_each c.operations_are_told.ensures c.granules_told.ensures (IsListed h un c.in_ok-listed.listed.undecided.items) c.args.self new are_open closes h (c.in_ok-listed.ensures.each h) events has known)
+    (ended_each c.operations_are_told.ensures c.granules_stand_alone.ensures (IsListed h un c.in_ok-listed.listed.undecided.items) c.args.self new are_open closes h (c.in_ok-listed.ensures.each h) events has known)
 
 pub returns-clause-unexplained : goal.returns-clause-unexplained
 returns-clause-unexplained g c =
@@ -60,7 +60,7 @@ returns-clause-unexplained g c =
     let un = c.in_ok-listed.listed.unexplained.items in
     let same : granules_of c.in_ok-unexplained.unexplained.items ≡ un = c.in_ok-unexplained.ensures.granules ∙ c.deref.ensures.value in
     all_found new (IsFoundIn new) (λ (f : FoundAtEnd). (events : List Event) → HasTaken events c.args.self → IsFoundAtEnd events f) c.in_ok-unexplained.unexplained.items un same c.in_ok-listed.ensures.unexplained
-    c.in_ok-unexplained.ensures.found (ended_found c.operations_are_told.ensures c.granules_told.ensures c.parts_explain.ensures c.args.self new are_open closes)
+    c.in_ok-unexplained.ensures.found (ended_found c.operations_are_told.ensures c.granules_stand_alone.ensures c.parts_explain.ensures c.args.self new are_open closes)
 
 pub returns-clause-unreached : goal.returns-clause-unreached
 returns-clause-unreached g c =
@@ -78,7 +78,7 @@ returns-clause-unreached g c =
     let before : LookedSome looked old judged = some_after looked old closed judged c.in_ok-close_open.ensures.looked c.in_ok-listed.ensures.looked in
     all_found new (IsUnreachedIn looked judged last c.args.budget new) (λ (f : FoundAtEnd). (events : List Event) → HasTaken events c.args.self → IfUndecided f.reach whole) c.in_ok-unexplained.unexplained.items un same
     c.in_ok-listed.ensures.unexplained c.in_ok-unexplained.ensures.undecided
-    (λ f none spent. ended_unreached c.operations_are_told.ensures c.granules_told.ensures c.parts_explain.ensures whole c.args.self new are_open closes f none
+    (λ f none spent. ended_unreached c.operations_are_told.ensures c.granules_stand_alone.ensures c.parts_explain.ensures whole c.args.self new are_open closes f none
     (unreached_after looked old judged last c.args.budget new before f spent))
 
 pub returns-clause-undecided : goal.returns-clause-undecided

@@ -8,20 +8,20 @@ use Rattle.chi_watch.specs.Endings.{IsExplainable}
 use Rattle.chi_watch.specs.Judged.{is_known}
 use Rattle.chi_search.specs.Looks.{LookedAtLeast}
 use Rattle.chi_watch.specs.Quiet.{CanBeExplained}
-use Rattle.chi_watch.specs.Requests.{granule_asked}
+use Rattle.chi_watch.specs.Requests.{granule_of_request}
 use Rattle.chi_watch.specs.Watches.{HasTaken, IsFound, IsUnexplained, WatchValue, granule}
 use Rattle.chi_watch.proofs.Found.{found_is, not_found_is}
 use Rattle.chi_watch.proofs.watch.Watch.is_unexplained.Goals as goal
 
 abbrev IsQuietAt : WatchValue → ℕ → Type 0
-IsQuietAt w g = list_any (λ p. granule_asked p == g) w.outstanding.requests ≡ false
+IsQuietAt w g = list_any (λ p. granule_of_request p == g) w.outstanding.requests ≡ false
 
 pub returns-clause-found : goal.returns-clause-found
 returns-clause-found g c =
     let are_open = subst (λ (w : WatchValue). All (IsOpen w.outstanding.time) w.outstanding.requests) c.self.view_is c.requests-requests.ensures.are_open in
     IfOk-weaker c.is_found.result (λ (is : Bool). IsTrue is → IsFound c.args.self.now c.args.granule)
     (λ (is : Bool). IsTrue is → (events : List Event) → HasTaken events c.args.self.now → IsUnexplained events c.args.granule)
-    (λ is found so events has. found_is c.operations_are_told.ensures c.granules_told.ensures c.parts_explain.ensures events c.args.self.now are_open has c.args.granule (found so))
+    (λ is found so events has. found_is c.operations_are_told.ensures c.granules_stand_alone.ensures c.parts_explain.ensures events c.args.self.now are_open has c.args.granule (found so))
     c.is_found.ensures.found
 
 pub returns-clause-quiet : goal.returns-clause-quiet
@@ -37,5 +37,5 @@ returns-clause-judged g c =
     let whole = LookedAtLeast g.P.Progress.looked c.args.progress.now c.is_found.new.progress c.args.budget in
     IfOk-weaker c.is_found.result (λ (is : Bool). is ≡ false → IsQuietAt w here → IfSome (granule w here) (λ f. IsExplainable f ⊎ whole))
     (λ (is : Bool). is ≡ false → IsQuietAt w here → (events : List Event) → HasTaken events w → is_known events here ≡ true → CanBeExplained events here ⊎ whole)
-    (λ is none so quiet events has known. not_found_is c.operations_are_told.ensures c.granules_told.ensures whole events w are_open has here quiet (none so quiet) known)
+    (λ is none so quiet events has known. not_found_is c.operations_are_told.ensures c.granules_stand_alone.ensures whole events w are_open has here quiet (none so quiet) known)
     c.is_found.ensures.none

@@ -8,24 +8,24 @@ use Rattle.chi_events.specs.declared.event.Event.{Event}
 use Rattle.chi_search.specs.Looks.{LookedAtLeast}
 use Rattle.chi_recent.specs.Reaches.{IfUndecided}
 use Rattle.chi_recent.specs.declared.reach.Reach.{Reach}
-use Rattle.chi_trace.specs.Words.{word_told}
+use Rattle.chi_trace.specs.Words.{word_or_zero}
 use Rattle.chi_watch.specs.Judged.{openings}
 use Rattle.chi_watch.specs.Reaching.{IsOfSomeTrace, IsReach, ReachesBy}
-use Rattle.chi_watch.specs.Requests.{granule_asked}
+use Rattle.chi_watch.specs.Requests.{granule_of_request}
 use Rattle.chi_watch.specs.Watches.{HasTaken, IsUnexplained, WatchValue, granule}
 use Rattle.chi_watch.proofs.Reached.{quiet_recent, undecided_weaker, unexplained_known, untold_explained}
 use Rattle.chi_watch.proofs.watch.Watch.reach.Goals as goal
 use Rattle.chi_watch.proofs.watch.Watch.reach.Goals.{then-not-followed-via-then-not-followed, then-not-followed-via-else-not-followed+then-is_open}
 
 abbrev IsQuietAt : WatchValue → ℕ → Type 0
-IsQuietAt w g = list_any (λ p. granule_asked p == g) w.outstanding.requests ≡ false
+IsQuietAt w g = list_any (λ p. granule_of_request p == g) w.outstanding.requests ≡ false
 
 pub returns-in_default-clause-undecided : goal.returns-in_default-clause-undecided
 returns-in_default-clause-undecided g c quiet events has not =
     let w = c.args.self.now in
     let are_open = subst (λ (v : WatchValue). All (IsOpen v.outstanding.time) v.outstanding.requests) c.self.view_is c.requests-requests.ensures.are_open in
     let none : granule w c.args.granule ≡ None = subst (λ (v : WatchValue). granule v c.args.granule ≡ None) c.self.view_is (sym c.in_default.ensures.value) in
-    absurd (untold_explained c.operations_are_told.ensures c.granules_told.ensures events w are_open has c.args.granule none quiet not)
+    absurd (untold_explained c.operations_are_told.ensures c.granules_stand_alone.ensures events w are_open has c.args.granule none quiet not)
 
 pub returns-then-not-followed-clause-undecided : goal.returns-then-not-followed-clause-undecided
 returns-then-not-followed-clause-undecided g c quiet events has not =
@@ -47,7 +47,7 @@ returns-clause-right g c =
     let here : granule w n ≡ Some f = subst (λ (v : WatchValue). granule v n ≡ Some f) c.self.view_is (sym c.in-Some.ensures.value) in
     let quiet : IsQuietAt w n = sym c.is_open.ensures ∙ c.if-is_open.false in
     IfOk-weaker c.reach_of.result (ReachesBy f.recent) (λ (reach : Reach). (events : List Event) → HasTaken events w → IsReach events n reach)
-    (λ reach by events has. by (operations events) n (word_told (openings events) n) (quiet_recent c.operations_are_told.ensures events w are_open has n f here c.if-not-followed.false quiet))
+    (λ reach by events has. by (operations events) n (word_or_zero (openings events) n) (quiet_recent c.operations_are_told.ensures events w are_open has n f here c.if-not-followed.false quiet))
     c.reach_of.ensures.right
 
 pub returns-clause-undecided : goal.returns-clause-undecided
@@ -64,7 +64,7 @@ returns-clause-undecided g c =
     (λ spent quiet events has not. spent (
       operations events,
       n,
-      word_told (openings events) n,
+      word_or_zero (openings events) n,
       quiet_recent c.operations_are_told.ensures events w are_open has n f here c.if-not-followed.false quiet,
     )) is)
     c.reach_of.ensures.undecided

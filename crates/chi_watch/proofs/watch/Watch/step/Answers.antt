@@ -24,6 +24,6 @@ returns-clause-taken g c events (ended, is) =
     subst (λ (requests : List Open). IsClosedBy c.in_ok-ended.ended requests (get nat_cmp c.self.inside.granules) (get nat_cmp c.close_ended.new.granules)) c.requests.ensures.requests
     c.in_ok-close_ended.ensures.closed in (
       ended ++ option_to_list c.in_ok-ended.ended,
-      taken events ended w e c.take.new.self c.in_ok-ended.ended (get nat_cmp c.close_ended.new.granules) c.note.new.granules.entries c.one_more-self-inside.result fits c.in_ok-ended.ensures.time later c.in_ok-ended.ensures.requests
-          c.in_ok-ended.ensures.ended closed c.in_ok-note.ensures (c.in_ok-ended.ensures.tells events ended before.tells) c.one_more-self-inside.ensures before,
+      taken events ended w e c.take.new.self c.in_ok-ended.ended (get nat_cmp c.close_ended.new.granules) c.update_granules.new.granules.entries c.one_more-self-inside.result fits c.in_ok-ended.ensures.time later c.in_ok-ended.ensures.requests
+          c.in_ok-ended.ensures.ended closed c.in_ok-update_granules.ensures (c.in_ok-ended.ensures.tells events ended before.tells) c.one_more-self-inside.ensures before,
     )

@@ -4,7 +4,7 @@ use Rattle.std.specs.List.{list_any}
 use Rattle.chi_watch.specs.Judged.{is_known}
 use Rattle.chi_search.specs.Looks.{LookedAtLeast}
 use Rattle.chi_watch.specs.Quiet.{CanBeExplained, granule_about}
-use Rattle.chi_watch.specs.Requests.{granule_asked}
+use Rattle.chi_watch.specs.Requests.{granule_of_request}
 use Rattle.chi_search.proofs.Looking.{at_least_after, some_after}
 use Rattle.chi_watch.proofs.watch.Watch.take.Goals as goal
 
@@ -29,8 +29,8 @@ returns-else-branch-clause-judged g c none here becomes events has known =
     let about : granule_about c.args.self.now c.args.event.now ≡ Some c.in-Some.granule = sym c.granule_about-about.ensures ∙ c.in-Some.is in
     let both : Some c.in-Some.granule ≡ Some here = sym about ∙ becomes.about in
     let same : here ≡ c.in-Some.granule = cc both in
-    let quiet : list_any (λ p. granule_asked p == c.in-Some.granule) c.step.new.self.outstanding.requests ≡ false =
-    subst (λ (h : ℕ). list_any (λ p. granule_asked p == h) c.step.new.self.outstanding.requests ≡ false) same becomes.none in
+    let quiet : list_any (λ p. granule_of_request p == c.in-Some.granule) c.step.new.self.outstanding.requests ≡ false =
+    subst (λ (h : ℕ). list_any (λ p. granule_of_request p == h) c.step.new.self.outstanding.requests ≡ false) same becomes.none in
     let said = c.in_ok-is_unexplained.ensures.judged c.if-branch.false quiet more (c.in_ok-step.ensures.taken events has) (subst (λ (h : ℕ). is_known more h ≡ true) same known) in
     subst (λ (h : ℕ). CanBeExplained more h ⊎ LookedAtLeast looked old new c.args.budget) (sym same)
     (elim said [

@@ -1,0 +1,79 @@
+-- which task the arguments name, and with which options
+use Rattle.std.specs.Prelude.{◌≡◌, true, false, [], List, unwrap_or, Some, codes}
+use Rattle.std.specs.Option.{option_map}
+use Rattle.std.specs.Str.{bytes_eq}
+use Rattle.clap.specs.Walk.{Row, Text, all_of, first_of, one_of}
+use Rattle.clap.specs.Simple.{subcommand_of}
+use Rattle.chi_check.specs.declared.command.Task.{Task}
+use Rattle.chi_check.specs.declared.command.Task.TheVariants.{Explain, Watch, Cover}
+use Rattle.chi_watch_text.specs.declared.options.WatchOptions.{WatchOptions}
+use Rattle.chi_check.specs.CommandLine.{program_app}
+use Rattle.chi_check.specs.Cover.{paths_of}
+use Rattle.chi_check.specs.declared.options.CheckOptions.{CheckOptions}
+use Rattle.chi_check.specs.declared.options.CoverOptions.{CoverOptions}
+use Rattle.chi_program.specs.FoundGranule.{BeginsWith, IsNumberOr, IsNumberOrNone, has_word}
+
+-- in these arguments `clap` finds the subcommand of this name, and this of its options, by use or by default
+abbrev pub Finds : List Text → Text → List Row → Type 0
+Finds arguments name found = subcommand_of program_app arguments ≡ Some (name, found)
+
+-- the name `watch` is that of the watch, `cover` that of the count, and any other that of the explaining
+abbrev pub IsNamed : Text → Task → Type 0
+IsNamed name (Explain options) = (bytes_eq name (codes "watch") ≡ false) × (bytes_eq name (codes "cover") ≡ false)
+IsNamed name (Watch options) = bytes_eq name (codes "watch") ≡ true
+IsNamed name (Cover options) = bytes_eq name (codes "cover") ≡ true
+
+-- the options of `explain` are those that were found
+pub record HasExplainOptions (found : List Row) (options : CheckOptions) : Type 0 where
+  pub witness : options.witness ≡ has_word found (codes "witness") (codes "true")
+  pub budget : IsNumberOr 1000000 (one_of (codes "budget") found) options.budget
+  pub seconds : IsNumberOrNone (one_of (codes "seconds") found) options.seconds
+  pub memory : IsNumberOrNone (one_of (codes "memory") found) options.memory
+  pub until : IsNumberOrNone (one_of (codes "until") found) options.until
+  pub around : IsNumberOr 16 (one_of (codes "around") found) options.around
+  pub html : option_map (λ s. s.now) options.html ≡ first_of (codes "html") found
+
+-- and so are those of `watch`
+pub record HasWatchOptions (found : List Row) (options : WatchOptions) : Type 0 where
+  pub keep_going : options.keep_going ≡ has_word found (codes "keep-going") (codes "true")
+  pub budget : IsNumberOr 1000000 (one_of (codes "budget") found) options.budget
+
+-- and those of `cover`
+pub record HasCoverOptions (found : List Row) (options : CoverOptions) : Type 0 where
+  pub require : IsNumberOr 0 (one_of (codes "require") found) options.require
+  pub events : options.events ≡ has_word found (codes "events") (codes "true")
+  pub html : option_map (λ s. s.now) options.html ≡ first_of (codes "html") found
+  pub files : paths_of options ≡ unwrap_or (all_of (codes "file") found) []
+
+-- the task has the options that were found
+abbrev pub HasOptions : List Row → Task → Type 0
+HasOptions found (Explain options) = HasExplainOptions found options
+HasOptions found (Watch options) = HasWatchOptions found options
+HasOptions found (Cover options) = HasCoverOptions found options
+
+-- the arguments name this task with these options: those of what `clap` finds in them
+abbrev pub Chooses : List Text → Task → Type 0
+Chooses arguments task = (name : Text) × (found : List Row) × Finds arguments name found × IsNamed name task × HasOptions found task
+
+-- the task is `explain`, whatever its options
+abbrev pub IsExplain : Task → Type 0
+IsExplain (Explain options) = Unit {0}
+IsExplain (Watch options) = ⊥
+IsExplain (Cover options) = ⊥
+
+-- the task is `watch`, whatever its options
+abbrev pub IsWatch : Task → Type 0
+IsWatch (Explain options) = ⊥
+IsWatch (Watch options) = Unit {0}
+IsWatch (Cover options) = ⊥
+
+-- the task is `cover`, whatever its options
+abbrev pub IsCover : Task → Type 0
+IsCover (Explain options) = ⊥
+IsCover (Watch options) = ⊥
+IsCover (Cover options) = Unit {0}
+
+-- a first argument that is a task's name names the task
+abbrev pub IsNamedFirst : List Text → Task → Type 0
+IsNamedFirst arguments task =
+    (BeginsWith arguments (codes "explain") → IsExplain task) × (BeginsWith arguments (codes "watch") → IsWatch task) × (BeginsWith arguments (codes "cover") → IsCover task)

@@ -1,0 +1,87 @@
+//! The options that a task was given.
+
+ghost use Rattle.std.specs.Prelude.{◌≡◌, [], codes, map, unwrap_or, IfOk};
+ghost use Rattle.std.specs.Option.{option_map};
+ghost use Rattle.clap.specs.Matches.{found_of};
+ghost use Rattle.clap.specs.Walk.{all_of, first_of, one_of, rows_of};
+ghost use Rattle.chi_check.specs.OptionValues.{HasCoverOptions};
+ghost use Rattle.chi_program.specs.FoundGranule.{IsNumberOr, IsNumberOrNone, has_word};
+
+use crate::options::{CheckOptions, CoverOptions};
+use chi_program::{is_switched, number_given, number_or, text_given};
+use chi_watch_text::WatchOptions;
+use clap::ArgMatches;
+use std::alloc::{AllocError, Global};
+
+// How many states of each granule are looked at where no number is given.
+const BUDGET: u64 = 1_000_000;
+
+// How many operations are shown before the one that is blamed where no number is given.
+const AROUND: u64 = 16;
+
+// How many of a hundred bins have to have counted an operation where no number is given.
+const REQUIRE: u64 = 0;
+
+// The file that is to be a page, where one was given.
+fn html_file<'a>(matches: &ArgMatches<'a>) -> Option<&'a str>
+    ensures { option_map (λ s. s.now) result ≡ first_of (codes "html") (rows_of (found_of matches.now)) }
+{
+    text_given(matches, "html")
+}
+
+/// The options that `explain` was given, or that stand in for them.
+pub(crate) fn explain_options<'a>(matches: &ArgMatches<'a>) -> CheckOptions<'a>
+    ensures witness { result.witness ≡ has_word (rows_of (found_of matches.now)) (codes "witness") (codes "true") }
+    ensures budget { IsNumberOr 1000000 (one_of (codes "budget") (rows_of (found_of matches.now))) result.budget }
+    ensures seconds { IsNumberOrNone (one_of (codes "seconds") (rows_of (found_of matches.now))) result.seconds }
+    ensures memory { IsNumberOrNone (one_of (codes "memory") (rows_of (found_of matches.now))) result.memory }
+    ensures until { IsNumberOrNone (one_of (codes "until") (rows_of (found_of matches.now))) result.until }
+    ensures around { IsNumberOr 16 (one_of (codes "around") (rows_of (found_of matches.now))) result.around }
+    ensures html { option_map (λ s. s.now) result.html ≡ first_of (codes "html") (rows_of (found_of matches.now)) }
+{
+    CheckOptions {
+        witness: is_switched(matches, "witness"),
+        budget: number_or(matches, "budget", BUDGET),
+        seconds: number_given(matches, "seconds"),
+        memory: number_given(matches, "memory"),
+        until: number_given(matches, "until"),
+        around: number_or(matches, "around", AROUND),
+        html: html_file(matches),
+    }
+}
+
+/// The options that `watch` was given, or that stand in for them.
+pub(crate) fn watch_options(matches: &ArgMatches<'_>) -> WatchOptions
+    ensures budget { IsNumberOr 1000000 (one_of (codes "budget") (rows_of (found_of matches.now))) result.budget }
+    ensures keep_going { result.keep_going ≡ has_word (rows_of (found_of matches.now)) (codes "keep-going") (codes "true") }
+{
+    WatchOptions {
+        budget: number_or(matches, "budget", BUDGET),
+        keep_going: is_switched(matches, "keep-going"),
+    }
+}
+
+// The files that were named.
+fn files_given<'a>(alloc: Global, matches: &ArgMatches<'a>) -> Result<Vec<&'a str>, AllocError>
+    ensures { IfOk result (λ files. map (λ path. path.now) files.items ≡ unwrap_or (all_of (codes "file") (rows_of (found_of matches.now))) []) }
+{
+    match matches.get_strs("file") {
+        Some(files) => Vec::from_slice(alloc, files),
+        None => Ok(Vec::new(alloc)),
+    }
+}
+
+/// The options that `cover` was given, or that stand in for them.
+pub(crate) fn cover_options<'a>(
+    alloc: Global,
+    matches: &ArgMatches<'a>,
+) -> Result<CoverOptions<'a>, AllocError>
+    ensures { IfOk result (HasCoverOptions (rows_of (found_of matches.now))) }
+{
+    Ok(CoverOptions {
+        require: number_or(matches, "require", REQUIRE),
+        events: is_switched(matches, "events"),
+        html: html_file(matches),
+        files: files_given(alloc, matches)?,
+    })
+}

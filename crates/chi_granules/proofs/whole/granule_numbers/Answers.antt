@@ -1,0 +1,29 @@
+-- the numbers of the operations' granules and of all words', sorted, and each once
+use Rattle.std.proofs.Common.{◌≡◌, ◌++◌, List, ℕ, eqb, map, sym, ap, ap₂, ◌∙◌, arith, append-nil}
+use Rattle.std.proofs.lemmas.List.{take_all}
+use Rattle.std.proofs.lemmas.List.Filters.{dedup_is}
+use Rattle.chi_trace.specs.Granules.{granule_of}
+use Rattle.chi_trace.specs.declared.words.GranuleWord.{GranuleWord}
+use Rattle.chi_granules.proofs.Numbers.{granule_told, has_both, has_sorted, numbers_more}
+use Rattle.chi_granules.proofs.whole.granule_numbers.Goals as goal
+
+pub loop-told-init : goal.loop-told-init
+loop-told-init c = sym (append-nil _)
+
+pub loop-told-preserved : goal.loop-told-preserved
+loop-told-preserved c =
+    numbers_more c.in_ok-granule_numbers.granule_numbers.items c.loop-told.granule_numbers.items c.push.new.self.items c.as_slice-told-items.result.now c.loop-told.told-index _
+    c.loop-told-test.true c.loop-told.invariant c.in_ok-push.ensures.items
+
+pub returns : goal.returns
+returns c =
+    let r = c.args.recorded.now in
+    let granule_numbers = c.loop-told.granule_numbers.items in
+    let words = c.as_slice-told-items.result.now in
+    let first : c.in_ok-granule_numbers.granule_numbers.items ≡ map granule_of r.trace.operations = rw (c.operations.ensures.operations, c.trace.ensures) at c.in_ok-granule_numbers.ensures in
+    let second : words ≡ r.final_words = c.as_slice-told-items.ensures.words ∙ c.final_words.ensures in
+    let all : granule_numbers ≡ c.in_ok-granule_numbers.granule_numbers.items ++ map granule_told words =
+    c.loop-told.invariant ∙ ap (λ l. c.in_ok-granule_numbers.granule_numbers.items ++ map granule_told l) (take_all c.loop-told.told-index words (omega arith)) in
+    has_sorted r granule_numbers c.sort.new.self.items c.dedup.new.self.items
+    (has_both r granule_numbers (all ∙ ap₂ (λ (xs : List ℕ) (ys : List GranuleWord). xs ++ map granule_told ys) first second)) c.in_ok-sort.ensures.permutation
+    (dedup_is eqb c.sort.new.self.items c.dedup.new.self.items c.dedup.ensures.filtered)

@@ -1,0 +1,73 @@
+//! The requests of a trace, as its text has them.
+
+ghost use Rattle.std.specs.Prelude.{◌≡◌};
+ghost use Rattle.serde_json.specs.View.{view};
+ghost use Rattle.chi_json.specs.Members.{member_by};
+ghost use Rattle.chi_json.specs.Values.{hex_bytes};
+ghost use Rattle.chi_reading.specs.Member.{member_name};
+ghost use Rattle.chi_reading.specs.Requests.{fields_of, stated_request};
+
+use crate::member::Member;
+use chi_json::{MemberFault, number as number_in, stated_bytes};
+use chi_trace::RequestFields;
+use serde_json::Value;
+
+/// The data packet that a request states, or an object like it: the member `lanes`, a text of 32 hex digits.
+///
+/// ```
+/// let lanes = lanes(&object)?;
+/// ```
+pub fn lanes(object: &Value) -> Result<[u8; 16], MemberFault<Member>>
+    ensures { result ≡ member_by member_name Member.Lanes (hex_bytes 16) (view object.now) }
+{
+    stated_bytes(object, Member::Lanes)
+}
+
+/// The fields of a request that an object states, with no data: its byte enables and its lanes are 0. `number` says which part
+/// of the input the object is. The fields are read in the order `src`, `txn`, `op`, `size`, `addr`, `endian`.
+///
+/// ```
+/// let fields = request_fields(place, &object)?;
+/// ```
+#[tactic(auto, unfolding(crate::specs::Requests::fields_of))]
+pub fn request_fields(number: u64, object: &Value) -> Result<RequestFields, MemberFault<Member>>
+    ensures { result ≡ fields_of number (view object.now) }
+{
+    let src = number_in(object, Member::Src, 65535)?;
+    let txn = number_in(object, Member::Txn, 65535)?;
+    let opcode = number_in(object, Member::Opcode, 255)?;
+    let size = number_in(object, Member::Size, 7)?;
+    let addr = number_in(object, Member::Addr, u64::MAX)?;
+    let endian = number_in(object, Member::Endian, 1)?;
+    Ok(RequestFields {
+        number,
+        src: src as u16,
+        txn: txn as u16,
+        opcode: opcode as u8,
+        size: size as u8,
+        addr,
+        endian: endian == 1,
+        be: 0,
+        lanes: [0; 16],
+    })
+}
+
+/// The request that an object states, with its data, or the first fault of its members: those of `request_fields`, and
+/// then `be` and `lanes`.
+///
+/// ```
+/// let fields = request_with_data(place, &object)?;
+/// ```
+#[tactic(auto, unfolding(crate::specs::Requests::stated_request))]
+pub fn request_with_data(number: u64, object: &Value) -> Result<RequestFields, MemberFault<Member>>
+    ensures { result ≡ stated_request number (view object.now) }
+{
+    let fields = request_fields(number, object)?;
+    let be = number_in(object, Member::Be, 65535)?;
+    let lanes = lanes(object)?;
+    Ok(RequestFields {
+        be: be as u16,
+        lanes,
+        ..fields
+    })
+}

@@ -1,6 +1,0 @@
--- A granule's operations, told in any order, stand at each of its places once.
-use Rattle.chi_trace.proofs.ToldAgain.{told_again}
-use Rattle.chi_trace.proofs.laws.granules_told.Goals as goal
-
-pub returns : goal.returns
-returns c = told_again

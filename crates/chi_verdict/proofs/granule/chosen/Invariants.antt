@@ -1,8 +1,0 @@
--- the operations at the first places
-use Rattle.std.proofs.Common.{◌≡◌, take}
-use Rattle.chi_trace.specs.Chosen.{chosen}
-use Rattle.chi_verdict.specs.Groups.{places_of}
-use Rattle.chi_verdict.proofs.granule.chosen.Given as goal
-
-abbrev pub invariant-loop-placed : goal.invariant-loop-placed
-invariant-loop-placed l = l.own.items ≡ chosen l.ops (places_of (take l.placed-index l.run))

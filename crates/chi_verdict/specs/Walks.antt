@@ -1,8 +1,0 @@
--- a walk along the granules of a trace, and of the words at its end
-use Rattle.std.specs.Prelude.{ℕ, ◌<◌, List, All, drop}
-use Rattle.chi_verdict.specs.declared.grouping.Placed.{Placed}
-use Rattle.chi_trace.specs.declared.words.GranuleWord.{GranuleWord}
-
--- the walk has passed a granule: each operation and each word that is still to come is of a later one
-abbrev pub IsPast : List Placed → ℕ → List GranuleWord → ℕ → ℕ → Type 0
-IsPast places from final_words told g = All (λ p. g < p.granule) (drop from places) × All (λ w. g < w.granule) (drop told final_words)

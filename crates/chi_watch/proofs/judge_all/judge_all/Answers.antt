@@ -1,0 +1,33 @@
+-- each granule is judged in turn
+use Rattle.std.specs.BTreeMap.{get}
+use Rattle.std.specs.Ordering.{nat_cmp}
+use Rattle.chi_watch.proofs.Judging.{judged_all, judged_none, listed, passed_over, said_here}
+use Rattle.chi_watch.proofs.judge_all.judge_all.Goals as goal
+
+pub loop-granule-init : goal.loop-granule-init
+loop-granule-init g c =
+    let gives = c.into_iter-granule-iterator.ensures.into_iter_gives in
+    judged_none g.P.Progress.looked c.args.budget (get nat_cmp c.args.granules.now) c.args.granules.now.entries c.args.progress.now _ _ c.new.ensures.items c.new-2.ensures.items gives.0 gives.6
+
+pub loop-granule-preserved : goal.loop-granule-preserved
+loop-granule-preserved g c =
+    passed_over g.P.Progress.looked c.args.budget (get nat_cmp c.args.granules.now) c.args.granules.now.entries c.args.progress.now c.loop-granule.progress c.loop-granule.listed c.loop-granule.granule-iterator
+    c.next.new.self c.in-Some.granule.now c.in-Some.followed.now c.in-Some.ensures.steps c.loop-granule.invariant c.if-followed.false
+
+pub loop-granule-preserved-in-Continue-branch-2 : goal.loop-granule-preserved-in-Continue-branch-2
+loop-granule-preserved-in-Continue-branch-2 g c =
+    listed g.P.Progress.looked c.args.budget (get nat_cmp c.args.granules.now) c.args.granules.now.entries c.args.progress.now c.loop-granule.progress c.loop-granule.listed c.loop-granule.granule-iterator
+    c.next.new.self c.in-Some.granule.now c.in-Some.followed.now c.in-Some.ensures.steps c.loop-granule.invariant c.if-followed.true c.judge.new.progress c.list.new.listed c.in_ok-standing.standing
+    c.in_ok-standing.ensures.explained c.in_ok-standing.ensures.unexplained c.in_ok-standing.ensures.undecided c.in_ok-standing.ensures.looked c.in_ok-list.ensures
+
+pub returns : goal.returns
+returns g c =
+    let are = c.loop-granule.invariant in
+    record {
+      each = said_here c.args.granules.now.entries _ _
+          (judged_all g.P.Progress.looked c.args.budget (get nat_cmp c.args.granules.now) c.args.granules.now.entries c.args.progress.now c.loop-granule.progress c.loop-granule.listed c.loop-granule.granule-iterator
+          c.in-None.ensures.steps.0 are);
+      unexplained = are.none;
+      undecided = are.spent.whole;
+      looked = are.spent.some;
+    }

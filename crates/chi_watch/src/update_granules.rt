@@ -1,0 +1,49 @@
+//! What an event changes of the granules that are followed.
+
+ghost use Rattle.std.specs.Prelude.{ℕ, ◌+◌, ◌^◌, ◌<◌, ◌≤◌, IfOk};
+ghost use Rattle.std.specs.BTreeMap.{get};
+ghost use Rattle.std.specs.Ordering.{nat_cmp};
+ghost use Rattle.chi_events.specs.declared.event.EventKind.{EventKind};
+ghost use Rattle.chi_watch.specs.Changes.{HasLength, IsForgotten, IsUpdated};
+ghost use Rattle.chi_watch.specs.Judged.{covers};
+
+use crate::followed::Followed;
+use crate::granules::{forget_one, tell_last, touch};
+use chi_events::EventKind;
+use std::alloc::{AllocError, Global};
+use std::collections::BTreeMap;
+
+/// Tells that something that is not told may have written to the granules of so many bytes from an address on.
+fn forget(
+    alloc: Global,
+    granules: &mut BTreeMap<u64, Followed>,
+    addr: u64,
+    length: u64,
+) -> Result<(), AllocError>
+    requires { (0 < length) × (addr + length ≤ 2 ^ 52) }
+    ensures { IfOk result (λ _. (g : ℕ) → IsForgotten (covers g (EventKind.Unknown addr length)) (get nat_cmp granules.old g) (get nat_cmp granules.new g)) }
+{
+    let end = (addr + length - 1) / 8 + 1;
+    for granule in addr / 8..end {
+        forget_one(alloc, granules, granule)?;
+    }
+    Ok(())
+}
+
+/// Updates the granules by an event.
+pub(crate) fn update_granules(
+    alloc: Global,
+    granules: &mut BTreeMap<u64, Followed>,
+    kind: &EventKind,
+) -> Result<(), AllocError>
+    requires { HasLength kind.now }
+    ensures { IfOk result (λ _. IsUpdated kind.now (get nat_cmp granules.old) (get nat_cmp granules.new)) }
+{
+    match kind {
+        EventKind::Request(request) => touch(alloc, granules, request.fields.addr / 8, 0),
+        EventKind::Word(told) => touch(alloc, granules, told.granule, told.word),
+        EventKind::Final(told) => tell_last(alloc, granules, told.granule, told.word),
+        EventKind::Unknown { addr, length } => forget(alloc, granules, *addr, *length),
+        _ => Ok(()),
+    }
+}

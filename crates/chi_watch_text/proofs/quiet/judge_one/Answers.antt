@@ -1,0 +1,36 @@
+-- it is noted where no order explains it, with how far it can be explained
+use Rattle.std.proofs.Common.{◌⊎◌, All, inl, inr, refl, sym, subst, ◌∙◌}
+use Rattle.std.specs.List.{Contains}
+use Rattle.std.proofs.lemmas.List.Elements.{All-contains_itself, All-push, All-weaker}
+use Rattle.chi_search.proofs.Looking.{at_least_after, some_after}
+use Rattle.chi_watch.proofs.Reached.{undecided_weaker}
+use Rattle.chi_watch_text.specs.Outcomes.{IsUnreached}
+use Rattle.chi_watch_text.specs.declared.watched.FoundGranule.{FoundGranule}
+use Rattle.chi_watch_text.proofs.quiet.judge_one.Goals as goal
+
+pub returns-in_ok-push-clause-noted : goal.returns-in_ok-push-clause-noted
+returns-in_ok-push-clause-noted g c = inr (
+  record { granule = c.args.it.granule; line = c.args.it.line; reach = c.in_ok-reach.reach },
+  c.in_ok-push.ensures.items,
+  sym (rw c.deref.ensures.value at c.is_found.ensures) ∙ c.if-is_found.false,
+  record { granule = refl; line = refl; unexplained = c.in_ok-is_unexplained.ensures.found c.if-branch.true; reach = c.in_ok-reach.ensures.right },
+)
+
+pub returns-in_ok-push-clause-unreached : goal.returns-in_ok-push-clause-unreached
+returns-in_ok-push-clause-unreached g c events has =
+    let looked = g.P.Progress.looked in
+    let old = c.args.progress.now in
+    let middle = c.is_unexplained.new.progress in
+    let new = c.reach.new.progress in
+    let found = c.args.found.now.items in
+    let more = λ (f : FoundGranule). Contains found f ⊎ IsUnreached looked old new c.args.budget f.reach in
+    let not = c.in_ok-is_unexplained.ensures.found c.if-branch.true events has in
+    let quiet = c.in_ok-is_unexplained.ensures.quiet c.if-branch.true in
+    subst (All more) (sym c.in_ok-push.ensures.items)
+    (All-push more found (record { granule = c.args.it.granule; line = c.args.it.line; reach = c.in_ok-reach.reach })
+    (All-weaker (Contains found) more (λ f here. inl here) found (All-contains_itself found))
+    (inr (undecided_weaker c.in_ok-reach.reach (λ spent. at_least_after looked old middle new c.args.budget c.in_ok-is_unexplained.ensures.looked (spent quiet events has not)) c.in_ok-reach.ensures.undecided)))
+
+pub returns-in_ok-push-clause-looked : goal.returns-in_ok-push-clause-looked
+returns-in_ok-push-clause-looked g c =
+    some_after g.P.Progress.looked c.args.progress.now c.is_unexplained.new.progress c.reach.new.progress c.in_ok-is_unexplained.ensures.looked c.in_ok-reach.ensures.looked

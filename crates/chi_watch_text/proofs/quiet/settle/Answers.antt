@@ -1,5 +1,0 @@
--- each is looked at
-use Rattle.chi_watch_text.proofs.quiet.settle.Goals as goal
-
-pub returns-clause-each : goal.returns-clause-each
-returns-clause-each g c is = rw c.deref.ensures.value at c.in_ok-settle_each.ensures.each
