@@ -3,9 +3,9 @@
 ghost use Rattle.std.specs.Prelude.{◌≡◌};
 ghost use Rattle.chi_samples.specs.Opened.{IsOfEight};
 
-use crate::comparison::assert_same;
-use crate::growth_tests::{Call, call_in_turn};
-use crate::refusing_allocator::Refusing;
+use crate::tests::comparison::assert_same;
+use crate::tests::growth_tests::{Call, call_in_turn};
+use crate::tests::refusing_allocator::Refusing;
 use chi_fields::Request;
 use chi_history::{Home, Line, NoGate};
 use chi_lanes::Reply;

@@ -38,15 +38,15 @@ use Rattle.std.specs.Allocator.{block_if_ok}
 use Rattle.std.specs.contracts.sync.atomic.AtomicU64 as N
 use Rattle.std.proofs.VecSteps.Shapes.{after}
 use Rattle.std.proofs.alloc.Calls.{Al, α, seen, token, Answer, answer_val, Answer-typed, Answer-Ok, Answer-err, takes_key, Takes, at_takes, Answered, Takes-goes, Takes-gives, answers}
-use Rattle.chi_growth_tests.specs.contracts.refusing_allocator.Refusing as R
-use Rattle.chi_growth_tests.specs.contracts.refusing_allocator.refuses as C
-use Rattle.chi_growth_tests.proofs.refusing_allocator.refuses.Symbol as asked
-use Rattle.chi_growth_tests.proofs.refusing_allocator.refuses.Met as counted
-use Rattle.chi_growth_tests.proofs.RefusingCalls.{at_inner, self_as, word_goes}
-use Rattle.chi_growth_tests.specs.contracts.refusing_allocator.RefusingAllocator.allocate as F
-use Rattle.chi_growth_tests.specs.contracts.refusing_allocator.RefusingAllocator.allocate.Key as key
-use Rattle.chi_growth_tests.proofs.refusing_allocator.RefusingAllocator.allocate.Statement.{statement}
-use Rattle.chi_growth_tests.proofs.refusing_allocator.RefusingAllocator.allocate.Code as code
+use Rattle.chi_store_tests.specs.contracts.tests.refusing_allocator.Refusing as R
+use Rattle.chi_store_tests.specs.contracts.tests.refusing_allocator.refuses as C
+use Rattle.chi_store_tests.proofs.tests.refusing_allocator.refuses.Symbol as asked
+use Rattle.chi_store_tests.proofs.tests.refusing_allocator.refuses.Met as counted
+use Rattle.chi_store_tests.proofs.RefusingCalls.{at_inner, self_as, word_goes}
+use Rattle.chi_store_tests.specs.contracts.tests.refusing_allocator.RefusingAllocator.allocate as F
+use Rattle.chi_store_tests.specs.contracts.tests.refusing_allocator.RefusingAllocator.allocate.Key as key
+use Rattle.chi_store_tests.proofs.tests.refusing_allocator.RefusingAllocator.allocate.Statement.{statement}
+use Rattle.chi_store_tests.proofs.tests.refusing_allocator.RefusingAllocator.allocate.Code as code
 
 -- The count at its call.
 module _ {M : Type 1} {𝓤 : Ura M} (𝓛 : Logic 𝓤) (at_mem : Memory → SProp 𝓤) (run : Routine → Fun 𝓤) where
@@ -142,4 +142,4 @@ allocate_spec 𝓤 𝓛 𝓜 𝓡 wired Y L g d d' met _ =
     entered 𝓤 𝓛.H (triple_of 𝓛 (F.signature Y) (F.spec Y g d d' 𝓛 𝓜.mem 𝓡.returns)) 𝓣.C 𝓣.Λ (key.name (bounded (a_type ∷ []) (Y, tt) (dcons d (dcons d' dnil)))) (here Z) (code.unfolded 𝓤 𝓛.H 𝓜 𝓡 wired (Y, tt) d d')
     (walk_Meets 𝓛 (ended Z) (stayed Z) (Goes-dropped 𝓛 2 (self_as Z R.the_row) yes (λ κs x f. refl), (word_goes 𝓛, (word_goes 𝓛, tt))) c (WpFn 𝓤 𝓛.H 𝓣.C 𝓣.Λ (here Z)) (WpFn-mono 𝓤 𝓛.H 𝓛.laws 𝓣 (here Z))
     (walked 𝓛 (ended Z) (stayed Z) c (WpFn 𝓤 𝓛.H 𝓣.C 𝓣.Λ (here Z)) (λ κs. (shr_vals, (uint_vals w64, (uint_vals w64, tt)))) (λ κs. ((λ r vs s. s.0), (uint_Tells w64, (uint_Tells w64, tt))))
-    (λ κs qs bounds a τ are. walk Z 𝓛 𝓜.mem 𝓡.returns 𝓣 (met.allocate d') (cited 𝓤 𝓛.H _ 𝓜 𝓡 𝓡.env asked.name (𝓡.env asked.name) refl (counted.met 𝓤 𝓛 𝓜 𝓡 (code.calls-chi_growth_tests::refusing_allocator::refuses 𝓡.env wired))) κs.0 κs.1.0 qs.0 qs.1.0 bounds.0 a.0 a.1.0 a.1.1.0 τ are.1.0.1 are.1.1.0.1)))
+    (λ κs qs bounds a τ are. walk Z 𝓛 𝓜.mem 𝓡.returns 𝓣 (met.allocate d') (cited 𝓤 𝓛.H _ 𝓜 𝓡 𝓡.env asked.name (𝓡.env asked.name) refl (counted.met 𝓤 𝓛 𝓜 𝓡 (code.calls-chi_store_tests::tests::refusing_allocator::refuses 𝓡.env wired))) κs.0 κs.1.0 qs.0 qs.1.0 bounds.0 a.0 a.1.0 a.1.1.0 τ are.1.0.1 are.1.1.0.1)))

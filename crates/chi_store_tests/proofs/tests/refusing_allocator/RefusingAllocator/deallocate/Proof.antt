@@ -33,12 +33,12 @@ use denote.Triple.Statement.{Triple}
 use denote.Triple.Table.{entered}
 use denote.Triple.Walked.{Stays, stay_dropped, walk_of, ends_at, walked, Goes-dropped, walk_Meets}
 use Rattle.std.proofs.alloc.Calls.{Al, α, seen, token, gives_key, Gives, at_gives, Gives-goes, Gives-Gives}
-use Rattle.chi_growth_tests.specs.contracts.refusing_allocator.Refusing as R
-use Rattle.chi_growth_tests.proofs.RefusingCalls.{at_inner, self_as, word_goes}
-use Rattle.chi_growth_tests.specs.contracts.refusing_allocator.RefusingAllocator.deallocate as F
-use Rattle.chi_growth_tests.specs.contracts.refusing_allocator.RefusingAllocator.deallocate.Key as key
-use Rattle.chi_growth_tests.proofs.refusing_allocator.RefusingAllocator.deallocate.Statement.{statement}
-use Rattle.chi_growth_tests.proofs.refusing_allocator.RefusingAllocator.deallocate.Code as code
+use Rattle.chi_store_tests.specs.contracts.tests.refusing_allocator.Refusing as R
+use Rattle.chi_store_tests.proofs.RefusingCalls.{at_inner, self_as, word_goes}
+use Rattle.chi_store_tests.specs.contracts.tests.refusing_allocator.RefusingAllocator.deallocate as F
+use Rattle.chi_store_tests.specs.contracts.tests.refusing_allocator.RefusingAllocator.deallocate.Key as key
+use Rattle.chi_store_tests.proofs.tests.refusing_allocator.RefusingAllocator.deallocate.Statement.{statement}
+use Rattle.chi_store_tests.proofs.tests.refusing_allocator.RefusingAllocator.deallocate.Code as code
 
 module _ (Z : Al) where
   abbrev here : Fn

@@ -3,7 +3,7 @@ use mir.Syntax.{Dict}
 use denote.RattleType.{RattleType}
 use denote.Param.Send.{Frees}
 use Rattle.std.specs.declared.alloc.Allocator.{Ghosts}
-use Rattle.chi_growth_tests.specs.contracts.refusing_allocator.RefusingAllocator.TheImpl.{ghosts}
+use Rattle.chi_store_tests.specs.contracts.tests.refusing_allocator.RefusingAllocator.TheImpl.{ghosts}
 
 module _ (B : RattleType) (g : Ghosts B.Denot) where
   pub frees : (d e : Dict) → Frees g g.dealloc_token → Frees (ghosts B g d e) (ghosts B g d e).dealloc_token

@@ -2,10 +2,10 @@
 
 ghost use Rattle.chi_samples.specs.Opened.{IsOfEight};
 
-use crate::comparison::assert_same;
-use crate::growth_tests::{Call, call_in_turn};
-use crate::growth_work_tests::add;
-use crate::refusing_allocator::Refusing;
+use crate::tests::comparison::assert_same;
+use crate::tests::growth_tests::{Call, call_in_turn};
+use crate::tests::growth_work_tests::add;
+use crate::tests::refusing_allocator::Refusing;
 use chi_history::{Home, Line};
 use chi_lanes::Reply;
 use chi_samples::{STORE_ADD, race_adding};

@@ -2,10 +2,10 @@
 
 ghost use Rattle.chi_samples.specs.Opened.{IsOfEight};
 
-use crate::comparison::assert_same;
-use crate::growth_tests::{Call, call_on_book, call_on_lock};
-use crate::growth_work_tests::FETCH_ADD;
-use crate::refusing_allocator::Refusing;
+use crate::tests::comparison::assert_same;
+use crate::tests::growth_tests::{Call, call_on_book, call_on_lock};
+use crate::tests::growth_work_tests::FETCH_ADD;
+use crate::tests::refusing_allocator::Refusing;
 use chi_fields::Request;
 use chi_history::{Home, Line};
 use chi_lanes::Reply;

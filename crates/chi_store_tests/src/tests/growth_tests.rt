@@ -2,11 +2,11 @@
 
 ghost use Rattle.chi_samples.specs.Opened.{IsOfEight};
 
-use crate::comparison::assert_same;
-use crate::growth_list_tests::add_forty;
-use crate::growth_race_tests::race_ten;
-use crate::growth_work_tests::add_three;
-use crate::refusing_allocator::Refusing;
+use crate::tests::comparison::assert_same;
+use crate::tests::growth_list_tests::add_forty;
+use crate::tests::growth_race_tests::race_ten;
+use crate::tests::growth_work_tests::add_three;
+use crate::tests::refusing_allocator::Refusing;
 use chi_bookstore::BookStore;
 use chi_fields::Region;
 use chi_history::{Home, OpenFault};

@@ -3,9 +3,9 @@
 ghost use Rattle.std.specs.Prelude.{◌≡◌, ◌≤◌, true};
 ghost use Rattle.chi_history.specs.NumberSets.{below};
 
-use crate::clock_gate::{Pauses, observe, observe_after};
-use crate::comparison::assert_same;
-use crate::race_scripts::{race_of_four, race_of_two};
+use crate::tests::clock_gate::{Pauses, observe, observe_after};
+use crate::tests::comparison::assert_same;
+use crate::tests::race_scripts::{race_of_four, race_of_two};
 use chi_bookstore::BookStore;
 use chi_fields::Region;
 use chi_history::{Home, Line};
