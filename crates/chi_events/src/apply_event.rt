@@ -101,7 +101,12 @@ fn operation_by(request: &Open, time: u64) -> Option<Operation>
 }
 
 /// Keeps the request at a place as it is now, or takes it out and answers its operation, where it has ended.
-fn end_if_complete(requests: &mut Vec<Open>, place: usize, now: Open, time: u64) -> Option<Operation>
+fn end_if_complete(
+    requests: &mut Vec<Open>,
+    place: usize,
+    now: Open,
+    time: u64,
+) -> Option<Operation>
     requires { place < length requests.old.items }
     ensures left { requests.new.items ≡ take place requests.old.items ++ (still_open now ++ drop (place + 1) requests.old.items) }
     ensures ended { result ≡ ended_by time now }

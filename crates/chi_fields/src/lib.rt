@@ -15,5 +15,5 @@ pub use decoding::decode;
 pub use kind::{Kind, Op};
 pub use opcode::op_name;
 pub use refusal::{Refusal, refusal_name};
-pub use region::{Region, RegionFault, region_fault_name};
+pub use region::{ADDRESSES, Region, RegionFault, region_fault_name};
 pub use request::Request;

@@ -9,8 +9,10 @@ use thiserror::Error;
 /// The greatest number of granules in a region.
 pub const MOST_GRANULES: u16 = 512;
 
-// The addresses end here: they have 52 bits.
-const ADDRESSES: u64 = 1 << 52;
+/// How many addresses there are: they have 52 bits.
+///
+/// Source: Arm IHI 0050 Issue B, the widest address of a request.
+pub const ADDRESSES: u64 = 1 << 52;
 
 /// Why a region is refused.
 #[derive(Clone, Copy, Debug, PartialEq, Eq, Error)]

@@ -14,6 +14,7 @@ use crate::passing::{moved_back, passed};
 use crate::progress::Progress;
 use crate::states::States;
 use crate::words::Words;
+use chi_fields::ADDRESSES;
 use chi_trace::Operation;
 use std::alloc::{AllocError, Global};
 use std::marker::Model;
@@ -100,7 +101,7 @@ impl Frontier {
         ensures refused { IfOk result (λ is. is ≡ false → self.new ≡ self.old) }
         ensures failed { IfErr result (λ fault. self.new ≡ self.old) }
     {
-        let within = op.access.addr() <= (1 << 52) - op.access.len() as u64;
+        let within = op.access.addr() <= ADDRESSES - op.access.len() as u64;
         if op.start > op.end || op.start < self.horizon || op.end < self.latest || !within {
             return Ok(false);
         }

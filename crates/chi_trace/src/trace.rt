@@ -8,6 +8,7 @@ ghost use Rattle.chi_trace.specs.Words.{AreInOrder, AreWords};
 
 use crate::operation::Operation;
 use crate::words::GranuleWords;
+use chi_fields::ADDRESSES;
 use chi_fields::laws::access_is_lawful;
 use std::alloc::{AllocError, Global};
 use std::marker::Model;
@@ -46,7 +47,7 @@ pub fn are_traced(ops: &[Operation]) -> bool
     for op in ops {
         access_is_lawful(&op.access);
         let length = op.access.len() as u64;
-        if op.start < before || op.end < op.start || op.access.addr() > (1 << 52) - length {
+        if op.start < before || op.end < op.start || op.access.addr() > ADDRESSES - length {
             return false;
         }
         before = op.start;

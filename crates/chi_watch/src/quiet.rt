@@ -5,6 +5,7 @@ ghost use Rattle.std.specs.List.{list_any};
 ghost use Rattle.chi_watch.specs.Requests.{StartsBy, granule_of_request};
 
 use chi_events::Open;
+use chi_fields::ADDRESSES;
 
 /// A time at or before which each outstanding request of the granule was taken, and at or before this one.
 pub(crate) fn earliest(requests: &[Open], granule: u64, time: u64) -> u64
@@ -33,5 +34,5 @@ pub(crate) fn is_open(requests: &[Open], granule: u64) -> bool
 pub(crate) fn has_length(addr: u64, length: u64) -> bool
     ensures { result ≡ (nat_lt 0 length && nat_le length 4096 && nat_le (addr + length) (2 ^ 52)) }
 {
-    0 < length && length <= 4096 && addr <= (1 << 52) - length
+    0 < length && length <= 4096 && addr <= ADDRESSES - length
 }
