@@ -1,13 +1,10 @@
 -- how many requests were refused, for each reason
-use Rattle.std.specs.Prelude.{◌≡◌, ℕ, ◌+◌, ◌==◌, ◌<◌, nat_lt, if◌then◌else◌, List, [], ◌∷◌, ◌++◌, codes, count_by, decimal, flat_map, length, min, slice_index}
+use Rattle.std.specs.Prelude.{◌≡◌, ℕ, ◌+◌, ◌==◌, ◌<◌, nat_lt, if◌then◌else◌, List, [], ◌++◌, codes, count_by, decimal, flat_map, length, min, slice_index}
 use Rattle.chi_fields.specs.Refusal.{name_of}
+use Rattle.chi_fields.specs.Refusals.{all_refusals}
 use Rattle.chi_fields.specs.declared.refusal.Refusal.{Refusal}
 use Rattle.chi_fields.specs.declared.refusal.Refusal.TheVariants.{UnknownOpcode, ReservedSize, SizeOutOfProfile, Misaligned, OutOfRegion, BadByteEnable}
 use Rattle.chi_cover.specs.Counts.{most}
-
--- the reasons, in the order in which a home meets them
-abbrev pub all_refusals : List Refusal
-all_refusals = UnknownOpcode ∷ ReservedSize ∷ SizeOutOfProfile ∷ Misaligned ∷ OutOfRegion ∷ BadByteEnable ∷ []
 
 -- The number of each reason, from 0 on, in this order.
 abbrev pub refusal_number : Refusal → ℕ

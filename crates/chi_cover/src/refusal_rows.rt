@@ -1,23 +1,14 @@
 //! How many requests were refused for each reason, as a text.
 
 ghost use Rattle.std.specs.Prelude.{◌≡◌, ◌++◌, OnOk, flat_map};
-ghost use Rattle.chi_cover.specs.Refusals.{all_refusals, missing_refusal, reasons_met, refusal_row, refusals_head, refusals_text, refused_in};
+ghost use Rattle.chi_fields.specs.Refusals.{all_refusals};
+ghost use Rattle.chi_cover.specs.Refusals.{missing_refusal, reasons_met, refusal_row, refusals_head, refusals_text, refused_in};
 
 use crate::refusals::Refusals;
 use chi_fields::{Refusal, refusal_name};
 use chi_text::Part::{Number, Text};
 use chi_text::add_parts;
 use std::alloc::AllocError;
-
-/// The reasons, in the order in which a home meets them.
-const REFUSALS: [Refusal; 6] = [
-    Refusal::UnknownOpcode,
-    Refusal::ReservedSize,
-    Refusal::SizeOutOfProfile,
-    Refusal::Misaligned,
-    Refusal::OutOfRegion,
-    Refusal::BadByteEnable,
-];
 
 /// How many of these reasons there were.
 fn reasons_met(refusals: &Refusals, reasons: &[Refusal]) -> usize
@@ -41,9 +32,9 @@ fn add_head(to: &mut Vec<u8>, refusals: &Refusals) -> Result<(), AllocError>
         to,
         &[
             Text("refusals: "),
-            Number(reasons_met(refusals, &REFUSALS) as u64),
+            Number(reasons_met(refusals, &Refusal::ALL) as u64),
             Text(" of "),
-            Number(REFUSALS.len() as u64),
+            Number(Refusal::ALL.len() as u64),
             Text("\n"),
         ],
     )
@@ -82,7 +73,7 @@ fn add_missing(to: &mut Vec<u8>, refusals: &Refusals, reason: Refusal) -> Result
 fn add_all_rows(to: &mut Vec<u8>, refusals: &Refusals) -> Result<(), AllocError>
     ensures { OnOk result (to.new.items ≡ to.old.items ++ flat_map (refusal_row (refused_in refusals.now)) all_refusals) }
 {
-    for reason in REFUSALS {
+    for reason in Refusal::ALL {
         add_row(to, refusals, reason)?;
     }
     Ok(())
@@ -91,7 +82,7 @@ fn add_all_rows(to: &mut Vec<u8>, refusals: &Refusals) -> Result<(), AllocError>
 fn add_all_missing(to: &mut Vec<u8>, refusals: &Refusals) -> Result<(), AllocError>
     ensures { OnOk result (to.new.items ≡ to.old.items ++ flat_map (missing_refusal (refused_in refusals.now)) all_refusals) }
 {
-    for reason in REFUSALS {
+    for reason in Refusal::ALL {
         add_missing(to, refusals, reason)?;
     }
     Ok(())

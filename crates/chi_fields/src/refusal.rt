@@ -24,6 +24,18 @@ pub enum Refusal {
     BadByteEnable,
 }
 
+impl Refusal {
+    /// All refusals, in the order in which a home meets them.
+    pub const ALL: [Refusal; 6] = [
+        Refusal::UnknownOpcode,
+        Refusal::ReservedSize,
+        Refusal::SizeOutOfProfile,
+        Refusal::Misaligned,
+        Refusal::OutOfRegion,
+        Refusal::BadByteEnable,
+    ];
+}
+
 /// The refusal's name, as `Misaligned`.
 pub fn refusal_name(refusal: Refusal) -> &'static str
     ensures { result.now ≡ name_of refusal }

@@ -1,5 +1,5 @@
 -- what is true of what a walk comes to
-use Rattle.std.proofs.Common.{◌≡◌, ℕ, ◌≤◌, nat_le, Bool, true, false, if◌then◌else◌, List, Option, None, Some, Result, Ok, Err, IfOk, refl, subst}
+use Rattle.std.proofs.Common.{◌≡◌, ℕ, ◌≤◌, nat_le, Bool, true, false, if◌then◌else◌, List, Option, None, Some, Result, Ok, Err, IfOk, IfSome, refl, subst}
 use Rattle.std.specs.Prelude.{ok_or, option_and_then}
 use Rattle.std.proofs.lemmas.Bool.{leb-true}
 use Rattle.serde_json.specs.Data.{Data}
@@ -21,6 +21,11 @@ at_ok x a P e h = subst (λ r. IfOk r P) e h
 pub renamed : {A E D : Type 0} (f : E → D) (r : Result A E) (P : A → Type 0) → IfOk r P → IfOk (or_else f r) P
 renamed f (Ok a) P h = h
 renamed f (Err e) P h = tt
+
+-- P of a value, where no value is told as a fault
+pub present : {A E : Type 0} (o : Option A) (e : E) (P : A → Type 0) → IfSome o P → IfOk (ok_or o e) P
+present (Some a) e P h = h
+present None e P h = tt
 
 -- by cases on the test
 tested : {E : Type 0} (top n : ℕ) (b : Bool) (e : E) → nat_le n top ≡ b → IfOk (ok_or (if b then Some n else None) e) (λ m. m ≤ top)

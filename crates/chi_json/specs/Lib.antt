@@ -1,3 +1,5 @@
+pub mod Faults
 pub mod Members
 pub mod Object
+pub mod Unknown
 pub mod Values

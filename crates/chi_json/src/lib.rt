@@ -2,16 +2,18 @@
 //! an object.
 #![tactic(auto)]
 
-mod bytes;
+mod fault;
 mod input;
 mod member;
 mod object;
 mod text;
+mod unknown;
 mod words;
 
-pub use bytes::{hex_bytes, stated_bytes};
+pub use fault::ObjectFault;
 pub use input::{InputFault, read_input};
-pub use member::{MemberFault, Named, number};
+pub use member::{MemberFault, Named, number, stated};
 pub use object::{put_bytes, put_number, put_request, put_text, put_words};
-pub use text::{TextFault, json};
+pub use text::{hex_bytes, json, stated_bytes};
+pub use unknown::{MemberName, unknown_member};
 pub use words::{opening_words, stated_words};

@@ -1,6 +1,9 @@
 //! The members of an object: their names, their faults, and those that are whole numbers.
 
 ghost use Rattle.std.specs.Prelude.{◌≡◌, ◌≤◌, IfOk};
+ghost use Rattle.std.specs.Option.{ok_or};
+ghost use Rattle.std.specs.Result.{result_map_both};
+ghost use Rattle.serde_json.specs.Find.{get};
 ghost use Rattle.serde_json.specs.View.{view};
 ghost use Rattle.chi_json.specs.Members.{number_of};
 
@@ -43,6 +46,19 @@ pub enum MemberFault<M> {
     Memory,
 }
 
+/// The value of a member of an object. `Missing` is answered where the object has no such member.
+///
+/// ```
+/// let list = stated(&object, Member::Requests)?.as_array();
+/// ```
+pub fn stated<M: Named>(object: &Value, member: M) -> Result<&Value, MemberFault<M>>
+    ensures { result_map_both (λ value. view value.now) (λ fault. fault) result ≡ ok_or (get (M.name_of member) (view object.now)) (MemberFault.Missing member) }
+{
+    object
+        .get(member.name())
+        .ok_or(MemberFault::Missing(member))
+}
+
 /// The member of an object that is a whole number from 0 to `top`.
 ///
 /// `Missing` is answered where the object has no such member, and `BadMember` where it has another value: also a
@@ -56,10 +72,7 @@ pub fn number<M: Named>(object: &Value, member: M, top: u64) -> Result<u64, Memb
     ensures value { result ≡ number_of M.name_of member top (view object.now) }
     ensures small { IfOk result (λ n. n ≤ top) }
 {
-    let Some(value) = object.get(member.name()) else {
-        return Err(MemberFault::Missing(member));
-    };
-    match value.as_u64() {
+    match stated(object, member)?.as_u64() {
         Some(n) if n <= top => Ok(n),
         _ => Err(MemberFault::BadMember(member)),
     }

@@ -1,49 +1,58 @@
-//! The value of a text.
+//! What a text states: its value, or the bytes of its hex digits.
 
-ghost use Rattle.std.specs.Prelude.{◌≡◌, ◌≢◌, Some, None, IfOk, IfErr};
+ghost use Rattle.std.specs.Prelude.{◌≡◌, IfOk};
+ghost use Rattle.std.specs.Option.{option_map};
 ghost use Rattle.serde_json.specs.View.{view};
-ghost use Rattle.chi_json.specs.Values.{json_value};
+ghost use Rattle.chi_json.specs.Members.{member_by};
+ghost use Rattle.chi_json.specs.Values.{hex_bytes, json_value};
 
+use crate::member::{MemberFault, Named, stated};
+use hex::FromHex;
 use serde_json::Value;
-use std::alloc::Global;
-use thiserror::Error;
+use std::alloc::{AllocError, Global};
 
-/// Why a text has no value.
-///
-/// - `NotJson`: the text is not one JSON text in UTF-8, or nests more than 127 deep.
-/// - `Memory`: no memory for the value.
+/// The value of a text that is one JSON text in UTF-8. `None` is answered where it is none or nests more than 127 deep.
 ///
 /// ```
-/// let fault = json(alloc, b"{").err(); // Some(TextFault::NotJson)
-/// ```
-#[derive(Clone, Copy, Debug, PartialEq, Eq, Error)]
-pub enum TextFault {
-    #[error("text is not JSON")]
-    NotJson,
-    #[error("no memory")]
-    Memory,
-}
-
-/// The value of a text that is one JSON text in UTF-8.
-///
-/// `NotJson` is answered where it is none or nests more than 127 deep, and `Memory` where a growth is refused.
-///
-/// ```
-/// let value = json(alloc, b"[]")?;
+/// let value = json(alloc, b"[]")?; // an empty array
 /// ```
 #[tactic(auto, unfolding(crate::specs::Values::json_value))]
-pub fn json(alloc: Global, text: &[u8]) -> Result<Value, TextFault>
-    ensures ok { IfOk result (λ v. json_value text.now ≡ Some (view v)) }
-    ensures fault { IfErr result (λ f. f ≢ TextFault.Memory → (f ≡ TextFault.NotJson) × (json_value text.now ≡ None)) }
+pub fn json(alloc: Global, text: &[u8]) -> Result<Option<Value>, AllocError>
+    ensures { IfOk result (λ value. json_value text.now ≡ option_map (λ v. view v) value) }
 {
     match Value::from_slice(alloc, text) {
-        Ok(value) => Ok(value),
-        Err(error) => {
-            if error.is_memory() {
-                Err(TextFault::Memory)
-            } else {
-                Err(TextFault::NotJson)
-            }
-        }
+        Ok(value) => Ok(Some(value)),
+        Err(error) if error.is_memory() => Err(AllocError),
+        Err(_) => Ok(None),
     }
+}
+
+/// The bytes of a value: a text of exactly two hex digits for each of them, in either case. `None` is answered where the value
+/// is none.
+///
+/// ```
+/// let word: [u8; 8] = hex_bytes(&value)?;
+/// ```
+pub fn hex_bytes<const COUNT: usize>(value: &Value) -> Option<[u8; COUNT]>
+    ensures { result ≡ hex_bytes COUNT (view value.now) }
+{
+    let text = value.as_str()?;
+    <[u8; COUNT] as FromHex>::from_hex(text).ok()
+}
+
+/// The bytes that a member of an object states: a text of exactly two hex digits for each of them, in either case.
+///
+/// `Missing` is answered where the object has no such member, and `BadMember` where it has another value.
+///
+/// ```
+/// let lanes: [u8; 16] = stated_bytes(&object, Member::Lanes)?;
+/// ```
+pub fn stated_bytes<M: Named, const COUNT: usize>(
+    object: &Value,
+    member: M,
+) -> Result<[u8; COUNT], MemberFault<M>>
+    ensures { result ≡ member_by M.name_of member (hex_bytes COUNT) (view object.now) }
+{
+    let value = stated(object, member)?;
+    hex_bytes(value).ok_or(MemberFault::BadMember(member))
 }

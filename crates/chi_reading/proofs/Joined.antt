@@ -10,8 +10,9 @@ use Rattle.chi_lanes.specs.declared.reply.Reply.{Reply}
 use Rattle.chi_trace.specs.declared.operation.Operation.{Operation}
 use Rattle.chi_reading.specs.declared.stated.Outcome.TheVariants.{Accepted, Refused}
 use Rattle.chi_reading.specs.declared.stated.Stated.{Stated}
-use Rattle.chi_json.specs.Members.{◌>>=◌}
+use Rattle.chi_json.specs.Members.{◌>>=◌, or_else}
 use Rattle.chi_reading.specs.declared.fault.TraceFault.{TraceFault}
+use Rattle.chi_reading.specs.declared.fault.TraceFault.TheVariants.{InRequest}
 use Rattle.chi_reading.specs.Requests.{Completed, completed_at, completed_of, joined, none_completed, observed_of, one_accepted, one_refused, refused_of, stated_at}
 
 -- what was found, and then what follows
@@ -66,13 +67,13 @@ module _ (place : ℕ) (region : Option Extent) (values : List Value) (value : V
       by_rest (Err fault) = refl
 
 -- what the element at a place is: a request that was accepted
-pub accepted_at : (place : ℕ) (region : Option Extent) (d : Data) (s : Stated) (reply : Option Reply) (operation : Operation) → stated_at place d ≡ Ok s
-    → s.outcome ≡ Accepted reply → observed_of place region s reply ≡ Ok operation → completed_at place region d ≡ Ok (one_accepted operation)
+pub accepted_at : (place : ℕ) (region : Option Extent) (d : Data) (s : Stated) (reply : Option Reply) (operation : Operation) → or_else (InRequest place) (stated_at place d) ≡ Ok s
+    → s.outcome ≡ Accepted reply → or_else (InRequest place) (observed_of region s reply) ≡ Ok operation → completed_at place region d ≡ Ok (one_accepted operation)
 unfolding completed_at observed_of
 accepted_at place region d s reply operation stated outcome observed = rw (stated, outcome, observed) refl
 
 -- or one that was refused
-pub refused_at : (place : ℕ) (region : Option Extent) (d : Data) (s : Stated) (reason refusal : Refusal) → stated_at place d ≡ Ok s → s.outcome ≡ Refused reason
-    → refused_of place region s reason ≡ Ok refusal → completed_at place region d ≡ Ok (one_refused refusal)
+pub refused_at : (place : ℕ) (region : Option Extent) (d : Data) (s : Stated) (reason refusal : Refusal) → or_else (InRequest place) (stated_at place d) ≡ Ok s → s.outcome ≡ Refused reason
+    → or_else (InRequest place) (refused_of region s reason) ≡ Ok refusal → completed_at place region d ≡ Ok (one_refused refusal)
 unfolding completed_at refused_of
 refused_at place region d s reason refusal stated outcome refused = rw (stated, outcome, refused) refl

@@ -1,30 +1,22 @@
 -- the faults of a trace
-use Rattle.std.specs.Prelude.{ℕ, Option, None, Some, Result, Ok, Err}
+use Rattle.std.specs.Prelude.{Option, None, Some, Result, Ok, Err}
+use Rattle.chi_json.specs.Faults.{of_member}
 use Rattle.chi_json.specs.declared.member.MemberFault.{MemberFault}
 use Rattle.chi_json.specs.declared.member.MemberFault.TheVariants as member_fault
-use Rattle.chi_json.specs.declared.text.TextFault.{TextFault}
-use Rattle.chi_json.specs.declared.text.TextFault.TheVariants as no_value
 use Rattle.chi_reading.specs.declared.member.Member.{Member}
+use Rattle.chi_reading.specs.declared.fault.RequestFault.{RequestFault}
 use Rattle.chi_reading.specs.declared.fault.RequestFault.TheVariants as request_fault
 use Rattle.chi_reading.specs.declared.fault.TraceFault.{TraceFault}
-use Rattle.chi_reading.specs.declared.fault.TraceFault.TheVariants.{NotJson, Missing, BadMember, InRequest, Memory}
-
--- why a text has no value, as the trace's fault
-abbrev pub text_fault : TextFault → TraceFault
-text_fault no_value.NotJson = NotJson
-text_fault no_value.Memory = Memory
+use Rattle.chi_reading.specs.declared.fault.TraceFault.TheVariants.{Object, Memory}
 
 -- a fault of a member, as the trace's
-abbrev pub as_fault : MemberFault Member → TraceFault
-as_fault (member_fault.Missing m) = Missing m
-as_fault (member_fault.BadMember m) = BadMember m
-as_fault member_fault.Memory = Memory
+abbrev pub of_trace : MemberFault Member → TraceFault
+of_trace member_fault.Memory = Memory
+of_trace fault = Object (of_member fault)
 
--- the same in the request at a place: it is the request's
-abbrev pub fault_in : ℕ → MemberFault Member → TraceFault
-fault_in place (member_fault.Missing m) = InRequest place (request_fault.Missing m)
-fault_in place (member_fault.BadMember m) = InRequest place (request_fault.BadMember m)
-fault_in place member_fault.Memory = Memory
+-- the same, as a request's
+abbrev pub of_request : MemberFault Member → RequestFault
+of_request fault = request_fault.Object (of_member fault)
 
 -- a value, where there is no fault by another name
 abbrev pub faultless : {A E D : Type 0} → (E → D) → Option E → A → Result A D

@@ -1,5 +1,5 @@
--- the names of the members of a trace and of an event
-use Rattle.std.specs.Prelude.{ℕ, List, codes}
+-- the members of a trace and of an event: their names, and which object may have which
+use Rattle.std.specs.Prelude.{ℕ, List, [], ◌∷◌, codes}
 use Rattle.chi_reading.specs.declared.member.Member.{Member}
 use Rattle.chi_reading.specs.declared.member.Member.TheVariants.{Base, Granules, Image, Requests, Src, Txn, Opcode, Size, Addr, Endian, Be, Lanes, Final, Start, End, Reply, Refused, Event, Time, Id, Bytes, Length, Reason}
 
@@ -27,3 +27,11 @@ member_name Id = codes "id"
 member_name Bytes = codes "bytes"
 member_name Length = codes "length"
 member_name Reason = codes "reason"
+
+-- the members of a trace
+abbrev pub trace_members : List Member
+trace_members = Base ∷ Granules ∷ Image ∷ Final ∷ Requests ∷ []
+
+-- the fields of a request, of a trace and of an event, and its data
+abbrev pub request_members : List Member
+request_members = Src ∷ Txn ∷ Opcode ∷ Size ∷ Addr ∷ Endian ∷ Be ∷ Lanes ∷ []

@@ -1,16 +1,12 @@
 -- why a home refused a request, as a trace tells it
-use Rattle.std.specs.Prelude.{ℕ, Bool, false, List, [], ◌∷◌, find, Option, option_and_then, Result, Ok, Err}
+use Rattle.std.specs.Prelude.{ℕ, Bool, false, List, find, Option, option_and_then, Result, Ok, Err}
 use Rattle.std.specs.Str.{bytes_eq}
 use Rattle.serde_json.specs.Data.{Data}
 use Rattle.serde_json.specs.Find.{as_str}
 use Rattle.chi_fields.specs.Access.{Access}
 use Rattle.chi_fields.specs.Refusal.{name_of}
+use Rattle.chi_fields.specs.Refusals.{all_refusals}
 use Rattle.chi_fields.specs.declared.refusal.Refusal.{Refusal}
-use Rattle.chi_fields.specs.declared.refusal.Refusal.TheVariants.{UnknownOpcode, ReservedSize, SizeOutOfProfile, Misaligned, OutOfRegion, BadByteEnable}
-
--- the reasons, in the order in which a home meets them
-abbrev pub all_refusals : List Refusal
-all_refusals = UnknownOpcode ∷ ReservedSize ∷ SizeOutOfProfile ∷ Misaligned ∷ OutOfRegion ∷ BadByteEnable ∷ []
 
 -- the first of some reasons that has this name
 abbrev pub refusal_with : List ℕ → List Refusal → Option Refusal

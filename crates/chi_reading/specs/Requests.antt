@@ -11,7 +11,9 @@ use Rattle.chi_lanes.specs.declared.reply.Reply.{Reply}
 use Rattle.chi_lanes.specs.declared.reply.Reply.TheVariants.{Comp, CompData}
 use Rattle.chi_json.specs.declared.member.MemberFault.{MemberFault}
 use Rattle.chi_json.specs.declared.member.MemberFault.TheVariants as member_fault
+use Rattle.chi_json.specs.declared.fault.ObjectFault.TheVariants.{NotObject, UnknownMember}
 use Rattle.chi_json.specs.Members.{◌>>=◌, member_by, number_of, or_else}
+use Rattle.chi_json.specs.Unknown.{unknown_in}
 use Rattle.chi_json.specs.Values.{hex_bytes}
 use Rattle.chi_trace.specs.RequestFields.{access_of, as_operation}
 use Rattle.chi_trace.specs.Replies.{reply_fault}
@@ -19,16 +21,16 @@ use Rattle.chi_trace.specs.declared.request_fields.RequestFields.{RequestFields}
 use Rattle.chi_trace.specs.declared.operation.Operation.{Operation}
 use Rattle.chi_reading.specs.declared.member.Member.{Member}
 use Rattle.chi_reading.specs.declared.member.Member.TheVariants as member
-use Rattle.chi_reading.specs.Member.{member_name}
+use Rattle.chi_reading.specs.Member.{member_name, request_members}
 use Rattle.chi_reading.specs.declared.stated.Outcome.{Outcome}
 use Rattle.chi_reading.specs.declared.stated.Outcome.TheVariants.{Accepted, Refused}
 use Rattle.chi_reading.specs.declared.stated.Stated.{Stated}
+use Rattle.chi_reading.specs.declared.fault.RequestFault.{RequestFault}
 use Rattle.chi_reading.specs.declared.fault.RequestFault.TheVariants as request_fault
 use Rattle.chi_reading.specs.declared.fault.TraceFault.{TraceFault}
 use Rattle.chi_reading.specs.declared.fault.TraceFault.TheVariants.{TooManyRequests, InRequest}
-use Rattle.chi_reading.specs.Faults.{fault_in, faultless}
+use Rattle.chi_reading.specs.Faults.{faultless, of_request}
 use Rattle.chi_reading.specs.Refused.{is_refused_so, refusal_of}
-use Rattle.chi_reading.specs.Unknown.{refused_members, request_members, unknown_in}
 
 -- the fields of the request with this number that an object states, with no data
 unfoldable pub fields_of : ℕ → Data → Result RequestFields (MemberFault Member)
@@ -86,30 +88,29 @@ stated_of number d = do
   Ok (record { fields = fields; start = start; end = end; outcome = outcome })
 
 -- the members that a request of this outcome has
-abbrev pub members_of : Outcome → List Member
-members_of (Accepted reply) = request_members
-members_of (Refused reason) = refused_members
+abbrev pub members_of : Outcome → List (List Member)
+members_of (Accepted reply) = request_members ∷ (member.Start ∷ member.End ∷ member.Reply ∷ []) ∷ []
+members_of (Refused reason) = request_members ∷ (member.Start ∷ member.End ∷ member.Refused ∷ []) ∷ []
 
 -- the same of the element at a place
-unfoldable pub stated_at : ℕ → Data → Result Stated TraceFault
+unfoldable pub stated_at : ℕ → Data → Result Stated RequestFault
 stated_at place d = do
-  members ← ok_or (as_object d) (InRequest place request_fault.NotObject)
-  stated ← or_else (fault_in place) (stated_of place d)
-  faultless (λ name. InRequest place (request_fault.UnknownMember name)) (unknown_in (members_of stated.outcome) members) stated
+  members ← ok_or (as_object d) (request_fault.Object NotObject)
+  stated ← or_else of_request (stated_of place d)
+  faultless (λ name. request_fault.Object (UnknownMember name)) (unknown_in member_name (members_of stated.outcome) members) stated
 
--- the operation that was observed of the request at a place, with this reply
-unfoldable pub observed_of : ℕ → Option Extent → Stated → Option Reply → Result Operation TraceFault
-observed_of place region s reply = do
-  access ← or_else (λ refusal. InRequest place (request_fault.Refused refusal)) (access_of region s.fields)
-  if nat_lt s.end s.start then Err (InRequest place request_fault.EndsBeforeStart)
-      else faultless (λ fault. InRequest place (request_fault.Reply fault)) (reply_fault access reply)
-      (as_operation s.fields access s.start s.end reply)
+-- the operation that was observed of a request, with this reply
+unfoldable pub observed_of : Option Extent → Stated → Option Reply → Result Operation RequestFault
+observed_of region s reply = do
+  access ← or_else request_fault.Refused (access_of region s.fields)
+  if nat_lt s.end s.start then Err request_fault.EndsBeforeStart
+      else faultless request_fault.Reply (reply_fault access reply) (as_operation s.fields access s.start s.end reply)
 
--- why the request at a place was refused, where the home refuses it for this reason
-unfoldable pub refused_of : ℕ → Option Extent → Stated → Refusal → Result Refusal TraceFault
-refused_of place region s reason =
-    if not (is_refused_so reason (access_of region s.fields)) then Err (InRequest place request_fault.NotRefusedSo)
-    else if nat_lt s.end s.start then Err (InRequest place request_fault.EndsBeforeStart)
+-- why a request was refused, where the home refuses it for this reason
+unfoldable pub refused_of : Option Extent → Stated → Refusal → Result Refusal RequestFault
+refused_of region s reason =
+    if not (is_refused_so reason (access_of region s.fields)) then Err request_fault.NotRefusedSo
+    else if nat_lt s.end s.start then Err request_fault.EndsBeforeStart
     else Ok reason
 
 -- The operations of the requests that were accepted, and why each of the others was refused. An operation's number is its
@@ -137,16 +138,16 @@ one_refused reason = record { operations = []; refusals = reason ∷ [] }
 -- that of one request, by what came of it
 abbrev pub completed_by : ℕ → Option Extent → Stated → Outcome → Result Completed TraceFault
 completed_by place region s (Accepted reply) = do
-  operation ← observed_of place region s reply
+  operation ← or_else (InRequest place) (observed_of region s reply)
   Ok (one_accepted operation)
 completed_by place region s (Refused reason) = do
-  refusal ← refused_of place region s reason
+  refusal ← or_else (InRequest place) (refused_of region s reason)
   Ok (one_refused refusal)
 
 -- that of the element at a place
 unfoldable pub completed_at : ℕ → Option Extent → Data → Result Completed TraceFault
 completed_at place region d = do
-  stated ← stated_at place d
+  stated ← or_else (InRequest place) (stated_at place d)
   completed_by place region stated stated.outcome
 
 -- those of an array's elements, the first of which has this place

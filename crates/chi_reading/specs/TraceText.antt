@@ -1,24 +1,25 @@
 -- the trace that a text is, or its first fault
-use Rattle.std.specs.Prelude.{◌≡◌, ℕ, ◌-◌, ◌/◌, ◌^◌, if◌then◌else◌, List, [], IsPermutation, Option, None, Some, is_some, Result, Ok}
+use Rattle.std.specs.Prelude.{◌≡◌, ℕ, ◌-◌, ◌/◌, ◌^◌, if◌then◌else◌, List, [], ◌∷◌, IsPermutation, Option, None, Some, is_some, Result, Ok}
 use Rattle.std.specs.Option.{ok_or}
 use Rattle.serde_json.specs.Data.{Data, Members}
 use Rattle.serde_json.specs.Find.{as_array, as_object, get}
 use Rattle.chi_fields.specs.Extent.{Extent, region_of}
 use Rattle.chi_fields.specs.declared.refusal.Refusal.{Refusal}
 use Rattle.chi_json.specs.Members.{◌>>=◌, member_by, number_of, opening_words, or_else, stated_words}
+use Rattle.chi_json.specs.Unknown.{unknown_in}
 use Rattle.chi_json.specs.Values.{json_value}
 use Rattle.chi_trace.specs.declared.words.GranuleWord.{GranuleWord}
 use Rattle.chi_trace.specs.Traces.{TraceValue, trace_at}
 use Rattle.chi_trace.specs.Words.{find_word}
 use Rattle.chi_reading.specs.declared.member.Member.TheVariants as member
-use Rattle.chi_reading.specs.Member.{member_name}
+use Rattle.chi_reading.specs.Member.{member_name, trace_members}
 use Rattle.chi_reading.specs.declared.recorded.Memory.{Memory}
 use Rattle.chi_reading.specs.declared.fault.TraceFault.{TraceFault}
-use Rattle.chi_reading.specs.declared.fault.TraceFault.TheVariants.{NotJson, NotObject, RegionRefused, UnknownMember}
-use Rattle.chi_reading.specs.Faults.{as_fault, faultless}
+use Rattle.chi_json.specs.declared.fault.ObjectFault.TheVariants.{NotJson, NotObject, UnknownMember}
+use Rattle.chi_reading.specs.declared.fault.TraceFault.TheVariants.{Object, RegionRefused}
+use Rattle.chi_reading.specs.Faults.{faultless, of_trace}
 use Rattle.chi_reading.specs.Requests.{Completed, all_completed}
 use Rattle.chi_reading.specs.Told.{region_words, stated_list}
-use Rattle.chi_reading.specs.Unknown.{trace_members, unknown_in}
 
 -- What a text says of the memory: a region, or all addresses; the words of its granules at the opening, where they are told,
 -- and at the end.
@@ -35,18 +36,18 @@ region_final_words first (Some words) = region_words first words
 -- of a region: its base, how many granules it has, and their words
 unfoldable pub region_memory : Data → Result MemoryText TraceFault
 region_memory d = do
-  base ← or_else as_fault (number_of member_name member.Base (2 ^ 64 - 1) d)
-  granules ← or_else as_fault (number_of member_name member.Granules 65535 d)
+  base ← or_else of_trace (number_of member_name member.Base (2 ^ 64 - 1) d)
+  granules ← or_else of_trace (number_of member_name member.Granules 65535 d)
   region ← or_else RegionRefused (region_of base granules)
-  image ← or_else as_fault (opening_words member_name member.Image granules d)
-  final_words ← or_else as_fault (stated_words member_name member.Final granules d)
+  image ← or_else of_trace (opening_words member_name member.Image granules d)
+  final_words ← or_else of_trace (stated_words member_name member.Final granules d)
   Ok (record { region = Some region; opening = region_words (base / 8) image; final_words = region_final_words (base / 8) final_words })
 
 -- of all addresses: the words of some granules
 unfoldable pub wide_memory : Data → Result MemoryText TraceFault
 wide_memory d = do
-  opening ← or_else as_fault (stated_list member.Image d)
-  final_words ← or_else as_fault (stated_list member.Final d)
+  opening ← or_else of_trace (stated_list member.Image d)
+  final_words ← or_else of_trace (stated_list member.Final d)
   Ok (record { region = None; opening = opening; final_words = final_words })
 
 -- the memory is a region where its number of granules is told
@@ -61,16 +62,16 @@ pub record TextValue : Type 0 where
 unfoldable pub object_text : Data → Members → Result TextValue TraceFault
 object_text d members = do
   memory ← memory_text d
-  listed ← or_else as_fault (member_by member_name member.Requests as_array d)
-  elements ← faultless UnknownMember (unknown_in trace_members members) listed
+  listed ← or_else of_trace (member_by member_name member.Requests as_array d)
+  elements ← faultless (λ name. Object (UnknownMember name)) (unknown_in member_name (trace_members ∷ []) members) listed
   completed ← all_completed memory.region elements
   Ok (record { memory = memory; completed = completed })
 
 -- the trace that a text is, or the first fault
 unfoldable pub trace_text : List ℕ → Result TextValue TraceFault
 trace_text text = do
-  d ← ok_or (json_value text) NotJson
-  members ← ok_or (as_object d) NotObject
+  d ← ok_or (json_value text) (Object NotJson)
+  members ← ok_or (as_object d) (Object NotObject)
   object_text d members
 
 -- A trace that was read: its operations in the order of their starts, each with the place of its request in the text as its
@@ -91,15 +92,7 @@ pub record IsMemoryOf (t : MemoryText) (m : Memory) : Type 0 where
   pub opening : (g : ℕ) → find_word m.opening g ≡ find_word t.opening g
   pub final_words : (g : ℕ) → find_word m.final_words g ≡ find_word t.final_words g
 
--- The trace that was read has this memory, and these operations, in some order; and why the other requests were refused.
-pub record IsRecorded (m : Memory) (c : Completed) (r : RecordedValue) : Type 0 where
-  pub region : r.region ≡ m.region
-  pub opening : r.trace.opening ≡ m.opening
-  pub final_words : r.final_words ≡ m.final_words
-  pub operations : IsPermutation c.operations r.trace.operations
-  pub refusals : r.refusals ≡ c.refusals
-
--- It is what the text says: its operations, in some order; why the other requests were refused; and the same words of granules.
+-- The trace that was read is what the text says: its operations, in some order; why the other requests were refused; and the same words of granules.
 pub record IsOf (t : TextValue) (r : RecordedValue) : Type 0 where
   pub region : r.region ≡ t.memory.region
   pub opening : (g : ℕ) → find_word r.trace.opening g ≡ find_word t.memory.opening g

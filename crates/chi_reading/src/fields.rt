@@ -2,9 +2,6 @@
 
 ghost use Rattle.std.specs.Prelude.{◌≡◌};
 ghost use Rattle.serde_json.specs.View.{view};
-ghost use Rattle.chi_json.specs.Members.{member_by};
-ghost use Rattle.chi_json.specs.Values.{hex_bytes};
-ghost use Rattle.chi_reading.specs.Member.{member_name};
 ghost use Rattle.chi_reading.specs.Requests.{fields_of, stated_request};
 
 use crate::member::Member;
@@ -12,25 +9,10 @@ use chi_json::{MemberFault, number as number_in, stated_bytes};
 use chi_trace::RequestFields;
 use serde_json::Value;
 
-/// The data packet that a request states, or an object like it: the member `lanes`, a text of 32 hex digits.
-///
-/// ```
-/// let lanes = lanes(&object)?;
-/// ```
-pub fn lanes(object: &Value) -> Result<[u8; 16], MemberFault<Member>>
-    ensures { result ≡ member_by member_name Member.Lanes (hex_bytes 16) (view object.now) }
-{
-    stated_bytes(object, Member::Lanes)
-}
-
 /// The fields of a request that an object states, with no data: its byte enables and its lanes are 0. `number` says which part
 /// of the input the object is. The fields are read in the order `src`, `txn`, `op`, `size`, `addr`, `endian`.
-///
-/// ```
-/// let fields = request_fields(place, &object)?;
-/// ```
 #[tactic(auto, unfolding(crate::specs::Requests::fields_of))]
-pub fn request_fields(number: u64, object: &Value) -> Result<RequestFields, MemberFault<Member>>
+pub(crate) fn request_fields(number: u64, object: &Value) -> Result<RequestFields, MemberFault<Member>>
     ensures { result ≡ fields_of number (view object.now) }
 {
     let src = number_in(object, Member::Src, 65535)?;
@@ -54,17 +36,13 @@ pub fn request_fields(number: u64, object: &Value) -> Result<RequestFields, Memb
 
 /// The request that an object states, with its data, or the first fault of its members: those of `request_fields`, and
 /// then `be` and `lanes`.
-///
-/// ```
-/// let fields = request_with_data(place, &object)?;
-/// ```
 #[tactic(auto, unfolding(crate::specs::Requests::stated_request))]
-pub fn request_with_data(number: u64, object: &Value) -> Result<RequestFields, MemberFault<Member>>
+pub(crate) fn request_with_data(number: u64, object: &Value) -> Result<RequestFields, MemberFault<Member>>
     ensures { result ≡ stated_request number (view object.now) }
 {
     let fields = request_fields(number, object)?;
     let be = number_in(object, Member::Be, 65535)?;
-    let lanes = lanes(object)?;
+    let lanes = stated_bytes(object, Member::Lanes)?;
     Ok(RequestFields {
         be: be as u16,
         lanes,

@@ -82,3 +82,24 @@ impl Named for Member {
         Member::name(self)
     }
 }
+
+/// The members of a trace.
+pub(crate) const TRACE: [Member; 5] = [
+    Member::Base,
+    Member::Granules,
+    Member::Image,
+    Member::Final,
+    Member::Requests,
+];
+
+/// The fields of a request, of a trace and of an event, and its data.
+pub(crate) const REQUEST: [Member; 8] = [
+    Member::Src,
+    Member::Txn,
+    Member::Opcode,
+    Member::Size,
+    Member::Addr,
+    Member::Endian,
+    Member::Be,
+    Member::Lanes,
+];

@@ -1,18 +1,15 @@
 //! Traces that were read, and how one is.
 
-ghost use Rattle.std.specs.Prelude.{◌≡◌, ◌≢◌, All, IfErr, IfOk, Ok, Err};
+ghost use Rattle.std.specs.Prelude.{◌≡◌, ◌≢◌, IfErr, IfOk, Ok, Err};
 ghost use Rattle.serde_json.specs.View.{members_view, view};
-ghost use Rattle.chi_reading.specs.Found.{completed_in};
-ghost use Rattle.chi_reading.specs.TraceText.{IsMemoryOf, IsOf, IsRecorded, MemoryText, TextValue, cut_at, memory_text, object_text, region_memory, trace_text, wide_memory};
-ghost use Rattle.chi_trace.specs.Explains.{IsOperation};
+ghost use Rattle.chi_reading.specs.TraceText.{IsMemoryOf, IsOf, MemoryText, TextValue, cut_at, memory_text, object_text, region_memory, trace_text, wide_memory};
 
 use crate::fault::TraceFault;
-use crate::member::Member;
+use crate::member::{Member, TRACE};
 use crate::requests::{Found, all_completed};
 use crate::told::{region_words, stated_list};
-use crate::unknown::{trace_members, unknown_member};
 use chi_fields::{Refusal, Region};
-use chi_json::{json, number, opening_words, stated_words};
+use chi_json::{ObjectFault, json, number, opening_words, stated, stated_words, unknown_member};
 use chi_trace::{GranuleWords, Trace};
 use serde_json::{Map, Value};
 use std::alloc::{AllocError, Global};
@@ -121,9 +118,9 @@ fn region_memory(alloc: Global, object: &Value) -> Result<Memory, TraceFault>
     };
     let image = opening_words(alloc, object, Member::Image, granules)?;
     let final_words = stated_words(alloc, object, Member::Final, granules)?;
-    let opening = region_words(alloc, base / 8, &image).map_err(|_| TraceFault::Memory)?;
+    let opening = region_words(alloc, base / 8, &image)?;
     let final_words = match final_words {
-        Some(words) => region_words(alloc, base / 8, &words).map_err(|_| TraceFault::Memory)?,
+        Some(words) => region_words(alloc, base / 8, &words)?,
         None => GranuleWords::none(alloc),
     };
     Ok(Memory {
@@ -162,8 +159,7 @@ fn memory_told(alloc: Global, object: &Value) -> Result<Memory, TraceFault>
 
 /// The trace of a memory, and of what was found of its requests.
 fn in_order(memory: Memory, found: Found) -> Result<Recorded, AllocError>
-    requires { All IsOperation found.operations.items }
-    ensures { IfOk result (λ r. IsRecorded memory (completed_in found) r) }
+    ensures { IfOk result (λ r. (t : MemoryText) → IsMemoryOf t memory → IsOf (record { memory = t; completed = found }) r) }
 {
     let mut operations = found.operations;
     operations.sort_by_key(|op| op.start)?;
@@ -189,20 +185,15 @@ fn object_trace(
     ensures fault { IfErr result (λ f. f ≢ TraceFault.Memory → object_text (view object.now) (members_view members.now.entries) ≡ Err f) }
 {
     let memory = memory_told(alloc, object)?;
-    let Some(value) = object.get(Member::Requests.name()) else {
-        return Err(TraceFault::Missing(Member::Requests));
+    let Some(list) = stated(object, Member::Requests)?.as_array() else {
+        return Err(TraceFault::Object(ObjectFault::BadMember(Member::Requests)));
     };
-    let Some(list) = value.as_array() else {
-        return Err(TraceFault::BadMember(Member::Requests));
-    };
-    if let Some(name) = unknown_member(members, trace_members()) {
-        return Err(TraceFault::UnknownMember(name));
+    if let Some(name) = unknown_member(members, &[&TRACE]) {
+        return Err(TraceFault::Object(ObjectFault::UnknownMember(name)));
     }
     let found = all_completed(alloc, list.as_slice(), &memory.region)?;
-    match in_order(memory, found) {
-        Ok(recorded) => Ok(recorded),
-        Err(_) => Err(TraceFault::Memory),
-    }
+    let recorded = in_order(memory, found)?;
+    Ok(recorded)
 }
 
 /// The trace that a text is, or its first fault.
@@ -233,9 +224,11 @@ pub fn read_trace(alloc: Global, text: &[u8]) -> Result<Recorded, TraceFault>
     ensures ok { IfOk result (λ r. (t : TextValue) × (trace_text text.now ≡ Ok t) × IsOf t r) }
     ensures fault { IfErr result (λ f. f ≢ TraceFault.Memory → trace_text text.now ≡ Err f) }
 {
-    let value = json(alloc, text)?;
+    let Some(value) = json(alloc, text)? else {
+        return Err(TraceFault::Object(ObjectFault::NotJson));
+    };
     match value.as_object() {
         Some(members) => object_trace(alloc, &value, members),
-        None => Err(TraceFault::NotObject),
+        None => Err(TraceFault::Object(ObjectFault::NotObject)),
     }
 }

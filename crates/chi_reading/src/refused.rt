@@ -6,21 +6,11 @@ ghost use Rattle.chi_reading.specs.Refused.{is_refused_so, refusal_of, refusal_w
 ghost use Rattle.chi_trace.specs.RequestFields.{access_of};
 ghost use Rattle.chi_reading.specs.Requests.{refused_of};
 
-use crate::fault::{RequestFault, TraceFault};
+use crate::fault::RequestFault;
 use crate::stated::Stated;
 use chi_fields::{Refusal, Region, refusal_name};
 use chi_trace::{RequestFields, access};
 use serde_json::Value;
-
-/// The reasons, in the order in which a home meets them.
-const REFUSALS: [Refusal; 6] = [
-    Refusal::UnknownOpcode,
-    Refusal::ReservedSize,
-    Refusal::SizeOutOfProfile,
-    Refusal::Misaligned,
-    Refusal::OutOfRegion,
-    Refusal::BadByteEnable,
-];
 
 /// The first of some reasons that has this name.
 fn with_name(name: &str, refusals: &[Refusal]) -> Option<Refusal>
@@ -34,15 +24,11 @@ fn with_name(name: &str, refusals: &[Refusal]) -> Option<Refusal>
 
 /// Why a home refused a request: the reason of a name, as `Misaligned`. `None` is answered where the value is none of the six
 /// names.
-///
-/// ```
-/// let reason = refusal_named(&value)?; // Refusal::Misaligned
-/// ```
-pub fn refusal_named(value: &Value) -> Option<Refusal>
+pub(crate) fn refusal_named(value: &Value) -> Option<Refusal>
     ensures { result ≡ refusal_of (view value.now) }
 {
     let name = value.as_str()?;
-    with_name(name, &REFUSALS)
+    with_name(name, &Refusal::ALL)
 }
 
 /// Whether a home, of a region or of all addresses, refuses the request for this reason.
@@ -55,27 +41,20 @@ fn is_refused_so(fields: &RequestFields, region: &Option<Region>, reason: Refusa
     }
 }
 
-/// Why the request at a place was refused, where the home refuses it for this reason.
+/// Why a request was refused, where the home refuses it for this reason.
 #[tactic(auto, unfolding(crate::specs::Requests::refused_of))]
 pub(crate) fn refused(
-    place: usize,
     region: &Option<Region>,
     stated: &Stated,
     reason: Refusal,
-) -> Result<Refusal, TraceFault>
-    ensures { result ≡ refused_of place region.now stated.now reason }
+) -> Result<Refusal, RequestFault>
+    ensures { result ≡ refused_of region.now stated.now reason }
 {
     if !is_refused_so(&stated.fields, region, reason) {
-        return Err(TraceFault::InRequest {
-            place,
-            fault: RequestFault::NotRefusedSo,
-        });
+        return Err(RequestFault::NotRefusedSo);
     }
     if stated.end < stated.start {
-        return Err(TraceFault::InRequest {
-            place,
-            fault: RequestFault::EndsBeforeStart,
-        });
+        return Err(RequestFault::EndsBeforeStart);
     }
     Ok(reason)
 }

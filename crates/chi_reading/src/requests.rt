@@ -2,17 +2,20 @@
 
 ghost use Rattle.std.specs.Prelude.{◌≡◌, ◌≢◌, IfOk, IfErr, OnOk, Ok, Err};
 ghost use Rattle.serde_json.specs.View.{items_view, view};
-ghost use Rattle.chi_reading.specs.Found.{completed_in};
-ghost use Rattle.chi_reading.specs.Requests.{Completed, all_completed, completed_at, completed_of, joined, none_completed, one_accepted, one_refused};
+ghost use Rattle.chi_json.specs.Members.{or_else};
+ghost use Rattle.chi_reading.specs.declared.fault.TraceFault.TheVariants.{InRequest};
+ghost use Rattle.chi_trace.specs.Explains.{IsOperation};
+ghost use Rattle.chi_reading.specs.Requests.{Completed, all_completed, completed_at, completed_of, joined, none_completed, observed_of, one_accepted, one_refused};
 
-use crate::fault::{MOST_OPERATIONS, TraceFault};
-use crate::observed::observed;
+use crate::fault::{MOST_OPERATIONS, RequestFault, TraceFault};
 use crate::refused::refused;
-use crate::stated::{Outcome, stated_at};
+use crate::stated::{Outcome, Stated, stated_at};
 use chi_fields::{Refusal, Region};
-use chi_trace::Operation;
+use chi_lanes::Reply;
+use chi_trace::{Operation, access, reply_fault};
 use serde_json::Value;
 use std::alloc::{AllocError, Global};
+use std::marker::Model;
 
 /// The operations of the requests that were accepted, and why the others were refused.
 #[derive(Drop)]
@@ -21,10 +24,23 @@ pub(crate) struct Found {
     pub refusals: Vec<Refusal>,
 }
 
+impl Model for Found {
+    ghost use Rattle.std.specs.Prelude.{All};
+    ghost use Rattle.chi_trace.specs.Explains.{IsOperation};
+    ghost use Rattle.chi_reading.specs.Requests.{Completed};
+
+    ghost Value = { Completed };
+
+    ghost view = { λ f. record { operations = f.operations.items; refusals = f.refusals.items } };
+
+    // Each operation is such as can be observed.
+    ghost invariant = { λ f. All IsOperation f.operations.items };
+}
+
 impl Found {
     /// No request.
     fn none(alloc: Global) -> Found
-        ensures { completed_in result ≡ none_completed }
+        ensures { result ≡ none_completed }
     {
         Found {
             operations: Vec::new(alloc),
@@ -34,7 +50,8 @@ impl Found {
 
     /// Adds the operation of a request that was accepted.
     fn add_accepted(&mut self, operation: Operation) -> Result<(), AllocError>
-        ensures { OnOk result (completed_in self.new ≡ joined (completed_in self.old) (one_accepted operation)) }
+        requires { IsOperation operation }
+        ensures { OnOk result (self.new ≡ joined self.old (one_accepted operation)) }
     {
         self.operations.push(operation)?;
         Ok(())
@@ -42,10 +59,47 @@ impl Found {
 
     /// Adds one that was refused.
     fn add_refused(&mut self, reason: Refusal) -> Result<(), AllocError>
-        ensures { OnOk result (completed_in self.new ≡ joined (completed_in self.old) (one_refused reason)) }
+        ensures { OnOk result (self.new ≡ joined self.old (one_refused reason)) }
     {
         self.refusals.push(reason)?;
         Ok(())
+    }
+}
+
+/// The operation that was observed of a request, with this reply.
+#[tactic(auto, unfolding(crate::specs::Requests::observed_of))]
+fn observed(
+    region: Option<Region>,
+    stated: Stated,
+    reply: Option<Reply>,
+) -> Result<Operation, RequestFault>
+    ensures observed { result ≡ observed_of region stated reply }
+    ensures operation { IfOk result IsOperation }
+{
+    let access = match access(&stated.fields, &region) {
+        Ok(access) => access,
+        Err(refusal) => return Err(RequestFault::Refused(refusal)),
+    };
+    if stated.end < stated.start {
+        return Err(RequestFault::EndsBeforeStart);
+    }
+    if let Some(fault) = reply_fault(&access, &reply) {
+        return Err(RequestFault::Reply(fault));
+    }
+    Ok(
+        stated
+            .fields
+            .operation(access, stated.start, stated.end, reply),
+    )
+}
+
+/// What was found of the request at a place: its fault is the trace's.
+fn in_request<T>(place: usize, found: Result<T, RequestFault>) -> Result<T, TraceFault>
+    ensures { result ≡ or_else (InRequest place) found }
+{
+    match found {
+        Ok(value) => Ok(value),
+        Err(fault) => Err(TraceFault::InRequest { place, fault }),
     }
 }
 
@@ -57,30 +111,27 @@ fn add_request(
     region: &Option<Region>,
     value: &Value,
 ) -> Result<(), TraceFault>
-    ensures ok { OnOk result ((one : Completed) × (completed_at place region.now (view value.now) ≡ Ok one) × (completed_in found.new ≡ joined (completed_in found.old) one)) }
+    ensures ok { OnOk result ((one : Completed) × (completed_at place region.now (view value.now) ≡ Ok one) × (found.new ≡ joined found.old one)) }
     ensures fault { IfErr result (λ f. f ≢ TraceFault.Memory → completed_at place region.now (view value.now) ≡ Err f) }
 {
-    let stated = stated_at(place, value)?;
-    let added = match stated.outcome {
+    let stated = in_request(place, stated_at(place, value))?;
+    match stated.outcome {
         Outcome::Accepted(reply) => {
-            let operation = observed(place, region, &stated, reply)?;
-            found.add_accepted(operation)
+            let operation = in_request(place, observed(*region, stated, reply))?;
+            found.add_accepted(operation)?;
         }
         Outcome::Refused(reason) => {
-            let refusal = refused(place, region, &stated, reason)?;
-            found.add_refused(refusal)
+            let refusal = in_request(place, refused(region, &stated, reason))?;
+            found.add_refused(refusal)?;
         }
-    };
-    match added {
-        Ok(()) => Ok(()),
-        Err(_) => Err(TraceFault::Memory),
     }
+    Ok(())
 }
 
 /// What some elements are.
 #[tactic(auto, unfolding(crate::specs::Requests::completed_of))]
 fn completed(alloc: Global, list: &[Value], region: &Option<Region>) -> Result<Found, TraceFault>
-    ensures ok { IfOk result (λ found. completed_of 0 region.now (items_view list.now) ≡ Ok (completed_in found)) }
+    ensures ok { IfOk result (λ found. completed_of 0 region.now (items_view list.now) ≡ Ok found) }
     ensures fault { IfErr result (λ f. f ≢ TraceFault.Memory → completed_of 0 region.now (items_view list.now) ≡ Err f) }
 {
     let mut found = Found::none(alloc);
@@ -97,7 +148,7 @@ pub(crate) fn all_completed(
     list: &[Value],
     region: &Option<Region>,
 ) -> Result<Found, TraceFault>
-    ensures ok { IfOk result (λ found. all_completed region.now (items_view list.now) ≡ Ok (completed_in found)) }
+    ensures ok { IfOk result (λ found. all_completed region.now (items_view list.now) ≡ Ok found) }
     ensures fault { IfErr result (λ f. f ≢ TraceFault.Memory → all_completed region.now (items_view list.now) ≡ Err f) }
 {
     if list.len() > MOST_OPERATIONS {

@@ -1,18 +1,17 @@
 //! What a request of a trace states beside its fields: its times, and what was answered or why it was refused.
 
-ghost use Rattle.std.specs.Prelude.{◌≡◌};
+ghost use Rattle.std.specs.Prelude.{◌≡◌, map};
 ghost use Rattle.serde_json.specs.Find.{get};
 ghost use Rattle.serde_json.specs.View.{view};
 ghost use Rattle.chi_reading.specs.Member.{member_name};
 ghost use Rattle.chi_reading.specs.Requests.{answer_of, end_of, members_of, outcome_by, reply_by, seen_of, stated_at, stated_of};
 
-use crate::fault::{RequestFault, TraceFault, fault_in};
+use crate::fault::RequestFault;
 use crate::fields::request_with_data;
-use crate::member::Member;
+use crate::member::{Member, REQUEST};
 use crate::refused::refusal_named;
-use crate::unknown::{refused_members, request_members, unknown_member};
 use chi_fields::Refusal;
-use chi_json::{MemberFault, hex_bytes, number};
+use chi_json::{MemberFault, ObjectFault, hex_bytes, number, unknown_member};
 use chi_lanes::Reply;
 use chi_trace::RequestFields;
 use serde_json::Value;
@@ -29,12 +28,12 @@ pub(crate) enum Outcome {
 
 impl Outcome {
     /// The members that a request of this outcome has.
-    fn members(self) -> &'static [Member]
-        ensures { result.now ≡ members_of self }
+    fn members(self) -> &'static [&'static [Member]]
+        ensures { map (λ list. list.now) result.now ≡ members_of self }
     {
         match self {
-            Outcome::Accepted(_) => request_members(),
-            Outcome::Refused(_) => refused_members(),
+            Outcome::Accepted(_) => &[&REQUEST, &[Member::Start, Member::End, Member::Reply]],
+            Outcome::Refused(_) => &[&REQUEST, &[Member::Start, Member::End, Member::Refused]],
         }
     }
 }
@@ -72,11 +71,7 @@ fn answer(value: &Value) -> Option<Reply>
 
 /// What was answered, and `None` in it where that was not seen: `comp`, a data packet as 32 hex digits, or `null`. `None` is
 /// answered where the value is none of these.
-///
-/// ```
-/// let reply = seen_reply(&value)?; // Some(Reply::Comp)
-/// ```
-pub fn seen_reply(value: &Value) -> Option<Option<Reply>>
+pub(crate) fn seen_reply(value: &Value) -> Option<Option<Reply>>
     ensures { result ≡ seen_of (view value.now) }
 {
     if value.is_null() {
@@ -96,10 +91,7 @@ fn reply(object: &Value) -> Result<Option<Reply>, MemberFault<Member>>
             None => Ok(None),
         };
     };
-    match seen_reply(value) {
-        Some(reply) => Ok(reply),
-        None => Err(MemberFault::BadMember(Member::Reply)),
-    }
+    seen_reply(value).ok_or(MemberFault::BadMember(Member::Reply))
 }
 
 /// What came of the request: the member `refused` says why it was refused, and where it is left out the request was accepted.
@@ -135,24 +127,15 @@ fn request_stated(place: usize, object: &Value) -> Result<Stated, MemberFault<Me
 
 /// What the element at a place states.
 #[tactic(auto, unfolding(crate::specs::Requests::stated_at))]
-pub(crate) fn stated_at(place: usize, value: &Value) -> Result<Stated, TraceFault>
+pub(crate) fn stated_at(place: usize, value: &Value) -> Result<Stated, RequestFault>
     ensures { result ≡ stated_at place (view value.now) }
 {
     let Some(members) = value.as_object() else {
-        return Err(TraceFault::InRequest {
-            place,
-            fault: RequestFault::NotObject,
-        });
+        return Err(RequestFault::Object(ObjectFault::NotObject));
     };
-    let stated = match request_stated(place, value) {
-        Ok(stated) => stated,
-        Err(fault) => return Err(fault_in(place, fault)),
-    };
+    let stated = request_stated(place, value)?;
     match unknown_member(members, stated.outcome.members()) {
-        Some(name) => Err(TraceFault::InRequest {
-            place,
-            fault: RequestFault::UnknownMember(name),
-        }),
+        Some(name) => Err(RequestFault::Object(ObjectFault::UnknownMember(name))),
         None => Ok(stated),
     }
 }

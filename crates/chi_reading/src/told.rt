@@ -7,6 +7,7 @@ ghost use Rattle.chi_trace.specs.declared.words.GranuleWord.{GranuleWord};
 ghost use Rattle.chi_trace.specs.Words.{find_word};
 
 use crate::member::Member;
+use chi_fields::ADDRESSES;
 use chi_json::{MemberFault, hex_bytes};
 use chi_trace::{GranuleWord, GranuleWords};
 use serde_json::Value;
@@ -32,15 +33,11 @@ pub(crate) fn region_words(
 }
 
 /// An address at which a granule starts: a multiple of 8 below 2^52. `None` is answered where the value is none.
-///
-/// ```
-/// let addr = granule_start(&value)?; // 4096
-/// ```
-pub fn granule_start(value: &Value) -> Option<u64>
+pub(crate) fn granule_start(value: &Value) -> Option<u64>
     ensures { result ≡ start_of (view value.now) }
 {
     let addr = value.as_u64()?;
-    if addr % 8 != 0 || addr >= 1 << 52 {
+    if addr % 8 != 0 || addr >= ADDRESSES {
         return None;
     }
     Some(addr)
@@ -48,11 +45,7 @@ pub fn granule_start(value: &Value) -> Option<u64>
 
 /// The word of a granule: a text of 16 hex digits, which are its eight bytes in address order. `None` is answered where the
 /// value is none.
-///
-/// ```
-/// let word = granule_word(&value)?; // 1, of "0100000000000000"
-/// ```
-pub fn granule_word(value: &Value) -> Option<u64>
+pub(crate) fn granule_word(value: &Value) -> Option<u64>
     ensures { result ≡ word_of (view value.now) }
 {
     let bytes = hex_bytes(value)?;

@@ -1,8 +1,16 @@
-//! Tests of how traces are read.
+//! Tests of how traces are read, and events from lines.
 #![tactic(auto)]
 
 #[cfg(test)]
 mod comparison;
+#[cfg(test)]
+mod event_comparison;
+#[cfg(test)]
+mod event_fault_tests;
+#[cfg(test)]
+mod event_request_tests;
+#[cfg(test)]
+mod event_tests;
 #[cfg(test)]
 mod fault_tests;
 #[cfg(test)]

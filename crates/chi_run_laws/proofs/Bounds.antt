@@ -20,10 +20,9 @@ use Rattle.chi_json.specs.Object.{IsReadBack}
 use Rattle.chi_json.specs.Values.{hex_bytes, image_of, json_value, words_of}
 use Rattle.chi_json.specs.declared.member.MemberFault.TheVariants.{BadMember, Missing}
 use Rattle.chi_json.proofs.ObjectLemmas.{bytes_read}
-use Rattle.chi_json.proofs.WalkLemmas.{at_ok, number_within, renamed, then_ok}
+use Rattle.chi_json.proofs.WalkLemmas.{at_ok, number_within, present, renamed, then_ok}
 use Rattle.chi_json.proofs.WordLemmas.{AreDecoded, AreDecoded-hex_bytes}
 use Rattle.chi_trace.proofs.Decided.{region_lawful, unless}
-use Rattle.chi_reading.proofs.Faultless.{present}
 use Rattle.chi_script.specs.Faults.{as_fault}
 use Rattle.chi_script.specs.Member.{member_name}
 use Rattle.chi_script.specs.Script.{IsWritable, ScriptValue, element_of, object_script, on_region, request_of, requests_of, script}

@@ -26,7 +26,7 @@ use Rattle.chi_reading.specs.Refused.{is_refused_so, refusal_of}
 use Rattle.chi_trace.specs.Replies.{reply_fault}
 use Rattle.chi_trace.specs.RequestFields.{request_of}
 use Rattle.chi_reading.specs.Requests.{completed_at, end_of, fields_of, observed_of, one_accepted, one_refused, refused_of, seen_of, stated_at, stated_of, stated_request}
-use Rattle.chi_reading.specs.Unknown.{is_known, unknown_in}
+use Rattle.chi_json.specs.Unknown.{is_known, unknown_in}
 use Rattle.chi_trace.specs.declared.request_fields.RequestFields.{RequestFields}
 use Rattle.chi_reading.specs.declared.member.Member.TheVariants.{Src, Txn, Opcode, Size, Addr, Endian, Be, Start, End}
 use Rattle.chi_trace.proofs.AnswersLie.{answer_is_faultless}

@@ -13,7 +13,7 @@ use Rattle.chi_reading.specs.Member.{member_name}
 use Rattle.chi_reading.specs.Requests.{Completed, all_completed, completed_of}
 use Rattle.chi_reading.specs.Told.{region_words}
 use Rattle.chi_reading.specs.TraceText.{TextValue, object_text, trace_text}
-use Rattle.chi_reading.specs.Unknown.{is_known, unknown_in}
+use Rattle.chi_json.specs.Unknown.{is_known, unknown_in}
 use Rattle.chi_reading.specs.declared.member.Member.TheVariants.{Base, Granules, Image, Final}
 use Rattle.chi_engine.specs.Trace.{lines_data, trace_data}
 use Rattle.chi_run_laws.proofs.Bounds.{IsImage}

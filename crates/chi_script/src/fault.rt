@@ -1,11 +1,12 @@
 //! Why a script is refused.
 
 ghost use Rattle.std.specs.Prelude.{◌≡◌};
-ghost use Rattle.chi_script.specs.Faults.{as_fault, text_fault};
+ghost use Rattle.chi_script.specs.Faults.{as_fault};
 
 use crate::member::Member;
 use chi_fields::{RegionFault, region_fault_name};
-use chi_json::{MemberFault, TextFault};
+use chi_json::MemberFault;
+use std::alloc::AllocError;
 use thiserror::Error;
 
 /// Why a script is refused: the first fault that its walk meets, or `Memory` where a growth is refused before.
@@ -37,14 +38,13 @@ pub enum ScriptFault {
     Memory,
 }
 
-impl From<TextFault> for ScriptFault {
-    ghost from_gives = { λ fault result. result ≡ text_fault fault };
+impl From<AllocError> for ScriptFault {
+    ghost use Rattle.chi_script.specs.declared.fault.ScriptFault.TheVariants.{Memory};
 
-    fn from(fault: TextFault) -> ScriptFault {
-        match fault {
-            TextFault::NotJson => ScriptFault::NotJson,
-            TextFault::Memory => ScriptFault::Memory,
-        }
+    ghost from_gives = { λ fault result. result ≡ Memory };
+
+    fn from(_fault: AllocError) -> ScriptFault {
+        ScriptFault::Memory
     }
 }
 

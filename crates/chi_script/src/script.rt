@@ -9,7 +9,7 @@ use crate::fault::{MOST_REQUESTS, ScriptFault};
 use crate::member::Member;
 use crate::requests::requests;
 use chi_fields::{Region, Request};
-use chi_json::{json, number, opening_words};
+use chi_json::{json, number, opening_words, stated};
 use serde_json::Value;
 use std::alloc::Global;
 use std::marker::Model;
@@ -81,10 +81,7 @@ fn object_script(alloc: Global, object: &Value, top: u8) -> Result<Script, Scrip
     let base = number(object, Member::Base, u64::MAX)?;
     let granules = number(object, Member::Granules, 65535)? as u16;
     let image = opening_words(alloc, object, Member::Image, granules)?;
-    let Some(value) = object.get(Member::Requests.name()) else {
-        return Err(ScriptFault::Missing(Member::Requests));
-    };
-    let Some(list) = value.as_array() else {
+    let Some(list) = stated(object, Member::Requests)?.as_array() else {
         return Err(ScriptFault::BadMember(Member::Requests));
     };
     let requests = requests(alloc, list.as_slice(), top)?;
@@ -120,7 +117,9 @@ pub fn read_script(alloc: Global, text: &[u8], top: u8) -> Result<Script, Script
     ensures fault { IfErr result (λ f. f ≢ ScriptFault.Memory → script text.now top ≡ Err f) }
     ensures from { IfOk result (λ s. AllFrom (below (top + 1)) s.requests) }
 {
-    let value = json(alloc, text)?;
+    let Some(value) = json(alloc, text)? else {
+        return Err(ScriptFault::NotJson);
+    };
     if value.is_object() {
         object_script(alloc, &value, top)
     } else {

@@ -16,7 +16,7 @@ use Rattle.chi_events.specs.Operations.{operations, refusals_told}
 use Rattle.chi_events.specs.Outstanding.{OutstandingValue, Tells, open_operation}
 use Rattle.chi_events.specs.RequestEvents.{each_request}
 use Rattle.chi_events.specs.declared.outstanding.Open.{Open}
-use Rattle.chi_event_text.specs.EventText.{event_text}
+use Rattle.chi_reading.specs.EventText.{event_text}
 use Rattle.chi_watch_text.specs.Lines.{AreEvents, AreLines, AreTold}
 use Rattle.chi_watch_text.specs.Operations.{AreInOrder, AreOperations, AreRefusals, IsOperationsFault, IsTakingFault}
 use Rattle.chi_watch_text.specs.Reading.{IsRead, IsRefused}

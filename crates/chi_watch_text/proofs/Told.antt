@@ -6,7 +6,7 @@ use Rattle.std.proofs.lemmas.List.Elements.{All-cons, All-contains, All-contains
 use Rattle.std.proofs.lemmas.List.{get_or_push}
 use Rattle.std.proofs.lemmas.List.Quantifiers.{all_pairs_push}
 use Rattle.std.specs.Io.BufRead.{drop_through, take_through}
-use Rattle.chi_event_text.specs.EventText.{event_text}
+use Rattle.chi_reading.specs.EventText.{event_text}
 use Rattle.chi_events.specs.declared.event.Event.{Event}
 use Rattle.chi_watch.specs.declared.ending.Ending.{Ending}
 use Rattle.chi_search.specs.Looks.{LookedAtLeast, LookedSome}

@@ -2,7 +2,7 @@
 use Rattle.std.specs.Prelude.{◌≡◌, ℕ, ◌+◌, ◌<◌, List, [], ◌∷◌, length, Ok}
 use Rattle.std.specs.Io.BufRead.{drop_through, take_through}
 use Rattle.chi_events.specs.declared.event.Event.{Event}
-use Rattle.chi_event_text.specs.EventText.{event_text}
+use Rattle.chi_reading.specs.EventText.{event_text}
 
 -- The text begins with these lines, each up to its line feed, and the rest follows. The last line of a text may have no line feed.
 unfoldable pub AreLines : List ℕ → List (List ℕ) → List ℕ → Type 0

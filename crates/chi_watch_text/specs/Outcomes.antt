@@ -2,7 +2,7 @@
 use Rattle.std.specs.Prelude.{◌≡◌, ◌≢◌, ℕ, ◌+◌, ◌<◌, ◌≤◌, ◌⊎◌, Bool, true, false, List, [], ◌∷◌, ◌++◌, All, length, Option, None, Some, IfSome, Result, Ok, Err}
 use Rattle.std.specs.List.{AllPairs, Contains}
 use Rattle.std.specs.Io.BufRead.{take_through}
-use Rattle.chi_event_text.specs.EventText.{event_text}
+use Rattle.chi_reading.specs.EventText.{event_text}
 use Rattle.chi_events.specs.declared.event.Event.{Event}
 use Rattle.chi_search.specs.Looks.{LookedAtLeast}
 use Rattle.chi_recent.specs.Reaches.{IfUndecided}

@@ -1,7 +1,7 @@
 -- what the next line of a text tells
 use Rattle.std.specs.Prelude.{◌≡◌, ℕ, ◌<◌, List, [], length, Option, None, Some, Ok, Err}
 use Rattle.std.specs.Io.BufRead.{drop_through, take_through}
-use Rattle.chi_event_text.specs.EventText.{event_text}
+use Rattle.chi_reading.specs.EventText.{event_text}
 use Rattle.chi_events.specs.declared.event.Event.{Event}
 use Rattle.chi_watch_text.specs.declared.fault.LinesFault.{LinesFault}
 use Rattle.chi_watch_text.specs.declared.fault.LinesFault.TheVariants as fault

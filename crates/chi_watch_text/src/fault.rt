@@ -1,6 +1,7 @@
 //! Why events are watched no further.
 
-use chi_event_text::LineFault;
+use chi_json::ObjectFault;
+use chi_reading::Member;
 use chi_watch::WatchFault;
 use std::alloc::AllocError;
 use thiserror::Error;
@@ -20,7 +21,7 @@ pub enum LinesFault {
     #[error("input could not be read")]
     Read,
     #[error("line {number} {fault}")]
-    Line { number: u64, fault: LineFault },
+    Line { number: u64, fault: ObjectFault<Member> },
     #[error("line {number} {fault}")]
     Event { number: u64, fault: WatchFault },
     #[error("input has too many lines")]

@@ -2,12 +2,13 @@
 
 ghost use Rattle.std.specs.Prelude.{◌≡◌, ◌⊎◌, Ok, Some, IfErr, IfOk, IfSome};
 ghost use Rattle.std.specs.Io.BufRead.{drop_through, take_through};
-ghost use Rattle.chi_event_text.specs.EventText.{event_text};
+ghost use Rattle.chi_reading.specs.EventText.{event_text};
 ghost use Rattle.chi_watch_text.specs.Reading.{IsRead, IsRefused};
 
 use crate::fault::LinesFault;
-use chi_event_text::{LineFault, read_event};
 use chi_events::Event;
+use chi_json::ObjectFault;
+use chi_reading::read_event;
 use std::alloc::Global;
 use std::io::{BufRead, ErrorKind};
 
@@ -33,7 +34,7 @@ fn event_told(alloc: Global, line: &[u8], number: u64) -> Result<Event, LinesFau
 {
     match read_event(alloc, number, line) {
         Ok(event) => Ok(event),
-        Err(LineFault::Memory) => Err(LinesFault::Memory),
+        Err(ObjectFault::Memory) => Err(LinesFault::Memory),
         Err(fault) => Err(LinesFault::Line { number, fault }),
     }
 }

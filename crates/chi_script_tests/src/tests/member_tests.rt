@@ -1,7 +1,9 @@
 //! Tests of members of an object, one by one, and of the texts of their faults.
 
 use crate::tests::comparison::assert_same;
-use chi_json::{MemberFault, TextFault, json, number, opening_words, stated_bytes, stated_words};
+use chi_json::{
+    MemberFault, MemberName, ObjectFault, json, number, opening_words, stated_bytes, stated_words,
+};
 use chi_script::Member;
 use std::test::Fail;
 
@@ -9,7 +11,7 @@ const OBJECT: &[u8] = b"{\"op\":48,\"addr\":-1,\"lanes\":\"0aFF\",\"image\":\"01
 
 #[test]
 fn members_of_an_object(rt: HostRuntime) -> Result<(), Fail> {
-    let object = json(rt.alloc(), OBJECT)?;
+    let object = json(rt.alloc(), OBJECT)?.expect(&rt, "JSON");
     assert_same(&rt, number(&object, Member::Opcode, 48), Ok(48));
     for (member, top, want) in [
         (Member::Opcode, 47, MemberFault::BadMember(Member::Opcode)),
@@ -26,7 +28,7 @@ fn members_of_an_object(rt: HostRuntime) -> Result<(), Fail> {
 
 #[test]
 fn words_of_an_object(rt: HostRuntime) -> Result<(), Fail> {
-    let object = json(rt.alloc(), OBJECT)?;
+    let object = json(rt.alloc(), OBJECT)?.expect(&rt, "JSON");
     let image = stated_words(rt.alloc(), &object, Member::Image, 1)?;
     let words = image.as_ref().map(|words| words.as_slice());
     assert_same(&rt, words, Some([0x8000_0000_0000_0001].as_slice()));
@@ -49,8 +51,21 @@ fn texts_of_member_faults(rt: HostRuntime) -> Result<(), Fail> {
         assert_same(&rt, text.as_str(), want);
     }
     for (fault, want) in [
-        (TextFault::NotJson, "text is not JSON"),
-        (TextFault::Memory, "no memory"),
+        (ObjectFault::NotJson, "is not JSON"),
+        (ObjectFault::NotObject, "is not an object"),
+        (
+            ObjectFault::from(MemberFault::Missing(Member::Opcode)),
+            "member op is missing",
+        ),
+        (
+            ObjectFault::from(MemberFault::BadMember(Member::Opcode)),
+            "member op is not as stated",
+        ),
+        (
+            ObjectFault::UnknownMember(MemberName::of("ops")),
+            "has an unknown member ops",
+        ),
+        (ObjectFault::Memory, "no memory"),
     ] {
         let text = format!(in rt.alloc(); "{fault}")?;
         assert_same(&rt, text.as_str(), want);

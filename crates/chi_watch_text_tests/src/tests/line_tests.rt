@@ -4,7 +4,7 @@ use crate::tests::comparison::assert_same;
 use crate::tests::events::{
     FIVE, LAST, READ, STOPPING, WRITE, WRITE_AT_FOUR, ZERO, places, watched,
 };
-use chi_event_text::LineFault;
+use chi_json::ObjectFault;
 use chi_events::EventFault;
 use chi_reading::Member;
 use chi_watch::WatchFault;
@@ -71,7 +71,7 @@ fn faults_and_their_texts(rt: HostRuntime) -> Result<(), Fail> {
             [WRITE, "\n"],
             LinesFault::Line {
                 number: 3,
-                fault: LineFault::NotJson,
+                fault: ObjectFault::NotJson,
             },
             "line 3 is not JSON",
         ),
@@ -79,7 +79,7 @@ fn faults_and_their_texts(rt: HostRuntime) -> Result<(), Fail> {
             [WRITE, "{\"time\":3,\"event\":\"dropped\"}"],
             LinesFault::Line {
                 number: 3,
-                fault: LineFault::Missing(Member::Id),
+                fault: ObjectFault::Missing(Member::Id),
             },
             "line 3 member id is missing",
         ),

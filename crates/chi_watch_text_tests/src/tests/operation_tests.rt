@@ -2,7 +2,7 @@
 
 use crate::tests::comparison::assert_same;
 use crate::tests::events::{FIVE, LAST, READ, UNKNOWN, WRITE, WRITE_AT_FOUR, joined};
-use chi_event_text::LineFault;
+use chi_json::ObjectFault;
 use chi_events::EventFault;
 use chi_fields::Refusal;
 use chi_watch::WatchFault;
@@ -88,7 +88,7 @@ fn lines_that_tell_no_operations(rt: HostRuntime) -> Result<(), Fail> {
             &[WRITE, "no event\n"],
             Err(LinesFault::Line {
                 number: 3,
-                fault: LineFault::NotJson,
+                fault: ObjectFault::NotJson,
             }),
         ),
         (

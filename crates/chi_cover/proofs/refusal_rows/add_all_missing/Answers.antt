@@ -1,5 +1,6 @@
 -- one reason more
-use Rattle.chi_cover.specs.Refusals.{all_refusals, missing_refusal, refused_in}
+use Rattle.chi_fields.specs.Refusals.{all_refusals}
+use Rattle.chi_cover.specs.Refusals.{missing_refusal, refused_in}
 use Rattle.chi_text.proofs.Growing.{all_parts, part_more}
 use Rattle.chi_cover.proofs.refusal_rows.add_all_missing.Goals as goal
 

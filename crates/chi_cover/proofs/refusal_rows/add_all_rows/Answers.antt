@@ -1,5 +1,6 @@
 -- one reason more
-use Rattle.chi_cover.specs.Refusals.{all_refusals, refusal_row, refused_in}
+use Rattle.chi_fields.specs.Refusals.{all_refusals}
+use Rattle.chi_cover.specs.Refusals.{refusal_row, refused_in}
 use Rattle.chi_text.proofs.Growing.{all_parts, part_more}
 use Rattle.chi_cover.proofs.refusal_rows.add_all_rows.Goals as goal
 

@@ -1,0 +1,138 @@
+-- the event that a line tells, or its first fault
+use Rattle.std.specs.Prelude.{ℕ, false, ◌+◌, ◌-◌, ◌/◌, ◌^◌, nat_le, ◌&&◌, ◌||◌, Bool, if◌then◌else◌, List, [], ◌∷◌, codes, Option, None, Some, is_some, option_and_then, option_map, Result, Ok, Err}
+use Rattle.std.specs.Option.{ok_or}
+use Rattle.std.specs.Str.{bytes_eq}
+use Rattle.serde_json.specs.Data.{Data}
+use Rattle.serde_json.specs.Find.{as_bool, as_object, as_str, get}
+use Rattle.chi_fields.specs.declared.refusal.Refusal.{Refusal}
+use Rattle.chi_json.specs.declared.member.MemberFault.{MemberFault}
+use Rattle.chi_json.specs.declared.member.MemberFault.TheVariants as member_fault
+use Rattle.chi_json.specs.declared.fault.ObjectFault.{ObjectFault}
+use Rattle.chi_json.specs.declared.fault.ObjectFault.TheVariants.{NotJson, NotObject, UnknownMember}
+use Rattle.chi_json.specs.Faults.{of_member}
+use Rattle.chi_json.specs.Members.{◌>>=◌, member_by, number_of, or_else}
+use Rattle.chi_json.specs.Unknown.{unknown_in}
+use Rattle.chi_json.specs.Values.{hex_bytes, json_value}
+use Rattle.chi_reading.specs.declared.member.Member.{Member}
+use Rattle.chi_reading.specs.declared.member.Member.TheVariants as name
+use Rattle.chi_reading.specs.Member.{member_name, request_members}
+use Rattle.chi_reading.specs.Faults.{faultless}
+use Rattle.chi_reading.specs.Refused.{refusal_of}
+use Rattle.chi_reading.specs.Requests.{fields_of, seen_of, stated_request}
+use Rattle.chi_reading.specs.Told.{start_of, word_of as granule_word}
+use Rattle.chi_events.specs.declared.event.Completion.{Completion}
+use Rattle.chi_events.specs.declared.event.Event.{Event}
+use Rattle.chi_events.specs.declared.event.EventKind.{EventKind}
+use Rattle.chi_events.specs.declared.event.EventKind.TheVariants as kind
+use Rattle.chi_events.specs.declared.event.Packet.{Packet}
+use Rattle.chi_events.specs.declared.event.Requested.{Requested}
+use Rattle.chi_reading.specs.declared.line_kind.LineKind.{LineKind}
+use Rattle.chi_reading.specs.declared.line_kind.LineKind.TheVariants as line
+
+-- ---- kinds
+
+-- the kind of this name
+abbrev pub kind_named : List ℕ → Option LineKind
+kind_named s =
+    if bytes_eq s (codes "request") then Some line.Request else (
+    if bytes_eq s (codes "data") then Some line.Data else (
+    if bytes_eq s (codes "reply") then Some line.Reply else (
+    if bytes_eq s (codes "dropped") then Some line.Dropped else (
+    if bytes_eq s (codes "refused") then Some line.Refused else (
+    if bytes_eq s (codes "word") then Some line.Word else (
+    if bytes_eq s (codes "unknown") then Some line.Unknown else None))))))
+
+abbrev pub kind_of : Data → Option LineKind
+kind_of d = option_and_then kind_named (as_str d)
+
+-- the members that each line has, and those that one of a kind may have
+abbrev event_members : List Member
+event_members = name.Event ∷ name.Time ∷ []
+
+abbrev pub members_of : LineKind → List (List Member)
+members_of line.Request = event_members ∷ (name.Id ∷ []) ∷ request_members ∷ []
+members_of line.Data = event_members ∷ (name.Id ∷ name.Be ∷ name.Lanes ∷ []) ∷ []
+members_of line.Reply = event_members ∷ (name.Id ∷ name.Reply ∷ []) ∷ []
+members_of line.Dropped = event_members ∷ (name.Id ∷ []) ∷ []
+members_of line.Refused = event_members ∷ (name.Id ∷ name.Reason ∷ []) ∷ []
+members_of line.Word = event_members ∷ (name.Addr ∷ name.Bytes ∷ name.Final ∷ []) ∷ []
+members_of line.Unknown = event_members ∷ (name.Addr ∷ name.Length ∷ []) ∷ []
+
+-- ---- what is told
+
+-- the request that the line with this number tells: with its data where `be` or `lanes` is there, and then both have to be
+unfoldable pub requested_of : ℕ → Data → Result Requested (MemberFault Member)
+requested_of number d = do
+  id ← number_of member_name name.Id (2 ^ 64 - 1) d
+  fields ← if has_data then stated_request number d else fields_of number d
+  Ok (record { id = id; fields = fields; has_data = has_data })
+  where
+    has_data : Bool
+    has_data = is_some (get (member_name name.Be) d) || is_some (get (member_name name.Lanes) d)
+
+-- its data
+unfoldable pub packet_of : Data → Result Packet (MemberFault Member)
+packet_of d = do
+  id ← number_of member_name name.Id (2 ^ 64 - 1) d
+  be ← number_of member_name name.Be 65535 d
+  lanes ← member_by member_name name.Lanes (hex_bytes 16) d
+  Ok (record { id = id; be = be; lanes = lanes })
+
+-- its completion
+unfoldable pub completion_of : Data → Result Completion (MemberFault Member)
+completion_of d = do
+  id ← number_of member_name name.Id (2 ^ 64 - 1) d
+  reply ← member_by member_name name.Reply seen_of d
+  Ok (record { id = id; reply = reply })
+
+-- why a request was refused, by the member `reason`, where it is there
+abbrev pub reason_by : Option Data → Result (Option Refusal) (MemberFault Member)
+reason_by None = Ok None
+reason_by (Some d) = ok_or (option_map Some (refusal_of d)) (member_fault.BadMember name.Reason)
+
+-- a request that was refused
+unfoldable pub refused_of : Data → Result EventKind (MemberFault Member)
+refused_of d = do
+  id ← number_of member_name name.Id (2 ^ 64 - 1) d
+  reason ← reason_by (get (member_name name.Reason) d)
+  Ok (kind.Refused id reason)
+
+-- whether a word is one at the end, by the member `final`
+abbrev pub final_by : Option Data → Result Bool (MemberFault Member)
+final_by None = Ok false
+final_by (Some d) = ok_or (as_bool d) (member_fault.BadMember name.Final)
+
+-- a word, before the first request of its granule or after the last
+unfoldable pub word_of : Data → Result EventKind (MemberFault Member)
+word_of d = do
+  addr ← member_by member_name name.Addr start_of d
+  word ← member_by member_name name.Bytes granule_word d
+  is_final ← final_by (get (member_name name.Final) d)
+  Ok ((if is_final then kind.Final else kind.Word) (record { granule = addr / 8; word = word }))
+
+-- bytes of which nothing is known
+unfoldable pub unknown_of : Data → Result EventKind (MemberFault Member)
+unknown_of d = do
+  addr ← number_of member_name name.Addr (2 ^ 64 - 1) d
+  length ← number_of member_name name.Length 4096 d
+  if nat_le 1 length && nat_le (addr + length) (2 ^ 52) then Ok (kind.Unknown addr length) else Err (member_fault.BadMember name.Length)
+
+-- what the line with a number, which is of a kind, tells
+unfoldable pub told_of : ℕ → LineKind → Data → Result EventKind (MemberFault Member)
+told_of number line.Request d = requested_of number d >>= λ r. Ok (kind.Request r)
+told_of number line.Data d = packet_of d >>= λ p. Ok (kind.Data p)
+told_of number line.Reply d = completion_of d >>= λ c. Ok (kind.Reply c)
+told_of number line.Dropped d = number_of member_name name.Id (2 ^ 64 - 1) d >>= λ id. Ok (kind.Dropped id)
+told_of number line.Refused d = refused_of d
+told_of number line.Word d = word_of d
+told_of number line.Unknown d = unknown_of d
+
+-- the event of the line with a number: its kind, its time, what it tells, and that it has no other members
+unfoldable pub event_text : ℕ → List ℕ → Result Event (ObjectFault Member)
+event_text number text = do
+  d ← ok_or (json_value text) NotJson
+  members ← ok_or (as_object d) NotObject
+  k ← or_else of_member (member_by member_name name.Event kind_of d)
+  time ← or_else of_member (number_of member_name name.Time (2 ^ 64 - 1) d)
+  told ← or_else of_member (told_of number k d)
+  faultless UnknownMember (unknown_in member_name (members_of k) members) (record { time = time; kind = told })

@@ -1,0 +1,73 @@
+//! Lines of JSON that tell an event each, and how one is read.
+
+ghost use Rattle.std.specs.Prelude.{◌≡◌, ◌≢◌, IfErr, IfOk, Ok, Err};
+ghost use Rattle.serde_json.specs.View.{view};
+ghost use Rattle.chi_json.specs.Members.{member_by};
+ghost use Rattle.chi_reading.specs.Member.{member_name};
+ghost use Rattle.chi_reading.specs.EventText.{event_text, kind_of};
+
+use crate::line_kind::LineKind;
+use crate::line_members::told;
+use crate::member::Member;
+use chi_events::Event;
+use chi_json::{MemberFault, ObjectFault, json, number, stated, unknown_member};
+use serde_json::Value;
+use std::alloc::Global;
+
+/// The kind that a line names.
+fn kind_told(object: &Value) -> Result<LineKind, MemberFault<Member>>
+    ensures { result ≡ member_by member_name Member.Event kind_of (view object.now) }
+{
+    let name = stated(object, Member::Event)?.as_str();
+    name.and_then(LineKind::named)
+        .ok_or(MemberFault::BadMember(Member::Event))
+}
+
+/// The event that a line tells, or the line's first fault. `number_of_line` says which line it is; a request has it as its
+/// number.
+///
+/// The line is a JSON object in UTF-8. Its member `event` names what is told, and `time` is a whole number below 2^64, as
+/// `id` and `addr` are. The members beside these are, by the kind of event:
+///
+/// - `request`: `id`, and the fields of a request as a trace has them: `src` and `txn`, 0 to 65,535; `op`, 0 to 255; `size`,
+///   0 to 7; `addr`; and `endian`, 0 or 1. Where its data come with it, also `be`, 0 to 65,535, and `lanes`, 32 hex digits,
+///   lane 0 first. Where both are left out they are 0, and the data are told by an event `data`.
+/// - `data`: `id`, `be` and `lanes`.
+/// - `reply`: `id`, and `reply`: the text `comp`, one of 32 hex digits, lane 0 first, or `null`.
+/// - `dropped`: `id`.
+/// - `refused`: `id`, and `reason`: the name of a refusal, as `Misaligned`; it may be left out.
+/// - `word`: `addr`, a multiple of 8 below 2^52, and `bytes`, 16 hex digits: the eight bytes in address order. Where `final`
+///   is `true` the word is one at the end; it may be left out.
+/// - `unknown`: `addr`, and `length`, 1 to 4,096. Where their sum is over 2^52, `length` is the bad member.
+///
+/// Members whose name begins with `x-` are ignored, and others are refused. Of two members of one name the last counts.
+///
+/// The faults' order is that of `event`, `time`, the kind's members as they are listed here, and then members that it does
+/// not have. `Memory` is answered where a growth is refused before a fault is met.
+///
+/// ```
+/// let event = read_event(alloc, 1, b"{\"time\":70,\"event\":\"dropped\",\"id\":3}")?;
+/// ```
+#[tactic(auto, unfolding(crate::specs::EventText::event_text))]
+pub fn read_event(
+    alloc: Global,
+    number_of_line: u64,
+    line: &[u8],
+) -> Result<Event, ObjectFault<Member>>
+    ensures ok { IfOk result (λ event. event_text number_of_line line.now ≡ Ok event) }
+    ensures fault { IfErr result (λ fault. fault ≢ ObjectFault.Memory → event_text number_of_line line.now ≡ Err fault) }
+{
+    let Some(object) = json(alloc, line)? else {
+        return Err(ObjectFault::NotJson);
+    };
+    let Some(members) = object.as_object() else {
+        return Err(ObjectFault::NotObject);
+    };
+    let kind = kind_told(&object)?;
+    let time = number(&object, Member::Time, u64::MAX)?;
+    let told = told(number_of_line, kind, &object)?;
+    match unknown_member(members, kind.members()) {
+        Some(name) => Err(ObjectFault::UnknownMember(name)),
+        None => Ok(Event { time, kind: told }),
+    }
+}

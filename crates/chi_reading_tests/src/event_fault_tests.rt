@@ -1,0 +1,215 @@
+//! The faults of a line, and their texts.
+
+use crate::event_comparison::assert_fault;
+use chi_json::{MemberName, ObjectFault};
+use chi_reading::Member;
+use std::process::Abort;
+use std::test::Fail;
+
+// Compares the text of a fault.
+fn assert_text<R: AllocGlobal + Abort>(
+    rt: &R,
+    fault: ObjectFault<Member>,
+    wanted: &str,
+) -> Result<(), Fail> {
+    let text = format!(in rt.alloc(); "{fault}")?;
+    assert!(*rt; text.as_str() == wanted, "{wanted}");
+    Ok(())
+}
+
+#[test]
+fn faults_and_their_texts(rt: HostRuntime) -> Result<(), Fail> {
+    for (line, fault, text) in [
+        ("{", ObjectFault::NotJson, "is not JSON"),
+        ("", ObjectFault::NotJson, "is not JSON"),
+        (
+            r#"[{"event":"dropped"}]"#,
+            ObjectFault::NotObject,
+            "is not an object",
+        ),
+        (
+            "{}",
+            ObjectFault::Missing(Member::Event),
+            "member event is missing",
+        ),
+        (
+            r#"{"event":"Data"}"#,
+            ObjectFault::BadMember(Member::Event),
+            "member event is not as stated",
+        ),
+        (
+            r#"{"event":"data"}"#,
+            ObjectFault::Missing(Member::Time),
+            "member time is missing",
+        ),
+        (
+            r#"{"event":"data","time":18446744073709551616}"#,
+            ObjectFault::BadMember(Member::Time),
+            "member time is not as stated",
+        ),
+        (
+            r#"{"event":"dropped","time":70}"#,
+            ObjectFault::Missing(Member::Id),
+            "member id is missing",
+        ),
+        (
+            r#"{"event":"word","time":70,"addr":0}"#,
+            ObjectFault::Missing(Member::Bytes),
+            "member bytes is missing",
+        ),
+        (
+            r#"{"event":"unknown","time":70,"addr":0}"#,
+            ObjectFault::Missing(Member::Length),
+            "member length is missing",
+        ),
+        (
+            r#"{"event":"dropped","time":70,"id":3,"note":0}"#,
+            ObjectFault::UnknownMember(MemberName::of("note")),
+            "has an unknown member note",
+        ),
+    ] {
+        assert_fault(&rt, line, fault);
+        assert_text(&rt, fault, text)?;
+    }
+    assert_text(&rt, ObjectFault::Memory, "no memory")
+}
+
+#[test]
+fn bad_members(rt: HostRuntime) {
+    for (line, member) in [
+        (r#"{"event":7}"#, Member::Event),
+        (r#"{"event":"dropped","time":-1}"#, Member::Time),
+        (r#"{"event":"dropped","time":70,"id":0.5}"#, Member::Id),
+        (
+            r#"{"event":"data","time":70,"id":3,"be":65536}"#,
+            Member::Be,
+        ),
+        (
+            r#"{"event":"data","time":70,"id":3,"be":1,"lanes":"0g000000000000000000000000000000"}"#,
+            Member::Lanes,
+        ),
+        (
+            r#"{"event":"reply","time":70,"id":3,"reply":"Comp"}"#,
+            Member::Reply,
+        ),
+        (
+            r#"{"event":"reply","time":70,"id":3,"reply":0}"#,
+            Member::Reply,
+        ),
+        (
+            r#"{"event":"refused","time":70,"id":3,"reason":"misaligned"}"#,
+            Member::Reason,
+        ),
+        (
+            r#"{"event":"refused","time":70,"id":3,"reason":null}"#,
+            Member::Reason,
+        ),
+        (
+            r#"{"event":"word","time":70,"addr":4,"bytes":"0000000000000000"}"#,
+            Member::Addr,
+        ),
+        (
+            r#"{"event":"word","time":70,"addr":4503599627370496,"bytes":"0000000000000000"}"#,
+            Member::Addr,
+        ),
+        (
+            r#"{"event":"word","time":70,"addr":8,"bytes":"00000000000000"}"#,
+            Member::Bytes,
+        ),
+        (
+            r#"{"event":"word","time":70,"addr":8,"bytes":"0000000000000000","final":1}"#,
+            Member::Final,
+        ),
+        (
+            r#"{"event":"unknown","time":70,"addr":0,"length":0}"#,
+            Member::Length,
+        ),
+        (
+            r#"{"event":"unknown","time":70,"addr":0,"length":4097}"#,
+            Member::Length,
+        ),
+        (
+            r#"{"event":"unknown","time":70,"addr":4503599627366401,"length":4096}"#,
+            Member::Length,
+        ),
+    ] {
+        assert_fault(&rt, line, ObjectFault::BadMember(member));
+    }
+}
+
+// Missing members that the table above does not have.
+#[test]
+fn missing_members(rt: HostRuntime) {
+    for (line, member) in [
+        (r#"{"event":"data","time":70}"#, Member::Id),
+        (r#"{"event":"data","time":70,"id":3}"#, Member::Be),
+        (r#"{"event":"data","time":70,"id":3,"be":1}"#, Member::Lanes),
+        (r#"{"event":"reply","time":70}"#, Member::Id),
+        (r#"{"event":"reply","time":70,"id":3}"#, Member::Reply),
+        (r#"{"event":"refused","time":70}"#, Member::Id),
+        (r#"{"event":"word","time":70}"#, Member::Addr),
+        (r#"{"event":"unknown","time":70}"#, Member::Addr),
+    ] {
+        assert_fault(&rt, line, ObjectFault::Missing(member));
+    }
+}
+
+// A member of another kind of event is refused, and so is one whose name is like `x-`.
+#[test]
+fn members_of_other_events(rt: HostRuntime) {
+    for (line, name) in [
+        (
+            r#"{"event":"dropped","time":70,"id":3,"reply":null}"#,
+            "reply",
+        ),
+        (
+            r#"{"event":"data","time":70,"id":3,"be":1,"lanes":"00000000000000000000000000000000","addr":0}"#,
+            "addr",
+        ),
+        (
+            r#"{"event":"reply","time":70,"id":3,"reply":null,"final":true}"#,
+            "final",
+        ),
+        (
+            r#"{"event":"word","time":70,"addr":0,"bytes":"0000000000000000","id":3}"#,
+            "id",
+        ),
+        (
+            r#"{"event":"unknown","time":70,"addr":0,"length":1,"bytes":"00"}"#,
+            "bytes",
+        ),
+        (
+            r#"{"event":"dropped","time":70,"id":3,"reason":"Misaligned"}"#,
+            "reason",
+        ),
+        (
+            r#"{"event":"dropped","time":70,"id":3,"X-note":0}"#,
+            "X-note",
+        ),
+        (r#"{"event":"dropped","time":70,"id":3,"x":0}"#, "x"),
+        (r#"{"event":"dropped","time":70,"id":3,"":0}"#, ""),
+    ] {
+        assert_fault(&rt, line, ObjectFault::UnknownMember(MemberName::of(name)));
+    }
+}
+
+// The first fault is told: members in the order of the kind, and other members last.
+#[test]
+fn first_fault(rt: HostRuntime) {
+    for (line, fault) in [
+        (
+            r#"{"note":0,"time":-1,"event":"write"}"#,
+            ObjectFault::BadMember(Member::Event),
+        ),
+        (
+            r#"{"note":0,"event":"data","lanes":"","id":-1,"time":70}"#,
+            ObjectFault::BadMember(Member::Id),
+        ),
+        (
+            r#"{"note":0,"event":"data","lanes":"","id":1,"be":0,"time":70}"#,
+            ObjectFault::BadMember(Member::Lanes),
+        ),
+    ] {
+        assert_fault(&rt, line, fault);
+    }
+}
