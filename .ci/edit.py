@@ -7,7 +7,8 @@ from typing import NamedTuple
 
 # The heads of a function, of an implementation, and of what else may hold functions, as rt fmt lays them out.
 FUNCTION = re.compile(r"^( *)(?:pub(?:\([^)]*\))? )?(const )?(?:unsafe )?(?:extern \"C\" )?fn (\w+)")
-OWNER = re.compile(r"(?:unsafe )?impl(?:<.*?>)? (?:([^ ].*) for )?(?:\w+::)*(\w+)")
+OWNER = re.compile(r"(?:unsafe )?impl(?:<(?P<own>.*?)>)? (?:(?P<trait>[^ ].*) for )?(?:\w+::)*(?P<type>\w+)")
+PARAMETER = re.compile(r"(?:^|, )(?:const )?(\w+)")
 NAME = re.compile(r"(?<![\w'])(?:\w+::)*(\w+)")
 TYPE = re.compile(r"^(?:pub(?:\([^)]*\))? )?(?:struct|enum) (\w+)", re.M)
 ITEM = re.compile(r"(?:pub(?:\([^)]*\))? )?(?:unsafe )?(?:impl|trait|mod|macro_rules!)\b")
@@ -114,9 +115,12 @@ def functions_of(texts, crate):
                 names = [module_of(path, crate), head[3]]
                 if head[1]:
                     # what a type does when it is dropped is the type's own
-                    of_trait = NAME.findall(owner[1] or "") if owner[1] != "Drop" else []
-                    module = names[0] if of_trait else modules.get(owner[2], names[0])
-                    names = [module, "".join([owner[2], *of_trait]), head[3]]
+                    of_trait = NAME.findall(owner["trait"] or "") if owner["trait"] != "Drop" else []
+                    # the name has no parameter of the implementation
+                    own = PARAMETER.findall(owner["own"] or "")
+                    of_trait = [it for it in of_trait if it not in own]
+                    module = names[0] if of_trait else modules.get(owner["type"], names[0])
+                    names = [module, "".join([owner["type"], *of_trait]), head[3]]
                 found[path].append(Function("::".join(names), at, *body_of(lines, at, head[1]), bool(head[2])))
     return found
 

@@ -6,6 +6,7 @@ pub mod Carries
 pub mod Combining
 pub mod CommutingPair
 pub mod Covers
+pub mod DeadStates
 pub mod Dropped
 pub mod Effects
 pub mod Elements
@@ -13,6 +14,7 @@ pub mod Exchange
 pub mod FirstAndLast
 pub mod Following
 pub mod Idle
+pub mod Judging
 pub mod Layers
 pub mod Leaving
 pub mod LikeStores
@@ -21,6 +23,7 @@ pub mod MovedBack
 pub mod MovedFirst
 pub mod Moves
 pub mod OneMore
+pub mod OneStart
 pub mod Operands
 pub mod Orders
 pub mod Paths

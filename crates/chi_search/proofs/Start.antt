@@ -1,15 +1,12 @@
--- where a search begins, and the set of its dead states
-use Rattle.std.proofs.Common.{◌≡◌, ℕ, zero, suc, ◌-◌, ◌/◌, ◌%◌, ◌==◌, ◌⊎◌, ◌↔◌, nat_le, nat_lt, Bool, true, false, ◌&&◌, List, [], ◌∷◌, length, slice_index, Option, refl, sym, ap, subst, ◌∙◌, arith, inl, inr, lt-ltb}
+-- where a search begins
+use Rattle.std.proofs.Common.{◌≡◌, ℕ, zero, suc, ◌-◌, ◌/◌, ◌%◌, ◌==◌, nat_le, nat_lt, Bool, true, false, ◌&&◌, List, [], ◌∷◌, length, slice_index, Option, refl, sym, ap, ◌∙◌, arith, lt-ltb}
 use Rattle.std.proofs.lemmas.Bool.Decides.{nat_tests}
 use Rattle.std.proofs.lemmas.Nat.Bits.{bit_at-zero}
 use Rattle.std.specs.Int.{bit_at}
 use Rattle.chi_trace.specs.declared.operation.Operation.{Operation}
 use Rattle.chi_trace.specs.Explains.{is_place}
 use Rattle.chi_trace.specs.Granules.{Finishes}
-use Rattle.chi_search.specs.declared.states.States.{States}
-use Rattle.chi_search.specs.Paths.{AllDead, IsDead}
-use Rattle.chi_search.specs.Positions.{IsReady, Position, has_bit, is_left, is_unsettled, start}
-use Rattle.chi_search.specs.StateSets.{Has, positions}
+use Rattle.chi_search.specs.Positions.{IsReady, has_bit, is_left, is_unsettled, start}
 use Rattle.chi_search.proofs.Orders.{stays}
 
 none_settled : (k : ℕ) → has_bit (0 ∷ []) k ≡ false
@@ -43,21 +40,3 @@ from_start ops w final_word x c = stays ops (is_left (length ops) (start w)) (is
 pub at_start : (ops : List Operation) (w : ℕ) (final_word : Option ℕ) (x : List ℕ) → Finishes ops (is_place ops) w final_word x
     → Finishes ops (is_left (length ops) (start w)) w final_word x
 at_start ops w final_word x c = stays ops (is_place ops) (is_left (length ops) (start w)) w final_word x (λ i. sym (left_at_start (length ops) w i)) c
-
--- the empty set, and one state more
-pub none_of : (P : Position → Type 0) (states : States) → positions states ≡ [] → (p : Position) → Has states p → P p
-none_of P states none p (x, below, same) = absurd (omega (arith, below, ap length none))
-
-pub more_of : (P : Position → Type 0) (old new : States) (s : Position) → ((p : Position) → Has new p ↔ (Has old p ⊎ (p ≡ s)))
-    → ((p : Position) → Has old p → P p) → P s → (p : Position) → Has new p → P p
-more_of P old new s more all one p has = elim ((more p).0 has) [
-  | inl before ↦ all p before
-  | inr same ↦ subst P (sym same) one
-]
-
-pub none_dead : (ops : List Operation) (final_word : Option ℕ) (states : States) → positions states ≡ [] → AllDead ops final_word states
-none_dead ops final_word = none_of (IsDead ops final_word)
-
-pub more_dead : (ops : List Operation) (final_word : Option ℕ) (old new : States) (s : Position) → ((p : Position) → Has new p ↔ (Has old p ⊎ (p ≡ s)))
-    → AllDead ops final_word old → IsDead ops final_word s → AllDead ops final_word new
-more_dead ops final_word = more_of (IsDead ops final_word)

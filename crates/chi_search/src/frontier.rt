@@ -3,16 +3,18 @@
 ghost use Rattle.std.specs.Prelude.{◌≡◌, ◌≢◌, ℕ, ◌+◌, ◌-◌, ◌^◌, ◌≤◌, ◌↔◌, ◌⊎◌, [], ◌∷◌, ◌++◌, false, List, None, Some, IfErr, IfOk, IfSome, IsTrue, length};
 ghost use Rattle.std.specs.List.{AllPairs, Contains};
 ghost use Rattle.chi_trace.specs.declared.operation.Operation.{Operation};
-ghost use Rattle.chi_search.specs.Found.{IfUnknown, IfWords};
+ghost use Rattle.chi_trace.specs.Granules.{Finishes};
+ghost use Rattle.chi_search.specs.Found.{IfNothing, IfOrder, IfUndecided, IfUnknown, IfWords};
 ghost use Rattle.chi_search.specs.Frontiers.{CanBeTold, Follows};
 ghost use Rattle.chi_search.specs.Layers.{SomeLeads, Waits};
 ghost use Rattle.chi_search.specs.Looks.{LookedMore};
-ghost use Rattle.chi_search.specs.Positions.{Position};
+ghost use Rattle.chi_search.specs.Positions.{Position, is_left};
 
 use crate::layer::{advance, first_layer, words_in};
+use crate::order::{Found, order_from};
 use crate::passing::{moved_back, passed};
 use crate::progress::Progress;
-use crate::states::States;
+use crate::states::{States, count};
 use crate::words::Words;
 use chi_fields::ADDRESSES;
 use chi_trace::Operation;
@@ -155,6 +157,39 @@ impl Frontier {
         }
     }
 
+    /// An order of the operations that it keeps, from a position to which the search came, that leaves the final word where one was
+    /// told; that there is none, so that none explains what was told; or neither, since the budget was spent.
+    ///
+    /// ```
+    /// match frontier.order(alloc, Some(0x2a), &mut budget, &mut NoProgress)? {
+    ///     Found::Order(_) => explained(),
+    ///     Found::Nothing => blame(),
+    ///     Found::Undecided => take_more_time(),
+    /// }
+    /// ```
+    pub fn order<P: Progress>(
+        &self,
+        alloc: Global,
+        final_word: Option<u64>,
+        budget: &mut u64,
+        progress: &mut P,
+    ) -> Result<Found, AllocError>
+        ensures order { IfOk result (λ found. IfOrder found (λ order. (p : Position) × Contains self.now.positions p × Finishes self.now.operations (is_left (length self.now.operations) p) p.word final_word order)) }
+        ensures leads { IfOk result (λ found. IfOrder found (λ order. (words : List ℕ) (told : List Operation) → Follows words told self.now → (v : ℕ) × SomeLeads told words v × IfSome final_word (λ seen. v ≡ seen))) }
+        ensures nothing { IfOk result (λ found. IfNothing found ((words : List ℕ) (told : List Operation) → Follows words told self.now → (v : ℕ) → SomeLeads told words v → IfSome final_word (λ seen. v ≡ seen) → ⊥)) }
+        ensures undecided { IfOk result (λ found. IfUndecided found (budget.new ≡ 0)) }
+        ensures spends { IfOk result (λ found. (budget.new ≤ budget.old) × LookedMore P.looked progress.old progress.new (budget.old - budget.new)) }
+    {
+        order_from(
+            alloc,
+            &self.operations,
+            final_word,
+            &self.states,
+            budget,
+            progress,
+        )
+    }
+
     /// Each word that the operations that were told can leave. There is none where no order explains them.
     ///
     /// ```
@@ -194,5 +229,17 @@ impl Frontier {
         ensures { result ≡ length self.now.operations }
     {
         self.operations.len()
+    }
+    /// At how many positions it is. With many it takes long to find an order.
+    ///
+    /// ```
+    /// if next.positions() < 4096 {
+    ///     frontier = next;
+    /// }
+    /// ```
+    pub fn positions(&self) -> usize
+        ensures { result ≡ length self.now.positions }
+    {
+        count(&self.states)
     }
 }

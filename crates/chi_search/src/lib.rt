@@ -2,6 +2,7 @@
 #![tactic(auto)]
 
 mod absorbing;
+mod at_once;
 mod chains;
 mod choice;
 mod commuting;
@@ -22,6 +23,7 @@ mod passing;
 mod path;
 mod problem;
 mod progress;
+mod rounds;
 mod searchable;
 mod searching;
 mod settled;

@@ -1,21 +1,26 @@
 //! An order of the operations of one granule.
 
-ghost use Rattle.std.specs.Prelude.{◌≡◌, ℕ, ◌-◌, ◌≤◌, List, IfOk, IsTrue};
+ghost use Rattle.std.specs.Prelude.{◌≡◌, ℕ, ◌-◌, ◌≤◌, List, IfOk, length};
 ghost use Rattle.chi_trace.specs.Explains.{is_place};
 ghost use Rattle.chi_trace.specs.Granules.{Finishes};
 ghost use Rattle.chi_search.specs.Found.{IfNothing, IfOrder, IfUndecided};
 ghost use Rattle.chi_search.specs.Problems.{IsProblem};
+ghost use Rattle.chi_search.specs.Layers.{AreReady};
 ghost use Rattle.chi_search.specs.Looks.{LookedMore};
+ghost use Rattle.chi_search.specs.Paths.{AllDead};
+ghost use Rattle.chi_search.specs.Positions.{Position, is_left};
 ghost use Rattle.chi_search.specs.Searchable.{AreSorted, AreWithin};
+ghost use Rattle.chi_search.specs.StateSets.{Has};
 
+use crate::at_once::{are_hopeless, are_hot, has_ended};
 use crate::earliest::earliest_starts;
 use crate::effect::effects_of;
-use crate::makers::lacks_maker;
+use crate::layer::first_layer;
 use crate::parts::{add_parts, are_mostly_writes, parts_of};
 use crate::problem::Problem;
 use crate::progress::Progress;
-use crate::searching::search;
-use crate::state::first_state;
+use crate::rounds::search_in_rounds;
+use crate::states::{States, no_states};
 use chi_trace::Operation;
 use std::alloc::{AllocError, Global};
 
@@ -31,54 +36,24 @@ pub enum Found {
 /// How many states for each operation are looked at without the rules that take time at each.
 const PLAIN_STATES: u64 = 8;
 
-/// Where no more operations than these lie between the first and the last that can come next, the plain search is the first.
-const FEW_NEXT: usize = 28;
-
 /// After how many states for each operation the search of a granule that is mostly written begins again.
 const SPAN_STATES: u64 = 64;
 
-/// How many operations are looked at for makers before the search.
-const LOOKED_AT: usize = 1000;
-
-// How many operations at most lie between the first that is left and the last that can come next, it among them.
-fn most_next(ops: &[Operation], earliest: &[u64]) -> usize {
-    let mut most: usize = 0;
-    let mut past: usize = 0;
-    for place in 0..ops.len() {
-        while past < ops.len() && past < earliest.len() && earliest[past] <= ops[place].end {
-            past += 1;
-        }
-        most = most.max(past.saturating_sub(place));
-    }
-    most
-}
-
-// Whether an operation is seen at once to find what no other can leave, or the end to have it.
-fn is_hopeless(alloc: Global, problem: &Problem, word: u64) -> Result<bool, AllocError>
-    requires { IsProblem problem.now }
-    ensures { IfOk result (λ is. IsTrue is → (order : List ℕ) → Finishes problem.now.ops.now (is_place problem.now.ops.now) word problem.now.final_word order → ⊥) }
-{
-    let effects = effects_of(alloc, problem.ops)?;
-    let problem = Problem {
-        effects: &effects,
-        ..*problem
-    };
-    let first = first_state(alloc, word);
-    Ok(lacks_maker(&problem, &first, u64::MAX, u64::MAX, u64::MAX, LOOKED_AT, 0))
-}
-
-// Searches as `order_of` does with all rules. Where most are writes and that takes long, the parts of four bytes are asked too,
-// and the search begins again from time to time.
+// Searches from states on as `order_of` does with all rules. Where most are writes and that takes long, the parts of four bytes are
+// asked too, and the search begins again from time to time.
 fn search_by_rules<P: Progress>(
     alloc: Global,
     problem: &Problem,
-    word: u64,
+    from: &States,
+    dead: &mut States,
     budget: &mut u64,
     progress: &mut P,
 ) -> Result<Found, AllocError>
-    requires { IsProblem problem.now }
-    ensures order { IfOk result (λ found. IfOrder found (λ order. Finishes problem.now.ops.now (is_place problem.now.ops.now) word problem.now.final_word order)) }
-    ensures nothing { IfOk result (λ found. IfNothing found ((order : List ℕ) → Finishes problem.now.ops.now (is_place problem.now.ops.now) word problem.now.final_word order → ⊥)) }
+    requires problem { IsProblem problem.now }
+    requires ready { AreReady problem.now.ops.now from.now }
+    requires dead { AllDead problem.now.ops.now problem.now.final_word dead.now }
+    ensures order { IfOk result (λ found. IfOrder found (λ order. (p : Position) × Has from.now p × Finishes problem.now.ops.now (is_left (length problem.now.ops.now) p) p.word problem.now.final_word order)) }
+    ensures nothing { IfOk result (λ found. IfNothing found (AllDead problem.now.ops.now problem.now.final_word from.now)) }
     ensures undecided { IfOk result (λ found. IfUndecided found (budget.new ≡ 0)) }
     ensures spends { IfOk result (λ found. (budget.new ≤ budget.old) × LookedMore P.looked progress.old progress.new (budget.old - budget.new)) }
 {
@@ -90,16 +65,26 @@ fn search_by_rules<P: Progress>(
     };
     let mut parts = parts_of(alloc, ops, final_word)?;
     if !are_mostly_writes(ops) {
-        return search(alloc, &problem, &mut parts, word, u64::MAX, budget, progress);
+        return search_in_rounds(
+            alloc,
+            &problem,
+            &mut parts,
+            from,
+            dead,
+            u64::MAX,
+            budget,
+            progress,
+        );
     }
     let span = (ops.len() as u64).saturating_mul(SPAN_STATES);
     let short = span.min(*budget);
     let mut left = short;
-    let found = search(
+    let found = search_in_rounds(
         alloc,
         &problem,
         &mut parts,
-        word,
+        from,
+        dead,
         u64::MAX,
         &mut left,
         progress,
@@ -110,7 +95,71 @@ fn search_by_rules<P: Progress>(
     }
     let mut more_parts = parts_of(alloc, ops, final_word)?;
     add_parts(alloc, ops, final_word, 4, &mut more_parts)?;
-    search(alloc, &problem, &mut more_parts, word, span, budget, progress)
+    search_in_rounds(
+        alloc,
+        &problem,
+        &mut more_parts,
+        from,
+        dead,
+        span,
+        budget,
+        progress,
+    )
+}
+
+/// Searches as `order_of` does, from each state of a set.
+pub(crate) fn order_from<P: Progress>(
+    alloc: Global,
+    ops: &[Operation],
+    final_word: Option<u64>,
+    from: &States,
+    budget: &mut u64,
+    progress: &mut P,
+) -> Result<Found, AllocError>
+    requires sorted { AreSorted ops.now }
+    requires within { AreWithin ops.now }
+    requires ready { AreReady ops.now from.now }
+    ensures order { IfOk result (λ found. IfOrder found (λ order. (p : Position) × Has from.now p × Finishes ops.now (is_left (length ops.now) p) p.word final_word order)) }
+    ensures nothing { IfOk result (λ found. IfNothing found (AllDead ops.now final_word from.now)) }
+    ensures undecided { IfOk result (λ found. IfUndecided found (budget.new ≡ 0)) }
+    ensures spends { IfOk result (λ found. (budget.new ≤ budget.old) × LookedMore P.looked progress.old progress.new (budget.old - budget.new)) }
+{
+    if has_ended(alloc, ops, final_word, from)? {
+        return Ok(Found::Order(Vec::new(alloc)));
+    }
+    let earliest = earliest_starts(alloc, ops)?;
+    let problem = Problem {
+        ops,
+        final_word,
+        effects: &[],
+        earliest: &earliest,
+    };
+    let mut dead = no_states(alloc);
+    let are_hot = are_hot(ops, &earliest);
+    if are_hot && are_hopeless(alloc, &problem, from, &mut dead)? {
+        return Ok(Found::Nothing);
+    }
+    // Most operations have an order that a plain search finds at once.
+    let plain = (ops.len() as u64).saturating_mul(PLAIN_STATES).min(*budget);
+    let mut left = plain;
+    let found = search_in_rounds(
+        alloc,
+        &problem,
+        &mut [],
+        from,
+        &mut dead,
+        u64::MAX,
+        &mut left,
+        progress,
+    )?;
+    *budget -= plain - left;
+    if let Found::Order(_) | Found::Nothing = found {
+        return Ok(found);
+    }
+    if !are_hot && are_hopeless(alloc, &problem, from, &mut dead)? {
+        return Ok(Found::Nothing);
+    }
+    search_by_rules(alloc, &problem, from, &mut dead, budget, progress)
 }
 
 /// Searches for an order of the operations of one granule, from its word at the opening on, which leaves `last` where that was
@@ -141,27 +190,6 @@ pub fn order_of<P: Progress>(
     ensures undecided { IfOk result (λ found. IfUndecided found (budget.new ≡ 0)) }
     ensures spends { IfOk result (λ found. (budget.new ≤ budget.old) × LookedMore P.looked progress.old progress.new (budget.old - budget.new)) }
 {
-    let earliest = earliest_starts(alloc, ops)?;
-    let problem = Problem {
-        ops,
-        final_word,
-        effects: &[],
-        earliest: &earliest,
-    };
-    let is_hot = most_next(ops, &earliest) > FEW_NEXT;
-    if is_hot && is_hopeless(alloc, &problem, word)? {
-        return Ok(Found::Nothing);
-    }
-    // Most operations have an order that a plain search finds at once.
-    let plain = (ops.len() as u64).saturating_mul(PLAIN_STATES).min(*budget);
-    let mut left = plain;
-    let found = search(alloc, &problem, &mut [], word, u64::MAX, &mut left, progress)?;
-    *budget -= plain - left;
-    if let Found::Order(_) | Found::Nothing = found {
-        return Ok(found);
-    }
-    if !is_hot && is_hopeless(alloc, &problem, word)? {
-        return Ok(Found::Nothing);
-    }
-    search_by_rules(alloc, &problem, word, budget, progress)
+    let from = first_layer(alloc, &[word])?;
+    order_from(alloc, ops, final_word, &from, budget, progress)
 }

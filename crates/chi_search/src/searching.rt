@@ -1,7 +1,6 @@
 //! The search over states, depth first, with the states that it found dead.
 
-ghost use Rattle.std.specs.Prelude.{◌≡◌, ℕ, ◌-◌, ◌≤◌, ◌⊎◌, All, List, IfOk, IfSome, OnOk, length};
-ghost use Rattle.chi_trace.specs.Explains.{is_place};
+ghost use Rattle.std.specs.Prelude.{◌≡◌, ◌-◌, ◌≤◌, All, IfOk, IfSome, OnOk, length};
 ghost use Rattle.chi_trace.specs.Granules.{Finishes};
 ghost use Rattle.chi_search.specs.Found.{IfNothing, IfOrder, IfUndecided};
 ghost use Rattle.chi_search.specs.Problems.{IsProblem};
@@ -9,7 +8,7 @@ ghost use Rattle.chi_search.specs.Looks.{LookedMore};
 ghost use Rattle.chi_search.specs.Choices.{IfDead, IfEnded, IfStep, IfTried};
 ghost use Rattle.chi_search.specs.Parts.{IsPartOf};
 ghost use Rattle.chi_search.specs.Paths.{AllDead, AreTried, IsDead, Moves};
-ghost use Rattle.chi_search.specs.Positions.{IsReady, position_of};
+ghost use Rattle.chi_search.specs.Positions.{IsReady, is_left, position_of};
 
 use crate::choice::{Choice, choose};
 use crate::order::Found;
@@ -19,7 +18,8 @@ use crate::path::{Step, taken};
 use crate::problem::Problem;
 use crate::progress::Progress;
 use crate::state::{State, first_state};
-use crate::states::{States, add, no_states};
+use crate::states::{States, add};
+use crate::wide::copy_of;
 use std::alloc::{AllocError, Global};
 
 // What can be done at a state, as `choose` says it. A state that is new is asked of the parts of its word first, where there are
@@ -58,37 +58,40 @@ fn decide<P: Progress>(
     choose(problem, dead, state, tried, by_width, next)
 }
 
-/// Searches as `order_of` does, from the start on. Where nothing is known of the operations it goes without the rules that take
-/// time at each state. `parts` are those of the word that are asked, or none. After each `span` states it begins again, with the
-/// states that it found dead, and tries what changes fewer bits first every other time.
+/// Searches as `order_of` does, from a state on. Where nothing is known of the operations it goes without the rules that take time
+/// at each state. `parts` are those of the word that are asked, or none. `dead` has states that are dead, and those that are found
+/// so are added. After each `span` states it begins again, and tries what changes fewer bits first every other time.
 pub(crate) fn search<P: Progress>(
     alloc: Global,
     problem: &Problem,
     parts: &mut [WordPart],
-    word: u64,
+    from: &State,
+    dead: &mut States,
     span: u64,
     budget: &mut u64,
     progress: &mut P,
 ) -> Result<Found, AllocError>
     requires problem { IsProblem problem.now }
+    requires ready { IsReady (length problem.now.ops.now) (position_of from.now) }
     requires parts { All (IsPartOf problem.now.ops.now problem.now.final_word) parts.now }
-    ensures order { IfOk result (λ found. IfOrder found (λ order. Finishes problem.now.ops.now (is_place problem.now.ops.now) word problem.now.final_word order)) }
-    ensures nothing { IfOk result (λ found. IfNothing found ((order : List ℕ) → Finishes problem.now.ops.now (is_place problem.now.ops.now) word problem.now.final_word order → ⊥)) }
+    requires dead { AllDead problem.now.ops.now problem.now.final_word dead.now }
+    ensures order { IfOk result (λ found. IfOrder found (λ order. Finishes problem.now.ops.now (is_left (length problem.now.ops.now) (position_of from.now)) from.now.word problem.now.final_word order)) }
+    ensures nothing { IfOk result (λ found. IfNothing found (IsDead problem.now.ops.now problem.now.final_word (position_of from.now))) }
+    ensures parts { OnOk result (All (IsPartOf problem.now.ops.now problem.now.final_word) parts.new) }
+    ensures dead { OnOk result (AllDead problem.now.ops.now problem.now.final_word dead.new) }
     ensures undecided { IfOk result (λ found. IfUndecided found (budget.new ≡ 0)) }
     ensures spends { IfOk result (λ found. (budget.new ≤ budget.old) × LookedMore P.looked progress.old progress.new (budget.old - budget.new)) }
 {
-    let mut dead = no_states(alloc);
     let mut path: Vec<Step> = Vec::new(alloc);
-    let mut state = first_state(alloc, word);
-    let mut next = first_state(alloc, word);
-    let mut tried = 0;
+    let mut state = copy_of(alloc, from)?;
+    let mut next = first_state(alloc, from.word);
+    let mut tried = state.first;
     let mut is_new = true;
     let mut by_width = false;
     let mut due = budget.saturating_sub(span);
     while *budget > 0 {
         match decide(
-            alloc, problem, &dead, parts, &state, tried, is_new, by_width, &mut next, budget,
-            progress,
+            alloc, problem, dead, parts, &state, tried, is_new, by_width, &mut next, budget, progress,
         )? {
             Choice::Ended => {
                 let order = taken(alloc, &path)?;
@@ -106,8 +109,8 @@ pub(crate) fn search<P: Progress>(
                 progress.look();
                 if *budget <= due {
                     path = Vec::new(alloc);
-                    state = first_state(alloc, word);
-                    tried = 0;
+                    state = copy_of(alloc, from)?;
+                    tried = state.first;
                     is_new = true;
                     by_width = !by_width;
                     due = budget.saturating_sub(span);
@@ -121,10 +124,10 @@ pub(crate) fn search<P: Progress>(
                 state = next;
                 tried = state.first;
                 is_new = !is_only;
-                next = first_state(alloc, word);
+                next = first_state(alloc, from.word);
             }
             Choice::Dead => {
-                add(alloc, &mut dead, &state)?;
+                add(alloc, dead, &state)?;
                 is_new = false;
                 match path.pop() {
                     Some(step) => {

@@ -2,6 +2,7 @@
 
 mod commuting_tests;
 mod equal_tests;
+mod frontier_order_tests;
 mod frontier_tests;
 mod maker_tests;
 mod many_tests;

@@ -7,7 +7,7 @@ use Rattle.chi_search.specs.Choices.{IfDead, IfStep, IfTried}
 use Rattle.chi_search.specs.Positions.{IsReady, position_of}
 use Rattle.chi_search.specs.Within.{AllDeadWithin, AreTriedWithin, IsDeadWithin, IsRun}
 use Rattle.chi_search.proofs.Looking.{one_more}
-use Rattle.chi_search.proofs.Start.{more_of}
+use Rattle.chi_search.proofs.DeadStates.{more_of}
 use Rattle.chi_search.proofs.WithinMoves.{IsTriedStep, dead_from, none_tried}
 use Rattle.chi_search.proofs.part.lacks_order.Goals as goal
 

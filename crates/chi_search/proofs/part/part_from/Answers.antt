@@ -1,6 +1,6 @@
 -- so many bytes are a run
 use Rattle.chi_search.specs.Within.{IsDeadWithin}
-use Rattle.chi_search.proofs.Start.{none_of}
+use Rattle.chi_search.proofs.DeadStates.{none_of}
 use Rattle.chi_search.proofs.part.part_from.Goals as goal
 
 pub returns : goal.returns

@@ -1,27 +1,26 @@
--- an order of the path's operations, the path one step longer or shorter, and a start that is dead
-use Rattle.std.proofs.Common.{◌≡◌, ◌-◌, ◌≤◌, List, [], ◌++◌, IfSome, length, take, append-nil, sym, ap, subst, ◌∙◌, arith}
+-- an order of the path's operations, the path one step longer or shorter, and a first state that is dead
+use Rattle.std.proofs.Common.{◌≡◌, ◌-◌, ◌≤◌, List, [], IfSome, length, take, append-nil, sym, ap, subst, ◌∙◌, arith}
 use Rattle.std.proofs.lemmas.List.Elements.{All-nil}
-use Rattle.chi_trace.specs.Explains.{is_place}
 use Rattle.chi_trace.specs.Granules.{Finishes}
 use Rattle.chi_search.specs.declared.choice.Choice.{Choice}
 use Rattle.chi_search.specs.declared.path.Step.{Step}
 use Rattle.chi_search.specs.Choices.{IfDead, IfEnded, IfStep, IfTried}
 use Rattle.chi_search.specs.Paths.{AllDead, AreTried, AreTriedBefore, IsDead, Moves, Walks, taken}
-use Rattle.chi_search.specs.Positions.{IsReady, Position, position_of, start}
+use Rattle.chi_search.specs.Positions.{IsReady, Position, is_left, position_of}
 use Rattle.chi_search.proofs.Looking.{none_more, one_more, spent_after}
 use Rattle.chi_search.proofs.Moves.{ended}
 use Rattle.chi_search.proofs.Paths.{moves_ready, none_tried, tried_back, tried_on, walks_back, walks_end, walks_on}
-use Rattle.chi_search.proofs.Start.{at_start, from_start, more_dead, none_dead, ready_at_start}
+use Rattle.chi_search.proofs.DeadStates.{more_dead}
 use Rattle.chi_search.proofs.searching.search.Goals as goal
 
 pub loop-budget-init : goal.loop-budget-init
 unfolding Walks
 loop-budget-init g c = record {
-  walks = subst (λ (path : List Step). Walks c.args.problem.now.ops.now (start c.args.word) path (position_of c.first_state-state.result)) (sym c.new-path.ensures.items)
-      (sym c.first_state-state.ensures);
-  ready = subst (λ (p : Position). IsReady (length c.args.problem.now.ops.now) p) (sym c.first_state-state.ensures) (ready_at_start (length c.args.problem.now.ops.now) c.args.word);
-  dead = none_dead c.args.problem.now.ops.now c.args.problem.now.final_word c.no_states-dead.result c.no_states-dead.ensures;
-  tried = λ i before. absurd (omega (arith, before));
+  walks = subst (λ (path : List Step). Walks c.args.problem.now.ops.now (position_of c.args.from.now) path (position_of c.in_ok-state.state)) (sym c.new-path.ensures.items)
+      (sym c.in_ok-state.ensures);
+  ready = subst (λ (p : Position). IsReady (length c.args.problem.now.ops.now) p) (sym c.in_ok-state.ensures) c.requires.ready;
+  dead = c.requires.dead;
+  tried = none_tried c.args.problem.now.ops.now c.args.problem.now.final_word (position_of c.in_ok-state.state);
   before = subst (AreTriedBefore c.args.problem.now.ops.now c.args.problem.now.final_word) (sym c.new-path.ensures.items) (All-nil _);
   parts = c.requires.parts;
   left = omega arith;
@@ -32,11 +31,10 @@ pub returns-in-Ended-clause-order : goal.returns-in-Ended-clause-order
 returns-in-Ended-clause-order g c =
     let is = subst (λ (choice : Choice). IfEnded choice ((length c.args.problem.now.ops.now ≤ c.loop-budget.state.first) × IfSome c.args.problem.now.final_word (λ seen. c.loop-budget.state.word ≡ seen)))
     c.in-Ended.is c.in_ok-decide.ensures.ended in
-    let whole = walks_end c.args.problem.now.ops.now c.args.problem.now.final_word (start c.args.word) (position_of c.loop-budget.state) c.loop-budget.path.items [] c.requires.problem.sorted
+    let whole = walks_end c.args.problem.now.ops.now c.args.problem.now.final_word (position_of c.args.from.now) (position_of c.loop-budget.state) c.loop-budget.path.items [] c.requires.problem.sorted
     c.loop-budget.invariant.walks (ended c.args.problem.now.ops.now c.args.problem.now.final_word (position_of c.loop-budget.state) is.0 is.1) in
-    subst (Finishes c.args.problem.now.ops.now (is_place c.args.problem.now.ops.now) c.args.word c.args.problem.now.final_word)
-    (append-nil (taken c.loop-budget.path.items) ∙ sym (rw c.deref.ensures.value at c.in_ok-order-in-Ended.ensures))
-    (from_start c.args.problem.now.ops.now c.args.word c.args.problem.now.final_word (taken c.loop-budget.path.items ++ []) whole)
+    subst (Finishes c.args.problem.now.ops.now (is_left (length c.args.problem.now.ops.now) (position_of c.args.from.now)) c.args.from.now.word c.args.problem.now.final_word)
+    (append-nil (taken c.loop-budget.path.items) ∙ sym (rw c.deref.ensures.value at c.in_ok-order-in-Ended.ensures)) whole
 
 pub loop-budget-preserved-in-Step : goal.loop-budget-preserved-in-Step
 loop-budget-preserved-in-Step g c =
@@ -48,8 +46,8 @@ loop-budget-preserved-in-Step g c =
     let before_look = spent_after g.P.Progress.looked c.args.progress.now c.loop-budget.progress c.decide.new.progress c.args.budget.now c.loop-budget.budget c.decide.new.budget
     c.loop-budget.invariant.left c.in_ok-decide.ensures.spends.0 c.loop-budget.invariant.looked c.in_ok-decide.ensures.spends.1 in
     record {
-      walks = subst (λ (path : List Step). Walks c.args.problem.now.ops.now (start c.args.word) path (position_of c.decide.new.next)) (sym c.in_ok-push-in-Step.ensures.items)
-          (walks_on c.args.problem.now.ops.now (start c.args.word) (position_of c.decide.new.next) c.loop-budget.path.items (record { from = c.loop-budget.state; op = c.in-Step.op; tried = c.in-Step.place })
+      walks = subst (λ (path : List Step). Walks c.args.problem.now.ops.now (position_of c.args.from.now) path (position_of c.decide.new.next)) (sym c.in_ok-push-in-Step.ensures.items)
+          (walks_on c.args.problem.now.ops.now (position_of c.args.from.now) (position_of c.decide.new.next) c.loop-budget.path.items (record { from = c.loop-budget.state; op = c.in-Step.op; tried = c.in-Step.place })
           c.loop-budget.invariant.walks moves);
       ready = subst (λ (choice : Choice). IfStep choice (λ op. IsReady (length c.args.problem.now.ops.now) (position_of c.decide.new.next))) c.in-Step.is c.in_ok-decide.ensures.ready;
       dead = c.loop-budget.invariant.dead;
@@ -71,12 +69,11 @@ loop-budget-preserved-then-budget-due g c =
     let before_look = spent_after g.P.Progress.looked c.args.progress.now c.loop-budget.progress c.decide.new.progress c.args.budget.now c.loop-budget.budget c.decide.new.budget
     c.loop-budget.invariant.left c.in_ok-decide.ensures.spends.0 c.loop-budget.invariant.looked c.in_ok-decide.ensures.spends.1 in
     record {
-      walks = subst (λ (path : List Step). Walks c.args.problem.now.ops.now (start c.args.word) path (position_of c.first_state-state-then-budget-due.result))
-          (sym c.new-path-then-budget-due.ensures.items) (sym c.first_state-state-then-budget-due.ensures);
-      ready = subst (λ (p : Position). IsReady (length c.args.problem.now.ops.now) p) (sym c.first_state-state-then-budget-due.ensures)
-          (ready_at_start (length c.args.problem.now.ops.now) c.args.word);
+      walks = subst (λ (path : List Step). Walks c.args.problem.now.ops.now (position_of c.args.from.now) path (position_of c.in_ok-state-in-Step.state))
+          (sym c.new-path-then-budget-due.ensures.items) (sym c.in_ok-state-in-Step.ensures);
+      ready = subst (λ (p : Position). IsReady (length c.args.problem.now.ops.now) p) (sym c.in_ok-state-in-Step.ensures) c.requires.ready;
       dead = c.loop-budget.invariant.dead;
-      tried = λ i before. absurd (omega (arith, before));
+      tried = none_tried c.args.problem.now.ops.now c.args.problem.now.final_word (position_of c.in_ok-state-in-Step.state);
       before = subst (AreTriedBefore c.args.problem.now.ops.now c.args.problem.now.final_word) (sym c.new-path-then-budget-due.ensures.items) (All-nil _);
       parts = c.in_ok-decide.ensures.parts;
       left = omega (arith, less);
@@ -86,8 +83,8 @@ loop-budget-preserved-then-budget-due g c =
 
 pub loop-budget-preserved : goal.loop-budget-preserved
 loop-budget-preserved g c =
-    let back = walks_back c.args.problem.now.ops.now (start c.args.word) (position_of c.loop-budget.state) c.pop.new.self.items c.in-Some.step
-    (subst (λ (path : List Step). Walks c.args.problem.now.ops.now (start c.args.word) path (position_of c.loop-budget.state)) c.in-Some.ensures.items c.loop-budget.invariant.walks) in
+    let back = walks_back c.args.problem.now.ops.now (position_of c.args.from.now) (position_of c.loop-budget.state) c.pop.new.self.items c.in-Some.step
+    (subst (λ (path : List Step). Walks c.args.problem.now.ops.now (position_of c.args.from.now) path (position_of c.loop-budget.state)) c.in-Some.ensures.items c.loop-budget.invariant.walks) in
     let dead = subst (λ (choice : Choice). IfDead choice (AllDead c.args.problem.now.ops.now c.args.problem.now.final_word c.loop-budget.dead → IsDead c.args.problem.now.ops.now c.args.problem.now.final_word (position_of c.loop-budget.state)))
     c.in-Dead.is c.in_ok-decide.ensures.dead in
     let before = tried_back c.args.problem.now.ops.now c.args.problem.now.final_word c.pop.new.self.items c.in-Some.step
@@ -107,11 +104,18 @@ loop-budget-preserved g c =
 
 pub returns-in-None-clause-nothing : goal.returns-in-None-clause-nothing
 unfolding Walks
-returns-in-None-clause-nothing g c order finishes =
+returns-in-None-clause-nothing g c ends =
     let empty : c.loop-budget.path.items ≡ [] =
     c.in-None.ensures.items ∙ append-nil c.pop.new.self.items ∙ c.in-None.ensures.rest ∙ ap (λ n. take (n - 1) c.loop-budget.path.items) c.in-None.ensures.cases.0 in
-    let here : start c.args.word ≡ position_of c.loop-budget.state =
-    subst (λ (path : List Step). Walks c.args.problem.now.ops.now (start c.args.word) path (position_of c.loop-budget.state)) empty c.loop-budget.invariant.walks in
+    let here : position_of c.args.from.now ≡ position_of c.loop-budget.state =
+    subst (λ (path : List Step). Walks c.args.problem.now.ops.now (position_of c.args.from.now) path (position_of c.loop-budget.state)) empty c.loop-budget.invariant.walks in
     let dead = subst (λ (choice : Choice). IfDead choice (AllDead c.args.problem.now.ops.now c.args.problem.now.final_word c.loop-budget.dead → IsDead c.args.problem.now.ops.now c.args.problem.now.final_word (position_of c.loop-budget.state)))
     c.in-Dead.is c.in_ok-decide.ensures.dead in
-    subst (IsDead c.args.problem.now.ops.now c.args.problem.now.final_word) (sym here) (dead c.loop-budget.invariant.dead) (order, at_start c.args.problem.now.ops.now c.args.word c.args.problem.now.final_word order finishes)
+    subst (IsDead c.args.problem.now.ops.now c.args.problem.now.final_word) (sym here) (dead c.loop-budget.invariant.dead) ends
+
+pub returns-in-None-clause-dead : goal.returns-in-None-clause-dead
+returns-in-None-clause-dead g c =
+    let dead = subst (λ (choice : Choice). IfDead choice (AllDead c.args.problem.now.ops.now c.args.problem.now.final_word c.loop-budget.dead → IsDead c.args.problem.now.ops.now c.args.problem.now.final_word (position_of c.loop-budget.state)))
+    c.in-Dead.is c.in_ok-decide.ensures.dead in
+    more_dead c.args.problem.now.ops.now c.args.problem.now.final_word c.loop-budget.dead c.add.new.states (position_of c.loop-budget.state) c.in_ok-add-in-Dead.ensures c.loop-budget.invariant.dead
+    (dead c.loop-budget.invariant.dead)

@@ -1,6 +1,6 @@
 -- no place is past the last operation
 use Rattle.std.proofs.Common.{◌-◌, ◌≤◌, length}
-use Rattle.chi_search.proofs.order.most_next.Given as goal
+use Rattle.chi_search.proofs.at_once.most_next.Given as goal
 
 abbrev pub invariant-loop-place : goal.invariant-loop-place
 invariant-loop-place l = l.past ≤ length l.ops
