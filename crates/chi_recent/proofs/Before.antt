@@ -1,5 +1,5 @@
 -- the last operations of a granule that had ended by a time, but one of them
-use Rattle.std.proofs.Common.{◌≡◌, ℕ, ◌+◌, ◌-◌, ◌<◌, ◌≤◌, Bool, true, cond, List, [], ◌∷◌, ◌++◌, All, append-nil, filter, get_or, length, length-drop, take, take-append-drop, lt-ltb, sym, ap, ap₂, subst, ◌∙◌, arith}
+use Rattle.std.proofs.Common.{◌≡◌, ℕ, ◌-◌, ◌<◌, ◌≤◌, Bool, true, cond, List, [], ◌∷◌, ◌++◌, All, append-nil, filter, get_or, length, length-drop, take, take-append-drop, lt-ltb, sym, ap, ap₂, subst, ◌∙◌, arith}
 use Rattle.std.specs.Prelude.{IsPermutation}
 use Rattle.std.specs.List.{AllPairs, Contains, remove}
 use Rattle.std.proofs.lemmas.Bool.{le-leb, lt-leb}

@@ -1,6 +1,5 @@
 -- operations that are kept: one more, and fewer
-use Rattle.std.proofs.Common.{◌≡◌, ℕ, ◌+◌, ◌-◌, ◌<◌, ◌≤◌, ◌↔◌, Bool, true, false, List, [], ◌∷◌, ◌++◌, All, IsTrue, get_or, get_or-drop, length, length-drop, take, drop, append_assoc, append-nil, refl, sym, ap, subst, ◌∙◌, arith, true≢false}
-use Rattle.std.specs.List.{Contains}
+use Rattle.std.proofs.Common.{◌≡◌, ℕ, ◌+◌, ◌-◌, ◌<◌, ◌≤◌, Bool, true, false, List, [], ◌∷◌, ◌++◌, All, IsTrue, get_or, get_or-drop, length, length-drop, take, drop, append_assoc, append-nil, refl, sym, ap, subst, ◌∙◌, arith, true≢false}
 use Rattle.std.proofs.lemmas.List.{get_or_default, take-append-drop}
 use Rattle.std.proofs.lemmas.List.Elements.{All-append, All-cons, All-drop, All-nil, All-push, All-take, All-weaker}
 use Rattle.chi_trace.specs.declared.operation.Operation.{Operation}
@@ -45,13 +44,9 @@ module _ (words : List ℕ) (told : List Operation) (now : ℕ) (r : RecentValue
   pub cut_kept : (time : ℕ) → r.since ≤ time + 1 → (IsTrue r.is_stopped → time < r.horizon) → cut time told ≡ k.earlier ++ cut time r.kept
   cut_kept time since before = ap (cut time) k.parts ∙ cut_parts time r.since k.earlier r.kept k.later since k.ended (late_after time before)
 
-  -- the words after what was known by the time before a horizon are those that what was told can leave by then
-  pub words_at : (horizon : ℕ) → r.is_stopped ≡ false → r.horizon < horizon → (each : List ℕ)
-      → ((ws : List ℕ) (ops : List Operation) → Follows ws ops r.before → (v : ℕ) → Contains each v ↔ SomeLeads (ops ++ cut (horizon - 1) r.kept) ws v)
-      → (v : ℕ) → Contains each v ↔ SomeLeads (cut (horizon - 1) told) words v
-  words_at horizon goes below each found v =
-      subst (λ (l : List Operation). Contains each v ↔ SomeLeads l words v)
-      (sym (cut_kept (horizon - 1) (omega (arith, k.since_by, below)) (λ so. absurd (true≢false (sym so ∙ goes))))) (found words k.earlier k.follows v)
+  -- what was told and had happened by the time before a horizon
+  pub cut_before : (horizon : ℕ) → r.is_stopped ≡ false → r.horizon < horizon → cut (horizon - 1) told ≡ k.earlier ++ cut (horizon - 1) r.kept
+  cut_before horizon goes below = cut_kept (horizon - 1) (omega (arith, k.since_by, below)) (λ so. absurd (true≢false (sym so ∙ goes)))
 
   -- the time goes on
   pub keeps_later : (next : ℕ) → now ≤ next → Keeps words told next r

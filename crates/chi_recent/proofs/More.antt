@@ -3,9 +3,11 @@ use Rattle.std.proofs.Common.{◌≡◌, ℕ, List, ◌∷◌, IfOk, arith}
 use Rattle.std.specs.Prelude.{Result, Ok, Err}
 use Rattle.std.proofs.lemmas.List.Elements.{All-head, All-tail, All-weaker}
 use Rattle.chi_trace.specs.declared.operation.Operation.{Operation}
+use Rattle.chi_search.specs.declared.order.Found.{Found}
+use Rattle.chi_search.specs.declared.order.Found.TheVariants.{Order, Nothing, Undecided as Neither}
 use Rattle.chi_search.specs.declared.words.Words.{Words}
 use Rattle.chi_search.specs.declared.words.Words.TheVariants.{Each, Unknown}
-use Rattle.chi_search.specs.Found.{IfUnknown, IfWords}
+use Rattle.chi_search.specs.Found.{IfNothing, IfOrder, IfUndecided as IfNeither, IfUnknown, IfWords}
 use Rattle.chi_search.specs.Frontiers.{CanBeTold, FrontierValue, MayBeTold}
 use Rattle.chi_recent.specs.declared.reach.Reach.{Reach}
 use Rattle.chi_recent.specs.declared.reach.Reach.TheVariants.{Whole, Stops, Undecided}
@@ -42,6 +44,22 @@ words_imply Unknown P Q implies is = tt
 pub unknown_implies : (found : Words) (A B : Type 0) → (A → B) → IfUnknown found A → IfUnknown found B
 unknown_implies (Each words) A B implies is = tt
 unknown_implies Unknown A B implies is = implies is
+
+-- what follows of an order, of there being none, and of neither
+pub order_implies : (found : Found) (A B : Type 0) → (A → B) → IfOrder found (λ order. A) → IfOrder found (λ order. B)
+order_implies (Order places) A B implies is = implies is
+order_implies Nothing A B implies is = tt
+order_implies Neither A B implies is = tt
+
+pub nothing_implies : (found : Found) (A B : Type 0) → (A → B) → IfNothing found A → IfNothing found B
+nothing_implies (Order places) A B implies is = tt
+nothing_implies Nothing A B implies is = implies is
+nothing_implies Neither A B implies is = tt
+
+pub neither_implies : (found : Found) (A B : Type 0) → (A → B) → IfNeither found A → IfNeither found B
+neither_implies (Order places) A B implies is = tt
+neither_implies Nothing A B implies is = tt
+neither_implies Neither A B implies is = implies is
 
 -- what follows of the words that were found
 pub ok_words_imply : {E : Type 0} (r : Result Words E) (P Q : List ℕ → Type 0) → ((each : List ℕ) → P each → Q each)

@@ -16,7 +16,7 @@ use Rattle.chi_search.specs.Frontiers.{Follows, FrontierValue}
 use Rattle.chi_search.specs.Layers.{SomeLeads}
 use Rattle.chi_verdict.proofs.Later.{later_explains, none_needed}
 use Rattle.chi_recent.specs.Reaches.{CanLeave, IsRecentOf, is_open_at}
-use Rattle.chi_recent.specs.Recent.{EndedBefore, EndedWithin, Keeps, RecentValue}
+use Rattle.chi_recent.specs.Recent.{EndedBefore, EndedWithin, GoesNowhere, GoesOn, Keeps, RecentValue}
 use Rattle.chi_recent.specs.Searches.{AreSeen, AreWordsBy, IsExplained, IsSeen, IsUnexplained, is_during}
 use Rattle.chi_recent.proofs.Cutting.{EndedBy, cut_whole}
 use Rattle.chi_recent.proofs.Keeping.{cut_kept, late_after}
@@ -63,6 +63,23 @@ module _ (law : GranulesStandAlone) (trace : List Operation) (g w : ℕ) (r : Re
     λ leads. leaves_from law trace is.told g w v is.moved (subst (λ (l : List Operation). SomeLeads l (w ∷ []) v) (sym (told_whole goes)) leads),
     λ can. subst (λ (l : List Operation). SomeLeads l (w ∷ []) v) (told_whole goes) (leads_from law trace is.told g w v is.moved can),
   )
+
+  -- up to a time at which the search goes on some order explains them, and where it goes nowhere none does
+  pub explained_by : (time : ℕ) → IsSeen r time → GoesOn r.before (cut time ops) → IsExplained time trace g w
+  explained_by time seen on =
+      let led = on (w ∷ []) k.earlier k.follows in
+      explained_from time trace g w led.0 ((words_seen time seen led.0).0 led.1)
+
+  pub unexplained_by : (time : ℕ) → IsSeen r time → GoesNowhere r.before (cut time ops) → IsExplained time trace g w → ⊥
+  unexplained_by time seen none explained =
+      let left = leaves_some time trace g w explained in
+      none (w ∷ []) k.earlier k.follows left.0 ((words_seen time seen left.0).1 left.1)
+
+  -- the same of all of them
+  pub leaves_all : r.is_stopped ≡ false → GoesOn r.before ops → (v : ℕ) × CanLeave trace g w v
+  leaves_all goes on =
+      let led = on (w ∷ []) k.earlier k.follows in
+      (led.0, (words_whole goes led.0).0 led.1)
 
   -- what holds of each that was told holds of each operation of the granule
   each_told : (P : Operation → Type 0) → All P is.told → (i : ℕ) → is_of trace g i ≡ true → P (at trace i)
@@ -378,10 +395,9 @@ last_before law r more count ops_is stopped within before first trace g w is =
     (stopped_last law trace g w r is stopped count) within before first
 
 -- and of all, where it has not
-pub last_of_all : GranulesStandAlone → (r : RecentValue) (more : List Operation) (count : ℕ) (words : List ℕ) → more ≡ r.kept → r.is_stopped ≡ false → count ≡ length more → length words ≡ 0
-    → ((trace : List Operation) (g w : ℕ) → IsRecentOf trace g w r → (v : ℕ) → Contains words v ↔ CanLeave trace g w v)
+pub last_of_all : GranulesStandAlone → (r : RecentValue) (more : List Operation) (count : ℕ) → more ≡ r.kept → r.is_stopped ≡ false → count ≡ length more → GoesNowhere r.before r.kept
     → (trace : List Operation) (g w : ℕ) → IsRecentOf trace g w r → (0 < count) × (IsExplained (at more (count - 1)).end trace g w → ⊥)
-last_of_all law r more count words ops_is goes count_is none each trace g w is =
+last_of_all law r more count ops_is goes count_is none trace g w is =
     subst (λ (n : ℕ). (0 < n) × (IsExplained (at more (n - 1)).end trace g w → ⊥)) (sym count_is)
     (subst (λ (ops : List Operation). (0 < length ops) × (IsExplained (at ops (length ops - 1)).end trace g w → ⊥)) (sym ops_is)
-    (whole_last law trace g w r is goes (λ v can. let there = (each trace g w is v).1 can in absurd (omega (arith, there.1, none)))))
+    (whole_last law trace g w r is goes (λ v can. none (w ∷ []) is.keeps.earlier is.keeps.follows v ((words_whole law trace g w r is goes v).1 can))))

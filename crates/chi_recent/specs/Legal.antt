@@ -1,14 +1,14 @@
 -- which answers of an operation would have been right
-use Rattle.std.specs.Prelude.{ℕ, List, ◌∷◌, ◌++◌, None, Some, IsPermutation, slice_set}
+use Rattle.std.specs.Prelude.{ℕ, List, ◌∷◌, None, Some, IsPermutation, slice_set}
 use Rattle.std.specs.List.{filter}
 use Rattle.chi_lanes.specs.declared.reply.Reply.{Reply}
-use Rattle.chi_search.specs.Frontiers.{Follows, FrontierValue}
-use Rattle.chi_search.specs.Layers.{SomeLeads}
+use Rattle.chi_search.specs.Frontiers.{FrontierValue}
 use Rattle.chi_trace.specs.AtPlaces.{is_in}
 use Rattle.chi_trace.specs.Cuts.{cut}
 use Rattle.chi_trace.specs.Explains.{at}
 use Rattle.chi_trace.specs.Granules.{ExplainsGranule}
 use Rattle.chi_trace.specs.declared.operation.Operation.{Operation}
+use Rattle.chi_recent.specs.Recent.{GoesOn}
 
 -- the operation, which was answered by this reply
 abbrev pub answered_by : Operation → Reply → Operation
@@ -21,7 +21,7 @@ with_reply ops i reply = slice_set ops i (answered_by (at ops i) reply)
 -- what the search follows, and then these operations, lead to some word by a time, where the one at a place was answered by this
 -- reply
 abbrev pub LeadsWith : FrontierValue → List Operation → ℕ → ℕ → Reply → Type 0
-LeadsWith f ops time i reply = (words : List ℕ) (told : List Operation) → Follows words told f → (v : ℕ) × SomeLeads (told ++ cut time (with_reply ops i reply)) words v
+LeadsWith f ops time i reply = GoesOn f (cut time (with_reply ops i reply))
 
 -- The operation is one of the granule's, of which these are the others. Had it been answered by this reply, some order would
 -- explain what had happened in the granule by the time.

@@ -18,6 +18,14 @@ pub record RecentValue : Type 0 where
   pub horizon : ℕ
   pub is_stopped : Bool
 
+-- what the search follows, and then these operations, lead to some word
+abbrev pub GoesOn : FrontierValue → List Operation → Type 0
+GoesOn f more = (words : List ℕ) (told : List Operation) → Follows words told f → (v : ℕ) × SomeLeads (told ++ more) words v
+
+-- they lead to none
+abbrev pub GoesNowhere : FrontierValue → List Operation → Type 0
+GoesNowhere f more = (words : List ℕ) (told : List Operation) → Follows words told f → (v : ℕ) → SomeLeads (told ++ more) words v → ⊥
+
 -- the operand lies within 2^52 bytes
 abbrev pub LiesWithin : Operation → Type 0
 LiesWithin op = op.access.addr + op.access.len ≤ 2 ^ 52

@@ -3,10 +3,10 @@
 ghost use Rattle.std.specs.Prelude.{◌≡◌, ◌<◌, All, IfOk, IsTrue, length};
 ghost use Rattle.chi_recent.specs.Legal.{LeadsWith, with_reply};
 
-use crate::search::words_by;
+use crate::search::order_by;
 use chi_fields::Access;
 use chi_lanes::{Reply, apply};
-use chi_search::{Frontier, NoProgress, Words};
+use chi_search::{Found, Frontier, NoProgress};
 use chi_trace::Operation;
 use std::alloc::{AllocError, Global};
 
@@ -54,9 +54,10 @@ fn is_legal(
     ensures { IfOk result (λ is. IsTrue is → LeadsWith before.now ops.now time place reply) }
 {
     let changed = with_reply(alloc, ops, place, reply)?;
-    match words_by(alloc, before, &changed, time, budget, &mut NoProgress)? {
-        Words::Each(words) => Ok(!words.is_empty()),
-        Words::Unknown => Ok(false),
+    match order_by(alloc, before, &changed, time, budget, &mut NoProgress)? {
+        Found::Order(_) => Ok(true),
+        Found::Nothing => Ok(false),
+        Found::Undecided => Ok(false),
     }
 }
 

@@ -6,35 +6,42 @@ ghost use Rattle.chi_search.specs.Found.{IfUnknown, IfWords};
 ghost use Rattle.chi_search.specs.Looks.{LookedAtLeast, LookedMore, LookedSome};
 ghost use Rattle.chi_trace.specs.Explains.{at};
 ghost use Rattle.chi_trace.specs.declared.operation.Operation.{Operation};
+ghost use Rattle.chi_recent.specs.Recent.{GoesOn};
 ghost use Rattle.chi_recent.specs.Reaches.{AreLast, CanLeave, IfStops, IfUndecided, IfWhole, IsRecentOf, IsStop};
 ghost use Rattle.chi_recent.specs.Searches.{AreSeen, AreWordsBy, IsExplained, IsSeen, IsUnexplained};
 
 use crate::legal::legal_replies;
 use crate::reach::{Reach, Stop};
 use crate::recent::{Recent, ended_before};
-use crate::search::{words_after, words_by};
+use crate::search::{order_after, order_by, words_after, words_by};
 use crate::shown::{answered_at, before_at, open_at};
-use chi_search::{Progress, Words};
+use chi_search::{Found, Progress, Words};
 use chi_trace::Operation;
 use chi_trace::laws::granules_stand_alone;
 use std::alloc::{AllocError, Global};
 
 impl Recent {
-    /// Each word that all of them can leave, where the search has not stopped.
-    fn last_words<P: Progress>(
+    /// Each word that all of them can leave, which some order explains.
+    fn whole<P: Progress>(
         &self,
         alloc: Global,
         ops: &[Operation],
         budget: u64,
         progress: &mut P,
-    ) -> Result<Words, AllocError>
+    ) -> Result<Reach, AllocError>
         requires kept { ops.now ≡ self.now.kept }
-        ensures words { IfOk result (λ found. IfWords found (λ each. self.now.is_stopped ≡ false → (trace : List Operation) (g w : ℕ) → IsRecentOf trace g w self.now → (v : ℕ) → Contains each v ↔ CanLeave trace g w v)) }
-        ensures unknown { IfOk result (λ found. IfUnknown found ((trace : List Operation) (g w : ℕ) → IsRecentOf trace g w self.now → LookedMore P.looked progress.old progress.new budget)) }
+        requires goes_on { self.now.is_stopped ≡ false }
+        requires explained { GoesOn self.now.before self.now.kept }
+        ensures whole { IfOk result (λ reach. IfWhole reach (λ words. (trace : List Operation) (g w : ℕ) → IsRecentOf trace g w self.now → AreLast trace g w words)) }
+        ensures stops { IfOk result (λ reach. IfStops reach (λ stop. ⊥)) }
+        ensures undecided { IfOk result (λ reach. IfUndecided reach ((trace : List Operation) (g w : ℕ) → IsRecentOf trace g w self.now → LookedMore P.looked progress.old progress.new budget)) }
         ensures looked { IfOk result (λ _. LookedSome P.looked progress.old progress.new) }
     {
         granules_stand_alone();
-        words_after(alloc, &self.before, ops, budget, progress)
+        match words_after(alloc, &self.before, ops, budget, progress)? {
+            Words::Each(words) => Ok(Reach::Whole(words)),
+            Words::Unknown => Ok(Reach::Undecided),
+        }
     }
 
     /// Each word that they can leave by a time: of those that had started, with the replies of those that had ended.
@@ -69,9 +76,11 @@ impl Recent {
         ensures explained { IfOk result (λ is. is ≡ false → (trace : List Operation) (g w : ℕ) → IsRecentOf trace g w self.now → IsSeen self.now time → IsExplained time trace g w ⊎ LookedAtLeast P.looked progress.old progress.new budget) }
         ensures looked { IfOk result (λ _. LookedSome P.looked progress.old progress.new) }
     {
-        match self.words_at(alloc, ops, time, budget, progress)? {
-            Words::Each(words) => Ok(words.is_empty()),
-            Words::Unknown => Ok(false),
+        granules_stand_alone();
+        match order_by(alloc, &self.before, ops, time, budget, progress)? {
+            Found::Nothing => Ok(true),
+            Found::Order(_) => Ok(false),
+            Found::Undecided => Ok(false),
         }
     }
 
@@ -227,15 +236,10 @@ impl Recent {
             let count = ended_before(&ops, self.horizon);
             return self.stop_within(alloc, &ops, count, budget, progress);
         }
-        match self.last_words(alloc, &ops, budget, progress)? {
-            Words::Unknown => Ok(Reach::Undecided),
-            Words::Each(words) => {
-                if words.is_empty() {
-                    self.stop_within(alloc, &ops, ops.len(), budget, progress)
-                } else {
-                    Ok(Reach::Whole(words))
-                }
-            }
+        match order_after(alloc, &self.before, &ops, budget, progress)? {
+            Found::Order(_) => self.whole(alloc, &ops, budget, progress),
+            Found::Nothing => self.stop_within(alloc, &ops, ops.len(), budget, progress),
+            Found::Undecided => Ok(Reach::Undecided),
         }
     }
 }

@@ -6,9 +6,9 @@ ghost use Rattle.chi_trace.specs.declared.operation.Operation.{Operation};
 ghost use Rattle.chi_search.specs.Looks.{LookedSome};
 ghost use Rattle.chi_recent.specs.Recent.{CanBeKept, IsNextHorizon, Keeps};
 
-use crate::search::{told_after, words_by};
+use crate::search::{order_by, told_after};
 use crate::shown::last_with;
-use chi_search::{Frontier, Progress, Words};
+use chi_search::{Found, Frontier, Progress};
 use chi_trace::Operation;
 use std::alloc::{AllocError, Global};
 use std::marker::Model;
@@ -125,16 +125,14 @@ impl Recent {
         ensures looked { IfOk result (λ _. LookedSome P.looked progress.old progress.new) }
     {
         let ops = Vec::from_slice(alloc, &self.kept)?;
-        match words_by(alloc, &self.before, &ops, horizon - 1, budget, progress)? {
-            Words::Unknown => Ok(()),
-            Words::Each(words) => {
-                if words.as_slice().is_empty() {
-                    self.horizon = horizon;
-                    self.is_stopped = true;
-                    return Ok(());
-                }
-                self.go_on(alloc, &ops, horizon, budget, progress)
+        match order_by(alloc, &self.before, &ops, horizon - 1, budget, progress)? {
+            Found::Order(_) => self.go_on(alloc, &ops, horizon, budget, progress),
+            Found::Nothing => {
+                self.horizon = horizon;
+                self.is_stopped = true;
+                Ok(())
             }
+            Found::Undecided => Ok(()),
         }
     }
 
@@ -174,7 +172,8 @@ impl Recent {
     }
 
     /// Keeps fewer operations, where many are kept: no operation that is told later starts before the horizon. `budget` is how
-    /// many states may be looked at in each search.
+    /// many states may be looked at in each search. That is tried where twice as many are kept as before, and where that failed
+    /// once half as many more are.
     ///
     /// ```
     /// recent.settle(alloc, earliest_open_start, 1_000_000, &mut NoProgress)?;
@@ -193,8 +192,11 @@ impl Recent {
         if self.is_stopped || self.kept.len() < self.limit || horizon <= self.horizon {
             return Ok(());
         }
+        let kept = self.kept.len();
         self.look_at(alloc, horizon, budget, progress)?;
-        self.limit = self.kept.len().saturating_mul(2).max(FEW);
+        let left = self.kept.len();
+        let more = if left < kept { left } else { left / 2 };
+        self.limit = left.saturating_add(more).max(FEW);
         Ok(())
     }
 }

@@ -2,16 +2,16 @@
 
 ghost use Rattle.std.specs.Prelude.{◌≡◌, ◌+◌, ◌-◌, ◌≤◌, ◌<◌, ◌⊎◌, ℕ, ◌++◌, ◌↔◌, List, All, None, IfOk, IfSome, length, take};
 ghost use Rattle.std.specs.List.{Contains};
-ghost use Rattle.chi_search.specs.Found.{IfUnknown, IfWords};
+ghost use Rattle.chi_search.specs.Found.{IfNothing, IfOrder, IfUndecided, IfUnknown, IfWords};
 ghost use Rattle.chi_search.specs.Frontiers.{Follows, MayBeTold};
 ghost use Rattle.chi_search.specs.Layers.{SomeLeads};
 ghost use Rattle.chi_search.specs.Looks.{LookedMore, LookedSome};
 ghost use Rattle.chi_trace.specs.Cuts.{cut};
 ghost use Rattle.chi_trace.specs.Explains.{at};
 ghost use Rattle.chi_trace.specs.declared.operation.Operation.{Operation};
-ghost use Rattle.chi_recent.specs.Recent.{LiesWithin};
+ghost use Rattle.chi_recent.specs.Recent.{GoesNowhere, GoesOn, LiesWithin};
 
-use chi_search::{Frontier, Progress, Words};
+use chi_search::{Found, Frontier, Progress, Words};
 use chi_trace::{Operation, cut};
 use std::alloc::{AllocError, Global};
 
@@ -71,4 +71,43 @@ pub(crate) fn words_by<P: Progress>(
 {
     let known = cut(alloc, more, time)?;
     words_after(alloc, before, &known, budget, progress)
+}
+
+/// Whether the search goes on to some word once more operations are told, one after the other: an order says that it does. It is
+/// undecided where the budget was spent, or one of them cannot be told next.
+pub(crate) fn order_after<P: Progress>(
+    alloc: Global,
+    before: &Frontier,
+    more: &[Operation],
+    budget: u64,
+    progress: &mut P,
+) -> Result<Found, AllocError>
+    ensures order { IfOk result (λ found. IfOrder found (λ order. GoesOn before.now more.now)) }
+    ensures nothing { IfOk result (λ found. IfNothing found (GoesNowhere before.now more.now)) }
+    ensures undecided { IfOk result (λ found. IfUndecided found (MayBeTold before.now more.now → All LiesWithin more.now → LookedMore P.looked progress.old progress.new budget)) }
+    ensures looked { IfOk result (λ _. LookedSome P.looked progress.old progress.new) }
+{
+    let mut left = budget;
+    match told_after(alloc, before, more)? {
+        Some(after) => after.order(alloc, None, &mut left, progress),
+        None => Ok(Found::Undecided),
+    }
+}
+
+/// The same by a time: of the operations that had started, with the replies of those that had ended.
+pub(crate) fn order_by<P: Progress>(
+    alloc: Global,
+    before: &Frontier,
+    more: &[Operation],
+    time: u64,
+    budget: u64,
+    progress: &mut P,
+) -> Result<Found, AllocError>
+    ensures order { IfOk result (λ found. IfOrder found (λ order. GoesOn before.now (cut time more.now))) }
+    ensures nothing { IfOk result (λ found. IfNothing found (GoesNowhere before.now (cut time more.now))) }
+    ensures undecided { IfOk result (λ found. IfUndecided found (MayBeTold before.now more.now → All LiesWithin more.now → LookedMore P.looked progress.old progress.new budget)) }
+    ensures looked { IfOk result (λ _. LookedSome P.looked progress.old progress.new) }
+{
+    let known = cut(alloc, more, time)?;
+    order_after(alloc, before, &known, budget, progress)
 }

@@ -1,32 +1,59 @@
--- with no word left no order explains them, and with one some order does
-use Rattle.std.proofs.Common.{◌≡◌, inl, inr, sym, subst, ◌∙◌, arith, eqb-true}
-use Rattle.std.proofs.lemmas.Bool.{eqb-false}
-use Rattle.chi_search.specs.declared.words.Words.{Words}
-use Rattle.chi_search.specs.Found.{IfUnknown, IfWords}
-use Rattle.chi_search.specs.Looks.{LookedMore}
+-- where the search goes nowhere no order explains them, and with an order some does
+use Rattle.std.proofs.Common.{◌≡◌, ◌⊎◌, ℕ, Bool, false, IfOk, IsTrue, List, inl, inr, sym, ap, subst, arith, true≢false}
+use Rattle.chi_search.specs.declared.order.Found.{Found}
+use Rattle.chi_search.specs.Found.{IfNothing, IfOrder, IfUndecided}
+use Rattle.chi_search.specs.Frontiers.{FrontierValue, MayBeTold}
+use Rattle.chi_search.specs.Looks.{LookedAtLeast, LookedMore}
+use Rattle.chi_trace.specs.Cuts.{cut}
 use Rattle.chi_trace.specs.declared.operation.Operation.{Operation}
-use Rattle.std.specs.Prelude.{ℕ, List}
+use Rattle.std.specs.Prelude.{All}
 use Rattle.chi_recent.specs.Reaches.{IsRecentOf}
-use Rattle.chi_recent.specs.Searches.{AreWordsBy}
-use Rattle.chi_recent.proofs.Leading.{explained_some, unexplained_none}
+use Rattle.chi_recent.specs.Recent.{GoesNowhere, GoesOn, LiesWithin, RecentValue}
+use Rattle.chi_recent.specs.Searches.{IsExplained, IsSeen}
+use Rattle.chi_recent.proofs.Reached.{explained_by, unexplained_by}
 use Rattle.chi_recent.proofs.recent.Recent.is_unexplained.Goals as goal
+use Rattle.chi_recent.proofs.recent.Recent.is_unexplained.Goals.{in-Nothing, in-Order, in-Undecided}
 
-pub returns-in-Each-clause-unexplained : goal.returns-in-Each-clause-unexplained
-returns-in-Each-clause-unexplained g c empty trace n w is seen =
-    let words = c.in-Each.words in
-    let each = subst (λ (f : Words). IfWords f (AreWordsBy c.args.self.now c.args.time)) c.in-Each.is c.in_ok-words.ensures.words in
-    unexplained_none c.args.time trace n w words.items (each seen trace n w is) (sym words.ok.0 ∙ eqb-true words.len 0 (sym c.is_empty.ensures ∙ empty))
+-- what is said where they are seen not to be explained, and where they are not seen to be so
+abbrev Unexplained : RecentValue → ℕ → Bool → Type 0
+Unexplained r time is = IsTrue is → (trace : List Operation) (n w : ℕ) → IsRecentOf trace n w r → IsSeen r time → IsExplained time trace n w → ⊥
 
-pub returns-in-Each-clause-explained : goal.returns-in-Each-clause-explained
-returns-in-Each-clause-explained g c filled trace n w is seen =
-    let words = c.in-Each.words in
-    let each = subst (λ (f : Words). IfWords f (AreWordsBy c.args.self.now c.args.time)) c.in-Each.is c.in_ok-words.ensures.words in
-    let some : words.len ≡ 0 → ⊥ = eqb-false words.len 0 (sym c.is_empty.ensures ∙ filled) in
-    let length_is = words.ok.0 in
-    inl (explained_some c.args.time trace n w words.items (each seen trace n w is) (omega (arith, some, length_is)))
+abbrev Explained : RecentValue → ℕ → Type 0 → Bool → Type 0
+Explained r time looked is = is ≡ false → (trace : List Operation) (n w : ℕ) → IsRecentOf trace n w r → IsSeen r time → IsExplained time trace n w ⊎ looked
 
-pub returns-in-Unknown-clause-explained : goal.returns-in-Unknown-clause-explained
-returns-in-Unknown-clause-explained g c same trace n w is seen =
-    let all = subst (λ (f : Words). IfUnknown f ((t : List Operation) (m u : ℕ) → IsRecentOf t m u c.args.self.now → LookedMore g.P.Progress.looked c.args.progress.now c.words_at.new.progress c.args.budget))
-    c.in-Unknown.is c.in_ok-words.ensures.unknown in
-    inr (c.args.budget, omega arith, all trace n w is)
+pub returns-clause-unexplained : goal.returns-clause-unexplained
+returns-clause-unexplained g c =
+    let r = c.args.self.now in
+    let P = Unexplained r c.args.time in
+    elim c.match-branch-2.branch [
+      | in-Nothing m ↦
+          let none = subst (λ (f : Found). IfNothing f (GoesNowhere c.self.inside.before (cut c.args.time c.args.ops.now))) m.in-Nothing.is c.in_ok-order_by.ensures.nothing in
+          subst (λ (o : _). IfOk o P) (sym m.result-is)
+          (λ so trace n w is seen. unexplained_by c.granules_stand_alone.ensures trace n w r is c.args.time seen
+          (subst (λ (f : FrontierValue). GoesNowhere f (cut c.args.time r.kept)) (ap (λ (v : RecentValue). v.before) c.self.view_is)
+          (subst (λ (ops : List Operation). GoesNowhere c.self.inside.before (cut c.args.time ops)) c.requires.kept none)))
+      | in-Order m ↦ subst (λ (o : _). IfOk o P) (sym m.result-is) (λ so. absurd (true≢false (sym so)))
+      | in-Undecided m ↦ subst (λ (o : _). IfOk o P) (sym m.result-is) (λ so. absurd (true≢false (sym so)))
+    ]
+
+pub returns-clause-explained : goal.returns-clause-explained
+returns-clause-explained g c =
+    let r = c.args.self.now in
+    let more = LookedMore g.P.Progress.looked c.args.progress.now c.order_by.new.progress c.args.budget in
+    let P = Explained r c.args.time (LookedAtLeast g.P.Progress.looked c.args.progress.now c.order_by.new.progress c.args.budget) in
+    elim c.match-branch-2.branch [
+      | in-Nothing m ↦ subst (λ (o : _). IfOk o P) (sym m.result-is) (λ so. absurd (true≢false so))
+      | in-Order m ↦
+          let on = subst (λ (f : Found). IfOrder f (λ order. GoesOn c.self.inside.before (cut c.args.time c.args.ops.now))) m.in-Order.is c.in_ok-order_by.ensures.order in
+          subst (λ (o : _). IfOk o P) (sym m.result-is)
+          (λ so trace n w is seen. inl (explained_by c.granules_stand_alone.ensures trace n w r is c.args.time seen
+          (subst (λ (f : FrontierValue). GoesOn f (cut c.args.time r.kept)) (ap (λ (v : RecentValue). v.before) c.self.view_is)
+          (subst (λ (ops : List Operation). GoesOn c.self.inside.before (cut c.args.time ops)) c.requires.kept on))))
+      | in-Undecided m ↦
+          let said = subst (λ (f : Found). IfUndecided f (MayBeTold c.self.inside.before c.args.ops.now → All LiesWithin c.args.ops.now → more)) m.in-Undecided.is c.in_ok-order_by.ensures.undecided in
+          subst (λ (o : _). IfOk o P) (sym m.result-is)
+          (λ so trace n w is seen.
+          let next = subst (λ (ops : List Operation). MayBeTold r.before ops) (sym c.requires.kept) is.keeps.next in
+          let within = subst (All LiesWithin) (sym c.requires.kept) is.keeps.within in
+          inr (c.args.budget, omega arith, said (subst (λ (f : FrontierValue). MayBeTold f c.args.ops.now) (sym (ap (λ (v : RecentValue). v.before) c.self.view_is)) next) within))
+    ]
