@@ -14,7 +14,7 @@ use Rattle.clap.proofs.OnLiterals.{clap_on_literals}
 use Rattle.clap.proofs.WalkLemmas.{walk_stopped}
 use Rattle.chi_check.specs.OptionValues.{Finds, IsCover, IsExplain, IsNamed, IsNamedFirst, IsWatch}
 use Rattle.chi_check.specs.CommandLine.{IsArgumentsFault, IsTaken, program_app}
-use Rattle.chi_program.specs.FoundGranule.{BeginsWith}
+use Rattle.chi_program.specs.OptionValues.{BeginsWith}
 use Rattle.chi_program.proofs.CommandLemmas.{subcommand_found}
 use Rattle.chi_check.specs.declared.command.Task.{Task}
 use Rattle.chi_check.specs.declared.command.Task.TheVariants.{Explain, Watch, Cover}

@@ -11,7 +11,7 @@ use Rattle.chi_check.specs.CommandLine.{program_app}
 use Rattle.chi_check.specs.Cover.{paths_of}
 use Rattle.chi_check.specs.declared.options.CheckOptions.{CheckOptions}
 use Rattle.chi_check.specs.declared.options.CoverOptions.{CoverOptions}
-use Rattle.chi_program.specs.FoundGranule.{BeginsWith, IsNumberOr, IsNumberOrNone, has_word}
+use Rattle.chi_program.specs.OptionValues.{BeginsWith, IsNumberOr, IsNumberOrNone, has_word}
 
 -- in these arguments `clap` finds the subcommand of this name, and this of its options, by use or by default
 abbrev pub Finds : List Text → Text → List Row → Type 0

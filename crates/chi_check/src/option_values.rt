@@ -5,7 +5,7 @@ ghost use Rattle.std.specs.Option.{option_map};
 ghost use Rattle.clap.specs.Matches.{found_of};
 ghost use Rattle.clap.specs.Walk.{all_of, first_of, one_of, rows_of};
 ghost use Rattle.chi_check.specs.OptionValues.{HasCoverOptions};
-ghost use Rattle.chi_program.specs.FoundGranule.{IsNumberOr, IsNumberOrNone, has_word};
+ghost use Rattle.chi_program.specs.OptionValues.{IsNumberOr, IsNumberOrNone, has_word};
 
 use crate::options::{CheckOptions, CoverOptions};
 use chi_program::{is_switched, number_given, number_or, text_given};

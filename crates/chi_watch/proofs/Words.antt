@@ -1,7 +1,11 @@
--- sets of words
-use Rattle.std.proofs.Common.{ℕ, ◌<◌, List, [], ◌∷◌, length, arith, refl}
-use Rattle.std.specs.List.{Contains}
+-- the word that was told at the end
+use Rattle.std.proofs.Common.{◌≡◌, ℕ, Option, None, Some, IfSome, sym}
+use Rattle.chi_watch.specs.Followed.{IsWord}
 
-pub some_word : (words : List ℕ) → 0 < length words → (v : ℕ) × Contains words v
-some_word [] some = absurd (omega (arith, some))
-some_word (w ∷ words) some = (w, (0, omega arith, refl))
+pub as_told : (final_word : Option ℕ) (v : ℕ) → IfSome final_word (λ seen. v ≡ seen) → IsWord final_word v
+as_told None v is = tt
+as_told (Some w) v is = sym is
+
+pub as_seen : (final_word : Option ℕ) (v : ℕ) → IsWord final_word v → IfSome final_word (λ seen. v ≡ seen)
+as_seen None v is = tt
+as_seen (Some w) v is = sym is

@@ -21,7 +21,6 @@ pub(crate) fn close_ended<P: Progress>(
     granules: &mut BTreeMap<u64, Followed>,
     requests: &[Open],
     ended: &Option<Operation>,
-    budget: u64,
     progress: &mut P,
 ) -> Result<(), AllocError>
     ensures closed { IfOk result (λ _. IsClosedBy ended.now requests.now (get nat_cmp granules.old) (get nat_cmp granules.new)) }
@@ -31,5 +30,5 @@ pub(crate) fn close_ended<P: Progress>(
         return Ok(());
     };
     let horizon = earliest(requests, op.granule(), op.start);
-    close(alloc, granules, op, horizon, budget, progress)
+    close(alloc, granules, op, horizon, progress)
 }

@@ -49,7 +49,6 @@ fn close_open<P: Progress>(
     alloc: Global,
     granules: &mut BTreeMap<u64, Followed>,
     requests: &[Open],
-    budget: u64,
     progress: &mut P,
 ) -> Result<(), AllocError>
     ensures told { IfOk result (λ _. All (CanClose (get nat_cmp granules.old)) requests.now → (g : ℕ) → AreToldTo (filter (is_in g) (filter_map open_operation requests.now)) (get nat_cmp granules.old g) (get nat_cmp granules.new g)) }
@@ -57,7 +56,7 @@ fn close_open<P: Progress>(
 {
     for request in requests {
         if let Some(op) = request.operation() {
-            close(alloc, granules, &op, 0, budget, progress)?;
+            close(alloc, granules, &op, 0, progress)?;
         }
     }
     Ok(())
@@ -138,7 +137,7 @@ impl Watch {
         granules_explain();
         let mut granules = self.granules;
         let requests = self.outstanding.requests();
-        close_open(alloc, &mut granules, requests, budget, progress)?;
+        close_open(alloc, &mut granules, requests, progress)?;
         let listed = judge_all(alloc, &granules, budget, progress)?;
         let unexplained = each_found_at_end(
             alloc,

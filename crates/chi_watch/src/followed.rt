@@ -1,7 +1,6 @@
 //! One granule that is watched.
 
-ghost use Rattle.std.specs.Prelude.{◌≡◌, ℕ, [], ◌∷◌, ◌++◌, ◌≤◌, ◌⊎◌, ◌↔◌, List, None, false, IfOk, IfSome, IsTrue};
-ghost use Rattle.std.specs.List.{Contains};
+ghost use Rattle.std.specs.Prelude.{◌≡◌, ℕ, [], ◌∷◌, ◌++◌, ◌≤◌, ◌⊎◌, List, None, false, IfOk, IfSome, IsTrue};
 ghost use Rattle.chi_trace.specs.declared.operation.Operation.{Operation};
 ghost use Rattle.chi_search.specs.Frontiers.{CanBeTold, Follows};
 ghost use Rattle.chi_search.specs.Layers.{SomeLeads};
@@ -10,7 +9,7 @@ ghost use Rattle.chi_watch.specs.Changes.{CanEnd, IsTold, IsUntouched};
 ghost use Rattle.chi_watch.specs.Followed.{IfExplained, IfUndecided, IfUnexplained, IsMovedOn, IsWord};
 
 use chi_recent::Recent;
-use chi_search::{Frontier, Progress, Words};
+use chi_search::{Found, Frontier, Progress};
 use chi_trace::Operation;
 use std::alloc::{AllocError, Global};
 
@@ -36,6 +35,15 @@ pub enum Standing {
 /// How many operations a search keeps at least before it is moved on.
 const FEW: usize = 4;
 
+/// How many states may be looked at to forget operations, where few are kept.
+const STATES_TO_FORGET: u64 = 65_536;
+
+/// How many for each operation, where many are.
+const STATES_EACH: u64 = 256;
+
+/// From how many positions a search goes on at most.
+const MOST_POSITIONS: usize = 4096;
+
 /// A granule before its first request.
 pub(crate) fn untouched(alloc: Global, word: u64) -> Result<Followed, AllocError>
     ensures untouched { IfOk result (IsUntouched word) }
@@ -49,31 +57,38 @@ pub(crate) fn untouched(alloc: Global, word: u64) -> Result<Followed, AllocError
     })
 }
 
+/// How many states may be looked at to forget some of so many operations.
+fn states_to_forget(kept: usize) -> u64 {
+    (kept as u64)
+        .saturating_mul(STATES_EACH)
+        .max(STATES_TO_FORGET)
+}
+
 /// Moves the search of a granule on, where it keeps as many operations as it may. No operation to come starts before the
-/// horizon.
+/// horizon. Where that takes long, or the search would go on from many positions, it stays as it is, and keeps its operations.
 fn move_on<P: Progress>(
     alloc: Global,
     followed: &mut Followed,
     horizon: u64,
-    budget: u64,
     progress: &mut P,
 ) -> Result<(), AllocError>
     ensures moved { IfOk result (λ _. IsMovedOn followed.old horizon followed.new) }
     ensures looked { IfOk result (λ _. LookedSome P.looked progress.old progress.new) }
 {
-    if followed.frontier.kept() < followed.limit {
+    let kept = followed.frontier.kept();
+    if kept < followed.limit {
         return Ok(());
     }
-    let mut left = budget;
+    let mut left = states_to_forget(kept);
     match followed
         .frontier
         .advanced(alloc, horizon, &mut left, progress)?
     {
-        Some(frontier) => {
+        Some(frontier) if frontier.positions() <= MOST_POSITIONS => {
             followed.limit = frontier.kept().saturating_mul(2).max(FEW);
             followed.frontier = frontier;
         }
-        None => followed.limit = followed.limit.saturating_mul(2),
+        _ => followed.limit = kept.saturating_add(kept / 2).max(FEW),
     }
     Ok(())
 }
@@ -84,7 +99,6 @@ pub(crate) fn tell<P: Progress>(
     followed: &mut Followed,
     op: &Operation,
     horizon: u64,
-    budget: u64,
     progress: &mut P,
 ) -> Result<(), AllocError>
     ensures told { IfOk result (λ _. IsTrue followed.old.is_known → CanEnd horizon followed.old op.now → IsTold op.now horizon followed.old followed.new) }
@@ -93,23 +107,13 @@ pub(crate) fn tell<P: Progress>(
     ensures looked { IfOk result (λ _. LookedSome P.looked progress.old progress.new) }
 {
     if followed.is_known {
-        move_on(alloc, followed, horizon, budget, progress)?;
-        followed.recent.settle(alloc, horizon, budget, progress)?;
+        let states = states_to_forget(followed.frontier.kept());
+        move_on(alloc, followed, horizon, progress)?;
+        followed.recent.settle(alloc, horizon, states, progress)?;
         followed.frontier.add(op)?;
         followed.recent.add(op)?;
     }
     Ok(())
-}
-
-/// Whether one of the words is the final one, where that was told.
-fn fits(words: &[u64], final_word: Option<u64>) -> bool
-    ensures some { IsTrue result → (v : ℕ) × Contains words.now v × IsWord final_word v }
-    ensures none { result ≡ false → (v : ℕ) → Contains words.now v → IsWord final_word v → ⊥ }
-{
-    match final_word {
-        Some(word) => words.contains(&word),
-        None => words.len() > 0,
-    }
 }
 
 /// Whether the operations that were told can be explained, and leave the final word, where one was told. Undecided where so many
@@ -126,14 +130,12 @@ pub(crate) fn judge<P: Progress>(
     ensures looked { IfOk result (λ _. LookedSome P.looked progress.old progress.new) }
 {
     let mut left = budget;
-    match followed.frontier.words(alloc, &mut left, progress)? {
-        Words::Unknown => Ok(Standing::Undecided),
-        Words::Each(words) => {
-            if fits(&words, followed.final_word) {
-                Ok(Standing::Explained)
-            } else {
-                Ok(Standing::Unexplained)
-            }
-        }
+    match followed
+        .frontier
+        .order(alloc, followed.final_word, &mut left, progress)?
+    {
+        Found::Order(_) => Ok(Standing::Explained),
+        Found::Nothing => Ok(Standing::Unexplained),
+        Found::Undecided => Ok(Standing::Undecided),
     }
 }

@@ -37,7 +37,6 @@ pub(crate) fn close<P: Progress>(
     granules: &mut BTreeMap<u64, Followed>,
     op: &Operation,
     horizon: u64,
-    budget: u64,
     progress: &mut P,
 ) -> Result<(), AllocError>
     ensures told { IfOk result (λ _. HasOneMore op.now horizon (get nat_cmp granules.old) (get nat_cmp granules.new)) }
@@ -45,7 +44,7 @@ pub(crate) fn close<P: Progress>(
 {
     let granule = op.granule();
     match granules.get_mut(&granule) {
-        Some(followed) => tell(alloc, followed, op, horizon, budget, progress),
+        Some(followed) => tell(alloc, followed, op, horizon, progress),
         None => Ok(()),
     }
 }

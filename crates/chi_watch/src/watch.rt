@@ -193,7 +193,6 @@ impl Watch {
         &mut self,
         alloc: Global,
         event: &Event,
-        budget: u64,
         progress: &mut P,
     ) -> Result<(), WatchFault>
         ensures taken { IfOk result (λ _. (events : List Event) → HasTaken events self.old → HasTaken (events ++ event.now ∷ []) self.new) }
@@ -208,7 +207,6 @@ impl Watch {
             &mut self.granules,
             self.outstanding.requests(),
             &ended,
-            budget,
             progress,
         )?;
         update_granules(alloc, &mut self.granules, &event.kind)?;
@@ -240,7 +238,7 @@ impl Watch {
         ensures looked { IfOk result (λ _. LookedSome P.looked progress.old progress.new) }
     {
         let about = self.granule_about(event);
-        self.step(alloc, event, budget, progress)?;
+        self.step(alloc, event, progress)?;
         let Some(granule) = about else {
             return Ok(None);
         };

@@ -6,6 +6,7 @@ mod ending_tests;
 mod event_tests;
 mod fault_tests;
 mod home;
+mod hot_tests;
 mod reach_tests;
 mod stop;
 mod watch_tests;

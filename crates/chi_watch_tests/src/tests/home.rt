@@ -70,7 +70,12 @@ pub(crate) fn add(id: u64, value: u8) -> EventKind {
     request(id, 0x30, 4096, 0xff, value, true)
 }
 
-/// The completion of a write.
+/// An AtomicStore ADD of eight bytes at 4096.
+pub(crate) fn store_add(id: u64, value: u8) -> EventKind {
+    request(id, 0x28, 4096, 0xff, value, true)
+}
+
+/// The completion of a write or an AtomicStore.
 pub(crate) fn done(id: u64) -> EventKind {
     EventKind::Reply(Completion {
         id,
