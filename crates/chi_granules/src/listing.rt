@@ -49,5 +49,12 @@ pub fn judged_granules<P: Progress>(
     ensures granules { IfOk result (λ drawn. map (λ d. d.granule) drawn.items ≡ granule_numbers.now) }
 {
     let granules = granules_of(alloc, recorded.trace().operations())?;
-    judged_each(alloc, recorded, &granules, granule_numbers, budget, progress)
+    judged_each(
+        alloc,
+        recorded,
+        &granules,
+        granule_numbers,
+        budget,
+        progress,
+    )
 }

@@ -12,7 +12,10 @@ use serde_json::Value;
 /// The fields of a request that an object states, with no data: its byte enables and its lanes are 0. `number` says which part
 /// of the input the object is. The fields are read in the order `src`, `txn`, `op`, `size`, `addr`, `endian`.
 #[tactic(auto, unfolding(crate::specs::Requests::fields_of))]
-pub(crate) fn request_fields(number: u64, object: &Value) -> Result<RequestFields, MemberFault<Member>>
+pub(crate) fn request_fields(
+    number: u64,
+    object: &Value,
+) -> Result<RequestFields, MemberFault<Member>>
     ensures { result ≡ fields_of number (view object.now) }
 {
     let src = number_in(object, Member::Src, 65535)?;
@@ -37,7 +40,10 @@ pub(crate) fn request_fields(number: u64, object: &Value) -> Result<RequestField
 /// The request that an object states, with its data, or the first fault of its members: those of `request_fields`, and
 /// then `be` and `lanes`.
 #[tactic(auto, unfolding(crate::specs::Requests::stated_request))]
-pub(crate) fn request_with_data(number: u64, object: &Value) -> Result<RequestFields, MemberFault<Member>>
+pub(crate) fn request_with_data(
+    number: u64,
+    object: &Value,
+) -> Result<RequestFields, MemberFault<Member>>
     ensures { result ≡ stated_request number (view object.now) }
 {
     let fields = request_fields(number, object)?;

@@ -136,7 +136,15 @@ fn choose_within(
     }
     let end = ops[state.first].end;
     if tried <= state.first
-        && lacks_maker(problem, state, part.mask, end, u64::MAX, LOOKED_AT, FOLLOWED)
+        && lacks_maker(
+            problem,
+            state,
+            part.mask,
+            end,
+            u64::MAX,
+            LOOKED_AT,
+            FOLLOWED,
+        )
     {
         return Ok(Choice::Dead);
     }

@@ -59,7 +59,9 @@ fn search_each<P: Progress>(
         }
         let short = share.min(*budget);
         let mut left = short;
-        let found = search(alloc, problem, parts, &state, dead, span, &mut left, progress)?;
+        let found = search(
+            alloc, problem, parts, &state, dead, span, &mut left, progress,
+        )?;
         *budget -= short - left;
         match found {
             Found::Order(order) => return Ok(Found::Order(order)),
@@ -98,7 +100,9 @@ pub(crate) fn search_in_rounds<P: Progress>(
 {
     let mut share = u64::MAX;
     if count(from) > 1 {
-        share = (problem.ops.len() as u64).saturating_mul(FIRST_SHARE).max(1);
+        share = (problem.ops.len() as u64)
+            .saturating_mul(FIRST_SHARE)
+            .max(1);
     }
     while *budget > 0 {
         let found = search_each(

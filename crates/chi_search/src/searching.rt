@@ -91,7 +91,8 @@ pub(crate) fn search<P: Progress>(
     let mut due = budget.saturating_sub(span);
     while *budget > 0 {
         match decide(
-            alloc, problem, dead, parts, &state, tried, is_new, by_width, &mut next, budget, progress,
+            alloc, problem, dead, parts, &state, tried, is_new, by_width, &mut next, budget,
+            progress,
         )? {
             Choice::Ended => {
                 let order = taken(alloc, &path)?;

@@ -21,9 +21,15 @@ pub enum LinesFault {
     #[error("input could not be read")]
     Read,
     #[error("line {number} {fault}")]
-    Line { number: u64, fault: ObjectFault<Member> },
+    Line {
+        number: u64,
+        fault: ObjectFault<Member>,
+    },
     #[error("line {number} {fault}")]
-    Event { number: u64, fault: WatchFault },
+    Event {
+        number: u64,
+        fault: WatchFault,
+    },
     #[error("input has too many lines")]
     TooManyLines,
     #[error("no memory")]

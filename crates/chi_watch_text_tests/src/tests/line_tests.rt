@@ -4,8 +4,8 @@ use crate::tests::comparison::assert_same;
 use crate::tests::events::{
     FIVE, LAST, READ, STOPPING, WRITE, WRITE_AT_FOUR, ZERO, places, watched,
 };
-use chi_json::ObjectFault;
 use chi_events::EventFault;
+use chi_json::ObjectFault;
 use chi_reading::Member;
 use chi_watch::WatchFault;
 use chi_watch_text::{LinesFault, WatchVerdict};

@@ -2,9 +2,9 @@
 
 use crate::tests::comparison::assert_same;
 use crate::tests::events::{FIVE, LAST, READ, UNKNOWN, WRITE, WRITE_AT_FOUR, joined};
-use chi_json::ObjectFault;
 use chi_events::EventFault;
 use chi_fields::Refusal;
+use chi_json::ObjectFault;
 use chi_watch::WatchFault;
 use chi_watch_text::{LinesFault, OperationsTold, read_operations};
 use std::alloc::Global;
