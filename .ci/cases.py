@@ -3,6 +3,7 @@ faults (.ci/faults.c), and the count of their cases. CHICHECK names another chic
 
 import json
 import os
+import re
 import subprocess
 import sys
 import time
@@ -83,9 +84,9 @@ def faults_library(folder):
 
 def refuse_in_turn(case, preload, words, text, *files):
     """Refuses each block of memory in turn, and each from it on: the answer is as it was, or that there is no memory, for one of these
-    files where it is read."""
+    files where it is read, with what a watch had found by lines until then."""
     right = run(CHECKER, words, text)
-    faults = [(4, b"", f"chicheck: {it}no memory\n".encode()) for it in ["", *(f"{file}: " for file in files)]]
+    faults = [(4, out, f"chicheck: {it}no memory\n".encode()) for it in ["", *(f"{file}: " for file in files)] for out in found_by_lines(right[1])]
     for on in ["0", "1"]:
         for block in range(1, 100000):
             met = f"{preload}.met"
@@ -95,6 +96,11 @@ def refuse_in_turn(case, preload, words, text, *files):
                 break
             os.remove(met)
             told(f"{case}: block {block} refused: {found}", found in (right, *faults))
+
+
+def found_by_lines(answer):
+    """What a watch may have found by lines before a fault: nothing, or a front of its answer that ends with a granule."""
+    return [b"", *(answer[: it.end()] for it in re.finditer(rb"^  at line \d+\n", answer, re.M))]
 
 
 def fail_in_turn(preload, words, text):
@@ -111,8 +117,8 @@ def fail_in_turn(preload, words, text):
                 told(f"one byte a {call}", found == right and n > 100)
                 break
             os.remove(met)
-            wanted = (5, right[1][: n - 1] if call == "WRITE" else b"", f"chicheck: {fault}\n".encode())
-            told(f"{case}: {call} {n}: {found}", found == wanted)
+            outs = [right[1][: n - 1]] if call == "WRITE" else found_by_lines(right[1])
+            told(f"{case}: {call} {n}: {found}", found in [(5, out, f"chicheck: {fault}\n".encode()) for out in outs])
 
 
 def end(least):

@@ -5,8 +5,8 @@ import collections
 
 from memory import execute
 
-# The reply is None where it was not seen.
-Operation = collections.namedtuple("Operation", "request start end reply")
+# The reply is None where it was not seen. The number is that of the line that told the request.
+Operation = collections.namedtuple("Operation", "request start end reply number")
 MOST = 2**64 - 1
 
 
@@ -57,3 +57,14 @@ def first_unexplained(word, operations):
         if not is_explained(word, known_by(operations, time), None):
             return time
     return None
+
+
+def suspects_at(word, operations, time):
+    """The operations that were answered at a time without the answer of each of which what had happened by then can be explained,
+    in the order of their requests."""
+    return sorted((it for it in operations if is_suspect(word, operations, time, it)), key=lambda it: it.number)
+
+
+def is_suspect(word, operations, time, it):
+    unseen = [it._replace(reply=None) if other is it else other for other in operations]
+    return it.end == time and it.reply is not None and is_explained(word, known_by(unseen, time), None)

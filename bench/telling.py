@@ -2,7 +2,7 @@
 orders.py, and nothing is shared with the program."""
 
 from memory import READ, granule_of, name_of
-from orders import MOST, Operation, first_unexplained, is_explained, known_by, words_left
+from orders import MOST, Operation, first_unexplained, is_explained, known_by, suspects_at, words_left
 
 
 def operation_line(it):
@@ -22,25 +22,30 @@ def stop_lines(word, operations, final):
     time = first_unexplained(word, operations)
     if time is None:
         return [f"at the end: {final.hex()}", *word_lines(set(words_left(word, operations)))]
-    blamed = next(it for it in operations if it.end == time and it.reply is not None)
+    suspects = suspects_at(word, operations, time)
+    blamed = next(it for it in suspects + operations if it.end == time and it.reply is not None)
     before = word_lines(set(words_left(word, known_by(operations, time - 1)))) if time else []
     lines = [f"at {time}: {operation_line(blamed)}", *before]
-    for it in sorted((it for it in operations if it.start <= time <= it.end), key=lambda it: it.start):
+    for it in sorted((it for it in operations if it.start <= time <= it.end), key=lambda it: it.number):
         until = "on" if it.end == MOST else f"to {it.end}"
         lines.append(f"  open from {it.start} {until}: {operation_line(it)}")
-    return lines + ([f"  explained up to {time - 1}"] if time else [])
+    lines += [f"  explained up to {time - 1}"] if time else []
+    if len(suspects) > 1:
+        lines.append(f"  any one of these answers may be the wrong one: lines {' '.join(str(it.number) for it in suspects)}")
+    return lines
 
 
 class Told:
     """The granules as the lines up to some line tell them."""
 
     def __init__(self):
-        self.open, self.ended = {}, []
+        self.open, self.ended, self.line = {}, [], 0
         self.openings, self.finals = {}, {}
         self.granules, self.unknown = set(), set()
 
     def take(self, event):
         """Takes an event. Answers the granule whose last outstanding request went by it, if one's did."""
+        self.line += 1
         return getattr(self, f"take_{event['event']}")(event)
 
     def take_request(self, event):
@@ -48,7 +53,7 @@ class Told:
         has_data = "lanes" in request or request["op"] == READ
         request = {"be": 0, "lanes": "0" * 32} | request
         self.granules.add(granule_of(request))
-        self.open[event["id"]] = {"request": request, "start": event["time"], "has_data": has_data, "replies": []}
+        self.open[event["id"]] = {"request": request, "start": event["time"], "has_data": has_data, "replies": [], "line": self.line}
 
     def take_data(self, event):
         it = self.open[event["id"]]
@@ -65,7 +70,7 @@ class Told:
         it = self.open[event["id"]]
         if not it["has_data"] or not it["replies"]:
             return None
-        self.ended.append(Operation(it["request"], it["start"], event["time"], it["replies"][0]))
+        self.ended.append(Operation(it["request"], it["start"], event["time"], it["replies"][0], it["line"]))
         return self.go(event)
 
     def take_dropped(self, event):
@@ -90,7 +95,7 @@ class Told:
 
     def operations(self):
         """The operations that have ended, and those that are open, of which the data are told."""
-        return self.ended + [Operation(it["request"], it["start"], MOST, None) for it in self.open.values() if it["has_data"]]
+        return self.ended + [Operation(it["request"], it["start"], MOST, None, it["line"]) for it in self.open.values() if it["has_data"]]
 
     def of_granule(self, granule):
         """The granule's word at the opening, its operations, and its word at the end, where one was told."""
@@ -115,7 +120,7 @@ class Told:
         """The operations of the granules that are judged, or of one of them, as a trace of all addresses."""
         left_out = self.unknown if only is None else self.granules - {only}
         requests = []
-        for it in self.operations():
+        for it in sorted(self.operations(), key=lambda it: it.number):
             if granule_of(it.request) not in left_out:
                 end = {} if it.end == MOST and it.reply is None else {"end": it.end}
                 requests.append({**it.request, "start": it.start, **end, "reply": it.reply})
@@ -129,10 +134,12 @@ class Told:
 class Watched:
     """What has to be answered on events: `places` has the granules that are not explained, in the order in which they are
     found, each with the line, or None where that is at the end, and `stops` the lines that say how far each can be, and
-    `traces` its operations then as a trace. A granule is found once all events of a time are told."""
+    `traces` its operations then as a trace. A granule is found once all events of a time are told. While its requests are
+    outstanding it may be found, once it is known not to be explained: `busy` has the granules of which the program said so, each
+    with its line."""
 
-    def __init__(self, events, keeps_going):
-        self.told, self.places, self.stops, self.traces, self.quiet = Told(), {}, {}, {}, {}
+    def __init__(self, events, keeps_going, busy):
+        self.told, self.places, self.stops, self.traces, self.quiet, self.busy = Told(), {}, {}, {}, {}, busy
         time = 0
         for line, event in enumerate(events, 1):
             if event["time"] > time:
@@ -141,9 +148,10 @@ class Watched:
                     return
             time = event["time"]
             granule = self.told.take(event)
-            if self.is_new(granule) and not self.told.is_explained(granule):
-                self.quiet.pop(granule, None)
-                self.quiet[granule] = line
+            for it in [granule, *(it for it, at in busy.items() if at == line and it != granule)]:
+                if self.is_new(it) and not self.told.is_explained(it):
+                    self.quiet.pop(it, None)
+                    self.quiet[it] = line
         self.settle()
         if self.places and not keeps_going:
             return
@@ -155,10 +163,12 @@ class Watched:
         self.places[granule], self.stops[granule], self.traces[granule] = line, self.told.stop_lines(granule), self.told.trace(granule)
 
     def settle(self):
-        """Finds the granules that became quiet at a time, and are still so and unexplained once all of it is told."""
+        """Finds the granules that became quiet at a time, and are still so and unexplained once all of it is told; and those that were
+        found while they were busy."""
         outstanding = set(map(granule_of, self.told.outstanding()))
         for granule, line in self.quiet.items():
-            if self.is_new(granule) and granule not in outstanding and not self.told.is_explained(granule):
+            is_over = granule not in outstanding or self.busy.get(granule) == line
+            if self.is_new(granule) and is_over and not self.told.is_explained(granule):
                 self.find(granule, line)
         self.quiet = {}
 

@@ -32,6 +32,8 @@ REFUSED = 3
 LAST = "  the last operations of the granule"
 ROW = re.compile(r"  (?:  |> )(?:request|line) +(\d+) \|([ =#]*)\|(  +(\d+) .* requester (\d+) txn (\d+))")
 LEGAL = "    legal would be: "
+# How the line begins of the answers that may be the wrong one.
+SUSPECTS = "  any one of these answers may be the wrong one: "
 
 
 def lines_of(events):
@@ -90,6 +92,12 @@ def rows_by_granule(answer):
     return {int(it[:16], 16): rows_of(it.splitlines()) for it in parts}
 
 
+def lines_by_granule(answer):
+    """The line by which each granule was found that is not explained."""
+    parts = [(it[:16], re.search(r"^  at line (\d+)$", it, re.MULTILINE)) for it in answer.split("not explained: granule ")[1:]]
+    return {int(granule, 16): int(line[1]) for granule, line in parts if line}
+
+
 def is_told_there(row, events):
     """Whether the line whose number a row has told its request."""
     line, _, _, start, src, txn = row.groups()
@@ -98,11 +106,10 @@ def is_told_there(row, events):
 
 
 def stop_of(lines):
-    """The lines of where a granule stops being explained, whichever operation of that time is named, however many an order of
-    them has, and in whichever order those stand that were open."""
-    shown = [re.sub(r"^(at \d+): .*|^(  explained up to \d+) .*", r"\1\2", it) for it in lines]
-    still_open = [it for it in shown if it.startswith("  open from ")]
-    return [it for it in shown if it not in still_open] + sorted(still_open)
+    """The lines of where a granule stops being explained, however many operations an order has up to then, and whatever line of
+    the input told an answer that may be the wrong one."""
+    shown = [re.sub(r"^(  explained up to \d+) .*", r"\1", it) for it in lines]
+    return [it for it in shown if not it.startswith(SUSPECTS)]
 
 
 def is_same_stop(answer, granule, lines):
@@ -126,7 +133,8 @@ def disagreements(events):
     """What the program answers otherwise than it has to: the words, the answer, and the one that has to be."""
     found = []
     for words, keeps_going in [("watch", False), ("watch --keep-going", True)]:
-        watched, answer = Watched(events, keeps_going), run(words, lines_of(events))
+        answer = run(words, lines_of(events))
+        watched = Watched(events, keeps_going, lines_by_granule(answer[1]))
         status, wanted = watched.answer()
         lines = answer[1].splitlines()
         if answer[0] != status or not is_same(without_rows(lines), wanted.splitlines()):
@@ -177,7 +185,7 @@ def smallest(events):
 
 def outcomes(events):
     """How the mistakes of a history are found, for the counts."""
-    watched = Watched(events, True)
+    watched = Watched(events, True, {})
     return {"found at a line" if line else "found at the end" for line in watched.places.values()}
 
 

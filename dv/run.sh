@@ -47,7 +47,7 @@ pipe=$(mktemp -u)
 mkfifo "$pipe"
 trap 'rm -f "$pipe"' EXIT
 watch() { # the build, and plusargs: sets the statuses of both programs and the first line of the answer
-  timeout -k 5 120 $checker watch < "$pipe" > out/dv_answer &
+  timeout -k 5 120 $checker watch --require-end --require-quiet < "$pipe" > out/dv_answer &
   simulated=0
   $limited "out/dv_channels_$1/Vchi_channels_tb" "+events=$pipe" "+requests=$requests" "${@:2}" > out/dv_said 2>&1 || simulated=$?
   watched=0
@@ -71,7 +71,7 @@ for kind in 128 256 512 point; do
     for seed in $(seq "$seeds"); do
       watch $kind "+seed=$seed" "+mistake=$mistake"
       [ $watched = 0 ] || [ $watched = 1 ] || fail "$kind, seed $seed, mistake $mistake: chicheck ends with $watched"
-      [ $watched = 0 ] || found=$((found + 1))
+      [[ $answer != "not explained: "* ]] || found=$((found + 1))
       [ $simulated = 0 ] || stopped=$((stopped + 1))
     done
     [ $((16 * found)) -ge $((15 * seeds)) ] || fail "$kind: ${mistakes[mistake]} is found with $found of $seeds seeds"
@@ -79,8 +79,9 @@ for kind in 128 256 512 point; do
     echo "$kind: ${mistakes[mistake]} is found with $found of $seeds seeds, and stops the simulation with $stopped; with the last: $answer"
   done
   watch $kind +seed=1 +mistake=9
-  [ $watched = 0 ] && grep -q ' is open,' out/dv_said || fail "$kind: a request without an answer: $(cat out/dv_answer out/dv_said)"
-  echo "$kind: where a request is not answered the events are $answer; the first that is open: $(grep -m 1 ' is open,' out/dv_said)"
+  [ "$watched $answer $(grep '^required: ' out/dv_answer | cut -d , -f 1)" = "1 explained required: no request is outstanding" ] \
+    && grep -q ' is open,' out/dv_said || fail "$kind: a request without an answer: $(cat out/dv_answer out/dv_said)"
+  echo "$kind: where a request is not answered the events are $answer, and $(tail -n 1 out/dv_answer); the first that is open: $(grep -m 1 ' is open,' out/dv_said)"
 done
 
 # What the traffic of the bench covers: every bin but the one that a home of eight places cannot have.

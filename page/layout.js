@@ -15,10 +15,18 @@ function stepOf([place, before, after]) {
   return { place, before, after };
 }
 
+// What is blamed, by the places of its operations: in the data they stand by the numbers of their requests.
+function blameOf(blame, operations) {
+  if (blame === null) return null;
+  const places = new Map(operations.map((op, place) => [op.request, place]));
+  return { ...blame, place: places.get(blame.request), open: blame.open.map((request) => places.get(request)) };
+}
+
 // The trace that the data are.
 function traceOf(data) {
   const granules = data.granules.map((granule) => ({ ...granule, steps: granule.steps.map(stepOf) }));
-  return { blame: data.blame, granules, operations: data.operations.map(operationOf) };
+  const operations = data.operations.map(operationOf);
+  return { blame: blameOf(data.blame, operations), granules, operations };
 }
 
 // The address of the granule of an address: 16 hex digits, of which the last is 0 or 8.

@@ -23,13 +23,14 @@ IsUnexplainedIn r granule = (order : List ℕ) → IsExplainedIn r.trace r.final
 abbrev pub AreHeld : RecordedValue → ℕ → List ℕ → Type 0
 AreHeld r granule words = (order : List ℕ) → IsLegal r.trace order → (v : ℕ) → Contains words v ↔ CanHold r.trace granule v
 
--- the answer is right: its order explains the trace; or no order does, and what else it says holds; or what it says of the granule
+-- the answer is right: its order explains the trace; or no order does, and what else it says holds, with so many operations before
+-- the one that is blamed; or what it says of the granule
 -- that was not decided does
-abbrev pub IsAnswer : RecordedValue → Answer → Type 0
-IsAnswer r (Explained order) = IsExplained r.trace r.final_words order.items
-IsAnswer r (Blamed blame) = IsUnexplained r × IsBlame r.trace blame
-IsAnswer r (Unexplained granule words) = IsUnexplained r × IsUnexplainedIn r granule × IfWords words (AreHeld r granule)
-IsAnswer r (Undecided doubt) = IsDoubt r.trace doubt
+abbrev pub IsAnswer : RecordedValue → ℕ → Answer → Type 0
+IsAnswer r most (Explained order) = IsExplained r.trace r.final_words order.items
+IsAnswer r most (Blamed blame) = IsUnexplained r × IsBlame r.trace most blame
+IsAnswer r most (Unexplained granule words) = IsUnexplained r × IsUnexplainedIn r granule × IfWords words (AreHeld r granule)
+IsAnswer r most (Undecided doubt) = IsDoubt r.trace doubt
 
 -- P of what is said of a granule that was not decided
 abbrev pub IfUndecided : Answer → (Doubt → Type 0) → Type 0

@@ -51,22 +51,18 @@ until_text end = if end == 2 ^ 64 - 1 then codes " on: " else codes " to " ++ de
 unfoldable pub open_line : Operation → List ℕ
 open_line op = codes "  open from " ++ decimal op.start ++ until_text op.end ++ told_text op
 
--- the one at a place of the trace
-abbrev pub open_at : RecordedValue → ℕ → List ℕ
-open_at r i = open_line (at r.trace.operations i)
-
 -- the operation that ended at the time up to which they cannot be explained
 unfoldable pub blamed_line : ℕ → Operation → List ℕ
 blamed_line time op = codes "at " ++ decimal time ++ codes ": " ++ told_text op
 
--- the one at a place of the trace
-abbrev pub blamed_at : RecordedValue → ℕ → ℕ → List ℕ
-blamed_at r time i = blamed_line time (at r.trace.operations i)
+-- how many operations an order has, where that is told
+abbrev pub count_text : Option ℕ → List ℕ
+count_text None = []
+count_text (Some count) = codes " (operations: " ++ decimal count ++ codes ")"
 
 -- the time up to which they can, where there is one
-unfoldable pub explained_line : ℕ → ℕ → List ℕ
-explained_line time count =
-    if time == 0 then [] else codes "  explained up to " ++ decimal (time - 1) ++ codes " (operations: " ++ decimal count ++ codes ")\n"
+unfoldable pub explained_line : ℕ → Option ℕ → List ℕ
+explained_line time count = if time == 0 then [] else codes "  explained up to " ++ decimal (time - 1) ++ count_text count ++ codes "\n"
 
 -- the word that was observed at the end
 unfoldable pub end_line : ℕ → List ℕ

@@ -1,5 +1,5 @@
 -- the text of an answer
-use Rattle.std.specs.Prelude.{◌≡◌, ℕ, Bool, true, false, List, [], ◌∷◌, ◌++◌, flat_map, codes, vec_len, Option, None, Some}
+use Rattle.std.specs.Prelude.{◌≡◌, ℕ, Bool, true, false, List, [], ◌∷◌, ◌++◌, codes, vec_len, Option, None, Some}
 use Rattle.chi_search.specs.declared.words.Words.{Words}
 use Rattle.chi_search.specs.declared.words.Words.TheVariants.{Each, Unknown}
 use Rattle.chi_verdict.specs.declared.first.Blame.{Blame}
@@ -8,19 +8,13 @@ use Rattle.chi_reading.specs.TraceText.{RecordedValue}
 use Rattle.chi_answer.specs.declared.answer.Answer.{Answer}
 use Rattle.chi_answer.specs.declared.answer.Answer.TheVariants.{Explained, Blamed, Unexplained, Undecided}
 use Rattle.chi_answer.specs.DoubtLines.{doubt_text}
-use Rattle.chi_answer.specs.Lines.{blamed_at, end_line, explained_line, granule_line, open_at, word_lines}
+use Rattle.chi_answer.specs.Lines.{end_line, granule_line, word_lines}
+use Rattle.chi_answer.specs.Stops.{stop_text}
 use Rattle.chi_answer.specs.Witnesses.{IsWitness}
 
--- words that a granule can hold, where they were found
-abbrev pub found_words : Words → List ℕ
-found_words (Each words) = word_lines words.items
-found_words Unknown = []
-
 -- where the trace stops being explained
-abbrev pub blame_text : RecordedValue → Blame → List ℕ
-blame_text r blame =
-    granule_line blame.granule ++ (blamed_at r blame.time blame.op
-    ++ (found_words blame.words ++ (flat_map (open_at r) blame.overlapping.items ++ explained_line blame.time (vec_len blame.order))))
+abbrev pub blame_text : Blame → List ℕ
+blame_text blame = granule_line blame.granule ++ stop_text (Some (vec_len blame.order)) blame.stop
 
 -- the word that was observed at the end, and those that could have been there
 abbrev pub end_words : ℕ → List ℕ → List ℕ
@@ -37,6 +31,6 @@ end_text (Some final_word) (Each words) = end_words final_word words.items
 abbrev pub IsText : Bool → RecordedValue → Answer → List ℕ → Type 0
 IsText false r (Explained order) text = text ≡ codes "explained\n"
 IsText true r (Explained order) text = (witness : List ℕ) × IsWitness r order.items witness × (text ≡ codes "explained\n" ++ witness)
-IsText witness r (Blamed blame) text = text ≡ blame_text r blame
+IsText witness r (Blamed blame) text = text ≡ blame_text blame
 IsText witness r (Unexplained granule words) text = text ≡ granule_line granule ++ end_text (find_word r.final_words granule) words
 IsText witness r (Undecided doubt) text = text ≡ doubt_text doubt

@@ -31,17 +31,18 @@ fn unexplained<P: Progress>(
     alloc: Global,
     recorded: &Recorded,
     granule: u64,
+    shown: usize,
     budget: u64,
     progress: &mut P,
 ) -> Result<Answer, AllocError>
     requires trace { IsUnexplained recorded.now }
     requires granule { IsUnexplainedIn recorded.now granule }
-    ensures right { IfOk result (IsAnswer recorded.now) }
+    ensures right { IfOk result (IsAnswer recorded.now shown) }
     ensures decided { IfOk result (λ answer. IfUndecided answer (λ doubt. ⊥)) }
     ensures looked { IfOk result (λ _. (k : ℕ) × LookedMore P.looked progress.old progress.new k) }
 {
     let trace = recorded.trace();
-    if let First::At(blame) = first_unexplained(alloc, trace, budget, progress)? {
+    if let First::At(blame) = first_unexplained(alloc, trace, shown, budget, progress)? {
         return Ok(Answer::Blamed(blame));
     }
     let mut left = budget;
@@ -57,7 +58,7 @@ fn undecided<P: Progress>(
     budget: u64,
     progress: &mut P,
 ) -> Result<Answer, AllocError>
-    ensures right { IfOk result (IsAnswer recorded.now) }
+    ensures right { IfOk result (λ answer. (most : ℕ) → IsAnswer recorded.now most answer) }
     ensures undecided { IfOk result (λ answer. IfUndecided answer (λ doubt. doubt.states ≡ budget)) }
     ensures far { IfOk result (λ answer. IfUndecided answer (IsAsFar P.looked progress.old progress.new budget recorded.now.trace)) }
     ensures looked { IfOk result (λ _. (k : ℕ) × LookedMore P.looked progress.old progress.new k) }
@@ -67,18 +68,19 @@ fn undecided<P: Progress>(
 }
 
 /// Whether the trace can be explained, and what can be said of it, looking at no more than `budget` states of each granule at
-/// a time.
+/// a time. `shown` is how many operations are shown at most before the one that is blamed.
 ///
 /// ```
-/// let answer = answer_of(alloc, &recorded, 1_000_000, &mut NoProgress)?;
+/// let answer = answer_of(alloc, &recorded, 16, 1_000_000, &mut NoProgress)?;
 /// ```
 pub fn answer_of<P: Progress>(
     alloc: Global,
     recorded: &Recorded,
+    shown: usize,
     budget: u64,
     progress: &mut P,
 ) -> Result<Answer, AllocError>
-    ensures right { IfOk result (IsAnswer recorded.now) }
+    ensures right { IfOk result (IsAnswer recorded.now shown) }
     ensures undecided { IfOk result (λ answer. IfUndecided answer (λ doubt. doubt.states ≡ budget)) }
     ensures far { IfOk result (λ answer. IfUndecided answer (IsAsFar P.looked progress.old progress.new budget recorded.now.trace)) }
     ensures spent { IfOk result (LookedForAnswer P.looked progress.old progress.new) }
@@ -91,7 +93,9 @@ pub fn answer_of<P: Progress>(
         progress,
     )? {
         Verdict::Explained(order) => Ok(Answer::Explained { order }),
-        Verdict::Unexplained { granule } => unexplained(alloc, recorded, granule, budget, progress),
+        Verdict::Unexplained { granule } => unexplained(
+            alloc, recorded, granule, shown, budget, progress,
+        ),
         Verdict::Undecided { granule, states: _ } => undecided(
             alloc, recorded, granule, budget, progress,
         ),

@@ -2,13 +2,13 @@
 #![tactic(auto)]
 
 mod answer;
-mod blame_lines;
 mod doubt_lines;
 mod lines;
+mod stop_lines;
 mod text;
 mod witness;
 
 pub use answer::{Answer, answer_of};
-pub use blame_lines::{add_blamed, add_end, add_open};
-pub use lines::{add_granule, add_undecided, add_words};
-pub use text::{add_blame, answer_text};
+pub use lines::{add_granule, add_undecided};
+pub use stop_lines::add_stop;
+pub use text::{add_blame, add_words_at_end, answer_text};

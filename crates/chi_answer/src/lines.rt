@@ -124,12 +124,8 @@ fn add_more(to: &mut Vec<u8>, more: usize) -> Result<(), AllocError>
     add_parts(to, &[Text("  and "), Number(more as u64), Text(" more\n")])
 }
 
-/// Adds the lines of words that the granule can hold: of 16 at most, and how many more there are.
-///
-/// ```
-/// add_words(&mut text, &[1])?; //   the granule can hold 0100000000000000
-/// ```
-pub fn add_words(to: &mut Vec<u8>, words: &[u64]) -> Result<(), AllocError>
+/// The lines of words that the granule can hold: of 16 at most, and how many more there are.
+pub(crate) fn add_words(to: &mut Vec<u8>, words: &[u64]) -> Result<(), AllocError>
     ensures { OnOk result (to.new.items ≡ to.old.items ++ word_lines words.now) }
 {
     if words.len() <= 16 {

@@ -1,51 +1,47 @@
 //! The text of an answer.
 
-ghost use Rattle.std.specs.Prelude.{◌≡◌, ◌++◌, IfOk, OnOk};
-ghost use Rattle.chi_verdict.specs.Blames.{IsBlame};
+ghost use Rattle.std.specs.Prelude.{◌≡◌, ◌++◌, ℕ, IfOk, OnOk};
 ghost use Rattle.chi_answer.specs.Answers.{IsAnswer};
-ghost use Rattle.chi_answer.specs.Texts.{IsText, blame_text, end_text, found_words};
+ghost use Rattle.chi_answer.specs.Lines.{end_line};
+ghost use Rattle.chi_answer.specs.Texts.{IsText, blame_text, end_text};
 
 use crate::answer::Answer;
-use crate::blame_lines::{add_blamed_at, add_end, add_explained, add_overlapping};
 use crate::doubt_lines::add_doubt;
 use crate::lines::{add_granule, add_words};
+use crate::stop_lines::add_stop;
 use crate::witness::add_witness;
 use chi_reading::Recorded;
 use chi_search::Words;
-use chi_text::Part::Text;
+use chi_text::Part::{Text, Word};
 use chi_text::add_parts;
 use chi_verdict::Blame;
 use std::alloc::{AllocError, Global};
 
-/// The lines of words that a granule can hold, where they were found.
-fn add_found(to: &mut Vec<u8>, words: &Words) -> Result<(), AllocError>
-    ensures { OnOk result (to.new.items ≡ to.old.items ++ found_words words.now) }
+/// The line of the word that was observed at the end.
+fn add_end(to: &mut Vec<u8>, word: u64) -> Result<(), AllocError>
+    ensures { OnOk result (to.new.items ≡ to.old.items ++ end_line word) }
 {
-    match words {
-        Words::Each(words) => add_words(to, words),
-        Words::Unknown => Ok(()),
-    }
+    add_parts(to, &[Text("at the end: "), Word(word), Text("\n")])
 }
 
-/// Adds what is said of where a trace stops being explained: its granule, the operation that was answered then, the words that
-/// the granule can hold, the operations that were open, and up to when it is explained.
+/// Adds what is said of where a trace stops being explained: its granule, and where that one's operations do.
 ///
 /// ```
-/// add_blame(&mut text, &recorded, &blame)?; // not explained: granule 0000000000001008
+/// add_blame(&mut text, &blame)?; // not explained: granule 0000000000001008
 /// ```
-pub fn add_blame(to: &mut Vec<u8>, recorded: &Recorded, blame: &Blame) -> Result<(), AllocError>
-    requires { IsBlame recorded.now.trace blame.now }
-    ensures { OnOk result (to.new.items ≡ to.old.items ++ blame_text recorded.now blame.now) }
+pub fn add_blame(to: &mut Vec<u8>, blame: &Blame) -> Result<(), AllocError>
+    ensures { OnOk result (to.new.items ≡ to.old.items ++ blame_text blame.now) }
 {
     add_granule(to, blame.granule)?;
-    add_blamed_at(to, recorded, blame.time, blame.op)?;
-    add_found(to, &blame.words)?;
-    add_overlapping(to, recorded, &blame.overlapping)?;
-    add_explained(to, blame.time, blame.order.len())
+    add_stop(to, &blame.stop, Some(blame.order.len()))
 }
 
-/// The word that was observed at the end, and those that could have been there.
-fn add_words_at_end(
+/// Adds the word that was observed at the end, where one was, and those that could have been there, where they were found.
+///
+/// ```
+/// add_words_at_end(&mut text, Some(4), &Words::Each(words))?; // at the end: 0400000000000000
+/// ```
+pub fn add_words_at_end(
     to: &mut Vec<u8>,
     final_word: Option<u64>,
     words: &Words,
@@ -80,7 +76,7 @@ pub fn answer_text(
     answer: &Answer,
     witness: bool,
 ) -> Result<Vec<u8>, AllocError>
-    requires { IsAnswer recorded.now answer.now }
+    requires { (most : ℕ) × IsAnswer recorded.now most answer.now }
     ensures { IfOk result (λ text. IsText witness recorded.now answer.now text.items) }
 {
     let mut text = Vec::new(alloc);
@@ -91,7 +87,7 @@ pub fn answer_text(
                 add_witness(alloc, &mut text, recorded, order)?;
             }
         }
-        Answer::Blamed(blame) => add_blame(&mut text, recorded, blame)?,
+        Answer::Blamed(blame) => add_blame(&mut text, blame)?,
         Answer::Unexplained { granule, words } => {
             add_granule(&mut text, *granule)?;
             add_words_at_end(&mut text, recorded.final_words().get(*granule), words)?;

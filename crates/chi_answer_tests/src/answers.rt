@@ -9,7 +9,7 @@ use std::test::Fail;
 /// The text of the answer within so many states.
 pub(crate) fn text(alloc: Global, trace: &str, budget: u64, witness: bool) -> Result<String, Fail> {
     let recorded = read_trace(alloc, trace.as_bytes())?;
-    let answer = answer_of(alloc, &recorded, budget, &mut NoProgress)?;
+    let answer = answer_of(alloc, &recorded, 16, budget, &mut NoProgress)?;
     let text = answer_text(alloc, &recorded, &answer, witness)?;
     Ok(String::from_utf8(text)?)
 }

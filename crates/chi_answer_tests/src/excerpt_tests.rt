@@ -1,8 +1,10 @@
 //! The text of an excerpt, worked by hand.
 
 use crate::comparison::assert_same;
-use chi_excerpt::{Blamed, Excerpt, add_excerpt};
+use chi_excerpt::add_excerpt;
+use chi_judge::Stop;
 use chi_lanes::Reply;
+use chi_search::Words;
 use chi_trace::{Operation, RequestFields, access};
 use std::alloc::Global;
 use std::test::Fail;
@@ -44,7 +46,7 @@ fn writing() -> RequestFields {
 }
 
 // The first AtomicLoad answers 0, and so does the second, which is blamed: 1 would be legal. The write was open.
-fn lost_addition(alloc: Global) -> Result<Option<Excerpt>, Fail> {
+fn lost_addition(alloc: Global) -> Result<Option<Stop>, Fail> {
     let zero = Reply::CompData([0; 16]);
     let one = Reply::CompData([0, 0, 0, 0, 0, 0, 0, 0, 1, 0, 0, 0, 0, 0, 0, 0]);
     let (Some(first), Some(second), Some(third)) = (
@@ -54,13 +56,14 @@ fn lost_addition(alloc: Global) -> Result<Option<Excerpt>, Fail> {
     ) else {
         return Ok(None);
     };
-    Ok(Some(Excerpt {
+    Ok(Some(Stop {
+        time: 40,
+        op: second,
+        suspects: Vec::from_slice(alloc, &[second, first])?,
+        overlapping: Vec::from_slice(alloc, &[second, third])?,
+        words: Words::Unknown,
         before: Vec::from_slice(alloc, &[first])?,
-        blamed: Some(Blamed {
-            row: second,
-            legal: Vec::from_slice(alloc, &[one])?,
-        }),
-        open: Vec::from_slice(alloc, &[third])?,
+        legal: Vec::from_slice(alloc, &[one])?,
     }))
 }
 
@@ -70,16 +73,17 @@ const LOST_ADDITION: &str = "  the last operations of the granule, from time 0 t
   > request  2 |                             ###########|  30 to 40  AtomicLoad.ADD  +0 L8  sent 0100000000000000  returned 0000000000000000  requester 2 txn 1
     legal would be:  returned 0100000000000000
     request 17 |                                  ======|  35 on     WriteNoSnpPtl   +4 L4  sent 07--0900  no reply  requester 3 txn 4
+  any one of these answers may be the wrong one: requests 2 0
 ";
 
 #[test]
 fn a_lost_addition(rt: HostRuntime) -> Result<(), Fail> {
     let alloc = rt.alloc();
-    let Some(excerpt) = lost_addition(alloc)? else {
+    let Some(stop) = lost_addition(alloc)? else {
         return Err(Fail::new("a request is refused"));
     };
     let mut text = Vec::new(alloc);
-    add_excerpt(alloc, &mut text, "request ", &excerpt, 40)?;
+    add_excerpt(alloc, &mut text, "request", &stop)?;
     assert_same(&rt, text.as_slice(), LOST_ADDITION.as_bytes());
     Ok(())
 }

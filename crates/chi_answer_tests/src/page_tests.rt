@@ -1,9 +1,11 @@
 //! The data of a small page, worked by hand, and what of a trace reaches a page.
 
 use crate::comparison::assert_same;
+use chi_judge::Stop;
 use chi_page::{Drawn, Finding, add_page, are_of_trace};
 use chi_reading::read_trace;
 use chi_search::Words;
+use chi_trace::Operation;
 use chi_verdict::Blame;
 use std::alloc::{AllocError, Global};
 use std::test::Fail;
@@ -17,7 +19,7 @@ const LOST_UPDATE: &str = r#"{"image": [{"addr": 4104, "bytes": "000000000000000
     {"src": 3, "txn": 8, "op": 28, "size": 1, "addr": 4110, "endian": 1, "be": 49152,
      "lanes": "00000000000000000000000000000506", "start": 35}]}"#;
 
-const DATA: &str = r#"{"blame":{"granule":"0000000000001008","time":"40","place":1,"open":[1,
+const DATA: &str = r#"{"blame":{"granule":"0000000000001008","time":"40","request":0,"open":[0,
 2],"words":["0100000000000000",
 "0100000000000506"]},
 "granules":[{"granule":"0000000000001008","finding":"not explained","opening":"0000000000000000","final":null,"steps":[[0,"0000000000000000","0100000000000000"],
@@ -49,15 +51,23 @@ fn granules(alloc: Global) -> Result<Vec<Drawn>, AllocError> {
     Ok(granules)
 }
 
-// The second addition is blamed.
-fn blame(alloc: Global) -> Result<Blame, AllocError> {
+// The second addition is blamed, which is the first request of the text.
+fn blame(alloc: Global, ops: &[Operation]) -> Result<Blame, Fail> {
+    let [_, second, open] = ops else {
+        return Err(Fail::new("the trace has not three operations"));
+    };
     Ok(Blame {
         granule: 0x1008 / 8,
-        time: 40,
-        op: 1,
+        stop: Stop {
+            time: 40,
+            op: *second,
+            suspects: Vec::from_slice(alloc, &[*second])?,
+            overlapping: Vec::from_slice(alloc, &[*second, *open])?,
+            words: Words::Each(Vec::from_slice(alloc, &[1, 0x0605_0000_0000_0001])?),
+            before: Vec::new(alloc),
+            legal: Vec::new(alloc),
+        },
         order: Vec::from_slice(alloc, &[0, 2])?,
-        overlapping: Vec::from_slice(alloc, &[1, 2])?,
-        words: Words::Each(Vec::from_slice(alloc, &[1, 0x0605_0000_0000_0001])?),
     })
 }
 
@@ -69,7 +79,7 @@ fn data_of_a_lost_update(rt: HostRuntime) -> Result<(), Fail> {
     if !are_of_trace(&recorded, &granules) {
         return Err(Fail::new("the trace has fewer than three operations"));
     }
-    let blame = blame(alloc)?;
+    let blame = blame(alloc, recorded.trace().operations())?;
     let mut page = Vec::new(alloc);
     add_page(&mut page, &recorded, &granules, Some(&blame))?;
     let page = String::from_utf8(page)?;

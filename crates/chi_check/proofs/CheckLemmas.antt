@@ -6,8 +6,9 @@ use Rattle.chi_script.specs.declared.device.WriteFault.{WriteFault}
 use Rattle.chi_answer.specs.declared.answer.Answer.{Answer}
 use Rattle.chi_answer.specs.declared.answer.Answer.TheVariants.{Explained, Blamed, Unexplained, Undecided}
 use Rattle.chi_answer.specs.Answers.{IfUndecided, IsUnexplained}
-use Rattle.chi_excerpt.specs.declared.failure.Failure.{Failure}
-use Rattle.chi_excerpt.specs.Failures.{IsFailure, IsFailureText}
+use Rattle.chi_excerpt.specs.Failures.{failure_text}
+use Rattle.chi_verdict.specs.Blames.{IsBlame}
+use Rattle.chi_verdict.specs.declared.first.Blame.{Blame}
 use Rattle.chi_reading.specs.TraceText.{IsOf, RecordedValue, TextValue, trace_text}
 use Rattle.chi_check.specs.Check.{Answers, Outcome, judged, most_bytes}
 use Rattle.chi_check.specs.CheckStatus.{answer_status}
@@ -66,13 +67,8 @@ spent_where_undecided options (Blamed blame) count within spent is = cc
 spent_where_undecided options (Unexplained granule words) count within spent is = cc
 spent_where_undecided options (Undecided doubt) count within spent is = (doubt.states, within, spent)
 
--- two facts of one value
-pub both : {X E : Type 0} (r : Result X E) (P Q : X → Type 0) → IfOk r P → IfOk r Q → IfOk r (λ x. P x × Q x)
-both (Ok x) P Q p q = (p, q)
-both (Err e) P Q p q = tt
-
 -- where a trace stops being explained, the text of the failure is the one of a right answer, and so is its page
-pub blamed_right : (options : CheckOptions) (r : RecordedValue) (failure : Failure) (text page : List ℕ) → IsUnexplained r → IsFailure r failure → IsFailureText r options.around failure text
-    → IsPageAsked options r (Blamed failure.blame) page → IsReported options r 1 text page
-blamed_right options r failure text page unexplained is text_is page_is =
-    (Blamed failure.blame, record { right = (unexplained, is.blame); undecided = tt; text_is = (failure, is, refl, text_is) }, refl, page_is)
+pub blamed_right : (options : CheckOptions) (r : RecordedValue) (blame : Blame) (text page : List ℕ) → IsUnexplained r → IsBlame r.trace options.around blame → text ≡ failure_text r options.around blame
+    → IsPageAsked options r (Blamed blame) page → IsReported options r 1 text page
+blamed_right options r blame text page unexplained is text_is page_is =
+    (Blamed blame, record { right = (unexplained, is); undecided = tt; text_is = text_is }, refl, page_is)

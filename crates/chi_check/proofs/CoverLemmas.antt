@@ -19,7 +19,6 @@ use Rattle.chi_check.specs.declared.inputs.Counted.{Counted}
 use Rattle.chi_check.specs.declared.fault.CheckFault.{CheckFault}
 use Rattle.chi_check.specs.declared.fault.CheckFault.TheVariants.{File, Page, Write}
 use Rattle.chi_check.specs.declared.fault.SourceFault.{SourceFault}
-use Rattle.chi_check.specs.declared.fault.SourceFault.TheVariants as source_fault
 use Rattle.chi_check.specs.declared.options.CoverOptions.{CoverOptions}
 
 -- nothing was counted

@@ -9,12 +9,11 @@ use Rattle.chi_answer.specs.declared.answer.Answer.{Answer}
 use Rattle.chi_answer.specs.declared.answer.Answer.TheVariants.{Explained, Blamed, Unexplained, Undecided}
 use Rattle.chi_answer.specs.Answers.{IfUndecided, IsAnswer}
 use Rattle.chi_answer.specs.Texts.{IsText}
-use Rattle.chi_excerpt.specs.declared.failure.Failure.{Failure}
-use Rattle.chi_excerpt.specs.Failures.{IsFailure, IsFailureText}
+use Rattle.chi_excerpt.specs.Failures.{failure_text}
 use Rattle.chi_check.specs.CheckStatus.{answer_status}
 use Rattle.chi_check.specs.Limits.{IsWithin}
 use Rattle.chi_check.specs.declared.fault.CheckFault.{CheckFault}
-use Rattle.chi_check.specs.declared.fault.CheckFault.TheVariants.{Input, File, Page, Write}
+use Rattle.chi_check.specs.declared.fault.CheckFault.TheVariants.{Input, File, Page, Unfinished, Write}
 use Rattle.chi_check.specs.declared.fault.SourceFault.TheVariants as source_fault
 use Rattle.chi_check.specs.declared.options.CheckOptions.{CheckOptions}
 
@@ -31,14 +30,13 @@ judged (Some time) r = cut_at time r
 -- that is blamed too.
 abbrev pub IsWritten : CheckOptions → RecordedValue → Answer → List ℕ → Type 0
 IsWritten options r (Explained order) text = IsText options.witness r (Explained order) text
-IsWritten options r (Blamed blame) text =
-    (failure : Failure) × IsFailure r failure × (failure.blame ≡ blame) × IsFailureText r options.around failure text
+IsWritten options r (Blamed blame) text = text ≡ failure_text r options.around blame
 IsWritten options r (Unexplained granule words) text = IsText options.witness r (Unexplained granule words) text
 IsWritten options r (Undecided doubt) text = IsText options.witness r (Undecided doubt) text
 
 -- the answer is a right one of the trace, undecided only after as many states as may be looked at, and this is what is written of it
 pub record IsRight (options : CheckOptions) (r : RecordedValue) (answer : Answer) (text : List ℕ) : Type 0 where
-  pub right : IsAnswer r answer
+  pub right : IsAnswer r options.around answer
   pub undecided : IfUndecided answer (λ doubt. IsWithin options doubt.states)
   pub text_is : IsWritten options r answer text
 
@@ -62,12 +60,14 @@ Outcome options input old new (Err (Input (source_fault.Trace fault))) = fault �
 Outcome options input old new (Err (Input (source_fault.Events fault))) = ⊥
 Outcome options input old new (Err (File place fault)) = ⊥
 Outcome options input old new (Err Page) = Unit {0}
+Outcome options input old new (Err (Unfinished fault)) = ⊥
 Outcome options input old new (Err (Write fault)) = (answer : Answer) × (text : List ℕ) × Answers options input answer text × AppendsFront old new text
 
--- nothing is written where no answer was found
+-- nothing is written where no answer was found, nor a granule before a fault of the events
 abbrev pub KeepsUnanswered : Option (List ℕ) → Option (List ℕ) → Result ℕ CheckFault → Type 0
 KeepsUnanswered old new (Ok status) = Unit {0}
 KeepsUnanswered old new (Err (Write fault)) = Unit {0}
+KeepsUnanswered old new (Err (Unfinished fault)) = Unit {0}
 KeepsUnanswered old new (Err fault) = Keeps old new
 
 -- why an input was not read whole

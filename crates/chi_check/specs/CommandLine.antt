@@ -28,9 +28,15 @@ explain_app =
     with_rule (with_rule (with_rule (with_rule (with_rule (with_rule (with_rule (new_app (codes "explain")) (switch_rule (codes "witness"))) (number_rule (codes "until"))) around_rule) html_rule) budget_rule)
     (number_rule (codes "seconds"))) (number_rule (codes "memory"))
 
--- the task `watch`: it has a budget, and may be asked to keep going
+-- how many operations have to have ended is a whole number below 2^64, and 0 by default
+abbrev pub operations_rule : Rule
+operations_rule = number_rule_or (codes "require-operations") (codes "0")
+
+-- the task `watch`: it has a budget, may be asked to keep going, and may require the end, operations, quiet and judging
 abbrev pub watch_app : App
-watch_app = with_rule (with_rule (new_app (codes "watch")) budget_rule) (switch_rule (codes "keep-going"))
+watch_app =
+    with_rule (with_rule (with_rule (with_rule (with_rule (with_rule (new_app (codes "watch")) budget_rule) (switch_rule (codes "keep-going"))) (switch_rule (codes "require-end"))) operations_rule)
+    (switch_rule (codes "require-quiet"))) (switch_rule (codes "require-judged"))
 
 -- how many of a hundred bins have to have counted an operation is a whole number below 2^64, and 0 by default
 abbrev pub require_rule : Rule

@@ -7,6 +7,7 @@ use Rattle.clap.specs.Simple.{subcommand_of}
 use Rattle.chi_check.specs.declared.command.Task.{Task}
 use Rattle.chi_check.specs.declared.command.Task.TheVariants.{Explain, Watch, Cover}
 use Rattle.chi_watch_text.specs.declared.options.WatchOptions.{WatchOptions}
+use Rattle.chi_watch_text.specs.declared.required.Required.{Required}
 use Rattle.chi_check.specs.CommandLine.{program_app}
 use Rattle.chi_check.specs.Cover.{paths_of}
 use Rattle.chi_check.specs.declared.options.CheckOptions.{CheckOptions}
@@ -33,10 +34,18 @@ pub record HasExplainOptions (found : List Row) (options : CheckOptions) : Type 
   pub around : IsNumberOr 16 (one_of (codes "around") found) options.around
   pub html : option_map (λ s. s.now) options.html ≡ first_of (codes "html") found
 
--- and so are those of `watch`
+-- and so is what `watch` requires
+pub record HasRequired (found : List Row) (required : Required) : Type 0 where
+  pub end : required.end ≡ has_word found (codes "require-end") (codes "true")
+  pub operations : IsNumberOr 0 (one_of (codes "require-operations") found) required.operations
+  pub quiet : required.quiet ≡ has_word found (codes "require-quiet") (codes "true")
+  pub judged : required.judged ≡ has_word found (codes "require-judged") (codes "true")
+
+-- and its other options
 pub record HasWatchOptions (found : List Row) (options : WatchOptions) : Type 0 where
   pub keep_going : options.keep_going ≡ has_word found (codes "keep-going") (codes "true")
   pub budget : IsNumberOr 1000000 (one_of (codes "budget") found) options.budget
+  pub required : HasRequired found options.required
 
 -- and those of `cover`
 pub record HasCoverOptions (found : List Row) (options : CoverOptions) : Type 0 where

@@ -18,7 +18,7 @@ use crate::pages::Pages;
 use crate::progress_line::ShownProgress;
 use crate::search::{Searched, search};
 use chi_answer::{Answer, answer_text};
-use chi_excerpt::{failure_of, failure_text};
+use chi_excerpt::failure_text;
 use chi_json::{InputFault, read_input};
 use chi_reading::{Recorded, read_trace};
 use chi_script::write_bytes;
@@ -78,23 +78,20 @@ struct Report {
 }
 
 // What is reported of where a trace that no order explains stops being explained.
-fn blamed_report<P: Progress>(
+fn blamed_report(
     alloc: Global,
     recorded: &Recorded,
-    blame: Blame,
+    blame: &Blame,
     options: &CheckOptions<'_>,
     budget: u64,
-    progress: &mut P,
 ) -> Result<Report, AllocError>
     requires unexplained { IsUnexplained recorded.now }
-    requires blame { IsBlame recorded.now.trace blame }
+    requires blame { IsBlame recorded.now.trace options.now.around blame.now }
     ensures reported { IfOk result (λ report. IsReported options.now recorded.now report.status report.text.items report.page.items) }
     ensures status { IfOk result (λ report. report.status ≡ 1) }
-    ensures looked { IfOk result (λ _. LookedSome P.looked progress.old progress.new) }
 {
-    let failure = failure_of(alloc, recorded, blame, budget, progress)?;
-    let text = failure_text(alloc, recorded, &failure, options.around as usize)?;
-    let page = blamed_page_asked(alloc, recorded, &failure.blame, options, budget)?;
+    let text = failure_text(alloc, recorded, blame, options.around as usize)?;
+    let page = blamed_page_asked(alloc, recorded, blame, options, budget)?;
     Ok(Report {
         status: 1,
         text,
@@ -110,7 +107,7 @@ fn usual_report(
     options: &CheckOptions<'_>,
     budget: u64,
 ) -> Result<Report, AllocError>
-    requires { IsAnswer recorded.now answer.now }
+    requires { IsAnswer recorded.now options.now.around answer.now }
     ensures text { IfOk result (λ report. IsText options.now.witness recorded.now answer.now report.text.items) }
     ensures status { IfOk result (λ report. report.status ≡ answer_status answer.now) }
     ensures page { IfOk result (λ report. IfSome options.now.html (λ _. IsPage recorded.now None report.page.items)) }
@@ -125,22 +122,20 @@ fn usual_report(
 }
 
 // What is reported of an answer.
-fn report_of<P: Progress>(
+fn report_of(
     alloc: Global,
     recorded: &Recorded,
     searched: Searched,
     options: &CheckOptions<'_>,
-    progress: &mut P,
 ) -> Result<Report, AllocError>
-    requires right { IsAnswer recorded.now searched.answer }
+    requires right { IsAnswer recorded.now options.now.around searched.answer }
     requires undecided { IfUndecided searched.answer (λ doubt. IsWithin options.now doubt.states) }
     ensures reported { IfOk result (λ report. IsReported options.now recorded.now report.status report.text.items report.page.items) }
     ensures status { IfOk result (λ report. report.status ≡ answer_status searched.answer) }
-    ensures looked { IfOk result (λ _. LookedSome P.looked progress.old progress.new) }
 {
     let budget = searched.budget;
     match searched.answer {
-        Answer::Blamed(blame) => blamed_report(alloc, recorded, blame, options, budget, progress),
+        Answer::Blamed(blame) => blamed_report(alloc, recorded, &blame, options, budget),
         other => usual_report(alloc, recorded, &other, options, budget),
     }
 }
@@ -157,7 +152,7 @@ fn answered<P: ShownProgress, M: Meter>(
     ensures spent { IfOk result (λ report. LookedForStatus P.looked progress.old progress.new options.now report.status) }
 {
     let searched = search(alloc, recorded, options, progress, meter)?;
-    report_of(alloc, recorded, searched, options, progress)
+    report_of(alloc, recorded, searched, options)
 }
 
 // What is reported of what is judged of a trace, once what is shown of the progress is taken back.

@@ -51,8 +51,9 @@ a monitor tells them. `watch` reads them as they come (docs/EVENTS.md).
 `cover` writes a table of how many operations each bin counted, of a trace or of events on standard
 input, or of all the files that are named (docs/COVERAGE.md).
 
-Statuses: 0 explained, or covered as required; 1 not explained, or covered less; 2 command line
-refused; 3 trace or event refused; 4 no memory; 5 a read or a write failed; 6 undecided.";
+Statuses: 0 explained, or covered, and all that is required; 1 not explained, or less than is
+required; 2 command line refused; 3 trace or event refused; 4 no memory; 5 a read or a write
+failed; 6 undecided.";
 
 fn whole_command<'a>(alloc: Global) -> Result<Command<'a>, Error>
     ensures app { IfOk result (λ command. app_of command ≡ program_app) }

@@ -1,7 +1,7 @@
 //! Why a trace is not answered, and with which status.
 
 ghost use Rattle.std.specs.Prelude.{◌≡◌};
-ghost use Rattle.chi_check.specs.CheckStatus.{source_status, status_of};
+ghost use Rattle.chi_check.specs.CheckStatus.{lines_status, source_status, status_of};
 
 use chi_program::ProgramFault;
 use chi_reading::TraceFault;
@@ -35,6 +35,7 @@ pub enum SourceFault {
 /// - `Input`: there is nothing to write of the input, or of what the inputs hold together.
 /// - `File`: the file at this place among those that were named, counted from 0, was not counted. Up to here nothing is written.
 /// - `Page`: the page was not written whole. Up to here nothing else is written.
+/// - `Unfinished`: a line of events was refused, or not read. The granules that were found by then are written.
 /// - `Write`: the answer was not written whole.
 #[derive(Debug, Drop, Error)]
 pub enum CheckFault {
@@ -45,7 +46,20 @@ pub enum CheckFault {
     #[error("page could not be written")]
     Page,
     #[error(transparent)]
+    Unfinished(LinesFault),
+    #[error(transparent)]
     Write(WriteFault),
+}
+
+// The status of a fault of events.
+fn lines_status(fault: &LinesFault) -> u8
+    ensures { result ≡ lines_status fault.now }
+{
+    match fault {
+        LinesFault::Read => 5,
+        LinesFault::Memory => 4,
+        _ => 3,
+    }
 }
 
 // The status of a fault of an input.
@@ -58,9 +72,7 @@ fn source_status(fault: &SourceFault) -> u8
         SourceFault::Memory => 4,
         SourceFault::Trace(TraceFault::Memory) => 4,
         SourceFault::Trace(_) => 3,
-        SourceFault::Events(LinesFault::Read) => 5,
-        SourceFault::Events(LinesFault::Memory) => 4,
-        SourceFault::Events(_) => 3,
+        SourceFault::Events(fault) => lines_status(fault),
     }
 }
 
@@ -72,6 +84,7 @@ impl ProgramFault for CheckFault {
             CheckFault::Input(fault) => source_status(fault),
             CheckFault::File { place: _, fault } => source_status(fault),
             CheckFault::Page => 5,
+            CheckFault::Unfinished(fault) => lines_status(fault),
             CheckFault::Write(_) => 5,
         }
     }

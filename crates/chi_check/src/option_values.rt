@@ -4,12 +4,12 @@ ghost use Rattle.std.specs.Prelude.{◌≡◌, [], codes, map, unwrap_or, IfOk};
 ghost use Rattle.std.specs.Option.{option_map};
 ghost use Rattle.clap.specs.Matches.{found_of};
 ghost use Rattle.clap.specs.Walk.{all_of, first_of, one_of, rows_of};
-ghost use Rattle.chi_check.specs.OptionValues.{HasCoverOptions};
+ghost use Rattle.chi_check.specs.OptionValues.{HasCoverOptions, HasRequired, HasWatchOptions};
 ghost use Rattle.chi_program.specs.OptionValues.{IsNumberOr, IsNumberOrNone, has_word};
 
 use crate::options::{CheckOptions, CoverOptions};
 use chi_program::{is_switched, number_given, number_or, text_given};
-use chi_watch_text::WatchOptions;
+use chi_watch_text::{Required, WatchOptions};
 use clap::ArgMatches;
 use std::alloc::{AllocError, Global};
 
@@ -18,6 +18,9 @@ const BUDGET: u64 = 1_000_000;
 
 // How many operations are shown before the one that is blamed where no number is given.
 const AROUND: u64 = 16;
+
+// How many operations have to have ended where no number is given.
+const OPERATIONS: u64 = 0;
 
 // How many of a hundred bins have to have counted an operation where no number is given.
 const REQUIRE: u64 = 0;
@@ -50,14 +53,26 @@ pub(crate) fn explain_options<'a>(matches: &ArgMatches<'a>) -> CheckOptions<'a>
     }
 }
 
+// What `watch` was asked to require.
+fn required(matches: &ArgMatches<'_>) -> Required
+    ensures { HasRequired (rows_of (found_of matches.now)) result }
+{
+    Required {
+        end: is_switched(matches, "require-end"),
+        operations: number_or(matches, "require-operations", OPERATIONS),
+        quiet: is_switched(matches, "require-quiet"),
+        judged: is_switched(matches, "require-judged"),
+    }
+}
+
 /// The options that `watch` was given, or that stand in for them.
 pub(crate) fn watch_options(matches: &ArgMatches<'_>) -> WatchOptions
-    ensures budget { IsNumberOr 1000000 (one_of (codes "budget") (rows_of (found_of matches.now))) result.budget }
-    ensures keep_going { result.keep_going ≡ has_word (rows_of (found_of matches.now)) (codes "keep-going") (codes "true") }
+    ensures { HasWatchOptions (rows_of (found_of matches.now)) result }
 {
     WatchOptions {
         budget: number_or(matches, "budget", BUDGET),
         keep_going: is_switched(matches, "keep-going"),
+        required: required(matches),
     }
 }
 

@@ -37,7 +37,7 @@ fn search_within<P: Progress, M: Meter>(
     progress: &mut P,
     meter: &M,
 ) -> Result<Searched, AllocError>
-    ensures right { IfOk result (λ searched. IsAnswer recorded.now searched.answer) }
+    ensures right { IfOk result (λ searched. IsAnswer recorded.now options.now.around searched.answer) }
     ensures undecided { IfOk result (λ searched. IfUndecided searched.answer (λ doubt. doubt.states ≤ options.now.budget)) }
     ensures spent { IfOk result (λ searched. LookedForAnswer P.looked progress.old progress.new searched.answer) }
 {
@@ -45,7 +45,7 @@ fn search_within<P: Progress, M: Meter>(
     let mut before = first;
     let mut budget = options.budget.min(FIRST);
     for _ in 0..64 {
-        let answer = answer_of(alloc, recorded, budget, progress)?;
+        let answer = answer_of(alloc, recorded, options.around as usize, budget, progress)?;
         let now = meter.used();
         if is_decided(&answer)
             || budget >= options.budget
@@ -56,7 +56,7 @@ fn search_within<P: Progress, M: Meter>(
         before = now;
         budget = budget.saturating_mul(2).min(options.budget);
     }
-    let answer = answer_of(alloc, recorded, budget, progress)?;
+    let answer = answer_of(alloc, recorded, options.around as usize, budget, progress)?;
     Ok(Searched { answer, budget })
 }
 
@@ -68,14 +68,20 @@ pub(crate) fn search<P: Progress, M: Meter>(
     progress: &mut P,
     meter: &M,
 ) -> Result<Searched, AllocError>
-    ensures right { IfOk result (λ searched. IsAnswer recorded.now searched.answer) }
+    ensures right { IfOk result (λ searched. IsAnswer recorded.now options.now.around searched.answer) }
     ensures undecided { IfOk result (λ searched. IfUndecided searched.answer (λ doubt. IsWithin options.now doubt.states)) }
     ensures spent { IfOk result (λ searched. LookedForAnswer P.looked progress.old progress.new searched.answer) }
 {
     if options.seconds.is_some() || options.memory.is_some() {
         return search_within(alloc, recorded, options, progress, meter);
     }
-    let answer = answer_of(alloc, recorded, options.budget, progress)?;
+    let answer = answer_of(
+        alloc,
+        recorded,
+        options.around as usize,
+        options.budget,
+        progress,
+    )?;
     Ok(Searched {
         answer,
         budget: options.budget,

@@ -45,12 +45,32 @@ const EXPLAIN: [NamedOption<'static>; 7] = [
 ];
 
 // The options of `watch`.
-const WATCH: [NamedOption<'static>; 2] = [
+const WATCH: [NamedOption<'static>; 6] = [
     BUDGET,
     NamedOption {
         name: "keep-going",
         takes: Takes::Nothing,
         help: "Goes on after a granule that cannot be explained, and lists them all",
+    },
+    NamedOption {
+        name: "require-end",
+        takes: Takes::Nothing,
+        help: "Status 1 where the last line does not tell the end",
+    },
+    NamedOption {
+        name: "require-operations",
+        takes: Takes::NumberOr("N", "0"),
+        help: "Status 1 where fewer operations ended",
+    },
+    NamedOption {
+        name: "require-quiet",
+        takes: Takes::Nothing,
+        help: "Status 1 where a request is outstanding",
+    },
+    NamedOption {
+        name: "require-judged",
+        takes: Takes::Nothing,
+        help: "Status 1 where a granule is not judged",
     },
 ];
 

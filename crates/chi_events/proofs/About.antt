@@ -34,3 +34,4 @@ ends_about time before after op (event_kind.Refused id reason) takes = none_ende
 ends_about time before after op (event_kind.Word w) takes = none_ended before (event_kind.Word w) op takes.0
 ends_about time before after op (event_kind.Final w) takes = none_ended before (event_kind.Final w) op takes.0
 ends_about time before after op (event_kind.Unknown addr len) takes = none_ended before (event_kind.Unknown addr len) op takes.0
+ends_about time before after op event_kind.End takes = none_ended before event_kind.End op takes.0

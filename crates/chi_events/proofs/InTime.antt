@@ -7,7 +7,7 @@ use Rattle.chi_trace.specs.Explains.{IsOperation, IsTrace}
 use Rattle.chi_trace.specs.declared.operation.Operation.{Operation}
 use Rattle.chi_events.specs.declared.event.Event.{Event}
 use Rattle.chi_events.specs.declared.event.EventKind.{EventKind}
-use Rattle.chi_events.specs.declared.event.EventKind.TheVariants.{Request, Data, Reply, Dropped, Refused, Word, Final, Unknown}
+use Rattle.chi_events.specs.declared.event.EventKind.TheVariants.{Request, Data, Reply, Dropped, Refused, Word, Final, Unknown, End}
 use Rattle.chi_events.specs.declared.event.Requested.{Requested}
 use Rattle.chi_events.specs.Operations.{operation_of, operations}
 use Rattle.chi_trace.specs.RequestFields.{IsPacket}
@@ -36,6 +36,7 @@ requested_packet (Refused id reason) has = tt
 requested_packet (Word w) has = tt
 requested_packet (Final w) has = tt
 requested_packet (Unknown addr len) has = tt
+requested_packet End has = tt
 
 -- no operation starts before the first event
 start_after : (time : ℕ) (events : List Event) → All (λ e. time ≤ e.time) events → All (λ op. time ≤ op.start) (operations events)

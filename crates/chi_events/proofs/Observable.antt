@@ -13,7 +13,7 @@ use Rattle.chi_trace.specs.declared.request_fields.RequestFields.{RequestFields}
 use Rattle.chi_trace.proofs.Decided.{IsWithin, accessed}
 use Rattle.chi_events.specs.declared.event.Event.{Event}
 use Rattle.chi_events.specs.declared.event.EventKind.{EventKind}
-use Rattle.chi_events.specs.declared.event.EventKind.TheVariants.{Request, Data, Reply, Dropped, Refused, Word, Final, Unknown}
+use Rattle.chi_events.specs.declared.event.EventKind.TheVariants.{Request, Data, Reply, Dropped, Refused, Word, Final, Unknown, End}
 use Rattle.chi_events.specs.Operations.{AccessAt, DataAt, ReplyAt, access_told, data_at, data_told, decided_at, ended_at, is_dropped, is_whole, operation_of, reply_at, reply_told, with_packet}
 use Rattle.chi_trace.specs.RequestFields.{IsPacket}
 use Rattle.chi_events.specs.Outstanding.{HasPacket}
@@ -48,6 +48,7 @@ data_packet time (Refused id reason) has = tt
 data_packet time (Word w) has = tt
 data_packet time (Final w) has = tt
 data_packet time (Unknown addr len) has = tt
+data_packet time End has = tt
 
 told_packet : (t : RequestEvents) → IsTold t → IfSome (data_told t) (λ d. IsPacket d.packet.be d.packet.lanes)
 told_packet t is =
@@ -75,6 +76,7 @@ reply_time start time (Refused id reason) later = tt
 reply_time start time (Word w) later = tt
 reply_time start time (Final w) later = tt
 reply_time start time (Unknown addr len) later = tt
+reply_time start time End later = tt
 
 told_reply : (t : RequestEvents) → IsTold t → IfSome (reply_told t) (λ r. t.time ≤ r.time)
 told_reply t is =

@@ -89,3 +89,5 @@ module _ (events : List Event) (ended : List Operation) (o : OutstandingValue) (
   tells_more (event_kind.Unknown addr len) op after is_event fault takes =
       tell_none (event_kind.Unknown addr len) op after o.requests takes.0 takes.1
       (passed events ended o (record { time = time; kind = event_kind.Unknown addr len }) tells later is_event refl (λ id. refl))
+  tells_more event_kind.End op after is_event fault takes =
+      tell_none event_kind.End op after o.requests takes.0 takes.1 (passed events ended o (record { time = time; kind = event_kind.End }) tells later is_event refl (λ id. refl))

@@ -175,3 +175,4 @@ module _ (before : List Open) (first time : ℕ) (open_before : All (IsOpen firs
   stays_more (event_kind.Word w) op after takes = same_as (event_kind.Word w) op after takes.0 takes.1
   stays_more (event_kind.Final w) op after takes = same_as (event_kind.Final w) op after takes.0 takes.1
   stays_more (event_kind.Unknown addr len) op after takes = same_as (event_kind.Unknown addr len) op after takes.0 takes.1
+  stays_more event_kind.End op after takes = same_as event_kind.End op after takes.0 takes.1

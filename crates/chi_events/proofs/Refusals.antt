@@ -112,3 +112,5 @@ module _ (events : List Event) (ended : List Operation) (o : OutstandingValue) (
       let e : Event = record { time = time; kind = event_kind.Final w } in same e (ap (filter_map reason_of) (told_none e events refl (λ id. refl)))
   refusals_more time (event_kind.Unknown addr len) op after takes =
       let e : Event = record { time = time; kind = event_kind.Unknown addr len } in same e (ap (filter_map reason_of) (told_none e events refl (λ id. refl)))
+  refusals_more time event_kind.End op after takes =
+      let e : Event = record { time = time; kind = event_kind.End } in same e (ap (filter_map reason_of) (told_none e events refl (λ id. refl)))

@@ -67,3 +67,4 @@ Takes (event_kind.Refused id reason) time before ended after = Changes id (λ o.
 Takes (event_kind.Word w) time before ended after = (ended ≡ None) × (after ≡ before)
 Takes (event_kind.Final w) time before ended after = (ended ≡ None) × (after ≡ before)
 Takes (event_kind.Unknown addr len) time before ended after = (ended ≡ None) × (after ≡ before)
+Takes event_kind.End time before ended after = (ended ≡ None) × (after ≡ before)

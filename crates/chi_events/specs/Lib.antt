@@ -3,3 +3,4 @@ pub mod Operations
 pub mod Outstanding
 pub mod EventEffects
 pub mod EventLaws
+pub mod Ended

@@ -170,6 +170,7 @@ kind_fault requests (event_kind.Refused id reason) = refused_fault reason (open_
 kind_fault requests (event_kind.Word w) = None
 kind_fault requests (event_kind.Final w) = None
 kind_fault requests (event_kind.Unknown addr len) = None
+kind_fault requests event_kind.End = None
 
 -- why a home refused a request, where the event tells that it did
 abbrev pub refusal_by : List Open → EventKind → Option Refusal

@@ -2,7 +2,7 @@
 use Rattle.std.specs.Prelude.{ℕ, ◌==◌, ◌++◌, Bool, false, if◌then◌else◌, List, [], ◌∷◌, Option, Some, None}
 use Rattle.chi_events.specs.declared.event.Event.{Event}
 use Rattle.chi_events.specs.declared.event.EventKind.{EventKind}
-use Rattle.chi_events.specs.declared.event.EventKind.TheVariants.{Request, Data, Reply, Dropped, Refused, Word, Final, Unknown}
+use Rattle.chi_events.specs.declared.event.EventKind.TheVariants.{Request, Data, Reply, Dropped, Refused, Word, Final, Unknown, End}
 use Rattle.chi_events.specs.declared.event.Requested.{Requested}
 
 -- the request that was taken, where one was
@@ -15,6 +15,7 @@ requested (Refused id reason) = None
 requested (Word w) = None
 requested (Final w) = None
 requested (Unknown addr len) = None
+requested End = None
 
 abbrev pub has_number : ℕ → Option Requested → Bool
 has_number id None = false
@@ -34,6 +35,7 @@ kind_is_about id (Refused other reason) = other == id
 kind_is_about id (Word w) = false
 kind_is_about id (Final w) = false
 kind_is_about id (Unknown addr len) = false
+kind_is_about id End = false
 
 abbrev pub is_about : ℕ → Event → Bool
 is_about id e = kind_is_about id e.kind

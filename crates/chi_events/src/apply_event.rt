@@ -206,6 +206,8 @@ pub(crate) fn apply_event(
             requests.remove(place);
             Ok(None)
         }
-        EventKind::Word(_) | EventKind::Final(_) | EventKind::Unknown { .. } => Ok(None),
+        EventKind::Word(_) | EventKind::Final(_) | EventKind::Unknown { .. } | EventKind::End => {
+            Ok(None)
+        }
     }
 }

@@ -40,6 +40,7 @@ pub struct Completion {
 /// - `Word`: the word of a granule before its first request.
 /// - `Final`: the word of a granule after its last request.
 /// - `Unknown`: something that these events do not tell may have written the `length` bytes from `addr` on.
+/// - `End`: the monitor tells nothing more. It changes nothing of what is told.
 #[derive(Clone, Copy, Debug)]
 pub enum EventKind {
     Request(Requested),
@@ -50,6 +51,7 @@ pub enum EventKind {
     Word(GranuleWord),
     Final(GranuleWord),
     Unknown { addr: u64, length: u64 },
+    End,
 }
 
 /// An event, and when it was seen: a count of one clock, of which only the order is looked at. A monitor tells events in the

@@ -1,17 +1,14 @@
 -- the places that a failure names are places of the trace
-use Rattle.std.proofs.Common.{◌≡◌, ℕ, ◌<◌, ◌==◌, Bool, true, false, cond, List, [], ◌∷◌, ◌++◌, All, IfSome, length, get_or, slice_get, ltb-true, refl, ap, ◌∙◌, append_assoc}
-use Rattle.std.proofs.lemmas.List.Elements.{All-cons, All-head, All-nil}
+use Rattle.std.proofs.Common.{◌≡◌, ℕ, ◌<◌, ◌==◌, Bool, true, false, cond, List, [], ◌∷◌, ◌++◌, All, length, get_or, ltb-true, refl, ap, ◌∙◌, append_assoc}
+use Rattle.std.proofs.lemmas.List.Elements.{All-cons, All-nil}
 use Rattle.std.proofs.lemmas.Bool.{and_parts}
 use Rattle.chi_trace.specs.declared.operation.Operation.{Operation}
 use Rattle.std.specs.List.{filter}
 use Rattle.chi_trace.specs.Explains.{at, is_place}
 use Rattle.chi_trace.specs.Granules.{granule_of, is_of}
-use Rattle.chi_verdict.specs.declared.first.Blame.{Blame}
-use Rattle.chi_verdict.specs.Blames.{IsBlame}
 use Rattle.chi_trace.specs.Traces.{TraceValue}
 use Rattle.chi_reading.specs.TraceText.{RecordedValue}
-use Rattle.chi_excerpt.specs.Failures.{first_or, order_in}
-use Rattle.chi_excerpt.specs.Suspects.{IsSuspect}
+use Rattle.chi_excerpt.specs.Failures.{order_in}
 
 -- an operation of a granule is one of the trace
 pub place_of : (ops : List Operation) (g i : ℕ) → is_of ops g i ≡ true → i < length ops
@@ -21,19 +18,6 @@ place_of ops g i is =
 
 pub granule_places : (t : TraceValue) (g : ℕ) (places : List ℕ) → All (λ i. is_of t.operations g i ≡ true) places → All (λ i. i < length t.operations) places
 granule_places t g places all = λ k d below. place_of t.operations g (get_or places k d) (all k d below)
-
--- a suspect may be blamed instead
-pub suspect_blamed : (t : TraceValue) (blame : Blame) (i : ℕ) → IsBlame t blame → IsSuspect t blame.granule blame.time i → IsBlame t (record blame { op = i })
-suspect_blamed t blame i is suspect = assumption (is, suspect)
-
--- so may the first of some, or the one that is blamed
-pub first_blamed : (t : TraceValue) (blame : Blame) (places : List ℕ) → IsBlame t blame → All (IsSuspect t blame.granule blame.time) places → IsBlame t (record blame { op = first_or places blame.op })
-first_blamed t blame [] is all = is
-first_blamed t blame (i ∷ places) is all = suspect_blamed t blame i is (All-head (IsSuspect t blame.granule blame.time) i places all)
-
-pub first_is : (places : List ℕ) (other : ℕ) → IfSome (slice_get places 0) (λ i. first_or places other ≡ i)
-first_is [] other = tt
-first_is (i ∷ places) other = refl
 
 -- a filter keeps what passes its test
 all_kept : (p : ℕ → Bool) (xs : List ℕ) → All (λ i. p i ≡ true) (filter p xs)
@@ -48,8 +32,7 @@ all_kept p (x ∷ xs) = by_test (p x) refl (all_kept p xs)
 pub order_places : (r : RecordedValue) (g : ℕ) (order : List ℕ) → All (λ i. i < length r.trace.operations) (order_in r g order)
 order_places r g order = granule_places r.trace g (order_in r g order) (all_kept (is_of r.trace.operations g) order)
 
--- a text of four parts
-pub text_of : (start one two three four s t u v : List ℕ) → start ≡ [] → one ≡ start ++ s → two ≡ one ++ t → three ≡ two ++ u → four ≡ three ++ v → four ≡ s ++ (t ++ (u ++ v))
-text_of start one two three four s t u v none first second third fourth =
-    fourth ∙ (ap (λ l. l ++ v) (third ∙ ap (λ l. l ++ u) (second ∙ ap (λ l. l ++ t) (first ∙ ap (λ l. l ++ s) none)))
-    ∙ (append_assoc (s ++ t) u v ∙ append_assoc s t (u ++ v)))
+-- a text of three parts
+pub text_of : (start one two three s t u : List ℕ) → start ≡ [] → one ≡ start ++ s → two ≡ one ++ t → three ≡ two ++ u → three ≡ s ++ (t ++ u)
+text_of start one two three s t u none first second third =
+    third ∙ (ap (λ l. l ++ u) (second ∙ ap (λ l. l ++ t) (first ∙ ap (λ l. l ++ s) none)) ∙ append_assoc s t u)

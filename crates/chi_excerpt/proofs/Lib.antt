@@ -1,6 +1,2 @@
 mod Enabled
-mod Ended
 pub mod Failures
-mod Found
-mod Latest
-mod Traced

@@ -1,9 +1,7 @@
 pub mod Bar
 pub mod Columns
+pub mod Excerpts
 pub mod Failures
-pub mod LastEnded
 pub mod Operands
-pub mod Replies
 pub mod Rows
-pub mod Suspects
 pub mod Texts

@@ -1,11 +1,9 @@
--- the rows of an excerpt, and how wide its columns are
-use Rattle.std.specs.Prelude.{ℕ, max, min, length, List, [], ◌∷◌, ◌++◌, Option, None, Some, decimal}
+-- how wide the columns of rows are, and when they start
+use Rattle.std.specs.Prelude.{ℕ, max, min, length, List, decimal}
 use Rattle.std.specs.List.{fold}
 use Rattle.chi_fields.specs.Opcode.{opcode_name}
 use Rattle.chi_trace.specs.Fields.{opcode_of}
 use Rattle.chi_trace.specs.declared.operation.Operation.{Operation}
-use Rattle.chi_excerpt.specs.declared.excerpt.Blamed.{Blamed}
-use Rattle.chi_excerpt.specs.declared.excerpt.Excerpt.{Excerpt}
 use Rattle.chi_excerpt.specs.declared.columns.Widths.{Widths}
 use Rattle.chi_excerpt.specs.Columns.{until_text}
 
@@ -25,12 +23,3 @@ widths_of rows = record {
 -- when the first of them started, if that is before a time
 abbrev pub first_start : ℕ → List Operation → ℕ
 first_start time rows = fold (λ least row. min least row.start) time rows
-
--- the row of the operation that is blamed, if there is one
-abbrev pub blamed_rows : Option Blamed → List Operation
-blamed_rows None = []
-blamed_rows (Some blamed) = blamed.row ∷ []
-
--- all rows of an excerpt
-abbrev pub all_rows : Excerpt → List Operation
-all_rows e = e.before.items ++ blamed_rows e.blamed ++ e.open.items

@@ -1,53 +1,39 @@
-//! The last operations of a granule, as lines.
+//! The last operations of a granule where they stop being explained, as lines.
 
 ghost use Rattle.std.specs.Prelude.{◌≡◌, ◌++◌, ◌∷◌, false, IfOk, OnOk, flat_map};
-ghost use Rattle.chi_excerpt.specs.Rows.{all_rows, blamed_rows};
-ghost use Rattle.chi_excerpt.specs.Texts.{blamed_text, excerpt_text, legal_line, line_of_time, row_text};
+ghost use Rattle.chi_excerpt.specs.Excerpts.{all_rows, blamed_text, ended_after, excerpt_text, legal_line, line_of_time, number_text, suspects_line};
+ghost use Rattle.chi_excerpt.specs.Texts.{row_text};
 
 use crate::columns::{Widths, first_start, widths_of};
 use crate::line::add_row;
 use crate::operand::add_returned;
+use chi_judge::Stop;
 use chi_lanes::Reply;
 use chi_text::{Part, add_parts};
 use chi_trace::Operation;
 use std::alloc::{AllocError, Global};
 
-/// The operation that is blamed, and replies of it that would have been legal.
-#[derive(Debug, Drop)]
-pub struct Blamed {
-    pub row: Operation,
-    pub legal: Vec<Reply>,
-}
-
-/// The operations of a granule around one that is blamed, or up to the end of a trace.
-///
-/// - `before`: those that ended before, in the order of their ends.
-/// - `open`: those that were open then.
-#[derive(Debug, Drop)]
-pub struct Excerpt {
-    pub before: Vec<Operation>,
-    pub blamed: Option<Blamed>,
-    pub open: Vec<Operation>,
-}
-
-/// The row of the operation that is blamed, if there is one.
-fn blamed_rows(alloc: Global, blamed: &Option<Blamed>) -> Result<Vec<Operation>, AllocError>
-    ensures { IfOk result (λ rows. rows.items ≡ blamed_rows blamed.now) }
+/// Those that ended after a time.
+fn ended_after(alloc: Global, ops: &[Operation], time: u64) -> Result<Vec<Operation>, AllocError>
+    ensures { IfOk result (λ after. after.items ≡ ended_after time ops.now) }
 {
-    let mut rows = Vec::new(alloc);
-    if let Some(blamed) = blamed {
-        rows.push(blamed.row)?;
-    }
-    Ok(rows)
+    ops.iter()
+        .copied()
+        .filter(|op| time < op.end)
+        .collect(alloc)
 }
 
-/// All of its rows.
-fn all_rows(alloc: Global, excerpt: &Excerpt) -> Result<Vec<Operation>, AllocError>
-    ensures { IfOk result (λ rows. rows.items ≡ all_rows excerpt.now) }
+/// All rows: of those that ended before, of the one that is blamed, and of those that were still open.
+fn all_rows(
+    alloc: Global,
+    stop: &Stop,
+    still_open: &[Operation],
+) -> Result<Vec<Operation>, AllocError>
+    ensures { IfOk result (λ rows. rows.items ≡ all_rows stop.now still_open.now) }
 {
-    let mut rows = Vec::from_slice(alloc, &excerpt.before)?;
-    rows.extend_from_slice(&blamed_rows(alloc, &excerpt.blamed)?)?;
-    rows.extend_from_slice(&excerpt.open)?;
+    let mut rows = Vec::from_slice(alloc, &stop.before)?;
+    rows.push(stop.op)?;
+    rows.extend_from_slice(still_open)?;
     Ok(rows)
 }
 
@@ -68,7 +54,7 @@ fn add_rows(
 }
 
 /// A reply that would have been legal.
-#[tactic(auto, unfolding(crate::specs::Texts::legal_line))]
+#[tactic(auto, unfolding(crate::specs::Excerpts::legal_line))]
 fn add_legal(to: &mut Vec<u8>, row: &Operation, reply: Reply) -> Result<(), AllocError>
     ensures { OnOk result (to.new.items ≡ to.old.items ++ legal_line row.now reply) }
 {
@@ -87,28 +73,23 @@ fn add_each_legal(to: &mut Vec<u8>, row: &Operation, legal: &[Reply]) -> Result<
     Ok(())
 }
 
-/// The lines of the operation that is blamed, if there is one.
-#[tactic(auto, unfolding(crate::specs::Texts::blamed_text))]
+/// The lines of the operation that is blamed.
+#[tactic(auto, unfolding(crate::specs::Excerpts::blamed_text))]
 fn add_blamed(
     to: &mut Vec<u8>,
     label: &str,
     line: (u64, u64),
     widths: Widths,
-    blamed: &Option<Blamed>,
+    stop: &Stop,
 ) -> Result<(), AllocError>
-    ensures { OnOk result (to.new.items ≡ to.old.items ++ blamed_text label.now line.0 line.1 widths blamed.now) }
+    ensures { OnOk result (to.new.items ≡ to.old.items ++ blamed_text label.now line.0 line.1 widths stop.now) }
 {
-    match blamed {
-        Some(blamed) => {
-            add_row(to, label, true, line, widths, &blamed.row)?;
-            add_each_legal(to, &blamed.row, &blamed.legal)
-        }
-        None => Ok(()),
-    }
+    add_row(to, label, true, line, widths, &stop.op)?;
+    add_each_legal(to, &stop.op, &stop.legal)
 }
 
 /// The line of time that the rows stand on.
-#[tactic(auto, unfolding(crate::specs::Texts::line_of_time))]
+#[tactic(auto, unfolding(crate::specs::Excerpts::line_of_time))]
 fn add_line_of_time(to: &mut Vec<u8>, line: (u64, u64)) -> Result<(), AllocError>
     ensures { OnOk result (to.new.items ≡ to.old.items ++ line_of_time line.0 line.1) }
 {
@@ -124,27 +105,62 @@ fn add_line_of_time(to: &mut Vec<u8>, line: (u64, u64)) -> Result<(), AllocError
     )
 }
 
-/// Adds the lines of an excerpt, up to a time. `label` is what the parts of the input are called, which the rows are counted
-/// by.
+/// The numbers of the operations' requests.
+fn add_numbers(to: &mut Vec<u8>, ops: &[Operation]) -> Result<(), AllocError>
+    ensures { OnOk result (to.new.items ≡ to.old.items ++ flat_map number_text ops.now) }
+{
+    for op in ops {
+        add_parts(to, &[Part::Text(" "), Part::Number(op.number)])?;
+    }
+    Ok(())
+}
+
+/// The line of the operations that may be the ones whose answer is wrong, where there is more than one.
+#[tactic(auto, unfolding(crate::specs::Excerpts::suspects_line))]
+fn add_suspects(
+    to: &mut Vec<u8>,
+    label: &'static str,
+    suspects: &[Operation],
+) -> Result<(), AllocError>
+    ensures { OnOk result (to.new.items ≡ to.old.items ++ suspects_line label.now suspects.now) }
+{
+    if suspects.len() <= 1 {
+        return Ok(());
+    }
+    add_parts(
+        to,
+        &[
+            Part::Text("  any one of these answers may be the wrong one: "),
+            Part::Text(label),
+            Part::Text("s"),
+        ],
+    )?;
+    add_numbers(to, suspects)?;
+    add_parts(to, &[Part::Text("\n")])
+}
+
+/// Adds the lines of the operations around where a granule's stop being explained. `label` is what the parts of the input are
+/// called, which the rows are counted by.
 ///
 /// ```
-/// add_excerpt(alloc, &mut text, "request ", &excerpt, 40)?;
+/// add_excerpt(alloc, &mut text, "request", &stop)?;
 /// ```
-#[tactic(auto, unfolding(crate::specs::Texts::excerpt_text))]
+#[tactic(auto, unfolding(crate::specs::Excerpts::excerpt_text))]
 pub fn add_excerpt(
     alloc: Global,
     to: &mut Vec<u8>,
-    label: &str,
-    excerpt: &Excerpt,
-    time: u64,
+    label: &'static str,
+    stop: &Stop,
 ) -> Result<(), AllocError>
-    ensures { OnOk result (to.new.items ≡ to.old.items ++ excerpt_text label.now excerpt.now time) }
+    ensures { OnOk result (to.new.items ≡ to.old.items ++ excerpt_text label.now stop.now) }
 {
-    let rows = all_rows(alloc, excerpt)?;
+    let still_open = ended_after(alloc, &stop.overlapping, stop.time)?;
+    let rows = all_rows(alloc, stop, &still_open)?;
     let widths = widths_of(&rows);
-    let line = (first_start(time, &rows), time);
+    let line = (first_start(stop.time, &rows), stop.time);
     add_line_of_time(to, line)?;
-    add_rows(to, label, line, widths, &excerpt.before)?;
-    add_blamed(to, label, line, widths, &excerpt.blamed)?;
-    add_rows(to, label, line, widths, &excerpt.open)
+    add_rows(to, label, line, widths, &stop.before)?;
+    add_blamed(to, label, line, widths, stop)?;
+    add_rows(to, label, line, widths, &still_open)?;
+    add_suspects(to, label, &stop.suspects)
 }

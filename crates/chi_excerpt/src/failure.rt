@@ -1,77 +1,107 @@
-//! What is shown of where a trace stops being explained.
+//! The text of where a trace stops being explained.
 
-ghost use Rattle.std.specs.Prelude.{◌≡◌, IfOk};
-ghost use Rattle.chi_verdict.specs.Blames.{IsBlame};
-ghost use Rattle.chi_search.specs.Looks.{LookedSome};
-ghost use Rattle.chi_excerpt.specs.Failures.{IsFailure, first_or};
-ghost use Rattle.chi_excerpt.specs.Suspects.{AreAll};
+ghost use Rattle.std.specs.Prelude.{◌≡◌, ◌<◌, ◌++◌, All, IfOk, OnOk, flat_map, length};
+ghost use Rattle.chi_excerpt.specs.Failures.{failure_text, number_at, order_in, order_line, order_words};
 
-use crate::legal::legal_replies;
-use crate::suspects::suspects;
-use chi_lanes::Reply;
+use crate::excerpt::add_excerpt;
+use chi_answer::add_blame;
 use chi_reading::Recorded;
-use chi_search::Progress;
+use chi_text::{Part, add_parts};
 use chi_verdict::Blame;
 use std::alloc::{AllocError, Global};
 
-/// Where a trace stops being explained, and what can be said of it.
-///
-/// - `blame`: where it does. Its operation is the first of `suspects`, where there is one.
-/// - `suspects`: the places of operations of the granule that were answered then, without the answer of each of which the
-///   granule's operations up to then can be explained.
-/// - `legal`: answers of the operation that is blamed with which they can.
-#[derive(Debug, Drop)]
-pub struct Failure {
-    pub blame: Blame,
-    pub suspects: Vec<usize>,
-    pub legal: Vec<Reply>,
+/// The numbers of the requests at these places.
+fn add_numbers_at(to: &mut Vec<u8>, recorded: &Recorded, places: &[usize]) -> Result<(), AllocError>
+    requires { All (λ place. place < length recorded.now.trace.operations) places.now }
+    ensures { OnOk result (to.new.items ≡ to.old.items ++ flat_map (number_at recorded.now) places.now) }
+{
+    let ops = recorded.trace().operations();
+    for place in places {
+        add_parts(to, &[Part::Text(" "), Part::Number(ops[*place].number)])?;
+    }
+    Ok(())
 }
 
-/// The first of these places, or another where there is none.
-fn first_or(places: &[usize], other: usize) -> usize
-    ensures { result ≡ first_or places.now other }
+/// What an order of the whole trace has of a granule.
+///
+/// ```
+/// let own = order_in(alloc, &recorded, blame.granule, &blame.order)?;
+/// ```
+pub fn order_in(
+    alloc: Global,
+    recorded: &Recorded,
+    granule: u64,
+    order: &[usize],
+) -> Result<Vec<usize>, AllocError>
+    ensures { IfOk result (λ own. own.items ≡ order_in recorded.now granule order.now) }
 {
-    match places.first() {
-        Some(place) => *place,
-        None => other,
+    let ops = recorded.trace().operations();
+    let mut own = Vec::new(alloc);
+    for place in order {
+        if *place < ops.len() && ops[*place].granule() == granule {
+            own.push(*place)?;
+        }
+    }
+    Ok(own)
+}
+
+/// How the last so many of an order are told.
+fn order_words(most: usize, count: usize) -> &'static str
+    ensures { result.now ≡ order_words most count }
+{
+    if count > most {
+        " in an order that ends with requests"
+    } else {
+        " in this order: requests"
     }
 }
 
-/// What can be said of where a trace stops being explained, looking at no more than `budget` states at a time. Which of the
-/// answers that would have been right are found is not promised, only that each is one.
+/// The line of the last so many of an order that explains the granule's operations up to the time before.
+#[tactic(auto, unfolding(crate::specs::Failures::order_line))]
+fn add_order(
+    to: &mut Vec<u8>,
+    recorded: &Recorded,
+    most: usize,
+    time: u64,
+    order: &[usize],
+) -> Result<(), AllocError>
+    requires { All (λ place. place < length recorded.now.trace.operations) order.now }
+    ensures { OnOk result (to.new.items ≡ to.old.items ++ order_line recorded.now most time order.now) }
+{
+    let last = &order[order.len().saturating_sub(most)..];
+    if last.is_empty() {
+        return Ok(());
+    }
+    add_parts(
+        to,
+        &[
+            Part::Text("  up to "),
+            Part::Number(time.saturating_sub(1)),
+            Part::Text(order_words(most, order.len())),
+        ],
+    )?;
+    add_numbers_at(to, recorded, last)?;
+    add_parts(to, &[Part::Text("\n")])
+}
+
+/// The text of where a trace stops being explained: what is said of it, the operations of the granule around the one that is
+/// blamed, and the last of the order before, `around` of it at most.
 ///
 /// ```
-/// let failure = failure_of(alloc, &recorded, blame, 1_000_000, &mut NoProgress)?;
+/// let text = failure_text(alloc, &recorded, &blame, 16)?;
 /// ```
-pub fn failure_of<P: Progress>(
+pub fn failure_text(
     alloc: Global,
     recorded: &Recorded,
-    blame: Blame,
-    budget: u64,
-    progress: &mut P,
-) -> Result<Failure, AllocError>
-    requires { IsBlame recorded.now.trace blame }
-    ensures failure { IfOk result (λ failure. IsFailure recorded.now failure) }
-    ensures all { IfOk result (λ failure. AreAll P.looked progress.old progress.new budget recorded.now.trace blame.granule blame.time failure.suspects.items) }
-    ensures looked { IfOk result (λ _. LookedSome P.looked progress.old progress.new) }
-    ensures same { IfOk result (λ failure. failure.blame ≡ record blame { op = failure.blame.op }) }
+    blame: &Blame,
+    around: usize,
+) -> Result<Vec<u8>, AllocError>
+    ensures { IfOk result (λ text. text.items ≡ failure_text recorded.now around blame.now) }
 {
-    let trace = recorded.trace();
-    let suspects = suspects(alloc, trace, blame.granule, blame.time, budget, progress)?;
-    let op = first_or(&suspects, blame.op);
-    let legal = legal_replies(
-        alloc,
-        trace,
-        blame.granule,
-        blame.time,
-        op,
-        budget,
-        progress,
-    )?;
-    let blame = Blame { op, ..blame };
-    Ok(Failure {
-        blame,
-        suspects,
-        legal,
-    })
+    let order = order_in(alloc, recorded, blame.granule, &blame.order)?;
+    let mut text = Vec::new(alloc);
+    add_blame(&mut text, blame)?;
+    add_excerpt(alloc, &mut text, "request", &blame.stop)?;
+    add_order(&mut text, recorded, around, blame.stop.time, &order)?;
+    Ok(text)
 }

@@ -5,14 +5,8 @@ mod bar;
 mod columns;
 mod excerpt;
 mod failure;
-mod failure_lines;
-mod last_ended;
-mod legal;
 mod line;
 mod operand;
-mod replies;
-mod suspects;
 
-pub use excerpt::{Blamed, Excerpt, add_excerpt};
-pub use failure::{Failure, failure_of};
-pub use failure_lines::{failure_text, order_in};
+pub use excerpt::add_excerpt;
+pub use failure::{failure_text, order_in};

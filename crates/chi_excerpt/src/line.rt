@@ -1,7 +1,7 @@
 //! The line of a row.
 
 ghost use Rattle.std.specs.Prelude.{◌≡◌, ◌++◌, OnOk};
-ghost use Rattle.chi_excerpt.specs.Texts.{row_text, what_text, when_text, whose_text};
+ghost use Rattle.chi_excerpt.specs.Texts.{numbered_text, row_text, what_text, when_text, whose_text};
 
 use crate::bar::add_bar;
 use crate::columns::{Widths, add_left, add_number, add_until};
@@ -59,6 +59,16 @@ fn add_whose(to: &mut Vec<u8>, row: &Operation) -> Result<(), AllocError>
     )
 }
 
+/// What a part of the input is called, and its number in a column of this width.
+#[tactic(auto, unfolding(crate::specs::Texts::numbered_text))]
+fn add_numbered(to: &mut Vec<u8>, label: &str, number: u64, width: usize) -> Result<(), AllocError>
+    ensures { OnOk result (to.new.items ≡ to.old.items ++ numbered_text label.now number width) }
+{
+    to.extend_from_slice(label.as_bytes())?;
+    add_parts(to, &[Part::Text(" ")])?;
+    add_number(to, number, width)
+}
+
 /// The line of a row, on a line from one time to another. The one that is blamed has a mark and a sign of its own. `label` is
 /// what the input's parts are called.
 #[tactic(auto, unfolding(crate::specs::Texts::row_text))]
@@ -78,8 +88,7 @@ pub(crate) fn add_row(
         ("    ", b'=')
     };
     to.extend_from_slice(mark.as_bytes())?;
-    to.extend_from_slice(label.as_bytes())?;
-    add_number(to, row.number, widths.number)?;
+    add_numbered(to, label, row.number, widths.number)?;
     add_parts(to, &[Part::Text(" ")])?;
     add_when(to, sign, line, widths, row)?;
     add_what(to, widths, row)?;

@@ -3,6 +3,7 @@ use Rattle.std.specs.Prelude.{ℕ, ◌+◌, ◌<◌, ◌*◌, ◌^◌, ◌%◌, 
 use Rattle.chi_search.specs.declared.words.Words.{Words}
 use Rattle.chi_search.specs.declared.words.Words.TheVariants.{Each, Unknown}
 use Rattle.chi_text.specs.Part.{address_text, word_text}
+use Rattle.chi_trace.specs.Explains.{at}
 use Rattle.chi_trace.specs.declared.operation.Operation.{Operation}
 use Rattle.chi_trace.specs.Granules.{last_word}
 use Rattle.chi_verdict.specs.declared.first.Blame.{Blame}
@@ -67,9 +68,9 @@ drawn_at r (Some d) = drawn_json r d
 unfoldable pub granules_json : RecordedValue → List Drawn → List ℕ
 granules_json r granules = listed (λ n. drawn_at r (slice_get granules n)) (length granules)
 
--- the places of operations
-unfoldable pub places_json : List ℕ → List ℕ
-places_json places = listed (λ n. decimal (slice_index places n)) (length places)
+-- the numbers of operations' requests
+unfoldable pub requests_json : List Operation → List ℕ
+requests_json ops = listed (λ n. decimal (at ops n).number) (length ops)
 
 -- words of a granule
 unfoldable pub each_word_json : List ℕ → List ℕ
@@ -83,8 +84,8 @@ words_json Unknown = codes "null"
 -- where the trace stops being explained
 unfoldable pub blame_json : Blame → List ℕ
 blame_json blame =
-    codes "{\"granule\":" ++ (granule_json blame.granule ++ (codes ",\"time\":\"" ++ (decimal blame.time ++ (codes "\",\"place\":" ++ (decimal blame.op
-    ++ (codes ",\"open\":[" ++ (places_json blame.overlapping.items ++ (codes "],\"words\":" ++ (words_json blame.words ++ codes "}")))))))))
+    codes "{\"granule\":" ++ (granule_json blame.granule ++ (codes ",\"time\":\"" ++ (decimal blame.stop.time ++ (codes "\",\"request\":" ++ (decimal blame.stop.op.number
+    ++ (codes ",\"open\":[" ++ (requests_json blame.stop.overlapping.items ++ (codes "],\"words\":" ++ (words_json blame.stop.words ++ codes "}")))))))))
 
 -- the same, or null where it does not
 unfoldable pub blamed_json : Option Blame → List ℕ

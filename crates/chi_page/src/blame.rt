@@ -2,30 +2,31 @@
 
 ghost use Rattle.std.specs.Prelude.{◌≡◌, ◌++◌, OnOk, decimal};
 ghost use Rattle.std.specs.Option.{option_copied};
-ghost use Rattle.chi_page.specs.Granules.{blame_json, blamed_json, each_word_json, places_json, words_json};
+ghost use Rattle.chi_page.specs.Granules.{blame_json, blamed_json, each_word_json, requests_json, words_json};
 
 use crate::granule::{add_granule, add_word};
 use crate::listed::add_comma;
 use chi_search::Words;
 use chi_text::Part::{Number, Text};
 use chi_text::add_parts;
+use chi_trace::Operation;
 use chi_verdict::Blame;
 use std::alloc::AllocError;
 
-/// The place of an operation.
-fn add_place(to: &mut Vec<u8>, place: usize) -> Result<(), AllocError>
-    ensures { OnOk result (to.new.items ≡ to.old.items ++ decimal place) }
+/// The number of an operation's request.
+fn add_request(to: &mut Vec<u8>, op: &Operation) -> Result<(), AllocError>
+    ensures { OnOk result (to.new.items ≡ to.old.items ++ decimal op.now.number) }
 {
-    add_parts(to, &[Number(place as u64)])
+    add_parts(to, &[Number(op.number)])
 }
 
-/// The places of operations.
-fn add_places(to: &mut Vec<u8>, places: &[usize]) -> Result<(), AllocError>
-    ensures { OnOk result (to.new.items ≡ to.old.items ++ places_json places.now) }
+/// The numbers of operations' requests.
+fn add_requests(to: &mut Vec<u8>, ops: &[Operation]) -> Result<(), AllocError>
+    ensures { OnOk result (to.new.items ≡ to.old.items ++ requests_json ops.now) }
 {
-    for number in 0..places.len() {
+    for number in 0..ops.len() {
         add_comma(to, number)?;
-        add_place(to, places[number])?;
+        add_request(to, &ops[number])?;
     }
     Ok(())
 }
@@ -67,15 +68,15 @@ fn add_blame(to: &mut Vec<u8>, blame: &Blame) -> Result<(), AllocError>
         to,
         &[
             Text(",\"time\":\""),
-            Number(blame.time),
-            Text("\",\"place\":"),
-            Number(blame.op as u64),
+            Number(blame.stop.time),
+            Text("\",\"request\":"),
+            Number(blame.stop.op.number),
             Text(",\"open\":["),
         ],
     )?;
-    add_places(to, &blame.overlapping)?;
+    add_requests(to, &blame.stop.overlapping)?;
     add_parts(to, &[Text("],\"words\":")])?;
-    add_words(to, &blame.words)?;
+    add_words(to, &blame.stop.words)?;
     add_parts(to, &[Text("}")])
 }
 

@@ -40,7 +40,8 @@ kind_named s =
     if bytes_eq s (codes "dropped") then Some line.Dropped else (
     if bytes_eq s (codes "refused") then Some line.Refused else (
     if bytes_eq s (codes "word") then Some line.Word else (
-    if bytes_eq s (codes "unknown") then Some line.Unknown else None))))))
+    if bytes_eq s (codes "unknown") then Some line.Unknown else (
+    if bytes_eq s (codes "end") then Some line.End else None)))))))
 
 abbrev pub kind_of : Data → Option LineKind
 kind_of d = option_and_then kind_named (as_str d)
@@ -57,6 +58,7 @@ members_of line.Dropped = event_members ∷ (name.Id ∷ []) ∷ []
 members_of line.Refused = event_members ∷ (name.Id ∷ name.Reason ∷ []) ∷ []
 members_of line.Word = event_members ∷ (name.Addr ∷ name.Bytes ∷ name.Final ∷ []) ∷ []
 members_of line.Unknown = event_members ∷ (name.Addr ∷ name.Length ∷ []) ∷ []
+members_of line.End = event_members ∷ []
 
 -- ---- what is told
 
@@ -126,6 +128,7 @@ told_of number line.Dropped d = number_of member_name name.Id (2 ^ 64 - 1) d >>=
 told_of number line.Refused d = refused_of d
 told_of number line.Word d = word_of d
 told_of number line.Unknown d = unknown_of d
+told_of number line.End d = Ok kind.End
 
 -- the event of the line with a number: its kind, its time, what it tells, and that it has no other members
 unfoldable pub event_text : ℕ → List ℕ → Result Event (ObjectFault Member)

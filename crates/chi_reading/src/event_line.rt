@@ -39,6 +39,7 @@ fn kind_told(object: &Value) -> Result<LineKind, MemberFault<Member>>
 /// - `word`: `addr`, a multiple of 8 below 2^52, and `bytes`, 16 hex digits: the eight bytes in address order. Where `final`
 ///   is `true` the word is one at the end; it may be left out.
 /// - `unknown`: `addr`, and `length`, 1 to 4,096. Where their sum is over 2^52, `length` is the bad member.
+/// - `end`: none.
 ///
 /// Members whose name begins with `x-` are ignored, and others are refused. Of two members of one name the last counts.
 ///

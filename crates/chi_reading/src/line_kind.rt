@@ -19,6 +19,7 @@ pub(crate) enum LineKind {
     Refused,
     Word,
     Unknown,
+    End,
 }
 
 impl LineKind {
@@ -34,6 +35,7 @@ impl LineKind {
             "refused" => Some(LineKind::Refused),
             "word" => Some(LineKind::Word),
             "unknown" => Some(LineKind::Unknown),
+            "end" => Some(LineKind::End),
             _ => None,
         }
     }
@@ -50,6 +52,7 @@ impl LineKind {
             LineKind::Refused => &[&EVENT, &[Member::Id, Member::Reason]],
             LineKind::Word => &[&EVENT, &[Member::Addr, Member::Bytes, Member::Final]],
             LineKind::Unknown => &[&EVENT, &[Member::Addr, Member::Length]],
+            LineKind::End => &[&EVENT],
         }
     }
 }

@@ -150,5 +150,6 @@ pub(crate) fn told(
         LineKind::Refused => refused(object),
         LineKind::Word => word(object),
         LineKind::Unknown => unknown(object),
+        LineKind::End => Ok(EventKind::End),
     }
 }

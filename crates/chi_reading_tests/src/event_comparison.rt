@@ -43,6 +43,7 @@ fn same_kind(kind: &EventKind, want: &EventKind) -> bool {
                 reason: want_reason,
             },
         ) => id == want_id && reason == want_reason,
+        (EventKind::End, EventKind::End) => true,
         (EventKind::Word(told), EventKind::Word(want)) => same_word(told, want),
         (EventKind::Final(told), EventKind::Final(want)) => same_word(told, want),
         (

@@ -130,6 +130,11 @@ fn unknown_bytes(rt: HostRuntime) {
 }
 
 #[test]
+fn end(rt: HostRuntime) {
+    assert_tells(&rt, r#"{"time":70,"event":"end"}"#, EventKind::End);
+}
+
+#[test]
 fn members_that_are_ignored(rt: HostRuntime) {
     for line in [
         r#"{"time":70,"event":"dropped","id":3,"x-note":{"id":[4]}}"#,

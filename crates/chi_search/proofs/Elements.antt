@@ -51,6 +51,27 @@ some_step P A B xs k x is before now = subst (λ ys. B ↔ SomeOf P ys) (sym (re
       | inr here ↦ now.1 (inr here)
     ]
 
+-- the same where others may stand beside them
+pub some_step_beside : {X : Type 0} (P : X → Type 0) (A B Other : Type 0) (xs : List X) (k : ℕ) (x : X) → slice_get xs k ≡ Some x
+    → A ↔ (SomeOf P (take k xs) ⊎ Other) → B ↔ (A ⊎ P x) → B ↔ (SomeOf P (take (k + 1) xs) ⊎ Other)
+some_step_beside P A B Other xs k x is before now = subst (λ ys. B ↔ (SomeOf P ys ⊎ Other)) (sym (read_more xs k x is)) (forth, back)
+  where
+    forth : B → SomeOf P (take k xs ++ x ∷ []) ⊎ Other
+    forth b = elim (now.0 b) [
+      | inl a ↦ elim (before.0 a) [
+        | inl earlier ↦ inl ((some_more P (take k xs) x).1 (inl earlier))
+        | inr other ↦ inr other
+      ]
+      | inr here ↦ inl ((some_more P (take k xs) x).1 (inr here))
+    ]
+
+    back : (SomeOf P (take k xs ++ x ∷ []) ⊎ Other) → B
+    back (inl some) = elim ((some_more P (take k xs) x).0 some) [
+      | inl earlier ↦ now.1 (inl (before.1 (inl earlier)))
+      | inr here ↦ now.1 (inr here)
+    ]
+    back (inr other) = now.1 (inl (before.1 (inr other)))
+
 -- one element more of a set that is given by a test
 pub some_added : {X : Type 0} (P new old : X → Type 0) (s : X) → ((x : X) → new x ↔ (old x ⊎ (x ≡ s)))
     → ((x : X) × new x × P x) ↔ (((x : X) × old x × P x) ⊎ P s)
@@ -87,6 +108,10 @@ some_start P A xs none = (λ a. absurd (none a), λ some. absurd (none_of P some
 
 pub some_end : {X : Type 0} (P : X → Type 0) (A : Type 0) (xs : List X) (n : ℕ) → length xs ≤ n → A ↔ SomeOf P (take n xs) → A ↔ SomeOf P xs
 some_end P A xs n whole so = subst (λ ys. A ↔ SomeOf P ys) (take_all n xs whole) so
+
+pub some_end_beside : {X : Type 0} (P : X → Type 0) (A Other : Type 0) (xs : List X) (n : ℕ) → length xs ≤ n → A ↔ (SomeOf P (take n xs) ⊎ Other)
+    → A ↔ (SomeOf P xs ⊎ Other)
+some_end_beside P A Other xs n whole so = subst (λ ys. A ↔ (SomeOf P ys ⊎ Other)) (take_all n xs whole) so
 
 -- one of two is one of two equal ones
 pub in_place : (A B C D : Type 0) → A ↔ (B ⊎ C) → (C → D) → (D → C) → A ↔ (B ⊎ D)

@@ -1,5 +1,5 @@
 -- the sets of states of a search by layers, and the words that can follow
-use Rattle.std.proofs.Common.{◌≡◌, ℕ, ◌+◌, ◌-◌, ◌^◌, ◌<◌, ◌≤◌, ◌⊎◌, ◌↔◌, All, List, [], ◌∷◌, ◌++◌, length-append, get_or, length, slice_index, None, Some, sym, ap, subst, ◌∙◌, arith, inl, inr, below_more}
+use Rattle.std.proofs.Common.{◌≡◌, ℕ, ◌+◌, ◌-◌, ◌^◌, ◌<◌, ◌≤◌, ◌⊎◌, ◌↔◌, All, List, [], ◌∷◌, ◌++◌, length-append, get_or, length, slice_index, None, Option, Some, sym, ap, subst, ◌∙◌, arith, inl, inr, below_more}
 use Rattle.std.proofs.lemmas.Bool.{cases_lt}
 use Rattle.std.specs.Prelude.{slice_get}
 use Rattle.std.proofs.lemmas.List.{get_or_read}
@@ -10,7 +10,7 @@ use Rattle.chi_trace.specs.Explains.{at, nothing}
 use Rattle.chi_trace.specs.Granules.{Fits}
 use Rattle.chi_trace.proofs.Segments.{at_later}
 use Rattle.chi_search.specs.declared.states.States.{States}
-use Rattle.chi_search.specs.Layers.{AreReady, SomeEnds}
+use Rattle.chi_search.specs.Layers.{AreReady, AreWaiting, EitherEnds, SomeEnds, Waits}
 use Rattle.chi_search.specs.Moves.{ByTaking, CanCome, Drops, Ends, IsIdle, Takes}
 use Rattle.chi_search.specs.Paths.{AreEarliest}
 use Rattle.chi_search.specs.Positions.{IsReady, Position}
@@ -21,6 +21,7 @@ use Rattle.chi_search.proofs.Settling.{left_is}
 use Rattle.chi_search.proofs.Following.{at_before}
 use Rattle.chi_search.proofs.Paths.{all_late}
 use Rattle.chi_search.proofs.Elements.{some_added}
+use Rattle.chi_search.proofs.Sets.{one_more, swapped}
 
 -- the set has one state more
 abbrev pub IsAdded : States → States → Position → Type 0
@@ -190,3 +191,42 @@ has_at states k p is =
 
 pub ready_at : (ops : List Operation) (states : States) (k : ℕ) (p : Position) → slice_get (positions states) k ≡ Some p → AreReady ops states → IsReady (length ops) p
 ready_at ops states k p is all = all p (has_at states k p is)
+
+-- a set of which the length is 0
+pub empty_has : (states : States) (p : Position) → length (positions states) ≡ 0 → Has states p → ⊥
+empty_has states p none (x, below, same) = omega (arith, below, none)
+
+pub empty_ends : (ops : List Operation) (states : States) (v : ℕ) → length (positions states) ≡ 0 → SomeEnds ops states v → ⊥
+empty_ends ops states v none (p, has, ends) = empty_has states p none has
+
+-- one of two sets that has one state more
+abbrev pub IsOneMore : List Operation → States → States → States → States → Position → Type 0
+IsOneMore ops new now old was p = (v : ℕ) → EitherEnds ops new now v ↔ (EitherEnds ops old was v ⊎ Ends ops (Some v) p)
+
+same : {A : Type 0} → A ↔ A
+same = (λ a. a, λ a. a)
+
+pub more_states : (ops : List Operation) (new old waiting : States) (p : Position) → IsWhole ops new old p → IsOneMore ops new waiting old waiting p
+more_states ops new old waiting p whole v = one_more (whole v) same same
+
+pub more_waiting : (ops : List Operation) (states new old : States) (p : Position) → IsWhole ops new old p → IsOneMore ops states new states old p
+more_waiting ops states new old p whole v = one_more (whole v) (swapped same) (swapped same)
+
+pub waiting_more : (ops : List Operation) (horizon : Option ℕ) (new old : States) (s : Position) → IsAdded new old s → IsReady (length ops) s
+    → Waits ops horizon s.first → AreWaiting ops horizon old → AreWaiting ops horizon new
+waiting_more ops horizon new old s added ready waits all p has = elim ((added p).0 has) [
+  | inl before ↦ all p before
+  | inr is ↦ subst (λ (q : Position). IsReady (length ops) q × Waits ops horizon q.first) (sym is) (ready, waits)
+]
+
+-- where none waits yet, and where no other state is left
+pub first_either : (ops : List Operation) (from waiting : States) (v : ℕ) → length (positions waiting) ≡ 0 → EitherEnds ops from waiting v ↔ SomeEnds ops from v
+first_either ops from waiting v none =
+    (λ either. elim either [ inl some ↦ some | inr some ↦ absurd (empty_ends ops waiting v none some) ], inl)
+
+pub last_either : (ops : List Operation) (from layer waiting : States) (v : ℕ) → length (positions layer) ≡ 0 → EitherEnds ops layer waiting v ↔ SomeEnds ops from v
+    → SomeEnds ops waiting v ↔ SomeEnds ops from v
+last_either ops from layer waiting v none so = (
+  λ some. so.0 (inr some),
+  λ some. elim (so.1 some) [ inl left ↦ absurd (empty_ends ops layer v none left) | inr waits ↦ waits ],
+)

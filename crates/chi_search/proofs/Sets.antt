@@ -1,5 +1,5 @@
 -- what stands in a set of two lists, the second after the first
-use Rattle.std.proofs.Common.{◌≡◌, ℕ, ◌<◌, ◌==◌, ◌⊎◌, ◌↔◌, Bool, true, false, cond, List, [], ◌∷◌, ◌++◌, All, filter, length, refl, sym, ap, subst, ◌∙◌, eqb-true, true≢false, inl, inr, ⊎_elim}
+use Rattle.std.proofs.Common.{◌≡◌, ℕ, ◌+◌, ◌<◌, ◌==◌, ◌⊎◌, ◌↔◌, Bool, true, false, cond, List, [], ◌∷◌, ◌++◌, All, filter, length, length-append, refl, sym, ap, subst, ◌∙◌, eqb-true, true≢false, arith, inl, inr, ⊎_elim}
 use Rattle.std.specs.Prelude.{map}
 use Rattle.std.specs.List.{Contains}
 use Rattle.std.proofs.Math.Logic.{⊎_swap}
@@ -49,11 +49,11 @@ pushed old new y is x = (
   ]),
 )
 
-swapped : {A B C : Type 0} → A ↔ (B ⊎ C) → A ↔ (C ⊎ B)
+pub swapped : {A B C : Type 0} → A ↔ (B ⊎ C) → A ↔ (C ⊎ B)
 swapped e = (λ a. ⊎_swap (e.0 a), λ either. e.1 (⊎_swap either))
 
 -- where one of two parts has one more, so has the whole
-one_more : {Old New Other More Before After : Type 0} → New ↔ (Old ⊎ More) → Before ↔ (Old ⊎ Other) → After ↔ (New ⊎ Other) → After ↔ (Before ⊎ More)
+pub one_more : {Old New Other More Before After : Type 0} → New ↔ (Old ⊎ More) → Before ↔ (Old ⊎ Other) → After ↔ (New ⊎ Other) → After ↔ (Before ⊎ More)
 one_more more before after = (
   λ has. ⊎_elim (λ new. ⊎_elim (λ old. inl (before.1 (inl old))) inr (more.0 new)) (λ other. inl (before.1 (inr other))) (after.0 has),
   λ has. after.1 (⊎_elim (λ was. ⊎_elim (λ old. inl (more.1 (inl old))) inr (before.0 was)) (λ one. inl (more.1 (inr one))) has),
@@ -66,3 +66,12 @@ more_first old new ys y is x = one_more (pushed old new y is x) (in_either old y
 -- one element more of the second list
 pub more_second : {X : Type 0} (xs old new : List X) (y : X) → new ≡ old ++ y ∷ [] → (x : X) → Contains (xs ++ new) x ↔ (Contains (xs ++ old) x ⊎ (x ≡ y))
 more_second xs old new y is x = one_more (pushed old new y is x) (swapped (in_either xs old x)) (swapped (in_either xs new x))
+
+-- with it the whole is longer by one
+pub longer_first : {X : Type 0} (old new ys : List X) (y : X) → new ≡ old ++ y ∷ [] → length (new ++ ys) ≡ length (old ++ ys) + 1
+longer_first old new ys y is =
+    rw is (omega (arith, length-append (old ++ y ∷ []) ys, length-append old (y ∷ []), length-append old ys))
+
+pub longer_second : {X : Type 0} (xs old new : List X) (y : X) → new ≡ old ++ y ∷ [] → length (xs ++ new) ≡ length (xs ++ old) + 1
+longer_second xs old new y is =
+    rw is (omega (arith, length-append xs (old ++ y ∷ []), length-append old (y ∷ []), length-append xs old))

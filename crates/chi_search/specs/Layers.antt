@@ -40,6 +40,14 @@ Waits ops (Some horizon) first = (length ops ≤ first) ⊎ (horizon ≤ (at ops
 abbrev pub AreReady : List Operation → States → Type 0
 AreReady ops states = (p : Position) → Has states p → IsReady (length ops) p
 
+-- from some state of one of the two sets an order goes on to the word
+abbrev pub EitherEnds : List Operation → States → States → ℕ → Type 0
+EitherEnds ops states waiting v = SomeEnds ops states v ⊎ SomeEnds ops waiting v
+
+-- each state of the set is ready and waits
+abbrev pub AreWaiting : List Operation → Option ℕ → States → Type 0
+AreWaiting ops horizon states = (p : Position) → Has states p → IsReady (length ops) p × Waits ops horizon p.first
+
 -- from one of the words some order of the operations leads to the word
 abbrev pub SomeLeads : List Operation → List ℕ → ℕ → Type 0
 SomeLeads ops words v = (w : ℕ) × Contains words w × Leads ops w v

@@ -1,6 +1,6 @@
 //! The search of one granule while its operations are told.
 
-ghost use Rattle.std.specs.Prelude.{◌≡◌, ◌≢◌, ℕ, ◌+◌, ◌-◌, ◌^◌, ◌≤◌, ◌↔◌, ◌⊎◌, [], ◌∷◌, ◌++◌, false, List, None, Some, IfErr, IfOk, IfSome, IsTrue, length};
+ghost use Rattle.std.specs.Prelude.{◌≡◌, ◌≢◌, ℕ, ◌+◌, ◌-◌, ◌^◌, ◌<◌, ◌≤◌, ◌↔◌, ◌⊎◌, [], ◌∷◌, ◌++◌, false, List, None, Some, IfErr, IfOk, IfSome, IsTrue, length};
 ghost use Rattle.std.specs.List.{AllPairs, Contains};
 ghost use Rattle.chi_trace.specs.declared.operation.Operation.{Operation};
 ghost use Rattle.chi_trace.specs.Granules.{Finishes};
@@ -14,7 +14,7 @@ use crate::layer::{advance, first_layer, words_in};
 use crate::order::{Found, order_from};
 use crate::passing::{moved_back, passed};
 use crate::progress::Progress;
-use crate::states::{States, count};
+use crate::states::States;
 use crate::words::Words;
 use chi_fields::ADDRESSES;
 use chi_trace::Operation;
@@ -29,7 +29,7 @@ use std::marker::Model;
 /// for op in &ended {
 ///     frontier.add(op)?;
 /// }
-/// if let Some(next) = frontier.advanced(alloc, earliest_open_start, &mut budget, &mut NoProgress)? {
+/// if let Some(next) = frontier.advanced(alloc, earliest_open_start, 4096, &mut budget, &mut NoProgress)? {
 ///     frontier = next;
 /// }
 /// ```
@@ -113,15 +113,16 @@ impl Frontier {
     }
 
     /// The same search once no operation can come that starts before the horizon: it has gone on as far as what is told
-    /// allows. Nothing, where the budget was spent.
+    /// allows. Nothing, where the budget was spent or it would be at more than `most` positions.
     ///
     /// ```
-    /// let next = frontier.advanced(alloc, earliest_open_start, &mut budget, &mut NoProgress)?;
+    /// let next = frontier.advanced(alloc, earliest_open_start, 4096, &mut budget, &mut NoProgress)?;
     /// ```
     pub fn advanced<P: Progress>(
         &self,
         alloc: Global,
         horizon: u64,
+        most: usize,
         budget: &mut u64,
         progress: &mut P,
     ) -> Result<Option<Frontier>, AllocError>
@@ -129,7 +130,8 @@ impl Frontier {
         ensures horizon { IfOk result (λ next. IfSome next (λ frontier. (horizon ≤ frontier.horizon) × (self.now.horizon ≤ frontier.horizon) × ((frontier.horizon ≡ horizon) ⊎ (frontier.horizon ≡ self.now.horizon)))) }
         ensures latest { IfOk result (λ next. IfSome next (λ frontier. frontier.latest ≡ self.now.latest)) }
         ensures waiting { IfOk result (λ next. IfSome next (λ frontier. (p : Position) → Contains frontier.positions p → Waits frontier.operations (Some frontier.horizon) p.first)) }
-        ensures spent { IfOk result (λ next. next ≡ None → budget.new ≡ 0) }
+        ensures most { IfOk result (λ next. IfSome next (λ frontier. length frontier.positions ≤ most)) }
+        ensures spent { IfOk result (λ next. next ≡ None → (budget.new ≡ 0) ⊎ (most < budget.old - budget.new)) }
         ensures spends { IfOk result (λ next. (budget.new ≤ budget.old) × LookedMore P.looked progress.old progress.new (budget.old - budget.new)) }
     {
         let horizon = horizon.max(self.horizon);
@@ -138,6 +140,7 @@ impl Frontier {
             alloc,
             &self.operations,
             Some(horizon),
+            most,
             from,
             budget,
             progress,
@@ -208,8 +211,18 @@ impl Frontier {
         ensures unknown { IfOk result (λ found. IfUnknown found (budget.new ≡ 0)) }
         ensures spends { IfOk result (λ found. (budget.new ≤ budget.old) × LookedMore P.looked progress.old progress.new (budget.old - budget.new)) }
     {
+        // That the budget is one of 64 bits is known here once it is read.
+        let _budget = *budget;
         let from = moved_back(alloc, &self.states, 0)?;
-        match advance(alloc, &self.operations, None, from, budget, progress)? {
+        match advance(
+            alloc,
+            &self.operations,
+            None,
+            usize::MAX,
+            from,
+            budget,
+            progress,
+        )? {
             Some(last) => {
                 let each = words_in(alloc, &last)?;
                 Ok(Words::Each(each))
@@ -229,17 +242,5 @@ impl Frontier {
         ensures { result ≡ length self.now.operations }
     {
         self.operations.len()
-    }
-    /// At how many positions it is. With many it takes long to find an order.
-    ///
-    /// ```
-    /// if next.positions() < 4096 {
-    ///     frontier = next;
-    /// }
-    /// ```
-    pub fn positions(&self) -> usize
-        ensures { result ≡ length self.now.positions }
-    {
-        count(&self.states)
     }
 }

@@ -4,7 +4,7 @@ ghost use Rattle.std.specs.Prelude.{◌≡◌, ◌≢◌, ℕ, ◌+◌, ◌-◌,
 ghost use Rattle.std.specs.List.{AllPairs, Contains};
 ghost use Rattle.chi_trace.specs.declared.operation.Operation.{Operation};
 ghost use Rattle.chi_trace.specs.Explains.{at};
-ghost use Rattle.chi_search.specs.Layers.{AreReady, ComeAfter, MayFollow, SomeEnds, Waits};
+ghost use Rattle.chi_search.specs.Layers.{AreReady, AreWaiting, ComeAfter, EitherEnds, MayFollow, SomeEnds, Waits};
 ghost use Rattle.chi_search.specs.Looks.{LookedMore};
 ghost use Rattle.chi_search.specs.Moves.{Ends};
 ghost use Rattle.chi_search.specs.Paths.{AreEarliest};
@@ -22,7 +22,8 @@ use std::alloc::{AllocError, Global};
 
 /// Adds a state to the set, where it is not there.
 pub(crate) fn add_new(alloc: Global, states: &mut States, state: &State) -> Result<(), AllocError>
-    ensures { OnOk result ((p : Position) → Has states.new p ↔ (Has states.old p ⊎ (p ≡ position_of state.now))) }
+    ensures has { OnOk result ((p : Position) → Has states.new p ↔ (Has states.old p ⊎ (p ≡ position_of state.now))) }
+    ensures count { OnOk result (length (positions states.new) ≤ length (positions states.old) + 1) }
 {
     if has(states, state) {
         return Ok(());
@@ -82,13 +83,70 @@ fn waits(ops: &[Operation], horizon: Option<u64>, first: usize) -> bool
     }
 }
 
-/// The states that follow the states of a set by one move, and those of it that wait; or nothing, where the budget was spent.
+/// Puts a state that waits into the one set, and the states that follow another one by one move into the other set.
+fn put_next(
+    alloc: Global,
+    ops: &[Operation],
+    earliest: &[u64],
+    horizon: Option<u64>,
+    state: &State,
+    next: &mut State,
+    states: &mut States,
+    waiting: &mut States,
+) -> Result<(), AllocError>
+    requires sorted { AreSorted ops.now }
+    requires within { AreWithin ops.now }
+    requires earliest { AreEarliest ops.now earliest.now }
+    requires ready { IsReady (length ops.now) (position_of state.now) }
+    ensures ends { OnOk result ((more : List Operation) → MayFollow ops.now horizon more → (v : ℕ) → EitherEnds (ops.now ++ more) states.new waiting.new v ↔ (EitherEnds (ops.now ++ more) states.old waiting.old v ⊎ Ends (ops.now ++ more) (Some v) (position_of state.now))) }
+    ensures ready { OnOk result (AreReady ops.now states.old → AreReady ops.now states.new) }
+    ensures waiting { OnOk result (AreWaiting ops.now horizon waiting.old → AreWaiting ops.now horizon waiting.new) }
+    ensures count { OnOk result (length (positions waiting.new) ≤ length (positions waiting.old) + 1) }
+{
+    if waits(ops, horizon, state.first) {
+        return add_new(alloc, waiting, state);
+    }
+    add_moves(alloc, ops, earliest, state, next, states)
+}
+
+/// How many operations are settled at the state.
+fn settled_count(state: &State) -> usize {
+    let mut count = state
+        .first
+        .saturating_add(state.settled.near.count_ones() as usize);
+    for word in &state.settled.beyond {
+        count = count.saturating_add(word.count_ones() as usize);
+    }
+    count
+}
+
+/// The place of a state of the set at which the fewest operations are settled, and how many these are.
+fn fewest_settled(layer: &States, state: &mut State) -> Result<(usize, usize), AllocError>
+    ensures { IfOk result (λ fewest. 0 < length (positions layer.now) → fewest.0 < length (positions layer.now)) }
+{
+    let mut least = 0;
+    let mut fewest = usize::MAX;
+    for place in 0..count(layer) {
+        read(layer, place, state)?;
+        let settled = settled_count(state);
+        if settled < fewest {
+            least = place;
+            fewest = settled;
+        }
+    }
+    Ok((least, fewest))
+}
+
+/// The states that follow by one move those of the set at which the fewest operations are settled, and the others of the set.
+/// The states that wait are put into a set of their own. Nothing, where the budget was spent or more than `most` wait.
 fn next_layer<P: Progress>(
     alloc: Global,
     ops: &[Operation],
     earliest: &[u64],
     horizon: Option<u64>,
     layer: &States,
+    waiting: &mut States,
+    most: usize,
     budget: &mut u64,
     progress: &mut P,
 ) -> Result<Option<States>, AllocError>
@@ -96,26 +154,44 @@ fn next_layer<P: Progress>(
     requires sorted { AreSorted ops.now }
     requires earliest { AreEarliest ops.now earliest.now }
     requires ready { AreReady ops.now layer.now }
-    ensures ends { IfOk result (λ next. IfSome next (λ states. (more : List Operation) → MayFollow ops.now horizon more → (v : ℕ) → SomeEnds (ops.now ++ more) states v ↔ SomeEnds (ops.now ++ more) layer.now v)) }
+    requires waiting { AreWaiting ops.now horizon waiting.now }
+    requires most { length (positions waiting.now) ≤ most }
+    ensures ends { IfOk result (λ next. IfSome next (λ states. (more : List Operation) → MayFollow ops.now horizon more → (v : ℕ) → EitherEnds (ops.now ++ more) states waiting.new v ↔ EitherEnds (ops.now ++ more) layer.now waiting.old v)) }
     ensures ready { IfOk result (λ next. IfSome next (λ states. AreReady ops.now states)) }
-    ensures one_each { IfOk result (λ next. IfSome next (λ states. budget.new + length (positions layer.now) ≡ budget.old)) }
-    ensures spent { IfOk result (λ next. next ≡ None → budget.new ≡ 0) }
+    ensures waiting { IfOk result (λ next. IfSome next (λ states. AreWaiting ops.now horizon waiting.new)) }
+    ensures most { IfOk result (λ next. IfSome next (λ states. length (positions waiting.new) ≤ most)) }
+    ensures fewer { IfOk result (λ next. IfSome next (λ states. 0 < length (positions layer.now) → budget.new < budget.old)) }
+    ensures count { IfOk result (λ next. length (positions waiting.new) + budget.new ≤ length (positions waiting.old) + budget.old) }
+    ensures spent { IfOk result (λ next. next ≡ None → (budget.new ≡ 0) ⊎ (most < length (positions waiting.new))) }
     ensures spends { IfOk result (λ next. (budget.new ≤ budget.old) × LookedMore P.looked progress.old progress.new (budget.old - budget.new)) }
 {
     let mut states = no_states(alloc);
     let mut state = first_state(alloc, 0);
     let mut next = first_state(alloc, 0);
+    let (least, fewest) = fewest_settled(layer, &mut state)?;
     for place in 0..count(layer) {
+        read(layer, place, &mut state)?;
+        if place != least && settled_count(&state) > fewest {
+            add_new(alloc, &mut states, &state)?;
+            continue;
+        }
         if *budget == 0 {
             return Ok(None);
         }
         *budget -= 1;
         progress.look();
-        read(layer, place, &mut state)?;
-        if waits(ops, horizon, state.first) {
-            add_new(alloc, &mut states, &state)?;
-        } else {
-            add_moves(alloc, ops, earliest, &state, &mut next, &mut states)?;
+        put_next(
+            alloc,
+            ops,
+            earliest,
+            horizon,
+            &state,
+            &mut next,
+            &mut states,
+            waiting,
+        )?;
+        if count(waiting) > most {
+            return Ok(None);
         }
     }
     Ok(Some(states))
@@ -132,30 +208,13 @@ pub(crate) fn first_layer(alloc: Global, words: &[u64]) -> Result<States, AllocE
     Ok(layer)
 }
 
-// Whether each state of the set waits.
-fn are_waiting(ops: &[Operation], horizon: Option<u64>, layer: &States) -> bool
-    ensures waiting { IsTrue result → (p : Position) → Has layer.now p → Waits ops.now horizon p.first }
-    ensures some { result ≡ false → 0 < length (positions layer.now) }
-{
-    for state in &layer.narrow.states {
-        if !waits(ops, horizon, state.first) {
-            return false;
-        }
-    }
-    for state in &layer.wide.states {
-        if !waits(ops, horizon, state.first) {
-            return false;
-        }
-    }
-    true
-}
-
-/// The states that follow the states of a set by moves, until each waits; or nothing, where the budget was spent. What they
-/// lead to is the same, whatever operations come later.
+/// The states to which the states of a set lead by moves, and at which the search waits; or nothing, where the budget was spent
+/// or more than `most` of them were found. What they lead to is the same, whatever operations come later.
 pub(crate) fn advance<P: Progress>(
     alloc: Global,
     ops: &[Operation],
     horizon: Option<u64>,
+    most: usize,
     from: States,
     budget: &mut u64,
     progress: &mut P,
@@ -166,18 +225,30 @@ pub(crate) fn advance<P: Progress>(
     ensures ends { IfOk result (λ last. IfSome last (λ states. (more : List Operation) → MayFollow ops.now horizon more → (v : ℕ) → SomeEnds (ops.now ++ more) states v ↔ SomeEnds (ops.now ++ more) from v)) }
     ensures ready { IfOk result (λ last. IfSome last (λ states. AreReady ops.now states)) }
     ensures waiting { IfOk result (λ last. IfSome last (λ states. (p : Position) → Has states p → Waits ops.now horizon p.first)) }
-    ensures spent { IfOk result (λ last. last ≡ None → budget.new ≡ 0) }
+    ensures most { IfOk result (λ last. IfSome last (λ states. length (positions states) ≤ most)) }
+    ensures spent { IfOk result (λ last. last ≡ None → (budget.new ≡ 0) ⊎ (most < budget.old - budget.new)) }
     ensures spends { IfOk result (λ last. (budget.new ≤ budget.old) × LookedMore P.looked progress.old progress.new (budget.old - budget.new)) }
 {
     let earliest = earliest_starts(alloc, ops)?;
+    let mut waiting = no_states(alloc);
     let mut layer = from;
-    while !are_waiting(ops, horizon, &layer) {
-        match next_layer(alloc, ops, &earliest, horizon, &layer, budget, progress)? {
+    while count(&layer) > 0 {
+        match next_layer(
+            alloc,
+            ops,
+            &earliest,
+            horizon,
+            &layer,
+            &mut waiting,
+            most,
+            budget,
+            progress,
+        )? {
             Some(next) => layer = next,
             None => return Ok(None),
         }
     }
-    Ok(Some(layer))
+    Ok(Some(waiting))
 }
 
 /// The words of the states of a set, each once.

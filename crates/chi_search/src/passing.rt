@@ -1,8 +1,8 @@
 //! States told without the operations that all of them have passed.
 
-ghost use Rattle.std.specs.Prelude.{◌≡◌, ◌-◌, ◌≤◌, ◌↔◌, IfOk};
+ghost use Rattle.std.specs.Prelude.{◌≡◌, ◌-◌, ◌≤◌, ◌↔◌, IfOk, length};
 ghost use Rattle.chi_search.specs.Positions.{Position, back_by};
-ghost use Rattle.chi_search.specs.StateSets.{Has};
+ghost use Rattle.chi_search.specs.StateSets.{Has, positions};
 
 use crate::layer::add_new;
 use crate::state::first_state;
@@ -27,7 +27,8 @@ pub(crate) fn passed(states: &States, operations: usize) -> usize
 /// The states of the set, each told without so many first operations, which it has passed.
 pub(crate) fn moved_back(alloc: Global, states: &States, by: usize) -> Result<States, AllocError>
     requires { (p : Position) → Has states.now p → by ≤ p.first }
-    ensures { IfOk result (λ back. (p : Position) → Has back p ↔ ((q : Position) × Has states.now q × (p ≡ back_by by q))) }
+    ensures has { IfOk result (λ back. (p : Position) → Has back p ↔ ((q : Position) × Has states.now q × (p ≡ back_by by q))) }
+    ensures count { IfOk result (λ back. length (positions back) ≤ length (positions states.now)) }
 {
     let mut back = no_states(alloc);
     let mut state = first_state(alloc, 0);

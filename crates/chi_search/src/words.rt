@@ -44,8 +44,10 @@ pub fn words_of<P: Progress>(
     ensures unknown { IfOk result (λ found. IfUnknown found (budget.new ≡ 0)) }
     ensures spends { IfOk result (λ found. (budget.new ≤ budget.old) × LookedMore P.looked progress.old progress.new (budget.old - budget.new)) }
 {
+    // That the budget is one of 64 bits is known here once it is read.
+    let _budget = *budget;
     let first = first_layer(alloc, words)?;
-    match advance(alloc, ops, None, first, budget, progress)? {
+    match advance(alloc, ops, None, usize::MAX, first, budget, progress)? {
         Some(last) => {
             let each = words_in(alloc, &last)?;
             Ok(Words::Each(each))

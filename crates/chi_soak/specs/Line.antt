@@ -86,6 +86,7 @@ kind_text (kind.Refused id reason) = refused_text id reason
 kind_text (kind.Word w) = granule_text w (codes "\"")
 kind_text (kind.Final w) = granule_text w (codes "\",\"final\":true")
 kind_text (kind.Unknown addr length) = unknown_text addr length
+kind_text kind.End = codes "end\""
 
 -- the line
 unfoldable pub event_line : Event → List ℕ

@@ -199,6 +199,7 @@ fn add_kind(to: &mut Vec<u8>, kind: &EventKind) -> Result<(), AllocError>
         EventKind::Word(told) => add_word(to, told, "\""),
         EventKind::Final(told) => add_word(to, told, "\",\"final\":true"),
         EventKind::Unknown { addr, length } => add_unknown(to, *addr, *length),
+        EventKind::End => add_parts(to, &[Part::Text("end\"")]),
     }
 }
 

@@ -14,6 +14,7 @@ pub mod Fields
 pub mod Gathering
 pub mod Granules
 pub mod InOrder
+pub mod Later
 pub mod Legal
 pub mod Memory
 pub mod Moved

@@ -1,5 +1,5 @@
 -- what is said where a granule's operations are not explained up to a time, and the whole trace is up to the time before
-use Rattle.std.proofs.Common.{◌≡◌, ℕ, List, [], None, filter, refl, subst}
+use Rattle.std.proofs.Common.{◌≡◌, ℕ, List, [], None, ◌↔◌, filter, refl, subst}
 use Rattle.chi_search.specs.declared.words.Words.{Words}
 use Rattle.chi_search.specs.declared.words.Words.TheVariants.{Each, Unknown}
 use Rattle.chi_search.specs.Found.{IfWords}
@@ -7,7 +7,11 @@ use Rattle.chi_trace.specs.declared.operation.Operation.{Operation}
 use Rattle.chi_trace.specs.Cuts.{cut}
 use Rattle.chi_trace.specs.Explains.{Explains, IsTrace, unobserved}
 use Rattle.chi_trace.specs.Granules.{ExplainsGranule, is_of}
-use Rattle.chi_trace.specs.TraceLaws.{PartsExplain}
+use Rattle.chi_trace.specs.TraceLaws.{OrdersOfGranulesExplain, PartsExplain}
+use Rattle.std.specs.List.{Contains}
+use Rattle.chi_trace.specs.Traces.{CanHold, IsLegal, TraceValue, trace_at}
+use Rattle.chi_judge.specs.Reaches.{CanLeave}
+use Rattle.chi_verdict.proofs.HeldAlone.{said_held}
 use Rattle.chi_trace.specs.declared.words.GranuleWord.{GranuleWord}
 use Rattle.chi_trace.specs.Words.{AreWords, find_word, memory_of, word_or_zero}
 use Rattle.chi_trace.proofs.TracedCuts.{IsTrace-cut}
@@ -37,3 +41,14 @@ none_is_told g = refl
 pub words_imply : (found : Words) (P Q : List ℕ → Type 0) → ((each : List ℕ) → P each → Q each) → IfWords found P → IfWords found Q
 words_imply (Each words) P Q implies said = implies words.items said
 words_imply Unknown P Q implies said = tt
+
+-- the words that a granule's operations can leave up to the time before are those that it can hold then, where an order explains the
+-- trace up to then
+pub blamed_words : OrdersOfGranulesExplain → PartsExplain → (t : TraceValue) (g earlier : ℕ) (order : List ℕ) (found : Words) → AreWords t.opening → IsTrace t.operations
+    → IsLegal (trace_at earlier t) order
+    → IfWords found (λ each. (v : ℕ) → Contains each v ↔ CanLeave (cut earlier t.operations) g (word_or_zero t.opening g) v)
+    → IfWords found (λ each. (v : ℕ) → Contains each v ↔ CanHold (trace_at earlier t) g v)
+blamed_words joins parts t g earlier order found words is legal said =
+    words_imply found (λ each. (other : List ℕ) → IsLegal (trace_at earlier t) other → (v : ℕ) → Contains each v ↔ CanHold (trace_at earlier t) g v)
+    (λ each. (v : ℕ) → Contains each v ↔ CanHold (trace_at earlier t) g v) (λ each held. held order legal)
+    (said_held joins parts (trace_at earlier t) words (IsTrace-cut earlier t.operations is) g found said)

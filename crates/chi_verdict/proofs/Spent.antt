@@ -1,10 +1,10 @@
 -- the states that were looked at in one search after another
 use Rattle.std.proofs.Common.{◌≡◌, ℕ, ◌+◌, ◌-◌, ◌≤◌, ◌⊎◌, inl, inr, Option, Some, refl, sym, ◌∙◌, arith}
-use Rattle.chi_search.specs.declared.words.Words.{Words}
-use Rattle.chi_search.specs.declared.words.Words.TheVariants.{Each, Unknown}
-use Rattle.chi_search.specs.Found.{IfUnknown}
 use Rattle.chi_search.specs.Looks.{LookedMore, LookedSome}
 use Rattle.chi_search.proofs.Looking.{more_after}
+use Rattle.chi_judge.proofs.More.{misses_none_after}
+use Rattle.chi_trace.specs.Traces.{TraceValue}
+use Rattle.chi_trace.specs.Words.{word_or_zero}
 use Rattle.chi_verdict.specs.declared.first.First.{First}
 use Rattle.chi_verdict.specs.declared.first.First.TheVariants.{Never, At, Undecided}
 use Rattle.chi_verdict.specs.Blames.{LookedForFirst}
@@ -26,34 +26,24 @@ looked_on looked old middle new budget left undecided after before then how = (
   ],
 )
 
--- what follows where the words are not known
-pub unknown_implies : {A B : Type 0} (found : Words) → (A → B) → IfUnknown found A → IfUnknown found B
-unknown_implies (Each words) implies said = tt
-unknown_implies Unknown implies said = implies said
-
--- one of two, of which the second holds of more states too
-or_more : {A : Type 0} (budget k n : ℕ) → A ⊎ (budget ≤ n) → A ⊎ (budget ≤ k + n)
-or_more budget k n (inl a) = inl a
-or_more budget k n (inr under) = inr (omega (arith, under))
-
 -- the first time is found after some states were looked at
-pub first_after : {P : Type 0} (looked : P → ℕ → Type 0) (old middle new : P) (budget : ℕ) (first : First)
-    → LookedSome looked old middle → LookedForFirst looked middle new budget first → LookedForFirst looked old new budget first
-first_after looked old middle new budget Never before is = record {
+pub first_after : {P : Type 0} (looked : P → ℕ → Type 0) (old middle new : P) (budget : ℕ) (t : TraceValue) (first : First)
+    → LookedSome looked old middle → LookedForFirst looked middle new budget t first → LookedForFirst looked old new budget t first
+first_after looked old middle new budget t Never before is = record {
   count = before.0 + is.count;
   more = more_after looked old middle new before.0 is.count (before.0 + is.count) refl before.1 is.more;
   undecided = tt;
-  words = tt;
+  all = tt;
 }
-first_after looked old middle new budget (At blame) before is = record {
+first_after looked old middle new budget t (At blame) before is = record {
   count = before.0 + is.count;
   more = more_after looked old middle new before.0 is.count (before.0 + is.count) refl before.1 is.more;
   undecided = tt;
-  words = unknown_implies blame.words (or_more budget before.0 is.count) is.words;
+  all = misses_none_after looked old middle new budget t.operations blame.granule (word_or_zero t.opening blame.granule) blame.stop before is.all;
 }
-first_after looked old middle new budget (Undecided granule states) before is = record {
+first_after looked old middle new budget t (Undecided granule states) before is = record {
   count = before.0 + is.count;
   more = more_after looked old middle new before.0 is.count (before.0 + is.count) refl before.1 is.more;
   undecided = let under = is.undecided in omega (arith, under);
-  words = tt;
+  all = tt;
 }

@@ -8,9 +8,9 @@ use Rattle.chi_verdict.specs.Blames.{IfAt, IfNever, IfNotFound, IsBlame}
 use Rattle.chi_trace.specs.Traces.{TraceValue}
 
 -- what is found is so, of a trace that is not explained
-pub record IsFirst (t : TraceValue) (budget : ℕ) (first : First) : Type 0 where
+pub record IsFirst (t : TraceValue) (most budget : ℕ) (first : First) : Type 0 where
   pub never : IfNever first ⊥
-  pub blame : IfAt first (IsBlame t)
+  pub blame : IfAt first (IsBlame t most)
   pub undecided : IfNotFound first (λ states. states ≡ budget)
 
 -- P of the answer, or of the granule and its time, that a search back in time comes to

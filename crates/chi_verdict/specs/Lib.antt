@@ -1,6 +1,5 @@
 pub mod Backwards
 pub mod Blames
-pub mod Ends
 pub mod Groups
 pub mod PastGranules
 pub mod Points

@@ -1,7 +1,6 @@
 //! Whether a whole trace is explained: by which order, or in which granule and from which time on it is not. Source: profile.
 #![tactic(auto)]
 
-mod ends;
 mod first;
 mod granule;
 mod grouping;

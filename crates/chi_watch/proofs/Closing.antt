@@ -5,9 +5,8 @@ use Rattle.std.proofs.lemmas.List.Elements.{All-contains, All-weaker, filter-app
 use Rattle.chi_events.specs.declared.event.Event.{Event}
 use Rattle.chi_events.specs.declared.outstanding.Open.{Open}
 use Rattle.chi_events.specs.Outstanding.{IsEndOf, OutstandingValue, StaysOrStarts}
-use Rattle.chi_recent.specs.Recent.{Keeps}
-use Rattle.chi_recent.proofs.Keeping.{keeps_later}
-use Rattle.chi_search.specs.Frontiers.{Follows}
+use Rattle.chi_judge.specs.Judges.{Keeps}
+use Rattle.chi_judge.proofs.Keeping.{keeps_later}
 use Rattle.chi_trace.specs.AtPlaces.{is_in}
 use Rattle.chi_trace.specs.Granules.{granule_of}
 use Rattle.chi_trace.specs.declared.operation.Operation.{Operation}
@@ -42,15 +41,13 @@ module _ (events : List Event) (ended : List Operation) (before after : Outstand
   watched_on : (g : ℕ) (f : Followed) (more : List Operation) → filter (is_in g) more ≡ filter (is_in g) ended → IsWatched events ended before g f → IsWatched events more after g f
   watched_on g f more same w = record {
     known = w.known;
-    follows = λ known. subst (λ (ops : List Operation). Follows (word_or_zero (openings events) g ∷ []) ops f.frontier) (sym same) (w.follows known);
+    keeps = λ known.
+        subst (λ (ops : List Operation). Keeps (word_or_zero (openings events) g ∷ []) ops after.time f.judge) (sym same)
+        (keeps_later (word_or_zero (openings events) g ∷ []) (filter (is_in g) ended) before.time f.judge (w.keeps known) after.time (omega (arith, later, now)));
     latest = omega (arith, w.latest, later, now);
     past = omega (arith, w.past, later, now);
-    horizon = starts_on g f.frontier.horizon w.past w.horizon;
-    recent = λ known.
-        subst (λ (ops : List Operation). Keeps (word_or_zero (openings events) g ∷ []) ops after.time f.recent) (sym same)
-        (keeps_later (word_or_zero (openings events) g ∷ []) (filter (is_in g) ended) before.time f.recent (w.recent known) after.time (omega (arith, later, now)));
-    recent_past = omega (arith, w.recent_past, later, now);
-    recent_horizon = starts_on g f.recent.horizon w.recent_past w.recent_horizon;
+    horizon = starts_on g f.judge.horizon w.past w.horizon;
+    shown = w.shown;
     final_word = w.final_word;
   }
 
@@ -63,11 +60,9 @@ module _ (events : List Event) (ended : List Operation) (before after : Outstand
     can_end : (f : Followed) → IsWatched events ended before g f → CanEnd horizon f op
     can_end f w =
         let own : granule_of_request ends.request ≡ g = ap (λ n. n / 8) (sym ends.at) ∙ is in
-        let starts : f.frontier.horizon ≤ ends.request.start = All-contains (λ (q : Open). granule_of_request q ≡ g → f.frontier.horizon ≤ q.start) before.requests ends.request w.horizon ends.is own in
-        let recent : f.recent.horizon ≤ ends.request.start = All-contains (λ (q : Open). granule_of_request q ≡ g → f.recent.horizon ≤ q.start) before.requests ends.request w.recent_horizon ends.is own in
+        let starts : f.judge.horizon ≤ ends.request.start = All-contains (λ (q : Open). granule_of_request q ≡ g → f.judge.horizon ≤ q.start) before.requests ends.request w.horizon ends.is own in
         record {
           past = omega (arith, starts, ends.start);
-          recent = omega (arith, recent, ends.start);
           starts = early;
           ends = omega (arith, w.latest, later, ends.end);
           lasting = ends.lasting;
@@ -77,15 +72,13 @@ module _ (events : List Event) (ended : List Operation) (before after : Outstand
     told_on : (old new : Followed) → IsTrue old.is_known → IsTold op horizon old new → IsWatched events ended before g old → IsWatched events (ended ++ op ∷ []) after g new
     told_on old new known t w = record {
       known = t.known ∙ w.known;
-      follows = λ so. subst (λ (ops : List Operation). Follows (word_or_zero (openings events) g ∷ []) ops new.frontier) (sym (own_more g ended op is)) (t.follows (word_or_zero (openings events) g ∷ []) (filter (is_in g) ended) (w.follows known));
+      keeps = λ so.
+          subst (λ (ops : List Operation). Keeps (word_or_zero (openings events) g ∷ []) ops after.time new.judge) (sym (own_more g ended op is))
+          (keeps_later (word_or_zero (openings events) g ∷ []) (filter (is_in g) ended ++ op ∷ []) op.end new.judge kept after.time (omega (arith, ends.end, now)));
       latest = omega (arith, t.latest, ends.end, now);
-      past = past old.frontier.horizon new.frontier.horizon w.past t.horizon_is;
-      horizon = starts old.frontier.horizon new.frontier.horizon w.past w.horizon t.horizon_is;
-      recent = λ so.
-          subst (λ (ops : List Operation). Keeps (word_or_zero (openings events) g ∷ []) ops after.time new.recent) (sym (own_more g ended op is))
-          (keeps_later (word_or_zero (openings events) g ∷ []) (filter (is_in g) ended ++ op ∷ []) op.end new.recent (kept so) after.time (omega (arith, ends.end, now)));
-      recent_past = past old.recent.horizon new.recent.horizon w.recent_past t.recent_horizon;
-      recent_horizon = starts old.recent.horizon new.recent.horizon w.recent_past w.recent_horizon t.recent_horizon;
+      past = past old.judge.horizon new.judge.horizon w.past t.horizon_is;
+      horizon = starts old.judge.horizon new.judge.horizon w.past w.horizon t.horizon_is;
+      shown = t.shown ∙ w.shown;
       final_word = t.final_word ∙ w.final_word;
     }
       where
@@ -98,20 +91,18 @@ module _ (events : List Event) (ended : List Operation) (before after : Outstand
             (λ p so own. let here : horizon ≤ p.start = so own in omega (arith, below, here)) after.requests earliest
         starts from to was by (inr same) = subst (StartsBy after.requests g) (sym same) (starts_on g from was by)
 
-        kept : IsTrue new.is_known → Keeps (word_or_zero (openings events) g ∷ []) (filter (is_in g) ended ++ op ∷ []) op.end new.recent
-        kept so = t.recent (word_or_zero (openings events) g ∷ []) (filter (is_in g) ended)
-            (keeps_later (word_or_zero (openings events) g ∷ []) (filter (is_in g) ended) before.time old.recent (w.recent known) op.end (omega (arith, later, ends.end)))
+        kept : Keeps (word_or_zero (openings events) g ∷ []) (filter (is_in g) ended ++ op ∷ []) op.end new.judge
+        kept = t.keeps (word_or_zero (openings events) g ∷ []) (filter (is_in g) ended)
+            (keeps_later (word_or_zero (openings events) g ∷ []) (filter (is_in g) ended) before.time old.judge (w.keeps known) op.end (omega (arith, later, ends.end)))
 
     unknown_on : (old : Followed) → old.is_known ≡ false → IsWatched events ended before g old → IsWatched events (ended ++ op ∷ []) after g old
     unknown_on old unknown w = record {
       known = w.known;
-      follows = λ known. absurd (true≢false (sym known ∙ unknown));
+      keeps = λ known. absurd (true≢false (sym known ∙ unknown));
       latest = omega (arith, w.latest, later, now);
       past = omega (arith, w.past, later, now);
-      horizon = starts_on g old.frontier.horizon w.past w.horizon;
-      recent = λ known. absurd (true≢false (sym known ∙ unknown));
-      recent_past = omega (arith, w.recent_past, later, now);
-      recent_horizon = starts_on g old.recent.horizon w.recent_past w.recent_horizon;
+      horizon = starts_on g old.judge.horizon w.past w.horizon;
+      shown = w.shown;
       final_word = w.final_word;
     }
 

@@ -1,24 +1,31 @@
--- granules that are quiet, whose search goes on to a word or to none
-use Rattle.std.proofs.Common.{◌≡◌, ℕ, ◌==◌, ◌⊎◌, ◌||◌, Bool, true, false, List, [], ◌∷◌, ◌++◌, All, Option, Some, None, IfSome, inl, inr, filter, filter_map, refl, sym, ap, subst, ◌∙◌, append-nil, eq-eqb, true≢false}
+-- granules that are quiet, or of which it is known that nothing explains them
+use Rattle.std.proofs.Common.{◌≡◌, ℕ, ◌-◌, ◌/◌, ◌^◌, ◌≤◌, ◌==◌, ◌⊎◌, ◌||◌, Bool, true, false, List, [], ◌∷◌, ◌++◌, All, Option, Some, None, IfSome, IsTrue, cond, get_or, inl, inr, not, filter, filter_map, refl, sym, ap, subst, ◌∙◌, append_assoc, append-nil, arith, eqb-true, eq-eqb, true≢false}
+use Rattle.std.specs.Prelude.{IsPermutation}
 use Rattle.std.specs.List.{list_any}
-use Rattle.std.proofs.lemmas.List.Elements.{All-cons, All-nil, All-weaker, filter-append}
+use Rattle.std.proofs.lemmas.Bool.{or_parts}
+use Rattle.std.proofs.lemmas.List.Elements.{All-cons, All-head, All-nil, All-tail, All-weaker, filter-append}
+use Rattle.chi_fields.specs.Access.{Access}
 use Rattle.chi_events.specs.EventLaws.{OperationsAreTold}
+use Rattle.chi_events.specs.Operations.{operations}
 use Rattle.chi_events.specs.declared.event.Event.{Event}
 use Rattle.chi_events.specs.declared.outstanding.Open.{Open}
 use Rattle.chi_events.specs.Outstanding.{IsOpen, open_operation}
-use Rattle.chi_search.specs.Layers.{SomeLeads}
+use Rattle.chi_judge.specs.Judges.{JudgeValue, Keeps}
+use Rattle.chi_judge.specs.Standings.{IsInexplicable}
+use Rattle.chi_judge.proofs.Keeping.{keeps_later, keeps_stopped}
 use Rattle.chi_trace.specs.AtPlaces.{GranulesStandAlone, is_in}
+use Rattle.chi_trace.specs.Granules.{ExplainsGranule, granule_of}
 use Rattle.chi_trace.specs.TraceLaws.{PartsExplain}
 use Rattle.chi_trace.specs.declared.operation.Operation.{Operation}
 use Rattle.chi_trace.specs.Words.{find_word, word_or_zero}
 use Rattle.chi_watch.specs.Endings.{IsExplainable}
-use Rattle.chi_watch.specs.Followed.{IsWord}
 use Rattle.chi_watch.specs.Judged.{final_words, is_known, openings}
 use Rattle.chi_watch.specs.Quiet.{CanBeExplained}
 use Rattle.chi_watch.specs.Requests.{IsQuiet, granule_of_request}
-use Rattle.chi_watch.specs.Watches.{HasTaken, IsFound, IsGranuleOf, IsUnexplained, IsWatched, WatchValue, granule}
+use Rattle.chi_watch.specs.Watches.{CanBeJudged, HasStopped, HasTaken, IsFound, IsGranuleOf, IsUnexplained, IsWatched, WatchValue, Watches, granule}
 use Rattle.chi_watch.specs.declared.followed.Followed.{Followed}
-use Rattle.chi_watch.proofs.Verdicts.{leads_none, one_explained, quiet_none, unexplained}
+use Rattle.chi_watch.proofs.Lists.{All-filter_map}
+use Rattle.chi_watch.proofs.Verdicts.{all_told, explains_none, final_is, is_judge, quiet_none, unexplained}
 
 is_quiet : (requests : List Open) (g : ℕ) → list_any (λ (p : Open). granule_of_request p == g) requests ≡ false → IsQuiet requests g
 is_quiet [] g none = All-nil (λ (p : Open). granule_of_request p ≡ g → ⊥)
@@ -38,34 +45,97 @@ module _ (events : List Event) (ended : List Operation) (w : WatchValue) (are_op
   pub alone : filter (is_in g) (ended ++ filter_map open_operation w.outstanding.requests) ≡ filter (is_in g) ended
   alone = filter-append (is_in g) ended (filter_map open_operation w.outstanding.requests) ∙ (ap (λ (ops : List Operation). filter (is_in g) ended ++ ops) none ∙ append-nil (filter (is_in g) ended))
 
-pub found_is : OperationsAreTold → GranulesStandAlone → PartsExplain → (events : List Event) (w : WatchValue) → All (IsOpen w.outstanding.time) w.outstanding.requests → HasTaken events w
+-- a granule that can be judged, or cannot
+pub can_be : (w : WatchValue) (g : ℕ) (f : Followed) → granule w g ≡ Some f → (not (list_any (λ p. granule_of_request p == g) w.outstanding.requests) || f.judge.is_stopped) ≡ true → CanBeJudged w g
+can_be w g f here can = by_test (list_any (λ p. granule_of_request p == g) w.outstanding.requests) refl can
+  where
+    by_test : (b : Bool) → list_any (λ p. granule_of_request p == g) w.outstanding.requests ≡ b → (not b || f.judge.is_stopped) ≡ true → CanBeJudged w g
+    by_test true is_open stopped = inr (subst HasStopped (sym here) stopped)
+    by_test false quiet so = inl quiet
+
+pub can_not : (w : WatchValue) (g : ℕ) (f : Followed) → granule w g ≡ Some f → (not (list_any (λ p. granule_of_request p == g) w.outstanding.requests) || f.judge.is_stopped) ≡ false → CanBeJudged w g → ⊥
+can_not w g f here not_so can =
+    let parts = or_parts (not (list_any (λ p. granule_of_request p == g) w.outstanding.requests)) f.judge.is_stopped not_so in
+    elim can [
+      | inl quiet ↦ true≢false (sym (ap not quiet) ∙ parts.0)
+      | inr stopped ↦ true≢false (sym (subst HasStopped here stopped) ∙ parts.1)
+    ]
+
+-- what was told of a granule that has stopped, and then operations that start no earlier than its horizon, and have not ended
+keeps_open : (words : List ℕ) (r : JudgeValue) (g : ℕ) → IsTrue r.is_stopped → (ops told : List Operation) → All (λ op. granule_of op ≡ g → (r.horizon ≤ op.start) × (op.end ≡ 2 ^ 64 - 1)) ops
+    → Keeps words told (2 ^ 64 - 1) r → Keeps words (told ++ filter (is_in g) ops) (2 ^ 64 - 1) r
+keeps_open words r g stopped [] told all keeps = subst (λ (l : List Operation). Keeps words l (2 ^ 64 - 1) r) (sym (append-nil told)) keeps
+keeps_open words r g stopped (op ∷ ops) told all keeps =
+    by_test (granule_of op == g) refl
+    (λ more now. keeps_open words r g stopped ops more (All-tail (λ (o : Operation). granule_of o ≡ g → (r.horizon ≤ o.start) × (o.end ≡ 2 ^ 64 - 1)) op ops all) now)
+  where
+    by_test : (b : Bool) → (granule_of op == g) ≡ b → ((more : List Operation) → Keeps words more (2 ^ 64 - 1) r → Keeps words (more ++ filter (is_in g) ops) (2 ^ 64 - 1) r)
+        → Keeps words (told ++ cond b (op ∷ filter (is_in g) ops) (filter (is_in g) ops)) (2 ^ 64 - 1) r
+    by_test true own rest =
+        let here = All-head (λ (o : Operation). granule_of o ≡ g → (r.horizon ≤ o.start) × (o.end ≡ 2 ^ 64 - 1)) op ops all (eqb-true (granule_of op) g own) in
+        subst (λ (l : List Operation). Keeps words l (2 ^ 64 - 1) r) (append_assoc told (op ∷ []) (filter (is_in g) ops))
+        (rest (told ++ op ∷ []) (subst (λ n. Keeps words (told ++ op ∷ []) n r) here.1 (keeps_stopped words told (2 ^ 64 - 1) r keeps op (omega (arith, here.1)) here.0 stopped)))
+    by_test false other rest = rest told keeps
+
+-- the operation of an outstanding request starts with it, and has not ended
+open_starts : (g horizon : ℕ) (p : Open) → IfSome p.access (λ access. access.addr ≡ p.fields.addr) → (granule_of_request p ≡ g → horizon ≤ p.start)
+    → IfSome (open_operation p) (λ op. granule_of op ≡ g → (horizon ≤ op.start) × (op.end ≡ 2 ^ 64 - 1))
+open_starts g horizon p at starts = by_access p.access at
+  where
+    by_access : (a : Option Access) → IfSome a (λ access. access.addr ≡ p.fields.addr) → IfSome (open_operation (record p { access = a })) (λ op. granule_of op ≡ g → (horizon ≤ op.start) × (op.end ≡ 2 ^ 64 - 1))
+    by_access None is = tt
+    by_access (Some access) is = λ own. (starts (ap (λ addr. addr / 8) (sym is) ∙ own), refl)
+
+-- All the operations of a granule count as told, where it is quiet, or has stopped.
+pub keeps_all : (events : List Event) (ended : List Operation) (w : WatchValue) → All (IsOpen w.outstanding.time) w.outstanding.requests → Watches events ended w
+    → (g : ℕ) (f : Followed) → granule w g ≡ Some f → IsTrue f.is_known → CanBeJudged w g
+    → Keeps (word_or_zero (openings events) g ∷ []) (filter (is_in g) (ended ++ filter_map open_operation w.outstanding.requests)) (2 ^ 64 - 1) f.judge
+keeps_all events ended w are_open is g f here known can = elim can [
+  | inl quiet ↦ subst (λ (l : List Operation). Keeps words l (2 ^ 64 - 1) f.judge) (sym (alone events ended w are_open g quiet)) keeps
+  | inr stopped ↦
+      subst (λ (l : List Operation). Keeps words l (2 ^ 64 - 1) f.judge) (sym (filter-append (is_in g) ended (filter_map open_operation w.outstanding.requests)))
+      (keeps_open words f.judge g (subst HasStopped here stopped) (filter_map open_operation w.outstanding.requests) (filter (is_in g) ended)
+      (All-filter_map open_operation (λ op. granule_of op ≡ g → (f.judge.horizon ≤ op.start) × (op.end ≡ 2 ^ 64 - 1)) w.outstanding.requests
+      (λ i d below. open_starts g f.judge.horizon (get_or w.outstanding.requests i d) (are_open i d below).at (watched.horizon i d below)))
+      keeps)
+]
+  where
+    words : List ℕ
+    words = word_or_zero (openings events) g ∷ []
+
+    watched : IsWatched events ended w.outstanding g f
+    watched = subst (IsGranuleOf events ended w.outstanding g) here (is.each g)
+
+    keeps : Keeps words (filter (is_in g) ended) (2 ^ 64 - 1) f.judge
+    keeps = keeps_later words (filter (is_in g) ended) w.outstanding.time f.judge (watched.keeps known) (2 ^ 64 - 1) (omega (arith, is.time))
+
+pub found_is : OperationsAreTold → PartsExplain → (events : List Event) (w : WatchValue) → All (IsOpen w.outstanding.time) w.outstanding.requests → HasTaken events w
     → (g : ℕ) → IsFound w g → IsUnexplained events g
-found_is find_word granules parts events w are_open (ended, is) g found =
-    unexplained find_word granules parts events ended w.outstanding g is.tells (sym watched.known ∙ found.known)
-    (λ v leads word. found.none (word_or_zero (openings events) g ∷ []) (filter (is_in g) ended) (watched.follows found.known) v
-    (subst (λ (ops : List Operation). SomeLeads ops (word_or_zero (openings events) g ∷ []) v) (alone events ended w are_open g found.quiet) leads)
-    (subst (λ (final_word : Option ℕ). IsWord final_word v) (sym watched.final_word) word))
+found_is operations_law parts_law events w are_open (ended, is) g found =
+    unexplained operations_law events ended w.outstanding g is.tells (2 ^ 64 - 1) found.followed.judge
+    (keeps_all events ended w are_open is g found.followed found.is found.known found.judged) parts_law (sym watched.known ∙ found.known)
+    (subst (IsInexplicable found.followed.judge) watched.final_word found.none)
   where
     watched : IsWatched events ended w.outstanding g found.followed
     watched = subst (IsGranuleOf events ended w.outstanding g) found.is (is.each g)
 
--- A granule that is quiet is explained where it is not watched, and where its search goes on to a word that may have been its last.
+-- A granule that is quiet is explained where it is not watched, and where some order explains what was told of it.
 pub not_found_is : OperationsAreTold → GranulesStandAlone → (A : Type 0) (events : List Event) (w : WatchValue) → All (IsOpen w.outstanding.time) w.outstanding.requests → HasTaken events w
     → (g : ℕ) → list_any (λ p. granule_of_request p == g) w.outstanding.requests ≡ false → IfSome (granule w g) (λ f. IsExplainable f ⊎ A) → is_known events g ≡ true → CanBeExplained events g ⊎ A
-not_found_is operations_law granules_law A events w are_open (ended, is) g quiet said known = by_case (granule w g) (is.each g) said
+not_found_is operations_law granules_law A events w are_open (ended, is) g quiet said known = by_case (granule w g) refl (is.each g) said
   where
     word : ℕ
     word = word_or_zero (openings events) g
 
-    explained : (v : ℕ) → SomeLeads (filter (is_in g) ended) (word ∷ []) v → IsWord (find_word (final_words events) g) v → CanBeExplained events g
-    explained v leads final_word =
-        one_explained operations_law granules_law events ended w.outstanding g is.tells known v
-        (subst (λ (ops : List Operation). SomeLeads ops (word ∷ []) v) (sym (alone events ended w are_open g quiet)) leads) final_word
+    ends_with : (final_word : Option ℕ) → final_word ≡ find_word (final_words events) g → ((order : List ℕ) × ExplainsGranule (operations events) g word final_word order) → CanBeExplained events g
+    ends_with final_word same can = subst (λ f. (order : List ℕ) × ExplainsGranule (operations events) g word f order) (same ∙ final_is events g known) can
 
-    by_case : (x : Option Followed) → IsGranuleOf events ended w.outstanding g x → IfSome x (λ f. IsExplainable f ⊎ A) → CanBeExplained events g ⊎ A
-    by_case None was said =
-        inl (explained word (subst (λ (ops : List Operation). SomeLeads ops (word ∷ []) word) (sym was.none) (leads_none word)) (subst (λ final_word. IsWord final_word word) (sym was.final_word) tt))
-    by_case (Some f) was (inl can) =
-        let led = can (was.known ∙ known) (word ∷ []) (filter (is_in g) ended) (was.follows (was.known ∙ known)) in
-        inl (explained led.0 led.1 (subst (λ final_word. IsWord final_word led.0) was.final_word led.2))
-    by_case (Some f) was (inr looked) = inr looked
+    by_case : (x : Option Followed) → granule w g ≡ x → IsGranuleOf events ended w.outstanding g x → IfSome x (λ f. IsExplainable f ⊎ A) → CanBeExplained events g ⊎ A
+    by_case None here was said =
+        inl (ends_with None (sym was.final_word) (explains_none granules_law (operations events) g word
+        (subst (IsPermutation (filter (is_in g) (operations events))) (alone events ended w are_open g quiet ∙ was.none) (all_told operations_law events ended w.outstanding g is.tells))))
+    by_case (Some f) here was (inl can) =
+        let f_known = was.known ∙ known in
+        inl (ends_with f.final_word was.final_word (can f_known (operations events) g word
+        (is_judge operations_law events ended w.outstanding g is.tells (2 ^ 64 - 1) f.judge (keeps_all events ended w are_open is g f here f_known (inl quiet)))))
+    by_case (Some f) here was (inr looked) = inr looked

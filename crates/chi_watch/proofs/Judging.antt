@@ -9,17 +9,14 @@ use Rattle.std.specs.declared.cmp.Ordering.TheVariants.{Less, Equal, Greater}
 use Rattle.std.proofs.lemmas.Map.Lookups.{exact_unsigned}
 use Rattle.std.proofs.lemmas.Map.Views.{Contains-from_lookup}
 use Rattle.std.proofs.lemmas.List.Elements.{All-contains, All-head, All-nil, All-push, All-tail, All-weaker, Contains-append_left, Contains-push}
-use Rattle.chi_search.specs.Frontiers.{Follows}
-use Rattle.chi_search.specs.Layers.{SomeLeads}
 use Rattle.chi_search.specs.Looks.{LookedMore, LookedSome}
-use Rattle.chi_trace.specs.declared.operation.Operation.{Operation}
 use Rattle.chi_watch.specs.Endings.{IsExplainable, IsInexplicableAt, IsListed}
-use Rattle.chi_watch.specs.Followed.{IfExplained, IfUndecided, IfUnexplained, IsWord}
+use Rattle.chi_judge.specs.Standings.{IfExplained, IfUndecided, IfUnexplained, IsExplainable as CanExplain, IsInexplicable as CanNotExplain}
 use Rattle.chi_watch.specs.ListedAs.{IsListedAs}
 use Rattle.chi_watch.specs.declared.judge_all.Listed.{Listed}
 use Rattle.chi_watch.specs.declared.followed.Followed.{Followed}
-use Rattle.chi_watch.specs.declared.followed.Standing.{Standing}
-use Rattle.chi_watch.specs.declared.followed.Standing.TheVariants.{Explained, Undecided, Unexplained}
+use Rattle.chi_judge.specs.declared.standing.Standing.{Standing}
+use Rattle.chi_judge.specs.declared.standing.Standing.TheVariants.{Explained, Undecided, Unexplained}
 use Rattle.chi_watch.proofs.Looked.{LookedFor, looked_decided, looked_first, looked_undecided}
 
 -- a granule that is explained or listed
@@ -120,8 +117,8 @@ module _ {P : Type 0} (looked : P → ℕ → Type 0) (budget : ℕ) (get : ℕ 
 
     -- it was judged, and listed where it is not explained
     module _ (known : IsTrue f.is_known) (later : P) (next : Listed) where
-      pub listed : (s : Standing) → IfExplained s ((words : List ℕ) (told : List Operation) → Follows words told f.frontier → (v : ℕ) × SomeLeads told words v × IsWord f.final_word v)
-          → IfUnexplained s ((words : List ℕ) (told : List Operation) → Follows words told f.frontier → (v : ℕ) → SomeLeads told words v → IsWord f.final_word v → ⊥)
+      pub listed : (s : Standing) → IfExplained s (CanExplain f.judge f.final_word)
+          → IfUnexplained s (CanNotExplain f.judge f.final_word)
           → IfUndecided s (LookedMore looked now later budget) → LookedSome looked now later → IsListedAs s g ending next → AreJudged later next rest
       listed Explained can none whole some (un, dec) = record {
         seen = are.seen ++ (g, f) ∷ [];

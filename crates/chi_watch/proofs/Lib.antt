@@ -12,4 +12,3 @@ pub mod Reached
 pub mod Taken
 pub mod ToldAtTheEnd
 pub mod Verdicts
-pub mod Words

@@ -7,9 +7,8 @@ use Rattle.std.proofs.lemmas.List.Folds.{list_any-append}
 use Rattle.chi_events.specs.declared.event.Event.{Event}
 use Rattle.chi_events.specs.declared.outstanding.Open.{Open}
 use Rattle.chi_events.specs.Outstanding.{OutstandingValue}
-use Rattle.chi_recent.specs.Recent.{Keeps}
-use Rattle.chi_recent.proofs.Keeping.{keeps_later}
-use Rattle.chi_search.specs.Frontiers.{Follows}
+use Rattle.chi_judge.specs.Judges.{Keeps}
+use Rattle.chi_judge.proofs.Keeping.{keeps_later}
 use Rattle.chi_trace.specs.AtPlaces.{is_in}
 use Rattle.chi_trace.specs.declared.operation.Operation.{Operation}
 use Rattle.chi_trace.specs.declared.words.GranuleWord.{GranuleWord}
@@ -50,15 +49,13 @@ pub begun : (events : List Event) (ended : List Operation) (o : OutstandingValue
     → find_word (final_words events) g ≡ None → IsUntouched word f → IsWatched events ended o g f
 begun events ended o g word f known none opening final_word u = record {
   known = u.known ∙ sym known;
-  follows = λ so. subst (λ (w : ℕ). Follows (w ∷ []) (filter (is_in g) ended) f.frontier) (sym opening) (subst (λ (ops : List Operation). Follows (word ∷ []) ops f.frontier) (sym none) u.follows);
+  keeps = λ so.
+      subst (λ (w : ℕ). Keeps (w ∷ []) (filter (is_in g) ended) o.time f.judge) (sym opening)
+      (subst (λ (ops : List Operation). Keeps (word ∷ []) ops o.time f.judge) (sym none) (keeps_later (word ∷ []) [] 0 f.judge u.keeps o.time (omega arith)));
   latest = omega (arith, u.latest);
   past = omega (arith, u.horizon);
-  horizon = from_start o g f.frontier.horizon u.horizon;
-  recent = λ so.
-      subst (λ (w : ℕ). Keeps (w ∷ []) (filter (is_in g) ended) o.time f.recent) (sym opening)
-      (subst (λ (ops : List Operation). Keeps (word ∷ []) ops o.time f.recent) (sym none) (keeps_later (word ∷ []) [] 0 f.recent u.recent o.time (omega arith)));
-  recent_past = omega (arith, u.recent_horizon);
-  recent_horizon = from_start o g f.recent.horizon u.recent_horizon;
+  horizon = from_start o g f.judge.horizon u.horizon;
+  shown = u.shown;
   final_word = u.final_word ∙ sym final_word;
 }
 
@@ -93,12 +90,10 @@ module _ (events : List Event) (e : Event) where
     retold g None known opening final_word w = record { known = known ∙ w.known; none = w.none; opening = opening ∙ w.opening; final_word = final_word ∙ w.final_word }
     retold g (Some f) known opening final_word w = record {
       known = w.known ∙ sym known;
-      follows = λ so. subst (λ (word : Option ℕ). Follows (unwrap_or word 0 ∷ []) (filter (is_in g) ended) f.frontier) (sym opening) (w.follows so);
+      keeps = λ so. subst (λ (word : Option ℕ). Keeps (unwrap_or word 0 ∷ []) (filter (is_in g) ended) o.time f.judge) (sym opening) (w.keeps so);
       latest = w.latest;
       past = w.past;
       horizon = w.horizon;
-      recent = λ so. subst (λ (word : Option ℕ). Keeps (unwrap_or word 0 ∷ []) (filter (is_in g) ended) o.time f.recent) (sym opening) (w.recent so);
-      recent_past = w.recent_past;
-      recent_horizon = w.recent_horizon;
+      shown = w.shown;
       final_word = w.final_word ∙ sym final_word;
     }

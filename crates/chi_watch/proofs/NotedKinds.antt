@@ -3,10 +3,9 @@ use Rattle.std.proofs.Common.{◌≡◌, ℕ, ◌/◌, ◌==◌, ◌≤◌, Bool
 use Rattle.std.specs.Option.{unwrap_or}
 use Rattle.chi_events.specs.declared.event.Event.{Event}
 use Rattle.chi_events.specs.declared.event.EventKind.{EventKind}
-use Rattle.chi_events.specs.declared.event.EventKind.TheVariants.{Request, Data, Reply, Dropped, Refused, Word, Final, Unknown}
+use Rattle.chi_events.specs.declared.event.EventKind.TheVariants.{Request, Data, Reply, Dropped, Refused, Word, Final, Unknown, End}
 use Rattle.chi_events.specs.Outstanding.{OutstandingValue}
-use Rattle.chi_recent.specs.Recent.{Keeps, RecentValue}
-use Rattle.chi_search.specs.Frontiers.{Follows, FrontierValue}
+use Rattle.chi_judge.specs.Judges.{Keeps, JudgeValue}
 use Rattle.chi_trace.specs.AtPlaces.{is_in}
 use Rattle.chi_trace.specs.declared.operation.Operation.{Operation}
 use Rattle.chi_trace.specs.declared.words.GranuleWord.{GranuleWord}
@@ -92,13 +91,11 @@ module _ (events : List Event) (e : Event) (ended : List Operation) (o : Outstan
     final_told : (w : GranuleWord) → e.kind ≡ Final w → (f : Followed) → IsWatched events ended o w.granule f → f.final_word ≡ None → Will w.granule (Some (record f { final_word = Some w.word }))
     final_told w is f base none = record {
       known = base.known ∙ sym (known_same events e w.granule (ap (covers w.granule) is));
-      follows = λ so. subst (λ (word : Option ℕ). Follows (unwrap_or word 0 ∷ []) (filter (is_in w.granule) ended) f.frontier) (sym (no_opening (ap opening_in is) w.granule)) (base.follows so);
+      keeps = λ so. subst (λ (word : Option ℕ). Keeps (unwrap_or word 0 ∷ []) (filter (is_in w.granule) ended) o.time f.judge) (sym (no_opening (ap opening_in is) w.granule)) (base.keeps so);
       latest = base.latest;
       past = base.past;
       horizon = base.horizon;
-      recent = λ so. subst (λ (word : Option ℕ). Keeps (unwrap_or word 0 ∷ []) (filter (is_in w.granule) ended) o.time f.recent) (sym (no_opening (ap opening_in is) w.granule)) (base.recent so);
-      recent_past = base.recent_past;
-      recent_horizon = base.recent_horizon;
+      shown = base.shown;
       final_word = sym (ap (λ (words : List GranuleWord). find_word words w.granule) (one_final w (ap final_in is)) ∙ told_own (final_words events) w (sym base.final_word ∙ none));
     }
 
@@ -122,26 +119,22 @@ module _ (events : List Event) (e : Event) (ended : List Operation) (o : Outstan
     -- something that is not told
     gone : opening_in e.kind ≡ None → final_in e.kind ≡ None → (g : ℕ) → covers g e.kind ≡ true → (x y : Option Followed) → IsGone x y → Is g x → Will g y
     gone none none_final g covered x None was w = absurd was
-    gone none none_final g covered None (Some f) (unknown, horizon, latest, final_word, recent) w = record {
+    gone none none_final g covered None (Some f) (unknown, horizon, latest, shown, final_word) w = record {
       known = unknown ∙ sym (known_gone events e g covered);
-      follows = λ known. absurd (true≢false (sym known ∙ unknown));
+      keeps = λ known. absurd (true≢false (sym known ∙ unknown));
       latest = omega (arith, latest);
       past = omega (arith, horizon);
-      horizon = from_start o g f.frontier.horizon horizon;
-      recent = λ known. absurd (true≢false (sym known ∙ unknown));
-      recent_past = omega (arith, recent);
-      recent_horizon = from_start o g f.recent.horizon recent;
+      horizon = from_start o g f.judge.horizon horizon;
+      shown = shown;
       final_word = final_word ∙ sym (no_final none_final g ∙ w.final_word);
     }
-    gone none none_final g covered (Some before) (Some f) (unknown, frontier, final_word, recent) w = record {
+    gone none none_final g covered (Some before) (Some f) (unknown, judge, final_word) w = record {
       known = unknown ∙ sym (known_gone events e g covered);
-      follows = λ known. absurd (true≢false (sym known ∙ unknown));
-      latest = subst (λ (s : FrontierValue). s.latest ≤ o.time) (sym frontier) w.latest;
-      past = subst (λ (s : FrontierValue). s.horizon ≤ o.time) (sym frontier) w.past;
-      horizon = subst (λ (s : FrontierValue). StartsBy o.requests g s.horizon) (sym frontier) w.horizon;
-      recent = λ known. absurd (true≢false (sym known ∙ unknown));
-      recent_past = subst (λ (r : RecentValue). r.horizon ≤ o.time) (sym recent) w.recent_past;
-      recent_horizon = subst (λ (r : RecentValue). StartsBy o.requests g r.horizon) (sym recent) w.recent_horizon;
+      keeps = λ known. absurd (true≢false (sym known ∙ unknown));
+      latest = subst (λ (r : JudgeValue). r.latest ≤ o.time) (sym judge) w.latest;
+      past = subst (λ (r : JudgeValue). r.horizon ≤ o.time) (sym judge) w.past;
+      horizon = subst (λ (r : JudgeValue). StartsBy o.requests g r.horizon) (sym judge) w.horizon;
+      shown = ap (λ (r : JudgeValue). r.shown) judge ∙ w.shown;
       final_word = final_word ∙ (w.final_word ∙ sym (no_final none_final g));
     }
 
@@ -164,3 +157,4 @@ module _ (events : List Event) (e : Event) (ended : List Operation) (o : Outstan
     noted (Reply c) is fits t = stays (ap opening_in is) (ap final_in is) (λ g. ap (covers g) is) t
     noted (Dropped id) is fits t = stays (ap opening_in is) (ap final_in is) (λ g. ap (covers g) is) t
     noted (Refused id reason) is fits t = stays (ap opening_in is) (ap final_in is) (λ g. ap (covers g) is) t
+    noted End is fits t = stays (ap opening_in is) (ap final_in is) (λ g. ap (covers g) is) t

@@ -1,4 +1,4 @@
--- operations that are open at the end, each told to the search of its granule
+-- operations that are open at the end, each told of its granule
 use Rattle.std.proofs.Common.{◌≡◌, ℕ, ◌+◌, ◌-◌, ◌/◌, ◌^◌, ◌<◌, ◌≤◌, ◌==◌, ◌⊎◌, Bool, true, false, cond, List, [], ◌∷◌, ◌++◌, All, Option, Some, None, IfSome, IsTrue, is_some, filter, inl, inr, refl, sym, ap, subst, ◌∙◌, arith, eqb-true, eq-eqb, true≢false}
 use Rattle.std.proofs.lemmas.List.Elements.{All-contains, All-contains_itself, All-weaker}
 use Rattle.std.specs.List.{Contains}
@@ -6,7 +6,7 @@ use Rattle.chi_fields.specs.Access.{Access}
 use Rattle.chi_events.specs.Outstanding.{IsOpen, open_operation}
 use Rattle.chi_events.specs.declared.event.Event.{Event}
 use Rattle.chi_events.specs.declared.outstanding.Open.{Open}
-use Rattle.chi_recent.specs.Recent.{Keeps}
+use Rattle.chi_judge.specs.Judges.{Keeps}
 use Rattle.chi_trace.specs.AtPlaces.{is_in}
 use Rattle.chi_trace.specs.Granules.{granule_of}
 use Rattle.chi_trace.specs.declared.operation.Operation.{Operation}
@@ -35,18 +35,18 @@ opened granules p op can = by_access p.access can.at can.within
         subst (λ o. IfSome o (IsOpened p)) (sym is)
         (record { start = refl; end = refl; granule = ap (λ addr. addr / 8) at; lasting = can.lasting; within = within })
 
--- what the search of a granule that is told it takes
+-- what a granule takes that is told it
 module _ (op : Operation) (lasting : op.start ≤ op.end) (within : op.access.addr + op.access.len ≤ 2 ^ 52) (end : op.end ≡ 2 ^ 64 - 1) where
-  can_end : (f : Followed) → (f.frontier.horizon ≤ op.start) × (f.frontier.latest ≤ 2 ^ 64 - 1) × (f.recent.horizon ≤ op.start) → CanEnd 0 f op
-  can_end f takes = record { past = takes.0; recent = takes.2; starts = omega arith; ends = subst (λ n. f.frontier.latest ≤ n) (sym end) takes.1; lasting = lasting; within = within }
+  can_end : (f : Followed) → (f.judge.horizon ≤ op.start) × (f.judge.latest ≤ 2 ^ 64 - 1) → CanEnd 0 f op
+  can_end f takes = record { past = takes.0; starts = omega arith; ends = subst (λ n. f.judge.latest ≤ n) (sym end) takes.1; lasting = lasting; within = within }
 
   told_to : (x y : Option Followed) → TakesOpen op.start x → IsClosed op 0 x y → AreToldTo (op ∷ []) x y
   told_to None y takes is = absurd takes
   told_to (Some f) None takes is = absurd is
   told_to (Some f) (Some h) takes is = record {
-    follows = λ known. (is.told known (can_end f takes)).follows;
-    recent = λ known words told kept.
-        subst (λ n. Keeps words (told ++ op ∷ []) n h.recent) end ((is.told known (can_end f takes)).recent words told (subst (λ n. Keeps words told n f.recent) (sym end) kept));
+    keeps = λ known words told kept.
+        subst (λ n. Keeps words (told ++ op ∷ []) n h.judge) end ((is.told known (can_end f takes)).keeps words told (subst (λ n. Keeps words told n f.judge) (sym end) kept));
+    shown = shown_by f.is_known refl;
     final_word = is.final_word;
     known = by_known f.is_known refl;
   }
@@ -54,6 +54,10 @@ module _ (op : Operation) (lasting : op.start ≤ op.end) (within : op.access.ad
       by_known : (b : Bool) → f.is_known ≡ b → h.is_known ≡ f.is_known
       by_known true known = (is.told known (can_end f takes)).known
       by_known false unknown = ap (λ (x : Followed). x.is_known) (is.unknown unknown)
+
+      shown_by : (b : Bool) → f.is_known ≡ b → h.judge.shown ≡ f.judge.shown
+      shown_by true known = (is.told known (can_end f takes)).shown
+      shown_by false unknown = ap (λ (x : Followed). x.judge.shown) (is.unknown unknown)
 
   takes_on : (start : ℕ) (x y : Option Followed) → TakesOpen op.start x → IsClosed op 0 x y → TakesOpen start x → TakesOpen start y
   takes_on start None y takes is other = absurd takes
@@ -67,13 +71,12 @@ module _ (op : Operation) (lasting : op.start ≤ op.end) (within : op.access.ad
       by_known : (b : Bool) → f.is_known ≡ b → TakesOpen start (Some h)
       by_known true known =
           let t = is.told known (can_end f takes) in (
-            horizon f.frontier.horizon h.frontier.horizon other.0 t.horizon_is,
-            subst (λ n. n ≤ 2 ^ 64 - 1) (sym (t.latest ∙ end)) (omega arith),
-            horizon f.recent.horizon h.recent.horizon other.2 t.recent_horizon,
+            horizon f.judge.horizon h.judge.horizon other.0 t.horizon_is,
+            subst (λ n. h.judge.latest ≤ n) end t.latest,
           )
       by_known false unknown = subst (λ (x : Followed). TakesOpen start (Some x)) (sym (is.unknown unknown)) other
 
--- one request's operation is told to the search of its granule
+-- one request's operation is told of its granule
 module _ (p : Open) (op : Operation) (old new : ℕ → Option Followed) (can : CanClose old p) (is : Some op ≡ open_operation p) (more : HasOneMore op 0 old new) where
   own : IsOpened p op
   own = opened old p op can is
@@ -112,9 +115,8 @@ module _ (events : List Event) (ended : List Operation) (w : WatchValue) (is : W
       → IsGranuleOf events ended w.outstanding (granule_of_request p) x → TakesOpen p.start x
   takes_open p start has None some of = absurd (true≢false (sym some))
   takes_open p start has (Some f) some of = (
-    All-contains (λ (q : Open). granule_of_request q ≡ granule_of_request p → f.frontier.horizon ≤ q.start) w.outstanding.requests p of.horizon has refl,
-    let time : w.outstanding.time < 2 ^ 64 = is.time in let latest : f.frontier.latest ≤ w.outstanding.time = of.latest in omega arith,
-    All-contains (λ (q : Open). granule_of_request q ≡ granule_of_request p → f.recent.horizon ≤ q.start) w.outstanding.requests p of.recent_horizon has refl,
+    All-contains (λ (q : Open). granule_of_request q ≡ granule_of_request p → f.judge.horizon ≤ q.start) w.outstanding.requests p of.horizon has refl,
+    let time : w.outstanding.time < 2 ^ 64 = is.time in let latest : f.judge.latest ≤ w.outstanding.time = of.latest in omega arith,
   )
 
   can_close : (p : Open) → Contains w.outstanding.requests p → CanClose (granule w) p

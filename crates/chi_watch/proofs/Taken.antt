@@ -5,7 +5,7 @@ use Rattle.std.specs.List.{list_any}
 use Rattle.std.proofs.lemmas.List.Elements.{All-contains, All-pop, All-weaker}
 use Rattle.chi_events.specs.declared.event.Event.{Event}
 use Rattle.chi_events.specs.declared.event.EventKind.{EventKind}
-use Rattle.chi_events.specs.declared.event.EventKind.TheVariants.{Request, Data, Reply, Dropped, Refused, Word, Final, Unknown}
+use Rattle.chi_events.specs.declared.event.EventKind.TheVariants.{Request, Data, Reply, Dropped, Refused, Word, Final, Unknown, End}
 use Rattle.chi_events.specs.declared.event.Requested.{Requested}
 use Rattle.chi_events.specs.declared.outstanding.Open.{Open}
 use Rattle.chi_events.specs.Outstanding.{IsEndOf, IsEvent, OutstandingValue, StaysOrStarts, Tells}
@@ -75,6 +75,7 @@ module _ (old new : ℕ → Option Followed) where
   noted_some (Reply c) t g some = ap is_some (t g) ∙ some
   noted_some (Dropped id) t g some = ap is_some (t g) ∙ some
   noted_some (Refused id reason) t g some = ap is_some (t g) ∙ some
+  noted_some End t g some = ap is_some (t g) ∙ some
 
   -- the granule of a request that is taken is watched
   request_some : (k : EventKind) (r : Requested) → requested k ≡ Some r → IsUpdated k old new → IsTrue (is_some (new (r.fields.addr / 8)))
@@ -86,6 +87,7 @@ module _ (old new : ℕ → Option Followed) where
   request_some (Reply c) r is t = absurd (true≢false (ap is_some (sym is)))
   request_some (Dropped id) r is t = absurd (true≢false (ap is_some (sym is)))
   request_some (Refused id reason) r is t = absurd (true≢false (ap is_some (sym is)))
+  request_some End r is t = absurd (true≢false (ap is_some (sym is)))
 
 -- what is no fault
 pub none_of : {F : Type 0} (b : Bool) (f : F) (rest : Option F) → (if b then Some f else rest) ≡ None → b ≡ false
@@ -115,6 +117,7 @@ module _ (events : List Event) (ended : List Operation) (w : WatchValue) (e : Ev
   fits c (Reply r) is = tt
   fits c (Dropped id) is = tt
   fits c (Refused id reason) is = tt
+  fits c End is = tt
 
   pub taken : granule_fault w e.kind ≡ None → o.time ≡ e.time → w.outstanding.time ≤ e.time → All (StaysOrStarts w.outstanding.requests e) o.requests → IfSome op (IsEndOf w.outstanding.requests e.time)
       → IsClosedBy op o.requests (granule w) mid → IsUpdated e.kind mid (granule now) → Tells (events ++ e ∷ []) (ended ++ option_to_list op) o

@@ -7,8 +7,7 @@ use Rattle.std.proofs.lemmas.List.{take_more}
 use Rattle.std.proofs.lemmas.List.Elements.{filter-append, filter_map-append}
 use Rattle.chi_events.specs.Outstanding.{open_operation}
 use Rattle.chi_events.specs.declared.outstanding.Open.{Open}
-use Rattle.chi_recent.specs.Recent.{Keeps}
-use Rattle.chi_search.specs.Frontiers.{Follows}
+use Rattle.chi_judge.specs.Judges.{Keeps}
 use Rattle.chi_trace.specs.AtPlaces.{is_in}
 use Rattle.chi_trace.specs.declared.operation.Operation.{Operation}
 use Rattle.chi_watch.specs.Endings.{AreToldTo}
@@ -18,8 +17,8 @@ use Rattle.chi_watch.specs.declared.followed.Followed.{Followed}
 pub told_none : (x : Option Followed) → AreToldTo [] x x
 told_none None = refl
 told_none (Some f) = record {
-  follows = λ known words told follows. subst (λ l. Follows words l f.frontier) (sym (append-nil told)) follows;
-  recent = λ known words told kept. subst (λ l. Keeps words l (2 ^ 64 - 1) f.recent) (sym (append-nil told)) kept;
+  keeps = λ known words told kept. subst (λ l. Keeps words l (2 ^ 64 - 1) f.judge) (sym (append-nil told)) kept;
+  shown = refl;
   final_word = refl;
   known = refl;
 }
@@ -31,12 +30,10 @@ told_more xs ys None (Some g) c first second = absurd first
 told_more xs ys (Some f) None c first second = absurd first
 told_more xs ys (Some f) (Some g) None first second = second
 told_more xs ys (Some f) (Some g) (Some h) first second = record {
-  follows = λ known words told follows.
-      subst (λ l. Follows words l h.frontier) (append_assoc told xs ys)
-      (second.follows (first.known ∙ known) words (told ++ xs) (first.follows known words told follows));
-  recent = λ known words told kept.
-      subst (λ l. Keeps words l (2 ^ 64 - 1) h.recent) (append_assoc told xs ys)
-      (second.recent (first.known ∙ known) words (told ++ xs) (first.recent known words told kept));
+  keeps = λ known words told kept.
+      subst (λ l. Keeps words l (2 ^ 64 - 1) h.judge) (append_assoc told xs ys)
+      (second.keeps (first.known ∙ known) words (told ++ xs) (first.keeps known words told kept));
+  shown = second.shown ∙ first.shown;
   final_word = second.final_word ∙ first.final_word;
   known = second.known ∙ first.known;
 }

@@ -3,8 +3,7 @@ use Rattle.std.specs.Prelude.{◌≡◌, ℕ, ◌+◌, ◌/◌, ◌^◌, ◌<◌
 use Rattle.chi_events.specs.declared.event.EventKind.{EventKind}
 use Rattle.chi_events.specs.declared.outstanding.Open.{Open}
 use Rattle.chi_events.specs.declared.event.EventKind.TheVariants.{Request, Word, Final, Unknown}
-use Rattle.chi_recent.specs.Recent.{Keeps}
-use Rattle.chi_search.specs.Frontiers.{Follows}
+use Rattle.chi_judge.specs.Judges.{Keeps}
 use Rattle.chi_trace.specs.Granules.{granule_of}
 use Rattle.chi_trace.specs.declared.operation.Operation.{Operation}
 use Rattle.chi_watch.specs.declared.followed.Followed.{Followed}
@@ -17,11 +16,10 @@ OthersStay old new g = (h : ℕ) → (h ≡ g → ⊥) → new h ≡ old h
 
 -- a granule before its first request
 pub record IsUntouched (word : ℕ) (f : Followed) : Type 0 where
-  pub follows : Follows (word ∷ []) [] f.frontier
-  pub horizon : f.frontier.horizon ≡ 0
-  pub latest : f.frontier.latest ≡ 0
-  pub recent : Keeps (word ∷ []) [] 0 f.recent
-  pub recent_horizon : f.recent.horizon ≡ 0
+  pub keeps : Keeps (word ∷ []) [] 0 f.judge
+  pub horizon : f.judge.horizon ≡ 0
+  pub latest : f.judge.latest ≡ 0
+  pub shown : f.judge.shown ≡ 16
   pub final_word : f.final_word ≡ None
   pub known : IsTrue f.is_known
 
@@ -36,26 +34,24 @@ pub record IsTouched (old new : ℕ → Option Followed) (g word : ℕ) : Type 0
   pub is : new g ≡ Some followed
   pub was : IsSameOrUntouched word (old g) followed
 
--- the operation can be told to the search of its granule
+-- the operation can be told of its granule
 pub record CanEnd (horizon : ℕ) (f : Followed) (op : Operation) : Type 0 where
-  pub past : f.frontier.horizon ≤ op.start
-  pub recent : f.recent.horizon ≤ op.start
+  pub past : f.judge.horizon ≤ op.start
   pub starts : horizon ≤ op.start
-  pub ends : f.frontier.latest ≤ op.end
+  pub ends : f.judge.latest ≤ op.end
   pub lasting : op.start ≤ op.end
   pub within : op.access.addr + op.access.len ≤ 2 ^ 52
 
--- one operation more of the granule was told to its search, and is kept with the last of them
+-- one operation more of the granule was told
 pub record IsTold (op : Operation) (horizon : ℕ) (old new : Followed) : Type 0 where
-  pub follows : (words : List ℕ) (told : List Operation) → Follows words told old.frontier → Follows words (told ++ op ∷ []) new.frontier
-  pub horizon_is : (new.frontier.horizon ≤ horizon) ⊎ (new.frontier.horizon ≡ old.frontier.horizon)
-  pub latest : new.frontier.latest ≡ op.end
-  pub recent : (words : List ℕ) (told : List Operation) → Keeps words told op.end old.recent → Keeps words (told ++ op ∷ []) op.end new.recent
-  pub recent_horizon : (new.recent.horizon ≤ horizon) ⊎ (new.recent.horizon ≡ old.recent.horizon)
+  pub keeps : (words : List ℕ) (told : List Operation) → Keeps words told op.end old.judge → Keeps words (told ++ op ∷ []) op.end new.judge
+  pub horizon_is : (new.judge.horizon ≤ horizon) ⊎ (new.judge.horizon ≡ old.judge.horizon)
+  pub latest : new.judge.latest ≤ op.end
+  pub shown : new.judge.shown ≡ old.judge.shown
   pub final_word : new.final_word ≡ old.final_word
   pub known : new.is_known ≡ old.is_known
 
--- the operation was told to its granule's search, where all that wrote to the granule is told
+-- the operation was told of its granule, where all that wrote to the granule is told
 pub record IsToldIfKnown (op : Operation) (horizon : ℕ) (old new : Followed) : Type 0 where
   pub told : IsTrue old.is_known → CanEnd horizon old op → IsTold op horizon old new
   pub unknown : old.is_known ≡ false → new ≡ old
@@ -92,8 +88,8 @@ pub record IsTouchedAndMarked (g : ℕ) (change : Followed → Followed) (old ne
 -- something that is not told may have written to the granule: it is watched no further
 abbrev pub IsGone : Option Followed → Option Followed → Type 0
 IsGone old None = ⊥
-IsGone None (Some new) = (new.is_known ≡ false) × (new.frontier.horizon ≡ 0) × (new.frontier.latest ≡ 0) × (new.final_word ≡ None) × (new.recent.horizon ≡ 0)
-IsGone (Some old) (Some new) = (new.is_known ≡ false) × (new.frontier ≡ old.frontier) × (new.final_word ≡ old.final_word) × (new.recent ≡ old.recent)
+IsGone None (Some new) = (new.is_known ≡ false) × (new.judge.horizon ≡ 0) × (new.judge.latest ≡ 0) × (new.judge.shown ≡ 16) × (new.final_word ≡ None)
+IsGone (Some old) (Some new) = (new.is_known ≡ false) × (new.judge ≡ old.judge) × (new.final_word ≡ old.final_word)
 
 pub record IsForgotten (covered : Bool) (old new : Option Followed) : Type 0 where
   pub same : covered ≡ false → new ≡ old

@@ -2,11 +2,9 @@
 use Rattle.std.specs.Prelude.{◌≡◌, ℕ, ◌+◌, ◌-◌, ◌^◌, ◌≤◌, ◌++◌, ◌⊎◌, List, [], Option, None, Some, IfSome, IsTrue}
 use Rattle.std.specs.List.{Contains}
 use Rattle.chi_events.specs.declared.outstanding.Open.{Open}
-use Rattle.chi_recent.specs.Recent.{Keeps}
-use Rattle.chi_search.specs.Frontiers.{Follows}
-use Rattle.chi_search.specs.Layers.{SomeLeads}
+use Rattle.chi_judge.specs.Judges.{Keeps}
+use Rattle.chi_judge.specs.Standings.{IsExplainable as CanExplain, IsInexplicable as CanNotExplain}
 use Rattle.chi_trace.specs.declared.operation.Operation.{Operation}
-use Rattle.chi_watch.specs.Followed.{IsWord}
 use Rattle.chi_watch.specs.Requests.{granule_of_request}
 use Rattle.chi_watch.specs.declared.followed.Followed.{Followed}
 
@@ -14,10 +12,10 @@ use Rattle.chi_watch.specs.declared.followed.Followed.{Followed}
 abbrev pub IsListed : ℕ → List ℕ → List ℕ → Type 0
 IsListed g unexplained undecided = Contains unexplained g ⊎ Contains undecided g
 
--- an operation that started at this time and is open at the end can be told to the search of its granule, which is watched
+-- an operation that started at this time and is open at the end can be told of its granule, which is watched
 abbrev pub TakesOpen : ℕ → Option Followed → Type 0
 TakesOpen start None = ⊥
-TakesOpen start (Some f) = (f.frontier.horizon ≤ start) × (f.frontier.latest ≤ 2 ^ 64 - 1) × (f.recent.horizon ≤ start)
+TakesOpen start (Some f) = (f.judge.horizon ≤ start) × (f.judge.latest ≤ 2 ^ 64 - 1)
 
 -- an outstanding request's operation can be told, once its data have come
 pub record CanClose (granules : ℕ → Option Followed) (p : Open) : Type 0 where
@@ -26,10 +24,10 @@ pub record CanClose (granules : ℕ → Option Followed) (p : Open) : Type 0 whe
   pub lasting : p.start ≤ 2 ^ 64 - 1
   pub takes : TakesOpen p.start (granules (granule_of_request p))
 
--- these operations more were told to the granule's search, where all that wrote to the granule is told
+-- these operations more were told of the granule, where all that wrote to it is told
 pub record AreTold (ops : List Operation) (old new : Followed) : Type 0 where
-  pub follows : IsTrue old.is_known → (words : List ℕ) (told : List Operation) → Follows words told old.frontier → Follows words (told ++ ops) new.frontier
-  pub recent : IsTrue old.is_known → (words : List ℕ) (told : List Operation) → Keeps words told (2 ^ 64 - 1) old.recent → Keeps words (told ++ ops) (2 ^ 64 - 1) new.recent
+  pub keeps : IsTrue old.is_known → (words : List ℕ) (told : List Operation) → Keeps words told (2 ^ 64 - 1) old.judge → Keeps words (told ++ ops) (2 ^ 64 - 1) new.judge
+  pub shown : new.judge.shown ≡ old.judge.shown
   pub final_word : new.final_word ≡ old.final_word
   pub known : new.is_known ≡ old.is_known
 
@@ -40,14 +38,14 @@ AreToldTo ops None (Some new) = ⊥
 AreToldTo ops (Some old) None = ⊥
 AreToldTo ops (Some old) (Some new) = AreTold ops old new
 
--- What the search follows leads to a word that may have been the last, where all that wrote to the granule is told.
+-- Where all that wrote to the granule is told, some order explains what was told of it, and leaves its final word.
 abbrev pub IsExplainable : Followed → Type 0
-IsExplainable f = IsTrue f.is_known → (words : List ℕ) (told : List Operation) → Follows words told f.frontier → (v : ℕ) × SomeLeads told words v × IsWord f.final_word v
+IsExplainable f = IsTrue f.is_known → CanExplain f.judge f.final_word
 
--- All that wrote to the granule is told, and what the search follows leads to no such word.
+-- All that wrote to the granule is told, and no such order does.
 pub record IsInexplicable (f : Followed) : Type 0 where
   pub known : IsTrue f.is_known
-  pub none : (words : List ℕ) (told : List Operation) → Follows words told f.frontier → (v : ℕ) → SomeLeads told words v → IsWord f.final_word v → ⊥
+  pub none : CanNotExplain f.judge f.final_word
 
 abbrev pub IsInexplicableAt : Option Followed → Type 0
 IsInexplicableAt None = ⊥

@@ -1,4 +1,3 @@
-pub mod Followed
 pub mod Judged
 pub mod Changes
 pub mod Counts

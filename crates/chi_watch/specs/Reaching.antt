@@ -3,10 +3,10 @@ use Rattle.std.specs.Prelude.{◌≡◌, ℕ, List, Option, IfSome, map}
 use Rattle.chi_events.specs.declared.event.Event.{Event}
 use Rattle.chi_events.specs.Operations.{operations}
 use Rattle.chi_search.specs.Looks.{LookedAtLeast}
-use Rattle.chi_recent.specs.Reaches.{AreLast, IfUndecided, IsRecentOf, IsStop}
-use Rattle.chi_recent.specs.Recent.{RecentValue}
-use Rattle.chi_recent.specs.declared.reach.Reach.{Reach}
-use Rattle.chi_recent.specs.declared.reach.Reach.TheVariants.{Whole, Stops, Undecided}
+use Rattle.chi_judge.specs.Reaches.{AreLast, IfUndecided, IsJudgeOf, IsStop}
+use Rattle.chi_judge.specs.Judges.{JudgeValue}
+use Rattle.chi_judge.specs.declared.reach.Reach.{Reach}
+use Rattle.chi_judge.specs.declared.reach.Reach.TheVariants.{Whole, Stops, Undecided}
 use Rattle.chi_trace.specs.declared.operation.Operation.{Operation}
 use Rattle.chi_trace.specs.Words.{find_word, word_or_zero}
 use Rattle.chi_watch.specs.Judged.{final_words, openings}
@@ -16,8 +16,8 @@ use Rattle.chi_watch.specs.declared.followed.Followed.{Followed}
 
 -- the granule's operations in a trace can be explained so far, from this word on
 abbrev pub IsReachIn : List Operation → ℕ → ℕ → Reach → Type 0
-IsReachIn trace g w (Whole words) = AreLast trace g w words.items
-IsReachIn trace g w (Stops stop) = IsStop trace g w stop
+IsReachIn trace g w (Whole words) = AreLast trace g w words
+IsReachIn trace g w (Stops stop) = IsStop trace g w 16 stop
 IsReachIn trace g w Undecided = Unit {0}
 
 -- those that the events tell, from its word at the opening on
@@ -25,21 +25,21 @@ abbrev pub IsReach : List Event → ℕ → Reach → Type 0
 IsReach events g reach = IsReachIn (operations events) g (word_or_zero (openings events) g) reach
 
 -- those of which the last are kept, in whichever trace they are
-abbrev pub ReachesBy : RecentValue → Reach → Type 0
-ReachesBy r reach = (trace : List Operation) (g w : ℕ) → IsRecentOf trace g w r → IsReachIn trace g w reach
+abbrev pub ReachesBy : JudgeValue → Reach → Type 0
+ReachesBy r reach = r.shown ≡ 16 → (trace : List Operation) (g w : ℕ) → IsJudgeOf trace g w r → IsReachIn trace g w reach
 
 -- the operations that are kept are those of a granule in some trace
-abbrev pub IsOfSomeTrace : RecentValue → Type 0
-IsOfSomeTrace r = (trace : List Operation) × (g : ℕ) × (w : ℕ) × IsRecentOf trace g w r
+abbrev pub IsOfSomeTrace : JudgeValue → Type 0
+IsOfSomeTrace r = (trace : List Operation) × (g : ℕ) × (w : ℕ) × IsJudgeOf trace g w r
 
 -- what is said of a granule at the end: its word, and how far its operations can be explained
 pub record IsFoundIn (granules : ℕ → Option Followed) (found : FoundAtEnd) : Type 0 where
   pub final_word : IfSome (granules found.granule) (λ f. found.final_word ≡ f.final_word)
-  pub reach : IfSome (granules found.granule) (λ f. ReachesBy f.recent found.reach)
+  pub reach : IfSome (granules found.granule) (λ f. ReachesBy f.judge found.reach)
 
 -- where that is not known so many states were looked at
 abbrev pub IsUnreachedIn : {P : Type 0} → (P → ℕ → Type 0) → P → P → ℕ → (ℕ → Option Followed) → FoundAtEnd → Type 0
-IsUnreachedIn looked old new budget granules found = IfSome (granules found.granule) (λ f. IfUndecided found.reach (IsOfSomeTrace f.recent → LookedAtLeast looked old new budget))
+IsUnreachedIn looked old new budget granules found = IfSome (granules found.granule) (λ f. IfUndecided found.reach (IsOfSomeTrace f.judge → LookedAtLeast looked old new budget))
 
 -- the granules that are found at the end
 abbrev pub granules_of : List FoundAtEnd → List ℕ

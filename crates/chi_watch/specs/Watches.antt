@@ -1,5 +1,5 @@
 -- what a watch knows of the events that it took
-use Rattle.std.specs.Prelude.{◌≡◌, ℕ, ◌+◌, ◌-◌, ◌/◌, ◌^◌, ◌<◌, ◌≤◌, ◌==◌, length, min, nat_le, nat_lt, Bool, true, false, ◌&&◌, if◌then◌else◌, List, [], ◌∷◌, All, Option, Some, None, is_some, option_map, IsTrue, filter}
+use Rattle.std.specs.Prelude.{◌≡◌, ℕ, ◌+◌, ◌-◌, ◌/◌, ◌^◌, ◌<◌, ◌≤◌, ◌==◌, ◌⊎◌, length, min, nat_le, nat_lt, Bool, true, false, ◌&&◌, if◌then◌else◌, List, [], ◌∷◌, All, Option, Some, None, is_some, option_map, IsTrue, filter}
 use Rattle.std.specs.List.{list_any}
 use Rattle.std.specs.BTreeMap.{is_at}
 use Rattle.std.specs.Map.{lookup}
@@ -10,9 +10,8 @@ use Rattle.chi_events.specs.Operations.{operations}
 use Rattle.chi_events.specs.Outstanding.{OutstandingValue, Tells, fault_of as outstanding_fault}
 use Rattle.chi_events.specs.declared.event.EventKind.{EventKind}
 use Rattle.chi_events.specs.declared.event.EventKind.TheVariants.{Request, Word, Final, Unknown}
-use Rattle.chi_recent.specs.Recent.{Keeps}
-use Rattle.chi_search.specs.Frontiers.{Follows}
-use Rattle.chi_search.specs.Layers.{SomeLeads}
+use Rattle.chi_judge.specs.Judges.{Keeps}
+use Rattle.chi_judge.specs.Standings.{IsInexplicable}
 use Rattle.chi_trace.specs.AtPlaces.{is_in}
 use Rattle.chi_trace.specs.Granules.{ExplainsGranule}
 use Rattle.chi_trace.specs.declared.operation.Operation.{Operation}
@@ -21,7 +20,6 @@ use Rattle.chi_watch.specs.declared.followed.Followed.{Followed}
 use Rattle.chi_watch.specs.declared.fault.WatchFault.{WatchFault}
 use Rattle.chi_watch.specs.declared.fault.WatchFault.TheVariants as fault
 use Rattle.chi_watch.specs.Faults.{as_watch_fault}
-use Rattle.chi_watch.specs.Followed.{IsWord}
 use Rattle.chi_watch.specs.Requests.{StartsBy, granule_of_request}
 use Rattle.chi_watch.specs.Judged.{IsExplainedBy, final_of, final_words, is_known, openings}
 
@@ -36,17 +34,15 @@ pub record WatchValue : Type 0 where
 abbrev pub granule : WatchValue → ℕ → Option Followed
 granule w g = lookup (is_at (nat_cmp g)) w.granules
 
--- A granule that is watched: where all that wrote to it is told, its search follows its operations that had ended, from its
--- word at the opening on, and the last of them are kept.
+-- A granule that is watched: where all that wrote to it is told, its judge was told its operations that had ended, from its word
+-- at the opening on.
 pub record IsWatched (events : List Event) (ended : List Operation) (o : OutstandingValue) (g : ℕ) (f : Followed) : Type 0 where
   pub known : f.is_known ≡ is_known events g
-  pub follows : IsTrue f.is_known → Follows (word_or_zero (openings events) g ∷ []) (filter (is_in g) ended) f.frontier
-  pub latest : f.frontier.latest ≤ o.time
-  pub past : f.frontier.horizon ≤ o.time
-  pub horizon : StartsBy o.requests g f.frontier.horizon
-  pub recent : IsTrue f.is_known → Keeps (word_or_zero (openings events) g ∷ []) (filter (is_in g) ended) o.time f.recent
-  pub recent_past : f.recent.horizon ≤ o.time
-  pub recent_horizon : StartsBy o.requests g f.recent.horizon
+  pub keeps : IsTrue f.is_known → Keeps (word_or_zero (openings events) g ∷ []) (filter (is_in g) ended) o.time f.judge
+  pub latest : f.judge.latest ≤ o.time
+  pub past : f.judge.horizon ≤ o.time
+  pub horizon : StartsBy o.requests g f.judge.horizon
+  pub shown : f.judge.shown ≡ 16
   pub final_word : f.final_word ≡ find_word (final_words events) g
 
 -- nothing was told of the granule
@@ -78,13 +74,22 @@ pub record IsUnexplained (events : List Event) (g : ℕ) : Type 0 where
   pub none : (order : List ℕ) → ExplainsGranule (operations events) g (word_or_zero (openings events) g) (final_of events g) order → ⊥
   pub whole : (order : List ℕ) → IsExplainedBy events order → ⊥
 
--- All that wrote to the granule is told, no request of it is outstanding, and its search goes on to no word.
+-- what was told of the granule is known not to be explained
+abbrev pub HasStopped : Option Followed → Type 0
+HasStopped None = ⊥
+HasStopped (Some f) = IsTrue f.judge.is_stopped
+
+-- no request of the granule is outstanding, or what was told of it is known not to be explained
+abbrev pub CanBeJudged : WatchValue → ℕ → Type 0
+CanBeJudged w g = (list_any (λ p. granule_of_request p == g) w.outstanding.requests ≡ false) ⊎ HasStopped (granule w g)
+
+-- All that wrote to the granule is told, and no order explains what was told of it.
 pub record IsFound (w : WatchValue) (g : ℕ) : Type 0 where
   pub followed : Followed
   pub is : granule w g ≡ Some followed
   pub known : IsTrue followed.is_known
-  pub quiet : list_any (λ p. granule_of_request p == g) w.outstanding.requests ≡ false
-  pub none : (words : List ℕ) (told : List Operation) → Follows words told followed.frontier → (v : ℕ) → SomeLeads told words v → IsWord followed.final_word v → ⊥
+  pub judged : CanBeJudged w g
+  pub none : IsInexplicable followed.judge followed.final_word
 
 -- why the granules do not take an event
 abbrev pub has_final_word : Option Followed → Bool

@@ -15,7 +15,7 @@ use chi_trace::Operation;
 use std::alloc::{AllocError, Global};
 use std::collections::BTreeMap;
 
-/// Tells the search of its granule the operation that ended, while these requests are outstanding.
+/// Tells the operation that ended of its granule, while these requests are outstanding.
 pub(crate) fn close_ended<P: Progress>(
     alloc: Global,
     granules: &mut BTreeMap<u64, Followed>,

@@ -6,7 +6,7 @@ ghost use Rattle.std.specs.Ordering.{nat_cmp};
 ghost use Rattle.chi_events.specs.Outstanding.{open_operation};
 ghost use Rattle.chi_events.specs.declared.event.Event.{Event};
 ghost use Rattle.chi_search.specs.Looks.{LookedAtLeast, LookedSome};
-ghost use Rattle.chi_recent.specs.Reaches.{IfUndecided};
+ghost use Rattle.chi_judge.specs.Reaches.{IfUndecided};
 ghost use Rattle.chi_trace.specs.AtPlaces.{is_in};
 ghost use Rattle.chi_watch.specs.Endings.{AreToldTo, CanClose, IsListed};
 ghost use Rattle.chi_watch.specs.Judged.{IsExplained, is_known};
@@ -21,7 +21,7 @@ use crate::reaching::reach_of;
 use crate::watch::Watch;
 use chi_events::Open;
 use chi_events::laws::operations_are_told;
-use chi_recent::Reach;
+use chi_judge::Reach;
 use chi_search::Progress;
 use chi_trace::laws::{granules_explain, granules_stand_alone, parts_explain};
 use std::alloc::{AllocError, Global};
@@ -44,7 +44,7 @@ pub struct Ending {
     pub undecided: Vec<u64>,
 }
 
-/// Tells each operation that is still open to the search of its granule.
+/// Tells each operation that is still open of its granule.
 fn close_open<P: Progress>(
     alloc: Global,
     granules: &mut BTreeMap<u64, Followed>,

@@ -31,7 +31,7 @@ pub(crate) fn touch(
     Ok(())
 }
 
-/// Tells the search of its granule an operation that has ended.
+/// Tells an operation that has ended of its granule.
 pub(crate) fn close<P: Progress>(
     alloc: Global,
     granules: &mut BTreeMap<u64, Followed>,

@@ -7,7 +7,8 @@ ghost use Rattle.chi_search.specs.Looks.{LookedAtLeast, LookedSome};
 ghost use Rattle.chi_watch.specs.Endings.{IsExplainable, IsInexplicableAt, IsListed};
 ghost use Rattle.chi_watch.specs.ListedAs.{IsListedAs};
 
-use crate::followed::{Followed, Standing, judge};
+use crate::followed::Followed;
+use chi_judge::Standing;
 use chi_search::Progress;
 use std::alloc::{AllocError, Global};
 use std::collections::BTreeMap;
@@ -49,7 +50,9 @@ pub(crate) fn judge_all<P: Progress>(
     };
     for (granule, followed) in granules {
         if followed.is_known {
-            let standing = judge(alloc, followed, budget, progress)?;
+            let standing = followed
+                .judge
+                .check(alloc, followed.final_word, budget, progress)?;
             list(&mut listed, *granule, standing)?;
         }
     }

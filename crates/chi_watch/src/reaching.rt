@@ -1,18 +1,16 @@
 //! How far the operations of a granule can be explained.
 
-ghost use Rattle.std.specs.Prelude.{◌≡◌, ◌==◌, false, List, IfOk};
-ghost use Rattle.std.specs.List.{list_any};
+ghost use Rattle.std.specs.Prelude.{List, IfOk};
 ghost use Rattle.chi_events.specs.declared.event.Event.{Event};
 ghost use Rattle.chi_search.specs.Looks.{LookedAtLeast, LookedSome};
-ghost use Rattle.chi_recent.specs.Reaches.{IfUndecided};
+ghost use Rattle.chi_judge.specs.Reaches.{IfUndecided};
 ghost use Rattle.chi_watch.specs.Reaching.{IsOfSomeTrace, IsReach, ReachesBy};
-ghost use Rattle.chi_watch.specs.Requests.{granule_of_request};
-ghost use Rattle.chi_watch.specs.Watches.{HasTaken, IsUnexplained};
+ghost use Rattle.chi_watch.specs.Watches.{CanBeJudged, HasTaken, IsUnexplained};
 
 use crate::followed::Followed;
 use crate::watch::Watch;
 use chi_events::laws::operations_are_told;
-use chi_recent::Reach;
+use chi_judge::Reach;
 use chi_search::Progress;
 use chi_trace::laws::granules_stand_alone;
 use std::alloc::{AllocError, Global};
@@ -24,16 +22,16 @@ pub(crate) fn reach_of<P: Progress>(
     budget: u64,
     progress: &mut P,
 ) -> Result<Reach, AllocError>
-    ensures right { IfOk result (ReachesBy followed.now.recent) }
-    ensures undecided { IfOk result (λ reach. IfUndecided reach (IsOfSomeTrace followed.now.recent → LookedAtLeast P.looked progress.old progress.new budget)) }
+    ensures right { IfOk result (ReachesBy followed.now.judge) }
+    ensures undecided { IfOk result (λ reach. IfUndecided reach (IsOfSomeTrace followed.now.judge → LookedAtLeast P.looked progress.old progress.new budget)) }
     ensures looked { IfOk result (λ _. LookedSome P.looked progress.old progress.new) }
 {
-    followed.recent.reach(alloc, budget, progress)
+    followed.judge.reach(alloc, budget, progress)
 }
 
 impl Watch {
-    /// How far a granule's operations can be explained, of which all is told and no request is outstanding. `budget` is how many
-    /// states may be looked at in each search.
+    /// How far a granule's operations can be explained, of which all is told, and no request is outstanding, or that they are not
+    /// explained is known. `budget` is how many states may be looked at in each search.
     ///
     /// ```
     /// let reach = watch.reach(alloc, granule, 1_000_000, &mut NoProgress)?;
@@ -46,7 +44,7 @@ impl Watch {
         progress: &mut P,
     ) -> Result<Reach, AllocError>
         ensures right { IfOk result (λ reach. (events : List Event) → HasTaken events self.now → IsReach events granule reach) }
-        ensures undecided { IfOk result (λ reach. IfUndecided reach (list_any (λ p. granule_of_request p == granule) self.now.outstanding.requests ≡ false → (events : List Event) → HasTaken events self.now → IsUnexplained events granule → LookedAtLeast P.looked progress.old progress.new budget)) }
+        ensures undecided { IfOk result (λ reach. IfUndecided reach (CanBeJudged self.now granule → (events : List Event) → HasTaken events self.now → IsUnexplained events granule → LookedAtLeast P.looked progress.old progress.new budget)) }
         ensures looked { IfOk result (λ _. LookedSome P.looked progress.old progress.new) }
     {
         operations_are_told();
@@ -55,7 +53,7 @@ impl Watch {
         let Some(followed) = self.granules.get(&granule) else {
             return Ok(Reach::Undecided);
         };
-        if !followed.is_known || self.is_open(granule) {
+        if !followed.is_known || !self.can_be_judged(followed, granule) {
             return Ok(Reach::Undecided);
         }
         reach_of(alloc, followed, budget, progress)

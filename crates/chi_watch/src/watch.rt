@@ -1,6 +1,6 @@
 //! Granules that are watched while events come.
 
-ghost use Rattle.std.specs.Prelude.{◌≡◌, ◌≢◌, ◌==◌, ◌⊎◌, ◌+◌, ◌-◌, ◌^◌, length, min, option_to_list, ℕ, [], ◌∷◌, ◌++◌, true, false, List, None, Some, IfErr, IfOk, IfSome, IsTrue};
+ghost use Rattle.std.specs.Prelude.{◌≡◌, ◌≢◌, ◌==◌, ◌||◌, not, ◌⊎◌, ◌+◌, ◌-◌, ◌^◌, length, min, option_to_list, ℕ, [], ◌∷◌, ◌++◌, true, false, List, None, Some, IfErr, IfOk, IfSome, IsTrue};
 ghost use Rattle.std.specs.List.{list_any};
 ghost use Rattle.chi_events.specs.declared.event.Event.{Event};
 ghost use Rattle.chi_watch.specs.Changes.{HasLength};
@@ -9,15 +9,16 @@ ghost use Rattle.chi_watch.specs.Judged.{is_known};
 ghost use Rattle.chi_search.specs.Looks.{LookedAtLeast, LookedSome};
 ghost use Rattle.chi_watch.specs.Quiet.{BecomesQuiet, CanBeExplained, granule_about};
 ghost use Rattle.chi_watch.specs.Requests.{granule_of_request};
-ghost use Rattle.chi_watch.specs.Watches.{HasTaken, IsFound, IsUnexplained, fault_of, granule as granule_of, granule_fault, has_final_word};
+ghost use Rattle.chi_watch.specs.Watches.{CanBeJudged, HasTaken, IsFound, IsUnexplained, fault_of, granule as granule_of, granule_fault, has_final_word};
 
 use crate::ended::close_ended;
 use crate::fault::WatchFault;
-use crate::followed::{Followed, Standing, judge};
+use crate::followed::Followed;
 use crate::quiet::{has_length, is_open};
 use crate::update_granules::update_granules;
 use chi_events::laws::operations_are_told;
 use chi_events::{Event, EventKind, Outstanding};
+use chi_judge::Standing;
 use chi_search::Progress;
 use chi_trace::Operation;
 use chi_trace::laws::{granules_stand_alone, parts_explain};
@@ -93,6 +94,13 @@ impl Watch {
         is_open(self.outstanding.requests(), granule)
     }
 
+    /// Whether no request of the granule is outstanding, or what was told of it is known not to be explained.
+    pub(crate) fn can_be_judged(&self, followed: &Followed, granule: u64) -> bool
+        ensures { result ≡ (not (list_any (λ p. granule_of_request p == granule) self.now.outstanding.requests) || followed.now.judge.is_stopped) }
+    {
+        !self.is_open(granule) || followed.judge.is_stopped()
+    }
+
     /// Whether the granules take an event of this kind, or why they do not.
     fn admits(&self, kind: &EventKind) -> Result<(), WatchFault>
         ensures fits { IfOk result (λ _. granule_fault self.now kind.now ≡ None) }
@@ -139,7 +147,7 @@ impl Watch {
         Some(fields.addr / 8)
     }
 
-    /// Whether all that wrote to the granule is told, no request of it is outstanding, and its search goes on to no word.
+    /// Whether all that wrote to the granule is told, and no order explains what was told of it.
     fn is_found<P: Progress>(
         &self,
         alloc: Global,
@@ -154,17 +162,20 @@ impl Watch {
         let Some(followed) = self.granules.get(&granule) else {
             return Ok(false);
         };
-        if !followed.is_known || self.is_open(granule) {
+        if !followed.is_known || !self.can_be_judged(followed, granule) {
             return Ok(false);
         }
-        match judge(alloc, followed, budget, progress)? {
+        match followed
+            .judge
+            .check(alloc, followed.final_word, budget, progress)?
+        {
             Standing::Unexplained => Ok(true),
             Standing::Explained | Standing::Undecided => Ok(false),
         }
     }
 
-    /// Whether it is seen that no order explains a granule's operations, of which all is told and no request is outstanding.
-    /// `budget` is how many states may be looked at for an answer.
+    /// Whether it is seen that no order explains a granule's operations, of which all is told. That is seen where no request of it is
+    /// outstanding, and often before. `budget` is how many states may be looked at for an answer.
     ///
     /// ```
     /// let is_wrong = watch.is_unexplained(alloc, granule, 1_000_000, &mut NoProgress)?;
@@ -177,7 +188,7 @@ impl Watch {
         progress: &mut P,
     ) -> Result<bool, AllocError>
         ensures found { IfOk result (λ is. IsTrue is → (events : List Event) → HasTaken events self.now → IsUnexplained events granule) }
-        ensures quiet { IfOk result (λ is. IsTrue is → list_any (λ p. granule_of_request p == granule) self.now.outstanding.requests ≡ false) }
+        ensures quiet { IfOk result (λ is. IsTrue is → CanBeJudged self.now granule) }
         ensures judged { IfOk result (λ is. is ≡ false → list_any (λ p. granule_of_request p == granule) self.now.outstanding.requests ≡ false → (events : List Event) → HasTaken events self.now → is_known events granule ≡ true → CanBeExplained events granule ⊎ LookedAtLeast P.looked progress.old progress.new budget) }
         ensures looked { IfOk result (λ _. LookedSome P.looked progress.old progress.new) }
     {
@@ -217,7 +228,8 @@ impl Watch {
     /// Takes an event, where it can come next, and answers the granule, where by this event it was seen that no order explains
     /// its operations. `budget` is how many states may be looked at for an answer.
     ///
-    /// A granule is judged when its last outstanding request has ended, or was dropped or refused.
+    /// A granule is judged when its last outstanding request has ended, or was dropped or refused. Where requests of it are always
+    /// outstanding, it is looked at again once 64 operations more have ended, or an eighth more where many are kept.
     ///
     /// ```
     /// let found = watch.take(alloc, &event, 1_000_000, &mut NoProgress)?;
@@ -231,7 +243,7 @@ impl Watch {
     ) -> Result<Option<u64>, WatchFault>
         ensures taken { IfOk result (λ found. (events : List Event) → HasTaken events self.old → HasTaken (events ++ event.now ∷ []) self.new) }
         ensures unexplained { IfOk result (λ found. IfSome found (λ g. (events : List Event) → HasTaken events self.old → IsUnexplained (events ++ event.now ∷ []) g)) }
-        ensures quiet { IfOk result (λ found. IfSome found (BecomesQuiet self.old event.now self.new)) }
+        ensures about { IfOk result (λ found. IfSome found (λ g. granule_about self.old event.now ≡ Some g)) }
         ensures judged { IfOk result (λ found. found ≡ None → (g : ℕ) → BecomesQuiet self.old event.now self.new g → (events : List Event) → HasTaken events self.old → is_known (events ++ event.now ∷ []) g ≡ true → CanBeExplained (events ++ event.now ∷ []) g ⊎ LookedAtLeast P.looked progress.old progress.new budget) }
         ensures fits { IfOk result (λ found. fault_of self.old event.now ≡ None) }
         ensures fault { IfErr result (λ fault. fault ≢ WatchFault.Memory → fault_of self.old event.now ≡ Some fault) }

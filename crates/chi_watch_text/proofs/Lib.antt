@@ -1,3 +1,2 @@
 pub mod AllRead
 pub mod Told
-pub mod Rows

@@ -1,17 +1,19 @@
 -- one line more
 use Rattle.std.specs.Prelude.{if◌then◌else◌}
-use Rattle.std.proofs.Common.{◌≡◌, ◌≢◌, ℕ, ◌≤◌, filter, get_or, not, ◌==◌, ◌||◌, ◌⊎◌, ◌+◌, ◌<◌, List, [], ◌∷◌, ◌++◌, All, Option, None, Some, IfSome, inl, inr, Ok, Err, Result, IsErrAnd, Bool, true, false, true≢false, eq-eqb, length, length-append, refl, sym, ap, subst, ◌∙◌, arith}
-use Rattle.std.specs.List.{AllPairs, Contains}
+use Rattle.std.proofs.Common.{◌≡◌, ◌≢◌, ℕ, ◌≤◌, filter, get_or, not, ◌==◌, ◌||◌, ◌⊎◌, ◌+◌, ◌<◌, List, [], ◌∷◌, ◌++◌, All, Option, None, Some, IfErr, IfSome, inl, inr, Ok, Err, Result, IsErrAnd, Bool, true, false, true≢false, eq-eqb, length, length-append, refl, sym, ap, subst, ◌∙◌, arith}
+use Rattle.std.specs.List.{AllPairs, Contains, last_or}
+use Rattle.std.specs.Option.{option_map_or}
 use Rattle.std.proofs.lemmas.List.Elements.{All-cons, All-contains, All-contains_itself, All-filter, All-nil, All-push, All-weaker, Contains-get_or}
 use Rattle.std.proofs.lemmas.List.{get_or_push}
 use Rattle.std.proofs.lemmas.List.Quantifiers.{all_pairs_push}
 use Rattle.std.specs.Io.BufRead.{drop_through, take_through}
 use Rattle.chi_reading.specs.EventText.{event_text}
+use Rattle.chi_events.specs.Ended.{are_ended, is_end}
 use Rattle.chi_events.specs.declared.event.Event.{Event}
 use Rattle.chi_watch.specs.declared.ending.Ending.{Ending}
 use Rattle.chi_search.specs.Looks.{LookedAtLeast, LookedSome}
 use Rattle.chi_search.proofs.Looking.{at_least_after, at_least_before, looked_none, some_after}
-use Rattle.chi_recent.specs.declared.reach.Reach.{Reach}
+use Rattle.chi_judge.specs.declared.reach.Reach.{Reach}
 use Rattle.chi_watch.proofs.Reached.{undecided_weaker}
 use Rattle.chi_watch.specs.Reaching.{IsFoundAtEnd}
 use Rattle.chi_watch.specs.Watches.{HasTaken, IsUnexplained, WatchValue}
@@ -22,7 +24,7 @@ use Rattle.chi_watch_text.specs.declared.fault.LinesFault.TheVariants as fault
 use Rattle.chi_watch_text.specs.declared.quiet.Quiet.{Quiet}
 use Rattle.chi_watch_text.specs.declared.watched.FoundGranule.{FoundGranule}
 use Rattle.chi_watch_text.specs.declared.watched.Watched.{Watched}
-use Rattle.chi_watch_text.specs.Outcomes.{AreUnreached, EndsAt, HasTakenLines, IsEventFault, IsFoundBy, IsOutcome, IsPast, IsQuietBy, IsSeenBy, IsSettled, IsStillFound, IsTold, IsUnreached, IsWatched, ReachedBy, SaysAtEnd, SaysOf, TakesEvent, WentBy}
+use Rattle.chi_watch_text.specs.Outcomes.{AreTaken, AreUnreached, EndsAt, HasTakenLines, IsEventFault, IsFoundBy, IsLinesFault, IsPast, IsQuietBy, IsSeenBy, IsSettled, IsStillFound, IsTold, IsUnreached, IsWatched, ReachedBy, SaysAtEnd, SaysOf, TakesEvent, WentBy}
 use Rattle.chi_watch_text.specs.Reading.{IsRead, IsRefused}
 
 lines_more : (text : List ℕ) (lines : List (List ℕ)) (rest : List ℕ) → AreLines text lines rest → 0 < length rest → AreLines text (lines ++ take_through 10 rest ∷ []) (drop_through 10 rest)
@@ -51,8 +53,16 @@ told_more text count events rest e told some is = record {
       events_more 1 told.lines events (take_through 10 rest) e told.are_events (subst (λ n. event_text n (take_through 10 rest) ≡ Ok e) next is);
 }
 
+-- of some events the last tells the end or does not
+last_more : (o : Option Event) (events : List Event) (e : Event) → last_or o (events ++ e ∷ []) ≡ Some e
+last_more o [] e = refl
+last_more o (d ∷ events) e = last_more (Some d) events e
+
+ended_more : (events : List Event) (e : Event) → are_ended (events ++ e ∷ []) ≡ is_end e
+ended_more events e = ap (λ (o : Option Event). option_map_or is_end o false) (last_more None events e)
+
 -- nothing was read
-pub none_taken : (start : Option (List ℕ)) (w : WatchValue) (found : List FoundGranule) (quiet : List Quiet) → HasTaken [] w → found ≡ [] → quiet ≡ [] → HasTakenLines start 0 0 found quiet w start
+pub none_taken : (start : Option (List ℕ)) (w : WatchValue) (found : List FoundGranule) (quiet : List Quiet) → HasTaken [] w → found ≡ [] → quiet ≡ [] → HasTakenLines start 0 0 false found quiet w start
 unfolding AreEvents AreLines
 none_taken None w found quiet has none calm = tt
 none_taken (Some text) w found quiet has none calm = record {
@@ -60,6 +70,7 @@ none_taken (Some text) w found quiet has none calm = record {
   told = record { lines = []; count_is = refl; are_lines = refl; are_events = tt };
   taken = has;
   times = All-nil (λ e. e.time ≤ 0);
+  ended_is = refl;
   found_by = subst (All (IsFoundBy text)) (sym none) (All-nil (IsFoundBy text));
   quiet_by = subst (All (IsQuietBy text)) (sym calm) (All-nil (IsQuietBy text));
 }
@@ -156,17 +167,18 @@ quiet_noted P (Some g) line quiet all one =
     All-push P (filter (λ q. not (q.granule == g)) quiet) (record { granule = g; line = line }) (All-filter (λ q. not (q.granule == g)) P quiet all) one
 
 -- one event more was taken
-pub event_taken : (start now later : Option (List ℕ)) (count line time : ℕ) (found : List FoundGranule) (quiet after : List Quiet) (old new : WatchValue) (e : Event) (seen : Option ℕ)
-    → HasTakenLines start count time found quiet old now → IfSome now (λ text. IsRead line text (Some e) later) → TakesEvent old e new seen → line ≡ count + 1 → after ≡ with_quiet seen line quiet
-    → HasTakenLines start line e.time found after new later
-event_taken None now later count line time found quiet after old new e seen has next takes here is = tt
-event_taken (Some text) None later count line time found quiet after old new e seen has next takes here is = absurd has
-event_taken (Some text) (Some rest) later count line time found quiet after old new e seen has (some, tells, left) takes here is =
-    subst (HasTakenLines (Some text) line e.time found after new) (sym left) (record {
+pub event_taken : (start now later : Option (List ℕ)) (count line time : ℕ) (ended : Bool) (found : List FoundGranule) (quiet after : List Quiet) (old new : WatchValue) (e : Event) (seen : Option ℕ)
+    → HasTakenLines start count time ended found quiet old now → IfSome now (λ text. IsRead line text (Some e) later) → TakesEvent old e new seen → line ≡ count + 1 → after ≡ with_quiet seen line quiet
+    → HasTakenLines start line e.time (is_end e) found after new later
+event_taken None now later count line time ended found quiet after old new e seen has next takes here is = tt
+event_taken (Some text) None later count line time ended found quiet after old new e seen has next takes here is = absurd has
+event_taken (Some text) (Some rest) later count line time ended found quiet after old new e seen has (some, tells, left) takes here is =
+    subst (HasTakenLines (Some text) line e.time (is_end e) found after new) (sym left) (record {
       events = has.events ++ e ∷ [];
       told = more;
       taken = taken;
       times = latest has.events e new taken;
+      ended_is = sym (ended_more has.events e);
       found_by = has.found_by;
       quiet_by = subst (All (IsQuietBy text)) (sym is) (quiet_noted (IsQuietBy text) seen line quiet has.quiet_by (by_seen seen takes.unexplained));
     })
@@ -189,28 +201,12 @@ past count number events time rest (Some e) later here times (some, tells, left)
     inr (e, subst (λ n. event_text n (take_through 10 rest) ≡ Ok e) here tells, All-weaker (λ d. d.time ≤ time) (λ d. d.time < e.time) (λ d le. omega (arith, le, after)) events times)
 
 -- those of a time that is past are found
-pub settled : (start now later : Option (List ℕ)) (count number time : ℕ) (found found_after : List FoundGranule) (quiet quiet_after : List Quiet) (w : WatchValue) (next : Option Event) (is_past : Bool)
-    → HasTakenLines start count time found quiet w now → number ≡ count + 1 → IfSome now (λ text. IsRead number text next later) → (is_past ≡ true → IfSome next (λ e. time < e.time))
-    → (is_past ≡ false → (found_after ≡ found) × (quiet_after ≡ quiet)) → (is_past ≡ true → quiet_after ≡ []) → (is_past ≡ true → All (IsStillFound w quiet found) found_after)
-    → HasTakenLines start count time found_after quiet_after w now
-settled None now later count number time found found_after quiet quiet_after w next is_past has here read after waits cleared each = tt
-settled (Some text) None later count number time found found_after quiet quiet_after w next is_past has here read after waits cleared each = absurd has
-settled (Some text) (Some rest) later count number time found found_after quiet quiet_after w next false has here read after waits cleared each = record {
-  events = has.events;
-  told = has.told;
-  taken = has.taken;
-  times = has.times;
-  found_by = subst (All (IsFoundBy text)) (sym (waits refl).0) has.found_by;
-  quiet_by = subst (All (IsQuietBy text)) (sym (waits refl).1) has.quiet_by;
-}
-settled (Some text) (Some rest) later count number time found found_after quiet quiet_after w next true has here read after waits cleared each = record {
-  events = has.events;
-  told = has.told;
-  taken = has.taken;
-  times = has.times;
-  found_by = All-weaker (IsStillFound w quiet found) (IsFoundBy text) is_found_by found_after (each refl);
-  quiet_by = subst (All (IsQuietBy text)) (sym (cleared refl)) (All-nil (IsQuietBy text));
-}
+found_more : (text : List ℕ) (count number time : ℕ) (ended : Bool) (found found_after : List FoundGranule) (quiet : List Quiet) (w : WatchValue) (rest : List ℕ) (next : Option Event) (later : Option (List ℕ))
+    (is_past : Bool) → AreTaken text count time ended found quiet w rest → number ≡ count + 1 → IsRead number rest next later → (is_past ≡ true → IfSome next (λ e. time < e.time))
+    → (is_past ≡ false → found_after ≡ found) → (is_past ≡ true → All (IsStillFound w quiet found) found_after) → All (IsFoundBy text) found_after
+found_more text count number time ended found found_after quiet w rest next later false has here read after waits each = subst (All (IsFoundBy text)) (sym (waits refl)) has.found_by
+found_more text count number time ended found found_after quiet w rest next later true has here read after waits each =
+    All-weaker (IsStillFound w quiet found) (IsFoundBy text) is_found_by found_after (each refl)
   where
     is_found_by : (f : FoundGranule) → IsStillFound w quiet found f → IsFoundBy text f
     is_found_by f (inl before) = All-contains (IsFoundBy text) found f has.found_by before
@@ -224,6 +220,36 @@ settled (Some text) (Some rest) later count number time found found_after quiet 
       unexplained = noted.unexplained has.events has.taken;
       reach = noted.reach has.events has.taken;
     }
+
+-- also where the judging of them fails
+pub found_so_far : (start now later : Option (List ℕ)) (count number time : ℕ) (ended : Bool) (found found_after : List FoundGranule) (quiet : List Quiet) (w : WatchValue) (next : Option Event) (is_past : Bool)
+    → HasTakenLines start count time ended found quiet w now → number ≡ count + 1 → IfSome now (λ text. IsRead number text next later) → (is_past ≡ true → IfSome next (λ e. time < e.time))
+    → (is_past ≡ false → found_after ≡ found) → (is_past ≡ true → All (IsStillFound w quiet found) found_after) → IfSome start (λ text. All (IsFoundBy text) found_after)
+found_so_far None now later count number time ended found found_after quiet w next is_past has here read after waits each = tt
+found_so_far (Some text) None later count number time ended found found_after quiet w next is_past has here read after waits each = absurd has
+found_so_far (Some text) (Some rest) later count number time ended found found_after quiet w next is_past has here read after waits each =
+    found_more text count number time ended found found_after quiet w rest next later is_past has here read after waits each
+
+-- those of a time that is past are found, and no other is left that became quiet
+pub settled : (start now later : Option (List ℕ)) (count number time : ℕ) (ended : Bool) (found found_after : List FoundGranule) (quiet quiet_after : List Quiet) (w : WatchValue) (next : Option Event) (is_past : Bool)
+    → HasTakenLines start count time ended found quiet w now → number ≡ count + 1 → IfSome now (λ text. IsRead number text next later) → (is_past ≡ true → IfSome next (λ e. time < e.time))
+    → (is_past ≡ false → (found_after ≡ found) × (quiet_after ≡ quiet)) → (is_past ≡ true → quiet_after ≡ []) → (is_past ≡ true → All (IsStillFound w quiet found) found_after)
+    → HasTakenLines start count time ended found_after quiet_after w now
+settled None now later count number time ended found found_after quiet quiet_after w next is_past has here read after waits cleared each = tt
+settled (Some text) None later count number time ended found found_after quiet quiet_after w next is_past has here read after waits cleared each = absurd has
+settled (Some text) (Some rest) later count number time ended found found_after quiet quiet_after w next is_past has here read after waits cleared each = record {
+  events = has.events;
+  told = has.told;
+  taken = has.taken;
+  times = has.times;
+  ended_is = has.ended_is;
+  found_by = found_more text count number time ended found found_after quiet w rest next later is_past has here read after (λ wait. (waits wait).0) each;
+  quiet_by = by_test is_past waits cleared;
+}
+  where
+    by_test : (b : Bool) → (b ≡ false → (found_after ≡ found) × (quiet_after ≡ quiet)) → (b ≡ true → quiet_after ≡ []) → All (IsQuietBy text) quiet_after
+    by_test false waits cleared = subst (All (IsQuietBy text)) (sym (waits refl).1) has.quiet_by
+    by_test true waits cleared = subst (All (IsQuietBy text)) (sym (cleared refl)) (All-nil (IsQuietBy text))
 
 -- where it does not keep going none is found before it stops
 pub none_found : (is_past stop going : Bool) (found after : List FoundGranule) → (going ≡ false → found ≡ []) → (is_past ≡ false → after ≡ found) → stop ≡ false
@@ -240,12 +266,12 @@ says_of w events has ending says = record {
 }
 
 -- what is said of the text where it ends at its end
-pub at_end : (start now later : Option (List ℕ)) (count number time : ℕ) (found : List FoundGranule) (quiet : List Quiet) (going : Bool) (w : WatchValue) (watched : Watched) → HasTakenLines start count time found quiet w now
-    → IfSome now (λ text. IsRead number text None later) → AllPairs (λ a b. a.granule ≢ b.granule) found → (going ≡ false → found ≡ []) → IsTold w found watched → watched.ending ≢ None
+pub at_end : (start now later : Option (List ℕ)) (count number time : ℕ) (ended : Bool) (found : List FoundGranule) (quiet : List Quiet) (going : Bool) (w : WatchValue) (watched : Watched) → HasTakenLines start count time ended found quiet w now
+    → IfSome now (λ text. IsRead number text None later) → AllPairs (λ a b. a.granule ≢ b.granule) found → (going ≡ false → found ≡ []) → IsTold w found ended watched → watched.ending ≢ None
     → IfSome watched.ending (SaysAtEnd w) → IfSome start (λ text. IsWatched text going watched)
-at_end None now later count number time found quiet going w watched has read once first told some says = tt
-at_end (Some text) None later count number time found quiet going w watched has read once first told some says = absurd has
-at_end (Some text) (Some rest) later count number time found quiet going w watched has read once first told some says = record {
+at_end None now later count number time ended found quiet going w watched has read once first told some says = tt
+at_end (Some text) None later count number time ended found quiet going w watched has read once first told some says = absurd has
+at_end (Some text) (Some rest) later count number time ended found quiet going w watched has read once first told some says = record {
   events = has.events;
   count = count;
   rest = [];
@@ -258,6 +284,7 @@ at_end (Some text) (Some rest) later count number time found quiet going w watch
   taken = has.taken;
   granules = told.granules;
   unjudged_is = told.unjudged_is;
+  ended_is = told.ended_is ∙ has.ended_is;
 }
   where
     by_ending : (o : Option Ending) → o ≢ None → IfSome o (SaysAtEnd w) → EndsAt going count [] has.events found o
@@ -265,13 +292,13 @@ at_end (Some text) (Some rest) later count number time found quiet going w watch
     by_ending (Some ending) is_some said = (refl, says_of w has.events has.taken ending said, first)
 
 -- what is said of the text where it stops
-pub at_stop : (start now later : Option (List ℕ)) (count number time : ℕ) (found : List FoundGranule) (quiet : List Quiet) (going is_past : Bool) (w : WatchValue) (next : Option Event) (watched : Watched)
-    → HasTakenLines start count time found quiet w now → number ≡ count + 1 → IfSome now (λ text. IsRead number text next later) → (is_past ≡ true → IfSome next (λ e. time < e.time))
-    → AllPairs (λ a b. a.granule ≢ b.granule) found → (is_past ≡ true) × (going ≡ false) × (0 < length found) → IsTold w found watched → watched.ending ≡ None
+pub at_stop : (start now later : Option (List ℕ)) (count number time : ℕ) (ended : Bool) (found : List FoundGranule) (quiet : List Quiet) (going is_past : Bool) (w : WatchValue) (next : Option Event) (watched : Watched)
+    → HasTakenLines start count time ended found quiet w now → number ≡ count + 1 → IfSome now (λ text. IsRead number text next later) → (is_past ≡ true → IfSome next (λ e. time < e.time))
+    → AllPairs (λ a b. a.granule ≢ b.granule) found → (is_past ≡ true) × (going ≡ false) × (0 < length found) → IsTold w found ended watched → watched.ending ≡ None
     → IfSome start (λ text. IsWatched text going watched)
-at_stop None now later count number time found quiet going is_past w next watched has here read after once stops told none = tt
-at_stop (Some text) None later count number time found quiet going is_past w next watched has here read after once stops told none = absurd has
-at_stop (Some text) (Some rest) later count number time found quiet going is_past w next watched has here read after once stops told none = record {
+at_stop None now later count number time ended found quiet going is_past w next watched has here read after once stops told none = tt
+at_stop (Some text) None later count number time ended found quiet going is_past w next watched has here read after once stops told none = absurd has
+at_stop (Some text) (Some rest) later count number time ended found quiet going is_past w next watched has here read after once stops told none = record {
   events = has.events;
   count = count;
   rest = rest;
@@ -285,30 +312,37 @@ at_stop (Some text) (Some rest) later count number time found quiet going is_pas
   taken = has.taken;
   granules = told.granules;
   unjudged_is = told.unjudged_is;
+  ended_is = told.ended_is ∙ has.ended_is;
 }
 
 -- what is said of the text where a line tells no event
-pub where_refused : (start now : Option (List ℕ)) (count number time : ℕ) (found : List FoundGranule) (quiet : List Quiet) (going : Bool) (w : WatchValue) (f : LinesFault) → HasTakenLines start count time found quiet w now
-    → number ≡ count + 1 → IfSome now (λ text. IsRefused (take_through 10 text) number f) → IfSome start (λ text. IsOutcome text going (Err f))
-where_refused None now count number time found quiet going w f has here is = tt
-where_refused (Some text) None count number time found quiet going w f has here is = absurd has
-where_refused (Some text) (Some rest) count number time found quiet going w fault.Read has here is = tt
-where_refused (Some text) (Some rest) count number time found quiet going w (fault.Line n f) has here (same, refused) = (has.events, count, rest, has.told, sym (same ∙ here), subst (λ n. event_text n (take_through 10 rest) ≡ Err f) (sym same) refused)
-where_refused (Some text) (Some rest) count number time found quiet going w (fault.Event n f) has here is = absurd is
-where_refused (Some text) (Some rest) count number time found quiet going w fault.TooManyLines has here is = absurd is
-where_refused (Some text) (Some rest) count number time found quiet going w fault.Memory has here is = tt
+pub where_refused : (start now : Option (List ℕ)) (count number time : ℕ) (ended : Bool) (found : List FoundGranule) (quiet : List Quiet) (w : WatchValue) (f : LinesFault) → HasTakenLines start count time ended found quiet w now
+    → number ≡ count + 1 → IfSome now (λ text. IsRefused (take_through 10 text) number f) → IfSome start (λ text. IsLinesFault text f)
+where_refused None now count number time ended found quiet w f has here is = tt
+where_refused (Some text) None count number time ended found quiet w f has here is = absurd has
+where_refused (Some text) (Some rest) count number time ended found quiet w fault.Read has here is = tt
+where_refused (Some text) (Some rest) count number time ended found quiet w (fault.Line n f) has here (same, refused) = (has.events, count, rest, has.told, sym (same ∙ here), subst (λ n. event_text n (take_through 10 rest) ≡ Err f) (sym same) refused)
+where_refused (Some text) (Some rest) count number time ended found quiet w (fault.Event n f) has here is = absurd is
+where_refused (Some text) (Some rest) count number time ended found quiet w fault.TooManyLines has here is = absurd is
+where_refused (Some text) (Some rest) count number time ended found quiet w fault.Memory has here is = tt
 
 -- or one whose event is not taken
-pub where_not_taken : (start now later : Option (List ℕ)) (count number time : ℕ) (found : List FoundGranule) (quiet : List Quiet) (going : Bool) (w : WatchValue) (e : Event) (f : LinesFault)
-    → HasTakenLines start count time found quiet w now → number ≡ count + 1 → IfSome now (λ text. IsRead number text (Some e) later) → IsEventFault w e number f → IfSome start (λ text. IsOutcome text going (Err f))
-where_not_taken None now later count number time found quiet going w e f has here read is = tt
-where_not_taken (Some text) None later count number time found quiet going w e f has here read is = absurd has
-where_not_taken (Some text) (Some rest) later count number time found quiet going w e fault.Read has here read is = absurd is
-where_not_taken (Some text) (Some rest) later count number time found quiet going w e (fault.Line n f) has here read is = absurd is
-where_not_taken (Some text) (Some rest) later count number time found quiet going w e (fault.Event n f) has here read (same, refused) =
+pub where_not_taken : (start now later : Option (List ℕ)) (count number time : ℕ) (ended : Bool) (found : List FoundGranule) (quiet : List Quiet) (w : WatchValue) (e : Event) (f : LinesFault)
+    → HasTakenLines start count time ended found quiet w now → number ≡ count + 1 → IfSome now (λ text. IsRead number text (Some e) later) → IsEventFault w e number f → IfSome start (λ text. IsLinesFault text f)
+where_not_taken None now later count number time ended found quiet w e f has here read is = tt
+where_not_taken (Some text) None later count number time ended found quiet w e f has here read is = absurd has
+where_not_taken (Some text) (Some rest) later count number time ended found quiet w e fault.Read has here read is = absurd is
+where_not_taken (Some text) (Some rest) later count number time ended found quiet w e (fault.Line n f) has here read is = absurd is
+where_not_taken (Some text) (Some rest) later count number time ended found quiet w e (fault.Event n f) has here read (same, refused) =
     (has.events, count, rest, has.told, sym (same ∙ here), (e, subst (λ n. event_text n (take_through 10 rest) ≡ Ok e) (sym same) read.1, (w, has.taken, refused)))
-where_not_taken (Some text) (Some rest) later count number time found quiet going w e fault.TooManyLines has here read is = absurd is
-where_not_taken (Some text) (Some rest) later count number time found quiet going w e fault.Memory has here read is = tt
+where_not_taken (Some text) (Some rest) later count number time ended found quiet w e fault.TooManyLines has here read is = absurd is
+where_not_taken (Some text) (Some rest) later count number time ended found quiet w e fault.Memory has here read is = tt
+
+-- and what was found by then
+pub kept_at_fault : {A E : Type 0} (start : Option (List ℕ)) (P : List ℕ → Type 0) (r : Result A E) → IfSome start P → IfSome start (λ text. IfErr r (λ _. P text))
+kept_at_fault None P r is = tt
+kept_at_fault (Some text) P (Ok a) is = tt
+kept_at_fault (Some text) P (Err f) is = is
 
 -- a fault that is passed on
 pub passed_on : {A E : Type 0} (r : Result A E) (f : E) (P : Result A E → Type 0) → IsErrAnd r (λ y. y ≡ f) → P (Err f) → P r

@@ -3,6 +3,6 @@ pub mod Lines
 pub mod Operations
 pub mod Outcomes
 pub mod ReachTexts
-pub mod RowTexts
 pub mod Reading
+pub mod Required
 pub mod Texts

@@ -3,10 +3,11 @@ use Rattle.std.specs.Prelude.{◌≡◌, ◌≢◌, ℕ, ◌+◌, ◌<◌, ◌�
 use Rattle.std.specs.List.{AllPairs, Contains}
 use Rattle.std.specs.Io.BufRead.{take_through}
 use Rattle.chi_reading.specs.EventText.{event_text}
+use Rattle.chi_events.specs.Ended.{are_ended}
 use Rattle.chi_events.specs.declared.event.Event.{Event}
 use Rattle.chi_search.specs.Looks.{LookedAtLeast}
-use Rattle.chi_recent.specs.Reaches.{IfUndecided}
-use Rattle.chi_recent.specs.declared.reach.Reach.{Reach}
+use Rattle.chi_judge.specs.Reaches.{IfUndecided}
+use Rattle.chi_judge.specs.declared.reach.Reach.{Reach}
 use Rattle.chi_watch.specs.Counts.{AreCounted, unjudged}
 use Rattle.chi_watch.specs.Endings.{IsListed}
 use Rattle.chi_watch.specs.Judged.{IsExplained, is_known}
@@ -20,6 +21,7 @@ use Rattle.chi_watch_text.specs.declared.fault.LinesFault.{LinesFault}
 use Rattle.chi_watch_text.specs.declared.fault.LinesFault.TheVariants as fault
 use Rattle.chi_watch_text.specs.declared.quiet.Quiet.{Quiet}
 use Rattle.chi_watch_text.specs.declared.watched.FoundGranule.{FoundGranule}
+use Rattle.chi_watch_text.specs.declared.watched.Unfinished.{Unfinished}
 use Rattle.chi_watch_text.specs.declared.watched.Watched.{Watched}
 
 -- the watch took the event, and the granule that was answered is one whose operations no order explains
@@ -113,24 +115,30 @@ pub record IsWatched (text : List ℕ) (going : Bool) (w : Watched) : Type 0 whe
   pub taken : HasTaken events watch
   pub granules : w.counts.granules ≡ length watch.granules
   pub unjudged_is : w.unjudged ≡ unjudged watch
+  pub ended_is : w.is_ended ≡ are_ended events
 
--- what comes of a text: what is found of it, or the first line that is not taken
-abbrev pub IsOutcome : List ℕ → Bool → Result Watched LinesFault → Type 0
-IsOutcome text going (Ok watched) = IsWatched text going watched
-IsOutcome text going (Err fault.Read) = Unit {0}
-IsOutcome text going (Err (fault.Line number f)) =
+-- why a text is watched no further: the first line that is not taken
+abbrev pub IsLinesFault : List ℕ → LinesFault → Type 0
+IsLinesFault text fault.Read = Unit {0}
+IsLinesFault text (fault.Line number f) =
     (events : List Event) × (before : ℕ) × (rest : List ℕ) × AreTold text before events rest × (before + 1 ≡ number) × (event_text number (take_through 10 rest) ≡ Err f)
-IsOutcome text going (Err (fault.Event number f)) =
+IsLinesFault text (fault.Event number f) =
     (events : List Event) × (before : ℕ) × (rest : List ℕ) × AreTold text before events rest × (before + 1 ≡ number) × ((e : Event) × (event_text number (take_through 10 rest) ≡ Ok e) × ((w : WatchValue) × HasTaken events w × (fault_of w e ≡ Some f)))
-IsOutcome text going (Err fault.TooManyLines) = Unit {0}
-IsOutcome text going (Err fault.Memory) = Unit {0}
+IsLinesFault text fault.TooManyLines = Unit {0}
+IsLinesFault text fault.Memory = Unit {0}
+
+-- what comes of a text: what is found of it, or why it is watched no further, and the granules that were found by then
+abbrev pub IsOutcome : List ℕ → Bool → Result Watched Unfinished → Type 0
+IsOutcome text going (Ok watched) = IsWatched text going watched
+IsOutcome text going (Err unfinished) = IsLinesFault text unfinished.fault × All (IsFoundBy text) unfinished.found.items
 
 -- what a watch says once its events have ended, or where it stops
-pub record IsTold (w : WatchValue) (found : List FoundGranule) (watched : Watched) : Type 0 where
+pub record IsTold (w : WatchValue) (found : List FoundGranule) (ended : Bool) (watched : Watched) : Type 0 where
   pub found_is : watched.found.items ≡ found
   pub counted : (events : List Event) → HasTaken events w → AreCounted events watched.counts
   pub granules : watched.counts.granules ≡ length w.granules
   pub unjudged_is : watched.unjudged ≡ unjudged w
+  pub ended_is : watched.is_ended ≡ ended
 
 -- what is said of the events that a watch took
 pub record SaysAtEnd (w : WatchValue) (ending : Ending) : Type 0 where
@@ -138,21 +146,22 @@ pub record SaysAtEnd (w : WatchValue) (ending : Ending) : Type 0 where
   pub each : (g : ℕ) (events : List Event) → HasTaken events w → is_known events g ≡ true → CanBeExplained events g ⊎ IsListed g (granules_of ending.unexplained.items) ending.undecided.items
   pub unexplained : All (λ f. (events : List Event) → HasTaken events w → IsFoundAtEnd events f) ending.unexplained.items
 
--- After so many lines a watch took their events, of which none is later than this time. These granules were found by them, and these
--- others became quiet at this time. The rest follows.
-pub record AreTaken (text : List ℕ) (count time : ℕ) (found : List FoundGranule) (quiet : List Quiet) (watch : WatchValue) (rest : List ℕ) : Type 0 where
+-- After so many lines a watch took their events, of which none is later than this time, and the last tells the end or does not. These
+-- granules were found by them, and these others became quiet at this time. The rest follows.
+pub record AreTaken (text : List ℕ) (count time : ℕ) (ended : Bool) (found : List FoundGranule) (quiet : List Quiet) (watch : WatchValue) (rest : List ℕ) : Type 0 where
   pub events : List Event
   pub told : AreTold text count events rest
   pub taken : HasTaken events watch
   pub times : All (λ e. e.time ≤ time) events
+  pub ended_is : ended ≡ are_ended events
   pub found_by : All (IsFoundBy text) found
   pub quiet_by : All (IsQuietBy text) quiet
 
 -- the same of a text that may not be known
-abbrev pub HasTakenLines : Option (List ℕ) → ℕ → ℕ → List FoundGranule → List Quiet → WatchValue → Option (List ℕ) → Type 0
-HasTakenLines None count time found quiet watch rest = Unit {0}
-HasTakenLines (Some text) count time found quiet watch None = ⊥
-HasTakenLines (Some text) count time found quiet watch (Some rest) = AreTaken text count time found quiet watch rest
+abbrev pub HasTakenLines : Option (List ℕ) → ℕ → ℕ → Bool → List FoundGranule → List Quiet → WatchValue → Option (List ℕ) → Type 0
+HasTakenLines None count time ended found quiet watch rest = Unit {0}
+HasTakenLines (Some text) count time ended found quiet watch None = ⊥
+HasTakenLines (Some text) count time ended found quiet watch (Some rest) = AreTaken text count time ended found quiet watch rest
 
 -- for each granule that is not decided at least as many states as the budget were looked at
 abbrev pub WentBy : {P : Type 0} → (P → ℕ → Type 0) → P → P → ℕ → Watched → Type 0

@@ -1,11 +1,14 @@
 -- the text of what is found of events
-use Rattle.std.specs.Prelude.{ℕ, ◌++◌, if◌then◌else◌, List, [], Option, None, Some, codes, decimal, flat_map}
+use Rattle.std.specs.Prelude.{ℕ, ◌==◌, ◌++◌, Bool, if◌then◌else◌, List, [], Option, None, Some, codes, decimal, flat_map}
 use Rattle.chi_answer.specs.Lines.{granule_line, undecided_line}
 use Rattle.chi_watch.specs.declared.counts.Counts.{Counts}
 use Rattle.chi_watch.specs.declared.ending.Ending.{Ending}
 use Rattle.chi_watch.specs.declared.ending.FoundAtEnd.{FoundAtEnd}
 use Rattle.chi_watch_text.specs.FoundGranule.{is_found, verdict_of}
 use Rattle.chi_watch_text.specs.ReachTexts.{reach_text}
+use Rattle.chi_watch_text.specs.Required.{missing_of}
+use Rattle.chi_watch_text.specs.declared.options.WatchOptions.{WatchOptions}
+use Rattle.chi_watch_text.specs.declared.required.Required.{Required}
 use Rattle.chi_watch_text.specs.declared.watched.FoundGranule.{FoundGranule}
 use Rattle.chi_watch_text.specs.declared.watched.Watched.{Watched}
 use Rattle.chi_watch_text.specs.declared.watched.WatchVerdict.{WatchVerdict}
@@ -43,6 +46,32 @@ counts_text counts unjudged =
     codes "  operations that ended: " ++ decimal counts.ended ++ codes "\n  requests outstanding: " ++ decimal counts.outstanding
     ++ codes "\n  granules: " ++ decimal counts.granules ++ codes "\n  granules not judged: " ++ decimal unjudged ++ codes "\n"
 
+-- what is required and does not hold, a line each
+unfoldable pub are_text : ℕ → List ℕ
+are_text count = if count == 1 then codes " is" else codes " are"
+
+unfoldable pub operations_text : ℕ → List ℕ
+operations_text count = if count == 1 then codes " operation" else codes " operations"
+
+unfoldable pub end_line : Bool → List ℕ
+end_line is_missing = if is_missing then codes "required: the last line tells the end\n" else []
+
+unfoldable pub operations_line : ℕ → ℕ → List ℕ
+operations_line required ended =
+    if required == 0 then [] else codes "required: at least " ++ decimal required ++ operations_text required ++ codes " ended, and " ++ decimal ended ++ codes " did\n"
+
+unfoldable pub quiet_line : Bool → ℕ → List ℕ
+quiet_line is_missing outstanding =
+    if is_missing then codes "required: no request is outstanding, and " ++ decimal outstanding ++ are_text outstanding ++ codes "\n" else []
+
+unfoldable pub judged_line : Bool → ℕ → List ℕ
+judged_line is_missing unjudged =
+    if is_missing then codes "required: each granule is judged, and " ++ decimal unjudged ++ are_text unjudged ++ codes " not\n" else []
+
+abbrev pub missing_text : Required → Watched → List ℕ
+missing_text missing w =
+    end_line missing.end ++ (operations_line missing.operations w.counts.ended ++ (quiet_line missing.quiet w.counts.outstanding ++ judged_line missing.judged w.unjudged))
+
 -- the whole text
-abbrev pub watched_text : ℕ → Watched → List ℕ
-watched_text budget w = answer_text budget w ++ counts_text w.counts w.unjudged
+abbrev pub watched_text : WatchOptions → Watched → List ℕ
+watched_text options w = answer_text options.budget w ++ (counts_text w.counts w.unjudged ++ missing_text (missing_of options.required w) w)

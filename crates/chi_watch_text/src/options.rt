@@ -1,9 +1,12 @@
 //! How events are watched.
 
+use crate::required::Required;
+
 /// How events are watched. `budget` is how many states are looked at for an answer. With `keep_going` a granule that no order
-/// explains does not end it.
+/// explains does not end it. `required` changes nothing of what is found.
 #[derive(Clone, Copy, Debug, PartialEq, Eq)]
 pub struct WatchOptions {
     pub budget: u64,
     pub keep_going: bool,
+    pub required: Required,
 }

@@ -1,4 +1,4 @@
-//! Granules that became quiet, and that no order explains by what is told up to then.
+//! Granules that became quiet, or had stopped being explained, and that no order explains by what is told up to then.
 
 ghost use Rattle.std.specs.Prelude.{◌≡◌, ◌==◌, ◌≢◌, [], true, false, All, not, filter, IfOk};
 ghost use Rattle.std.specs.List.{AllPairs};
@@ -11,8 +11,8 @@ use chi_search::Progress;
 use chi_watch::Watch;
 use std::alloc::{AllocError, Global};
 
-/// A granule that became quiet and that no order explains by what was told then, by its number; and the line by which its last
-/// outstanding request had gone.
+/// A granule that became quiet, or had stopped being explained, and that no order explains by what was told then, by its number;
+/// and the line by which that was seen.
 #[derive(Clone, Copy)]
 pub struct Quiet {
     pub(crate) granule: u64,
@@ -30,7 +30,7 @@ fn without(alloc: Global, quiet: &[Quiet], granule: u64) -> Result<Vec<Quiet>, A
         .collect(alloc)
 }
 
-/// Notes the granule that became quiet by a line, if one did.
+/// Notes the granule that was seen by a line, if one was.
 pub(crate) fn note_quiet(
     alloc: Global,
     quiet: &mut Vec<Quiet>,
@@ -48,7 +48,7 @@ pub(crate) fn note_quiet(
     Ok(())
 }
 
-/// Notes a granule, where it is still quiet and unexplained and was not noted before.
+/// Notes a granule, where it is still seen to be unexplained and was not noted before.
 fn judge_one<P: Progress>(
     alloc: Global,
     watch: &Watch,
@@ -57,7 +57,7 @@ fn judge_one<P: Progress>(
     budget: u64,
     progress: &mut P,
 ) -> Result<(), AllocError>
-    ensures noted { IfOk result (λ _. IsSettled watch.now it found.old.items found.new.items) }
+    ensures noted { IsSettled watch.now it found.old.items found.new.items }
     ensures unreached { IfOk result (λ _. AreUnreached watch.now P.looked progress.old progress.new budget found.old.items found.new.items) }
     ensures looked { IfOk result (λ _. LookedSome P.looked progress.old progress.new) }
 {
@@ -75,7 +75,7 @@ fn judge_one<P: Progress>(
     Ok(())
 }
 
-/// Notes those that are still quiet and unexplained.
+/// Notes those that are still seen to be unexplained.
 fn judge_each<P: Progress>(
     alloc: Global,
     watch: &Watch,
@@ -84,7 +84,7 @@ fn judge_each<P: Progress>(
     budget: u64,
     progress: &mut P,
 ) -> Result<(), AllocError>
-    ensures each { IfOk result (λ _. All (IsStillFound watch.now quiet.now found.old.items) found.new.items) }
+    ensures each { All (IsStillFound watch.now quiet.now found.old.items) found.new.items }
     ensures unreached { IfOk result (λ _. AreUnreached watch.now P.looked progress.old progress.new budget found.old.items found.new.items) }
     ensures once { IfOk result (λ _. AllPairs (λ a b. a.granule ≢ b.granule) found.old.items → AllPairs (λ a b. a.granule ≢ b.granule) found.new.items) }
     ensures looked { IfOk result (λ _. LookedSome P.looked progress.old progress.new) }
@@ -95,7 +95,7 @@ fn judge_each<P: Progress>(
     Ok(())
 }
 
-/// Notes those that are still quiet and unexplained, where all events of their time are told.
+/// Notes those that are still seen to be unexplained, where all events of their time are told.
 pub(crate) fn judge_quiet<P: Progress>(
     alloc: Global,
     watch: &Watch,
@@ -105,9 +105,9 @@ pub(crate) fn judge_quiet<P: Progress>(
     budget: u64,
     progress: &mut P,
 ) -> Result<(), AllocError>
-    ensures waits { IfOk result (λ _. is_past ≡ false → (found.new.items ≡ found.old.items) × (quiet.new.items ≡ quiet.old.items)) }
+    ensures waits { is_past ≡ false → (found.new.items ≡ found.old.items) × (quiet.new.items ≡ quiet.old.items) }
     ensures cleared { IfOk result (λ _. is_past ≡ true → quiet.new.items ≡ []) }
-    ensures each { IfOk result (λ _. is_past ≡ true → All (IsStillFound watch.now quiet.old.items found.old.items) found.new.items) }
+    ensures each { is_past ≡ true → All (IsStillFound watch.now quiet.old.items found.old.items) found.new.items }
     ensures unreached { IfOk result (λ _. AreUnreached watch.now P.looked progress.old progress.new budget found.old.items found.new.items) }
     ensures once { IfOk result (λ _. AllPairs (λ a b. a.granule ≢ b.granule) found.old.items → AllPairs (λ a b. a.granule ≢ b.granule) found.new.items) }
     ensures looked { IfOk result (λ _. LookedSome P.looked progress.old progress.new) }

@@ -1,9 +1,11 @@
 //! The text of what is found of events.
 
 ghost use Rattle.std.specs.Prelude.{◌≡◌, ◌++◌, IfOk, OnOk, flat_map};
-ghost use Rattle.chi_watch_text.specs.Texts.{answer_text, counts_text, end_text, ending_text, found_text, undecided_text, watched_text};
+ghost use Rattle.chi_watch_text.specs.Texts.{answer_text, are_text, counts_text, end_line, end_text, ending_text, found_text, judged_line, missing_text, operations_line, operations_text, quiet_line, undecided_text, watched_text};
 
+use crate::options::WatchOptions;
 use crate::reach_lines::add_reach;
+use crate::required::Required;
 use crate::watched::{FoundGranule, WatchVerdict, Watched, is_found};
 use chi_answer::{add_granule, add_undecided};
 use chi_text::{Part, add_parts};
@@ -133,16 +135,131 @@ fn add_counts(to: &mut Vec<u8>, counts: &Counts, unjudged: u64) -> Result<(), Al
     )
 }
 
-/// The text of what is found. `budget` is how many states were looked at for an answer.
+/// That so many are something.
+#[tactic(auto, unfolding(crate::specs::Texts::are_text))]
+fn are(count: u64) -> &'static str
+    ensures { result.now ≡ are_text count }
+{
+    if count == 1 { " is" } else { " are" }
+}
+
+/// Of so many operations.
+#[tactic(auto, unfolding(crate::specs::Texts::operations_text))]
+fn operations(count: u64) -> &'static str
+    ensures { result.now ≡ operations_text count }
+{
+    if count == 1 {
+        " operation"
+    } else {
+        " operations"
+    }
+}
+
+/// That the last line does not tell the end, where it has to.
+fn add_end(to: &mut Vec<u8>, is_missing: bool) -> Result<(), AllocError>
+    ensures { OnOk result (to.new.items ≡ to.old.items ++ end_line is_missing) }
+{
+    if !is_missing {
+        return Ok(());
+    }
+    add_parts(to, &[Part::Text("required: the last line tells the end\n")])
+}
+
+/// That fewer operations ended than have to, where some have to.
+fn add_operations(to: &mut Vec<u8>, required: u64, ended: u64) -> Result<(), AllocError>
+    ensures { OnOk result (to.new.items ≡ to.old.items ++ operations_line required ended) }
+{
+    if required == 0 {
+        return Ok(());
+    }
+    add_parts(
+        to,
+        &[
+            Part::Text("required: at least "),
+            Part::Number(required),
+            Part::Text(operations(required)),
+            Part::Text(" ended, and "),
+            Part::Number(ended),
+            Part::Text(" did\n"),
+        ],
+    )
+}
+
+/// That so many requests are outstanding, where none may be.
+fn add_quiet(to: &mut Vec<u8>, is_missing: bool, outstanding: u64) -> Result<(), AllocError>
+    ensures { OnOk result (to.new.items ≡ to.old.items ++ quiet_line is_missing outstanding) }
+{
+    if !is_missing {
+        return Ok(());
+    }
+    add_parts(
+        to,
+        &[
+            Part::Text("required: no request is outstanding, and "),
+            Part::Number(outstanding),
+            Part::Text(are(outstanding)),
+            Part::Text("\n"),
+        ],
+    )
+}
+
+/// That so many granules are not judged, where each has to be.
+fn add_judged(to: &mut Vec<u8>, is_missing: bool, unjudged: u64) -> Result<(), AllocError>
+    ensures { OnOk result (to.new.items ≡ to.old.items ++ judged_line is_missing unjudged) }
+{
+    if !is_missing {
+        return Ok(());
+    }
+    add_parts(
+        to,
+        &[
+            Part::Text("required: each granule is judged, and "),
+            Part::Number(unjudged),
+            Part::Text(are(unjudged)),
+            Part::Text(" not\n"),
+        ],
+    )
+}
+
+/// What is required and does not hold.
+fn add_missing(to: &mut Vec<u8>, missing: &Required, watched: &Watched) -> Result<(), AllocError>
+    ensures { OnOk result (to.new.items ≡ to.old.items ++ missing_text missing.now watched.now) }
+{
+    add_end(to, missing.end)?;
+    add_operations(to, missing.operations, watched.counts.ended)?;
+    add_quiet(to, missing.quiet, watched.counts.outstanding as u64)?;
+    add_judged(to, missing.judged, watched.unjudged)
+}
+
+/// The text of what is found. `options` are those by which it was watched.
 ///
 /// ```
-/// let text = watched_text(alloc, &watched, options.budget)?; // explained
+/// let text = watched_text(alloc, &watched, &options)?; // explained
 /// ```
-pub fn watched_text(alloc: Global, watched: &Watched, budget: u64) -> Result<Vec<u8>, AllocError>
-    ensures { IfOk result (λ text. text.items ≡ watched_text budget watched.now) }
+pub fn watched_text(
+    alloc: Global,
+    watched: &Watched,
+    options: &WatchOptions,
+) -> Result<Vec<u8>, AllocError>
+    ensures { IfOk result (λ text. text.items ≡ watched_text options.now watched.now) }
+{
+    let missing = options.required.missing(watched);
+    let mut text = Vec::new(alloc);
+    add_answer(alloc, &mut text, watched, options.budget)?;
+    add_counts(&mut text, &watched.counts, watched.unjudged)?;
+    add_missing(&mut text, &missing, watched)?;
+    Ok(text)
+}
+
+/// The text of the granules that were found before events are watched no further: that of each, as `watched_text` has it.
+///
+/// ```
+/// let text = unfinished_text(alloc, &unfinished.found)?; // not explained: granule 0000000000001000 ..
+/// ```
+pub fn unfinished_text(alloc: Global, found: &[FoundGranule]) -> Result<Vec<u8>, AllocError>
+    ensures { IfOk result (λ text. text.items ≡ flat_map found_text found.now) }
 {
     let mut text = Vec::new(alloc);
-    add_answer(alloc, &mut text, watched, budget)?;
-    add_counts(&mut text, &watched.counts, watched.unjudged)?;
+    add_all_found(alloc, &mut text, found)?;
     Ok(text)
 }

@@ -3,11 +3,13 @@
 ghost use Rattle.std.specs.Prelude.{◌≡◌};
 ghost use Rattle.chi_watch_text.specs.FoundGranule.{is_found, verdict_of};
 
-use chi_recent::Reach;
+use crate::fault::LinesFault;
+use chi_judge::Reach;
 use chi_watch::{Counts, Ending};
+use thiserror::Error;
 
-/// A granule that no order explains, by its number; the line by which its last outstanding request had gone, counted from 1; and
-/// how far its operations can be explained.
+/// A granule that no order explains, by its number; the line by which that was seen, counted from 1; and how far its operations
+/// can be explained.
 #[derive(Debug, Drop)]
 pub struct FoundGranule {
     pub granule: u64,
@@ -17,13 +19,24 @@ pub struct FoundGranule {
 
 /// What is found of events that are read line by line: granules that no order explains, each with the line by which that was first
 /// seen; what is said where the events end, or nothing where it stopped at the line of the last granule found; and how much was
-/// told. `unjudged` is of how many granules that were told of nothing is said.
+/// told. `unjudged` is of how many granules that were told of nothing is said. `is_ended` is whether the last line that was taken
+/// tells the end.
 #[derive(Debug, Drop)]
 pub struct Watched {
     pub found: Vec<FoundGranule>,
     pub ending: Option<Ending>,
     pub counts: Counts,
     pub unjudged: u64,
+    pub is_ended: bool,
+}
+
+/// Why events are watched no further, and the granules that were found by then: each that no order explains, with the line by which
+/// that was first seen.
+#[derive(Debug, Drop, Error)]
+#[error("{fault}")]
+pub struct Unfinished {
+    pub found: Vec<FoundGranule>,
+    pub fault: LinesFault,
 }
 
 /// Whether all that was watched is explained.

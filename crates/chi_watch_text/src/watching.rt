@@ -1,21 +1,23 @@
 //! Events that are read line by line and watched.
 
 ghost use Rattle.std.specs.Prelude.{◌≡◌, ◌≢◌, ◌<◌, ◌⊎◌, ℕ, [], List, All, None, true, false, IfErr, IfOk, IfSome, length};
+ghost use Rattle.chi_events.specs.Ended.{is_end};
 ghost use Rattle.chi_events.specs.declared.event.Event.{Event};
 ghost use Rattle.chi_search.specs.Looks.{LookedSome};
 ghost use Rattle.chi_watch.specs.Watches.{HasTaken};
-ghost use Rattle.chi_watch_text.specs.Outcomes.{IsEventFault, IsOutcome, IsTold, IsUnreached, ReachedBy, SaysAtEnd, TakesEvent, WentBy};
+ghost use Rattle.chi_watch_text.specs.Outcomes.{IsEventFault, IsFoundBy, IsLinesFault, IsOutcome, IsTold, IsUnreached, IsWatched, ReachedBy, SaysAtEnd, TakesEvent, WentBy};
 
 use crate::fault::LinesFault;
 use crate::lines::next_event;
 use crate::options::WatchOptions;
 use crate::progress::WatchProgress;
 use crate::quiet::{judge_quiet, note_quiet};
-use crate::watched::{FoundGranule, Watched};
-use chi_events::Event;
+use crate::watched::{FoundGranule, Unfinished, Watched};
+use chi_events::{Event, EventKind};
 use chi_watch::{Watch, WatchFault};
 use std::alloc::{AllocError, Global};
 use std::io::BufRead;
+use std::mem;
 
 /// Has the watch take the event of the line with this number.
 fn take_event<P: WatchProgress>(
@@ -58,16 +60,24 @@ fn stops(is_past: bool, found: &[FoundGranule], keep_going: bool) -> bool
     is_past && !keep_going && found.len() > 0
 }
 
+/// Whether an event tells the end.
+fn is_end(event: &Event) -> bool
+    ensures { result ≡ is_end event.now }
+{
+    matches!(event.kind, EventKind::End)
+}
+
 /// What is said where it stops.
-fn stopped(watch: &Watch, found: Vec<FoundGranule>) -> Watched
-    ensures told { IsTold watch.now found.items result }
+fn stopped(alloc: Global, watch: &Watch, found: &mut Vec<FoundGranule>, is_ended: bool) -> Watched
+    ensures told { IsTold watch.now found.old.items is_ended result }
     ensures ending { result.ending ≡ None }
 {
     Watched {
-        found,
+        found: mem::replace(found, Vec::new(alloc)),
         ending: None,
         counts: watch.counts(),
         unjudged: watch.unjudged(),
+        is_ended,
     }
 }
 
@@ -75,11 +85,13 @@ fn stopped(watch: &Watch, found: Vec<FoundGranule>) -> Watched
 fn ended<P: WatchProgress>(
     alloc: Global,
     watch: Watch,
-    found: Vec<FoundGranule>,
+    found: &mut Vec<FoundGranule>,
+    is_ended: bool,
     budget: u64,
     progress: &mut P,
 ) -> Result<Watched, AllocError>
-    ensures told { IfOk result (λ watched. IsTold watch found.items watched) }
+    ensures told { IfOk result (λ watched. IsTold watch found.old.items is_ended watched) }
+    ensures kept { IfErr result (λ _. found.new.items ≡ found.old.items) }
     ensures ending { IfOk result (λ watched. watched.ending ≢ None) }
     ensures says { IfOk result (λ watched. IfSome watched.ending (SaysAtEnd watch)) }
     ensures undecided { IfOk result (WentBy P.looked progress.old progress.new budget) }
@@ -90,18 +102,69 @@ fn ended<P: WatchProgress>(
     let unjudged = watch.unjudged();
     let ending = watch.ending(alloc, budget, progress)?;
     Ok(Watched {
-        found,
+        found: mem::replace(found, Vec::new(alloc)),
         ending: Some(ending),
         counts,
         unjudged,
+        is_ended,
     })
+}
+
+/// Reads events line by line, and watches the granules that they tell of. Those that no order explains are in `found`, until it
+/// ends.
+fn watch_each<R: BufRead, P: WatchProgress>(
+    alloc: Global,
+    from: &mut R,
+    options: &WatchOptions,
+    found: &mut Vec<FoundGranule>,
+    progress: &mut P,
+) -> Result<Watched, LinesFault>
+    requires { found.old.items ≡ [] }
+    ensures watched { IfSome (R.remaining from.old) (λ text. IfOk result (IsWatched text options.now.keep_going)) }
+    ensures fault { IfSome (R.remaining from.old) (λ text. IfErr result (IsLinesFault text)) }
+    ensures found { IfSome (R.remaining from.old) (λ text. IfErr result (λ _. All (IsFoundBy text) found.new.items)) }
+    ensures undecided { IfOk result (WentBy P.looked progress.old progress.new options.now.budget) }
+    ensures unreached { IfOk result (ReachedBy P.looked progress.old progress.new options.now.budget) }
+{
+    let mut watch = Watch::new(alloc);
+    let mut quiet = Vec::new(alloc);
+    let mut line = Vec::new(alloc);
+    let mut time = 0;
+    let mut is_ended = false;
+    for number in 1..u64::MAX {
+        let next = next_event(alloc, from, &mut line, number)?;
+        let is_past = is_past(time, &next);
+        judge_quiet(
+            alloc,
+            &watch,
+            is_past,
+            &mut quiet,
+            found,
+            options.budget,
+            progress,
+        )?;
+        if stops(is_past, found, options.keep_going) {
+            return Ok(stopped(alloc, &watch, found, is_ended));
+        }
+        let Some(event) = next else {
+            return Ok(ended(alloc, watch, found, is_ended, options.budget, progress)?);
+        };
+        let seen = take_event(alloc, &mut watch, &event, number, options.budget, progress)?;
+        note_quiet(alloc, &mut quiet, seen, number)?;
+        time = event.time;
+        is_ended = is_end(&event);
+    }
+    Err(LinesFault::TooManyLines)
 }
 
 /// Reads events line by line, and watches the granules that they tell of, until it is seen that no order explains the
 /// operations of one; or, with `keep_going`, to the end. `progress` is told how far it is.
 ///
-/// A granule is judged when its last outstanding request has gone. As another may be told of the same time, it is found once
-/// the next event is later, or the text has ended. A line is read when it is there. The last line needs no line feed.
+/// A granule is judged when its last outstanding request has gone, and looked at now and then where it is never quiet. As another
+/// request may be told of the same time, it is found once the next event is later, or the text has ended. A line is read when it
+/// is there. The last line needs no line feed.
+///
+/// After a fault nothing is said of the events but the granules that were found by then.
 ///
 /// ```
 /// let watched = watch_lines(alloc, &mut reader, &options, &mut NoProgress)?;
@@ -111,37 +174,14 @@ pub fn watch_lines<R: BufRead, P: WatchProgress>(
     from: &mut R,
     options: &WatchOptions,
     progress: &mut P,
-) -> Result<Watched, LinesFault>
+) -> Result<Watched, Unfinished>
     ensures outcome { IfSome (R.remaining from.old) (λ text. IsOutcome text options.now.keep_going result) }
     ensures undecided { IfOk result (WentBy P.looked progress.old progress.new options.now.budget) }
     ensures unreached { IfOk result (ReachedBy P.looked progress.old progress.new options.now.budget) }
 {
-    let mut watch = Watch::new(alloc);
     let mut found = Vec::new(alloc);
-    let mut quiet = Vec::new(alloc);
-    let mut line = Vec::new(alloc);
-    let mut time = 0;
-    for number in 1..u64::MAX {
-        let next = next_event(alloc, from, &mut line, number)?;
-        let is_past = is_past(time, &next);
-        judge_quiet(
-            alloc,
-            &watch,
-            is_past,
-            &mut quiet,
-            &mut found,
-            options.budget,
-            progress,
-        )?;
-        if stops(is_past, &found, options.keep_going) {
-            return Ok(stopped(&watch, found));
-        }
-        let Some(event) = next else {
-            return Ok(ended(alloc, watch, found, options.budget, progress)?);
-        };
-        let seen = take_event(alloc, &mut watch, &event, number, options.budget, progress)?;
-        note_quiet(alloc, &mut quiet, seen, number)?;
-        time = event.time;
+    match watch_each(alloc, from, options, &mut found, progress) {
+        Ok(watched) => Ok(watched),
+        Err(fault) => Err(Unfinished { found, fault }),
     }
-    Err(LinesFault::TooManyLines)
 }

@@ -67,10 +67,10 @@ fn states_of_a_blame(rt: HostRuntime) -> Result<(), Fail> {
     let stale = read((40, 50), NEXT, 0);
     let trace = trace(alloc, &[write, add, sees_one, stale])?;
     let mut looks = Looks(0);
-    let First::At(blame) = first_unexplained(alloc, &trace, BUDGET, &mut looks)? else {
+    let First::At(blame) = first_unexplained(alloc, &trace, 16, BUDGET, &mut looks)? else {
         return Err(Fail::new("explained at each time"));
     };
-    assert_same(&rt, (blame.time, looks.0 > 3), (50, true));
+    assert_same(&rt, (blame.stop.time, looks.0 > 3), (50, true));
     Ok(())
 }
 

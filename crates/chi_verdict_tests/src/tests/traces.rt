@@ -126,13 +126,13 @@ pub(crate) fn swap(times: (u64, u64), addr: u64, word: u64, answer: u64) -> Time
     answered(silent(times, SWAP, addr, word), answer)
 }
 
-/// What was observed of these operations.
+/// What was observed of these operations, which are counted from 0.
 pub(crate) fn observed(alloc: Global, ops: &[Timed]) -> Result<Vec<Operation>, Fail> {
     let mut list = Vec::new(alloc);
     for op in ops {
         let region = Region::new(op.request.addr / 64 * 64, 8)?;
         list.push(Operation {
-            number: 0,
+            number: list.len() as u64,
             src: 1,
             txn: u16::from(op.request.txn),
             access: decode(&op.request, &region)?,
@@ -238,11 +238,11 @@ pub(crate) fn assert_ordered<R: AllocGlobal + Abort>(
 }
 
 /// The number of the granule, the time and the operation at which these operations stop being explained, if they do.
-pub(crate) fn blame(alloc: Global, ops: &[Timed]) -> Result<Option<(u64, u64, usize)>, Fail> {
-    let found = first_unexplained(alloc, &trace(alloc, ops)?, BUDGET, &mut NoProgress)?;
+pub(crate) fn blame(alloc: Global, ops: &[Timed]) -> Result<Option<(u64, u64, u64)>, Fail> {
+    let found = first_unexplained(alloc, &trace(alloc, ops)?, 16, BUDGET, &mut NoProgress)?;
     match found {
         First::Never => Ok(None),
-        First::At(blame) => Ok(Some((blame.granule, blame.time, blame.op))),
+        First::At(blame) => Ok(Some((blame.granule, blame.stop.time, blame.stop.op.number))),
         First::Undecided {
             granule: _,
             states: _,
@@ -254,7 +254,7 @@ pub(crate) fn blame(alloc: Global, ops: &[Timed]) -> Result<Option<(u64, u64, us
 pub(crate) fn assert_blamed<R: AllocGlobal + Abort>(
     rt: &R,
     ops: &[Timed],
-    wanted: Option<(u64, u64, usize)>,
+    wanted: Option<(u64, u64, u64)>,
 ) -> Result<(), Fail> {
     let found = blame(rt.alloc(), ops)?;
     assert_same(rt, found, wanted);

@@ -29,6 +29,7 @@ fn a_handful_of_events(rt: HostRuntime) -> Result<(), Fail> {
         (7, answer(2, 5), 2, 1, 4, 2),
         (8, EventKind::Dropped { id: 3 }, 2, 0, 4, 2),
         (9, first, 2, 0, 4, 3),
+        (10, EventKind::End, 2, 0, 4, 3),
     ] {
         take(rt.alloc(), &mut watch, *time, *kind)?;
         let wanted = Counts {

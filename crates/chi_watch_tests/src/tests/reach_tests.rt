@@ -7,8 +7,8 @@ use crate::tests::home::{
 };
 use crate::tests::stop::{Stop, assert_stop, assert_stops};
 use chi_events::EventKind;
-use chi_recent::Reach;
-use chi_search::NoProgress;
+use chi_judge::Reach;
+use chi_search::{NoProgress, Words};
 use chi_watch::{Watch, WatchFault};
 use std::alloc::Global;
 use std::test::Fail;
@@ -138,7 +138,7 @@ fn after_many(rt: HostRuntime) -> Result<(), Fail> {
 // The words that the granule can hold at the end, in rising order, where it can be explained so far.
 fn words_at_end(reach: Reach) -> Result<Vec<u64>, Fail> {
     match reach {
-        Reach::Whole(mut words) => {
+        Reach::Whole(Words::Each(mut words)) => {
             words.sort()?;
             Ok(words)
         }
@@ -192,7 +192,7 @@ fn at_the_end(rt: HostRuntime) -> Result<(), Fail> {
         legal: &[0, 5],
     };
     let words = match &second.reach {
-        Reach::Whole(words) => words.as_slice(),
+        Reach::Whole(Words::Each(words)) => words.as_slice(),
         _ => &[],
     };
     assert_same(

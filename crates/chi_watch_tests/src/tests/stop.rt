@@ -2,8 +2,9 @@
 
 use crate::tests::comparison::assert_same;
 use crate::tests::home::lanes;
+use chi_judge::Reach;
 use chi_lanes::Reply;
-use chi_recent::Reach;
+use chi_search::Words;
 use chi_trace::Operation;
 use std::process::Abort;
 use std::test::Fail;
@@ -86,7 +87,10 @@ pub(crate) fn assert_stop<R: AllocGlobal + Abort>(
     };
     assert_same(rt, (stop.time, stop.op.opcode()), (time, opcode));
     assert_starts(rt, &stop.overlapping, starts)?;
-    assert_words(rt, &stop.words, words)
+    match &stop.words {
+        Words::Each(found) => assert_words(rt, found, words),
+        Words::Unknown => assert_words(rt, &[], words),
+    }
 }
 
 /// Compares where a granule stops being explained.

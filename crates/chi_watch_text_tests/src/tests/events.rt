@@ -1,7 +1,9 @@
 //! Texts of events, and what is found by their lines.
 
 use chi_search::NoProgress;
-use chi_watch_text::{LinesFault, WatchOptions, Watched, watch_lines, watched_text};
+use chi_watch_text::{
+    LinesFault, Required, Unfinished, WatchOptions, Watched, watch_lines, watched_text,
+};
 use std::alloc::{AllocError, Global};
 use std::test::Fail;
 
@@ -47,6 +49,9 @@ pub(crate) const LAST: &str =
 pub(crate) const UNKNOWN: &str = "{\"time\":10,\"event\":\"unknown\",\"addr\":4120,\"length\":8}
 ";
 
+// That nothing more is told.
+pub(crate) const END: &str = "{\"time\":11,\"event\":\"end\"}\n";
+
 /// The texts one after the other.
 pub(crate) fn joined(alloc: Global, texts: &[&str]) -> Result<Vec<u8>, AllocError> {
     let mut all = Vec::new(alloc);
@@ -61,8 +66,16 @@ pub(crate) fn watched(
     alloc: Global,
     texts: &[&str],
     options: &WatchOptions,
-) -> Result<Watched, LinesFault> {
-    let all = joined(alloc, texts)?;
+) -> Result<Watched, Unfinished> {
+    let all = match joined(alloc, texts) {
+        Ok(all) => all,
+        Err(_) => {
+            return Err(Unfinished {
+                found: Vec::new(alloc),
+                fault: LinesFault::Memory,
+            });
+        }
+    };
     let mut from = all.as_slice();
     watch_lines(alloc, &mut from, options, &mut NoProgress)
 }
@@ -74,19 +87,36 @@ pub(crate) fn answer(
     options: &WatchOptions,
 ) -> Result<String, Fail> {
     let watched = watched(alloc, texts, options)?;
-    let text = watched_text(alloc, &watched, options.budget)?;
+    let text = watched_text(alloc, &watched, options)?;
     Ok(String::from_utf8(text)?)
 }
+
+/// Nothing is required, or all of which one can say whether it is there.
+pub(crate) const NOTHING: Required = Required {
+    end: false,
+    operations: 0,
+    quiet: false,
+    judged: false,
+};
+
+pub(crate) const ALL: Required = Required {
+    end: true,
+    operations: 2,
+    quiet: true,
+    judged: true,
+};
 
 /// It stops at the first line by which a granule is found, or it keeps going.
 pub(crate) const STOPPING: WatchOptions = WatchOptions {
     budget: 1_000_000,
     keep_going: false,
+    required: NOTHING,
 };
 
 pub(crate) const GOING: WatchOptions = WatchOptions {
     budget: 1_000_000,
     keep_going: true,
+    required: NOTHING,
 };
 
 /// The granules that were found by lines, each with its line.

@@ -100,7 +100,9 @@ fn faults_and_their_texts(rt: HostRuntime) -> Result<(), Fail> {
             "line 2 takes a number of an outstanding request",
         ),
     ] {
-        let found = watched(rt.alloc(), texts, &STOPPING).err();
+        let found = watched(rt.alloc(), texts, &STOPPING)
+            .err()
+            .map(|it| it.fault);
         let told = format!(in rt.alloc(); "{fault}")?;
         assert_same(&rt, (found, told.as_str()), (Some(*fault), *text));
     }

@@ -16,7 +16,7 @@ const OPEN_WRITE: &str =
     "{\"time\":1,\"event\":\"request\",\"id\":9,\"src\":3,\"txn\":77,\"op\":28,\"size\":0,\"addr\":4096,\"endian\":0,\"be\":1,\"lanes\":\"06000000000000000000000000000000\"}
 ";
 
-// Before time 0 there is none, so no words are told, and no time up to which it is explained.
+// Before time 0 there is none, so no words are told, and no time up to which it is explained. The granule holds 0 then.
 #[test]
 fn time_0(rt: HostRuntime) -> Result<(), Fail> {
     let text = answer(rt.alloc(), &[SEVEN_AT_0], &STOPPING)?;
@@ -28,6 +28,7 @@ at 0: 0 2 04 ReadNoSnp 3 0000000000001000 answered
   open from 0 to 0: 0 2 04 ReadNoSnp 3 0000000000001000 answered
   the last operations of the granule, from time 0 to 0:
   > line 1 |#                                       |  0 to 0  ReadNoSnp  +0 L8  returned 0700000000000000  requester 0 txn 2
+    legal would be:  returned 0000000000000000
   at line 2
   operations that ended: 1
   requests outstanding: 0

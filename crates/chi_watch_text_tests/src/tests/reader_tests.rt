@@ -45,9 +45,10 @@ fn reads_that_fail(rt: HostRuntime) -> Result<(), Fail> {
         for most in [1, 7, 4096] {
             let from = FailingReader { text: &text, most };
             let mut lines = BufReader::new(rt.alloc(), from)?;
-            let found = watch_lines(rt.alloc(), &mut lines, &STOPPING, &mut NoProgress).map(
-                |it| it.verdict(),
-            );
+            let found = match watch_lines(rt.alloc(), &mut lines, &STOPPING, &mut NoProgress) {
+                Ok(watched) => Ok(watched.verdict()),
+                Err(unfinished) => Err(unfinished.fault),
+            };
             assert_same(
                 &rt,
                 (texts.len(), most, found),

@@ -2,11 +2,11 @@
 
 use crate::tests::comparison::assert_same;
 use crate::tests::events::{
-    FIVE, GOING, LAST, NINE_AND_FIVE, READ, STOPPING, UNKNOWN, WRITE, ZERO, answer,
+    ALL, FIVE, GOING, LAST, NINE_AND_FIVE, NOTHING, READ, STOPPING, UNKNOWN, WRITE, ZERO, answer,
 };
-use chi_recent::Reach;
+use chi_judge::Reach;
 use chi_watch::{Counts, Ending, FoundAtEnd};
-use chi_watch_text::{FoundGranule, WatchOptions, Watched, watched_text};
+use chi_watch_text::{FoundGranule, Required, WatchOptions, Watched, watched_text};
 use std::process::Abort;
 use std::test::Fail;
 
@@ -84,16 +84,16 @@ at the end: 0800000000000000
     assert_answer(&rt, &texts, &GOING, found.as_str(), (4, 0, 3, 0))
 }
 
-// Within a budget of no states a granule that has an operation is not decided, and one with words alone is.
+// Within a budget of no states a granule that has an operation is not decided, and one with words alone is, but not which word it
+// could hold at the end.
 #[test]
 fn no_budget(rt: HostRuntime) -> Result<(), Fail> {
     let options = WatchOptions {
         budget: 0,
         keep_going: true,
+        required: NOTHING,
     };
     let found = "not explained: granule 0000000000001010
-at the end: 0800000000000000
-  the granule can hold 0000000000000000
   at the end
 undecided: granule 0000000000001000 after 0 states
 ";
@@ -135,8 +135,17 @@ fn all_there_is_to_tell(rt: HostRuntime) -> Result<(), Fail> {
             granules: 300,
         },
         unjudged: 4,
+        is_ended: false,
     };
-    let text = String::from_utf8(watched_text(rt.alloc(), &watched, 70)?)?;
+    let options = WatchOptions {
+        budget: 70,
+        keep_going: true,
+        required: Required {
+            operations: 1001,
+            ..ALL
+        },
+    };
+    let text = String::from_utf8(watched_text(rt.alloc(), &watched, &options)?)?;
     assert_same(
         &rt,
         text.as_str(),
@@ -150,6 +159,10 @@ undecided: granule 000ffffffffffff8 after 70 states
   requests outstanding: 20
   granules: 300
   granules not judged: 4
+required: the last line tells the end
+required: at least 1001 operations ended, and 1000 did
+required: no request is outstanding, and 20 are
+required: each granule is judged, and 4 are not
 ",
     );
     Ok(())

@@ -1,7 +1,7 @@
 //! The verdict on what is found.
 
 use crate::tests::comparison::assert_same;
-use chi_recent::Reach;
+use chi_judge::Reach;
 use chi_watch::{Counts, Ending, FoundAtEnd};
 use chi_watch_text::{FoundGranule, WatchVerdict, Watched};
 use std::alloc::{AllocError, Global};
@@ -43,6 +43,7 @@ fn verdict(
             granules: 3,
         },
         unjudged: 0,
+        is_ended: true,
     };
     Ok(watched.verdict())
 }

@@ -8,4 +8,4 @@ use Rattle.chi_answer.proofs.text.answer_text.Goals as goal
 pub add_witness-requires : goal.add_witness-requires
 add_witness-requires c =
     rw c.deref.ensures.value (order_places c.args.recorded.now.trace c.args.recorded.now.final_words c.in-Explained.order.items
-    (subst (λ (a : Answer). IsAnswer c.args.recorded.now a) c.in-Explained.is c.requires))
+    (subst (λ (a : Answer). IsAnswer c.args.recorded.now c.requires.0 a) c.in-Explained.is c.requires.1))

@@ -3,6 +3,6 @@ use Rattle.chi_check.proofs.CheckLemmas.{blamed_right}
 use Rattle.chi_check.proofs.check.blamed_report.Goals as goal
 
 pub returns-clause-reported : goal.returns-clause-reported
-returns-clause-reported g c =
-    blamed_right c.args.options.now c.args.recorded.now c.in_ok-failure.failure c.in_ok-text.text.items c.in_ok-page.page.items c.requires.unexplained c.in_ok-failure.ensures.failure
+returns-clause-reported c =
+    blamed_right c.args.options.now c.args.recorded.now c.args.blame.now c.in_ok-text.text.items c.in_ok-page.page.items c.requires.unexplained c.requires.blame
     c.in_ok-text.ensures c.in_ok-page.ensures

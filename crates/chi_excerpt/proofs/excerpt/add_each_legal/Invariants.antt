@@ -1,6 +1,6 @@
 -- the lines so far
 use Rattle.std.proofs.Common.{◌≡◌, ◌++◌, flat_map, take}
-use Rattle.chi_excerpt.specs.Texts.{legal_line}
+use Rattle.chi_excerpt.specs.Excerpts.{legal_line}
 use Rattle.chi_excerpt.proofs.excerpt.add_each_legal.Given as goal
 
 abbrev pub invariant-loop-reply : goal.invariant-loop-reply

@@ -1,6 +1,6 @@
 -- one part after the other
 use Rattle.std.proofs.Common.{append_assoc}
-use Rattle.chi_excerpt.specs.Texts.{legal_line}
+use Rattle.chi_excerpt.specs.Excerpts.{legal_line}
 use Rattle.chi_excerpt.proofs.excerpt.add_legal.Goals as goal
 
 pub returns : goal.returns

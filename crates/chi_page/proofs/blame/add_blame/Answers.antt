@@ -6,4 +6,4 @@ use Rattle.chi_page.proofs.blame.add_blame.Goals as goal
 pub returns : goal.returns
 unfolding blame_json
 returns c =
-    simp (c.in_ok-add_parts.ensures, c.in_ok-add_granule.ensures, c.in_ok-add_parts-2.ensures, c.in_ok-add_places.ensures, c.deref.ensures.value, c.in_ok-add_parts-3.ensures, c.in_ok-add_words.ensures, append_assoc, append-nil) at c.add_parts-4.ensures
+    simp (c.in_ok-add_parts.ensures, c.in_ok-add_granule.ensures, c.in_ok-add_parts-2.ensures, c.in_ok-add_requests.ensures, c.deref.ensures.value, c.in_ok-add_parts-3.ensures, c.in_ok-add_words.ensures, append_assoc, append-nil) at c.add_parts-4.ensures

@@ -27,7 +27,7 @@ loop-place-preserved c =
       | then-is_hopeless+in_ok-add w ↦
           let dead : IsDead ops final_word state = c.is_hopeless.ensures w.if-is_hopeless.true in
           record {
-            dead = subst (AllDead ops final_word) (sym w.dead-is) (more_dead ops final_word c.loop-place.dead w.add.new.states state w.in_ok-add.ensures so.dead dead);
+            dead = subst (AllDead ops final_word) (sym w.dead-is) (more_dead ops final_word c.loop-place.dead w.add.new.states state w.in_ok-add.ensures.has so.dead dead);
             all = λ are. dead_here ops final_word c.args.from.now c.loop-place.place state c.in_ok-read.ensures (so.all (sym w.are-is ∙ are)) dead;
           }
       | else-is_hopeless w ↦ record {

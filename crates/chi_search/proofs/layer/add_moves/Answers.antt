@@ -26,14 +26,14 @@ returns-then-branch-clause-ends c =
     (takes_on ops more p q place below (c.in_ok-take.ensures.takes c.if-branch.true))
     (c.in_ok-take.ensures.finds c.if-branch.true) (c.in_ok-take.ensures.leaves c.if-branch.true)
     (subst IsIdle (sym (at_before ops more place below)) c.in-Some.ensures.idle))
-    c.add_new.ensures
+    c.add_new.ensures.has
 
 pub returns-then-branch-clause-ready : goal.returns-then-branch-clause-ready
 returns-then-branch-clause-ready c =
     on_ok_weaker c.add_new.result
     (λ (added : IsAdded c.add_new.new.states c.args.states.now (position_of c.take.new.next)).
     ready_more c.args.ops.now c.add_new.new.states c.args.states.now (position_of c.take.new.next) added (c.in_ok-take.ensures.ready c.if-branch.true))
-    c.add_new.ensures
+    c.add_new.ensures.has
 
 pub loop-place-preserved : goal.loop-place-preserved
 loop-place-preserved c =
@@ -48,13 +48,13 @@ loop-place-preserved c =
       | then-branch-2+in_ok-add_new w ↦ record {
         grown = λ more after.
             subst (λ (grown : States). Grown (ops ++ more) old grown p (place + 1)) (sym w.states-is)
-            (grown_taken (ops ++ more) old now w.add_new-then-branch-2.new.states p q place (c.loop-place.invariant.grown more after) w.in_ok-add_new.ensures
+            (grown_taken (ops ++ more) old now w.add_new-then-branch-2.new.states p q place (c.loop-place.invariant.grown more after) w.in_ok-add_new.ensures.has
             after.sorted
             (comes_on ops more p place c.requires.first (c.in_ok-take-2.ensures.comes w.if-branch-2.true))
             (takes_on ops more p q place below (c.in_ok-take-2.ensures.takes w.if-branch-2.true)) (c.in_ok-take-2.ensures.leaves w.if-branch-2.true));
         ready = λ all.
             subst (AreReady ops) (sym w.states-is)
-            (ready_more ops w.add_new-then-branch-2.new.states now q w.in_ok-add_new.ensures (c.in_ok-take-2.ensures.ready w.if-branch-2.true) (c.loop-place.invariant.ready all));
+            (ready_more ops w.add_new-then-branch-2.new.states now q w.in_ok-add_new.ensures.has (c.in_ok-take-2.ensures.ready w.if-branch-2.true) (c.loop-place.invariant.ready all));
       }
       | else-branch-2 w ↦ record {
         grown = λ more after.
@@ -73,7 +73,7 @@ returns-in_ok-add_new-2-clause-ends c more after =
     let p = position_of c.args.state.now in
     let q = position_of c.leave_out.new.next in
     let further : p.first < length (ops ++ more) = omega (arith, c.requires.first, length-append ops more) in
-    whole_dropped (ops ++ more) c.args.states.now c.loop-place.states c.add_new-then-branch-3.new.states p q c.loop-place.place (c.loop-place.invariant.grown more after) c.in_ok-add_new-2.ensures
+    whole_dropped (ops ++ more) c.args.states.now c.loop-place.states c.add_new-then-branch-3.new.states p q c.loop-place.place (c.loop-place.invariant.grown more after) c.in_ok-add_new-2.ensures.has
     after.sorted (ready_on ops more p c.requires.ready) further
     (late_on ops more p c.loop-place.place c.requires.first
     (elim c.loop-place-test.branch [
@@ -86,7 +86,7 @@ returns-in_ok-add_new-2-clause-ends c more after =
 
 pub returns-in_ok-add_new-2-clause-ready : goal.returns-in_ok-add_new-2-clause-ready
 returns-in_ok-add_new-2-clause-ready c all =
-    ready_more c.args.ops.now c.add_new-then-branch-3.new.states c.loop-place.states (position_of c.leave_out.new.next) c.in_ok-add_new-2.ensures
+    ready_more c.args.ops.now c.add_new-then-branch-3.new.states c.loop-place.states (position_of c.leave_out.new.next) c.in_ok-add_new-2.ensures.has
     (c.in_ok-leave_out.ensures.ready c.if-branch-3.true) (c.loop-place.invariant.ready all)
 
 pub returns-else-branch-3-clause-ends : goal.returns-else-branch-3-clause-ends

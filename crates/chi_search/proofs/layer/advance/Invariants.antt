@@ -1,15 +1,18 @@
 -- what the states lead to stays the same, and what the budget lost was looked at
-use Rattle.std.proofs.Common.{ℕ, ◌-◌, ◌≤◌, ◌↔◌, List, ◌++◌}
+use Rattle.std.proofs.Common.{ℕ, ◌+◌, ◌-◌, ◌≤◌, ◌↔◌, List, ◌++◌, length}
 use Rattle.chi_trace.specs.declared.operation.Operation.{Operation}
-use Rattle.chi_search.specs.Layers.{AreReady, MayFollow, SomeEnds}
+use Rattle.chi_search.specs.Layers.{AreReady, AreWaiting, EitherEnds, MayFollow, SomeEnds}
 use Rattle.chi_search.specs.Looks.{LookedMore}
+use Rattle.chi_search.specs.StateSets.{positions}
 use Rattle.chi_search.proofs.layer.advance.Given as goal
 
 abbrev pub invariant-loop-alloc : goal.invariant-loop-alloc
 invariant-loop-alloc g l = record {
-  ends : (more : List Operation) → MayFollow l.ops l.horizon more → (v : ℕ) → SomeEnds (l.ops ++ more) l.layer v ↔ SomeEnds (l.ops ++ more) l.fn.from v;
+  ends : (more : List Operation) → MayFollow l.ops l.horizon more → (v : ℕ) → EitherEnds (l.ops ++ more) l.layer l.waiting v ↔ SomeEnds (l.ops ++ more) l.fn.from v;
   ready : AreReady l.ops l.layer;
-  left : l.budget ≤ l.initial.budget;
+  waiting : AreWaiting l.ops l.horizon l.waiting;
+  most : length (positions l.waiting) ≤ l.most;
+  count : length (positions l.waiting) + l.budget ≤ l.initial.budget;
   looked : LookedMore g.P.Progress.looked l.initial.progress l.progress (l.initial.budget - l.budget);
 }
 

@@ -13,7 +13,7 @@ loop-word-preserved c p =
     let word = slice_index words i in
     let below : i < length words = omega arith in
     some_step (λ w. p ≡ start w) (Has c.loop-word.layer p) (Has c.add_new.new.states p) words i word (slice_get-get_or words i 0 below) (c.loop-word.invariant p)
-    (in_place (Has c.add_new.new.states p) (Has c.loop-word.layer p) (p ≡ position_of c.first_state.result) (p ≡ start word) (c.in_ok-add_new.ensures p)
+    (in_place (Has c.add_new.new.states p) (Has c.loop-word.layer p) (p ≡ position_of c.first_state.result) (p ≡ start word) (c.in_ok-add_new.ensures.has p)
     (λ same. same ∙ c.first_state.ensures) (λ same. same ∙ sym c.first_state.ensures))
 
 pub returns : goal.returns

@@ -1,7 +1,7 @@
--- the words that can follow from the states so far, whatever operations come later
-use Rattle.std.proofs.Common.{◌≡◌, ℕ, ◌+◌, ◌↔◌, List, ◌++◌, Some, take}
+-- the words that can follow from the states so far, and from those that waited before, whatever operations come later
+use Rattle.std.proofs.Common.{ℕ, ◌+◌, ◌-◌, ◌<◌, ◌≤◌, ◌⊎◌, ◌↔◌, List, ◌++◌, Some, length, take}
 use Rattle.chi_trace.specs.declared.operation.Operation.{Operation}
-use Rattle.chi_search.specs.Layers.{AreReady, MayFollow, SomeEnds}
+use Rattle.chi_search.specs.Layers.{AreReady, AreWaiting, EitherEnds, MayFollow, SomeEnds}
 use Rattle.chi_search.specs.Looks.{LookedMore}
 use Rattle.chi_search.specs.Moves.{Ends}
 use Rattle.chi_search.specs.StateSets.{positions}
@@ -11,8 +11,12 @@ use Rattle.chi_search.proofs.layer.next_layer.Given as goal
 abbrev pub invariant-loop-place : goal.invariant-loop-place
 invariant-loop-place g l = record {
   ends : (more : List Operation) → MayFollow l.ops l.horizon more → (v : ℕ)
-      → SomeEnds (l.ops ++ more) l.states v ↔ SomeOf (Ends (l.ops ++ more) (Some v)) (take l.place (positions l.layer));
+      → EitherEnds (l.ops ++ more) l.states l.waiting v ↔ (SomeOf (Ends (l.ops ++ more) (Some v)) (take l.place (positions l.layer)) ⊎ SomeEnds (l.ops ++ more) l.initial.waiting v);
   ready : AreReady l.ops l.states;
-  one_each : l.budget + l.place ≡ l.initial.budget;
-  looked : LookedMore g.P.Progress.looked l.initial.progress l.progress l.place;
+  waiting : AreWaiting l.ops l.horizon l.waiting;
+  most : length (positions l.waiting) ≤ l.most;
+  count : length (positions l.waiting) + l.budget ≤ length (positions l.initial.waiting) + l.initial.budget;
+  fewer : l.least < l.place → l.budget < l.initial.budget;
+  left : l.budget ≤ l.initial.budget;
+  looked : LookedMore g.P.Progress.looked l.initial.progress l.progress (l.initial.budget - l.budget);
 }

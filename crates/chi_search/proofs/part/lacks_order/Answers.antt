@@ -51,7 +51,7 @@ loop-budget-preserved g c =
     (subst (All (IsTriedStep mask c.args.problem.now.ops.now c.args.problem.now.final_word)) c.in-Some.ensures.items c.loop-budget.invariant.before) in
     record {
       mask = c.loop-budget.invariant.mask;
-      dead = more_of (IsDeadWithin mask c.args.problem.now.ops.now c.args.problem.now.final_word) c.loop-budget.part.dead c.add.new.states (position_of c.loop-budget.state) c.in_ok-add-in-Dead.ensures
+      dead = more_of (IsDeadWithin mask c.args.problem.now.ops.now c.args.problem.now.final_word) c.loop-budget.part.dead c.add.new.states (position_of c.loop-budget.state) c.in_ok-add-in-Dead.ensures.has
           c.loop-budget.invariant.dead (dead c.loop-budget.invariant.dead);
       ready = back.1.ready;
       tried = back.1.tried;
@@ -67,7 +67,7 @@ returns-in-None-clause-part g c =
     → IsDeadWithin mask c.args.problem.now.ops.now c.args.problem.now.final_word (position_of c.loop-budget.state))) c.in-Dead.is c.in_ok-choose_within.ensures.dead in
     record {
       run = subst IsRun (sym c.loop-budget.invariant.mask) c.requires.part.run;
-      dead = more_of (IsDeadWithin mask c.args.problem.now.ops.now c.args.problem.now.final_word) c.loop-budget.part.dead c.add.new.states (position_of c.loop-budget.state) c.in_ok-add-in-Dead.ensures
+      dead = more_of (IsDeadWithin mask c.args.problem.now.ops.now c.args.problem.now.final_word) c.loop-budget.part.dead c.add.new.states (position_of c.loop-budget.state) c.in_ok-add-in-Dead.ensures.has
           c.loop-budget.invariant.dead (dead c.loop-budget.invariant.dead);
     }
 

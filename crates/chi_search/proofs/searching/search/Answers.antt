@@ -92,7 +92,7 @@ loop-budget-preserved g c =
     record {
       walks = back.0;
       ready = moves_ready c.args.problem.now.ops.now (position_of c.in-Some.step.from) (position_of c.loop-budget.state) c.in-Some.step.op back.1;
-      dead = more_dead c.args.problem.now.ops.now c.args.problem.now.final_word c.loop-budget.dead c.add.new.states (position_of c.loop-budget.state) c.in_ok-add-in-Dead.ensures c.loop-budget.invariant.dead
+      dead = more_dead c.args.problem.now.ops.now c.args.problem.now.final_word c.loop-budget.dead c.add.new.states (position_of c.loop-budget.state) c.in_ok-add-in-Dead.ensures.has c.loop-budget.invariant.dead
           (dead c.loop-budget.invariant.dead);
       tried = before.1;
       before = before.0;
@@ -117,5 +117,5 @@ pub returns-in-None-clause-dead : goal.returns-in-None-clause-dead
 returns-in-None-clause-dead g c =
     let dead = subst (λ (choice : Choice). IfDead choice (AllDead c.args.problem.now.ops.now c.args.problem.now.final_word c.loop-budget.dead → IsDead c.args.problem.now.ops.now c.args.problem.now.final_word (position_of c.loop-budget.state)))
     c.in-Dead.is c.in_ok-decide.ensures.dead in
-    more_dead c.args.problem.now.ops.now c.args.problem.now.final_word c.loop-budget.dead c.add.new.states (position_of c.loop-budget.state) c.in_ok-add-in-Dead.ensures c.loop-budget.invariant.dead
+    more_dead c.args.problem.now.ops.now c.args.problem.now.final_word c.loop-budget.dead c.add.new.states (position_of c.loop-budget.state) c.in_ok-add-in-Dead.ensures.has c.loop-budget.invariant.dead
     (dead c.loop-budget.invariant.dead)

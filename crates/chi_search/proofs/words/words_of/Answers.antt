@@ -1,5 +1,5 @@
 -- from the first states to the words of the last, where no operation comes later
-use Rattle.std.proofs.Common.{ℕ, ◌↔◌, List, [], ◌++◌, IfSome, None, Option, append-nil, subst}
+use Rattle.std.proofs.Common.{ℕ, ◌↔◌, List, [], ◌++◌, IfSome, None, Option, append-nil, subst, arith, inl, inr}
 use Rattle.chi_trace.specs.declared.operation.Operation.{Operation}
 use Rattle.chi_search.specs.declared.states.States.{States}
 use Rattle.chi_search.specs.Layers.{MayFollow, SomeEnds, SomeLeads, Waits}
@@ -25,3 +25,9 @@ returns-in_ok-each-in-Some-clause-words g c =
     (λ v. chained (SomeEnds ops last v) (SomeEnds ops from v) (SomeLeads ops words v)
     (subst (λ (all : List Operation). SomeEnds all last v ↔ SomeEnds all from v) (append-nil ops) (ends [] (none_follow ops c.requires.sorted) v))
     (first_leads ops words from c.in_ok-first.ensures v))
+
+pub returns-in-None-clause-unknown : goal.returns-in-None-clause-unknown
+returns-in-None-clause-unknown g c = elim (c.in_ok-last.ensures.spent c.in-None.is) [
+  | inl spent ↦ spent
+  | inr more ↦ absurd (omega (arith, more))
+]

@@ -70,7 +70,7 @@ fn read_after_writes(alloc: Global, answer: u64) -> Result<Frontier, Fail> {
     let writes = [done((0, 10), WRITE, 5), done((0, 12), WRITE, 6)];
     let frontier = after(alloc, &[0], &writes)?;
     let mut budget = 100;
-    let Some(mut later) = frontier.advanced(alloc, 20, &mut budget, &mut NoProgress)? else {
+    let Some(mut later) = frontier.advanced(alloc, 20, 1000, &mut budget, &mut NoProgress)? else {
         return Err(Fail::new("the budget was spent"));
     };
     tell(&mut later, &[told((20, 30), READ, 0, answer)])?;

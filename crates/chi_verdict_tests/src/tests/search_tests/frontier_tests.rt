@@ -20,7 +20,7 @@ fn after(alloc: Global, ops: &[Timed]) -> Result<Frontier, Fail> {
 // The search after the operations that start before the horizon.
 fn past(alloc: Global, frontier: &Frontier, horizon: u64) -> Result<Frontier, Fail> {
     let mut budget = 1000;
-    match frontier.advanced(alloc, horizon, &mut budget, &mut NoProgress)? {
+    match frontier.advanced(alloc, horizon, 1000, &mut budget, &mut NoProgress)? {
         Some(next) => Ok(next),
         None => Err(Fail::new("the budget was spent")),
     }
@@ -112,7 +112,48 @@ fn open_operations_may_have_had_effect(rt: HostRuntime) -> Result<(), Fail> {
 fn nothing_within_no_budget(rt: HostRuntime) -> Result<(), Fail> {
     let frontier = after(rt.alloc(), &[done((0, 10), STORE_ADD, 1)])?;
     let mut none = 0;
-    let next = frontier.advanced(rt.alloc(), 20, &mut none, &mut NoProgress)?;
+    let next = frontier.advanced(rt.alloc(), 20, 1000, &mut none, &mut NoProgress)?;
     assert_same(&rt, (next.is_none(), frontier.kept()), (true, 1));
+    Ok(())
+}
+
+// Whether the search goes on past a time from so many positions at most, and how many states it looks at.
+fn looked_at(
+    alloc: Global,
+    frontier: &Frontier,
+    horizon: u64,
+    most: usize,
+) -> Result<(bool, u64), Fail> {
+    let mut budget = 1000;
+    let next = frontier.advanced(alloc, horizon, most, &mut budget, &mut NoProgress)?;
+    Ok((next.is_some(), 1000 - budget))
+}
+
+#[test]
+fn nothing_from_more_positions(rt: HostRuntime) -> Result<(), Fail> {
+    let alloc = rt.alloc();
+    let first = done((0, 10), STORE_ADD, 1);
+    let second = done((5, 30), STORE_ADD, 2);
+    let frontier = after(alloc, &[first, second])?;
+    let found = (
+        looked_at(alloc, &frontier, 20, 2)?,
+        looked_at(alloc, &frontier, 20, 1)?,
+        looked_at(alloc, &frontier, 20, 0)?,
+    );
+    assert_same(&rt, found, ((true, 4), (false, 4), (false, 2)));
+    Ok(())
+}
+
+// The search past time 20 is at two positions, of which one follows the other.
+#[test]
+fn each_state_once(rt: HostRuntime) -> Result<(), Fail> {
+    let alloc = rt.alloc();
+    let first = done((0, 10), STORE_ADD, 1);
+    let second = done((5, 30), STORE_ADD, 2);
+    let third = done((25, 40), STORE_ADD, 4);
+    let mut frontier = past(alloc, &after(alloc, &[first, second])?, 20)?;
+    let is_told = frontier.add(&seen(&third)?)?;
+    let found = (is_told, looked_at(alloc, &frontier, 50, 1)?);
+    assert_same(&rt, found, (true, (true, 4)));
     Ok(())
 }

@@ -67,6 +67,6 @@ fn unknown_where_the_budget_was_spent(rt: HostRuntime) -> Result<(), Fail> {
     let whole = words(rt.alloc(), &ops, &[0], &mut enough)?;
     let part = words(rt.alloc(), &ops, &[0], &mut short)?;
     let found = (whole.first().copied(), enough, part.first().copied(), short);
-    assert_same(&rt, found, (Some(3), 7, Some(998), 0));
+    assert_same(&rt, found, (Some(3), 6, Some(998), 0));
     Ok(())
 }

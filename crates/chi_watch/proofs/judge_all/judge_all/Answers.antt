@@ -17,7 +17,7 @@ loop-granule-preserved g c =
 pub loop-granule-preserved-in-Continue-branch-2 : goal.loop-granule-preserved-in-Continue-branch-2
 loop-granule-preserved-in-Continue-branch-2 g c =
     listed g.P.Progress.looked c.args.budget (get nat_cmp c.args.granules.now) c.args.granules.now.entries c.args.progress.now c.loop-granule.progress c.loop-granule.listed c.loop-granule.granule-iterator
-    c.next.new.self c.in-Some.granule.now c.in-Some.followed.now c.in-Some.ensures.steps c.loop-granule.invariant c.if-followed.true c.judge.new.progress c.list.new.listed c.in_ok-standing.standing
+    c.next.new.self c.in-Some.granule.now c.in-Some.followed.now c.in-Some.ensures.steps c.loop-granule.invariant c.if-followed.true c.check.new.progress c.list.new.listed c.in_ok-standing.standing
     c.in_ok-standing.ensures.explained c.in_ok-standing.ensures.unexplained c.in_ok-standing.ensures.undecided c.in_ok-standing.ensures.looked c.in_ok-list.ensures
 
 pub returns : goal.returns

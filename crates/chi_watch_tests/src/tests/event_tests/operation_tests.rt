@@ -114,9 +114,9 @@ fn one_of_three_ends(rt: HostRuntime) -> Result<(), Fail> {
     Ok(())
 }
 
-// What is told of memory is of no request, and may come at any time.
+// What is told of memory, and that nothing more is told, is of no request, and may come at any time.
 #[test]
-fn words_and_unknown_bytes(rt: HostRuntime) -> Result<(), Fail> {
+fn events_of_no_request(rt: HostRuntime) -> Result<(), Fail> {
     let word = GranuleWord {
         granule: 513,
         word: 5,
@@ -130,6 +130,7 @@ fn words_and_unknown_bytes(rt: HostRuntime) -> Result<(), Fail> {
         (11, EventKind::Word(word)),
         (12, EventKind::Final(word)),
         (13, unknown),
+        (14, EventKind::End),
     ] {
         take_each(&mut outstanding, &[*event])?;
         assert_same(&rt, (event.0, outstanding.requests().len()), (event.0, 1));

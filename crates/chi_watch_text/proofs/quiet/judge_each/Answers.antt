@@ -24,3 +24,8 @@ loop-it-preserved g c =
           c.judge_one.new.found.items before.looked more.looked before.unreached more.unreached;
       looked = some_after g.P.Progress.looked c.args.progress.now c.loop-it.progress c.judge_one.new.progress before.looked more.looked;
     }
+
+pub returns-in_err-judge_one-clause-each : goal.returns-in_err-judge_one-clause-each
+returns-in_err-judge_one-clause-each g c =
+    still_more c.args.watch.now c.args.quiet.now c.args.found.now.items c.loop-it.found.items c.judge_one.new.found.items c.loop-it.it-index (record { granule = 0; line = 0 }) c.loop-it-test.true
+    c.in_err-judge_one.ensures.noted c.loop-it.invariant.each

@@ -17,7 +17,7 @@ rest by ops = take_all (length ops - by) (drop by ops) (omega (arith, length-dro
 pub advance-requires-clause-ready : goal.advance-requires-clause-ready
 advance-requires-clause-ready g c =
     subst (λ (ops : List Operation). AreReady ops c.in_ok-from.from) (sym c.deref.ensures.value)
-    (ready_copied c.self.inside.operations.items c.self.inside.states c.in_ok-from.from c.in_ok-from.ensures c.self.invariant.ready)
+    (ready_copied c.self.inside.operations.items c.self.inside.states c.in_ok-from.from c.in_ok-from.ensures.has c.self.invariant.ready)
 
 pub invariant_of-result : goal.invariant_of-result
 invariant_of-result g c =
@@ -33,7 +33,7 @@ invariant_of-result g c =
     let ready = subst (λ (o : Option States). IfSome o (AreReady c.deref.result.now)) c.in-Some.is c.in_ok-last.ensures.ready in
     subst (λ (ops : List Operation). IsFrontier (record { positions = positions back; operations = ops; horizon = c.max-horizon.result; latest = s.latest })) (sym items)
     (frontier_back old c.max-horizon.result by last back c.self.invariant within c.passed-by.ensures.passed
-    (subst (λ (ops : List Operation). AreReady ops last) c.deref.ensures.value ready) c.in_ok-states-in-Some.ensures)
+    (subst (λ (ops : List Operation). AreReady ops last) c.deref.ensures.value ready) c.in_ok-states-in-Some.ensures.has)
 
 pub returns-in_ok-operations-in-Some-clause-follows : goal.returns-in_ok-operations-in-Some-clause-follows
 returns-in_ok-operations-in-Some-clause-follows g c words told follows =
@@ -52,7 +52,7 @@ returns-in_ok-operations-in-Some-clause-follows g c words told follows =
     let ends = subst (λ (o : Option States). IfSome o (λ states. (more : List Operation) → MayFollow c.deref.result.now (Some horizon) more → (v : ℕ)
     → SomeEnds (c.deref.result.now ++ more) states v ↔ SomeEnds (c.deref.result.now ++ more) from v)) c.in-Some.is c.in_ok-last.ensures.ends in
     subst (λ (ops : List Operation). Follows words told (record { positions = positions back; operations = ops; horizon = horizon; latest = s.latest })) (sym items)
-    (follows_back words told old horizon by s.states from last back c.self.invariant refl later within c.passed-by.ensures.passed c.in_ok-from.ensures c.in_ok-states-in-Some.ensures
+    (follows_back words told old horizon by s.states from last back c.self.invariant refl later within c.passed-by.ensures.passed c.in_ok-from.ensures.has c.in_ok-states-in-Some.ensures.has
     (subst (λ (ops : List Operation). (more : List Operation) → MayFollow ops (Some horizon) more → (v : ℕ) → SomeEnds (ops ++ more) last v ↔ SomeEnds (ops ++ more) from v)
     c.deref.ensures.value ends)
     (subst (Follows words told) (sym c.self.view_is) follows))
@@ -71,4 +71,4 @@ returns-in_ok-operations-in-Some-clause-waiting g c =
     let waiting = subst (λ (ops : List Operation). (p : Position) → Has last p → Waits ops (Some horizon) p.first) c.deref.ensures.value
     (subst (λ (o : Option States). IfSome o (λ states. (p : Position) → Has states p → Waits c.deref.result.now (Some horizon) p.first)) c.in-Some.is c.in_ok-last.ensures.waiting) in
     subst (λ (ops : List Operation). (p : Position) → Has back p → Waits ops (Some horizon) p.first) (sym items)
-    (waits_back s.operations.items horizon by last back within c.passed-by.ensures.passed waiting c.in_ok-states-in-Some.ensures)
+    (waits_back s.operations.items horizon by last back within c.passed-by.ensures.passed waiting c.in_ok-states-in-Some.ensures.has)

@@ -12,7 +12,7 @@ invariant_of-result c =
     let old : FrontierValue = record { positions = positions s.states; operations = s.operations.items; horizon = s.horizon; latest = s.latest } in
     let items : c.in_ok-operations.operations.items ≡ s.operations.items = c.in_ok-operations.ensures.items ∙ c.deref.ensures.value in
     subst (λ (ops : List Operation). IsFrontier (record { positions = positions c.in_ok-states.states; operations = ops; horizon = s.horizon; latest = s.latest })) (sym items)
-    (frontier_copied old s.states c.in_ok-states.states refl c.in_ok-states.ensures c.self.invariant)
+    (frontier_copied old s.states c.in_ok-states.states refl c.in_ok-states.ensures.has c.self.invariant)
 
 pub returns-clause-follows : goal.returns-clause-follows
 returns-clause-follows c words told follows =
@@ -20,4 +20,4 @@ returns-clause-follows c words told follows =
     let old : FrontierValue = record { positions = positions s.states; operations = s.operations.items; horizon = s.horizon; latest = s.latest } in
     let items : c.in_ok-operations.operations.items ≡ s.operations.items = c.in_ok-operations.ensures.items ∙ c.deref.ensures.value in
     subst (λ (ops : List Operation). Follows words told (record { positions = positions c.in_ok-states.states; operations = ops; horizon = s.horizon; latest = s.latest })) (sym items)
-    (follows_copied words told old s.states c.in_ok-states.states refl c.in_ok-states.ensures (subst (Follows words told) (sym c.self.view_is) follows))
+    (follows_copied words told old s.states c.in_ok-states.states refl c.in_ok-states.ensures.has (subst (Follows words told) (sym c.self.view_is) follows))

@@ -7,7 +7,7 @@ use Rattle.chi_events.specs.Outstanding.{IsOpen}
 use Rattle.chi_events.specs.declared.event.Event.{Event}
 use Rattle.chi_events.specs.declared.outstanding.Open.{Open}
 use Rattle.chi_search.specs.Looks.{LookedAtLeast, LookedSome}
-use Rattle.chi_recent.specs.Reaches.{IfUndecided}
+use Rattle.chi_judge.specs.Reaches.{IfUndecided}
 use Rattle.chi_search.proofs.Looking.{at_least_after, at_least_before, some_after}
 use Rattle.chi_watch.specs.Endings.{AreToldTo, CanClose, IsListed}
 use Rattle.chi_watch.specs.Quiet.{CanBeExplained}
@@ -60,7 +60,7 @@ returns-clause-unexplained g c =
     let un = c.in_ok-listed.listed.unexplained.items in
     let same : granules_of c.in_ok-unexplained.unexplained.items ≡ un = c.in_ok-unexplained.ensures.granules ∙ c.deref.ensures.value in
     all_found new (IsFoundIn new) (λ (f : FoundAtEnd). (events : List Event) → HasTaken events c.args.self → IsFoundAtEnd events f) c.in_ok-unexplained.unexplained.items un same c.in_ok-listed.ensures.unexplained
-    c.in_ok-unexplained.ensures.found (ended_found c.operations_are_told.ensures c.granules_stand_alone.ensures c.parts_explain.ensures c.args.self new are_open closes)
+    c.in_ok-unexplained.ensures.found (ended_found c.operations_are_told.ensures c.parts_explain.ensures c.args.self new are_open closes)
 
 pub returns-clause-unreached : goal.returns-clause-unreached
 returns-clause-unreached g c =
@@ -78,7 +78,7 @@ returns-clause-unreached g c =
     let before : LookedSome looked old judged = some_after looked old closed judged c.in_ok-close_open.ensures.looked c.in_ok-listed.ensures.looked in
     all_found new (IsUnreachedIn looked judged last c.args.budget new) (λ (f : FoundAtEnd). (events : List Event) → HasTaken events c.args.self → IfUndecided f.reach whole) c.in_ok-unexplained.unexplained.items un same
     c.in_ok-listed.ensures.unexplained c.in_ok-unexplained.ensures.undecided
-    (λ f none spent. ended_unreached c.operations_are_told.ensures c.granules_stand_alone.ensures c.parts_explain.ensures whole c.args.self new are_open closes f none
+    (λ f none spent. ended_unreached c.operations_are_told.ensures c.parts_explain.ensures whole c.args.self new are_open closes f none
     (unreached_after looked old judged last c.args.budget new before f spent))
 
 pub returns-clause-undecided : goal.returns-clause-undecided

@@ -1,4 +1,4 @@
--- A search that goes on to no word shows that no order explains the granule, and one that does that some order does.
+-- What is found of a granule, or not, is so of the events that the watch took.
 use Rattle.std.proofs.Common.{◌≡◌, ◌==◌, ◌⊎◌, ℕ, Bool, true, false, IsTrue, List, All, IfSome, subst}
 use Rattle.std.specs.List.{list_any}
 use Rattle.std.proofs.lemmas.Result.{IfOk-weaker}
@@ -9,7 +9,7 @@ use Rattle.chi_watch.specs.Judged.{is_known}
 use Rattle.chi_search.specs.Looks.{LookedAtLeast}
 use Rattle.chi_watch.specs.Quiet.{CanBeExplained}
 use Rattle.chi_watch.specs.Requests.{granule_of_request}
-use Rattle.chi_watch.specs.Watches.{HasTaken, IsFound, IsUnexplained, WatchValue, granule}
+use Rattle.chi_watch.specs.Watches.{CanBeJudged, HasTaken, IsFound, IsUnexplained, WatchValue, granule}
 use Rattle.chi_watch.proofs.Found.{found_is, not_found_is}
 use Rattle.chi_watch.proofs.watch.Watch.is_unexplained.Goals as goal
 
@@ -21,13 +21,13 @@ returns-clause-found g c =
     let are_open = subst (λ (w : WatchValue). All (IsOpen w.outstanding.time) w.outstanding.requests) c.self.view_is c.requests-requests.ensures.are_open in
     IfOk-weaker c.is_found.result (λ (is : Bool). IsTrue is → IsFound c.args.self.now c.args.granule)
     (λ (is : Bool). IsTrue is → (events : List Event) → HasTaken events c.args.self.now → IsUnexplained events c.args.granule)
-    (λ is found so events has. found_is c.operations_are_told.ensures c.granules_stand_alone.ensures c.parts_explain.ensures events c.args.self.now are_open has c.args.granule (found so))
+    (λ is found so events has. found_is c.operations_are_told.ensures c.parts_explain.ensures events c.args.self.now are_open has c.args.granule (found so))
     c.is_found.ensures.found
 
 pub returns-clause-quiet : goal.returns-clause-quiet
 returns-clause-quiet g c =
-    IfOk-weaker c.is_found.result (λ (is : Bool). IsTrue is → IsFound c.args.self.now c.args.granule) (λ (is : Bool). IsTrue is → IsQuietAt c.args.self.now c.args.granule)
-    (λ is found so. (found so).quiet) c.is_found.ensures.found
+    IfOk-weaker c.is_found.result (λ (is : Bool). IsTrue is → IsFound c.args.self.now c.args.granule) (λ (is : Bool). IsTrue is → CanBeJudged c.args.self.now c.args.granule)
+    (λ is found so. (found so).judged) c.is_found.ensures.found
 
 pub returns-clause-judged : goal.returns-clause-judged
 returns-clause-judged g c =

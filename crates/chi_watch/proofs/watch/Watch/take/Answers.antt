@@ -12,11 +12,8 @@ pub returns-then-branch-clause-unexplained : goal.returns-then-branch-clause-une
 returns-then-branch-clause-unexplained g c events has =
     c.in_ok-is_unexplained.ensures.found c.if-branch.true (events ++ c.args.event.now ∷ []) (c.in_ok-step.ensures.taken events has)
 
-pub returns-then-branch-clause-quiet : goal.returns-then-branch-clause-quiet
-returns-then-branch-clause-quiet g c = record {
-  about = sym c.granule_about-about.ensures ∙ c.in-Some.is;
-  none = c.in_ok-is_unexplained.ensures.quiet c.if-branch.true;
-}
+pub returns-then-branch-clause-about : goal.returns-then-branch-clause-about
+returns-then-branch-clause-about g c = sym c.granule_about-about.ensures ∙ c.in-Some.is
 
 -- the granule that becomes quiet is the one that is judged
 pub returns-else-branch-clause-judged : goal.returns-else-branch-clause-judged

@@ -1,0 +1,15 @@
+pub mod Answered
+pub mod Before
+pub mod Changed
+pub mod Checked
+pub mod Cutting
+pub mod Earlier
+pub mod Found
+pub mod Keeping
+pub mod Last
+pub mod Leading
+pub mod Lists
+pub mod More
+pub mod Reached
+pub mod Replaced
+pub mod Suspected

@@ -1,0 +1,40 @@
+-- there is an operation, and what was looked at in one search after another
+use Rattle.std.proofs.Common.{ℕ, ⊎_elim, List, arith}
+use Rattle.chi_search.proofs.Looking.{at_least_after, at_least_before, some_after}
+use Rattle.chi_trace.specs.declared.operation.Operation.{Operation}
+use Rattle.chi_judge.specs.Reaches.{IsJudgeOf, MissesNone}
+use Rattle.chi_judge.specs.declared.reach.Stop.{Stop}
+use Rattle.chi_judge.proofs.More.{misses_none_after, ok_implies, ok_stops_imply, ok_undecided_implies}
+use Rattle.chi_judge.proofs.judge.Judge.stop_within.Goals as goal
+
+pub returns-then-count-eq0-clause-undecided : goal.returns-then-count-eq0-clause-undecided
+returns-then-count-eq0-clause-undecided g c trace n w is =
+    let last = c.requires.last trace n w is in
+    absurd (omega (arith, last.0, c.if-count-eq0.true))
+
+pub first_place-requires-clause-last : goal.first_place-requires-clause-last
+first_place-requires-clause-last g c trace n w is explained = (c.requires.last trace n w is).1 explained
+
+pub returns-clause-undecided : goal.returns-clause-undecided
+returns-clause-undecided g c =
+    ok_undecided_implies c.stop_at.result
+    (λ undecided looked trace n w is. ⊎_elim
+    (λ first. at_least_after g.P.Progress.looked c.args.progress.now c.first_place.new.progress c.stop_at.new.progress c.args.budget c.in_ok-place.ensures.looked (undecided trace n w is first))
+    (λ least. at_least_before g.P.Progress.looked c.args.progress.now c.first_place.new.progress c.stop_at.new.progress c.args.budget least looked)
+    (c.in_ok-place.ensures.first trace n w is))
+    c.stop_at.ensures.undecided c.stop_at.ensures.looked
+
+pub returns-clause-all : goal.returns-clause-all
+returns-clause-all g c =
+    let looked = g.P.Progress.looked in
+    let misses : _ → _ → Stop → Type 0 = λ old new stop. (trace : List Operation) (n w : ℕ) → IsJudgeOf trace n w c.args.self.now → MissesNone looked old new c.args.budget trace n w stop in
+    ok_stops_imply c.stop_at.result (misses c.first_place.new.progress c.stop_at.new.progress) (misses c.args.progress.now c.stop_at.new.progress)
+    (λ stop some all trace n w is. misses_none_after looked c.args.progress.now c.first_place.new.progress c.stop_at.new.progress c.args.budget trace n w stop c.in_ok-place.ensures.looked
+    (all trace n w is))
+    c.stop_at.ensures.all c.stop_at.ensures.looked
+
+pub returns-clause-looked : goal.returns-clause-looked
+returns-clause-looked g c =
+    ok_implies c.stop_at.result
+    (λ looked. some_after g.P.Progress.looked c.args.progress.now c.first_place.new.progress c.stop_at.new.progress c.in_ok-place.ensures.looked looked)
+    c.stop_at.ensures.looked

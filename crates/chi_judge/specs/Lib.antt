@@ -1,0 +1,6 @@
+pub mod Judges
+pub mod Shown
+pub mod Legal
+pub mod Reaches
+pub mod Searches
+pub mod Standings

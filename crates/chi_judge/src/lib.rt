@@ -1,0 +1,16 @@
+//! The operations of one granule that ended last, and how far they can be explained. Source: profile.
+#![tactic(auto)]
+
+mod judge;
+mod legal;
+mod reach;
+mod reaching;
+mod search;
+mod shown;
+mod standing;
+mod suspects;
+mod told;
+
+pub use judge::Judge;
+pub use reach::{Reach, Stop};
+pub use standing::Standing;

@@ -1,0 +1,69 @@
+//! Whether the operations that were told can be explained.
+
+ghost use Rattle.std.specs.Prelude.{◌≡◌, IfOk};
+ghost use Rattle.chi_search.specs.Looks.{LookedMore, LookedSome};
+ghost use Rattle.chi_judge.specs.Standings.{IfExplained, IfUndecided, IfUnexplained, IsExplainable, IsInexplicable};
+
+use crate::judge::Judge;
+use crate::search::told_after;
+use chi_search::{Found, Progress};
+use chi_trace::laws::granules_stand_alone;
+use std::alloc::{AllocError, Global};
+
+/// Whether a granule's operations can be explained.
+#[derive(Clone, Copy, Debug, PartialEq, Eq)]
+pub enum Standing {
+    Explained,
+    Unexplained,
+    Undecided,
+}
+
+impl Judge {
+    /// Whether the operations that were told can be explained, and leave the final word, where one was told. Undecided where so many
+    /// states as the budget were looked at.
+    ///
+    /// ```
+    /// match judge.check(alloc, Some(0x2a), 1_000_000, &mut NoProgress)? {
+    ///     Standing::Explained => goes_on(),
+    ///     Standing::Unexplained => blame(),
+    ///     Standing::Undecided => take_more_time(),
+    /// }
+    /// ```
+    pub fn check<P: Progress>(
+        &self,
+        alloc: Global,
+        final_word: Option<u64>,
+        budget: u64,
+        progress: &mut P,
+    ) -> Result<Standing, AllocError>
+        ensures explained { IfOk result (λ s. IfExplained s (IsExplainable self.now final_word)) }
+        ensures unexplained { IfOk result (λ s. IfUnexplained s (IsInexplicable self.now final_word)) }
+        ensures undecided { IfOk result (λ s. IfUndecided s (LookedMore P.looked progress.old progress.new budget)) }
+        ensures looked { IfOk result (λ _. LookedSome P.looked progress.old progress.new) }
+    {
+        granules_stand_alone();
+        if self.is_stopped {
+            return Ok(Standing::Unexplained);
+        }
+        let Some(after) = told_after(alloc, &self.before, &self.kept)? else {
+            return Ok(Standing::Undecided);
+        };
+        let mut left = budget;
+        match after.order(alloc, final_word, &mut left, progress)? {
+            Found::Order(_) => Ok(Standing::Explained),
+            Found::Nothing => Ok(Standing::Unexplained),
+            Found::Undecided => Ok(Standing::Undecided),
+        }
+    }
+
+    /// Whether what was told is known not to be explained.
+    ///
+    /// ```
+    /// let is_wrong = judge.is_stopped();
+    /// ```
+    pub fn is_stopped(&self) -> bool
+        ensures { result ≡ self.now.is_stopped }
+    {
+        self.is_stopped
+    }
+}

@@ -1,9 +1,0 @@
-pub mod Answered
-pub mod Before
-pub mod Cutting
-pub mod Keeping
-pub mod Last
-pub mod Leading
-pub mod Lists
-pub mod More
-pub mod Reached

@@ -1,7 +1,0 @@
--- of the first operations those that were open
-use Rattle.std.proofs.Common.{◌≡◌, filter, take}
-use Rattle.chi_recent.specs.Searches.{is_during}
-use Rattle.chi_recent.proofs.shown.open_at.Given as goal
-
-abbrev pub invariant-loop-op : goal.invariant-loop-op
-invariant-loop-op l = l.during.items ≡ filter (is_during l.time) (take l.op-index l.kept)

@@ -1,0 +1,12 @@
+-- the parts are the line, where it has to stand
+use Rattle.std.proofs.Common.{append-nil, sym}
+use Rattle.chi_watch_text.specs.Texts.{end_line}
+use Rattle.chi_watch_text.proofs.text.add_end.Goals as goal
+
+pub returns-then-not-is_missing : goal.returns-then-not-is_missing
+unfolding end_line
+returns-then-not-is_missing c = rw c.if-not-is_missing.true (sym (append-nil c.args.to.now.items))
+
+pub returns : goal.returns
+unfolding end_line
+returns c = rw c.if-not-is_missing.false (simp append-nil at c.add_parts.ensures)

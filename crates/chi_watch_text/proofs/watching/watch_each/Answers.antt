@@ -1,0 +1,155 @@
+-- line after line is taken
+use Rattle.std.proofs.Common.{ℕ, Bool, ◌-◌, ◌++◌, ◌∷◌, [], All, IfErr, IfSome, List, Option, Result, length, ap, subst, sym, arith}
+use Rattle.std.proofs.lemmas.List.Elements.{All-nil}
+use Rattle.chi_search.proofs.Looking.{looked_none, some_after}
+use Rattle.chi_events.specs.declared.event.Event.{Event}
+use Rattle.chi_watch.specs.declared.ending.Ending.{Ending}
+use Rattle.chi_watch.specs.declared.ending.FoundAtEnd.{FoundAtEnd}
+use Rattle.chi_watch_text.specs.Outcomes.{HasTakenLines, IsFoundBy, IsLinesFault, IsUnreached}
+use Rattle.chi_watch_text.specs.Reading.{IsRead}
+use Rattle.chi_watch_text.specs.declared.fault.LinesFault.{LinesFault}
+use Rattle.chi_watch_text.specs.declared.watched.FoundGranule.{FoundGranule}
+use Rattle.chi_watch_text.specs.declared.watched.Watched.{Watched}
+use Rattle.chi_watch_text.proofs.Told.{at_end, at_stop, event_taken, found_so_far, kept_at_fault, none_found, none_taken, passed_on, reached_by_found, settled, undecided_after, unreached_all, unreached_at_end, where_not_taken, where_refused}
+use Rattle.chi_watch_text.proofs.watching.watch_each.Goals as goal
+
+pub loop-number-init : goal.loop-number-init
+loop-number-init g c = record {
+  taken = none_taken (g.R.Read.remaining c.args.from.now) c.new-watch.result c.args.found.now.items c.new-quiet.result.items c.new-watch.ensures c.requires c.new-quiet.ensures.items;
+  once = λ i j d before below. absurd (let none = ap length c.requires in omega (arith, before, below, none));
+  told = ([], c.new-watch.ensures);
+  unreached = subst (All (λ (f : FoundGranule). IsUnreached g.P.Progress.looked c.args.progress.now c.args.progress.now c.args.options.now.budget f.reach)) (sym c.requires)
+      (All-nil (λ (f : FoundGranule). IsUnreached g.P.Progress.looked c.args.progress.now c.args.progress.now c.args.options.now.budget f.reach));
+  first = λ stop. c.requires;
+  looked = looked_none g.P.Progress.looked c.args.progress.now;
+}
+
+pub returns-in_err-next-clause-fault : goal.returns-in_err-next-clause-fault
+returns-in_err-next-clause-fault g c =
+    passed_on c.from_residual.result c.in_err-next.field-0.0 (λ (r : Result Watched LinesFault). IfSome (g.R.Read.remaining c.args.from.now) (λ text. IfErr r (IsLinesFault text))) c.from_residual.ensures.1
+    (where_refused (g.R.Read.remaining c.args.from.now) (g.R.Read.remaining c.loop-number.from) (c.loop-number.number - 1) c.loop-number.number c.loop-number.time c.loop-number.is_ended c.loop-number.found.items c.loop-number.quiet.items
+    c.loop-number.watch c.in_err-next.field-0.0 c.loop-number.invariant.taken (omega arith) c.in_err-next.ensures.fault)
+
+pub loop-number-preserved : goal.loop-number-preserved
+loop-number-preserved g c =
+    let before = c.loop-number.invariant in
+    let settled_now =
+    settled (g.R.Read.remaining c.args.from.now) (g.R.Read.remaining c.loop-number.from) (g.R.Read.remaining c.next_event.new.from) (c.loop-number.number - 1) c.loop-number.number c.loop-number.time c.loop-number.is_ended c.loop-number.found.items
+    c.judge_quiet.new.found.items c.loop-number.quiet.items c.judge_quiet.new.quiet.items c.loop-number.watch c.in_ok-next.next c.is_past-is_past.result before.taken (omega arith) c.in_ok-next.ensures.told c.is_past-is_past.ensures
+    c.in_ok-judge_quiet.ensures.waits c.in_ok-judge_quiet.ensures.cleared c.in_ok-judge_quiet.ensures.each in
+    let first = none_found c.is_past-is_past.result c.stops.result c.args.options.now.keep_going c.loop-number.found.items c.judge_quiet.new.found.items before.first
+    (λ waits. (c.in_ok-judge_quiet.ensures.waits waits).0) c.if-stops.false (rw c.deref.ensures.value at c.stops.ensures.goes_on) in
+    let some = some_after g.P.Progress.looked c.args.progress.now c.loop-number.progress c.judge_quiet.new.progress before.looked c.in_ok-judge_quiet.ensures.looked in
+    let read = subst (λ (o : Option Event). IfSome (g.R.Read.remaining c.loop-number.from) (λ text. IsRead c.loop-number.number text o (g.R.Read.remaining c.next_event.new.from))) c.in-Some.is c.in_ok-next.ensures.told in
+    record {
+      taken = subst (λ (k : ℕ). HasTakenLines (g.R.Read.remaining c.args.from.now) k c.in-Some.event.time c.is_end-is_ended.result c.judge_quiet.new.found.items c.note_quiet.new.quiet.items c.take_event.new.watch (g.R.Read.remaining c.next_event.new.from)) (omega arith)
+          (subst (λ (b : Bool). HasTakenLines (g.R.Read.remaining c.args.from.now) c.loop-number.number c.in-Some.event.time b c.judge_quiet.new.found.items c.note_quiet.new.quiet.items c.take_event.new.watch (g.R.Read.remaining c.next_event.new.from)) (sym c.is_end-is_ended.ensures)
+          (event_taken (g.R.Read.remaining c.args.from.now) (g.R.Read.remaining c.loop-number.from) (g.R.Read.remaining c.next_event.new.from) (c.loop-number.number - 1) c.loop-number.number c.loop-number.time c.loop-number.is_ended c.judge_quiet.new.found.items c.judge_quiet.new.quiet.items
+          c.note_quiet.new.quiet.items c.loop-number.watch c.take_event.new.watch c.in-Some.event c.in_ok-seen.seen settled_now read c.in_ok-seen.ensures.taken (omega arith) c.in_ok-note_quiet.ensures));
+      once = c.in_ok-judge_quiet.ensures.once before.once;
+      told = (before.told.0 ++ c.in-Some.event ∷ [], c.in_ok-seen.ensures.taken.taken before.told.0 before.told.1);
+      unreached = unreached_all c.loop-number.watch g.P.Progress.looked c.args.progress.now c.loop-number.progress c.judge_quiet.new.progress c.take_event.new.progress c.args.options.now.budget
+          c.loop-number.found.items c.judge_quiet.new.found.items before.looked c.in_ok-judge_quiet.ensures.looked c.in_ok-seen.ensures.looked before.told.0 before.told.1 c.in_ok-judge_quiet.ensures.unreached before.unreached;
+      first = first;
+      looked = some_after g.P.Progress.looked c.args.progress.now c.judge_quiet.new.progress c.take_event.new.progress some c.in_ok-seen.ensures.looked;
+    }
+
+pub returns-then-stops-clause-watched : goal.returns-then-stops-clause-watched
+returns-then-stops-clause-watched g c =
+    let before = c.loop-number.invariant in
+    let settled_now =
+    settled (g.R.Read.remaining c.args.from.now) (g.R.Read.remaining c.loop-number.from) (g.R.Read.remaining c.next_event.new.from) (c.loop-number.number - 1) c.loop-number.number c.loop-number.time c.loop-number.is_ended c.loop-number.found.items
+    c.judge_quiet.new.found.items c.loop-number.quiet.items c.judge_quiet.new.quiet.items c.loop-number.watch c.in_ok-next.next c.is_past-is_past.result before.taken (omega arith) c.in_ok-next.ensures.told c.is_past-is_past.ensures
+    c.in_ok-judge_quiet.ensures.waits c.in_ok-judge_quiet.ensures.cleared c.in_ok-judge_quiet.ensures.each in
+    at_stop (g.R.Read.remaining c.args.from.now) (g.R.Read.remaining c.loop-number.from) (g.R.Read.remaining c.next_event.new.from) (c.loop-number.number - 1) c.loop-number.number c.loop-number.time c.loop-number.is_ended c.judge_quiet.new.found.items c.judge_quiet.new.quiet.items
+    c.args.options.now.keep_going c.is_past-is_past.result c.loop-number.watch c.in_ok-next.next c.stopped.result settled_now (omega arith) c.in_ok-next.ensures.told c.is_past-is_past.ensures (c.in_ok-judge_quiet.ensures.once before.once)
+    ((rw c.deref.ensures.value at c.stops.ensures.stops) c.if-stops.true) c.stopped.ensures.told c.stopped.ensures.ending
+
+pub returns-in_default-clause-watched : goal.returns-in_default-clause-watched
+returns-in_default-clause-watched g c =
+    let before = c.loop-number.invariant in
+    let settled_now =
+    settled (g.R.Read.remaining c.args.from.now) (g.R.Read.remaining c.loop-number.from) (g.R.Read.remaining c.next_event.new.from) (c.loop-number.number - 1) c.loop-number.number c.loop-number.time c.loop-number.is_ended c.loop-number.found.items
+    c.judge_quiet.new.found.items c.loop-number.quiet.items c.judge_quiet.new.quiet.items c.loop-number.watch c.in_ok-next.next c.is_past-is_past.result before.taken (omega arith) c.in_ok-next.ensures.told c.is_past-is_past.ensures
+    c.in_ok-judge_quiet.ensures.waits c.in_ok-judge_quiet.ensures.cleared c.in_ok-judge_quiet.ensures.each in
+    let first = none_found c.is_past-is_past.result c.stops.result c.args.options.now.keep_going c.loop-number.found.items c.judge_quiet.new.found.items before.first
+    (λ waits. (c.in_ok-judge_quiet.ensures.waits waits).0) c.if-stops.false (rw c.deref.ensures.value at c.stops.ensures.goes_on) in
+    let read = subst (λ (o : Option Event). IfSome (g.R.Read.remaining c.loop-number.from) (λ text. IsRead c.loop-number.number text o (g.R.Read.remaining c.next_event.new.from))) c.in_default.is c.in_ok-next.ensures.told in
+    let ended = c.in_ok-ended.ensures in
+    at_end (g.R.Read.remaining c.args.from.now) (g.R.Read.remaining c.loop-number.from) (g.R.Read.remaining c.next_event.new.from) (c.loop-number.number - 1) c.loop-number.number c.loop-number.time c.loop-number.is_ended c.judge_quiet.new.found.items c.judge_quiet.new.quiet.items
+    c.args.options.now.keep_going c.loop-number.watch c.in_ok-ended.field-0 settled_now read (c.in_ok-judge_quiet.ensures.once before.once) first ended.told ended.ending ended.says
+
+pub returns-in_default-clause-undecided : goal.returns-in_default-clause-undecided
+returns-in_default-clause-undecided g c =
+    let some = some_after g.P.Progress.looked c.args.progress.now c.loop-number.progress c.judge_quiet.new.progress c.loop-number.invariant.looked c.in_ok-judge_quiet.ensures.looked in
+    undecided_after g.P.Progress.looked c.args.progress.now c.judge_quiet.new.progress c.ended.new.progress c.args.options.now.budget c.in_ok-ended.field-0 some c.in_ok-ended.ensures.undecided
+
+pub returns-in_default-clause-unreached : goal.returns-in_default-clause-unreached
+returns-in_default-clause-unreached g c =
+    let looked = g.P.Progress.looked in
+    let old = c.args.progress.now in
+    let middle = c.loop-number.progress in
+    let new = c.judge_quiet.new.progress in
+    let last = c.ended.new.progress in
+    let budget = c.args.options.now.budget in
+    let w = c.loop-number.watch in
+    let before = c.loop-number.invariant in
+    let some = some_after looked old middle new before.looked c.in_ok-judge_quiet.ensures.looked in
+    reached_by_found looked old last budget c.judge_quiet.new.found.items c.in_ok-ended.field-0 c.in_ok-ended.ensures.told.found_is
+    (unreached_all w looked old middle new last budget c.loop-number.found.items c.judge_quiet.new.found.items before.looked c.in_ok-judge_quiet.ensures.looked c.in_ok-ended.ensures.looked before.told.0 before.told.1
+    c.in_ok-judge_quiet.ensures.unreached before.unreached)
+    (unreached_at_end looked old new last budget w some before.told.0 before.told.1 c.in_ok-ended.field-0.ending c.in_ok-ended.ensures.unreached)
+
+pub returns-then-stops-clause-unreached : goal.returns-then-stops-clause-unreached
+returns-then-stops-clause-unreached g c =
+    let looked = g.P.Progress.looked in
+    let old = c.args.progress.now in
+    let middle = c.loop-number.progress in
+    let new = c.judge_quiet.new.progress in
+    let budget = c.args.options.now.budget in
+    let before = c.loop-number.invariant in
+    reached_by_found looked old new budget c.judge_quiet.new.found.items c.stopped.result c.stopped.ensures.told.found_is
+    (unreached_all c.loop-number.watch looked old middle new new budget c.loop-number.found.items c.judge_quiet.new.found.items before.looked c.in_ok-judge_quiet.ensures.looked (looked_none looked new) before.told.0
+    before.told.1 c.in_ok-judge_quiet.ensures.unreached before.unreached)
+    (subst (λ (o : Option Ending). IfSome o (λ ending. All (λ (f : FoundAtEnd). IsUnreached looked old new budget f.reach) ending.unexplained.items)) (sym c.stopped.ensures.ending) tt)
+
+pub returns-in_err-seen-clause-fault : goal.returns-in_err-seen-clause-fault
+returns-in_err-seen-clause-fault g c =
+    let before = c.loop-number.invariant in
+    let settled_now =
+    settled (g.R.Read.remaining c.args.from.now) (g.R.Read.remaining c.loop-number.from) (g.R.Read.remaining c.next_event.new.from) (c.loop-number.number - 1) c.loop-number.number c.loop-number.time c.loop-number.is_ended c.loop-number.found.items
+    c.judge_quiet.new.found.items c.loop-number.quiet.items c.judge_quiet.new.quiet.items c.loop-number.watch c.in_ok-next.next c.is_past-is_past.result before.taken (omega arith) c.in_ok-next.ensures.told c.is_past-is_past.ensures
+    c.in_ok-judge_quiet.ensures.waits c.in_ok-judge_quiet.ensures.cleared c.in_ok-judge_quiet.ensures.each in
+    let read = subst (λ (o : Option Event). IfSome (g.R.Read.remaining c.loop-number.from) (λ text. IsRead c.loop-number.number text o (g.R.Read.remaining c.next_event.new.from))) c.in-Some.is c.in_ok-next.ensures.told in
+    passed_on c.from_residual-in_err-seen.result c.in_err-seen.field-0.0 (λ (r : Result Watched LinesFault). IfSome (g.R.Read.remaining c.args.from.now) (λ text. IfErr r (IsLinesFault text))) c.from_residual-in_err-seen.ensures.1
+    (where_not_taken (g.R.Read.remaining c.args.from.now) (g.R.Read.remaining c.loop-number.from) (g.R.Read.remaining c.next_event.new.from) (c.loop-number.number - 1) c.loop-number.number c.loop-number.time c.loop-number.is_ended c.judge_quiet.new.found.items c.judge_quiet.new.quiet.items
+    c.loop-number.watch c.in-Some.event c.in_err-seen.field-0.0 settled_now (omega arith) read c.in_err-seen.ensures.fault)
+
+pub returns-in_err-judge_quiet-clause-found : goal.returns-in_err-judge_quiet-clause-found
+returns-in_err-judge_quiet-clause-found g c =
+    kept_at_fault (g.R.Read.remaining c.args.from.now) (λ text. All (IsFoundBy text) c.judge_quiet.new.found.items) _
+    (found_so_far (g.R.Read.remaining c.args.from.now) (g.R.Read.remaining c.loop-number.from) (g.R.Read.remaining c.next_event.new.from) (c.loop-number.number - 1) c.loop-number.number c.loop-number.time c.loop-number.is_ended c.loop-number.found.items
+    c.judge_quiet.new.found.items c.loop-number.quiet.items c.loop-number.watch c.in_ok-next.next c.is_past-is_past.result c.loop-number.invariant.taken (omega arith) c.in_ok-next.ensures.told c.is_past-is_past.ensures
+    (λ wait. (c.judge_quiet.ensures.waits wait).0) c.judge_quiet.ensures.each)
+
+pub returns-in_err-ended-clause-found : goal.returns-in_err-ended-clause-found
+returns-in_err-ended-clause-found g c =
+    kept_at_fault (g.R.Read.remaining c.args.from.now) (λ text. All (IsFoundBy text) c.ended.new.found.items) _
+    (subst (λ (l : List FoundGranule). IfSome (g.R.Read.remaining c.args.from.now) (λ text. All (IsFoundBy text) l)) (sym c.in_err-ended.ensures.kept)
+    (found_so_far (g.R.Read.remaining c.args.from.now) (g.R.Read.remaining c.loop-number.from) (g.R.Read.remaining c.next_event.new.from) (c.loop-number.number - 1) c.loop-number.number c.loop-number.time c.loop-number.is_ended c.loop-number.found.items
+    c.judge_quiet.new.found.items c.loop-number.quiet.items c.loop-number.watch c.in_ok-next.next c.is_past-is_past.result c.loop-number.invariant.taken (omega arith) c.in_ok-next.ensures.told c.is_past-is_past.ensures
+    (λ wait. (c.in_ok-judge_quiet.ensures.waits wait).0) c.in_ok-judge_quiet.ensures.each))
+
+pub returns-in_err-seen-clause-found : goal.returns-in_err-seen-clause-found
+returns-in_err-seen-clause-found g c =
+    kept_at_fault (g.R.Read.remaining c.args.from.now) (λ text. All (IsFoundBy text) c.judge_quiet.new.found.items) _
+    (found_so_far (g.R.Read.remaining c.args.from.now) (g.R.Read.remaining c.loop-number.from) (g.R.Read.remaining c.next_event.new.from) (c.loop-number.number - 1) c.loop-number.number c.loop-number.time c.loop-number.is_ended c.loop-number.found.items
+    c.judge_quiet.new.found.items c.loop-number.quiet.items c.loop-number.watch c.in_ok-next.next c.is_past-is_past.result c.loop-number.invariant.taken (omega arith) c.in_ok-next.ensures.told c.is_past-is_past.ensures
+    (λ wait. (c.in_ok-judge_quiet.ensures.waits wait).0) c.in_ok-judge_quiet.ensures.each)
+
+pub returns-in_err-note_quiet-clause-found : goal.returns-in_err-note_quiet-clause-found
+returns-in_err-note_quiet-clause-found g c =
+    kept_at_fault (g.R.Read.remaining c.args.from.now) (λ text. All (IsFoundBy text) c.judge_quiet.new.found.items) _
+    (found_so_far (g.R.Read.remaining c.args.from.now) (g.R.Read.remaining c.loop-number.from) (g.R.Read.remaining c.next_event.new.from) (c.loop-number.number - 1) c.loop-number.number c.loop-number.time c.loop-number.is_ended c.loop-number.found.items
+    c.judge_quiet.new.found.items c.loop-number.quiet.items c.loop-number.watch c.in_ok-next.next c.is_past-is_past.result c.loop-number.invariant.taken (omega arith) c.in_ok-next.ensures.told c.is_past-is_past.ensures
+    (λ wait. (c.in_ok-judge_quiet.ensures.waits wait).0) c.in_ok-judge_quiet.ensures.each)

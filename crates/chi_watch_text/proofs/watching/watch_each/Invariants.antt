@@ -1,0 +1,20 @@
+-- the lines before this one were taken, and what is found is found once, and not at all where it does not keep going; how far it can be
+-- explained is known, or so many states were looked at
+use Rattle.std.proofs.Common.{◌≡◌, ◌≢◌, ◌-◌, List, [], All, false}
+use Rattle.std.specs.List.{AllPairs}
+use Rattle.chi_events.specs.declared.event.Event.{Event}
+use Rattle.chi_search.specs.Looks.{LookedSome}
+use Rattle.chi_watch.specs.Watches.{HasTaken}
+use Rattle.chi_watch_text.specs.Outcomes.{HasTakenLines, IsUnreached}
+use Rattle.chi_watch_text.specs.declared.watched.FoundGranule.{FoundGranule}
+use Rattle.chi_watch_text.proofs.watching.watch_each.Given as goal
+
+abbrev pub invariant-loop-number : goal.invariant-loop-number
+invariant-loop-number g l = record {
+  taken : HasTakenLines (g.R.Read.remaining l.initial.from) (l.number - 1) l.time l.is_ended l.found.items l.quiet.items l.watch (g.R.Read.remaining l.from);
+  once : AllPairs (λ a b. a.granule ≢ b.granule) l.found.items;
+  told : (events : List Event) × HasTaken events l.watch;
+  unreached : All (λ (f : FoundGranule). IsUnreached g.P.Progress.looked l.initial.progress l.progress l.options.budget f.reach) l.found.items;
+  first : l.options.keep_going ≡ false → l.found.items ≡ [];
+  looked : LookedSome g.P.Progress.looked l.initial.progress l.progress;
+}
