@@ -58,7 +58,7 @@ class Told:
     def take_data(self, event):
         it = self.open[event["id"]]
         it["request"] |= {"be": event["be"], "lanes": event["lanes"]}
-        it["has_data"] = True
+        it["has_data"], it["start"] = True, event["time"]
         return self.end(event)
 
     def take_reply(self, event):

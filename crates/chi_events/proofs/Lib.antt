@@ -9,7 +9,6 @@ pub mod OneMore
 pub mod Opens
 pub mod Lists
 pub mod Observable
-pub mod InTime
+pub mod Traced
 pub mod Parted
-pub mod About
 pub mod Refusals

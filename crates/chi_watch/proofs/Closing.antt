@@ -4,7 +4,7 @@ use Rattle.std.specs.Prelude.{option_to_list}
 use Rattle.std.proofs.lemmas.List.Elements.{All-contains, All-weaker, filter-append}
 use Rattle.chi_events.specs.declared.event.Event.{Event}
 use Rattle.chi_events.specs.declared.outstanding.Open.{Open}
-use Rattle.chi_events.specs.Outstanding.{IsEndOf, OutstandingValue, StaysOrStarts}
+use Rattle.chi_events.specs.Outstanding.{IsEndOf, OutstandingValue, StaysOrStarts, start_after}
 use Rattle.chi_judge.specs.Judges.{Keeps}
 use Rattle.chi_judge.proofs.Keeping.{keeps_later}
 use Rattle.chi_trace.specs.AtPlaces.{is_in}
@@ -25,9 +25,16 @@ other_more : (g : ℕ) (ended : List Operation) (op : Operation) → (granule_of
 other_more g ended op other =
     filter-append (is_in g) ended (op ∷ []) ∙ (ap (λ (b : Bool). filter (is_in g) ended ++ cond b (op ∷ []) []) other ∙ append-nil (filter (is_in g) ended))
 
+-- a request starts no earlier than it did, or at the time of an event
+no_earlier : (was whole : Bool) (start time low : ℕ) → low ≤ start → low ≤ time → low ≤ start_after was whole start time
+no_earlier true true start time low before now = before
+no_earlier true false start time low before now = before
+no_earlier false true start time low before now = now
+no_earlier false false start time low before now = before
+
 module _ (events : List Event) (ended : List Operation) (before after : OutstandingValue) (e : Event) (now : after.time ≡ e.time) (later : before.time ≤ e.time)
     (stay : All (StaysOrStarts before.requests e) after.requests) where
-  -- a horizon stays one, since a request that is taken now starts no earlier
+  -- a horizon stays one, since a request that is taken now starts no earlier, nor does one whose data have come
   starts_on : (g horizon : ℕ) → horizon ≤ before.time → StartsBy before.requests g horizon → StartsBy after.requests g horizon
   starts_on g horizon past starts = All-weaker (StaysOrStarts before.requests e) (λ p. granule_of_request p ≡ g → horizon ≤ p.start) each after.requests stay
     where
@@ -35,7 +42,7 @@ module _ (events : List Event) (ended : List Operation) (before after : Outstand
       each p (inl taken) is = omega (arith, taken.0, past, later)
       each p (inr (old, has, start, fields)) is =
           let starts_by : horizon ≤ old.start = All-contains (λ (q : Open). granule_of_request q ≡ g → horizon ≤ q.start) before.requests old starts has (ap (λ a. a.addr / 8) (sym fields) ∙ is) in
-          omega (arith, start, starts_by)
+          subst (λ n. horizon ≤ n) (sym start) (no_earlier old.is_whole p.is_whole old.start e.time horizon starts_by (omega (arith, past, later)))
 
   -- where no operation of the granule ended
   watched_on : (g : ℕ) (f : Followed) (more : List Operation) → filter (is_in g) more ≡ filter (is_in g) ended → IsWatched events ended before g f → IsWatched events more after g f
@@ -62,7 +69,8 @@ module _ (events : List Event) (ended : List Operation) (before after : Outstand
         let own : granule_of_request ends.request ≡ g = ap (λ n. n / 8) (sym ends.at) ∙ is in
         let starts : f.judge.horizon ≤ ends.request.start = All-contains (λ (q : Open). granule_of_request q ≡ g → f.judge.horizon ≤ q.start) before.requests ends.request w.horizon ends.is own in
         record {
-          past = omega (arith, starts, ends.start);
+          past = subst (λ n. f.judge.horizon ≤ n) (sym ends.start)
+              (no_earlier ends.request.is_whole true ends.request.start e.time f.judge.horizon starts (omega (arith, w.past, later)));
           starts = early;
           ends = omega (arith, w.latest, later, ends.end);
           lasting = ends.lasting;

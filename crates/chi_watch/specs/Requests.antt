@@ -6,7 +6,7 @@ use Rattle.chi_events.specs.declared.outstanding.Open.{Open}
 abbrev pub granule_of_request : Open → ℕ
 granule_of_request p = p.fields.addr / 8
 
--- no outstanding request of the granule was taken before this time
+-- no outstanding request of the granule starts before this time
 abbrev pub StartsBy : List Open → ℕ → ℕ → Type 0
 StartsBy requests g time = All (λ p. granule_of_request p ≡ g → time ≤ p.start) requests
 

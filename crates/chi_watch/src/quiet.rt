@@ -7,7 +7,7 @@ ghost use Rattle.chi_watch.specs.Requests.{StartsBy, granule_of_request};
 use chi_events::Open;
 use chi_fields::ADDRESSES;
 
-/// A time at or before which each outstanding request of the granule was taken, and at or before this one.
+/// A time before which no outstanding request of the granule starts, at or before this one.
 pub(crate) fn earliest(requests: &[Open], granule: u64, time: u64) -> u64
     ensures time { result ≤ time }
     ensures starts { StartsBy requests.now granule result }
