@@ -2,21 +2,22 @@
 use Rattle.std.specs.Prelude.{ℕ, false, ◌+◌, ◌-◌, ◌/◌, ◌^◌, nat_le, ◌&&◌, ◌||◌, Bool, if◌then◌else◌, List, [], ◌∷◌, codes, Option, None, Some, is_some, option_and_then, option_map, Result, Ok, Err}
 use Rattle.std.specs.Option.{ok_or}
 use Rattle.std.specs.Str.{bytes_eq}
-use Rattle.serde_json.specs.Data.{Data}
+use Rattle.serde_json.specs.Data.{Data, Members}
 use Rattle.serde_json.specs.Find.{as_bool, as_object, as_str, get}
 use Rattle.chi_fields.specs.declared.refusal.Refusal.{Refusal}
 use Rattle.chi_json.specs.declared.member.MemberFault.{MemberFault}
 use Rattle.chi_json.specs.declared.member.MemberFault.TheVariants as member_fault
-use Rattle.chi_json.specs.declared.fault.ObjectFault.{ObjectFault}
-use Rattle.chi_json.specs.declared.fault.ObjectFault.TheVariants.{NotJson, NotObject, UnknownMember}
-use Rattle.chi_json.specs.Faults.{of_member}
+use Rattle.chi_json.specs.declared.fault.ObjectFault.TheVariants.{NotObject, UnknownMember}
 use Rattle.chi_json.specs.Members.{◌>>=◌, member_by, number_of, or_else}
 use Rattle.chi_json.specs.Unknown.{unknown_in}
 use Rattle.chi_json.specs.Values.{hex_bytes, json_value}
 use Rattle.chi_reading.specs.declared.member.Member.{Member}
 use Rattle.chi_reading.specs.declared.member.Member.TheVariants as name
 use Rattle.chi_reading.specs.Member.{member_name, request_members}
-use Rattle.chi_reading.specs.Faults.{faultless}
+use Rattle.chi_reading.specs.declared.fault.LineFault.{LineFault}
+use Rattle.chi_reading.specs.declared.fault.LineFault.TheVariants.{Object, OfTrace}
+use Rattle.chi_reading.specs.Faults.{faultless, of_line}
+use Rattle.chi_reading.specs.OtherKind.{is_of_trace, unread_line}
 use Rattle.chi_reading.specs.Refused.{refusal_of}
 use Rattle.chi_reading.specs.Requests.{fields_of, seen_of, stated_request}
 use Rattle.chi_reading.specs.Told.{start_of, word_of as granule_word}
@@ -130,12 +131,17 @@ told_of number line.Word d = word_of d
 told_of number line.Unknown d = unknown_of d
 told_of number line.End d = Ok kind.End
 
--- the event of the line with a number: its kind, its time, what it tells, and that it has no other members
-unfoldable pub event_text : ℕ → List ℕ → Result Event (ObjectFault Member)
+-- the event of an object on the line with a number: its kind, its time, what it tells, and that it has no other members
+unfoldable pub object_event : ℕ → Data → Members → Result Event LineFault
+object_event number d members = do
+  k ← or_else of_line (member_by member_name name.Event kind_of d)
+  time ← or_else of_line (number_of member_name name.Time (2 ^ 64 - 1) d)
+  told ← or_else of_line (told_of number k d)
+  faultless (λ unknown. Object (UnknownMember unknown)) (unknown_in member_name (members_of k) members) (record { time = time; kind = told })
+
+-- the event of the line with a number, which is an object and none of a trace
+unfoldable pub event_text : ℕ → List ℕ → Result Event LineFault
 event_text number text = do
-  d ← ok_or (json_value text) NotJson
-  members ← ok_or (as_object d) NotObject
-  k ← or_else of_member (member_by member_name name.Event kind_of d)
-  time ← or_else of_member (number_of member_name name.Time (2 ^ 64 - 1) d)
-  told ← or_else of_member (told_of number k d)
-  faultless UnknownMember (unknown_in member_name (members_of k) members) (record { time = time; kind = told })
+  d ← ok_or (json_value text) (unread_line number text)
+  members ← ok_or (as_object d) (Object NotObject)
+  if is_of_trace d then Err OfTrace else object_event number d members

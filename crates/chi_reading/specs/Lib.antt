@@ -1,6 +1,7 @@
 pub mod EventText
 pub mod Faults
 pub mod Member
+pub mod OtherKind
 pub mod Refused
 pub mod Requests
 pub mod Told

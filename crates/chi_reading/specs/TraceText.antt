@@ -1,5 +1,5 @@
 -- the trace that a text is, or its first fault
-use Rattle.std.specs.Prelude.{◌≡◌, ℕ, ◌-◌, ◌/◌, ◌^◌, if◌then◌else◌, List, [], ◌∷◌, IsPermutation, Option, None, Some, is_some, Result, Ok}
+use Rattle.std.specs.Prelude.{◌≡◌, ℕ, ◌-◌, ◌/◌, ◌^◌, if◌then◌else◌, List, [], ◌∷◌, IsPermutation, Option, None, Some, is_some, Result, Ok, Err}
 use Rattle.std.specs.Option.{ok_or}
 use Rattle.serde_json.specs.Data.{Data, Members}
 use Rattle.serde_json.specs.Find.{as_array, as_object, get}
@@ -15,9 +15,10 @@ use Rattle.chi_reading.specs.declared.member.Member.TheVariants as member
 use Rattle.chi_reading.specs.Member.{member_name, trace_members}
 use Rattle.chi_reading.specs.declared.recorded.Memory.{Memory}
 use Rattle.chi_reading.specs.declared.fault.TraceFault.{TraceFault}
-use Rattle.chi_json.specs.declared.fault.ObjectFault.TheVariants.{NotJson, NotObject, UnknownMember}
-use Rattle.chi_reading.specs.declared.fault.TraceFault.TheVariants.{Object, RegionRefused}
+use Rattle.chi_json.specs.declared.fault.ObjectFault.TheVariants.{NotObject, UnknownMember}
+use Rattle.chi_reading.specs.declared.fault.TraceFault.TheVariants.{Object, OfEvents, RegionRefused}
 use Rattle.chi_reading.specs.Faults.{faultless, of_trace}
+use Rattle.chi_reading.specs.OtherKind.{is_of_event, unread_text}
 use Rattle.chi_reading.specs.Requests.{Completed, all_completed}
 use Rattle.chi_reading.specs.Told.{region_words, stated_list}
 
@@ -70,9 +71,9 @@ object_text d members = do
 -- the trace that a text is, or the first fault
 unfoldable pub trace_text : List ℕ → Result TextValue TraceFault
 trace_text text = do
-  d ← ok_or (json_value text) (Object NotJson)
+  d ← ok_or (json_value text) (unread_text text)
   members ← ok_or (as_object d) (Object NotObject)
-  object_text d members
+  if is_of_event d then Err OfEvents else object_text d members
 
 -- A trace that was read: its operations in the order of their starts, each with the place of its request in the text as its
 -- number, counted from 0; and why its other requests were refused, in the order of the text.

@@ -1,17 +1,19 @@
 //! Lines of JSON that tell an event each, and how one is read.
 
 ghost use Rattle.std.specs.Prelude.{◌≡◌, ◌≢◌, IfErr, IfOk, Ok, Err};
-ghost use Rattle.serde_json.specs.View.{view};
+ghost use Rattle.serde_json.specs.View.{members_view, view};
 ghost use Rattle.chi_json.specs.Members.{member_by};
 ghost use Rattle.chi_reading.specs.Member.{member_name};
-ghost use Rattle.chi_reading.specs.EventText.{event_text, kind_of};
+ghost use Rattle.chi_reading.specs.EventText.{event_text, kind_of, object_event};
 
+use crate::fault::LineFault;
 use crate::line_kind::LineKind;
 use crate::line_members::told;
 use crate::member::Member;
+use crate::other_kind::{is_of_trace, unread_line};
 use chi_events::Event;
 use chi_json::{MemberFault, ObjectFault, json, number, stated, unknown_member};
-use serde_json::Value;
+use serde_json::{Map, Value};
 use std::alloc::Global;
 
 /// The kind that a line names.
@@ -21,6 +23,24 @@ fn kind_told(object: &Value) -> Result<LineKind, MemberFault<Member>>
     let name = stated(object, Member::Event)?.as_str();
     name.and_then(LineKind::named)
         .ok_or(MemberFault::BadMember(Member::Event))
+}
+
+/// The event that an object on the line with this number tells, or its first fault.
+#[tactic(auto, unfolding(crate::specs::EventText::object_event))]
+fn object_event(
+    number_of_line: u64,
+    object: &Value,
+    members: &Map<String, Value>,
+) -> Result<Event, LineFault>
+    ensures { result ≡ object_event number_of_line (view object.now) (members_view members.now.entries) }
+{
+    let kind = kind_told(object)?;
+    let time = number(object, Member::Time, u64::MAX)?;
+    let told = told(number_of_line, kind, object)?;
+    match unknown_member(members, kind.members()) {
+        Some(name) => Err(LineFault::Object(ObjectFault::UnknownMember(name))),
+        None => Ok(Event { time, kind: told }),
+    }
 }
 
 /// The event that a line tells, or the line's first fault. `number_of_line` says which line it is; a request has it as its
@@ -43,6 +63,9 @@ fn kind_told(object: &Value) -> Result<LineKind, MemberFault<Member>>
 ///
 /// Members whose name begins with `x-` are ignored, and others are refused. Of two members of one name the last counts.
 ///
+/// An object that has requests and names no event is `OfTrace`. Where line 1 begins as an object does and is not JSON it is
+/// `NotWhole`, since a trace may stand on several lines.
+///
 /// The faults' order is that of `event`, `time`, the kind's members as they are listed here, and then members that it does
 /// not have. `Memory` is answered where a growth is refused before a fault is met.
 ///
@@ -50,25 +73,16 @@ fn kind_told(object: &Value) -> Result<LineKind, MemberFault<Member>>
 /// let event = read_event(alloc, 1, b"{\"time\":70,\"event\":\"dropped\",\"id\":3}")?;
 /// ```
 #[tactic(auto, unfolding(crate::specs::EventText::event_text))]
-pub fn read_event(
-    alloc: Global,
-    number_of_line: u64,
-    line: &[u8],
-) -> Result<Event, ObjectFault<Member>>
+pub fn read_event(alloc: Global, number_of_line: u64, line: &[u8]) -> Result<Event, LineFault>
     ensures ok { IfOk result (λ event. event_text number_of_line line.now ≡ Ok event) }
-    ensures fault { IfErr result (λ fault. fault ≢ ObjectFault.Memory → event_text number_of_line line.now ≡ Err fault) }
+    ensures fault { IfErr result (λ fault. fault ≢ LineFault.Memory → event_text number_of_line line.now ≡ Err fault) }
 {
     let Some(object) = json(alloc, line)? else {
-        return Err(ObjectFault::NotJson);
+        return Err(unread_line(number_of_line, line));
     };
-    let Some(members) = object.as_object() else {
-        return Err(ObjectFault::NotObject);
-    };
-    let kind = kind_told(&object)?;
-    let time = number(&object, Member::Time, u64::MAX)?;
-    let told = told(number_of_line, kind, &object)?;
-    match unknown_member(members, kind.members()) {
-        Some(name) => Err(ObjectFault::UnknownMember(name)),
-        None => Ok(Event { time, kind: told }),
+    match object.as_object() {
+        Some(_) if is_of_trace(&object) => Err(LineFault::OfTrace),
+        Some(members) => object_event(number_of_line, &object, members),
+        None => Err(LineFault::Object(ObjectFault::NotObject)),
     }
 }

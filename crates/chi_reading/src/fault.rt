@@ -1,8 +1,8 @@
-//! Why a trace is refused.
+//! Why a trace is refused, or a line of events.
 
 ghost use Rattle.std.specs.Prelude.{◌≡◌};
 ghost use Rattle.chi_json.specs.Faults.{of_member};
-ghost use Rattle.chi_reading.specs.Faults.{of_request, of_trace};
+ghost use Rattle.chi_reading.specs.Faults.{of_line, of_request, of_trace};
 
 use crate::member::Member;
 use chi_fields::{Refusal, RegionFault, refusal_name, region_fault_name};
@@ -45,6 +45,7 @@ pub enum RequestFault {
 /// - `RegionRefused`: `Region::new` refuses the base and the number of granules.
 /// - `TooManyRequests`: there are more than 1,048,576 requests.
 /// - `InRequest`: a request is refused, at its place in the array from 0 on.
+/// - `OfEvents`: the text is no trace, and its first line is an object that names an event.
 ///
 /// ```
 /// let fault = TraceFault::Object(ObjectFault::Missing(Member::Requests)); // trace member requests is missing
@@ -59,6 +60,30 @@ pub enum TraceFault {
     TooManyRequests,
     #[error("request {place} {fault}")]
     InRequest { place: usize, fault: RequestFault },
+    #[error("input is of events, which chicheck watch reads")]
+    OfEvents,
+    #[error("no memory")]
+    Memory,
+}
+
+/// Why a line tells no event: the first fault that its reading meets, or `Memory` where a growth is refused before. The text does
+/// not say which line it is.
+///
+/// - `Object`: the line is not an object of JSON, or its members are not those of an event.
+/// - `OfTrace`: it is an object with requests, as a trace is, that names no event.
+/// - `NotWhole`: it is the first line, begins as an object does, and is not JSON, as the first of a trace on several lines.
+///
+/// ```
+/// let fault = LineFault::Object(ObjectFault::Missing(Member::Time)); // member time is missing
+/// ```
+#[derive(Clone, Copy, Debug, PartialEq, Eq, Error)]
+pub enum LineFault {
+    #[error("{0}")]
+    Object(ObjectFault<Member>),
+    #[error("is of a trace, which chicheck explain reads")]
+    OfTrace,
+    #[error("is not one whole JSON object, as an event is; chicheck explain reads a trace")]
+    NotWhole,
     #[error("no memory")]
     Memory,
 }
@@ -79,6 +104,27 @@ impl From<MemberFault<Member>> for TraceFault {
             MemberFault::Memory => TraceFault::Memory,
             other => TraceFault::Object(ObjectFault::from(other)),
         }
+    }
+}
+
+impl From<MemberFault<Member>> for LineFault {
+    ghost from_gives = { λ fault result. result ≡ of_line fault };
+
+    fn from(fault: MemberFault<Member>) -> LineFault {
+        match fault {
+            MemberFault::Memory => LineFault::Memory,
+            other => LineFault::Object(ObjectFault::from(other)),
+        }
+    }
+}
+
+impl From<AllocError> for LineFault {
+    ghost use Rattle.chi_reading.specs.declared.fault.LineFault.TheVariants.{Memory};
+
+    ghost from_gives = { λ fault result. result ≡ Memory };
+
+    fn from(_fault: AllocError) -> LineFault {
+        LineFault::Memory
     }
 }
 

@@ -7,6 +7,7 @@ mod fields;
 mod line_kind;
 mod line_members;
 mod member;
+mod other_kind;
 mod recorded;
 mod refused;
 mod requests;
@@ -14,6 +15,6 @@ mod stated;
 mod told;
 
 pub use event_line::read_event;
-pub use fault::{MOST_OPERATIONS, RequestFault, TraceFault};
+pub use fault::{LineFault, MOST_OPERATIONS, RequestFault, TraceFault};
 pub use member::Member;
 pub use recorded::{Recorded, read_trace};

@@ -6,6 +6,7 @@ ghost use Rattle.chi_reading.specs.TraceText.{IsMemoryOf, IsOf, MemoryText, Text
 
 use crate::fault::TraceFault;
 use crate::member::{Member, TRACE};
+use crate::other_kind::{is_of_event, unread_text};
 use crate::requests::{Found, all_completed};
 use crate::told::{region_words, stated_list};
 use chi_fields::{Refusal, Region};
@@ -211,6 +212,7 @@ fn object_trace(
 /// and no `reply`: it is no operation, and a fault where a home does not refuse it for just this reason.
 ///
 /// Members whose name begins with `x-` are ignored, in the trace and in its requests, and others than those above are refused.
+/// A text that is no trace, and whose first line is an object that names an event, is `OfEvents`.
 ///
 /// The faults' order is that of the members `base`, `granules`, with the region's own fault, `image`, `final` and
 /// `requests`, then members that a trace does not have, and then of the requests, of each its members, members that it does
@@ -225,9 +227,10 @@ pub fn read_trace(alloc: Global, text: &[u8]) -> Result<Recorded, TraceFault>
     ensures fault { IfErr result (λ f. f ≢ TraceFault.Memory → trace_text text.now ≡ Err f) }
 {
     let Some(value) = json(alloc, text)? else {
-        return Err(TraceFault::Object(ObjectFault::NotJson));
+        return Err(unread_text(alloc, text)?);
     };
     match value.as_object() {
+        Some(_) if is_of_event(&value) => Err(TraceFault::OfEvents),
         Some(members) => object_trace(alloc, &value, members),
         None => Err(TraceFault::Object(ObjectFault::NotObject)),
     }

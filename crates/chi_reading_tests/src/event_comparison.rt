@@ -2,7 +2,7 @@
 
 use chi_events::EventKind;
 use chi_json::ObjectFault;
-use chi_reading::{Member, read_event};
+use chi_reading::{LineFault, Member, read_event};
 use chi_trace::{GranuleWord, RequestFields};
 use std::process::Abort;
 
@@ -66,8 +66,8 @@ pub(crate) fn assert_tells<R: AllocGlobal + Abort>(rt: &R, line: &str, want: Eve
     assert!(*rt; is_told, "{line}");
 }
 
-/// Compares the fault of line 4.
+/// Compares the fault of line 4, which is one of its object.
 pub(crate) fn assert_fault<R: AllocGlobal + Abort>(rt: &R, line: &str, want: ObjectFault<Member>) {
     let fault = read_event(rt.alloc(), 4, line.as_bytes()).err();
-    assert_eq!(*rt; fault, Some(want), "{line}");
+    assert_eq!(*rt; fault, Some(LineFault::Object(want)), "{line}");
 }

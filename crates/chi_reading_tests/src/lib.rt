@@ -16,6 +16,8 @@ mod fault_tests;
 #[cfg(test)]
 mod memory_tests;
 #[cfg(test)]
+mod other_kind_tests;
+#[cfg(test)]
 mod request_tests;
 #[cfg(test)]
 mod texts;

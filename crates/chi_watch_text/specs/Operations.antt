@@ -8,8 +8,7 @@ use Rattle.chi_events.specs.declared.event.Event.{Event}
 use Rattle.chi_events.specs.Operations.{operations, refusals_told}
 use Rattle.chi_events.specs.Outstanding.{OutstandingValue, Tells, fault_of}
 use Rattle.chi_reading.specs.EventText.{event_text}
-use Rattle.chi_json.specs.declared.fault.ObjectFault.{ObjectFault}
-use Rattle.chi_reading.specs.declared.member.Member.{Member}
+use Rattle.chi_reading.specs.declared.fault.LineFault.{LineFault}
 use Rattle.chi_watch.specs.declared.fault.WatchFault.{WatchFault}
 use Rattle.chi_watch.specs.declared.fault.WatchFault.TheVariants as watch_fault
 use Rattle.chi_watch_text.specs.Lines.{AreTold}
@@ -30,7 +29,7 @@ abbrev pub AreRefusals : List ℕ → List Refusal → Type 0
 AreRefusals text refusals = (events : List Event) × (count : ℕ) × AreTold text count events [] × IsPermutation (refusals_told events) refusals
 
 -- the line with this number is the first that tells no event, for this reason
-abbrev pub IsNoEvent : List ℕ → ℕ → ObjectFault Member → Type 0
+abbrev pub IsNoEvent : List ℕ → ℕ → LineFault → Type 0
 IsNoEvent text number f =
     (events : List Event) × (before : ℕ) × (rest : List ℕ) × AreTold text before events rest × (before + 1 ≡ number) × (event_text number (take_through 10 rest) ≡ Err f)
 

@@ -1,7 +1,6 @@
 //! Why events are watched no further.
 
-use chi_json::ObjectFault;
-use chi_reading::Member;
+use chi_reading::LineFault;
 use chi_watch::WatchFault;
 use std::alloc::AllocError;
 use thiserror::Error;
@@ -21,15 +20,9 @@ pub enum LinesFault {
     #[error("input could not be read")]
     Read,
     #[error("line {number} {fault}")]
-    Line {
-        number: u64,
-        fault: ObjectFault<Member>,
-    },
+    Line { number: u64, fault: LineFault },
     #[error("line {number} {fault}")]
-    Event {
-        number: u64,
-        fault: WatchFault,
-    },
+    Event { number: u64, fault: WatchFault },
     #[error("input has too many lines")]
     TooManyLines,
     #[error("no memory")]

@@ -7,8 +7,7 @@ ghost use Rattle.chi_watch_text.specs.Reading.{IsRead, IsRefused};
 
 use crate::fault::LinesFault;
 use chi_events::Event;
-use chi_json::ObjectFault;
-use chi_reading::read_event;
+use chi_reading::{LineFault, read_event};
 use std::alloc::Global;
 use std::io::{BufRead, ErrorKind};
 
@@ -34,7 +33,7 @@ fn event_told(alloc: Global, line: &[u8], number: u64) -> Result<Event, LinesFau
 {
     match read_event(alloc, number, line) {
         Ok(event) => Ok(event),
-        Err(ObjectFault::Memory) => Err(LinesFault::Memory),
+        Err(LineFault::Memory) => Err(LinesFault::Memory),
         Err(fault) => Err(LinesFault::Line { number, fault }),
     }
 }

@@ -6,7 +6,7 @@ use crate::tests::events::{
 };
 use chi_events::EventFault;
 use chi_json::ObjectFault;
-use chi_reading::Member;
+use chi_reading::{LineFault, Member};
 use chi_watch::WatchFault;
 use chi_watch_text::{LinesFault, WatchVerdict};
 use std::test::Fail;
@@ -71,7 +71,7 @@ fn faults_and_their_texts(rt: HostRuntime) -> Result<(), Fail> {
             [WRITE, "\n"],
             LinesFault::Line {
                 number: 3,
-                fault: ObjectFault::NotJson,
+                fault: LineFault::Object(ObjectFault::NotJson),
             },
             "line 3 is not JSON",
         ),
@@ -79,9 +79,25 @@ fn faults_and_their_texts(rt: HostRuntime) -> Result<(), Fail> {
             [WRITE, "{\"time\":3,\"event\":\"dropped\"}"],
             LinesFault::Line {
                 number: 3,
-                fault: ObjectFault::Missing(Member::Id),
+                fault: LineFault::Object(ObjectFault::Missing(Member::Id)),
             },
             "line 3 member id is missing",
+        ),
+        (
+            ["{\"requests\":[]}\n", READ],
+            LinesFault::Line {
+                number: 1,
+                fault: LineFault::OfTrace,
+            },
+            "line 1 is of a trace, which chicheck explain reads",
+        ),
+        (
+            ["{\n", "\"requests\": []}\n"],
+            LinesFault::Line {
+                number: 1,
+                fault: LineFault::NotWhole,
+            },
+            "line 1 is not one whole JSON object, as an event is; chicheck explain reads a trace",
         ),
         (
             [READ, WRITE],

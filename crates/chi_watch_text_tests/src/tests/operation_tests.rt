@@ -5,6 +5,7 @@ use crate::tests::events::{FIVE, LAST, READ, UNKNOWN, WRITE, WRITE_AT_FOUR, join
 use chi_events::EventFault;
 use chi_fields::Refusal;
 use chi_json::ObjectFault;
+use chi_reading::LineFault;
 use chi_watch::WatchFault;
 use chi_watch_text::{LinesFault, OperationsTold, read_operations};
 use std::alloc::Global;
@@ -88,7 +89,7 @@ fn lines_that_tell_no_operations(rt: HostRuntime) -> Result<(), Fail> {
             &[WRITE, "no event\n"],
             Err(LinesFault::Line {
                 number: 3,
-                fault: ObjectFault::NotJson,
+                fault: LineFault::Object(ObjectFault::NotJson),
             }),
         ),
         (

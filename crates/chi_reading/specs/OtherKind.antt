@@ -1,0 +1,49 @@
+-- inputs of the other kind: a trace where events are wanted, and events where a trace is
+use Rattle.std.specs.Prelude.{ℕ, ◌==◌, Bool, false, not, ◌&&◌, ◌||◌, if◌then◌else◌, List, find, position, take, Option, None, Some, is_none, is_some}
+use Rattle.std.specs.Option.{option_map_or}
+use Rattle.serde_json.specs.Data.{Data}
+use Rattle.serde_json.specs.Find.{get}
+use Rattle.chi_json.specs.Values.{json_value}
+use Rattle.chi_json.specs.declared.fault.ObjectFault.TheVariants.{NotJson}
+use Rattle.chi_reading.specs.Member.{member_name}
+use Rattle.chi_reading.specs.declared.member.Member.TheVariants as member
+use Rattle.chi_reading.specs.declared.fault.LineFault.{LineFault}
+use Rattle.chi_reading.specs.declared.fault.LineFault.TheVariants as line_fault
+use Rattle.chi_reading.specs.declared.fault.TraceFault.{TraceFault}
+use Rattle.chi_reading.specs.declared.fault.TraceFault.TheVariants as trace_fault
+
+-- an object that has requests, as a trace does, and names no event
+abbrev pub is_of_trace : Data → Bool
+is_of_trace d = is_some (get (member_name member.Requests) d) && is_none (get (member_name member.Event) d)
+
+-- an object that names an event, and has no requests
+abbrev pub is_of_event : Data → Bool
+is_of_event d = is_some (get (member_name member.Event) d) && is_none (get (member_name member.Requests) d)
+
+-- a byte that is blank in JSON: a space, a tab, a line feed or a carriage return
+abbrev pub is_blank : ℕ → Bool
+is_blank b = b == 32 || b == 9 || b == 10 || b == 13
+
+-- a text that begins as an object does: its first byte that is not blank is `{`
+abbrev pub begins_object : List ℕ → Bool
+begins_object text = option_map_or (λ b. b == 123) (find (λ b. not (is_blank b)) text) false
+
+-- why the line with this number, which has no value, tells no event
+abbrev pub unread_line : ℕ → List ℕ → LineFault
+unread_line number text = if number == 1 && begins_object text then line_fault.NotWhole else line_fault.Object NotJson
+
+-- the first line of a text, without its line feed: up to where that is, or all of it where it has none
+abbrev pub up_to : Option ℕ → List ℕ → List ℕ
+up_to None text = text
+up_to (Some end) text = take end text
+
+abbrev pub first_line : List ℕ → List ℕ
+first_line text = up_to (position (λ b. b == 10) text) text
+
+-- a text whose first line is an object that names an event
+abbrev pub begins_events : List ℕ → Bool
+begins_events text = option_map_or is_of_event (json_value (first_line text)) false
+
+-- why a text that has no value is no trace
+abbrev pub unread_text : List ℕ → TraceFault
+unread_text text = if begins_events text then trace_fault.OfEvents else trace_fault.Object NotJson

@@ -1,0 +1,99 @@
+//! Inputs of the other kind: a trace where events are wanted, and events where a trace is.
+
+ghost use Rattle.std.specs.Prelude.{◌≡◌, ◌==◌, ◌≤◌, find, length, not, position, IfOk, IfSome};
+ghost use Rattle.serde_json.specs.View.{view};
+ghost use Rattle.chi_reading.specs.OtherKind.{begins_events, begins_object, first_line, is_blank, is_of_event, is_of_trace, unread_line, unread_text};
+
+use crate::fault::{LineFault, TraceFault};
+use crate::member::Member;
+use chi_json::{ObjectFault, json};
+use serde_json::Value;
+use std::alloc::{AllocError, Global};
+
+/// Whether an object has requests, as a trace does, and names no event.
+pub(crate) fn is_of_trace(object: &Value) -> bool
+    ensures { result ≡ is_of_trace (view object.now) }
+{
+    object.get(Member::Requests.name()).is_some() && object.get(Member::Event.name()).is_none()
+}
+
+/// Whether an object names an event, and has no requests.
+pub(crate) fn is_of_event(object: &Value) -> bool
+    ensures { result ≡ is_of_event (view object.now) }
+{
+    object.get(Member::Event.name()).is_some() && object.get(Member::Requests.name()).is_none()
+}
+
+/// Whether a byte is blank in JSON.
+fn is_blank(byte: u8) -> bool
+    ensures { result ≡ is_blank byte }
+{
+    byte == b' ' || byte == b'\t' || byte == b'\n' || byte == b'\r'
+}
+
+/// The first byte of a text that is not blank.
+fn first_shown(text: &[u8]) -> Option<u8>
+    ensures { result ≡ find (λ b. not (is_blank b)) text.now }
+{
+    text.iter().copied().find(|byte| !is_blank(*byte))
+}
+
+/// Whether a text begins as an object does.
+fn begins_object(text: &[u8]) -> bool
+    ensures { result ≡ begins_object text.now }
+{
+    match first_shown(text) {
+        Some(byte) => byte == b'{',
+        None => false,
+    }
+}
+
+/// Why the line with this number, which has no value, tells no event.
+pub(crate) fn unread_line(number_of_line: u64, line: &[u8]) -> LineFault
+    ensures { result ≡ unread_line number_of_line line.now }
+{
+    if number_of_line == 1 && begins_object(line) {
+        LineFault::NotWhole
+    } else {
+        LineFault::Object(ObjectFault::NotJson)
+    }
+}
+
+/// Where the first line feed of a text is.
+fn line_end(text: &[u8]) -> Option<usize>
+    ensures value { result ≡ position (λ b. b == 10) text.now }
+    ensures within { IfSome result (λ end. end ≤ length text.now) }
+{
+    text.iter().position(|byte| *byte == b'\n')
+}
+
+/// The first line of a text, without its line feed.
+fn first_line(text: &[u8]) -> &[u8]
+    ensures { result.now ≡ first_line text.now }
+{
+    match line_end(text) {
+        Some(end) => &text[..end],
+        None => text,
+    }
+}
+
+/// Whether the first line of a text is an object that names an event.
+fn begins_events(alloc: Global, text: &[u8]) -> Result<bool, AllocError>
+    ensures { IfOk result (λ is. is ≡ begins_events text.now) }
+{
+    match json(alloc, first_line(text))? {
+        Some(value) => Ok(is_of_event(&value)),
+        None => Ok(false),
+    }
+}
+
+/// Why a text that has no value is no trace.
+pub(crate) fn unread_text(alloc: Global, text: &[u8]) -> Result<TraceFault, AllocError>
+    ensures { IfOk result (λ fault. fault ≡ unread_text text.now) }
+{
+    if begins_events(alloc, text)? {
+        Ok(TraceFault::OfEvents)
+    } else {
+        Ok(TraceFault::Object(ObjectFault::NotJson))
+    }
+}
