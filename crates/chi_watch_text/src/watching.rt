@@ -1,6 +1,6 @@
 //! Events that are read line by line and watched.
 
-ghost use Rattle.std.specs.Prelude.{◌≡◌, ◌≢◌, ◌<◌, ◌⊎◌, ℕ, [], List, All, None, true, false, IfErr, IfOk, IfSome, length};
+ghost use Rattle.std.specs.Prelude.{◌≡◌, ◌≢◌, ◌<◌, ◌≤◌, ◌⊎◌, ℕ, [], List, All, None, true, false, IfErr, IfOk, IfSome, IsSomeAnd, length};
 ghost use Rattle.chi_events.specs.Ended.{is_end};
 ghost use Rattle.chi_events.specs.declared.event.Event.{Event};
 ghost use Rattle.chi_search.specs.Looks.{LookedSome};
@@ -44,7 +44,8 @@ fn take_event<P: WatchProgress>(
 
 /// Whether all events of this time are told: the next one is later, or there is none.
 fn is_past(time: u64, next: &Option<Event>) -> bool
-    ensures { result ≡ true → IfSome next.now (λ e. time < e.time) }
+    ensures past { result ≡ true → IfSome next.now (λ e. time < e.time) }
+    ensures waits { result ≡ false → IsSomeAnd next.now (λ e. e.time ≤ time) }
 {
     match next {
         Some(event) => time < event.time,

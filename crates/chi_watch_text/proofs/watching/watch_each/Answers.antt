@@ -35,7 +35,7 @@ loop-number-preserved g c =
     let before = c.loop-number.invariant in
     let settled_now =
     settled (g.R.Read.remaining c.args.from.now) (g.R.Read.remaining c.loop-number.from) (g.R.Read.remaining c.next_event.new.from) (c.loop-number.number - 1) c.loop-number.number c.loop-number.time c.loop-number.is_ended c.loop-number.found.items
-    c.judge_quiet.new.found.items c.loop-number.quiet.items c.judge_quiet.new.quiet.items c.loop-number.watch c.in_ok-next.next c.is_past-is_past.result before.taken (omega arith) c.in_ok-next.ensures.told c.is_past-is_past.ensures
+    c.judge_quiet.new.found.items c.loop-number.quiet.items c.judge_quiet.new.quiet.items c.loop-number.watch c.in_ok-next.next c.is_past-is_past.result before.taken (omega arith) c.in_ok-next.ensures.told c.is_past-is_past.ensures.past
     c.in_ok-judge_quiet.ensures.waits c.in_ok-judge_quiet.ensures.cleared c.in_ok-judge_quiet.ensures.each in
     let first = none_found c.is_past-is_past.result c.stops.result c.args.options.now.keep_going c.loop-number.found.items c.judge_quiet.new.found.items before.first
     (λ waits. (c.in_ok-judge_quiet.ensures.waits waits).0) c.if-stops.false (rw c.deref.ensures.value at c.stops.ensures.goes_on) in
@@ -59,10 +59,10 @@ returns-then-stops-clause-watched g c =
     let before = c.loop-number.invariant in
     let settled_now =
     settled (g.R.Read.remaining c.args.from.now) (g.R.Read.remaining c.loop-number.from) (g.R.Read.remaining c.next_event.new.from) (c.loop-number.number - 1) c.loop-number.number c.loop-number.time c.loop-number.is_ended c.loop-number.found.items
-    c.judge_quiet.new.found.items c.loop-number.quiet.items c.judge_quiet.new.quiet.items c.loop-number.watch c.in_ok-next.next c.is_past-is_past.result before.taken (omega arith) c.in_ok-next.ensures.told c.is_past-is_past.ensures
+    c.judge_quiet.new.found.items c.loop-number.quiet.items c.judge_quiet.new.quiet.items c.loop-number.watch c.in_ok-next.next c.is_past-is_past.result before.taken (omega arith) c.in_ok-next.ensures.told c.is_past-is_past.ensures.past
     c.in_ok-judge_quiet.ensures.waits c.in_ok-judge_quiet.ensures.cleared c.in_ok-judge_quiet.ensures.each in
     at_stop (g.R.Read.remaining c.args.from.now) (g.R.Read.remaining c.loop-number.from) (g.R.Read.remaining c.next_event.new.from) (c.loop-number.number - 1) c.loop-number.number c.loop-number.time c.loop-number.is_ended c.judge_quiet.new.found.items c.judge_quiet.new.quiet.items
-    c.args.options.now.keep_going c.is_past-is_past.result c.loop-number.watch c.in_ok-next.next c.stopped.result settled_now (omega arith) c.in_ok-next.ensures.told c.is_past-is_past.ensures (c.in_ok-judge_quiet.ensures.once before.once)
+    c.args.options.now.keep_going c.is_past-is_past.result c.loop-number.watch c.in_ok-next.next c.stopped.result settled_now (omega arith) c.in_ok-next.ensures.told c.is_past-is_past.ensures.past (c.in_ok-judge_quiet.ensures.once before.once)
     ((rw c.deref.ensures.value at c.stops.ensures.stops) c.if-stops.true) c.stopped.ensures.told c.stopped.ensures.ending
 
 pub returns-in_default-clause-watched : goal.returns-in_default-clause-watched
@@ -70,7 +70,7 @@ returns-in_default-clause-watched g c =
     let before = c.loop-number.invariant in
     let settled_now =
     settled (g.R.Read.remaining c.args.from.now) (g.R.Read.remaining c.loop-number.from) (g.R.Read.remaining c.next_event.new.from) (c.loop-number.number - 1) c.loop-number.number c.loop-number.time c.loop-number.is_ended c.loop-number.found.items
-    c.judge_quiet.new.found.items c.loop-number.quiet.items c.judge_quiet.new.quiet.items c.loop-number.watch c.in_ok-next.next c.is_past-is_past.result before.taken (omega arith) c.in_ok-next.ensures.told c.is_past-is_past.ensures
+    c.judge_quiet.new.found.items c.loop-number.quiet.items c.judge_quiet.new.quiet.items c.loop-number.watch c.in_ok-next.next c.is_past-is_past.result before.taken (omega arith) c.in_ok-next.ensures.told c.is_past-is_past.ensures.past
     c.in_ok-judge_quiet.ensures.waits c.in_ok-judge_quiet.ensures.cleared c.in_ok-judge_quiet.ensures.each in
     let first = none_found c.is_past-is_past.result c.stops.result c.args.options.now.keep_going c.loop-number.found.items c.judge_quiet.new.found.items before.first
     (λ waits. (c.in_ok-judge_quiet.ensures.waits waits).0) c.if-stops.false (rw c.deref.ensures.value at c.stops.ensures.goes_on) in
@@ -118,7 +118,7 @@ returns-in_err-seen-clause-fault g c =
     let before = c.loop-number.invariant in
     let settled_now =
     settled (g.R.Read.remaining c.args.from.now) (g.R.Read.remaining c.loop-number.from) (g.R.Read.remaining c.next_event.new.from) (c.loop-number.number - 1) c.loop-number.number c.loop-number.time c.loop-number.is_ended c.loop-number.found.items
-    c.judge_quiet.new.found.items c.loop-number.quiet.items c.judge_quiet.new.quiet.items c.loop-number.watch c.in_ok-next.next c.is_past-is_past.result before.taken (omega arith) c.in_ok-next.ensures.told c.is_past-is_past.ensures
+    c.judge_quiet.new.found.items c.loop-number.quiet.items c.judge_quiet.new.quiet.items c.loop-number.watch c.in_ok-next.next c.is_past-is_past.result before.taken (omega arith) c.in_ok-next.ensures.told c.is_past-is_past.ensures.past
     c.in_ok-judge_quiet.ensures.waits c.in_ok-judge_quiet.ensures.cleared c.in_ok-judge_quiet.ensures.each in
     let read = subst (λ (o : Option Event). IfSome (g.R.Read.remaining c.loop-number.from) (λ text. IsRead c.loop-number.number text o (g.R.Read.remaining c.next_event.new.from))) c.in-Some.is c.in_ok-next.ensures.told in
     passed_on c.from_residual-in_err-seen.result c.in_err-seen.field-0.0 (λ (r : Result Watched LinesFault). IfSome (g.R.Read.remaining c.args.from.now) (λ text. IfErr r (IsLinesFault text))) c.from_residual-in_err-seen.ensures.1
@@ -129,7 +129,7 @@ pub returns-in_err-judge_quiet-clause-found : goal.returns-in_err-judge_quiet-cl
 returns-in_err-judge_quiet-clause-found g c =
     kept_at_fault (g.R.Read.remaining c.args.from.now) (λ text. All (IsFoundBy text) c.judge_quiet.new.found.items) _
     (found_so_far (g.R.Read.remaining c.args.from.now) (g.R.Read.remaining c.loop-number.from) (g.R.Read.remaining c.next_event.new.from) (c.loop-number.number - 1) c.loop-number.number c.loop-number.time c.loop-number.is_ended c.loop-number.found.items
-    c.judge_quiet.new.found.items c.loop-number.quiet.items c.loop-number.watch c.in_ok-next.next c.is_past-is_past.result c.loop-number.invariant.taken (omega arith) c.in_ok-next.ensures.told c.is_past-is_past.ensures
+    c.judge_quiet.new.found.items c.loop-number.quiet.items c.loop-number.watch c.in_ok-next.next c.is_past-is_past.result c.loop-number.invariant.taken (omega arith) c.in_ok-next.ensures.told c.is_past-is_past.ensures.past
     (λ wait. (c.judge_quiet.ensures.waits wait).0) c.judge_quiet.ensures.each)
 
 pub returns-in_err-ended-clause-found : goal.returns-in_err-ended-clause-found
@@ -137,19 +137,19 @@ returns-in_err-ended-clause-found g c =
     kept_at_fault (g.R.Read.remaining c.args.from.now) (λ text. All (IsFoundBy text) c.ended.new.found.items) _
     (subst (λ (l : List FoundGranule). IfSome (g.R.Read.remaining c.args.from.now) (λ text. All (IsFoundBy text) l)) (sym c.in_err-ended.ensures.kept)
     (found_so_far (g.R.Read.remaining c.args.from.now) (g.R.Read.remaining c.loop-number.from) (g.R.Read.remaining c.next_event.new.from) (c.loop-number.number - 1) c.loop-number.number c.loop-number.time c.loop-number.is_ended c.loop-number.found.items
-    c.judge_quiet.new.found.items c.loop-number.quiet.items c.loop-number.watch c.in_ok-next.next c.is_past-is_past.result c.loop-number.invariant.taken (omega arith) c.in_ok-next.ensures.told c.is_past-is_past.ensures
+    c.judge_quiet.new.found.items c.loop-number.quiet.items c.loop-number.watch c.in_ok-next.next c.is_past-is_past.result c.loop-number.invariant.taken (omega arith) c.in_ok-next.ensures.told c.is_past-is_past.ensures.past
     (λ wait. (c.in_ok-judge_quiet.ensures.waits wait).0) c.in_ok-judge_quiet.ensures.each))
 
 pub returns-in_err-seen-clause-found : goal.returns-in_err-seen-clause-found
 returns-in_err-seen-clause-found g c =
     kept_at_fault (g.R.Read.remaining c.args.from.now) (λ text. All (IsFoundBy text) c.judge_quiet.new.found.items) _
     (found_so_far (g.R.Read.remaining c.args.from.now) (g.R.Read.remaining c.loop-number.from) (g.R.Read.remaining c.next_event.new.from) (c.loop-number.number - 1) c.loop-number.number c.loop-number.time c.loop-number.is_ended c.loop-number.found.items
-    c.judge_quiet.new.found.items c.loop-number.quiet.items c.loop-number.watch c.in_ok-next.next c.is_past-is_past.result c.loop-number.invariant.taken (omega arith) c.in_ok-next.ensures.told c.is_past-is_past.ensures
+    c.judge_quiet.new.found.items c.loop-number.quiet.items c.loop-number.watch c.in_ok-next.next c.is_past-is_past.result c.loop-number.invariant.taken (omega arith) c.in_ok-next.ensures.told c.is_past-is_past.ensures.past
     (λ wait. (c.in_ok-judge_quiet.ensures.waits wait).0) c.in_ok-judge_quiet.ensures.each)
 
 pub returns-in_err-note_quiet-clause-found : goal.returns-in_err-note_quiet-clause-found
 returns-in_err-note_quiet-clause-found g c =
     kept_at_fault (g.R.Read.remaining c.args.from.now) (λ text. All (IsFoundBy text) c.judge_quiet.new.found.items) _
     (found_so_far (g.R.Read.remaining c.args.from.now) (g.R.Read.remaining c.loop-number.from) (g.R.Read.remaining c.next_event.new.from) (c.loop-number.number - 1) c.loop-number.number c.loop-number.time c.loop-number.is_ended c.loop-number.found.items
-    c.judge_quiet.new.found.items c.loop-number.quiet.items c.loop-number.watch c.in_ok-next.next c.is_past-is_past.result c.loop-number.invariant.taken (omega arith) c.in_ok-next.ensures.told c.is_past-is_past.ensures
+    c.judge_quiet.new.found.items c.loop-number.quiet.items c.loop-number.watch c.in_ok-next.next c.is_past-is_past.result c.loop-number.invariant.taken (omega arith) c.in_ok-next.ensures.told c.is_past-is_past.ensures.past
     (λ wait. (c.in_ok-judge_quiet.ensures.waits wait).0) c.in_ok-judge_quiet.ensures.each)
