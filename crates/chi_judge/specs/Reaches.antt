@@ -37,13 +37,14 @@ abbrev pub IsExplained : ℕ → List Operation → ℕ → ℕ → Type 0
 IsExplained time trace g w = (order : List ℕ) × ExplainsGranule (cut time trace) g w None order
 
 -- Up to this time no order explains the granule's operations. Up to the time before, where there is one, some order does, and
--- these are the words that they can leave, where they are known. The operation was answered then, and is one of those that were
--- open. It is the first of those whose answer may be wrong, where there is one. The last so many of the others that had ended by
--- then stand before it, and each of these replies of it would have been right.
+-- these are the words that they can leave, where they are known; before time 0 none are. The operation was answered then, and is
+-- one of those that were open. It is the first of those whose answer may be wrong, where there is one. The last so many of the
+-- others that had ended by then stand before it, and each of these replies of it would have been right.
 pub record IsStop (trace : List Operation) (g w most : ℕ) (s : Stop) : Type 0 where
   pub after : IsExplained s.time trace g w → ⊥
   pub before_it : (time : ℕ) → time + 1 ≡ s.time → IsExplained time trace g w
   pub words : (time : ℕ) → time + 1 ≡ s.time → IfWords s.words (λ words. (v : ℕ) → Contains words v ↔ CanLeave (cut time trace) g w v)
+  pub no_words : s.time ≡ 0 → IfWords s.words (λ words. ⊥)
   pub is_there : Contains s.overlapping.items s.op
   pub ends : s.op.end ≡ s.time
   pub answered : is_answered s.op ≡ true

@@ -152,6 +152,7 @@ impl Judge {
     ) -> Result<Words, AllocError>
         requires kept { ops.now ≡ self.now.kept }
         ensures words { IfOk result (λ found. IfWords found (λ words. (earlier : ℕ) → earlier + 1 ≡ time → AreWordsBy self.now earlier words)) }
+        ensures no_words { IfOk result (λ found. time ≡ 0 → IfWords found (λ words. ⊥)) }
         ensures unknown { IfOk result (λ found. IfUnknown found ((trace : List Operation) (g w : ℕ) → IsJudgeOf trace g w self.now → (time ≡ 0) ⊎ LookedAtLeast P.looked progress.old progress.new budget)) }
         ensures looked { IfOk result (λ _. LookedSome P.looked progress.old progress.new) }
     {

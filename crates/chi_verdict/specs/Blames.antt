@@ -1,5 +1,5 @@
 -- where a trace stops being explained
-use Rattle.std.specs.Prelude.{◌≡◌, ℕ, ◌+◌, ◌≤◌, List, ◌↔◌}
+use Rattle.std.specs.Prelude.{◌≡◌, ℕ, ◌+◌, ◌≤◌, List, [], ◌↔◌}
 use Rattle.std.specs.List.{Contains}
 use Rattle.chi_search.specs.Found.{IfWords}
 use Rattle.chi_search.specs.Looks.{LookedMore}
@@ -10,11 +10,12 @@ use Rattle.chi_verdict.specs.declared.first.First.TheVariants.{Never, At, Undeci
 use Rattle.chi_trace.specs.Traces.{CanHold, IsLegal, TraceValue, trace_at}
 use Rattle.chi_trace.specs.Words.{word_or_zero}
 
--- Up to a time no order explains the trace, not even the operations of this granule, and up to the time before, where there is one,
--- this order does. Of the granule is said where its operations stop being explained, and the words are those that it can hold up to
--- the time before.
+-- Up to a time no order explains the trace, not even the operations of this granule. Up to the time before this order does; before
+-- time 0 there is none. Of the granule is said where its operations stop being explained, and the words are those that it can hold
+-- up to the time before.
 pub record IsBlame (t : TraceValue) (most : ℕ) (blame : Blame) : Type 0 where
   pub before : (earlier : ℕ) → earlier + 1 ≡ blame.stop.time → IsLegal (trace_at earlier t) blame.order.items
+  pub no_order : blame.stop.time ≡ 0 → blame.order.items ≡ []
   pub after : (order : List ℕ) → IsLegal (trace_at blame.stop.time t) order → ⊥
   pub stop : IsStop t.operations blame.granule (word_or_zero t.opening blame.granule) most blame.stop
   pub words : (earlier : ℕ) → earlier + 1 ≡ blame.stop.time

@@ -26,6 +26,7 @@ returns-then-stop-eq0-clause-answer g c =
       never = tt;
       blame = record {
         before = λ earlier next. let first = c.if-stop-eq0.true in absurd (omega (arith, next, first));
+        no_order = λ zero. c.new-order.ensures.items;
         after = unexplained_at c.parts_explain.ensures c.args.opening.now c.args.ops.now n stop.time c.requires.words c.requires.traced (λ order explains. is.after (order, explains));
         stop = is;
         words = λ earlier next. let first = c.if-stop-eq0.true in absurd (omega (arith, next, first));
@@ -56,6 +57,7 @@ returns-in-Explained-clause-answer g c =
       never = tt;
       blame = record {
         before = legal;
+        no_order = λ zero. absurd (c.if-stop-eq0.false zero);
         after = unexplained_at c.parts_explain.ensures c.args.opening.now c.args.ops.now n stop.time c.requires.words c.requires.traced (λ order explains. is.after (order, explains));
         stop = is;
         words = λ earlier next. blamed_words c.orders_of_granules_explain.ensures c.parts_explain.ensures t n earlier c.in-Explained.order.items stop.words c.requires.words c.requires.traced

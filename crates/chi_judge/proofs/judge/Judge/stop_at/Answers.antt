@@ -121,6 +121,7 @@ returns-clause-stops g c trace n w is =
       words = λ earlier next.
           words_imply c.in_ok-words.words (λ words. (e : ℕ) → e + 1 ≡ time → AreWordsBy v e words) (λ words. (u : ℕ) → Contains words u ↔ CanLeave (cut earlier trace) n w u)
           (λ words are. are earlier next (stop.seen earlier next) trace n w is) c.in_ok-words.ensures.words;
+      no_words = c.in_ok-words.ensures.no_words;
       is_there = stop.has c.in_ok-open_at.field-0.items c.in_ok-open_at.ensures op there ends;
       ends = ends;
       answered = subst (λ (o : Operation). is_answered o ≡ true) (sym is_op) blamed_then.answered;

@@ -33,6 +33,14 @@ returns-clause-words g c =
     (ap (λ (v : JudgeValue). v.before) c.self.view_is) c.requires.kept found)
     c.words_by.ensures.words)
 
+pub returns-clause-no_words : goal.returns-clause-no_words
+returns-clause-no_words g c =
+    IfOk-weaker c.words_by.result
+    (λ (found : Words). (c.words_by.new.budget ≤ c.args.budget) × LookedMore g.P.Progress.looked c.args.progress.now c.words_by.new.progress (c.args.budget - c.words_by.new.budget))
+    (λ (found : Words). c.args.time ≡ 0 → IfWords found (λ words. ⊥))
+    (λ found spends zero. absurd (c.if-time-eq0.false zero))
+    c.words_by.ensures.spends
+
 pub returns-clause-unknown : goal.returns-clause-unknown
 returns-clause-unknown g c =
     let v = c.args.self.now in
