@@ -1,3 +1,4 @@
 mod Numbers
 mod Own
 pub mod Shown
+pub mod Undecided

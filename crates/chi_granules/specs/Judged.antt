@@ -1,6 +1,7 @@
 -- what is found of the granules of a trace
-use Rattle.std.specs.Prelude.{◌≡◌, ℕ, ◌==◌, ◌&&◌, nat_lt, List, [], All, length, map, slice_index, ◌⊎◌}
-use Rattle.std.specs.List.{Contains}
+use Rattle.std.specs.Prelude.{◌≡◌, ℕ, ◌==◌, ◌&&◌, nat_lt, not, List, [], ◌∷◌, ◌++◌, All, length, map, slice_index, ◌↔◌, ◌⊎◌}
+use Rattle.std.specs.List.{Contains, filter}
+use Rattle.std.specs.List.Sorted.{IsStrictlyIncreasing}
 use Rattle.chi_history.specs.History.{one_if}
 use Rattle.chi_trace.specs.Explains.{times_in}
 use Rattle.chi_trace.specs.Granules.{granule_of}
@@ -45,11 +46,33 @@ pub record HasGranules (r : RecordedValue) (granule_numbers : List ℕ) : Type 0
 abbrev pub AreAll : RecordedValue → List Drawn → Type 0
 AreAll r drawn = HasGranules r (map (λ d. d.granule) drawn)
 
+-- the number of the granule of each operation, and of each word that was observed at the end
+abbrev pub granules_told : RecordedValue → List ℕ
+granules_told r = map granule_of r.trace.operations ++ map (λ told. told.granule) r.final_words
+
+-- these are the granules that have an operation, or of which a word was observed at the end, and no others: each once, in the order
+-- of their numbers
+pub record AreGranules (r : RecordedValue) (granule_numbers : List ℕ) : Type 0 where
+  pub rising : IsStrictlyIncreasing granule_numbers
+  pub each : (g : ℕ) → Contains granule_numbers g ↔ Contains (granules_told r) g
+
+-- the granule that is blamed stands first, and then all others, each judged by itself
+pub record AreAround (r : RecordedValue) (blame : Blame) (drawn : List Drawn) : Type 0 where
+  pub first : Drawn
+  pub others : List Drawn
+  pub parts : drawn ≡ first ∷ others
+  pub blamed : IsBlamed r blame first
+  pub judged : All (IsJudged r) others
+  pub granule_numbers : List ℕ
+  pub are_granules : AreGranules r granule_numbers
+  pub but_blamed : map (λ d. d.granule) others ≡ filter (λ g. not (g == blame.granule)) granule_numbers
+
+-- A, where neither was found
+abbrev pub IfNeither : Finding → Type 0 → Type 0
+IfNeither Explained A = Unit {0}
+IfNeither Unexplained A = Unit {0}
+IfNeither Undecided A = A
+
 -- A, where a granule was not decided
 abbrev pub IfUndecided : Drawn → Type 0 → Type 0
-IfUndecided d A = of_finding d.finding
-  where
-    of_finding : Finding → Type 0
-    of_finding Explained = Unit {0}
-    of_finding Unexplained = Unit {0}
-    of_finding Undecided = A
+IfUndecided d A = IfNeither d.finding A

@@ -1,8 +1,9 @@
 //! What is found of some granules of a trace.
 
 ghost use Rattle.std.specs.Prelude.{◌≡◌, All, IfOk, map};
+ghost use Rattle.chi_search.specs.Looks.{LookedAtLeast, LookedSome};
 ghost use Rattle.chi_trace.specs.Granules.{granule_of};
-ghost use Rattle.chi_granules.specs.Judged.{IsJudged};
+ghost use Rattle.chi_granules.specs.Judged.{IfUndecided, IsJudged};
 
 use crate::judge::judged_granule;
 use crate::places::granules_of;
@@ -23,6 +24,8 @@ fn judged_each<P: Progress>(
     requires { granules.now ≡ map granule_of recorded.now.trace.operations }
     ensures judged { IfOk result (λ drawn. All (IsJudged recorded.now) drawn.items) }
     ensures granules { IfOk result (λ drawn. map (λ d. d.granule) drawn.items ≡ granule_numbers.now) }
+    ensures undecided { IfOk result (λ drawn. All (λ d. IfUndecided d (LookedAtLeast P.looked progress.old progress.new budget)) drawn.items) }
+    ensures looked { IfOk result (λ _. LookedSome P.looked progress.old progress.new) }
 {
     let mut drawn = Vec::with_capacity(alloc, granule_numbers.len())?;
     for number in granule_numbers {
@@ -47,6 +50,8 @@ pub fn judged_granules<P: Progress>(
 ) -> Result<Vec<Drawn>, AllocError>
     ensures judged { IfOk result (λ drawn. All (IsJudged recorded.now) drawn.items) }
     ensures granules { IfOk result (λ drawn. map (λ d. d.granule) drawn.items ≡ granule_numbers.now) }
+    ensures undecided { IfOk result (λ drawn. All (λ d. IfUndecided d (LookedAtLeast P.looked progress.old progress.new budget)) drawn.items) }
+    ensures looked { IfOk result (λ _. LookedSome P.looked progress.old progress.new) }
 {
     let granules = granules_of(alloc, recorded.trace().operations())?;
     judged_each(

@@ -1,7 +1,7 @@
 //! What is found of all granules of a trace.
 
 ghost use Rattle.std.specs.Prelude.{◌≡◌, ◌==◌, All, IfOk, filter, map, not};
-ghost use Rattle.chi_granules.specs.Judged.{AreAll, HasGranules, IsJudged, IsShown};
+ghost use Rattle.chi_granules.specs.Judged.{AreAll, AreAround, AreGranules, IsJudged, IsShown};
 
 use crate::listing::judged_granules;
 use crate::places::granules_of;
@@ -12,9 +12,9 @@ use chi_search::NoProgress;
 use chi_verdict::Blame;
 use std::alloc::{AllocError, Global};
 
-/// The numbers of the granules of which there is an operation, or of which a word was observed at the end.
+/// The numbers of the granules of which there is an operation, or of which a word was observed at the end, in their order.
 fn granule_numbers(alloc: Global, recorded: &Recorded) -> Result<Vec<u64>, AllocError>
-    ensures { IfOk result (λ granule_numbers. HasGranules recorded.now granule_numbers.items) }
+    ensures { IfOk result (λ granule_numbers. AreGranules recorded.now granule_numbers.items) }
 {
     let mut granule_numbers = granules_of(alloc, recorded.trace().operations())?;
     for told in recorded.final_words().as_slice() {
@@ -37,6 +37,7 @@ pub fn all_granules(
 ) -> Result<Vec<Drawn>, AllocError>
     ensures judged { IfOk result (λ drawn. All (IsJudged recorded.now) drawn.items) }
     ensures each { IfOk result (λ drawn. AreAll recorded.now drawn.items) }
+    ensures granules { IfOk result (λ drawn. AreGranules recorded.now (map (λ d. d.granule) drawn.items)) }
 {
     let granule_numbers = granule_numbers(alloc, recorded)?;
     judged_granules(alloc, recorded, &granule_numbers, budget, &mut NoProgress)
@@ -67,6 +68,7 @@ pub fn granules_around(
 ) -> Result<Vec<Drawn>, AllocError>
     ensures shown { IfOk result (λ drawn. All (IsShown recorded.now blame.now) drawn.items) }
     ensures each { IfOk result (λ drawn. AreAll recorded.now drawn.items) }
+    ensures around { IfOk result (λ drawn. AreAround recorded.now blame.now drawn.items) }
 {
     let others = without(alloc, &granule_numbers(alloc, recorded)?, blame.granule)?;
     let mut drawn = judged_granules(alloc, recorded, &others, budget, &mut NoProgress)?;

@@ -4,7 +4,7 @@ use Rattle.std.proofs.lemmas.List.{take_all}
 use Rattle.std.proofs.lemmas.List.Filters.{dedup_is}
 use Rattle.chi_trace.specs.Granules.{granule_of}
 use Rattle.chi_trace.specs.declared.words.GranuleWord.{GranuleWord}
-use Rattle.chi_granules.proofs.Numbers.{granule_told, has_both, has_sorted, numbers_more}
+use Rattle.chi_granules.proofs.Numbers.{are_granules, granule_told, numbers_more}
 use Rattle.chi_granules.proofs.whole.granule_numbers.Goals as goal
 
 pub loop-told-init : goal.loop-told-init
@@ -24,6 +24,6 @@ returns c =
     let second : words ≡ r.final_words = c.as_slice-told-items.ensures.words ∙ c.final_words.ensures in
     let all : granule_numbers ≡ c.in_ok-granule_numbers.granule_numbers.items ++ map granule_told words =
     c.loop-told.invariant ∙ ap (λ l. c.in_ok-granule_numbers.granule_numbers.items ++ map granule_told l) (take_all c.loop-told.told-index words (omega arith)) in
-    has_sorted r granule_numbers c.sort.new.self.items c.dedup.new.self.items
-    (has_both r granule_numbers (all ∙ ap₂ (λ (xs : List ℕ) (ys : List GranuleWord). xs ++ map granule_told ys) first second)) c.in_ok-sort.ensures.permutation
+    are_granules r granule_numbers c.sort.new.self.items c.dedup.new.self.items
+    (all ∙ ap₂ (λ (xs : List ℕ) (ys : List GranuleWord). xs ++ map granule_told ys) first second) c.in_ok-sort.ensures.permutation c.in_ok-sort.ensures.sorted
     (dedup_is eqb c.sort.new.self.items c.dedup.new.self.items c.dedup.ensures.filtered)
