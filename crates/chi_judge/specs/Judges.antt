@@ -1,5 +1,5 @@
 -- the operations of one granule that are kept, to say where they stop being explained
-use Rattle.std.specs.Prelude.{◌≡◌, ℕ, ◌+◌, ◌^◌, ◌<◌, ◌≤◌, Bool, false, List, [], ◌++◌, All, IsTrue}
+use Rattle.std.specs.Prelude.{◌≡◌, ℕ, ◌+◌, ◌^◌, ◌<◌, ◌≤◌, Bool, true, false, List, [], ◌++◌, All, IsTrue}
 use Rattle.std.specs.List.{AllPairs}
 use Rattle.chi_search.specs.Frontiers.{Follows, FrontierValue, MayBeTold}
 use Rattle.chi_search.specs.Layers.{SomeLeads}
@@ -19,6 +19,10 @@ pub record JudgeValue : Type 0 where
   pub horizon : ℕ
   pub latest : ℕ
   pub is_stopped : Bool
+
+-- it has stopped, since what had happened before the horizon is not explained
+abbrev pub stopped_at : ℕ → JudgeValue → JudgeValue
+stopped_at horizon r = record r { horizon = horizon; is_stopped = true }
 
 -- what the search follows, and then these operations, lead to some word
 abbrev pub GoesOn : FrontierValue → List Operation → Type 0

@@ -1,11 +1,14 @@
 //! The operations of one granule that ended last, and how far they can be explained. Source: profile.
 #![tactic(auto)]
 
+mod ahead;
+mod forgetting;
 mod judge;
 mod legal;
 mod reach;
 mod reaching;
 mod search;
+mod settling;
 mod shown;
 mod standing;
 mod suspects;

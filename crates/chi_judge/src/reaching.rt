@@ -11,7 +11,8 @@ ghost use Rattle.chi_judge.specs.Legal.{IsAnsweredAt};
 ghost use Rattle.chi_judge.specs.Reaches.{AreLast, IfStops, IfUndecided, IfWhole, IsExplained, IsJudgeOf, IsStop, MissesNone};
 ghost use Rattle.chi_judge.specs.Searches.{AreSeen, AreWordsBy, IsSeen, IsUnexplained};
 
-use crate::judge::{Judge, ended_before};
+use crate::forgetting::ended_before;
+use crate::judge::Judge;
 use crate::legal::legal_replies;
 use crate::reach::{Reach, Stop};
 use crate::search::{order_after, order_by, words_after, words_by};

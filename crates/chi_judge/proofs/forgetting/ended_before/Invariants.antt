@@ -1,6 +1,6 @@
 -- so many were looked at, and ended before the time
 use Rattle.std.proofs.Common.{◌≡◌, ◌<◌, All, take}
-use Rattle.chi_judge.proofs.judge.ended_before.Given as goal
+use Rattle.chi_judge.proofs.forgetting.ended_before.Given as goal
 
 abbrev pub invariant-loop-op : goal.invariant-loop-op
 invariant-loop-op l = record {

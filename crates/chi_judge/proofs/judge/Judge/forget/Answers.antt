@@ -1,5 +1,5 @@
--- the search before the others takes those that ended before the horizon
-use Rattle.std.proofs.Common.{◌≡◌, ℕ, ◌-◌, ◌<◌, ◌≤◌, ◌⊎◌, List, ◌++◌, All, IfSome, Option, Some, drop, length, length-drop, take, inl, inr, sym, ap, ap₂, subst, ◌∙◌, arith}
+-- the search before the others takes those that ended before the horizon, once an order goes up to there
+use Rattle.std.proofs.Common.{◌≡◌, ℕ, ◌+◌, ◌-◌, ◌<◌, ◌≤◌, ◌⊎◌, List, ◌++◌, All, IfSome, Option, Some, drop, length, length-drop, take, inl, inr, refl, sym, ap, ap₂, subst, ◌∙◌, arith, true≢false}
 use Rattle.std.proofs.lemmas.List.{take-append-drop, take_all}
 use Rattle.std.proofs.lemmas.List.Elements.{All-drop, All-take}
 use Rattle.chi_trace.specs.declared.operation.Operation.{Operation}
@@ -7,8 +7,11 @@ use Rattle.chi_trace.specs.Explains.{at}
 use Rattle.chi_search.specs.Frontiers.{Follows, FrontierValue, MayBeTold}
 use Rattle.chi_judge.specs.Judges.{IsJudge, IsNextHorizon, JudgeValue, Keeps, LiesWithin}
 use Rattle.chi_judge.specs.Shown.{last_of}
+use Rattle.chi_search.specs.declared.order.Found.{Found}
+use Rattle.chi_search.specs.Found.{IfOrder}
+use Rattle.chi_search.proofs.Looking.{some_after}
 use Rattle.chi_judge.proofs.Keeping.{keeps_fewer}
-use Rattle.chi_judge.proofs.judge.Judge.go_on.Goals as goal
+use Rattle.chi_judge.proofs.judge.Judge.forget.Goals as goal
 
 -- the elements from a place on
 rest_is : {X : Type 0} (by : ℕ) (xs : List X) → take (length xs - by) (drop by xs) ≡ drop by xs
@@ -82,41 +85,60 @@ judge_fewer r count least horizon after before left is later on = record {
       omega (arith, on.latest_before, after_by);
 }
 
+pub returns-in_default-3 : goal.returns-in_default-3
+returns-in_default-3 g c = record {
+  keeps = λ words told now past keeps. keeps;
+  horizon = λ so. absurd (true≢false (sym so));
+  latest = refl;
+  shown = refl;
+  refused = λ so. refl;
+  looked = some_after g.P.Progress.looked c.args.progress.now c.advanced.new.progress c.order_before.new.progress (_, c.in_ok-before.ensures.spends.1) c.in_ok-order_before.ensures.looked;
+}
+
+pub returns-clause-looked : goal.returns-clause-looked
+returns-clause-looked g c =
+    some_after g.P.Progress.looked c.args.progress.now c.advanced.new.progress c.order_before.new.progress (_, c.in_ok-before.ensures.spends.1) c.in_ok-order_before.ensures.looked
+
 pub invariant_of-self : goal.invariant_of-self
 invariant_of-self g c =
     let s = c.self.inside in
     let r : JudgeValue = record { before = s.before; left = s.left.items; shown = s.shown; kept = s.kept.items; since = s.since; horizon = s.horizon; latest = s.latest; is_stopped = s.is_stopped } in
     let count = c.ended_before-count.result in
-    let same : c.args.ops.now ≡ s.kept.items = c.requires.kept ∙ ap (λ v. v.kept) (sym c.self.view_is) in
+    let least = c.least_start-least.result in
     let kept : c.in_ok-kept.kept.items ≡ drop count s.kept.items =
-    c.in_ok-kept.ensures.items ∙ (rest_is count c.deref.result.now ∙ ap (drop count) c.deref.ensures.value) in
-    let later : s.horizon < c.args.horizon = subst (λ v. v.horizon < c.args.horizon) (sym c.self.view_is) c.requires.later in
-    let on = from_callees r c.args.ops.now count c.least_start-least.result c.args.horizon _ _ c.in-Some.after c.in-Some-2.before same c.in-Some.is c.in-Some-2.is
+    c.in_ok-kept.ensures.items ∙ (rest_is count c.deref-4.result.now ∙ ap (drop count) c.deref-4.ensures.value) in
+    let on = from_callees r c.deref-3.result.now count least c.args.horizon _ _ c.in-Some.after c.in-Some-2.before c.deref-3.ensures.value c.in-Some.is c.in-Some-2.is
     c.in_ok-after.ensures.follows c.in_ok-after.ensures.next c.in_ok-after.ensures.horizon c.in_ok-after.ensures.latest
     c.in_ok-before.ensures.follows c.in_ok-before.ensures.horizon c.in_ok-before.ensures.latest c.least_start-least.ensures.time
-    (subst (All (λ (op : Operation). c.least_start-least.result ≤ op.start)) (rest_is count c.args.ops.now) c.least_start-least.ensures.each) in
+    (subst (λ (l : List Operation). All (λ op. least ≤ op.start) (drop count l)) (c.deref-2.ensures.value ∙ sym c.deref-3.ensures.value)
+    (subst (All (λ (op : Operation). least ≤ op.start)) (rest_is count c.deref-2.result.now) c.least_start-least.ensures.each)) in
+    let later : s.horizon < c.args.horizon = subst (λ v. v.horizon < c.args.horizon) (sym c.self.view_is) c.requires.later in
     subst (λ (l : List Operation). IsJudge (record { before = c.in-Some-2.before; left = c.in_ok-last.last.items; shown = s.shown; kept = l; since = c.args.horizon; horizon = c.args.horizon; latest = s.latest; is_stopped = s.is_stopped })) (sym kept)
-    (judge_fewer r count c.least_start-least.result c.args.horizon c.in-Some.after c.in-Some-2.before c.in_ok-last.last.items c.self.invariant later on)
+    (judge_fewer r count least c.args.horizon c.in-Some.after c.in-Some-2.before c.in_ok-last.last.items c.self.invariant later on)
 
 pub returns-clause-keeps : goal.returns-clause-keeps
-returns-clause-keeps g c words told now is keeps =
+returns-clause-keeps g c words told now past keeps =
     let s = c.self.inside in
     let r : JudgeValue = record { before = s.before; left = s.left.items; shown = s.shown; kept = s.kept.items; since = s.since; horizon = s.horizon; latest = s.latest; is_stopped = s.is_stopped } in
-    let k : Keeps words told now r = subst (Keeps words told now) (sym c.self.view_is) keeps in
-    let later : IsNextHorizon words told now r c.args.horizon = subst (λ v. IsNextHorizon words told now v c.args.horizon) (sym c.self.view_is) is in
     let count = c.ended_before-count.result in
-    let same : c.args.ops.now ≡ s.kept.items = c.requires.kept ∙ ap (λ v. v.kept) (sym c.self.view_is) in
+    let least = c.least_start-least.result in
     let kept : c.in_ok-kept.kept.items ≡ drop count s.kept.items =
-    c.in_ok-kept.ensures.items ∙ (rest_is count c.deref.result.now ∙ ap (drop count) c.deref.ensures.value) in
-    let on = from_callees r c.args.ops.now count c.least_start-least.result c.args.horizon _ _ c.in-Some.after c.in-Some-2.before same c.in-Some.is c.in-Some-2.is
+    c.in_ok-kept.ensures.items ∙ (rest_is count c.deref-4.result.now ∙ ap (drop count) c.deref-4.ensures.value) in
+    let on = from_callees r c.deref-3.result.now count least c.args.horizon _ _ c.in-Some.after c.in-Some-2.before c.deref-3.ensures.value c.in-Some.is c.in-Some-2.is
     c.in_ok-after.ensures.follows c.in_ok-after.ensures.next c.in_ok-after.ensures.horizon c.in_ok-after.ensures.latest
     c.in_ok-before.ensures.follows c.in_ok-before.ensures.horizon c.in_ok-before.ensures.latest c.least_start-least.ensures.time
-    (subst (All (λ (op : Operation). c.least_start-least.result ≤ op.start)) (rest_is count c.args.ops.now) c.least_start-least.ensures.each) in
-    let judge = judge_fewer r count c.least_start-least.result c.args.horizon c.in-Some.after c.in-Some-2.before c.in_ok-last.last.items c.self.invariant later.later on in
+    (subst (λ (l : List Operation). All (λ op. least ≤ op.start) (drop count l)) (c.deref-2.ensures.value ∙ sym c.deref-3.ensures.value)
+    (subst (All (λ (op : Operation). least ≤ op.start)) (rest_is count c.deref-2.result.now) c.least_start-least.ensures.each)) in
+    let k : Keeps words told now r = subst (Keeps words told now) (sym c.self.view_is) keeps in
+    let next : IsNextHorizon words told now c.args.self.now c.args.horizon =
+    subst (λ (f : Found). IfOrder f (λ order. (ws : List ℕ) (ops : List Operation) (n : ℕ) → c.args.horizon ≤ n + 1 → Keeps ws ops n c.args.self.now → IsNextHorizon ws ops n c.args.self.now c.args.horizon)) c.in-Order.is
+    c.in_ok-order_before.ensures.order words told now past keeps in
+    let later : IsNextHorizon words told now r c.args.horizon = subst (λ v. IsNextHorizon words told now v c.args.horizon) (sym c.self.view_is) next in
+    let judge = judge_fewer r count least c.args.horizon c.in-Some.after c.in-Some-2.before c.in_ok-last.last.items c.self.invariant later.later on in
     let left : c.in_ok-last.last.items ≡ last_of s.shown (s.left.items ++ take count s.kept.items) =
-    c.in_ok-last.ensures ∙ ap₂ (λ (a b : List Operation). last_of s.shown (a ++ take count b)) c.deref-2.ensures.value c.deref-3.ensures.value in
+    c.in_ok-last.ensures ∙ ap₂ (λ (a b : List Operation). last_of s.shown (a ++ take count b)) c.deref-5.ensures.value c.deref-6.ensures.value in
     subst (λ (l : List Operation). Keeps words told now (record { before = c.in-Some-2.before; left = c.in_ok-last.last.items; shown = s.shown; kept = l; since = c.args.horizon; horizon = c.args.horizon; latest = s.latest; is_stopped = s.is_stopped })) (sym kept)
     (keeps_fewer words told now r k c.args.horizon count c.in-Some-2.before c.in_ok-last.last.items left later
-    (subst (λ (l : List Operation). All (λ op. op.end < c.args.horizon) (take count l)) same c.ended_before-count.ensures.before)
-    (subst (λ (l : List Operation). count < length l → c.args.horizon ≤ (at l count).end) same c.ended_before-count.ensures.first)
+    (subst (λ (l : List Operation). All (λ op. op.end < c.args.horizon) (take count l)) c.deref.ensures.value c.ended_before-count.ensures.before)
+    (subst (λ (l : List Operation). count < length l → c.args.horizon ≤ (at l count).end) c.deref.ensures.value c.ended_before-count.ensures.first)
     (on.follows words k.earlier k.follows) judge.next)

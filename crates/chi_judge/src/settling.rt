@@ -1,0 +1,195 @@
+//! A look at what can be explained, while operations are told.
+
+ghost use Rattle.std.specs.Prelude.{◌≡◌, ℕ, ◌+◌, ◌≤◌, ◌<◌, ◌⊎◌, false, List, IfOk};
+ghost use Rattle.chi_trace.specs.declared.operation.Operation.{Operation};
+ghost use Rattle.chi_search.specs.Looks.{LookedSome};
+ghost use Rattle.chi_judge.specs.Judges.{Keeps};
+
+use crate::ahead::ahead_of;
+use crate::judge::{FEW, Judge};
+use chi_search::{Found, Progress};
+use std::alloc::{AllocError, Global};
+
+/// From how many operations more on it looks again, where an order goes on from the last one.
+const MORE: usize = 64;
+
+/// From which part of those that are kept on, where none does and that is more.
+const PART: usize = 8;
+
+/// How many states may be looked at from where an order stands, where few operations are kept.
+const FEW_STATES: u64 = 4096;
+
+/// How many for each operation, where many are.
+const FEW_STATES_EACH: u64 = 8;
+
+/// How many states may be looked at from where an order stands, where so many operations are kept.
+fn few_states_for(kept: usize) -> u64 {
+    (kept as u64)
+        .saturating_mul(FEW_STATES_EACH)
+        .max(FEW_STATES)
+}
+
+impl Judge {
+    // Lets the order that goes on know of all that is kept.
+    fn show_ahead(&mut self) -> Result<(), AllocError>
+        ensures same { IfOk result (λ _. self.new ≡ self.old) }
+    {
+        if let Some(ahead) = &mut self.ahead {
+            ahead.see(&self.kept)?;
+        }
+        Ok(())
+    }
+
+    // Whether an order of what had happened before the horizon is soon found from where the last one stands.
+    fn goes_ahead<P: Progress>(
+        &mut self,
+        alloc: Global,
+        horizon: u64,
+        progress: &mut P,
+    ) -> Result<bool, AllocError>
+        requires some { 0 < horizon }
+        ensures same { IfOk result (λ _. self.new ≡ self.old) }
+        ensures looked { IfOk result (λ _. LookedSome P.looked progress.old progress.new) }
+    {
+        let budget = few_states_for(self.kept.len());
+        match &mut self.ahead {
+            Some(ahead) => ahead.goes_on(alloc, horizon - 1, budget, progress),
+            None => Ok(false),
+        }
+    }
+
+    // Once fewer are kept: the order that goes on is left out where one can begin anew, since the search before the others keeps
+    // none; where it is far behind it follows, or is left out.
+    fn follow<P: Progress>(
+        &mut self,
+        alloc: Global,
+        horizon: u64,
+        progress: &mut P,
+    ) -> Result<(), AllocError>
+        requires some { 0 < horizon }
+        ensures same { IfOk result (λ _. self.new ≡ self.old) }
+        ensures looked { IfOk result (λ _. LookedSome P.looked progress.old progress.new) }
+    {
+        if self.before.kept() == 0 {
+            self.ahead = None;
+        }
+        let kept = self.kept.len();
+        let is_behind = match &mut self.ahead {
+            Some(ahead) => ahead.knows(kept),
+            None => false,
+        };
+        if is_behind && !self.goes_ahead(alloc, horizon, progress)? {
+            self.ahead = None;
+        }
+        Ok(())
+    }
+
+    /// Looks whether what had happened before the horizon can be explained, and answers whether that was seen. Where it cannot be,
+    /// no more are kept.
+    fn look<P: Progress>(
+        &mut self,
+        alloc: Global,
+        horizon: u64,
+        progress: &mut P,
+    ) -> Result<bool, AllocError>
+        requires goes_on { self.now.is_stopped ≡ false }
+        requires later { self.now.horizon < horizon }
+        ensures keeps { IfOk result (λ _. (words : List ℕ) (told : List Operation) (now : ℕ) → Keeps words told now self.old → Keeps words told now self.new) }
+        ensures horizon { IfOk result (λ _. (self.new.horizon ≡ horizon) ⊎ (self.new.horizon ≡ self.old.horizon)) }
+        ensures latest { IfOk result (λ _. self.new.latest ≡ self.old.latest) }
+        ensures shown { IfOk result (λ _. self.new.shown ≡ self.old.shown) }
+        ensures looked { IfOk result (λ _. LookedSome P.looked progress.old progress.new) }
+    {
+        if self.goes_ahead(alloc, horizon, progress)? {
+            return Ok(true);
+        }
+        match self.order_before(alloc, horizon, progress)? {
+            Found::Order(order) => {
+                self.ahead = ahead_of(alloc, &self.before, &self.kept, &order, horizon - 1)?;
+                Ok(true)
+            }
+            Found::Nothing => {
+                self.horizon = horizon;
+                self.is_stopped = true;
+                Ok(true)
+            }
+            Found::Undecided => Ok(false),
+        }
+    }
+
+    /// Looks at what had happened before the horizon, and where it tries to and can it keeps fewer. Answers whether it was seen that
+    /// this can be explained, or cannot.
+    fn move_on<P: Progress>(
+        &mut self,
+        alloc: Global,
+        horizon: u64,
+        tries: bool,
+        progress: &mut P,
+    ) -> Result<bool, AllocError>
+        requires goes_on { self.now.is_stopped ≡ false }
+        requires later { self.now.horizon < horizon }
+        ensures keeps { IfOk result (λ _. (words : List ℕ) (told : List Operation) (now : ℕ) → horizon ≤ now + 1 → Keeps words told now self.old → Keeps words told now self.new) }
+        ensures horizon { IfOk result (λ _. (self.new.horizon ≡ horizon) ⊎ (self.new.horizon ≡ self.old.horizon)) }
+        ensures latest { IfOk result (λ _. self.new.latest ≡ self.old.latest) }
+        ensures shown { IfOk result (λ _. self.new.shown ≡ self.old.shown) }
+        ensures looked { IfOk result (λ _. LookedSome P.looked progress.old progress.new) }
+    {
+        if !tries {
+            return self.look(alloc, horizon, progress);
+        }
+        if self.forget(alloc, horizon, progress)? {
+            self.follow(alloc, horizon, progress)?;
+            return Ok(true);
+        }
+        self.look(alloc, horizon, progress)
+    }
+
+    // When it looks again, and tries again to keep fewer.
+    fn plan(&mut self, tries: bool, is_seen: bool)
+        ensures same { self.new ≡ self.old }
+    {
+        let kept = self.kept.len();
+        if tries {
+            self.limit = kept.saturating_mul(2).max(FEW);
+        }
+        let more = match &self.ahead {
+            Some(_) => MORE,
+            None => MORE.max(kept / PART),
+        };
+        self.next_look = if is_seen {
+            kept.saturating_add(more).min(self.limit)
+        } else {
+            kept.saturating_add(kept / 2)
+        };
+    }
+
+    /// Looks whether what was told can be explained up to the time before the horizon, where enough more is kept than when it last
+    /// looked: no operation that is told later starts before the horizon. Where twice as many are kept as were left, it keeps
+    /// fewer, if it can.
+    ///
+    /// ```
+    /// judge.settle(alloc, earliest_open_start, &mut NoProgress)?;
+    /// ```
+    pub fn settle<P: Progress>(
+        &mut self,
+        alloc: Global,
+        horizon: u64,
+        progress: &mut P,
+    ) -> Result<(), AllocError>
+        ensures keeps { IfOk result (λ _. (words : List ℕ) (told : List Operation) (now : ℕ) → horizon ≤ now + 1 → Keeps words told now self.old → Keeps words told now self.new) }
+        ensures horizon { IfOk result (λ _. (self.new.horizon ≤ horizon) ⊎ (self.new.horizon ≡ self.old.horizon)) }
+        ensures latest { IfOk result (λ _. self.new.latest ≡ self.old.latest) }
+        ensures shown { IfOk result (λ _. self.new.shown ≡ self.old.shown) }
+        ensures looked { IfOk result (λ _. LookedSome P.looked progress.old progress.new) }
+    {
+        let kept = self.kept.len();
+        if self.is_stopped || kept < self.next_look || horizon <= self.horizon {
+            return Ok(());
+        }
+        let tries = kept >= self.limit;
+        self.show_ahead()?;
+        let is_seen = self.move_on(alloc, horizon, tries, progress)?;
+        self.plan(tries, is_seen);
+        Ok(())
+    }
+}
