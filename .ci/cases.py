@@ -12,6 +12,25 @@ BUILT, HOME = "crates/chi_check/out/chi_check", "crates/chi_home/out/chi_home"
 CHECKER = os.environ.get("CHICHECK", BUILT)
 NAME = os.path.basename(sys.argv[0])
 tried, failed = 0, 0
+# What each member of a trace, of its requests and of events has to be, as the text of a fault says it.
+WHOLE, ADDRESS = "a whole number below 2^64", "an address: a whole number below 2^64, of a word a multiple of 8 below 2^52"
+WANTED = {
+    **dict.fromkeys(["base", "start", "end", "time", "id"], WHOLE),
+    **dict.fromkeys(["granules", "src", "txn", "be"], "a whole number up to 65535"),
+    **dict.fromkeys(["refused", "reason"], "the name of a refusal"),
+    "addr": ADDRESS,
+    "op": "a whole number up to 255",
+    "size": "a whole number up to 7",
+    "endian": "0 or 1",
+    "lanes": "32 hex digits",
+    "bytes": "16 hex digits",
+    "image": "the words of granules",
+    "final": "the words of granules, or of a word true or false",
+    "requests": "a list",
+    "reply": "comp, 32 hex digits or null",
+    "event": "the name of an event",
+    "length": "a whole number from 1 to 4096, of bytes below 2^52",
+}
 
 
 def told(case, holds):
@@ -34,6 +53,11 @@ def wants(case, words, text, status, out="", errors=""):
     """Tries chicheck on a trace: its status, its output and its errors."""
     found, wanted = run(CHECKER, words, text), (status, out.encode(), errors.encode())
     told(f"{case}: {found} in place of {wanted}", found == wanted)
+
+
+def is_not(name):
+    """What is said of a member that is not what it has to be."""
+    return f"member {name} is not {WANTED[name]}"
 
 
 def refused(case, text, fault):

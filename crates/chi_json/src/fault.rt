@@ -28,7 +28,7 @@ pub enum ObjectFault<M> {
     NotObject,
     #[error("member {} is missing", .0.name())]
     Missing(M),
-    #[error("member {} is not as stated", .0.name())]
+    #[error("member {} is not {}", .0.name(), .0.wanted())]
     BadMember(M),
     #[error("has an unknown member {0}")]
     UnknownMember(MemberName),

@@ -24,6 +24,15 @@ pub trait Named: Copy {
     /// ```
     fn name(self) -> &'static str
         ensures { result.now ≡ name_of self };
+
+    /// What the member has to be, after "is not" in the text of a fault.
+    ///
+    /// ```
+    /// let text = Member::Size.wanted(); // a whole number up to 7
+    /// ```
+    fn wanted(self) -> &'static str {
+        "as stated"
+    }
 }
 
 /// Why a member of an object is refused.
@@ -40,7 +49,7 @@ pub trait Named: Copy {
 pub enum MemberFault<M> {
     #[error("member {} is missing", .0.name())]
     Missing(M),
-    #[error("member {} is not as stated", .0.name())]
+    #[error("member {} is not {}", .0.name(), .0.wanted())]
     BadMember(M),
     #[error("no memory")]
     Memory,

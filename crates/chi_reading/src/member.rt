@@ -81,6 +81,32 @@ impl Named for Member {
     fn name(self) -> &'static str {
         Member::name(self)
     }
+
+    fn wanted(self) -> &'static str {
+        match self {
+            Member::Base | Member::Start | Member::End | Member::Time | Member::Id => {
+                "a whole number below 2^64"
+            }
+            Member::Addr => {
+                "an address: a whole number below 2^64, of a word a multiple of 8 below 2^52"
+            }
+            Member::Granules | Member::Src | Member::Txn | Member::Be => {
+                "a whole number up to 65535"
+            }
+            Member::Opcode => "a whole number up to 255",
+            Member::Size => "a whole number up to 7",
+            Member::Endian => "0 or 1",
+            Member::Lanes => "32 hex digits",
+            Member::Bytes => "16 hex digits",
+            Member::Image => "the words of granules",
+            Member::Final => "the words of granules, or of a word true or false",
+            Member::Requests => "a list",
+            Member::Reply => "comp, 32 hex digits or null",
+            Member::Refused | Member::Reason => "the name of a refusal",
+            Member::Event => "the name of an event",
+            Member::Length => "a whole number from 1 to 4096, of bytes below 2^52",
+        }
+    }
 }
 
 /// The members of a trace.

@@ -35,7 +35,7 @@ fn faults_and_their_texts(rt: HostRuntime) -> Result<(), Fail> {
         (
             r#"{"event":"Data"}"#,
             ObjectFault::BadMember(Member::Event),
-            "member event is not as stated",
+            "member event is not the name of an event",
         ),
         (
             r#"{"event":"data"}"#,
@@ -45,7 +45,7 @@ fn faults_and_their_texts(rt: HostRuntime) -> Result<(), Fail> {
         (
             r#"{"event":"data","time":18446744073709551616}"#,
             ObjectFault::BadMember(Member::Time),
-            "member time is not as stated",
+            "member time is not a whole number below 2^64",
         ),
         (
             r#"{"event":"dropped","time":70}"#,

@@ -44,7 +44,7 @@ fn faults_of_words_anywhere(rt: HostRuntime) -> Result<(), Fail> {
         assert_same(
             &rt,
             (members, found.as_str()),
-            (members, "trace member image is not as stated"),
+            (members, "trace member image is not the words of granules"),
         );
     }
     Ok(())
@@ -59,7 +59,7 @@ fn faults_of_a_request(rt: HostRuntime) -> Result<(), Fail> {
         ),
         (
             r#", "start": 5, "end": 9, "reply": "done""#,
-            "request 0 member reply is not as stated",
+            "request 0 member reply is not comp, 32 hex digits or null",
         ),
         (
             r#", "end": 9, "reply": null"#,
@@ -67,13 +67,16 @@ fn faults_of_a_request(rt: HostRuntime) -> Result<(), Fail> {
         ),
         (
             r#", "start": 5, "end": null, "reply": null"#,
-            "request 0 member end is not as stated",
+            "request 0 member end is not a whole number below 2^64",
         ),
         (
             r#", "start": 5, "end": 4, "reply": "comp""#,
             "request 0 ends before it starts",
         ),
-        (r#", "src": 65536"#, "request 0 member src is not as stated"),
+        (
+            r#", "src": 65536"#,
+            "request 0 member src is not a whole number up to 65535",
+        ),
         (
             r#", "addr": 4503599627370496, "start": 5"#,
             "request 0 is refused: OutOfRegion",
@@ -110,7 +113,7 @@ fn reasons_of_refusals(rt: HostRuntime) -> Result<(), Fail> {
 #[test]
 fn faults_of_a_refused_request(rt: HostRuntime) -> Result<(), Fail> {
     let not_so = "request 0 is not refused so";
-    let not_as_stated = "request 0 member refused is not as stated";
+    let not_as_stated = "request 0 member refused is not the name of a refusal";
     let cases = [
         (r#", "start": 5, "refused": "Misaligned""#, not_so),
         (
@@ -253,7 +256,7 @@ fn members_that_a_trace_does_not_have(rt: HostRuntime) -> Result<(), Fail> {
         (r#""start": 5, "#, "trace has an unknown member start"),
         (
             r#""finals": [], "image": 0, "#,
-            "trace member image is not as stated",
+            "trace member image is not the words of granules",
         ),
         (r#""x-note": [], "base": 9, "#, ""),
     ];
