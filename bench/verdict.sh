@@ -7,7 +7,7 @@ set -eu
 seed=${1:-1}
 cd "$(dirname "$0")"
 ./build.sh
-./program.sh tell_verdict verdict chi_fields chi_lanes chi_history chi_trace chi_search chi_verdict
+./program.sh tell_verdict verdict chi_fields chi_lanes chi_history chi_trace chi_search chi_judge chi_verdict
 timeout -k 5 3600 out/release/judge_verdict out/tell_verdict 100000 "$seed"
 echo
 timeout -k 5 3600 out/release/times_verdict out/tell_verdict out/release/plain_verdict "${ROUNDS:-5}" "$seed"
