@@ -3,9 +3,9 @@
 
 Each history is told as events (histories.py). What has to be answered on them, with and without --keep-going, is found by
 trying every order (telling.py, orders.py): which granules are not explained, by which line, and where each stops being so.
-`chicheck explain` has to give the same verdict on the same operations, and of each such granule by itself it has to say the
-same and to show the same operations; each of these has to have the line that told its request. A history that the program
-disagrees on is shown. CHICHECK names the program."""
+`chicheck explain` has to give the same verdict on the same operations, told as a trace and as events, and of each such granule by
+itself it has to say the same and to show the same operations; each of these has to have the line that told its request. A
+history that the program disagrees on is shown. CHICHECK names the program."""
 
 import collections
 import json
@@ -161,9 +161,11 @@ def disagreements(events):
     told = Told()
     for event in events:
         told.take(event)
-    unexplained, answer = unexplained_as_a_whole(told), run("explain", json.dumps(told.trace()))
-    if not is_same_verdict(answer, unexplained) or set(unexplained) != watched.places.keys() - told.unknown:
-        found.append(("explain", answer, unexplained))
+    unexplained = unexplained_as_a_whole(told)
+    for words, text in [("explain", json.dumps(told.trace())), ("explain --events", lines_of(events))]:
+        answer = run(words, text)
+        if not is_same_verdict(answer, unexplained) or set(unexplained) != watched.places.keys() - told.unknown:
+            found.append((words, answer, unexplained))
     return found
 
 

@@ -1,10 +1,12 @@
 -- what a check does: the answer of the trace that its input is
-use Rattle.std.specs.Prelude.{◌≡◌, ◌≢◌, ℕ, ◌<◌, ◌≤◌, List, length, Option, None, Some, IfSome, Result, Ok, Err}
+use Rattle.std.specs.Prelude.{◌≡◌, ◌≢◌, ℕ, ◌<◌, ◌≤◌, Bool, true, false, List, length, Option, None, Some, IfSome, Result, Ok, Err}
 use Rattle.std.specs.Io.KnownBytes.{Appends, Keeps}
 use Rattle.chi_script.specs.WriterBytes.{AppendsFront}
 use Rattle.chi_search.specs.Looks.{LookedMore}
 use Rattle.chi_reading.specs.declared.fault.TraceFault.TheVariants as trace_fault
 use Rattle.chi_reading.specs.TraceText.{IsOf, RecordedValue, TextValue, cut_at, trace_text}
+use Rattle.chi_watch_text.specs.Outcomes.{IsLinesFault}
+use Rattle.chi_watch_text.specs.Recorded.{IsRecorded}
 use Rattle.chi_answer.specs.declared.answer.Answer.{Answer}
 use Rattle.chi_answer.specs.declared.answer.Answer.TheVariants.{Explained, Blamed, Unexplained, Undecided}
 use Rattle.chi_answer.specs.Answers.{IfUndecided, IsAnswer}
@@ -14,12 +16,26 @@ use Rattle.chi_check.specs.CheckStatus.{answer_status}
 use Rattle.chi_check.specs.Limits.{IsWithin}
 use Rattle.chi_check.specs.declared.fault.CheckFault.{CheckFault}
 use Rattle.chi_check.specs.declared.fault.CheckFault.TheVariants.{Input, File, Page, Unfinished, Write}
+use Rattle.chi_check.specs.declared.fault.SourceFault.{SourceFault}
 use Rattle.chi_check.specs.declared.fault.SourceFault.TheVariants as source_fault
 use Rattle.chi_check.specs.declared.options.CheckOptions.{CheckOptions}
 
 -- the greatest number of bytes of a trace
 abbrev pub most_bytes : ℕ
 most_bytes = 536870912
+
+-- the input has this trace: it is its text, or its lines tell the events of it
+abbrev pub HasTrace : Bool → List ℕ → RecordedValue → Type 0
+HasTrace false input r = (value : TextValue) × (trace_text input ≡ Ok value) × IsOf value r
+HasTrace true input r = IsRecorded input r
+
+-- why it has none
+abbrev pub HasNoTrace : Bool → List ℕ → SourceFault → Type 0
+HasNoTrace events input source_fault.Read = ⊥
+HasNoTrace events input source_fault.TooLong = ⊥
+HasNoTrace events input source_fault.Memory = Unit {0}
+HasNoTrace events input (source_fault.Trace fault) = (events ≡ false) × (fault ≢ trace_fault.Memory → trace_text input ≡ Err fault)
+HasNoTrace events input (source_fault.Events fault) = (events ≡ true) × IsLinesFault input fault
 
 -- what is judged of a trace: all of it, or what had happened by a time
 abbrev pub judged : Option ℕ → RecordedValue → RecordedValue
@@ -40,13 +56,11 @@ pub record IsRight (options : CheckOptions) (r : RecordedValue) (answer : Answer
   pub undecided : IfUndecided answer (λ doubt. IsWithin options doubt.states)
   pub text_is : IsWritten options r answer text
 
--- the input is a trace, this is a right answer of it, and this its text
+-- the input has a trace, this is a right answer of it, and this its text
 pub record Answers (options : CheckOptions) (input : List ℕ) (answer : Answer) (text : List ℕ) : Type 0 where
   pub within : length input ≤ most_bytes
-  pub value : TextValue
-  pub read : trace_text input ≡ Ok value
   pub recorded : RecordedValue
-  pub is : IsOf value recorded
+  pub has_trace : HasTrace options.events input recorded
   pub right : IsRight options (judged options.until recorded) answer text
 
 -- After Ok the text of a right answer of the input's trace was written, and this is its status. What each fault means,
@@ -56,8 +70,8 @@ Outcome options input old new (Ok status) = (answer : Answer) × (text : List �
 Outcome options input old new (Err (Input source_fault.Read)) = Unit {0}
 Outcome options input old new (Err (Input source_fault.TooLong)) = most_bytes < length input
 Outcome options input old new (Err (Input source_fault.Memory)) = Unit {0}
-Outcome options input old new (Err (Input (source_fault.Trace fault))) = fault ≢ trace_fault.Memory → trace_text input ≡ Err fault
-Outcome options input old new (Err (Input (source_fault.Events fault))) = ⊥
+Outcome options input old new (Err (Input (source_fault.Trace fault))) = HasNoTrace options.events input (source_fault.Trace fault)
+Outcome options input old new (Err (Input (source_fault.Events fault))) = HasNoTrace options.events input (source_fault.Events fault)
 Outcome options input old new (Err (File place fault)) = ⊥
 Outcome options input old new (Err Page) = Unit {0}
 Outcome options input old new (Err (Unfinished fault)) = ⊥

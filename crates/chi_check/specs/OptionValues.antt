@@ -26,6 +26,7 @@ IsNamed name (Cover options) = bytes_eq name (codes "cover") ≡ true
 
 -- the options of `explain` are those that were found
 pub record HasExplainOptions (found : List Row) (options : CheckOptions) : Type 0 where
+  pub events : options.events ≡ has_word found (codes "events") (codes "true")
   pub witness : options.witness ≡ has_word found (codes "witness") (codes "true")
   pub budget : IsNumberOr 1000000 (one_of (codes "budget") found) options.budget
   pub seconds : IsNumberOrNone (one_of (codes "seconds") found) options.seconds

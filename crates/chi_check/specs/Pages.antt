@@ -39,7 +39,7 @@ abbrev pub IsReported : CheckOptions → RecordedValue → ℕ → List ℕ → 
 IsReported options r status text page =
     (answer : Answer) × IsRight options r answer text × (status ≡ answer_status answer) × IsPageAsked options r answer page
 
--- the input is a trace, this a right answer of it, this its text, and this its page
+-- the input has a trace, this is a right answer of it, this its text, and this its page
 pub record HasPage (options : CheckOptions) (input : List ℕ) (answer : Answer) (text page : List ℕ) : Type 0 where
   pub answers : Answers options input answer text
   pub page_is : IsPage (judged options.until answers.recorded) (blame_in answer) page

@@ -16,11 +16,12 @@ use crate::options::CheckOptions;
 use crate::page::{blamed_page_asked, page_asked};
 use crate::pages::Pages;
 use crate::progress_line::ShownProgress;
+use crate::recorded::trace_told;
 use crate::search::{Searched, search};
 use chi_answer::{Answer, answer_text};
 use chi_excerpt::failure_text;
 use chi_json::{InputFault, read_input};
-use chi_reading::{Recorded, read_trace};
+use chi_reading::Recorded;
 use chi_script::write_bytes;
 use chi_search::Progress;
 use chi_verdict::Blame;
@@ -182,8 +183,8 @@ pub(crate) fn put_page<G: Pages>(pages: &mut G, path: Option<&str>, page: &[u8])
     }
 }
 
-/// Reads a trace, and writes whether what was observed can be explained. The answer is a status: 0 where it can, 1 where
-/// it cannot, 6 where that is undecided within the budget.
+/// Reads a trace, or events with the option for them, and writes whether what was observed can be explained. The answer is a
+/// status: 0 where it can, 1 where it cannot, 6 where that is undecided within the budget.
 ///
 /// Nothing is written unless the whole trace was read and its answer found. After a fault of the writer a prefix of the
 /// answer has been written. Where a page of the trace is asked for, it is made whole and put before the answer is written.
@@ -208,9 +209,9 @@ pub fn check<R: Read, W: Write, P: ShownProgress, G: Pages + Meter>(
     ensures page { IfOk result (λ status. IfSome (R.remaining from.old) (λ input. IsPut G.has_put options.now input (W.contents to.old) (W.contents to.new) status machine.new)) }
 {
     let input = read_bytes(alloc, from)?;
-    let recorded = match read_trace(alloc, &input) {
+    let recorded = match trace_told(alloc, &input, options.events) {
         Ok(recorded) => recorded,
-        Err(fault) => return Err(CheckFault::Input(SourceFault::Trace(fault))),
+        Err(fault) => return Err(CheckFault::Input(fault)),
     };
     let Ok(report) = reported(alloc, recorded, options, progress, machine) else {
         return Err(CheckFault::Input(SourceFault::Memory));

@@ -15,6 +15,7 @@ mod options;
 mod page;
 mod pages;
 mod progress_line;
+mod recorded;
 mod search;
 mod sources;
 mod tasks;

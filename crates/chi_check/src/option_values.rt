@@ -32,8 +32,16 @@ fn html_file<'a>(matches: &ArgMatches<'a>) -> Option<&'a str>
     text_given(matches, "html")
 }
 
+// Whether events are read in place of traces.
+fn has_events(matches: &ArgMatches<'_>) -> bool
+    ensures { result ≡ has_word (rows_of (found_of matches.now)) (codes "events") (codes "true") }
+{
+    is_switched(matches, "events")
+}
+
 /// The options that `explain` was given, or that stand in for them.
 pub(crate) fn explain_options<'a>(matches: &ArgMatches<'a>) -> CheckOptions<'a>
+    ensures events { result.events ≡ has_word (rows_of (found_of matches.now)) (codes "events") (codes "true") }
     ensures witness { result.witness ≡ has_word (rows_of (found_of matches.now)) (codes "witness") (codes "true") }
     ensures budget { IsNumberOr 1000000 (one_of (codes "budget") (rows_of (found_of matches.now))) result.budget }
     ensures seconds { IsNumberOrNone (one_of (codes "seconds") (rows_of (found_of matches.now))) result.seconds }
@@ -43,6 +51,7 @@ pub(crate) fn explain_options<'a>(matches: &ArgMatches<'a>) -> CheckOptions<'a>
     ensures html { option_map (λ s. s.now) result.html ≡ first_of (codes "html") (rows_of (found_of matches.now)) }
 {
     CheckOptions {
+        events: has_events(matches),
         witness: is_switched(matches, "witness"),
         budget: number_or(matches, "budget", BUDGET),
         seconds: number_given(matches, "seconds"),
@@ -95,7 +104,7 @@ pub(crate) fn cover_options<'a>(
 {
     Ok(CoverOptions {
         require: number_or(matches, "require", REQUIRE),
-        events: is_switched(matches, "events"),
+        events: has_events(matches),
         html: html_file(matches),
         files: files_given(alloc, matches)?,
     })

@@ -10,7 +10,12 @@ const BUDGET: NamedOption<'static> = NamedOption {
 };
 
 // The options of `explain`.
-const EXPLAIN: [NamedOption<'static>; 7] = [
+const EXPLAIN: [NamedOption<'static>; 8] = [
+    NamedOption {
+        name: "events",
+        takes: Takes::Nothing,
+        help: "Judges what events tell, a line each, and no trace",
+    },
     NamedOption {
         name: "witness",
         takes: Takes::Nothing,

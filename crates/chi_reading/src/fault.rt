@@ -60,7 +60,7 @@ pub enum TraceFault {
     TooManyRequests,
     #[error("request {place} {fault}")]
     InRequest { place: usize, fault: RequestFault },
-    #[error("input is of events, which chicheck watch reads")]
+    #[error("input is of events, which the option --events reads")]
     OfEvents,
     #[error("no memory")]
     Memory,

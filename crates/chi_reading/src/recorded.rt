@@ -1,6 +1,6 @@
 //! Traces that were read, and how one is.
 
-ghost use Rattle.std.specs.Prelude.{◌≡◌, ◌≢◌, IfErr, IfOk, Ok, Err};
+ghost use Rattle.std.specs.Prelude.{◌≡◌, ◌≢◌, [], IfErr, IfOk, None, Ok, Err};
 ghost use Rattle.serde_json.specs.View.{members_view, view};
 ghost use Rattle.chi_reading.specs.TraceText.{IsMemoryOf, IsOf, MemoryText, TextValue, cut_at, memory_text, object_text, region_memory, trace_text, wide_memory};
 
@@ -35,6 +35,23 @@ impl Model for Recorded {
 }
 
 impl Recorded {
+    /// A trace of all addresses, of which no request was refused, with these words at the end.
+    ///
+    /// ```
+    /// let recorded = Recorded::of_addresses(alloc, trace, GranuleWords::none(alloc));
+    /// ```
+    pub fn of_addresses(alloc: Global, trace: Trace, final_words: GranuleWords) -> Recorded
+        ensures { result ≡ record { region = None; trace = trace; final_words = final_words; refusals = [] } }
+    {
+        let refusals = Vec::new(alloc);
+        Recorded {
+            region: None,
+            trace,
+            final_words,
+            refusals,
+        }
+    }
+
     /// The region; `None` where the memory is all addresses below 2^52.
     ///
     /// ```

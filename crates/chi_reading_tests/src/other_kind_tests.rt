@@ -76,7 +76,7 @@ fn texts_of_their_faults(rt: HostRuntime) -> Result<(), Fail> {
 // The first line is looked at where the text is not JSON: events are, where there is one alone.
 #[test]
 fn events_as_a_trace(rt: HostRuntime) -> Result<(), Fail> {
-    let events = "input is of events, which chicheck watch reads";
+    let events = "input is of events, which the option --events reads";
     for (text, wanted) in [
         (r#"{"time":1,"event":"end"}"#, events),
         ("{\"time\":1,\"event\":\"end\"}\n", events),

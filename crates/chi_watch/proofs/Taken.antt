@@ -2,6 +2,7 @@
 use Rattle.std.specs.Prelude.{◌+◌, ◌-◌, if◌then◌else◌, length, min, option_to_list}
 use Rattle.std.proofs.Common.{◌≡◌, ℕ, ◌/◌, ◌^◌, ◌==◌, ◌<◌, ◌≤◌, Bool, true, false, List, [], ◌∷◌, ◌++◌, All, Option, Some, None, IfSome, IsTrue, is_some, inl, inr, refl, sym, ap, subst, ◌∙◌, eqb-true, eq-eqb, true≢false, arith, length-append}
 use Rattle.std.specs.List.{list_any}
+use Rattle.std.specs.Option.{option_map_or}
 use Rattle.std.proofs.lemmas.List.Elements.{All-contains, All-pop, All-weaker}
 use Rattle.chi_events.specs.declared.event.Event.{Event}
 use Rattle.chi_events.specs.declared.event.EventKind.{EventKind}
@@ -15,9 +16,9 @@ use Rattle.chi_trace.specs.declared.operation.Operation.{Operation}
 use Rattle.chi_watch.specs.declared.followed.Followed.{Followed}
 use Rattle.chi_watch.specs.declared.fault.WatchFault.TheVariants as fault
 use Rattle.chi_watch.specs.Changes.{IsClosed, IsClosedBy, IsGone, IsUpdated, OthersStay}
-use Rattle.chi_watch.specs.Judged.{covers}
+use Rattle.chi_watch.specs.Judged.{covers, is_known}
 use Rattle.chi_watch.specs.Requests.{granule_of_request}
-use Rattle.chi_watch.specs.Watches.{WatchValue, Watches, granule, granule_fault, has_final_word}
+use Rattle.chi_watch.specs.Watches.{HasTaken, IsGranuleOf, Takes, WatchValue, Watches, granule, granule_fault, has_final_word, knows}
 use Rattle.chi_watch.proofs.Closing.{closed}
 use Rattle.chi_watch.proofs.NotedKinds.{Fits, noted}
 
@@ -138,3 +139,19 @@ module _ (events : List Event) (ended : List Operation) (w : WatchValue) (e : Ev
           let before : IsTrue (is_some (granule w (granule_of_request old))) = All-contains (λ (q : Open). IsTrue (is_some (granule w (granule_of_request q)))) w.outstanding.requests old is.requested has in
           let middle : IsTrue (is_some (mid (granule_of_request old))) = same_some o.requests (granule w) mid op c (granule_of_request old) ∙ before in
           subst (λ (n : ℕ). IsTrue (is_some (granule now n))) (ap (λ a. a.addr / 8) (sym fields)) (noted_some mid (granule now) e.kind t (granule_of_request old) middle)
+
+-- a watch that took some events has taken one more
+pub taken_more : (e : Event) (ended : Option Operation) (old new : WatchValue) → Takes e ended old new → (events : List Event) → HasTaken events old → HasTaken (events ++ e ∷ []) new
+taken_more e ended old new takes events (past, is) = (past ++ option_to_list ended, takes events past is)
+
+-- what it knows of a granule is so of the events that it took
+module _ (events : List Event) (w : WatchValue) (g : ℕ) (has : HasTaken events w) where
+  known_of : (o : Option Followed) → IsGranuleOf events has.0 w.outstanding g o → option_map_or (λ (f : Followed). f.is_known) o true ≡ is_known events g
+  known_of None untold = sym untold.known
+  known_of (Some f) watched = watched.known
+
+  pub found_known : (o : Option Followed) → o ≡ granule w g → option_map_or (λ (f : Followed). f.is_known) o true ≡ is_known events g
+  found_known o here = known_of o (subst (IsGranuleOf events has.0 w.outstanding g) (sym here) (has.1.each g))
+
+  pub knows_told : knows w g ≡ is_known events g
+  knows_told = found_known (granule w g) refl

@@ -1,9 +1,9 @@
 -- what a watch knows of the events that it took
-use Rattle.std.specs.Prelude.{◌≡◌, ℕ, ◌+◌, ◌-◌, ◌/◌, ◌^◌, ◌<◌, ◌≤◌, ◌==◌, ◌⊎◌, length, min, nat_le, nat_lt, Bool, true, false, ◌&&◌, if◌then◌else◌, List, [], ◌∷◌, All, Option, Some, None, is_some, option_map, IsTrue, filter}
+use Rattle.std.specs.Prelude.{◌≡◌, ℕ, ◌+◌, ◌-◌, ◌/◌, ◌^◌, ◌<◌, ◌≤◌, ◌==◌, ◌⊎◌, length, min, nat_le, nat_lt, Bool, true, false, ◌&&◌, if◌then◌else◌, List, [], ◌∷◌, ◌++◌, All, Option, Some, None, is_some, option_map, option_to_list, IsTrue, filter}
 use Rattle.std.specs.List.{list_any}
 use Rattle.std.specs.BTreeMap.{is_at}
 use Rattle.std.specs.Map.{lookup}
-use Rattle.std.specs.Option.{option_or}
+use Rattle.std.specs.Option.{option_map_or, option_or}
 use Rattle.std.specs.Ordering.{nat_cmp}
 use Rattle.chi_events.specs.declared.event.Event.{Event}
 use Rattle.chi_events.specs.Operations.{operations}
@@ -33,6 +33,10 @@ pub record WatchValue : Type 0 where
 -- what is known of a granule
 abbrev pub granule : WatchValue → ℕ → Option Followed
 granule w g = lookup (is_at (nat_cmp g)) w.granules
+
+-- all that wrote to the granule is told, as far as is known
+abbrev pub knows : WatchValue → ℕ → Bool
+knows w g = option_map_or (λ (f : Followed). f.is_known) (granule w g) true
 
 -- A granule that is watched: where all that wrote to it is told, its judge was told its operations that had ended, from its word
 -- at the opening on.
@@ -66,6 +70,10 @@ pub record Watches (events : List Event) (ended : List Operation) (w : WatchValu
 
 abbrev pub HasTaken : List Event → WatchValue → Type 0
 HasTaken events w = (ended : List Operation) × Watches events ended w
+
+-- one event more is taken, and this operation ends by it, if one does
+abbrev pub Takes : Event → Option Operation → WatchValue → WatchValue → Type 0
+Takes e ended old new = (events : List Event) (past : List Operation) → Watches events past old → Watches (events ++ e ∷ []) (past ++ option_to_list ended) new
 
 -- All that wrote to the granule is told, and no order explains its operations, from its word at the opening to the one that was
 -- told at the end.

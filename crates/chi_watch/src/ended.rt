@@ -1,9 +1,11 @@
 //! The operation that ended by an event, if one did.
 
-ghost use Rattle.std.specs.Prelude.{IfOk};
+ghost use Rattle.std.specs.Prelude.{◌≤◌, IfOk};
 ghost use Rattle.std.specs.BTreeMap.{get};
 ghost use Rattle.std.specs.Ordering.{nat_cmp};
+ghost use Rattle.chi_trace.specs.Granules.{granule_of};
 ghost use Rattle.chi_watch.specs.Changes.{IsClosedBy};
+ghost use Rattle.chi_watch.specs.Requests.{StartsBy};
 ghost use Rattle.chi_search.specs.Looks.{LookedSome};
 
 use crate::followed::Followed;
@@ -15,12 +17,26 @@ use chi_trace::Operation;
 use std::alloc::{AllocError, Global};
 use std::collections::BTreeMap;
 
+/// The time before which no operation of the granule starts that is still to end; or 0, where it is not looked at what had
+/// happened before it.
+fn horizon_of(requests: &[Open], op: &Operation, looks: bool) -> u64
+    ensures time { result ≤ op.now.start }
+    ensures starts { StartsBy requests.now (granule_of op.now) result }
+{
+    if looks {
+        earliest(requests, op.granule(), op.start)
+    } else {
+        0
+    }
+}
+
 /// Tells the operation that ended of its granule, while these requests are outstanding.
 pub(crate) fn close_ended<P: Progress>(
     alloc: Global,
     granules: &mut BTreeMap<u64, Followed>,
     requests: &[Open],
     ended: &Option<Operation>,
+    looks: bool,
     progress: &mut P,
 ) -> Result<(), AllocError>
     ensures closed { IfOk result (λ _. IsClosedBy ended.now requests.now (get nat_cmp granules.old) (get nat_cmp granules.new)) }
@@ -29,6 +45,6 @@ pub(crate) fn close_ended<P: Progress>(
     let Some(op) = ended else {
         return Ok(());
     };
-    let horizon = earliest(requests, op.granule(), op.start);
+    let horizon = horizon_of(requests, op, looks);
     close(alloc, granules, op, horizon, progress)
 }

@@ -10,6 +10,7 @@ mod granules;
 mod judge_all;
 mod quiet;
 mod reaching;
+mod recording;
 mod update_granules;
 mod watch;
 

@@ -9,7 +9,7 @@ ghost use Rattle.chi_watch.specs.Judged.{is_known};
 ghost use Rattle.chi_search.specs.Looks.{LookedAtLeast, LookedSome};
 ghost use Rattle.chi_watch.specs.Quiet.{BecomesQuiet, CanBeExplained, granule_about};
 ghost use Rattle.chi_watch.specs.Requests.{granule_of_request};
-ghost use Rattle.chi_watch.specs.Watches.{CanBeJudged, HasTaken, IsFound, IsUnexplained, fault_of, granule as granule_of, granule_fault, has_final_word};
+ghost use Rattle.chi_watch.specs.Watches.{CanBeJudged, HasTaken, IsFound, IsUnexplained, Takes, Watches, fault_of, granule as granule_of, granule_fault, has_final_word};
 
 use crate::ended::close_ended;
 use crate::fault::WatchFault;
@@ -68,7 +68,7 @@ impl Watch {
     /// let watch = Watch::new(alloc);
     /// ```
     pub fn new(alloc: Global) -> Watch
-        ensures { HasTaken [] result }
+        ensures { Watches [] [] result }
     {
         Watch {
             outstanding: Outstanding::new(alloc),
@@ -199,14 +199,16 @@ impl Watch {
         self.is_found(alloc, granule, budget, progress)
     }
 
-    /// Takes an event, where it can come next.
-    fn step<P: Progress>(
+    /// Takes an event, where it can come next: the operation that ended by it, if one did. With `looks` it is looked at what had
+    /// happened before those that are open.
+    pub(crate) fn step<P: Progress>(
         &mut self,
         alloc: Global,
         event: &Event,
+        looks: bool,
         progress: &mut P,
-    ) -> Result<(), WatchFault>
-        ensures taken { IfOk result (λ _. (events : List Event) → HasTaken events self.old → HasTaken (events ++ event.now ∷ []) self.new) }
+    ) -> Result<Option<Operation>, WatchFault>
+        ensures taken { IfOk result (λ ended. Takes event.now ended self.old self.new) }
         ensures fits { IfOk result (λ _. fault_of self.old event.now ≡ None) }
         ensures fault { IfErr result (λ fault. fault ≢ WatchFault.Memory → fault_of self.old event.now ≡ Some fault) }
         ensures looked { IfOk result (λ _. LookedSome P.looked progress.old progress.new) }
@@ -218,11 +220,12 @@ impl Watch {
             &mut self.granules,
             self.outstanding.requests(),
             &ended,
+            looks,
             progress,
         )?;
         update_granules(alloc, &mut self.granules, &event.kind)?;
         self.ended = one_more(self.ended, &ended);
-        Ok(())
+        Ok(ended)
     }
 
     /// Takes an event, where it can come next, and answers the granule, where by this event it was seen that no order explains
@@ -250,7 +253,7 @@ impl Watch {
         ensures looked { IfOk result (λ _. LookedSome P.looked progress.old progress.new) }
     {
         let about = self.granule_about(event);
-        self.step(alloc, event, progress)?;
+        self.step(alloc, event, true, progress)?;
         let Some(granule) = about else {
             return Ok(None);
         };

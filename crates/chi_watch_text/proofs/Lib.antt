@@ -1,2 +1,5 @@
 pub mod AllRead
+pub mod KnownWords
+pub mod Recordings
+pub mod Refused
 pub mod Told

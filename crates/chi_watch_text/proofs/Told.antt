@@ -19,13 +19,12 @@ use Rattle.chi_watch.specs.Reaching.{IsFoundAtEnd}
 use Rattle.chi_watch.specs.Watches.{HasTaken, IsUnexplained, WatchValue}
 use Rattle.chi_watch_text.specs.FoundGranule.{is_found, with_quiet}
 use Rattle.chi_watch_text.specs.Lines.{AreEvents, AreLines, AreTold}
-use Rattle.chi_watch_text.specs.declared.fault.LinesFault.{LinesFault}
-use Rattle.chi_watch_text.specs.declared.fault.LinesFault.TheVariants as fault
 use Rattle.chi_watch_text.specs.declared.quiet.Quiet.{Quiet}
 use Rattle.chi_watch_text.specs.declared.watched.FoundGranule.{FoundGranule}
 use Rattle.chi_watch_text.specs.declared.watched.Watched.{Watched}
-use Rattle.chi_watch_text.specs.Outcomes.{AreTaken, AreUnreached, EndsAt, HasTakenLines, IsEventFault, IsFoundBy, IsLinesFault, IsPast, IsQuietBy, IsSeenBy, IsSettled, IsStillFound, IsTold, IsUnreached, IsWatched, ReachedBy, SaysAtEnd, SaysOf, TakesEvent, WentBy}
-use Rattle.chi_watch_text.specs.Reading.{IsRead, IsRefused}
+use Rattle.chi_watch_text.specs.Outcomes.{AreTaken, AreUnreached, EndsAt, HasTakenLines, IsFoundBy, IsPast, IsQuietBy, IsSeenBy, IsSettled, IsStillFound, IsTold, IsUnreached, IsWatched, ReachedBy, SaysAtEnd, SaysOf, TakesEvent, WentBy}
+use Rattle.chi_watch_text.specs.Reading.{IsRead}
+use Rattle.chi_watch_text.proofs.Refused.{TookLines}
 
 lines_more : (text : List ℕ) (lines : List (List ℕ)) (rest : List ℕ) → AreLines text lines rest → 0 < length rest → AreLines text (lines ++ take_through 10 rest ∷ []) (drop_through 10 rest)
 unfolding AreLines
@@ -315,29 +314,6 @@ at_stop (Some text) (Some rest) later count number time ended found quiet going 
   ended_is = told.ended_is ∙ has.ended_is;
 }
 
--- what is said of the text where a line tells no event
-pub where_refused : (start now : Option (List ℕ)) (count number time : ℕ) (ended : Bool) (found : List FoundGranule) (quiet : List Quiet) (w : WatchValue) (f : LinesFault) → HasTakenLines start count time ended found quiet w now
-    → number ≡ count + 1 → IfSome now (λ text. IsRefused (take_through 10 text) number f) → IfSome start (λ text. IsLinesFault text f)
-where_refused None now count number time ended found quiet w f has here is = tt
-where_refused (Some text) None count number time ended found quiet w f has here is = absurd has
-where_refused (Some text) (Some rest) count number time ended found quiet w fault.Read has here is = tt
-where_refused (Some text) (Some rest) count number time ended found quiet w (fault.Line n f) has here (same, refused) = (has.events, count, rest, has.told, sym (same ∙ here), subst (λ n. event_text n (take_through 10 rest) ≡ Err f) (sym same) refused)
-where_refused (Some text) (Some rest) count number time ended found quiet w (fault.Event n f) has here is = absurd is
-where_refused (Some text) (Some rest) count number time ended found quiet w fault.TooManyLines has here is = absurd is
-where_refused (Some text) (Some rest) count number time ended found quiet w fault.Memory has here is = tt
-
--- or one whose event is not taken
-pub where_not_taken : (start now later : Option (List ℕ)) (count number time : ℕ) (ended : Bool) (found : List FoundGranule) (quiet : List Quiet) (w : WatchValue) (e : Event) (f : LinesFault)
-    → HasTakenLines start count time ended found quiet w now → number ≡ count + 1 → IfSome now (λ text. IsRead number text (Some e) later) → IsEventFault w e number f → IfSome start (λ text. IsLinesFault text f)
-where_not_taken None now later count number time ended found quiet w e f has here read is = tt
-where_not_taken (Some text) None later count number time ended found quiet w e f has here read is = absurd has
-where_not_taken (Some text) (Some rest) later count number time ended found quiet w e fault.Read has here read is = absurd is
-where_not_taken (Some text) (Some rest) later count number time ended found quiet w e (fault.Line n f) has here read is = absurd is
-where_not_taken (Some text) (Some rest) later count number time ended found quiet w e (fault.Event n f) has here read (same, refused) =
-    (has.events, count, rest, has.told, sym (same ∙ here), (e, subst (λ n. event_text n (take_through 10 rest) ≡ Ok e) (sym same) read.1, (w, has.taken, refused)))
-where_not_taken (Some text) (Some rest) later count number time ended found quiet w e fault.TooManyLines has here read is = absurd is
-where_not_taken (Some text) (Some rest) later count number time ended found quiet w e fault.Memory has here read is = tt
-
 -- and what was found by then
 pub kept_at_fault : {A E : Type 0} (start : Option (List ℕ)) (P : List ℕ → Type 0) (r : Result A E) → IfSome start P → IfSome start (λ text. IfErr r (λ _. P text))
 kept_at_fault None P r is = tt
@@ -376,3 +352,9 @@ unreached_at_end looked old middle new budget w some events has None all = tt
 unreached_at_end looked old middle new budget w some events has (Some ending) all =
     All-weaker (λ f. (told : List Event) → HasTaken told w → IsUnreached looked middle new budget f.reach) (λ f. IsUnreached looked old new budget f.reach)
     (λ f is. undecided_weaker f.reach (λ whole. at_least_after looked old middle new budget some whole) (is events has)) ending.unexplained.items all
+
+-- the events of those lines were taken
+pub took : (start now : Option (List ℕ)) (count time : ℕ) (ended : Bool) (found : List FoundGranule) (quiet : List Quiet) (w : WatchValue) → HasTakenLines start count time ended found quiet w now → TookLines start count w now
+took None now count time ended found quiet w has = tt
+took (Some text) None count time ended found quiet w has = absurd has
+took (Some text) (Some rest) count time ended found quiet w has = (has.events, has.told, has.taken)

@@ -3,6 +3,7 @@ pub mod Lines
 pub mod Operations
 pub mod Outcomes
 pub mod ReachTexts
+pub mod Recorded
 pub mod Reading
 pub mod Required
 pub mod Texts

@@ -45,7 +45,7 @@ fn take_event(
 }
 
 /// Adds an item, where there is one.
-fn add_some<T: Drop>(items: &mut Vec<T>, item: Option<T>) -> Result<(), AllocError>
+pub(crate) fn add_some<T: Drop>(items: &mut Vec<T>, item: Option<T>) -> Result<(), AllocError>
     ensures { OnOk result (items.new.items ≡ items.old.items ++ option_to_list item) }
 {
     if let Some(item) = item {
@@ -65,7 +65,7 @@ fn add_open(ops: &mut Vec<Operation>, requests: &[Open]) -> Result<(), AllocErro
 }
 
 /// The operations that had ended and those that are still open, in the order of their starts.
-fn in_order(
+pub(crate) fn in_order(
     mut ops: Vec<Operation>,
     outstanding: &Outstanding,
 ) -> Result<Vec<Operation>, AllocError>

@@ -8,6 +8,7 @@ mod operation_tests;
 mod progress_tests;
 mod reach_text_tests;
 mod reader_tests;
+mod recorded_tests;
 mod required_tests;
 mod text_tests;
 mod verdict_tests;

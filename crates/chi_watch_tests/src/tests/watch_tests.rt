@@ -5,7 +5,7 @@ use crate::tests::home::{
     GRANULE, add, answer, assert_found, data, done, dropped, error, read, read_next, take,
     take_all, word, write, write_without_data,
 };
-use chi_events::EventKind;
+use chi_events::{Event, EventKind};
 use chi_watch::{Watch, WatchFault};
 use std::alloc::Global;
 use std::test::Fail;
@@ -210,5 +210,20 @@ fn a_granule_that_is_never_quiet(rt: HostRuntime) -> Result<(), Fail> {
         let found = never_quiet(rt.alloc(), last)?;
         assert_same(&rt, (last, found), (last, (false, granule_if(is_found))));
     }
+    Ok(())
+}
+
+// What is recorded is not judged, and the operation that ended is answered.
+#[test]
+fn events_that_are_recorded(rt: HostRuntime) -> Result<(), Fail> {
+    let mut watch = Watch::new(rt.alloc());
+    let kinds = [write(1, 5), done(1), read(2), answer(2, 0)];
+    for (kind, is_end) in kinds.into_iter().zip([false, true, false, true]) {
+        let event = Event { time: 1, kind };
+        let ended = watch.record(rt.alloc(), &event)?;
+        assert_same(&rt, ended.is_some(), is_end);
+    }
+    assert_same(&rt, watch.counts().ended, 2);
+    assert_same(&rt, watch.is_known(GRANULE), true);
     Ok(())
 }

@@ -10,14 +10,15 @@ use Rattle.chi_watch_text.specs.Reading.{IsRead}
 use Rattle.chi_watch_text.specs.declared.fault.LinesFault.{LinesFault}
 use Rattle.chi_watch_text.specs.declared.watched.FoundGranule.{FoundGranule}
 use Rattle.chi_watch_text.specs.declared.watched.Watched.{Watched}
-use Rattle.chi_watch_text.proofs.Told.{at_end, at_stop, event_taken, found_so_far, kept_at_fault, none_found, none_taken, passed_on, reached_by_found, settled, undecided_after, unreached_all, unreached_at_end, where_not_taken, where_refused}
+use Rattle.chi_watch_text.proofs.Told.{at_end, at_stop, event_taken, found_so_far, kept_at_fault, none_found, none_taken, passed_on, reached_by_found, settled, took, undecided_after, unreached_all, unreached_at_end}
+use Rattle.chi_watch_text.proofs.Refused.{where_not_taken, where_refused}
 use Rattle.chi_watch_text.proofs.watching.watch_each.Goals as goal
 
 pub loop-number-init : goal.loop-number-init
 loop-number-init g c = record {
-  taken = none_taken (g.R.Read.remaining c.args.from.now) c.new-watch.result c.args.found.now.items c.new-quiet.result.items c.new-watch.ensures c.requires c.new-quiet.ensures.items;
+  taken = none_taken (g.R.Read.remaining c.args.from.now) c.new-watch.result c.args.found.now.items c.new-quiet.result.items ([], c.new-watch.ensures) c.requires c.new-quiet.ensures.items;
   once = λ i j d before below. absurd (let none = ap length c.requires in omega (arith, before, below, none));
-  told = ([], c.new-watch.ensures);
+  told = ([], ([], c.new-watch.ensures));
   unreached = subst (All (λ (f : FoundGranule). IsUnreached g.P.Progress.looked c.args.progress.now c.args.progress.now c.args.options.now.budget f.reach)) (sym c.requires)
       (All-nil (λ (f : FoundGranule). IsUnreached g.P.Progress.looked c.args.progress.now c.args.progress.now c.args.options.now.budget f.reach));
   first = λ stop. c.requires;
@@ -27,8 +28,9 @@ loop-number-init g c = record {
 pub returns-in_err-next-clause-fault : goal.returns-in_err-next-clause-fault
 returns-in_err-next-clause-fault g c =
     passed_on c.from_residual.result c.in_err-next.field-0.0 (λ (r : Result Watched LinesFault). IfSome (g.R.Read.remaining c.args.from.now) (λ text. IfErr r (IsLinesFault text))) c.from_residual.ensures.1
-    (where_refused (g.R.Read.remaining c.args.from.now) (g.R.Read.remaining c.loop-number.from) (c.loop-number.number - 1) c.loop-number.number c.loop-number.time c.loop-number.is_ended c.loop-number.found.items c.loop-number.quiet.items
-    c.loop-number.watch c.in_err-next.field-0.0 c.loop-number.invariant.taken (omega arith) c.in_err-next.ensures.fault)
+    (where_refused (g.R.Read.remaining c.args.from.now) (g.R.Read.remaining c.loop-number.from) (c.loop-number.number - 1) c.loop-number.number c.loop-number.watch c.in_err-next.field-0.0
+    (took (g.R.Read.remaining c.args.from.now) (g.R.Read.remaining c.loop-number.from) (c.loop-number.number - 1) c.loop-number.time c.loop-number.is_ended c.loop-number.found.items c.loop-number.quiet.items c.loop-number.watch c.loop-number.invariant.taken)
+    (omega arith) c.in_err-next.ensures.fault)
 
 pub loop-number-preserved : goal.loop-number-preserved
 loop-number-preserved g c =
@@ -122,8 +124,9 @@ returns-in_err-seen-clause-fault g c =
     c.in_ok-judge_quiet.ensures.waits c.in_ok-judge_quiet.ensures.cleared c.in_ok-judge_quiet.ensures.each in
     let read = subst (λ (o : Option Event). IfSome (g.R.Read.remaining c.loop-number.from) (λ text. IsRead c.loop-number.number text o (g.R.Read.remaining c.next_event.new.from))) c.in-Some.is c.in_ok-next.ensures.told in
     passed_on c.from_residual-in_err-seen.result c.in_err-seen.field-0.0 (λ (r : Result Watched LinesFault). IfSome (g.R.Read.remaining c.args.from.now) (λ text. IfErr r (IsLinesFault text))) c.from_residual-in_err-seen.ensures.1
-    (where_not_taken (g.R.Read.remaining c.args.from.now) (g.R.Read.remaining c.loop-number.from) (g.R.Read.remaining c.next_event.new.from) (c.loop-number.number - 1) c.loop-number.number c.loop-number.time c.loop-number.is_ended c.judge_quiet.new.found.items c.judge_quiet.new.quiet.items
-    c.loop-number.watch c.in-Some.event c.in_err-seen.field-0.0 settled_now (omega arith) read c.in_err-seen.ensures.fault)
+    (where_not_taken (g.R.Read.remaining c.args.from.now) (g.R.Read.remaining c.loop-number.from) (g.R.Read.remaining c.next_event.new.from) (c.loop-number.number - 1) c.loop-number.number c.loop-number.watch c.in-Some.event c.in_err-seen.field-0.0
+    (took (g.R.Read.remaining c.args.from.now) (g.R.Read.remaining c.loop-number.from) (c.loop-number.number - 1) c.loop-number.time c.loop-number.is_ended c.judge_quiet.new.found.items c.judge_quiet.new.quiet.items c.loop-number.watch settled_now)
+    (omega arith) read c.in_err-seen.ensures.fault)
 
 pub returns-in_err-judge_quiet-clause-found : goal.returns-in_err-judge_quiet-clause-found
 returns-in_err-judge_quiet-clause-found g c =

@@ -6,11 +6,21 @@ use Rattle.chi_search.specs.Looks.{LookedAtLeast}
 use Rattle.chi_watch.specs.Quiet.{CanBeExplained, granule_about}
 use Rattle.chi_watch.specs.Requests.{granule_of_request}
 use Rattle.chi_search.proofs.Looking.{at_least_after, some_after}
+use Rattle.chi_watch.proofs.Taken.{taken_more}
 use Rattle.chi_watch.proofs.watch.Watch.take.Goals as goal
+
+pub returns-in_default-clause-taken : goal.returns-in_default-clause-taken
+returns-in_default-clause-taken g c = taken_more c.args.event.now c.in_ok-step.field-0 c.args.self.now c.step.new.self c.in_ok-step.ensures.taken
+
+pub returns-then-branch-clause-taken : goal.returns-then-branch-clause-taken
+returns-then-branch-clause-taken g c = taken_more c.args.event.now c.in_ok-step.field-0 c.args.self.now c.step.new.self c.in_ok-step.ensures.taken
+
+pub returns-else-branch-clause-taken : goal.returns-else-branch-clause-taken
+returns-else-branch-clause-taken g c = taken_more c.args.event.now c.in_ok-step.field-0 c.args.self.now c.step.new.self c.in_ok-step.ensures.taken
 
 pub returns-then-branch-clause-unexplained : goal.returns-then-branch-clause-unexplained
 returns-then-branch-clause-unexplained g c events has =
-    c.in_ok-is_unexplained.ensures.found c.if-branch.true (events ++ c.args.event.now ∷ []) (c.in_ok-step.ensures.taken events has)
+    c.in_ok-is_unexplained.ensures.found c.if-branch.true (events ++ c.args.event.now ∷ []) (taken_more c.args.event.now c.in_ok-step.field-0 c.args.self.now c.step.new.self c.in_ok-step.ensures.taken events has)
 
 pub returns-then-branch-clause-about : goal.returns-then-branch-clause-about
 returns-then-branch-clause-about g c = sym c.granule_about-about.ensures ∙ c.in-Some.is
@@ -28,7 +38,7 @@ returns-else-branch-clause-judged g c none here becomes events has known =
     let same : here ≡ c.in-Some.granule = cc both in
     let quiet : list_any (λ p. granule_of_request p == c.in-Some.granule) c.step.new.self.outstanding.requests ≡ false =
     subst (λ (h : ℕ). list_any (λ p. granule_of_request p == h) c.step.new.self.outstanding.requests ≡ false) same becomes.none in
-    let said = c.in_ok-is_unexplained.ensures.judged c.if-branch.false quiet more (c.in_ok-step.ensures.taken events has) (subst (λ (h : ℕ). is_known more h ≡ true) same known) in
+    let said = c.in_ok-is_unexplained.ensures.judged c.if-branch.false quiet more (taken_more c.args.event.now c.in_ok-step.field-0 c.args.self.now c.step.new.self c.in_ok-step.ensures.taken events has) (subst (λ (h : ℕ). is_known more h ≡ true) same known) in
     subst (λ (h : ℕ). CanBeExplained more h ⊎ LookedAtLeast looked old new c.args.budget) (sym same)
     (elim said [
       | inl can ↦ inl can

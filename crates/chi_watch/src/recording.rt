@@ -1,0 +1,55 @@
+//! Events that a watch takes without judging, and what it knows of them then.
+
+ghost use Rattle.std.specs.Prelude.{◌≡◌, ◌≢◌, List, None, Some, IfErr, IfOk};
+ghost use Rattle.chi_events.specs.declared.event.Event.{Event};
+ghost use Rattle.chi_watch.specs.Judged.{is_known};
+ghost use Rattle.chi_watch.specs.Watches.{HasTaken, Takes, fault_of, knows};
+
+use crate::fault::WatchFault;
+use crate::watch::Watch;
+use chi_events::{Event, Outstanding};
+use chi_search::NoProgress;
+use chi_trace::Operation;
+use std::alloc::Global;
+
+impl Watch {
+    /// Takes an event, where it can come next, and judges nothing: the operation that ended by it, if one did. All that is told is
+    /// kept. Use `take` where a granule is to be judged as soon as it can be.
+    ///
+    /// ```
+    /// let ended = watch.record(alloc, &event)?;
+    /// ```
+    pub fn record(&mut self, alloc: Global, event: &Event) -> Result<Option<Operation>, WatchFault>
+        ensures taken { IfOk result (λ ended. Takes event.now ended self.old self.new) }
+        ensures fits { IfOk result (λ _. fault_of self.old event.now ≡ None) }
+        ensures fault { IfErr result (λ fault. fault ≢ WatchFault.Memory → fault_of self.old event.now ≡ Some fault) }
+    {
+        self.step(alloc, event, false, &mut NoProgress)
+    }
+
+    /// Whether all that wrote to a granule is told, as far as is known.
+    ///
+    /// ```
+    /// let is_judged = watch.is_known(0x1000 / 8);
+    /// ```
+    pub fn is_known(&self, granule: u64) -> bool
+        ensures known { result ≡ knows self.now granule }
+        ensures told { (events : List Event) → HasTaken events self.now → result ≡ is_known events granule }
+    {
+        match self.granules.get(&granule) {
+            Some(followed) => followed.is_known,
+            None => true,
+        }
+    }
+
+    /// The requests that are outstanding.
+    ///
+    /// ```
+    /// let count = watch.outstanding().requests().len();
+    /// ```
+    pub fn outstanding(&self) -> &Outstanding
+        ensures { result.now ≡ self.now.outstanding }
+    {
+        &self.outstanding
+    }
+}

@@ -1,0 +1,187 @@
+//! Events that are read line by line as a trace.
+
+ghost use Rattle.std.specs.Prelude.{◌≡◌, [], ◌∷◌, ◌++◌, List, None, IfErr, IfOk, IfSome, OnOk, filter, if◌then◌else◌, ℕ, option_to_list};
+ghost use Rattle.std.specs.BTreeMap.{get};
+ghost use Rattle.std.specs.Ordering.{nat_cmp};
+ghost use Rattle.chi_events.specs.declared.event.Event.{Event};
+ghost use Rattle.chi_trace.specs.declared.words.GranuleWord.{GranuleWord};
+ghost use Rattle.chi_trace.specs.Granules.{granule_of};
+ghost use Rattle.chi_trace.specs.Words.{find_word};
+ghost use Rattle.chi_watch.specs.Judged.{final_in, opening_in};
+ghost use Rattle.chi_watch.specs.Watches.{Takes, knows};
+ghost use Rattle.chi_watch_text.specs.Outcomes.{IsEventFault, IsLinesFault};
+ghost use Rattle.chi_watch_text.specs.Recorded.{HasRecorded, HasWords, IsRecorded, IsToldTrace};
+
+use crate::fault::LinesFault;
+use crate::lines::next_event;
+use crate::operations::{add_some, in_order};
+use chi_events::{Event, EventKind};
+use chi_reading::Recorded;
+use chi_trace::{GranuleWord, GranuleWords, Operation, Trace};
+use chi_watch::{Watch, WatchFault};
+use std::alloc::{AllocError, Global};
+use std::collections::BTreeMap;
+use std::io::BufRead;
+
+/// What was told so far: to a watch that judges nothing, the operations that had ended, and the words of granules at the opening
+/// and at the end.
+#[derive(Drop)]
+pub(crate) struct Recording {
+    watch: Watch,
+    ended: Vec<Operation>,
+    opening: BTreeMap<u64, u64>,
+    final_words: BTreeMap<u64, u64>,
+}
+
+/// Has the watch take the event of the line with this number: the operation that ended by it, if one did.
+fn record_event(
+    alloc: Global,
+    watch: &mut Watch,
+    event: &Event,
+    number: u64,
+) -> Result<Option<Operation>, LinesFault>
+    ensures taken { IfOk result (λ ended. Takes event.now ended watch.old watch.new) }
+    ensures fault { IfErr result (IsEventFault watch.old event.now number) }
+{
+    match watch.record(alloc, event) {
+        Ok(ended) => Ok(ended),
+        Err(WatchFault::Memory) => Err(LinesFault::Memory),
+        Err(fault) => Err(LinesFault::Event { number, fault }),
+    }
+}
+
+/// Adds the word of a granule, where none was told of it before.
+fn add_word(words: &mut BTreeMap<u64, u64>, told: &GranuleWord) -> Result<(), AllocError>
+    ensures { IfOk result (λ _. (before : List GranuleWord) → HasWords before (get nat_cmp words.old) → HasWords (before ++ told.now ∷ []) (get nat_cmp words.new)) }
+{
+    if words.contains_key(&told.granule) {
+        return Ok(());
+    }
+    words.insert(told.granule, told.word)?;
+    Ok(())
+}
+
+/// Adds the word that an event tells, if it tells one, to those at the opening or to those at the end.
+fn add_words(
+    opening: &mut BTreeMap<u64, u64>,
+    final_words: &mut BTreeMap<u64, u64>,
+    kind: &EventKind,
+) -> Result<(), AllocError>
+    ensures opening { IfOk result (λ _. (before : List GranuleWord) → HasWords before (get nat_cmp opening.old) → HasWords (before ++ option_to_list (opening_in kind.now)) (get nat_cmp opening.new)) }
+    ensures final_words { IfOk result (λ _. (before : List GranuleWord) → HasWords before (get nat_cmp final_words.old) → HasWords (before ++ option_to_list (final_in kind.now)) (get nat_cmp final_words.new)) }
+{
+    match kind {
+        EventKind::Word(told) => add_word(opening, told),
+        EventKind::Final(told) => add_word(final_words, told),
+        _ => Ok(()),
+    }
+}
+
+/// Of these operations those of the granules of which all is told.
+fn known_operations(
+    alloc: Global,
+    watch: &Watch,
+    ops: &[Operation],
+) -> Result<Vec<Operation>, AllocError>
+    ensures { IfOk result (λ known. known.items ≡ filter (λ op. knows watch.now (granule_of op)) ops.now) }
+{
+    ops.iter()
+        .copied()
+        .filter(|op| watch.is_known(op.granule()))
+        .collect(alloc)
+}
+
+/// Of these words those of the granules of which all is told.
+fn known_told(
+    alloc: Global,
+    watch: &Watch,
+    words: &[GranuleWord],
+) -> Result<Vec<GranuleWord>, AllocError>
+    ensures { IfOk result (λ known. known.items ≡ filter (λ w. knows watch.now w.granule) words.now) }
+{
+    words
+        .iter()
+        .copied()
+        .filter(|told| watch.is_known(told.granule))
+        .collect(alloc)
+}
+
+/// The same of the words of granules.
+fn known_words(
+    alloc: Global,
+    watch: &Watch,
+    words: &GranuleWords,
+) -> Result<GranuleWords, AllocError>
+    ensures { IfOk result (λ known. (g : ℕ) → find_word known g ≡ (if knows watch.now g then find_word words.now g else None)) }
+{
+    let known = known_told(alloc, watch, words.as_slice())?;
+    match GranuleWords::new(known) {
+        Some(words) => Ok(words),
+        None => unreachable!(),
+    }
+}
+
+impl Recording {
+    // Nothing was told.
+    fn new(alloc: Global) -> Recording
+        ensures { HasRecorded [] result }
+    {
+        Recording {
+            watch: Watch::new(alloc),
+            ended: Vec::new(alloc),
+            opening: BTreeMap::new(alloc),
+            final_words: BTreeMap::new(alloc),
+        }
+    }
+
+    // Records the event of the line with this number.
+    fn record(&mut self, alloc: Global, event: &Event, number: u64) -> Result<(), LinesFault>
+        ensures recorded { OnOk result ((events : List Event) → HasRecorded events self.old → HasRecorded (events ++ event.now ∷ []) self.new) }
+        ensures fault { IfErr result (IsEventFault self.old.watch event.now number) }
+    {
+        let ended = record_event(alloc, &mut self.watch, event, number)?;
+        add_some(&mut self.ended, ended)?;
+        add_words(&mut self.opening, &mut self.final_words, &event.kind)?;
+        Ok(())
+    }
+
+    // The trace that was told.
+    fn trace(self, alloc: Global) -> Result<Recorded, AllocError>
+        requires told { (events : List Event) × HasRecorded events self }
+        ensures { IfOk result (λ recorded. (events : List Event) → HasRecorded events self → IsToldTrace events recorded) }
+    {
+        let ops = in_order(self.ended, self.watch.outstanding())?;
+        let known = known_operations(alloc, &self.watch, &ops)?;
+        let opening = GranuleWords::of_map(alloc, &self.opening)?;
+        let final_words = GranuleWords::of_map(alloc, &self.final_words)?;
+        let final_words = known_words(alloc, &self.watch, &final_words)?;
+        match Trace::new(opening, known) {
+            Some(trace) => Ok(Recorded::of_addresses(alloc, trace, final_words)),
+            None => unreachable!(),
+        }
+    }
+}
+
+/// Reads events line by line as a trace: of all addresses, with the operations of the granules to which nothing that is not told may
+/// have written, each with the number of the line that told its request; the words at the opening; and those that were told of
+/// these granules at the end. Requests that were refused are left out.
+///
+/// A line is refused where `watch_lines` refuses it, and for the same reason. The last line needs no line feed.
+///
+/// ```
+/// let recorded = read_events(alloc, &mut reader)?;
+/// ```
+pub fn read_events<R: BufRead>(alloc: Global, from: &mut R) -> Result<Recorded, LinesFault>
+    ensures recorded { IfSome (R.remaining from.old) (λ text. IfOk result (IsRecorded text)) }
+    ensures fault { IfSome (R.remaining from.old) (λ text. IfErr result (IsLinesFault text)) }
+{
+    let mut recording = Recording::new(alloc);
+    let mut line = Vec::new(alloc);
+    for number in 1..u64::MAX {
+        let Some(event) = next_event(alloc, from, &mut line, number)? else {
+            return Ok(recording.trace(alloc)?);
+        };
+        recording.record(alloc, &event, number)?;
+    }
+    Err(LinesFault::TooManyLines)
+}
