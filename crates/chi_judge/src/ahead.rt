@@ -15,13 +15,15 @@ const STATES_OF_WORDS: u64 = 4096;
 /// How many operations more than those that are kept it has not passed, where it is far behind.
 const FAR: usize = 64;
 
-/// How far one order of a granule's operations has come: the word there, the operations that it has not passed, and how many of
-/// those that are kept it knows of. Nothing is promised by it: where it goes on, the next order is found soon.
+/// How far one order of a granule's operations has come: the word there, the operations that it has not passed, how many of those
+/// that are kept it knows of, and up to which time it was looked for. It stays where it was at the time of the look before, so that
+/// what was told since then fits it. Nothing is promised by it: where it goes on, the next order is found soon.
 #[derive(Drop)]
 pub(crate) struct Ahead {
     word: u64,
     left: Vec<Operation>,
     seen: usize,
+    looked: u64,
 }
 
 // The word that an operation leaves of the word that it finds, where its reply fits that.
@@ -36,16 +38,18 @@ fn left_by(op: &Operation, word: u64) -> Option<u64> {
     }
 }
 
-// The operations of an order of those that had started by a time, by their places among all, up to the last that had ended by then.
+// The operations of an order of those that had started by a time, by their places among all, up to the last that had ended by
+// another.
 fn settled_part(
     alloc: Global,
     ops: &[Operation],
     order: &[usize],
+    known: u64,
     time: u64,
 ) -> Result<Vec<usize>, AllocError> {
     let mut started = Vec::new(alloc);
     for (place, op) in ops.iter().enumerate() {
-        if op.start <= time {
+        if op.start <= known {
             started.push(place)?;
         }
     }
@@ -70,6 +74,7 @@ impl Ahead {
             word,
             left: Vec::new(alloc),
             seen: 0,
+            looked: 0,
         }
     }
 
@@ -82,10 +87,11 @@ impl Ahead {
         Ok(())
     }
 
-    // Goes along an order of what was known by a time, up to the last operation that had ended by then. One that ended later is
-    // passed where its reply fits, and left where not. Answers whether it came so far.
-    fn pass(&mut self, alloc: Global, order: &[usize], time: u64) -> Result<bool, AllocError> {
-        let part = settled_part(alloc, &self.left, order, time)?;
+    // Goes along an order of what was known by a time, up to the last operation that had ended by the time of the look before. One
+    // that ended later is passed where its reply fits, and left where not. Answers whether it came so far.
+    fn pass(&mut self, alloc: Global, order: &[usize], known: u64) -> Result<bool, AllocError> {
+        let time = self.looked;
+        let part = settled_part(alloc, &self.left, order, known, time)?;
         let mut is_passed = vec![in alloc; false; self.left.len()]?;
         let mut word = self.word;
         let mut is_whole = true;
@@ -115,6 +121,7 @@ impl Ahead {
         }
         self.left = left;
         self.word = word;
+        self.looked = known;
         Ok(is_whole)
     }
 
@@ -164,6 +171,7 @@ pub(crate) fn ahead_of(
     };
     for word in &words {
         let mut ahead = Ahead::new(alloc, *word);
+        ahead.looked = time;
         ahead.see(kept)?;
         if ahead.pass(alloc, order, time)? {
             return Ok(Some(ahead));

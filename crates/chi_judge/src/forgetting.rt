@@ -14,18 +14,36 @@ use chi_search::{Found, Progress};
 use chi_trace::Operation;
 use std::alloc::{AllocError, Global};
 
-/// How many states may be looked at, where few operations are kept.
-const STATES: u64 = 65_536;
+/// How many states may be looked at for positions at most.
+pub(crate) const MOST_STATES: u64 = 65_536;
+
+/// How many at least.
+const LEAST_STATES: u64 = 4096;
+
+/// How many may be looked at for an order, where few operations are kept.
+const ORDER_STATES: u64 = 65_536;
 
 /// How many for each operation, where many are.
-const STATES_EACH: u64 = 256;
+const ORDER_STATES_EACH: u64 = 256;
 
 /// From how many positions the search goes on at most: with many it takes long to find an order.
 const MOST_POSITIONS: usize = 4096;
 
-/// How many states may be looked at, where so many operations are kept.
-fn states_for(kept: usize) -> u64 {
-    (kept as u64).saturating_mul(STATES_EACH).max(STATES)
+/// How many states may be looked at for an order, where so many operations are kept.
+fn order_states(kept: usize) -> u64 {
+    (kept as u64)
+        .saturating_mul(ORDER_STATES_EACH)
+        .max(ORDER_STATES)
+}
+
+/// How many states may be looked at for positions the next time, after so many: four times as many where fewer operations are kept
+/// now, and half as many where not.
+pub(crate) fn next_states(states: u64, is_fewer: bool) -> u64 {
+    if is_fewer {
+        states.saturating_mul(4).min(MOST_STATES)
+    } else {
+        (states / 2).max(LEAST_STATES)
+    }
 }
 
 /// How many of the operations, which stand in the order of their ends, ended before a time.
@@ -70,7 +88,7 @@ impl Judge {
         ensures nothing { IfOk result (λ found. IfNothing found ((words : List ℕ) (told : List Operation) (now : ℕ) → Keeps words told now self.now → Keeps words told now (stopped_at horizon self.now))) }
         ensures looked { IfOk result (λ _. LookedSome P.looked progress.old progress.new) }
     {
-        let budget = states_for(self.kept.len());
+        let budget = order_states(self.kept.len());
         order_by(
             alloc,
             &self.before,
@@ -103,7 +121,7 @@ impl Judge {
         let Some(after) = told_after(alloc, &self.before, &self.kept[..count])? else {
             return Ok(false);
         };
-        let mut budget = states_for(self.kept.len());
+        let mut budget = self.states;
         let Some(before) = after.advanced(alloc, least, MOST_POSITIONS, &mut budget, progress)?
         else {
             return Ok(false);

@@ -5,6 +5,7 @@ ghost use Rattle.chi_trace.specs.declared.operation.Operation.{Operation};
 ghost use Rattle.chi_judge.specs.Judges.{CanBeKept, Keeps};
 
 use crate::ahead::Ahead;
+use crate::forgetting::MOST_STATES;
 use chi_fields::ADDRESSES;
 use chi_search::Frontier;
 use chi_trace::Operation;
@@ -36,6 +37,7 @@ pub struct Judge {
     pub(crate) ahead: Option<Ahead>,
     pub(crate) next_look: usize,
     pub(crate) limit: usize,
+    pub(crate) states: u64,
 }
 
 impl Model for Judge {
@@ -75,6 +77,7 @@ impl Judge {
             ahead: Some(Ahead::new(alloc, word)),
             next_look: FEW,
             limit: FEW,
+            states: MOST_STATES,
         })
     }
 

@@ -6,6 +6,7 @@ ghost use Rattle.chi_search.specs.Looks.{LookedSome};
 ghost use Rattle.chi_judge.specs.Judges.{Keeps};
 
 use crate::ahead::ahead_of;
+use crate::forgetting::next_states;
 use crate::judge::{FEW, Judge};
 use chi_search::{Found, Progress};
 use std::alloc::{AllocError, Global};
@@ -150,6 +151,7 @@ impl Judge {
     {
         let kept = self.kept.len();
         if tries {
+            self.states = next_states(self.states, kept < self.limit);
             self.limit = kept.saturating_mul(2).max(FEW);
         }
         let more = match &self.ahead {
