@@ -1,10 +1,10 @@
 -- what a check does: the answer of the trace that its input is
-use Rattle.std.specs.Prelude.{◌≡◌, ◌≢◌, ℕ, ◌<◌, ◌≤◌, Bool, true, false, List, length, Option, None, Some, IfSome, Result, Ok, Err}
+use Rattle.std.specs.Prelude.{◌≡◌, ◌≢◌, ℕ, ◌/◌, ◌<◌, ◌≤◌, Bool, true, false, List, length, Option, None, Some, IfSome, Result, Ok, Err}
 use Rattle.std.specs.Io.KnownBytes.{Appends, Keeps}
 use Rattle.chi_script.specs.WriterBytes.{AppendsFront}
 use Rattle.chi_search.specs.Looks.{LookedMore}
 use Rattle.chi_reading.specs.declared.fault.TraceFault.TheVariants as trace_fault
-use Rattle.chi_reading.specs.TraceText.{IsOf, RecordedValue, TextValue, cut_at, trace_text}
+use Rattle.chi_reading.specs.TraceText.{IsOf, RecordedValue, TextValue, alone, cut_at, trace_text}
 use Rattle.chi_watch_text.specs.Outcomes.{IsLinesFault}
 use Rattle.chi_watch_text.specs.Recorded.{IsRecorded}
 use Rattle.chi_answer.specs.declared.answer.Answer.{Answer}
@@ -37,10 +37,19 @@ HasNoTrace events input source_fault.Memory = Unit {0}
 HasNoTrace events input (source_fault.Trace fault) = (events ≡ false) × (fault ≢ trace_fault.Memory → trace_text input ≡ Err fault)
 HasNoTrace events input (source_fault.Events fault) = (events ≡ true) × IsLinesFault input fault
 
--- what is judged of a trace: all of it, or what had happened by a time
-abbrev pub judged : Option ℕ → RecordedValue → RecordedValue
-judged None r = r
-judged (Some time) r = cut_at time r
+-- of a trace all granules, or the one at an address
+abbrev pub asked : Option ℕ → RecordedValue → RecordedValue
+asked None r = r
+asked (Some addr) r = alone (addr / 8) r
+
+-- and all of it, or what had happened by a time
+abbrev pub happened : Option ℕ → RecordedValue → RecordedValue
+happened None r = r
+happened (Some time) r = cut_at time r
+
+-- what is judged of a trace
+abbrev pub judged : CheckOptions → RecordedValue → RecordedValue
+judged options r = happened options.until (asked options.granule r)
 
 -- What is written of an answer: its text; and where the trace stops being explained, the operations of the granule around the one
 -- that is blamed too.
@@ -61,7 +70,7 @@ pub record Answers (options : CheckOptions) (input : List ℕ) (answer : Answer)
   pub within : length input ≤ most_bytes
   pub recorded : RecordedValue
   pub has_trace : HasTrace options.events input recorded
-  pub right : IsRight options (judged options.until recorded) answer text
+  pub right : IsRight options (judged options recorded) answer text
 
 -- After Ok the text of a right answer of the input's trace was written, and this is its status. What each fault means,
 -- and what was written then: nothing but where the writer failed.

@@ -21,12 +21,12 @@ around_rule = number_rule_or (codes "around") (codes "16")
 abbrev pub html_rule : Rule
 html_rule = text_rule (codes "html") []
 
--- the task `explain`: its input may tell events, its witness may be asked for, its limits, its time and how many operations are shown
--- are whole numbers below 2^64, and it has a file and a budget
+-- the task `explain`: its input may tell events, its witness may be asked for, its granule, its limits, its time and how many
+-- operations are shown are whole numbers below 2^64, and it has a file and a budget
 abbrev pub explain_app : App
 explain_app =
-    with_rule (with_rule (with_rule (with_rule (with_rule (with_rule (with_rule (with_rule (new_app (codes "explain")) (switch_rule (codes "events"))) (switch_rule (codes "witness"))) (number_rule (codes "until"))) around_rule) html_rule)
-    budget_rule) (number_rule (codes "seconds"))) (number_rule (codes "memory"))
+    with_rule (with_rule (with_rule (with_rule (with_rule (with_rule (with_rule (with_rule (with_rule (new_app (codes "explain")) (switch_rule (codes "events"))) (switch_rule (codes "witness"))) (number_rule (codes "granule")))
+    (number_rule (codes "until"))) around_rule) html_rule) budget_rule) (number_rule (codes "seconds"))) (number_rule (codes "memory"))
 
 -- how many operations have to have ended is a whole number below 2^64, and 0 by default
 abbrev pub operations_rule : Rule

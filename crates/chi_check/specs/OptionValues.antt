@@ -31,6 +31,7 @@ pub record HasExplainOptions (found : List Row) (options : CheckOptions) : Type 
   pub budget : IsNumberOr 1000000 (one_of (codes "budget") found) options.budget
   pub seconds : IsNumberOrNone (one_of (codes "seconds") found) options.seconds
   pub memory : IsNumberOrNone (one_of (codes "memory") found) options.memory
+  pub granule : IsNumberOrNone (one_of (codes "granule") found) options.granule
   pub until : IsNumberOrNone (one_of (codes "until") found) options.until
   pub around : IsNumberOr 16 (one_of (codes "around") found) options.around
   pub html : option_map (λ s. s.now) options.html ≡ first_of (codes "html") found

@@ -42,7 +42,7 @@ IsReported options r status text page =
 -- the input has a trace, this is a right answer of it, this its text, and this its page
 pub record HasPage (options : CheckOptions) (input : List ℕ) (answer : Answer) (text page : List ℕ) : Type 0 where
   pub answers : Answers options input answer text
-  pub page_is : IsPage (judged options.until answers.recorded) (blame_in answer) page
+  pub page_is : IsPage (judged options answers.recorded) (blame_in answer) page
 
 -- where one was asked for, the page of the answer that was written was put at the path
 abbrev pub IsPut : {P : Type 0} → (P → List ℕ → List ℕ → Type 0) → CheckOptions → List ℕ → Option (List ℕ) → Option (List ℕ) → ℕ → P → Type 0

@@ -4,7 +4,7 @@ ghost use Rattle.std.specs.Prelude.{◌≡◌, ◌≤◌, length, IfErr, IfOk, I
 ghost use Rattle.chi_verdict.specs.Blames.{IsBlame};
 ghost use Rattle.chi_answer.specs.Answers.{IfUndecided, IsAnswer, IsUnexplained};
 ghost use Rattle.chi_answer.specs.Texts.{IsText};
-ghost use Rattle.chi_check.specs.Check.{IsReadFault, KeepsUnanswered, LookedForStatus, Outcome, judged, most_bytes};
+ghost use Rattle.chi_check.specs.Check.{IsReadFault, KeepsUnanswered, LookedForStatus, Outcome, asked, happened, judged, most_bytes};
 ghost use Rattle.chi_check.specs.Limits.{IsWithin};
 ghost use Rattle.chi_search.specs.Looks.{LookedSome};
 ghost use Rattle.chi_check.specs.CheckStatus.{IsAnswerStatus, answer_status};
@@ -60,14 +60,36 @@ pub(crate) fn read_bytes<R: Read>(alloc: Global, from: &mut R) -> Result<Vec<u8>
     }
 }
 
-// What is judged of a trace: all of it, or what had happened by a time.
-fn judged(alloc: Global, recorded: Recorded, until: Option<u64>) -> Result<Recorded, AllocError>
-    ensures { IfOk result (λ part. part ≡ judged until recorded) }
+// Of a trace all granules, or the one at an address.
+fn asked(alloc: Global, recorded: Recorded, addr: Option<u64>) -> Result<Recorded, AllocError>
+    ensures { IfOk result (λ part. part ≡ asked addr recorded) }
+{
+    match addr {
+        Some(addr) => recorded.alone(alloc, addr / 8),
+        None => Ok(recorded),
+    }
+}
+
+// All of it, or what had happened by a time.
+fn happened(alloc: Global, recorded: Recorded, until: Option<u64>) -> Result<Recorded, AllocError>
+    ensures { IfOk result (λ part. part ≡ happened until recorded) }
 {
     match until {
         Some(time) => recorded.cut(alloc, time),
         None => Ok(recorded),
     }
+}
+
+// What is judged of a trace.
+fn judged(
+    alloc: Global,
+    recorded: Recorded,
+    options: &CheckOptions<'_>,
+) -> Result<Recorded, AllocError>
+    ensures { IfOk result (λ part. part ≡ judged options.now recorded) }
+{
+    let part = asked(alloc, recorded, options.granule)?;
+    happened(alloc, part, options.until)
 }
 
 /// The status of an answer, what is written of it, and the page of the trace, where one is asked for.
@@ -164,10 +186,10 @@ fn reported<P: ShownProgress, M: Meter>(
     progress: &mut P,
     meter: &M,
 ) -> Result<Report, AllocError>
-    ensures reported { IfOk result (λ report. IsReported options.now (judged options.now.until recorded) report.status report.text.items report.page.items) }
+    ensures reported { IfOk result (λ report. IsReported options.now (judged options.now recorded) report.status report.text.items report.page.items) }
     ensures spent { IfOk result (λ report. LookedForStatus P.looked progress.old progress.new options.now report.status) }
 {
-    let part = judged(alloc, recorded, options.until)?;
+    let part = judged(alloc, recorded, options)?;
     let report = answered(alloc, &part, options, progress, meter);
     progress.clear();
     report

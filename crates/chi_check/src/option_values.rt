@@ -46,6 +46,7 @@ pub(crate) fn explain_options<'a>(matches: &ArgMatches<'a>) -> CheckOptions<'a>
     ensures budget { IsNumberOr 1000000 (one_of (codes "budget") (rows_of (found_of matches.now))) result.budget }
     ensures seconds { IsNumberOrNone (one_of (codes "seconds") (rows_of (found_of matches.now))) result.seconds }
     ensures memory { IsNumberOrNone (one_of (codes "memory") (rows_of (found_of matches.now))) result.memory }
+    ensures granule { IsNumberOrNone (one_of (codes "granule") (rows_of (found_of matches.now))) result.granule }
     ensures until { IsNumberOrNone (one_of (codes "until") (rows_of (found_of matches.now))) result.until }
     ensures around { IsNumberOr 16 (one_of (codes "around") (rows_of (found_of matches.now))) result.around }
     ensures html { option_map (λ s. s.now) result.html ≡ first_of (codes "html") (rows_of (found_of matches.now)) }
@@ -56,6 +57,7 @@ pub(crate) fn explain_options<'a>(matches: &ArgMatches<'a>) -> CheckOptions<'a>
         budget: number_or(matches, "budget", BUDGET),
         seconds: number_given(matches, "seconds"),
         memory: number_given(matches, "memory"),
+        granule: number_given(matches, "granule"),
         until: number_given(matches, "until"),
         around: number_or(matches, "around", AROUND),
         html: html_file(matches),

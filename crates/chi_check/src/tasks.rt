@@ -10,7 +10,7 @@ const BUDGET: NamedOption<'static> = NamedOption {
 };
 
 // The options of `explain`.
-const EXPLAIN: [NamedOption<'static>; 8] = [
+const EXPLAIN: [NamedOption<'static>; 9] = [
     NamedOption {
         name: "events",
         takes: Takes::Nothing,
@@ -20,6 +20,11 @@ const EXPLAIN: [NamedOption<'static>; 8] = [
         name: "witness",
         takes: Takes::Nothing,
         help: "Writes the operations in the order found, and the memory after them",
+    },
+    NamedOption {
+        name: "granule",
+        takes: Takes::Number("ADDR"),
+        help: "Judges the granule at this address, and no other",
     },
     NamedOption {
         name: "until",

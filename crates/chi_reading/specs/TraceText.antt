@@ -1,5 +1,5 @@
 -- the trace that a text is, or its first fault
-use Rattle.std.specs.Prelude.{◌≡◌, ℕ, ◌-◌, ◌/◌, ◌^◌, if◌then◌else◌, List, [], ◌∷◌, IsPermutation, Option, None, Some, is_some, Result, Ok, Err}
+use Rattle.std.specs.Prelude.{◌≡◌, ℕ, ◌-◌, ◌/◌, ◌^◌, if◌then◌else◌, List, [], ◌∷◌, filter, IsPermutation, Option, None, Some, is_some, option_map, option_to_list, Result, Ok, Err}
 use Rattle.std.specs.Option.{ok_or}
 use Rattle.serde_json.specs.Data.{Data, Members}
 use Rattle.serde_json.specs.Find.{as_array, as_object, get}
@@ -8,6 +8,7 @@ use Rattle.chi_fields.specs.declared.refusal.Refusal.{Refusal}
 use Rattle.chi_json.specs.Members.{◌>>=◌, member_by, number_of, opening_words, or_else, stated_words}
 use Rattle.chi_json.specs.Unknown.{unknown_in}
 use Rattle.chi_json.specs.Values.{json_value}
+use Rattle.chi_trace.specs.AtPlaces.{is_in}
 use Rattle.chi_trace.specs.declared.words.GranuleWord.{GranuleWord}
 use Rattle.chi_trace.specs.Traces.{TraceValue, trace_at}
 use Rattle.chi_trace.specs.Words.{find_word}
@@ -86,6 +87,20 @@ pub record RecordedValue : Type 0 where
 -- What had happened by a time. No words are told at the end, and no refusals, whose times are not kept.
 abbrev pub cut_at : ℕ → RecordedValue → RecordedValue
 cut_at time r = record r { trace = trace_at time r.trace; final_words = []; refusals = [] }
+
+-- the word that is told of one granule, alone
+abbrev pub only : ℕ → List GranuleWord → List GranuleWord
+only g words = option_to_list (option_map (λ w. record { granule = g; word = w }) (find_word words g))
+
+-- One granule's part of a trace, over all addresses: its operations, and its words at the opening and at the end. Of refused requests
+-- nothing is kept.
+abbrev pub alone : ℕ → RecordedValue → RecordedValue
+alone g r = record {
+  region = None;
+  trace = record { opening = only g r.trace.opening; operations = filter (is_in g) r.trace.operations };
+  final_words = only g r.final_words;
+  refusals = [];
+}
 
 -- the memory that was read is what the text says
 pub record IsMemoryOf (t : MemoryText) (m : Memory) : Type 0 where

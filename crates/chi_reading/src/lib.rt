@@ -1,6 +1,7 @@
 //! Traces as JSON texts and events as lines of JSON, and how each is read. Source: profile.
 #![tactic(auto)]
 
+mod alone;
 mod event_line;
 mod fault;
 mod fields;

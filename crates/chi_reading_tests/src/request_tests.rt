@@ -77,3 +77,23 @@ fn refused_requests(rt: HostRuntime) -> Result<(), Fail> {
     );
     Ok(())
 }
+
+// Of a write to each of two granules one is left, with its word at the end.
+#[test]
+fn one_granule_alone(rt: HostRuntime) -> Result<(), Fail> {
+    let text = format!(in rt.alloc();
+        "{{\"final\": [{{\"addr\": 4096, \"bytes\": \"0100000000000000\"}},
+          {{\"addr\": 4104, \"bytes\": \"0200000000000000\"}}],
+          \"requests\": [{{{WRITE}, \"start\": 30, \"end\": 40, \"reply\": \"comp\"}},
+          {{{WRITE}, \"addr\": 4104, \"be\": 65280, \"start\": 50, \"end\": 60, \"reply\": \"comp\"}}]}}"
+    )?;
+    let part = read(rt.alloc(), &text)?.alone(rt.alloc(), 513)?;
+    let found = (
+        part.trace().operations().first().map(|op| op.number),
+        part.trace().operations().len(),
+        part.final_words().get(513),
+        part.final_words().get(512),
+    );
+    assert_same(&rt, found, (Some(1), 1, Some(2), None));
+    Ok(())
+}
