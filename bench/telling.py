@@ -23,7 +23,8 @@ def stop_lines(word, operations, final):
     if time is None:
         return [f"at the end: {final.hex()}", *word_lines(set(words_left(word, operations)))]
     suspects = suspects_at(word, operations, time)
-    blamed = next(it for it in suspects + operations if it.end == time and it.reply is not None)
+    by_request = sorted(operations, key=lambda it: it.number)
+    blamed = next(it for it in suspects + by_request if it.end == time and it.reply is not None)
     before = word_lines(set(words_left(word, known_by(operations, time - 1)))) if time else []
     lines = [f"at {time}: {operation_line(blamed)}", *before]
     for it in sorted((it for it in operations if it.start <= time <= it.end), key=lambda it: it.number):

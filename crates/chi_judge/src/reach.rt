@@ -6,7 +6,8 @@ use chi_trace::Operation;
 
 /// Where a granule's operations stop being explained: the first time up to which no order explains them.
 ///
-/// - `op`: an operation whose answer came at the time: the first of `suspects`, where there is one.
+/// - `op`: an operation whose answer came at the time: the first of `suspects`, where there is one, and else that of the first
+///   request.
 /// - `suspects`: those whose answers came at the time, without the answer of each of which the granule's operations up to then can
 ///   be explained.
 /// - `overlapping`: the granule's operations that were open at the time, or ended at it, in the order of their starts.

@@ -9,8 +9,8 @@ ghost use Rattle.chi_judge.specs.Shown.{had_ended, last_of};
 use chi_trace::Operation;
 use std::alloc::{AllocError, Global};
 
-/// The place of the first operation that was answered at a time.
-pub(crate) fn answered_at(ops: &[Operation], time: u64) -> Option<usize>
+/// The place of an operation that was answered at a time.
+fn any_answered_at(ops: &[Operation], time: u64) -> Option<usize>
     ensures within { IfSome result (λ place. place < length ops.now) }
     ensures ends { IfSome result (λ place. (at ops.now place).end ≡ time) }
     ensures answered { IfSome result (λ place. is_answered (at ops.now place) ≡ true) }
@@ -22,6 +22,22 @@ pub(crate) fn answered_at(ops: &[Operation], time: u64) -> Option<usize>
         }
     }
     None
+}
+
+/// The place of the operation that was answered at a time; where there are several, of the one of the first request.
+pub(crate) fn answered_at(ops: &[Operation], time: u64) -> Option<usize>
+    ensures within { IfSome result (λ place. place < length ops.now) }
+    ensures ends { IfSome result (λ place. (at ops.now place).end ≡ time) }
+    ensures answered { IfSome result (λ place. is_answered (at ops.now place) ≡ true) }
+    ensures none { result ≡ None → All (λ op. is_answered op ≡ true → op.end ≡ time → ⊥) ops.now }
+{
+    let mut first = any_answered_at(ops, time)?;
+    for (place, op) in ops.iter().enumerate() {
+        if op.end == time && op.reply.is_some() && op.number < ops[first].number {
+            first = place;
+        }
+    }
+    Some(first)
 }
 
 /// Those that had started by a time and had not ended before, in the order of their requests.
