@@ -40,6 +40,14 @@ build out/dv_directed chi_directed_tb dv/chi_monitor.sv dv/chi_directed_tb.sv
 $limited out/dv_directed/Vchi_directed_tb +events=out/dv_directed.jsonl > out/dv_directed/said.log || fail "the flits by hand stop the simulation"
 diff dv/directed.jsonl out/dv_directed.jsonl || fail "the flits by hand give other events"
 echo "flits by hand: $(wc -l < dv/directed.jsonl) events"
+build out/dv_stray chi_directed_tb "-GStopsAtStray=1'b1" dv/chi_monitor.sv dv/chi_directed_tb.sv
+if $limited out/dv_stray/Vchi_directed_tb +events=out/dv_stray.jsonl > out/dv_stray/said.log 2>&1; then
+  fail "the first stray flit by hand does not end the simulation"
+fi
+stray=$(grep -m 1 '^chi_monitor: cycle ' out/dv_directed/said.log)
+grep -qF "$stray" out/dv_stray/said.log || fail "the simulation does not end at the first stray flit: $(cat out/dv_stray/said.log)"
+cmp -n "$(wc -c < out/dv_stray.jsonl)" dv/directed.jsonl out/dv_stray.jsonl || fail "up to the first stray flit the events are others"
+echo "where a stray flit is to stop the simulation: $stray"
 
 checker=crates/chi_check/out/chi_check
 .ci/built chicheck
@@ -49,7 +57,10 @@ trap 'rm -f "$pipe"' EXIT
 watch() { # the build, and plusargs: sets the statuses of both programs and the first line of the answer
   timeout -k 5 120 $checker watch --require-end --require-quiet < "$pipe" > out/dv_answer &
   simulated=0
-  $limited "out/dv_channels_$1/Vchi_channels_tb" "+events=$pipe" "+requests=$requests" "${@:2}" > out/dv_said 2>&1 || simulated=$?
+  # Where chicheck has stopped the monitor sees that it cannot write, and ends the simulation by $fatal.
+  (trap '' PIPE; $limited "out/dv_channels_$1/Vchi_channels_tb" "+events=$pipe" "+requests=$requests" "${@:2}" > out/dv_said 2>&1) || simulated=$?
+  [ $simulated = 0 ] || grep -q '^.*chi_monitor: cycle [0-9]*: an event cannot be written (Broken pipe)' out/dv_said \
+    || fail "$*: the simulation ends with $simulated: $(cat out/dv_said)"
   watched=0
   wait $! || watched=$?
   answer=$(head -n 1 out/dv_answer)
