@@ -12,4 +12,5 @@ pub mod Lists
 pub mod More
 pub mod Reached
 pub mod Replaced
+pub mod Stopping
 pub mod Suspected

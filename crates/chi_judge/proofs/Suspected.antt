@@ -1,16 +1,19 @@
 -- operations of a granule whose answer may be the one that is wrong
-use Rattle.std.proofs.Common.{◌≡◌, ℕ, ◌<◌, ◌≤◌, ◌⊎◌, true, None, Option, Some, List, [], ◌∷◌, All, IfSome, filter, inl, inr, length, slice_get, ap, subst, ◌∙◌, arith}
+use Rattle.std.proofs.Common.{◌≡◌, ℕ, ◌+◌, ◌<◌, ◌≤◌, ◌⊎◌, true, None, Option, Some, List, [], ◌∷◌, ◌++◌, All, IfSome, filter, inl, inr, length, map, slice_get, take, refl, sym, ap, subst, ◌∙◌, arith}
+use Rattle.std.specs.Prelude.{IsPermutation}
 use Rattle.std.specs.List.{Contains}
-use Rattle.std.proofs.lemmas.List.Elements.{All-contains, All-contains_itself, All-filter, All-head, All-map, All-weaker}
+use Rattle.std.proofs.lemmas.List.{take_more}
+use Rattle.std.proofs.lemmas.List.Elements.{All-append, All-cons, All-contains, All-contains_itself, All-filter, All-head, All-map, All-nil, All-weaker}
 use Rattle.std.proofs.lemmas.List.Sorted.{All-permutation}
 use Rattle.chi_search.proofs.Sets.{Contains-map}
 use Rattle.chi_trace.specs.AtPlaces.{GranulesStandAlone, at_places, is_in}
-use Rattle.chi_trace.specs.Explains.{at, is_answered}
+use Rattle.chi_trace.specs.Explains.{at, is_answered, nothing}
 use Rattle.chi_trace.specs.declared.operation.Operation.{Operation}
 use Rattle.chi_judge.specs.Judges.{JudgeValue}
 use Rattle.chi_judge.specs.Legal.{IsAnsweredAt, IsSuspect, IsSuspectAt, MayBeSuspectAt}
 use Rattle.chi_judge.specs.Reaches.{IsJudgeOf}
-use Rattle.chi_judge.specs.Searches.{IsSeen}
+use Rattle.chi_judge.specs.Searches.{IsSeen, is_during}
+use Rattle.chi_judge.specs.Shown.{IsOfFirstRequest}
 use Rattle.chi_judge.proofs.Answered.{explained_with, kept_with}
 use Rattle.chi_judge.proofs.Before.{all_last}
 
@@ -59,3 +62,26 @@ first_blamed ops (place ∷ places) blamed op is first = is ∙ ap (λ (o : Opti
     option_or_zero : Option ℕ → ℕ
     option_or_zero None = 0
     option_or_zero (Some n) = n
+
+-- where no suspects are shown no places were found
+pub no_places : (ops : List Operation) (places : List ℕ) → at_places ops places ≡ [] → places ≡ []
+no_places ops [] none = refl
+no_places ops (place ∷ places) none = absurd (omega (arith, ap length none))
+
+-- the first request of all is the first of those that were open
+pub open_of_first : (time number : ℕ) (ops during : List Operation) → IsPermutation (filter (is_during time) ops) during → IsOfFirstRequest ops time number → IsOfFirstRequest during time number
+open_of_first time number ops during moved first =
+    All-permutation (λ (op : Operation). is_answered op ≡ true → op.end ≡ time → number ≤ op.number) (filter (is_during time) ops) during moved
+    (All-filter (is_during time) (λ (op : Operation). is_answered op ≡ true → op.end ≡ time → number ≤ op.number) ops first)
+
+-- one operation more, of whose request and those before none that was answered at the time is earlier
+pub first_more : (ops : List Operation) (time first number place : ℕ) → place < length ops → IsOfFirstRequest (take place ops) time first → number ≤ first
+    → (is_answered (at ops place) ≡ true → (at ops place).end ≡ time → number ≤ (at ops place).number) → IsOfFirstRequest (take (place + 1) ops) time number
+first_more ops time first number place below before le here =
+    subst (All NoEarlier) (sym (take_more ops place nothing below))
+    (All-append NoEarlier (take place ops) (at ops place ∷ [])
+    (All-weaker (λ (op : Operation). is_answered op ≡ true → op.end ≡ time → first ≤ op.number) NoEarlier (λ op than answered ends. let later = than answered ends in omega (arith, le, later)) (take place ops) before)
+    (All-cons NoEarlier (at ops place) [] here (All-nil NoEarlier)))
+  where
+    NoEarlier : Operation → Type 0
+    NoEarlier op = is_answered op ≡ true → op.end ≡ time → number ≤ op.number

@@ -14,7 +14,7 @@ use Rattle.chi_search.specs.Found.{IfUnknown, IfWords}
 use Rattle.chi_search.specs.Looks.{LookedAtLeast}
 use Rattle.chi_judge.specs.Legal.{IsLegal, IsSuspect}
 use Rattle.chi_judge.specs.Judges.{Keeps, JudgeValue}
-use Rattle.chi_judge.specs.Shown.{AreBefore}
+use Rattle.chi_judge.specs.Shown.{AreBefore, IsOfFirstRequest}
 
 -- the operations of the granule in this trace were told, in some order, and it keeps the last of them
 pub record IsJudgeOf (trace : List Operation) (g w : ℕ) (r : JudgeValue) : Type 0 where
@@ -38,8 +38,9 @@ IsExplained time trace g w = (order : List ℕ) × ExplainsGranule (cut time tra
 
 -- Up to this time no order explains the granule's operations. Up to the time before, where there is one, some order does, and
 -- these are the words that they can leave, where they are known; before time 0 none are. The operation was answered then, and is
--- one of those that were open. It is the first of those whose answer may be wrong, where there is one. The last so many of the
--- others that had ended by then stand before it, and each of these replies of it would have been right.
+-- one of those that were open. It is the first of those whose answer may be wrong, and where there is none no other that was
+-- answered then has an earlier request. The last so many of the others that had ended by then stand before it, and each of these
+-- replies of it would have been right.
 pub record IsStop (trace : List Operation) (g w most : ℕ) (s : Stop) : Type 0 where
   pub after : IsExplained s.time trace g w → ⊥
   pub before_it : (time : ℕ) → time + 1 ≡ s.time → IsExplained time trace g w
@@ -50,6 +51,7 @@ pub record IsStop (trace : List Operation) (g w most : ℕ) (s : Stop) : Type 0 
   pub answered : is_answered s.op ≡ true
   pub suspects : All (IsSuspect trace g w s.time) s.suspects.items
   pub first : IfSome (slice_get s.suspects.items 0) (λ op. s.op ≡ op)
+  pub request : s.suspects.items ≡ [] → IsOfFirstRequest s.overlapping.items s.time s.op.number
   pub overlapping : IsPermutation (filter (is_open_at g s.time) trace) s.overlapping.items
   pub before : AreBefore trace g s.time s.op most s.before.items
   pub legal : All (IsLegal trace g w s.time s.op) s.legal.items

@@ -1,7 +1,8 @@
--- which operations are shown of those that ended before a granule's stop being explained
-use Rattle.std.specs.Prelude.{◌≡◌, ℕ, ◌-◌, ◌<◌, ◌≤◌, nat_le, Bool, ◌&&◌, List, [], ◌∷◌, ◌++◌, drop, length, IsPermutation}
+-- which operations are shown where a granule's stop being explained
+use Rattle.std.specs.Prelude.{◌≡◌, ℕ, ◌-◌, ◌<◌, ◌≤◌, nat_le, Bool, true, ◌&&◌, List, [], ◌∷◌, ◌++◌, All, drop, length, IsPermutation}
 use Rattle.std.specs.List.{AllPairs, filter}
 use Rattle.chi_trace.specs.AtPlaces.{is_in}
+use Rattle.chi_trace.specs.Explains.{is_answered}
 use Rattle.chi_trace.specs.declared.operation.Operation.{Operation}
 
 -- the last so many of a list
@@ -28,3 +29,7 @@ pub record AreBefore (trace : List Operation) (g time : ℕ) (blamed : Operation
   pub in_order : AllPairs EndsNoLater (others ++ before)
   pub few : length before ≤ most
   pub whole : length before < most → others ≡ []
+
+-- none of these that was answered at the time has an earlier request
+abbrev pub IsOfFirstRequest : List Operation → ℕ → ℕ → Type 0
+IsOfFirstRequest ops time number = All (λ op. is_answered op ≡ true → op.end ≡ time → number ≤ op.number) ops

@@ -1,6 +1,6 @@
 //! How far the operations that are kept can be explained.
 
-ghost use Rattle.std.specs.Prelude.{◌≡◌, ℕ, ◌+◌, ◌-◌, ◌<◌, ◌≤◌, ◌⊎◌, ◌↔◌, All, List, None, Some, true, false, length, slice_get, IfOk, IfSome, IsTrue};
+ghost use Rattle.std.specs.Prelude.{◌≡◌, ℕ, ◌+◌, ◌-◌, ◌<◌, ◌≤◌, ◌⊎◌, ◌↔◌, All, List, [], None, Some, true, false, length, slice_get, IfOk, IfSome, IsTrue};
 ghost use Rattle.std.specs.List.{Contains};
 ghost use Rattle.chi_search.specs.Found.{IfUnknown, IfWords};
 ghost use Rattle.chi_search.specs.Looks.{LookedAtLeast, LookedMore, LookedSome};
@@ -10,6 +10,7 @@ ghost use Rattle.chi_judge.specs.Judges.{GoesOn};
 ghost use Rattle.chi_judge.specs.Legal.{IsAnsweredAt};
 ghost use Rattle.chi_judge.specs.Reaches.{AreLast, IfStops, IfUndecided, IfWhole, IsExplained, IsJudgeOf, IsStop, MissesNone};
 ghost use Rattle.chi_judge.specs.Searches.{AreSeen, AreWordsBy, IsSeen, IsUnexplained};
+ghost use Rattle.chi_judge.specs.Shown.{IsOfFirstRequest};
 
 use crate::forgetting::ended_before;
 use crate::judge::Judge;
@@ -31,6 +32,7 @@ fn blamed_at(ops: &[Operation], suspects: &[usize], time: u64) -> Option<usize>
     ensures within { IfSome result (λ place. place < length ops.now) }
     ensures answered { IfSome result (IsAnsweredAt ops.now time) }
     ensures first { IfSome (slice_get suspects.now 0) (λ place. result ≡ Some place) }
+    ensures request { suspects.now ≡ [] → IfSome result (λ place. IsOfFirstRequest ops.now time (at ops.now place).number) }
     ensures none { result ≡ None → All (λ op. is_answered op ≡ true → op.end ≡ time → ⊥) ops.now }
 {
     match suspects.first() {

@@ -1,10 +1,11 @@
 //! The operations that are shown of where a granule's stop being explained.
 
-ghost use Rattle.std.specs.Prelude.{◌≡◌, ◌<◌, ◌++◌, true, All, None, IfOk, IfSome, IsPermutation, length};
+ghost use Rattle.std.specs.Prelude.{◌≡◌, ◌<◌, ◌≤◌, ◌++◌, true, All, None, IfOk, IfSome, IsPermutation, length};
 ghost use Rattle.std.specs.List.{filter, remove};
 ghost use Rattle.chi_trace.specs.Explains.{at, is_answered};
+ghost use Rattle.chi_judge.specs.Legal.{IsAnsweredAt};
 ghost use Rattle.chi_judge.specs.Searches.{is_during};
-ghost use Rattle.chi_judge.specs.Shown.{had_ended, last_of};
+ghost use Rattle.chi_judge.specs.Shown.{IsOfFirstRequest, had_ended, last_of};
 
 use chi_trace::Operation;
 use std::alloc::{AllocError, Global};
@@ -12,8 +13,7 @@ use std::alloc::{AllocError, Global};
 /// The place of an operation that was answered at a time.
 fn any_answered_at(ops: &[Operation], time: u64) -> Option<usize>
     ensures within { IfSome result (λ place. place < length ops.now) }
-    ensures ends { IfSome result (λ place. (at ops.now place).end ≡ time) }
-    ensures answered { IfSome result (λ place. is_answered (at ops.now place) ≡ true) }
+    ensures answered { IfSome result (IsAnsweredAt ops.now time) }
     ensures none { result ≡ None → All (λ op. is_answered op ≡ true → op.end ≡ time → ⊥) ops.now }
 {
     for (place, op) in ops.iter().enumerate() {
@@ -24,18 +24,33 @@ fn any_answered_at(ops: &[Operation], time: u64) -> Option<usize>
     None
 }
 
+/// Of an operation that was answered at a time and of another, the place of the one of the earlier request that was.
+fn earlier_of(ops: &[Operation], first: usize, other: usize, time: u64) -> usize
+    requires first { IsAnsweredAt ops.now time first }
+    requires first_within { first < length ops.now }
+    requires other_within { other < length ops.now }
+    ensures within { result < length ops.now }
+    ensures answered { IsAnsweredAt ops.now time result }
+    ensures no_later { (at ops.now result).number ≤ (at ops.now first).number }
+    ensures earlier { is_answered (at ops.now other) ≡ true → (at ops.now other).end ≡ time → (at ops.now result).number ≤ (at ops.now other).number }
+{
+    let op = &ops[other];
+    if op.end == time && op.reply.is_some() && op.number < ops[first].number {
+        return other;
+    }
+    first
+}
+
 /// The place of the operation that was answered at a time; where there are several, of the one of the first request.
 pub(crate) fn answered_at(ops: &[Operation], time: u64) -> Option<usize>
     ensures within { IfSome result (λ place. place < length ops.now) }
-    ensures ends { IfSome result (λ place. (at ops.now place).end ≡ time) }
-    ensures answered { IfSome result (λ place. is_answered (at ops.now place) ≡ true) }
+    ensures answered { IfSome result (IsAnsweredAt ops.now time) }
+    ensures request { IfSome result (λ place. IsOfFirstRequest ops.now time (at ops.now place).number) }
     ensures none { result ≡ None → All (λ op. is_answered op ≡ true → op.end ≡ time → ⊥) ops.now }
 {
     let mut first = any_answered_at(ops, time)?;
-    for (place, op) in ops.iter().enumerate() {
-        if op.end == time && op.reply.is_some() && op.number < ops[first].number {
-            first = place;
-        }
+    for place in 0..ops.len() {
+        first = earlier_of(ops, first, place, time);
     }
     Some(first)
 }

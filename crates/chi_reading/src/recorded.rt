@@ -16,8 +16,8 @@ use serde_json::{Map, Value};
 use std::alloc::{AllocError, Global};
 use std::marker::Model;
 
-/// A trace that was read: its memory is a region or all addresses. Its requests are operations, each with its place in the text
-/// as its number, counted from 0, or were refused.
+/// A trace that was read: its memory is a region or all addresses. Its requests are operations, or were refused. The number of an
+/// operation is its place in the text, counted from 0, or of events the line of its request, counted from 1.
 #[derive(Debug, Drop)]
 pub struct Recorded {
     region: Option<Region>,

@@ -8,7 +8,7 @@ use Rattle.chi_search.specs.Looks.{LookedAtLeast}
 use Rattle.chi_judge.specs.Reaches.{IsExplained, IsJudgeOf}
 use Rattle.chi_judge.specs.Judges.{JudgeValue}
 use Rattle.chi_judge.specs.Searches.{AreSeen, IsSeen}
-use Rattle.chi_judge.proofs.Reached.{place_seen}
+use Rattle.chi_judge.proofs.Stopping.{place_seen}
 use Rattle.chi_judge.proofs.judge.Judge.first_place.Goals as goal
 
 -- an operation that is read ends where the one at its place does

@@ -11,7 +11,7 @@ use Rattle.chi_judge.specs.Reaches.{IsExplained, IsJudgeOf, MissesNone}
 use Rattle.chi_judge.specs.Judges.{GoesNowhere, GoesOn, LiesWithin, JudgeValue}
 use Rattle.chi_judge.specs.declared.reach.Stop.{Stop}
 use Rattle.chi_judge.proofs.More.{misses_none_after, ok_implies, ok_stops_imply, ok_undecided_implies}
-use Rattle.chi_judge.proofs.Reached.{last_before, last_of_all}
+use Rattle.chi_judge.proofs.Stopping.{last_before, last_of_all}
 use Rattle.chi_judge.proofs.judge.Judge.reach.Goals as goal
 
 pub stop_within-requires-clause-last : goal.stop_within-requires-clause-last

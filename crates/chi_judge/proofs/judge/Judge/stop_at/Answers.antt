@@ -13,13 +13,13 @@ use Rattle.chi_judge.specs.Legal.{IsAnsweredAt, IsLegal, IsSuspect, IsSuspectAt,
 use Rattle.chi_judge.specs.Reaches.{CanLeave, IsJudgeOf}
 use Rattle.chi_judge.specs.Judges.{JudgeValue}
 use Rattle.chi_judge.specs.Searches.{AreWordsBy}
-use Rattle.chi_judge.specs.Shown.{AreBefore, had_ended, last_of}
+use Rattle.chi_judge.specs.Shown.{AreBefore, IsOfFirstRequest, had_ended, last_of}
 use Rattle.chi_judge.proofs.Answered.{explained_with}
-use Rattle.chi_judge.proofs.Suspected.{are_suspects, first_blamed, has_suspects}
+use Rattle.chi_judge.proofs.Suspected.{are_suspects, first_blamed, has_suspects, no_places, open_of_first}
 use Rattle.chi_judge.proofs.More.{unknown_implies, words_imply}
 use Rattle.chi_search.proofs.Looking.{at_least_after, at_least_before, some_after}
 use Rattle.chi_judge.proofs.Before.{are_before}
-use Rattle.chi_judge.proofs.Reached.{stops_at}
+use Rattle.chi_judge.proofs.Stopping.{stops_at}
 use Rattle.chi_judge.proofs.judge.Judge.stop_at.Goals as goal
 
 pub returns-then-not-branch-clause-undecided : goal.returns-then-not-branch-clause-undecided
@@ -104,15 +104,6 @@ returns-clause-stops g c trace n w is =
     let found : All (IsSuspectAt v.before v.kept time) places =
     subst (λ (l : List Operation). All (IsSuspectAt v.before l time) places) c.requires.kept (subst (λ (f : FrontierValue). All (IsSuspectAt f given time) places) before c.in_ok-suspects.ensures.suspects) in
     let within = subst (λ (l : List Operation). All (λ i. i < length l) places) c.requires.kept c.in_ok-suspects.ensures.within in
-    let there : Contains given op = subst (Contains given) (sym is_op) (Contains-get_or given blamed nothing c.in-Some.ensures.within) in
-    let blamed_then : IsAnsweredAt given time blamed = c.in-Some.ensures.answered in
-    let ends : op.end ≡ time = ap (λ (o : Operation). o.end) is_op ∙ blamed_then.ends in
-    let places = c.in_ok-suspects.suspects.items in
-    let before : c.self.inside.before ≡ v.before = ap (λ (x : JudgeValue). x.before) c.self.view_is in
-    let suspects_is : c.in_ok-operations_at.field-0.items ≡ at_places given places = c.in_ok-operations_at.ensures ∙ ap (at_places given) c.deref-2.ensures.value in
-    let found : All (IsSuspectAt v.before v.kept time) places =
-    subst (λ (l : List Operation). All (IsSuspectAt v.before l time) places) c.requires.kept (subst (λ (f : FrontierValue). All (IsSuspectAt f given time) places) before c.in_ok-suspects.ensures.suspects) in
-    let within = subst (λ (l : List Operation). All (λ i. i < length l) places) c.requires.kept c.in_ok-suspects.ensures.within in
     let shown : c.in_ok-before_at.field-0.items ≡ last_of v.shown (v.left ++ filter (had_ended time) (remove given blamed)) =
     c.in_ok-before_at.ensures ∙ ap₂ (λ (m : ℕ) (a : List Operation). last_of m (a ++ filter (had_ended time) (remove given blamed))) (ap (λ (x : JudgeValue). x.shown) c.self.view_is) left in
     record {
@@ -128,6 +119,8 @@ returns-clause-stops g c trace n w is =
       suspects = subst (All (IsSuspect trace n w time)) (ap (λ (l : List Operation). at_places l places) (sym c.requires.kept) ∙ sym suspects_is)
           (are_suspects c.granules_stand_alone.ensures trace n w v is time stop.seen_then places within found);
       first = subst (λ (l : List Operation). IfSome (slice_get l 0) (λ suspect. op ≡ suspect)) (sym suspects_is) (first_blamed given places blamed op is_op (subst (λ (l : List ℕ). IfSome (slice_get l 0) (λ place. Some blamed ≡ Some place)) c.deref.ensures.value c.in-Some.ensures.first));
+      request = λ none. open_of_first time op.number given c.in_ok-open_at.field-0.items c.in_ok-open_at.ensures
+          (subst (λ (o : Operation). IsOfFirstRequest given time o.number) (sym is_op) (c.in-Some.ensures.request (c.deref.ensures.value ∙ no_places given places (sym suspects_is ∙ none))));
       overlapping = stop.overlapping c.in_ok-open_at.field-0.items c.in_ok-open_at.ensures;
       before = subst (λ (o : Operation). AreBefore trace n time o v.shown c.in_ok-before_at.field-0.items) (sym is_op)
           (subst (λ (l : List Operation). (end : (at l blamed).end ≡ time) → c.in_ok-before_at.field-0.items ≡ last_of v.shown (v.left ++ filter (had_ended time) (remove l blamed))
