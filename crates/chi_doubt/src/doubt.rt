@@ -6,9 +6,8 @@ ghost use Rattle.chi_search.specs.Looks.{LookedSome};
 
 use crate::explained::latest_explained;
 use crate::open::most_at_once;
-use crate::own::own_operations;
 use chi_search::Progress;
-use chi_trace::Trace;
+use chi_trace::{Trace, operations_of};
 use std::alloc::{AllocError, Global};
 
 /// What is said of a granule of which it was not found whether its operations can be explained.
@@ -44,7 +43,7 @@ pub fn doubt_of<P: Progress>(
     ensures far { IfOk result (IsAsFar P.looked progress.old progress.new budget trace.now) }
     ensures looked { IfOk result (λ _. LookedSome P.looked progress.old progress.new) }
 {
-    let own = own_operations(alloc, trace.operations(), granule)?;
+    let own = operations_of(alloc, trace.operations(), granule)?;
     let word = trace.opening().get(granule).unwrap_or(0);
     Ok(Doubt {
         granule,

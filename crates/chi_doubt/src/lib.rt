@@ -4,7 +4,6 @@
 mod doubt;
 mod explained;
 mod open;
-mod own;
 mod up_to_time;
 
 pub use doubt::{Doubt, doubt_of};

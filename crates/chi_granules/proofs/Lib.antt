@@ -1,4 +1,3 @@
 mod Numbers
-mod Own
 pub mod Shown
 pub mod Undecided

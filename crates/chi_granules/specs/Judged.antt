@@ -1,9 +1,7 @@
 -- what is found of the granules of a trace
-use Rattle.std.specs.Prelude.{◌≡◌, ℕ, ◌==◌, ◌&&◌, nat_lt, not, List, [], ◌∷◌, ◌++◌, All, length, map, slice_index, ◌↔◌, ◌⊎◌}
+use Rattle.std.specs.Prelude.{◌≡◌, ℕ, ◌==◌, not, List, [], ◌∷◌, ◌++◌, All, map, ◌↔◌, ◌⊎◌}
 use Rattle.std.specs.List.{Contains, filter}
 use Rattle.std.specs.List.Sorted.{IsStrictlyIncreasing}
-use Rattle.chi_history.specs.History.{one_if}
-use Rattle.chi_trace.specs.Explains.{times_in}
 use Rattle.chi_trace.specs.Granules.{granule_of}
 use Rattle.chi_verdict.specs.declared.first.Blame.{Blame}
 use Rattle.chi_trace.specs.Traces.{IsExplainedIn}
@@ -12,10 +10,6 @@ use Rattle.chi_excerpt.specs.Failures.{order_in}
 use Rattle.chi_page.specs.declared.drawn.Drawn.{Drawn}
 use Rattle.chi_page.specs.declared.drawn.Finding.{Finding}
 use Rattle.chi_page.specs.declared.drawn.Finding.TheVariants.{Explained, Unexplained, Undecided}
-
--- the places at which a granule's number stands in a list, each once
-abbrev pub HasEach : List ℕ → ℕ → List ℕ → Type 0
-HasEach granules g places = (i : ℕ) → times_in places i ≡ one_if (nat_lt i (length granules) && (slice_index granules i == g))
 
 -- a granule's operations are explained by this order; or no order explains them; or neither was found
 abbrev pub IsFound : RecordedValue → ℕ → Finding → List ℕ → Type 0

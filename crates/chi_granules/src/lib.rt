@@ -3,10 +3,8 @@
 
 mod judge;
 mod listing;
-mod places;
 mod whole;
 
 pub use judge::judged_granule;
 pub use listing::judged_granules;
-pub use places::granules_of;
 pub use whole::{all_granules, granules_around};

@@ -2,39 +2,13 @@
 
 ghost use Rattle.std.specs.Prelude.{◌≡◌, All, IfOk, map};
 ghost use Rattle.chi_search.specs.Looks.{LookedAtLeast, LookedSome};
-ghost use Rattle.chi_trace.specs.Granules.{granule_of};
 ghost use Rattle.chi_granules.specs.Judged.{IfUndecided, IsJudged};
 
 use crate::judge::judged_granule;
-use crate::places::granules_of;
 use chi_page::Drawn;
 use chi_reading::Recorded;
 use chi_search::Progress;
 use std::alloc::{AllocError, Global};
-
-/// What is found of these granules.
-fn judged_each<P: Progress>(
-    alloc: Global,
-    recorded: &Recorded,
-    granules: &[u64],
-    granule_numbers: &[u64],
-    budget: u64,
-    progress: &mut P,
-) -> Result<Vec<Drawn>, AllocError>
-    requires { granules.now ≡ map granule_of recorded.now.trace.operations }
-    ensures judged { IfOk result (λ drawn. All (IsJudged recorded.now) drawn.items) }
-    ensures granules { IfOk result (λ drawn. map (λ d. d.granule) drawn.items ≡ granule_numbers.now) }
-    ensures undecided { IfOk result (λ drawn. All (λ d. IfUndecided d (LookedAtLeast P.looked progress.old progress.new budget)) drawn.items) }
-    ensures looked { IfOk result (λ _. LookedSome P.looked progress.old progress.new) }
-{
-    let mut drawn = Vec::with_capacity(alloc, granule_numbers.len())?;
-    for number in granule_numbers {
-        let mut left = budget;
-        let judged = judged_granule(alloc, recorded, granules, *number, &mut left, progress)?;
-        drawn.push(judged)?;
-    }
-    Ok(drawn)
-}
 
 /// What is found of the granules of these numbers, in this order. No more than `budget` states are looked at of each.
 ///
@@ -53,13 +27,11 @@ pub fn judged_granules<P: Progress>(
     ensures undecided { IfOk result (λ drawn. All (λ d. IfUndecided d (LookedAtLeast P.looked progress.old progress.new budget)) drawn.items) }
     ensures looked { IfOk result (λ _. LookedSome P.looked progress.old progress.new) }
 {
-    let granules = granules_of(alloc, recorded.trace().operations())?;
-    judged_each(
-        alloc,
-        recorded,
-        &granules,
-        granule_numbers,
-        budget,
-        progress,
-    )
+    let mut drawn = Vec::with_capacity(alloc, granule_numbers.len())?;
+    for number in granule_numbers {
+        let mut left = budget;
+        let judged = judged_granule(alloc, recorded, *number, &mut left, progress)?;
+        drawn.push(judged)?;
+    }
+    Ok(drawn)
 }

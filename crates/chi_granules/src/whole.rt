@@ -4,7 +4,6 @@ ghost use Rattle.std.specs.Prelude.{◌≡◌, ◌==◌, All, IfOk, filter, map,
 ghost use Rattle.chi_granules.specs.Judged.{AreAll, AreAround, AreGranules, IsJudged, IsShown};
 
 use crate::listing::judged_granules;
-use crate::places::granules_of;
 use chi_excerpt::order_in;
 use chi_page::{Drawn, Finding};
 use chi_reading::Recorded;
@@ -16,7 +15,10 @@ use std::alloc::{AllocError, Global};
 fn granule_numbers(alloc: Global, recorded: &Recorded) -> Result<Vec<u64>, AllocError>
     ensures { IfOk result (λ granule_numbers. AreGranules recorded.now granule_numbers.items) }
 {
-    let mut granule_numbers = granules_of(alloc, recorded.trace().operations())?;
+    let mut granule_numbers = Vec::new(alloc);
+    for op in recorded.trace().operations() {
+        granule_numbers.push(op.granule())?;
+    }
     for told in recorded.final_words().as_slice() {
         granule_numbers.push(told.granule)?;
     }

@@ -1,28 +1,12 @@
 //! The judge of a granule of a trace.
 
 ghost use Rattle.std.specs.Prelude.{◌≡◌, IfOk};
-ghost use Rattle.std.specs.List.{filter};
-ghost use Rattle.chi_trace.specs.AtPlaces.{is_in};
 ghost use Rattle.chi_trace.specs.Explains.{IsTrace};
 ghost use Rattle.chi_judge.specs.Reaches.{IsJudgeOf};
 
 use crate::judge::Judge;
-use chi_trace::Operation;
+use chi_trace::{Operation, operations_of};
 use std::alloc::{AllocError, Global};
-
-/// The operations of a granule, in the order in which they stand in the trace.
-fn own_operations(
-    alloc: Global,
-    ops: &[Operation],
-    granule: u64,
-) -> Result<Vec<Operation>, AllocError>
-    ensures { IfOk result (λ own. own.items ≡ filter (is_in granule) ops.now) }
-{
-    ops.iter()
-        .copied()
-        .filter(|op| op.granule() == granule)
-        .collect(alloc)
-}
 
 impl Judge {
     /// The judge of a granule that was told all its operations of a trace, from this word on. Where they stop being explained so
@@ -42,7 +26,7 @@ impl Judge {
         ensures judge { IfOk result (IsJudgeOf ops.now granule word) }
         ensures shown { IfOk result (λ judge. judge.shown ≡ shown) }
     {
-        let mut own = own_operations(alloc, ops, granule)?;
+        let mut own = operations_of(alloc, ops, granule)?;
         own.sort_by_key(|op| op.end)?;
         let mut judge = Judge::new(alloc, word, shown)?;
         for op in &own {

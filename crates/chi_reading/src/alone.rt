@@ -1,27 +1,11 @@
 //! One granule's part of a trace.
 
 ghost use Rattle.std.specs.Prelude.{◌≡◌, IfOk};
-ghost use Rattle.std.specs.List.{filter};
-ghost use Rattle.chi_trace.specs.AtPlaces.{is_in};
 ghost use Rattle.chi_reading.specs.TraceText.{alone, only};
 
 use crate::recorded::Recorded;
-use chi_trace::{GranuleWord, GranuleWords, Operation, Trace};
+use chi_trace::{GranuleWord, GranuleWords, Trace, operations_of};
 use std::alloc::{AllocError, Global};
-
-/// The granule's operations, in the order in which they stand.
-fn own_operations(
-    alloc: Global,
-    ops: &[Operation],
-    granule: u64,
-) -> Result<Vec<Operation>, AllocError>
-    ensures { IfOk result (λ own. own.items ≡ filter (is_in granule) ops.now) }
-{
-    ops.iter()
-        .copied()
-        .filter(|op| op.granule() == granule)
-        .collect(alloc)
-}
 
 /// The granule's word alone, where one is told.
 fn only(alloc: Global, words: &GranuleWords, granule: u64) -> Result<GranuleWords, AllocError>
@@ -48,7 +32,7 @@ impl Recorded {
     pub fn alone(&self, alloc: Global, granule: u64) -> Result<Recorded, AllocError>
         ensures { IfOk result (λ part. part ≡ alone granule self.now) }
     {
-        let operations = own_operations(alloc, self.trace().operations(), granule)?;
+        let operations = operations_of(alloc, self.trace().operations(), granule)?;
         let opening = only(alloc, self.trace().opening(), granule)?;
         let final_words = only(alloc, self.final_words(), granule)?;
         match Trace::new(opening, operations) {

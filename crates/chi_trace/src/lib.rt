@@ -15,5 +15,5 @@ pub use execution::{Executed, execute};
 pub use operation::Operation;
 pub use reply::{ReplyFault, reply_fault};
 pub use request_fields::{RequestFields, access};
-pub use trace::{Trace, are_traced, cut, operations_at};
+pub use trace::{Trace, are_traced, cut, operations_at, operations_of};
 pub use words::{GranuleWord, GranuleWords};

@@ -1,7 +1,8 @@
 //! Traces: what was observed at a home, from the words at the opening on.
 
 ghost use Rattle.std.specs.Prelude.{◌≡◌, ◌<◌, ◌↔◌, All, None, IfOk, IfSome, IsTrue, length};
-ghost use Rattle.chi_trace.specs.AtPlaces.{at_places};
+ghost use Rattle.std.specs.List.{filter};
+ghost use Rattle.chi_trace.specs.AtPlaces.{at_places, is_in};
 ghost use Rattle.chi_trace.specs.Cuts.{cut};
 ghost use Rattle.chi_trace.specs.Explains.{IsTrace};
 ghost use Rattle.chi_trace.specs.Words.{AreInOrder, AreWords};
@@ -94,6 +95,24 @@ pub fn operations_at(
         own.push(ops[*place])?;
     }
     Ok(own)
+}
+
+/// The operations of a granule, in the order in which they stand. The granule is named by its number, counted from address 0.
+///
+/// ```
+/// let own = operations_of(alloc, trace.operations(), 0x1000 / 8)?;
+/// ```
+pub fn operations_of(
+    alloc: Global,
+    ops: &[Operation],
+    granule: u64,
+) -> Result<Vec<Operation>, AllocError>
+    ensures { IfOk result (λ own. own.items ≡ filter (is_in granule) ops.now) }
+{
+    ops.iter()
+        .copied()
+        .filter(|op| op.granule() == granule)
+        .collect(alloc)
 }
 
 impl Trace {

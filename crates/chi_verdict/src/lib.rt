@@ -10,5 +10,6 @@ mod next_granule;
 mod verdict;
 
 pub use first::{Blame, First, first_unexplained};
+pub use granule::explain_granule;
 pub use held::words_held;
 pub use verdict::{Verdict, explain};

@@ -12,18 +12,21 @@ loop-told-init c = sym (append-nil _)
 
 pub loop-told-preserved : goal.loop-told-preserved
 loop-told-preserved c =
-    numbers_more c.in_ok-granule_numbers.granule_numbers.items c.loop-told.granule_numbers.items c.push.new.self.items c.as_slice-told-items.result.now c.loop-told.told-index _
-    c.loop-told-test.true c.loop-told.invariant c.in_ok-push.ensures.items
+    numbers_more c.loop-op.granule_numbers.items c.loop-told.granule_numbers.items c.push-in-loop-told.new.self.items c.as_slice-told-items.result.now c.loop-told.told-index _
+    c.loop-told-test.true c.loop-told.invariant c.in_ok-push-2.ensures.items
 
 pub returns : goal.returns
 returns c =
     let r = c.args.recorded.now in
     let granule_numbers = c.loop-told.granule_numbers.items in
+    let ops = c.operations-op-items.result.now in
     let words = c.as_slice-told-items.result.now in
-    let first : c.in_ok-granule_numbers.granule_numbers.items ≡ map granule_of r.trace.operations = rw (c.operations.ensures.operations, c.trace.ensures) at c.in_ok-granule_numbers.ensures in
+    let told : ops ≡ r.trace.operations = rw c.trace.ensures at c.operations-op-items.ensures.operations in
+    let first : c.loop-op.granule_numbers.items ≡ map granule_of r.trace.operations =
+    c.loop-op.invariant ∙ ap (map granule_of) (take_all c.loop-op.op-index ops (omega arith) ∙ told) in
     let second : words ≡ r.final_words = c.as_slice-told-items.ensures.words ∙ c.final_words.ensures in
-    let all : granule_numbers ≡ c.in_ok-granule_numbers.granule_numbers.items ++ map granule_told words =
-    c.loop-told.invariant ∙ ap (λ l. c.in_ok-granule_numbers.granule_numbers.items ++ map granule_told l) (take_all c.loop-told.told-index words (omega arith)) in
+    let all : granule_numbers ≡ c.loop-op.granule_numbers.items ++ map granule_told words =
+    c.loop-told.invariant ∙ ap (λ l. c.loop-op.granule_numbers.items ++ map granule_told l) (take_all c.loop-told.told-index words (omega arith)) in
     are_granules r granule_numbers c.sort.new.self.items c.dedup.new.self.items
     (all ∙ ap₂ (λ (xs : List ℕ) (ys : List GranuleWord). xs ++ map granule_told ys) first second) c.in_ok-sort.ensures.permutation c.in_ok-sort.ensures.sorted
     (dedup_is eqb c.sort.new.self.items c.dedup.new.self.items c.dedup.ensures.filtered)

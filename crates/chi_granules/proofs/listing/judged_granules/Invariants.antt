@@ -2,7 +2,7 @@
 use Rattle.std.proofs.Common.{◌≡◌, All, map, take}
 use Rattle.chi_search.specs.Looks.{LookedAtLeast, LookedSome}
 use Rattle.chi_granules.specs.Judged.{IfUndecided, IsJudged}
-use Rattle.chi_granules.proofs.listing.judged_each.Given as goal
+use Rattle.chi_granules.proofs.listing.judged_granules.Given as goal
 
 abbrev pub invariant-loop-number : goal.invariant-loop-number
 invariant-loop-number g l = record {

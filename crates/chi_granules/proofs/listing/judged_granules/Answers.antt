@@ -5,7 +5,7 @@ use Rattle.std.proofs.lemmas.List.Elements.{All-push}
 use Rattle.chi_search.proofs.Looking.{some_after}
 use Rattle.chi_granules.specs.Judged.{IsJudged}
 use Rattle.chi_granules.proofs.Undecided.{one_more}
-use Rattle.chi_granules.proofs.listing.judged_each.Goals as goal
+use Rattle.chi_granules.proofs.listing.judged_granules.Goals as goal
 
 pub loop-number-preserved : goal.loop-number-preserved
 loop-number-preserved g c =
