@@ -76,6 +76,19 @@ def unexplained(case, text, first):
     told(f"{case}: {(status, out, errors)}", status == 1 and out.decode().startswith(first) and not errors)
 
 
+# Why no home gives a reply, whatever the memory holds.
+WITH_DATA = "its kind has a reply without data"
+WITHOUT_DATA = "its kind has a reply with data"
+OUTSIDE = "a byte outside its operand is not 0"
+
+
+def impossible(case, text, granule, reason, words="explain"):
+    """The answer blames an operation of this granule, to which no home answers so, for this reason."""
+    status, out, errors = run(CHECKER, words.split(), text)
+    first, line = f"not explained: granule {granule:016x}\n", f"\n    no home answers so: {reason}\n"
+    told(f"{case}: {(status, out, errors)}", status == 1 and out.decode().startswith(first) and line in out.decode() and not errors)
+
+
 def trace(requests, granules=1, **members):
     """A trace over these granules from 4096 on, as text."""
     return json.dumps({"base": 4096, "granules": granules, **members, "requests": requests})

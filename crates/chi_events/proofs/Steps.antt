@@ -37,11 +37,10 @@ no_fault true x o is = cc
 no_fault false x o is = (refl, is)
 
 -- a request whose completion has no fault is not refused
-accepted_by : (refused : Option Refusal) (access : Option Access) (r : Option ReplyAt) → ended_fault refused access (option_map (λ (r : ReplyAt). r.reply) r) ≡ None
-    → is_some r ≡ true → refused ≡ None
-accepted_by refused access None none some = absurd (true≢false (sym some))
-accepted_by None access (Some r) none some = refl
-accepted_by (Some reason) access (Some r) none some = cc
+accepted_by : (refused : Option Refusal) (r : Option ReplyAt) → ended_fault refused (option_map (λ (r : ReplyAt). r.reply) r) ≡ None → is_some r ≡ true → refused ≡ None
+accepted_by refused None none some = absurd (true≢false (sym some))
+accepted_by None (Some r) none some = refl
+accepted_by (Some reason) (Some r) none some = cc
 
 -- an access that was decided at a time
 decided_time : (time : ℕ) (o : Option Access) (x : AccessAt) → ◌≡◌ {A = Option AccessAt} (option_map (λ access. record { time = time; access = access }) o) (Some x) → time ≡ x.time
@@ -104,7 +103,7 @@ module _ (time : ℕ) (t : RequestEvents) (by : IsBy time t) (accepted : IsAccep
   reply_leaves c fault =
       let e : Event = record { time = time; kind = event_kind.Reply c } in
       let at : ReplyAt = record { time = time; reply = c.reply } in
-      let faults = no_fault _ _ (ended_fault (refusal_told t) (open_of t).access (Some c.reply)) fault in
+      let faults = no_fault _ _ (ended_fault (refusal_told t) (Some c.reply)) fault in
       let none = none_mapped (λ (r : ReplyAt). r.reply) (reply_told t) faults.0 in
       let reply : reply_told (with_event e t) ≡ Some at = reply_more e t ∙ ap (λ o. or_else o (Some at)) none in
       let same : open_of (with_event e t) ≡ with_reply c (open_of t) =
@@ -113,7 +112,7 @@ module _ (time : ℕ) (t : RequestEvents) (by : IsBy time t) (accepted : IsAccep
         subst (λ (o : Open). Leaves (with_event e t) (still_open o) (ended_by time o)) same
             (settled (with_event e t) time (drop_more e t ∙ or-false (is_dropped t) ∙ (waiting t outstanding).kept) (λ x y access told. last at x y (sym told ∙ reply)
             (subst (λ (o : Option AccessAt). IfSome o (λ a. a.time ≤ time)) (sym (same_access e t refl) ∙ access) (access_by time t by)) refl)),
-        record { decided = λ some. same_refusal e t refl ∙ accepted_by (refusal_told t) (open_of t).access (Some at) faults.1 refl },
+        record { decided = λ some. same_refusal e t refl ∙ accepted_by (refusal_told t) (Some at) faults.1 refl },
       )
     where
       last : (at : ReplyAt) (x : AccessAt) (y : ReplyAt) → Some y ≡ Some at → x.time ≤ time → at.time ≡ time → max x.time y.time ≡ time
@@ -145,7 +144,7 @@ module _ (time : ℕ) (t : RequestEvents) (by : IsBy time t) (accepted : IsAccep
             (settled (with_event e t) time (drop_more e t ∙ or-false (is_dropped t) ∙ (waiting t outstanding).kept) (λ x y told replied.
             later_time time x.time y.time (decided_time time (result_ok decision) x (sym access ∙ told))
             (subst (λ (o : Option ReplyAt). IfSome o (λ r. r.time ≤ time)) (sym reply ∙ replied) (reply_by time t by)))),
-        record { decided = λ some. refused ∙ accepted_by (refusal_of true decision) (result_ok decision) (reply_told t) faults.1 (ap is_some (sym reply) ∙ some) },
+        record { decided = λ some. refused ∙ accepted_by (refusal_of true decision) (reply_told t) faults.1 (ap is_some (sym reply) ∙ some) },
       )
 
 -- what is left of a request that was taken

@@ -8,7 +8,6 @@ use Rattle.chi_fields.specs.Extent.{Extent}
 use Rattle.chi_fields.specs.declared.refusal.Refusal.{Refusal}
 use Rattle.chi_fields.specs.declared.refusal.Refusal.TheVariants as refusal
 use Rattle.chi_lanes.specs.declared.reply.Reply.{Reply}
-use Rattle.chi_trace.specs.Replies.{reply_fault as seen_fault}
 use Rattle.chi_trace.specs.RequestFields.{IsPacket, access_of, as_operation}
 use Rattle.chi_trace.specs.declared.request_fields.RequestFields.{RequestFields}
 use Rattle.chi_trace.specs.declared.operation.Operation.{Operation}
@@ -101,17 +100,15 @@ abbrev pub request_fault : Option Open → Option EventFault
 request_fault (Some o) = Some fault.NumberTaken
 request_fault None = None
 
--- Why a request has no such completion. Once that has left, a home has accepted the request, and once its data have come too, the
--- reply is one of its access.
-abbrev pub ended_fault : Option Refusal → Option Access → Option (Option Reply) → Option EventFault
-ended_fault refused access None = None
-ended_fault (Some reason) access (Some seen) = Some (fault.Refused reason)
-ended_fault None None (Some seen) = None
-ended_fault None (Some access) (Some seen) = option_map fault.Reply (seen_fault access seen)
+-- why a request has no completion: once that has left, a home has accepted the request
+abbrev pub ended_fault : Option Refusal → Option (Option Reply) → Option EventFault
+ended_fault refused None = None
+ended_fault None (Some seen) = None
+ended_fault (Some reason) (Some seen) = Some (fault.Refused reason)
 
 -- the same with its data, with which a home decides so
 abbrev pub decided_fault : Option (Option Reply) → Result Access Refusal → Option EventFault
-decided_fault completion decision = ended_fault (refusal_of true decision) (result_ok decision) completion
+decided_fault completion decision = ended_fault (refusal_of true decision) completion
 
 abbrev pub data_fault : Packet → Option Open → Option EventFault
 data_fault p None = Some fault.NotOutstanding
@@ -119,7 +116,7 @@ data_fault p (Some o) = if o.is_whole then Some fault.DataTwice else decided_fau
 
 abbrev pub reply_fault : Completion → Option Open → Option EventFault
 reply_fault c None = Some fault.NotOutstanding
-reply_fault c (Some o) = if is_some o.completion then Some fault.ReplyTwice else ended_fault o.refusal o.access (Some c.reply)
+reply_fault c (Some o) = if is_some o.completion then Some fault.ReplyTwice else ended_fault o.refusal (Some c.reply)
 
 abbrev pub drop_fault : Option Open → Option EventFault
 drop_fault None = Some fault.NotOutstanding

@@ -9,7 +9,7 @@ use crate::event::{Completion, EventKind, Packet, Requested};
 use crate::fault::EventFault;
 use crate::outstanding::Open;
 use chi_fields::Refusal;
-use chi_trace::{Operation, reply_fault};
+use chi_trace::Operation;
 
 /// The place of the outstanding request with a number.
 fn place_of(requests: &[Open], id: u64) -> Option<usize>
@@ -67,23 +67,21 @@ fn take_request(requests: &mut Vec<Open>, time: u64, request: &Requested) -> Res
     }
 }
 
-/// Why a request has no such completion, where that has left.
+/// Why no home has completed a request, where its completion has left.
 fn ended_fault(request: &Open) -> Option<EventFault>
-    ensures { result ≡ ended_fault request.now.refusal request.now.access request.now.completion }
+    ensures { result ≡ ended_fault request.now.refusal request.now.completion }
 {
-    let seen = request.completion?;
-    if let Some(refusal) = request.refusal {
-        return Some(EventFault::Refused(refusal));
+    if request.completion.is_none() {
+        return None;
     }
-    let access = request.access?;
-    let fault = reply_fault(&access, &seen)?;
-    Some(EventFault::Reply(fault))
+    let refusal = request.refusal?;
+    Some(EventFault::Refused(refusal))
 }
 
-/// A request, unless it has a completion that no home gives it.
+/// A request, unless it has a completion though every home refuses it.
 fn fitting(request: Open) -> Result<Open, EventFault>
-    ensures fits { IfOk result (λ now. (ended_fault request.refusal request.access request.completion ≡ None) × (now ≡ request)) }
-    ensures fault { IfErr result (λ fault. ended_fault request.refusal request.access request.completion ≡ Some fault) }
+    ensures fits { IfOk result (λ now. (ended_fault request.refusal request.completion ≡ None) × (now ≡ request)) }
+    ensures fault { IfErr result (λ fault. ended_fault request.refusal request.completion ≡ Some fault) }
 {
     match ended_fault(&request) {
         Some(fault) => Err(fault),

@@ -1,7 +1,6 @@
 //! Why an event cannot come next.
 
 use chi_fields::{Refusal, refusal_name};
-use chi_trace::ReplyFault;
 use thiserror::Error;
 
 /// Why an event cannot come after those before it.
@@ -14,8 +13,6 @@ use thiserror::Error;
 /// - `Refused`: the request's completion has left, and `decode` refuses it, so that no home can have accepted it.
 /// - `NotRefusedSo`: no home refuses the request for this reason.
 /// - `RefusedAfterReply`: the home has accepted the request, since its completion has left.
-/// - `Reply`: by it the data of a request have come and its completion has left, and no home gives that request this reply,
-///   whatever the memory holds.
 ///
 /// ```
 /// let fault = EventFault::TimeFalls; // is earlier than the event before it
@@ -38,8 +35,6 @@ pub enum EventFault {
     NotRefusedSo,
     #[error("refuses a request that has a reply")]
     RefusedAfterReply,
-    #[error("ends a request that {0}")]
-    Reply(ReplyFault),
     #[error("no memory")]
     Memory,
 }

@@ -2,8 +2,10 @@
 use Rattle.std.specs.Prelude.{ℕ, nat_lt, true, false, if◌then◌else◌, List, [], ◌∷◌, ◌++◌, codes, decimal, filter, flat_map, length, Some}
 use Rattle.chi_lanes.specs.declared.reply.Reply.{Reply}
 use Rattle.chi_judge.specs.declared.reach.Stop.{Stop}
+use Rattle.chi_trace.specs.Replies.{reply_fault}
 use Rattle.chi_trace.specs.declared.operation.Operation.{Operation}
 use Rattle.chi_excerpt.specs.declared.columns.Widths.{Widths}
+use Rattle.chi_excerpt.specs.Impossible.{impossible_text}
 use Rattle.chi_excerpt.specs.Operands.{returned_text}
 use Rattle.chi_excerpt.specs.Rows.{first_start, widths_of}
 use Rattle.chi_excerpt.specs.Texts.{row_text}
@@ -24,9 +26,9 @@ legal_line row reply = codes "    legal would be:" ++ (returned_text row.access 
 unfoldable pub line_of_time : ℕ → ℕ → List ℕ
 line_of_time from to = codes "  the last operations of the granule, from time " ++ decimal from ++ codes " to " ++ decimal to ++ codes ":\n"
 
--- the operation that is blamed, with the replies that would have been legal
+-- the operation that is blamed, why no home answers so, where none does, and the replies that would have been legal
 unfoldable pub blamed_text : List ℕ → ℕ → ℕ → Widths → Stop → List ℕ
-blamed_text label from to w s = row_text label true from to w s.op ++ flat_map (legal_line s.op) s.legal.items
+blamed_text label from to w s = row_text label true from to w s.op ++ (impossible_text (reply_fault s.op.access s.op.reply) ++ flat_map (legal_line s.op) s.legal.items)
 
 -- the number of an operation's request
 abbrev pub number_text : Operation → List ℕ

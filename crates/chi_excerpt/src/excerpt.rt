@@ -5,6 +5,7 @@ ghost use Rattle.chi_excerpt.specs.Excerpts.{all_rows, blamed_text, ended_after,
 ghost use Rattle.chi_excerpt.specs.Texts.{row_text};
 
 use crate::columns::{Widths, first_start, widths_of};
+use crate::impossible::add_impossible;
 use crate::line::add_row;
 use crate::operand::add_returned;
 use chi_judge::Stop;
@@ -85,6 +86,7 @@ fn add_blamed(
     ensures { OnOk result (to.new.items ≡ to.old.items ++ blamed_text label.now line.0 line.1 widths stop.now) }
 {
     add_row(to, label, true, line, widths, &stop.op)?;
+    add_impossible(to, &stop.op)?;
     add_each_legal(to, &stop.op, &stop.legal)
 }
 

@@ -5,6 +5,7 @@ mod bar;
 mod columns;
 mod excerpt;
 mod failure;
+mod impossible;
 mod line;
 mod operand;
 

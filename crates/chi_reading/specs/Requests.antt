@@ -16,7 +16,6 @@ use Rattle.chi_json.specs.Members.{◌>>=◌, member_by, number_of, or_else}
 use Rattle.chi_json.specs.Unknown.{unknown_in}
 use Rattle.chi_json.specs.Values.{hex_bytes}
 use Rattle.chi_trace.specs.RequestFields.{access_of, as_operation}
-use Rattle.chi_trace.specs.Replies.{reply_fault}
 use Rattle.chi_trace.specs.declared.request_fields.RequestFields.{RequestFields}
 use Rattle.chi_trace.specs.declared.operation.Operation.{Operation}
 use Rattle.chi_reading.specs.declared.member.Member.{Member}
@@ -104,7 +103,7 @@ unfoldable pub observed_of : Option Extent → Stated → Option Reply → Resul
 observed_of region s reply = do
   access ← or_else request_fault.Refused (access_of region s.fields)
   if nat_lt s.end s.start then Err request_fault.EndsBeforeStart
-      else faultless request_fault.Reply (reply_fault access reply) (as_operation s.fields access s.start s.end reply)
+      else Ok (as_operation s.fields access s.start s.end reply)
 
 -- why a request was refused, where the home refuses it for this reason
 unfoldable pub refused_of : Option Extent → Stated → Refusal → Result Refusal RequestFault

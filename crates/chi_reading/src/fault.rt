@@ -7,7 +7,6 @@ ghost use Rattle.chi_reading.specs.Faults.{of_line, of_request, of_trace};
 use crate::member::Member;
 use chi_fields::{Refusal, RegionFault, refusal_name, region_fault_name};
 use chi_json::{MemberFault, ObjectFault};
-use chi_trace::ReplyFault;
 use std::alloc::AllocError;
 use thiserror::Error;
 
@@ -20,7 +19,6 @@ pub const MOST_OPERATIONS: usize = 1_048_576;
 /// - `Refused`: `decode` refuses the request, so that no home can have completed it.
 /// - `NotRefusedSo`: it was refused for a reason for which `decode` does not refuse it.
 /// - `EndsBeforeStart`: its end is below its start.
-/// - `Reply`: it has a reply that no home gives it, whatever the memory holds.
 ///
 /// ```
 /// let fault = RequestFault::EndsBeforeStart; // ends before it starts
@@ -35,8 +33,6 @@ pub enum RequestFault {
     NotRefusedSo,
     #[error("ends before it starts")]
     EndsBeforeStart,
-    #[error("{0}")]
-    Reply(ReplyFault),
 }
 
 /// Why a trace is refused: the first fault that its walk meets, or `Memory` where a growth is refused before.

@@ -12,7 +12,7 @@ use crate::refused::refused;
 use crate::stated::{Outcome, Stated, stated_at};
 use chi_fields::{Refusal, Region};
 use chi_lanes::Reply;
-use chi_trace::{Operation, access, reply_fault};
+use chi_trace::{Operation, access};
 use serde_json::Value;
 use std::alloc::{AllocError, Global};
 use std::marker::Model;
@@ -82,9 +82,6 @@ fn observed(
     };
     if stated.end < stated.start {
         return Err(RequestFault::EndsBeforeStart);
-    }
-    if let Some(fault) = reply_fault(&access, &reply) {
-        return Err(RequestFault::Reply(fault));
     }
     Ok(
         stated

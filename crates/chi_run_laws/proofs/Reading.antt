@@ -23,13 +23,11 @@ use Rattle.chi_json.proofs.ObjectLemmas.{number_here, order_here, order_within}
 use Rattle.chi_json.specs.Object.{IsReadBack, byte_order, with_bytes, with_number, with_request, with_text}
 use Rattle.chi_reading.specs.Member.{member_name}
 use Rattle.chi_reading.specs.Refused.{is_refused_so, refusal_of}
-use Rattle.chi_trace.specs.Replies.{reply_fault}
 use Rattle.chi_trace.specs.RequestFields.{request_of}
 use Rattle.chi_reading.specs.Requests.{completed_at, end_of, fields_of, observed_of, one_accepted, one_refused, refused_of, seen_of, stated_at, stated_of, stated_request}
 use Rattle.chi_json.specs.Unknown.{is_known, unknown_in}
 use Rattle.chi_trace.specs.declared.request_fields.RequestFields.{RequestFields}
 use Rattle.chi_reading.specs.declared.member.Member.TheVariants.{Src, Txn, Opcode, Size, Addr, Endian, Be, Start, End}
-use Rattle.chi_trace.proofs.AnswersLie.{answer_is_faultless}
 use Rattle.chi_engine.specs.Trace.{taken_at, with_reply}
 use Rattle.chi_run_laws.specs.Executed.{done_at}
 use Rattle.chi_script.specs.Script.{IsWritable}
@@ -135,10 +133,9 @@ no_later time = le-ltb time time (omega arith)
 
 -- a request that was answered reads as its operation
 answered_reads : (region : Extent) (place : ℕ) (q : Request) (a : Access) (reply : Reply) (x : Data) → IsWritable q → place ≤ 2 ^ 64 - 1 → seen_of x ≡ Some (Some reply)
-    → decision q region ≡ Ok a → reply_fault a (Some reply) ≡ None
-    → completed_at place (Some region) (object (put (codes "reply") x (taken_at place q))) ≡ Ok (one_accepted (done_at place q reply a))
+    → decision q region ≡ Ok a → completed_at place (Some region) (object (put (codes "reply") x (taken_at place q))) ≡ Ok (one_accepted (done_at place q reply a))
 unfolding completed_at stated_at stated_of end_of observed_of unknown_in is_known taken_at with_request with_number with_bytes
-answered_reads region place q a reply x told within seen is faultless =
+answered_reads region place q a reply x told within seen is =
     let d : Data = object (put (codes "reply") x (taken_at place q)) in
     rw (
       asked_answered place q x told,
@@ -148,7 +145,6 @@ answered_reads region place q a reply x told within seen is faultless =
       same_decision place region q,
       is,
       no_later place,
-      faultless,
     ) refl
 
 -- so does one that was completed
@@ -156,7 +152,7 @@ pub completed_reads : (region : Extent) (place : ℕ) (q : Request) (a : Access)
     → completed_at place (Some region) (object (with_reply (answer a m) (taken_at place q))) ≡ Ok (one_accepted (done_at place q (answer a m) a))
 completed_reads region place q a m told within back is =
     ap (λ (ms : Members). completed_at place (Some region) (object ms)) (with_reply_is (answer a m) (taken_at place q))
-    ∙ answered_reads region place q a (answer a m) (reply_data (answer a m)) told within (reply_read (answer a m) back) is (answer_is_faultless a m)
+    ∙ answered_reads region place q a (answer a m) (reply_data (answer a m)) told within (reply_read (answer a m) back) is
 
 -- one that was refused reads as its refusal
 pub refused_reads : (region : Extent) (place : ℕ) (q : Request) (refusal : Refusal) → IsWritable q → place ≤ 2 ^ 64 - 1 → decision q region ≡ Err refusal

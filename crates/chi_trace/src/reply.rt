@@ -6,24 +6,16 @@ ghost use Rattle.chi_trace.specs.Replies.{answers_data, are_zero, is_within, rep
 
 use chi_fields::{Access, Kind};
 use chi_lanes::Reply;
-use thiserror::Error;
 
 /// Why an access has no such reply, whatever the memory holds.
 ///
 /// - `WithData`: a write or a store is answered without data.
 /// - `WithoutData`: every other kind is answered with data.
 /// - `OutsideOperand`: a lane outside the operand is not 0.
-///
-/// ```
-/// let fault = ReplyFault::WithData; // has a reply with data, and its kind has none
-/// ```
-#[derive(Clone, Copy, Debug, PartialEq, Eq, Error)]
+#[derive(Clone, Copy, Debug, PartialEq, Eq)]
 pub enum ReplyFault {
-    #[error("has a reply with data, and its kind has none")]
     WithData,
-    #[error("has a reply without data, and its kind has some")]
     WithoutData,
-    #[error("has a reply with a byte outside its operand")]
     OutsideOperand,
 }
 

@@ -8,7 +8,7 @@ use crate::tests::comparison::assert_same;
 use chi_events::{EventFault, EventKind};
 use chi_fields::Refusal;
 use chi_lanes::Reply;
-use chi_trace::ReplyFault;
+use chi_trace::Operation;
 use std::process::Abort;
 use std::test::Fail;
 
@@ -32,6 +32,11 @@ fn assert_fault<R: AllocGlobal + Abort>(
 ) -> Result<(), Fail> {
     assert_same(rt, (text, found), (text, Some(wanted)));
     assert_text(rt, wanted, text)
+}
+
+// The reply of an operation that ended.
+fn reply_of(ended: Option<Operation>) -> Option<Reply> {
+    ended?.reply
 }
 
 // Request 1 has its data, request 2 waits for them, and so does request 3, whose completion has left. Request 4 needs none.
@@ -123,40 +128,26 @@ fn faults_and_their_texts(rt: HostRuntime) -> Result<(), Fail> {
     assert_text(&rt, EventFault::Memory, "no memory")
 }
 
-// Such a reply is refused where the request has its data, whatever the memory holds. Lane 7 is before the operand.
+// An operation ends by a reply that no home gives it, whatever the memory holds, and has that reply: no order explains it then. Lane 7
+// is before the operand.
 #[test]
 fn replies_that_no_home_gives(rt: HostRuntime) -> Result<(), Fail> {
     let mut stray = OLD;
     stray[7] = 1;
-    for (opcode, sent, fault, text) in &[
-        (
-            0x28,
-            Reply::CompData(OLD),
-            ReplyFault::WithData,
-            "ends a request that has a reply with data, and its kind has none",
-        ),
-        (
-            0x30,
-            Reply::Comp,
-            ReplyFault::WithoutData,
-            "ends a request that has a reply without data, and its kind has some",
-        ),
-        (
-            0x30,
-            Reply::CompData(stray),
-            ReplyFault::OutsideOperand,
-            "ends a request that has a reply with a byte outside its operand",
-        ),
+    for (opcode, sent) in &[
+        (0x28, Reply::CompData(OLD)),
+        (0x30, Reply::Comp),
+        (0x30, Reply::CompData(stray)),
     ] {
         let fields = request(*opcode, 3, 4104, ENABLES);
         let mut outstanding = after(rt.alloc(), &[(10, fields)])?;
-        let found = take(&mut outstanding, 11, reply(9, Some(*sent))).err();
-        assert_fault(&rt, found, EventFault::Reply(*fault), text)?;
+        let ended = take(&mut outstanding, 11, reply(9, Some(*sent)))?;
+        assert_same(&rt, reply_of(ended), Some(*sent));
     }
     Ok(())
 }
 
-// Where the data come last it is they that are refused. A request that is dropped before has no reply that counts.
+// The same where its data come last.
 #[test]
 fn data_after_a_reply_that_no_home_gives(rt: HostRuntime) -> Result<(), Fail> {
     let events = [
@@ -164,10 +155,9 @@ fn data_after_a_reply_that_no_home_gives(rt: HostRuntime) -> Result<(), Fail> {
         (11, reply(3, Some(Reply::Comp))),
     ];
     let mut outstanding = after(rt.alloc(), &events)?;
-    let found = take(&mut outstanding, 12, data(3, ENABLES)).err();
-    let fault = EventFault::Reply(ReplyFault::WithoutData);
-    assert_same(&rt, found, Some(fault));
-    take_each(&mut outstanding, &[(12, EventKind::Dropped { id: 3 })])
+    let ended = take(&mut outstanding, 12, data(3, ENABLES))?;
+    assert_same(&rt, reply_of(ended), Some(Reply::Comp));
+    Ok(())
 }
 
 // A request that a home refuses is taken, and its completion is refused.
