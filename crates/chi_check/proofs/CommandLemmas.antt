@@ -59,23 +59,23 @@ cover_met rest =
 
 -- each name is that of its own task alone
 explain_named : (name : Text) (task : Task) → IsNamed name task → name ≡ codes "explain" → IsExplain task
-explain_named name (Explain options) named is = tt
-explain_named name (Watch options) named is =
+explain_named name (Explain options file) named is = tt
+explain_named name (Watch options file) named is =
     let other : false ≡ true = sym (ap (λ n. bytes_eq n (codes "watch")) is) ∙ named in cc
 explain_named name (Cover options) named is =
     let other : false ≡ true = sym (ap (λ n. bytes_eq n (codes "cover")) is) ∙ named in cc
 
 watch_named : (name : Text) (task : Task) → IsNamed name task → name ≡ codes "watch" → IsWatch task
-watch_named name (Explain options) named is =
+watch_named name (Explain options file) named is =
     let other : true ≡ false = sym (ap (λ n. bytes_eq n (codes "watch")) is) ∙ named.0 in cc
-watch_named name (Watch options) named is = tt
+watch_named name (Watch options file) named is = tt
 watch_named name (Cover options) named is =
     let other : false ≡ true = sym (ap (λ n. bytes_eq n (codes "cover")) is) ∙ named in cc
 
 cover_named : (name : Text) (task : Task) → IsNamed name task → name ≡ codes "cover" → IsCover task
-cover_named name (Explain options) named is =
+cover_named name (Explain options file) named is =
     let other : true ≡ false = sym (ap (λ n. bytes_eq n (codes "cover")) is) ∙ named.1 in cc
-cover_named name (Watch options) named is =
+cover_named name (Watch options file) named is =
     let other : false ≡ true = sym (ap (λ n. bytes_eq n (codes "watch")) is) ∙ named in cc
 cover_named name (Cover options) named is = tt
 

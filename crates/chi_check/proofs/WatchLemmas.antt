@@ -91,9 +91,9 @@ module _ (holds : List ℕ → List ℕ → Type 0) where
   flushed : (task : Task) (remaining old mid new : Option (List ℕ)) (status : ℕ) → IfSome remaining (λ input. TaskOutcome holds task input old mid (Ok status)) → Keeps mid new
       → IfSome remaining (λ input. TaskOutcome holds task input old new (Ok status))
   flushed task None old mid new status outcome keeps = tt
-  flushed (Explain options) (Some input) old mid new status (answer, text, answers, status_is, appends) keeps =
+  flushed (Explain options file) (Some input) old mid new status (answer, text, answers, status_is, appends) keeps =
       (answer, text, answers, status_is, appends_kept old mid new text appends keeps)
-  flushed (Watch options) (Some input) old mid new status (watched, is, status_is, appends) keeps =
+  flushed (Watch options file) (Some input) old mid new status (watched, is, status_is, appends) keeps =
       (watched, is, status_is, appends_kept old mid new (watched_text options watched) appends keeps)
   flushed (Cover options) (Some input) old mid new status (counts, has, status_is, appends) keeps =
       (counts, has, status_is, appends_kept old mid new (cover_text counts) appends keeps)
@@ -101,9 +101,9 @@ module _ (holds : List ℕ → List ℕ → Type 0) where
   flush_failed : (task : Task) (remaining old mid new : Option (List ℕ)) (status : ℕ) (fault : WriteFault) → IfSome remaining (λ input. TaskOutcome holds task input old mid (Ok status))
       → Keeps mid new → IfSome remaining (λ input. TaskOutcome holds task input old new (Err (check_fault.Write fault)))
   flush_failed task None old mid new status fault outcome keeps = tt
-  flush_failed (Explain options) (Some input) old mid new status fault (answer, text, answers, status_is, appends) keeps =
+  flush_failed (Explain options file) (Some input) old mid new status fault (answer, text, answers, status_is, appends) keeps =
       (answer, text, answers, whole_front old new text (appends_kept old mid new text appends keeps))
-  flush_failed (Watch options) (Some input) old mid new status fault (watched, is, status_is, appends) keeps =
+  flush_failed (Watch options file) (Some input) old mid new status fault (watched, is, status_is, appends) keeps =
       inl (watched, is, whole_front old new (watched_text options watched) (appends_kept old mid new (watched_text options watched) appends keeps))
   flush_failed (Cover options) (Some input) old mid new status fault (counts, has, status_is, appends) keeps =
       (counts, has, whole_front old new (cover_text counts) (appends_kept old mid new (cover_text counts) appends keeps))

@@ -21,22 +21,27 @@ around_rule = number_rule_or (codes "around") (codes "16")
 abbrev pub html_rule : Rule
 html_rule = text_rule (codes "html") []
 
+-- the file that is read is any text, where there is one
+abbrev pub file_rule : Rule
+file_rule = record (new_rule (codes "file")) { value_names = 1 }
+
 -- the task `explain`: its input may tell events, its witness may be asked for, its granule, its limits, its time and how many
--- operations are shown are whole numbers below 2^64, and it has a file and a budget
+-- operations are shown are whole numbers below 2^64, and it has the file of a page, a budget and a file that is read
 abbrev pub explain_app : App
 explain_app =
-    with_rule (with_rule (with_rule (with_rule (with_rule (with_rule (with_rule (with_rule (with_rule (new_app (codes "explain")) (switch_rule (codes "events"))) (switch_rule (codes "witness"))) (number_rule (codes "granule")))
-    (number_rule (codes "until"))) around_rule) html_rule) budget_rule) (number_rule (codes "seconds"))) (number_rule (codes "memory"))
+    with_rule (with_rule (with_rule (with_rule (with_rule (with_rule (with_rule (with_rule (with_rule (with_rule (new_app (codes "explain")) (switch_rule (codes "events"))) (switch_rule (codes "witness"))) (number_rule (codes "granule")))
+    (number_rule (codes "until"))) around_rule) html_rule) budget_rule) (number_rule (codes "seconds"))) (number_rule (codes "memory"))) file_rule
 
 -- how many operations have to have ended is a whole number below 2^64, and 0 by default
 abbrev pub operations_rule : Rule
 operations_rule = number_rule_or (codes "require-operations") (codes "0")
 
--- the task `watch`: it has a budget, may be asked to keep going, and may require the end, operations, quiet and judging
+-- the task `watch`: it has a budget, may be asked to keep going, and may require the end, operations, quiet and judging,
+-- and it has a file that is read
 abbrev pub watch_app : App
 watch_app =
-    with_rule (with_rule (with_rule (with_rule (with_rule (with_rule (new_app (codes "watch")) budget_rule) (switch_rule (codes "keep-going"))) (switch_rule (codes "require-end"))) operations_rule)
-    (switch_rule (codes "require-quiet"))) (switch_rule (codes "require-judged"))
+    with_rule (with_rule (with_rule (with_rule (with_rule (with_rule (with_rule (new_app (codes "watch")) budget_rule) (switch_rule (codes "keep-going"))) (switch_rule (codes "require-end"))) operations_rule)
+    (switch_rule (codes "require-quiet"))) (switch_rule (codes "require-judged"))) file_rule
 
 -- how many of a hundred bins have to have counted an operation is a whole number below 2^64, and 0 by default
 abbrev pub require_rule : Rule

@@ -1,7 +1,8 @@
 -- which task the arguments name, and with which options
-use Rattle.std.specs.Prelude.{◌≡◌, true, false, [], List, unwrap_or, Some, codes}
+use Rattle.std.specs.Prelude.{◌≡◌, true, false, [], List, unwrap_or, Option, Some, codes}
 use Rattle.std.specs.Option.{option_map}
 use Rattle.std.specs.Str.{bytes_eq}
+use Rattle.std.specs.Borrow.{Bor}
 use Rattle.clap.specs.Walk.{Row, Text, all_of, first_of, one_of}
 use Rattle.clap.specs.Simple.{subcommand_of}
 use Rattle.chi_check.specs.declared.command.Task.{Task}
@@ -20,8 +21,8 @@ Finds arguments name found = subcommand_of program_app arguments ≡ Some (name,
 
 -- the name `watch` is that of the watch, `cover` that of the count, and any other that of the explaining
 abbrev pub IsNamed : Text → Task → Type 0
-IsNamed name (Explain options) = (bytes_eq name (codes "watch") ≡ false) × (bytes_eq name (codes "cover") ≡ false)
-IsNamed name (Watch options) = bytes_eq name (codes "watch") ≡ true
+IsNamed name (Explain options file) = (bytes_eq name (codes "watch") ≡ false) × (bytes_eq name (codes "cover") ≡ false)
+IsNamed name (Watch options file) = bytes_eq name (codes "watch") ≡ true
 IsNamed name (Cover options) = bytes_eq name (codes "cover") ≡ true
 
 -- the options of `explain` are those that were found
@@ -56,10 +57,14 @@ pub record HasCoverOptions (found : List Row) (options : CoverOptions) : Type 0 
   pub html : option_map (λ s. s.now) options.html ≡ first_of (codes "html") found
   pub files : paths_of options ≡ unwrap_or (all_of (codes "file") found) []
 
+-- the file that is read is the one that was found
+abbrev pub IsFile : List Row → Option (Bor Text) → Type 0
+IsFile found file = option_map (λ s. s.now) file ≡ first_of (codes "file") found
+
 -- the task has the options that were found
 abbrev pub HasOptions : List Row → Task → Type 0
-HasOptions found (Explain options) = HasExplainOptions found options
-HasOptions found (Watch options) = HasWatchOptions found options
+HasOptions found (Explain options file) = HasExplainOptions found options × IsFile found file
+HasOptions found (Watch options file) = HasWatchOptions found options × IsFile found file
 HasOptions found (Cover options) = HasCoverOptions found options
 
 -- the arguments name this task with these options: those of what `clap` finds in them
@@ -68,20 +73,20 @@ Chooses arguments task = (name : Text) × (found : List Row) × Finds arguments 
 
 -- the task is `explain`, whatever its options
 abbrev pub IsExplain : Task → Type 0
-IsExplain (Explain options) = Unit {0}
-IsExplain (Watch options) = ⊥
+IsExplain (Explain options file) = Unit {0}
+IsExplain (Watch options file) = ⊥
 IsExplain (Cover options) = ⊥
 
 -- the task is `watch`, whatever its options
 abbrev pub IsWatch : Task → Type 0
-IsWatch (Explain options) = ⊥
-IsWatch (Watch options) = Unit {0}
+IsWatch (Explain options file) = ⊥
+IsWatch (Watch options file) = Unit {0}
 IsWatch (Cover options) = ⊥
 
 -- the task is `cover`, whatever its options
 abbrev pub IsCover : Task → Type 0
-IsCover (Explain options) = ⊥
-IsCover (Watch options) = ⊥
+IsCover (Explain options file) = ⊥
+IsCover (Watch options file) = ⊥
 IsCover (Cover options) = Unit {0}
 
 -- a first argument that is a task's name names the task

@@ -1,5 +1,6 @@
 -- what the program does with its arguments
-use Rattle.std.specs.Prelude.{◌≡◌, ℕ, ◌⊎◌, List, Option, Result, Ok, Err, IfOk, IfSome}
+use Rattle.std.specs.Prelude.{◌≡◌, ℕ, ◌⊎◌, List, Option, Some, None, Result, Ok, Err, IfOk, IfSome}
+use Rattle.std.specs.Borrow.{Bor}
 use Rattle.clap.specs.Walk.{Text}
 use Rattle.chi_check.specs.Check.{KeepsUnanswered, Outcome}
 use Rattle.chi_check.specs.CheckStatus.{IsAnswerStatus, status_of}
@@ -12,10 +13,20 @@ use Rattle.chi_check.specs.declared.command.Task.TheVariants.{Explain, Watch, Co
 use Rattle.chi_check.specs.Watch.{WatchOutcome}
 use Rattle.chi_program.specs.Answered.{ReportsArguments}
 
+-- what is given to the reader of a task: by its file, where it names one, and else by the standard input
+abbrev pub by_file : (List ℕ → Option (List ℕ)) → Option (Bor Text) → Option (List ℕ) → Option (List ℕ)
+by_file given None input = input
+by_file given (Some path) input = given path.now
+
+abbrev pub given_to : (List ℕ → Option (List ℕ)) → Task → Option (List ℕ) → Option (List ℕ)
+given_to given (Explain options file) input = by_file given file input
+given_to given (Watch options file) input = by_file given file input
+given_to given (Cover options) input = input
+
 -- what a task made of its input, or of what files hold, and what it wrote
 abbrev pub TaskOutcome : (List ℕ → List ℕ → Type 0) → Task → List ℕ → Option (List ℕ) → Option (List ℕ) → Result ℕ CheckFault → Type 0
-TaskOutcome holds (Explain options) input old new result = Outcome options input old new result
-TaskOutcome holds (Watch options) input old new result = WatchOutcome options input old new result
+TaskOutcome holds (Explain options file) input old new result = Outcome options input old new result
+TaskOutcome holds (Watch options file) input old new result = WatchOutcome options input old new result
 TaskOutcome holds (Cover options) input old new result = CoverOutcome holds options input old new result
 
 -- the status of the answer, else that of the fault
@@ -31,9 +42,9 @@ Ends holds task input old new status =
     × IfSome input (λ bytes. TaskOutcome holds task bytes old new result) × (status ≡ end_status result)
 
 -- the arguments name this task: `clap` finds no fault in them, and it came to its end
-abbrev pub DoesTask : (List ℕ → List ℕ → Type 0) → List Text → Option (List ℕ) → Option (List ℕ) → Option (List ℕ) → ℕ → Type 0
-DoesTask holds arguments input old new status = IsTaken arguments × ((task : Task) × Chooses arguments task × Ends holds task input old new status)
+abbrev pub DoesTask : (List ℕ → List ℕ → Type 0) → (List ℕ → Option (List ℕ)) → List Text → Option (List ℕ) → Option (List ℕ) → Option (List ℕ) → ℕ → Type 0
+DoesTask holds given arguments input old new status = IsTaken arguments × ((task : Task) × Chooses arguments task × Ends holds task (given_to given task input) old new status)
 
 -- what the program does with its arguments
-abbrev pub ProgramOutcome : (List ℕ → List ℕ → Type 0) → List Text → Option (List ℕ) → Option (List ℕ) → Option (List ℕ) → ℕ → Type 0
-ProgramOutcome holds arguments input old new status = ReportsArguments (IsArgumentsFault arguments) old new status ⊎ DoesTask holds arguments input old new status
+abbrev pub ProgramOutcome : (List ℕ → List ℕ → Type 0) → (List ℕ → Option (List ℕ)) → List Text → Option (List ℕ) → Option (List ℕ) → Option (List ℕ) → ℕ → Type 0
+ProgramOutcome holds given arguments input old new status = ReportsArguments (IsArgumentsFault arguments) old new status ⊎ DoesTask holds given arguments input old new status

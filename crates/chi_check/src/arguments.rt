@@ -3,17 +3,16 @@
 ghost use Rattle.std.specs.Prelude.{◌≡◌, map, string_bytes, IfOk, IfSome};
 ghost use Rattle.chi_check.specs.Check.{KeepsUnanswered};
 ghost use Rattle.chi_check.specs.CheckStatus.{IsAnswerStatus, IsStatus, status_of};
-ghost use Rattle.chi_check.specs.ProgramOutcome.{Ends, ProgramOutcome, TaskOutcome};
+ghost use Rattle.chi_check.specs.ProgramOutcome.{Ends, ProgramOutcome, TaskOutcome, given_to};
 
-use crate::check::check;
 use crate::command::{PROGRAM, Task, task_of};
 use crate::cover::cover;
 use crate::fault::CheckFault;
 use crate::meter::Meter;
+use crate::named_input::{explain_input, watch_input};
 use crate::pages::Pages;
 use crate::progress_line::ShownProgress;
 use crate::sources::Sources;
-use crate::watch::watch;
 use chi_program::{ProgramFault, flushed_status, report_arguments, report_fault};
 use std::alloc::Global;
 use std::io::{Read, Write};
@@ -27,20 +26,26 @@ fn do_task<R: Read, W: Write, P: ShownProgress, G: Pages + Sources + Meter>(
     progress: &mut P,
     machine: &mut G,
 ) -> Result<u8, CheckFault>
-    ensures outcome { IfSome (R.remaining from.old) (λ input. TaskOutcome (G.holds machine.old) task.now input (W.contents to.old) (W.contents to.new) result) }
+    ensures outcome { IfSome (given_to (G.given machine.old) task.now (R.remaining from.old)) (λ input. TaskOutcome (G.holds machine.old) task.now input (W.contents to.old) (W.contents to.new) result) }
     ensures unanswered { KeepsUnanswered (W.contents to.old) (W.contents to.new) result }
     ensures status { IfOk result IsAnswerStatus }
 {
     match task {
-        Task::Explain(options) => check(alloc, from, to, options, progress, machine),
-        Task::Watch(options) => watch(alloc, from, to, options, progress),
+        Task::Explain(options, file) => {
+            explain_input(alloc, *file, from, to, options, progress, machine)
+        }
+        Task::Watch(options, file) => {
+            watch_input(alloc, *file, from, to, options, progress, machine)
+        }
         Task::Cover(options) => cover(alloc, from, to, options, machine),
     }
 }
 
-// The file that is at fault, where it is one of those that the task names.
+// The file that is at fault, where it is one that the task names.
 fn file_at_fault<'a>(task: &Task<'a>, fault: &CheckFault) -> Option<&'a str> {
     match (task, fault) {
+        (Task::Explain(_, file), CheckFault::Input(_)) => *file,
+        (Task::Watch(_, file), CheckFault::Input(_) | CheckFault::Unfinished(_)) => *file,
         (Task::Cover(options), CheckFault::File { place, .. }) => options
             .files
             .get(*place)
@@ -70,7 +75,7 @@ fn end_task<R: Read, W: Write, E: Write, P: ShownProgress, G: Pages + Sources + 
     progress: &mut P,
     machine: &mut G,
 ) -> u8
-    ensures ends { Ends (G.holds machine.old) task.now (R.remaining from.old) (W.contents to.old) (W.contents to.new) result }
+    ensures ends { Ends (G.holds machine.old) task.now (given_to (G.given machine.old) task.now (R.remaining from.old)) (W.contents to.old) (W.contents to.new) result }
     ensures status { IsStatus result }
 {
     match do_task(alloc, task, from, to, progress, machine) {
@@ -95,7 +100,7 @@ pub fn run_arguments<R: Read, W: Write, E: Write, P: ShownProgress, G: Pages + S
     progress: &mut P,
     machine: &mut G,
 ) -> u8
-    ensures outcome { ProgramOutcome (G.holds machine.old) (map string_bytes arguments.now) (R.remaining from.old) (W.contents to.old) (W.contents to.new) result }
+    ensures outcome { ProgramOutcome (G.holds machine.old) (G.given machine.old) (map string_bytes arguments.now) (R.remaining from.old) (W.contents to.old) (W.contents to.new) result }
     ensures status { IsStatus result }
 {
     match task_of(alloc, arguments) {

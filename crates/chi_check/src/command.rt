@@ -8,7 +8,7 @@ ghost use Rattle.clap.specs.Walk.{rows_of};
 ghost use Rattle.chi_check.specs.OptionValues.{Chooses, HasOptions, IsNamed, IsNamedFirst};
 ghost use Rattle.chi_check.specs.CommandLine.{IsArgumentsFault, IsTaken, program_app};
 
-use crate::option_values::{cover_options, explain_options, watch_options};
+use crate::option_values::{cover_options, explain_options, file_given, watch_options};
 use crate::options::{CheckOptions, CoverOptions};
 use crate::tasks::TASKS;
 use chi_program::program_command;
@@ -17,11 +17,12 @@ use clap::error::ErrorKind;
 use clap::{ArgMatches, Command, Error};
 use std::alloc::{AllocError, Global};
 
-/// What is done: a trace is explained, events are watched, or the operations of traces or of events are counted.
+/// What is done: a trace is explained, events are watched, or the operations of traces or of events are counted. The first two read
+/// the file at a path, where one is named, and else the standard input.
 #[derive(Drop)]
 pub enum Task<'a> {
-    Explain(CheckOptions<'a>),
-    Watch(WatchOptions),
+    Explain(CheckOptions<'a>, Option<&'a str>),
+    Watch(WatchOptions, Option<&'a str>),
     Cover(CoverOptions<'a>),
 }
 
@@ -34,7 +35,7 @@ const VERSION: &str = "0.1.0";
 const ABOUT: &str = "Says whether what was observed at a CHI home node can be explained.";
 
 const MORE: &str =
-    "A trace on standard input is a script of chihome whose requests have the members start, end
+    "A trace in FILE or on standard input is a script of chihome whose requests have the members start, end
 and reply too. It may have the member final, the words at the end. Where granules is left out
 the memory is all addresses; where end is left out a request was still open, and where reply
 is null its answer was not seen. The answer on standard output is `explained`, `not explained`
@@ -45,7 +46,7 @@ with where, or `undecided`.
     \"start\":10,\"end\":20,\"reply\":\"00000000000000000000000000000000\"}]}' | chicheck explain
   explained
 
-Events on standard input are one JSON object a line: requests, their data and their replies, as
+Events in FILE or on standard input are one JSON object a line: requests, their data and their replies, as
 a monitor tells them. `watch` reads them as they come (docs/EVENTS.md).
 
 `cover` writes a table of how many operations each bin counted, of a trace or of events on standard
@@ -72,11 +73,11 @@ fn chosen_task<'a>(
     ensures options { IfOk result (HasOptions (rows_of (found_of matches.now))) }
 {
     Ok(if name == "watch" {
-        Task::Watch(watch_options(matches))
+        Task::Watch(watch_options(matches), file_given(matches))
     } else if name == "cover" {
         Task::Cover(cover_options(alloc, matches)?)
     } else {
-        Task::Explain(explain_options(matches))
+        Task::Explain(explain_options(matches), file_given(matches))
     })
 }
 

@@ -59,7 +59,17 @@ impl<'a, T: Files> Pages for Machine<'a, T> {
 }
 
 impl<'a, T: Files> Sources for Machine<'a, T> {
+    ghost use Rattle.std.specs.Prelude.{None};
+
+    type File = T::File;
+
     ghost holds = { λ s path input. ⊤ };
+
+    ghost given = { λ s path. None };
+
+    fn open_file(&self, path: &str) -> Option<T::File> {
+        fs::File::open(self.rt, path).ok()
+    }
 
     fn read_file(&self, alloc: Global, path: &str) -> Result<Vec<u8>, InputFault> {
         match fs::File::open(self.rt, path) {

@@ -10,6 +10,7 @@ mod fault;
 mod inputs;
 mod machine;
 mod meter;
+mod named_input;
 mod option_values;
 mod options;
 mod page;

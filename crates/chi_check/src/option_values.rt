@@ -32,6 +32,13 @@ fn html_file<'a>(matches: &ArgMatches<'a>) -> Option<&'a str>
     text_given(matches, "html")
 }
 
+/// The file that is read, where one was named.
+pub(crate) fn file_given<'a>(matches: &ArgMatches<'a>) -> Option<&'a str>
+    ensures { option_map (λ s. s.now) result ≡ first_of (codes "file") (rows_of (found_of matches.now)) }
+{
+    text_given(matches, "file")
+}
+
 // Whether events are read in place of traces.
 fn has_events(matches: &ArgMatches<'_>) -> bool
     ensures { result ≡ has_word (rows_of (found_of matches.now)) (codes "events") (codes "true") }

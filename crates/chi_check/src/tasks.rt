@@ -9,8 +9,15 @@ const BUDGET: NamedOption<'static> = NamedOption {
     help: "States of each granule that are looked at for an answer",
 };
 
-// The options of `explain`.
-const EXPLAIN: [NamedOption<'static>; 9] = [
+// The file that is read.
+const FILE: NamedOption<'static> = NamedOption {
+    name: "file",
+    takes: Takes::Word("FILE"),
+    help: "Reads this file or named pipe, and not the standard input",
+};
+
+// The options of `explain`, and its file.
+const EXPLAIN: [NamedOption<'static>; 10] = [
     NamedOption {
         name: "events",
         takes: Takes::Nothing,
@@ -52,10 +59,11 @@ const EXPLAIN: [NamedOption<'static>; 9] = [
         takes: Takes::Number("BYTES"),
         help: "Begins no larger search that may take more than BYTES of memory",
     },
+    FILE,
 ];
 
-// The options of `watch`.
-const WATCH: [NamedOption<'static>; 6] = [
+// The options of `watch`, and its file.
+const WATCH: [NamedOption<'static>; 7] = [
     BUDGET,
     NamedOption {
         name: "keep-going",
@@ -82,6 +90,7 @@ const WATCH: [NamedOption<'static>; 6] = [
         takes: Takes::Nothing,
         help: "Status 1 where a granule is not judged",
     },
+    FILE,
 ];
 
 // The options of `cover`, and the files that are counted.

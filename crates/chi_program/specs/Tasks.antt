@@ -9,6 +9,10 @@ use Rattle.chi_program.specs.declared.task.NamedTask.{NamedTask}
 use Rattle.chi_program.specs.declared.task.Takes.{Takes}
 use Rattle.chi_program.specs.declared.task.Takes.TheVariants as takes
 
+-- a word that belongs to no option, where there is one
+abbrev pub word_rule : Text → Rule
+word_rule name = record (new_rule name) { value_names = 1 }
+
 -- all words that belong to no option, of which there may be none
 abbrev pub words_rule : Text → Rule
 words_rule name = record (new_rule name) { value_names = 1; action = Some Append }
@@ -21,6 +25,7 @@ taking_rule name (takes.TextOr value other) = text_rule name (other.now ∷ [])
 taking_rule name (takes.Number value) = number_rule name
 taking_rule name (takes.NumberOr value other) = number_rule_or name other.now
 taking_rule name (takes.ValueOr value parser other) = option_rule name parser (other.now ∷ [])
+taking_rule name (takes.Word value) = word_rule name
 taking_rule name (takes.Words value) = words_rule name
 
 abbrev pub with_option : App → NamedOption → App

@@ -4,7 +4,7 @@ ghost use Rattle.std.specs.Prelude.{◌≡◌, false, IfErr, IfOk};
 ghost use Rattle.clap.specs.Simple.{app_of};
 ghost use Rattle.clap.specs.Values.{kind_of};
 ghost use Rattle.clap.specs.Walk.{rule_of};
-ghost use Rattle.chi_program.specs.Tasks.{taking_rule, task_app, words_rule};
+ghost use Rattle.chi_program.specs.Tasks.{taking_rule, task_app, word_rule, words_rule};
 
 use crate::options::{number_option, number_option_or, switch, text_option, value_option_or};
 use clap::builder::ValueParser;
@@ -12,8 +12,8 @@ use clap::error::ErrorKind;
 use clap::{Arg, ArgAction, Command, Error};
 use std::alloc::Global;
 
-/// What an option takes: nothing, where it is there or not; any text; a whole number; or a value that its parser lets through. `Words`
-/// are all that belong to no option. The first text stands for the value in the help, and after `Or` the last one stands in for it.
+/// What an option takes: nothing, where it is there or not; any text; a whole number; or a value that its parser lets through. `Word`
+/// is one that belongs to no option, where there is one, and `Words` are all such. The first text stands for the value in the help, and after `Or` the last one stands in for it.
 #[derive(Clone, Copy)]
 pub enum Takes<'a> {
     Nothing,
@@ -22,6 +22,7 @@ pub enum Takes<'a> {
     Number(&'a str),
     NumberOr(&'a str, &'a str),
     ValueOr(&'a str, ValueParser<'a>, &'a str),
+    Word(&'a str),
     Words(&'a str),
 }
 
@@ -39,6 +40,14 @@ pub struct NamedTask<'a> {
     pub name: &'a str,
     pub about: &'a str,
     pub options: &'a [NamedOption<'a>],
+}
+
+// A word that belongs to no option.
+fn word_argument<'a>(alloc: Global, name: &'a str, value: &'a str, help: &'a str) -> Arg<'a>
+    ensures rule { rule_of result ≡ word_rule name.now }
+    ensures local { result.global ≡ false }
+{
+    Arg::new(alloc, name).value_name(value).help(help)
 }
 
 // All words that belong to no option.
@@ -67,6 +76,7 @@ fn option_of<'a>(alloc: Global, option: NamedOption<'a>) -> Arg<'a>
         Takes::ValueOr(value, parser, other) => {
             value_option_or(alloc, name, value, parser, other, help)
         }
+        Takes::Word(value) => word_argument(alloc, name, value, help),
         Takes::Words(value) => words_argument(alloc, name, value, help),
     }
 }
