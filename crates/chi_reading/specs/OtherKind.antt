@@ -1,5 +1,6 @@
--- inputs of the other kind: a trace where events are wanted, and events where a trace is
-use Rattle.std.specs.Prelude.{ℕ, ◌==◌, Bool, false, not, ◌&&◌, ◌||◌, if◌then◌else◌, List, find, position, take, Option, None, Some, is_none, is_some}
+-- inputs of another kind: a trace where events are wanted, events where a trace is, and what gzip compressed
+use Rattle.std.specs.Prelude.{ℕ, ◌==◌, Bool, false, nat_eq, not, ◌&&◌, ◌||◌, if◌then◌else◌, List, [], ◌∷◌, find, position, take, Option, None, Some, is_none, is_some}
+use Rattle.std.specs.List.{starts_with}
 use Rattle.std.specs.Option.{option_map_or}
 use Rattle.serde_json.specs.Data.{Data}
 use Rattle.serde_json.specs.Find.{get}
@@ -28,9 +29,17 @@ is_blank b = b == 32 || b == 9 || b == 10 || b == 13
 abbrev pub begins_object : List ℕ → Bool
 begins_object text = option_map_or (λ b. b == 123) (find (λ b. not (is_blank b)) text) false
 
--- why the line with this number, which has no value, tells no event
+-- a text that is compressed by gzip: it begins with the bytes 1f and 8b
+abbrev pub is_compressed : List ℕ → Bool
+is_compressed text = starts_with nat_eq text (31 ∷ 139 ∷ [])
+
+-- why a first line that has no value tells no event
+abbrev pub unread_first : List ℕ → LineFault
+unread_first text = if begins_object text then line_fault.NotWhole else if is_compressed text then line_fault.Compressed else line_fault.Object NotJson
+
+-- the same of the line with this number
 abbrev pub unread_line : ℕ → List ℕ → LineFault
-unread_line number text = if number == 1 && begins_object text then line_fault.NotWhole else line_fault.Object NotJson
+unread_line number text = if number == 1 then unread_first text else line_fault.Object NotJson
 
 -- the first line of a text, without its line feed: up to where that is, or all of it where it has none
 abbrev pub up_to : Option ℕ → List ℕ → List ℕ
@@ -46,4 +55,4 @@ begins_events text = option_map_or is_of_event (json_value (first_line text)) fa
 
 -- why a text that has no value is no trace
 abbrev pub unread_text : List ℕ → TraceFault
-unread_text text = if begins_events text then trace_fault.OfEvents else trace_fault.Object NotJson
+unread_text text = if begins_events text then trace_fault.OfEvents else if is_compressed text then trace_fault.Compressed else trace_fault.Object NotJson

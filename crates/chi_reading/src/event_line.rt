@@ -64,7 +64,7 @@ fn object_event(
 /// Members whose name begins with `x-` are ignored, and others are refused. Of two members of one name the last counts.
 ///
 /// An object that has requests and names no event is `OfTrace`. Where line 1 begins as an object does and is not JSON it is
-/// `NotWhole`, since a trace may stand on several lines.
+/// `NotWhole`, since a trace may stand on several lines, and where it begins as what gzip makes it is `Compressed`.
 ///
 /// The faults' order is that of `event`, `time`, the kind's members as they are listed here, and then members that it does
 /// not have. `Memory` is answered where a growth is refused before a fault is met.

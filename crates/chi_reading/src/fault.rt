@@ -42,6 +42,7 @@ pub enum RequestFault {
 /// - `TooManyRequests`: there are more than 1,048,576 requests.
 /// - `InRequest`: a request is refused, at its place in the array from 0 on.
 /// - `OfEvents`: the text is no trace, and its first line is an object that names an event.
+/// - `Compressed`: the text is what gzip made of one.
 ///
 /// ```
 /// let fault = TraceFault::Object(ObjectFault::Missing(Member::Requests)); // trace member requests is missing
@@ -58,6 +59,8 @@ pub enum TraceFault {
     InRequest { place: usize, fault: RequestFault },
     #[error("input is of events, which the option --events reads")]
     OfEvents,
+    #[error("input is compressed by gzip, and gunzip -c gives its text")]
+    Compressed,
     #[error("no memory")]
     Memory,
 }
@@ -68,6 +71,7 @@ pub enum TraceFault {
 /// - `Object`: the line is not an object of JSON, or its members are not those of an event.
 /// - `OfTrace`: it is an object with requests, as a trace is, that names no event.
 /// - `NotWhole`: it is the first line, begins as an object does, and is not JSON, as the first of a trace on several lines.
+/// - `Compressed`: it is the first line of what gzip made of a text.
 ///
 /// ```
 /// let fault = LineFault::Object(ObjectFault::Missing(Member::Time)); // member time is missing
@@ -80,6 +84,8 @@ pub enum LineFault {
     OfTrace,
     #[error("is not one whole JSON object, as an event is; chicheck explain reads a trace")]
     NotWhole,
+    #[error("is compressed by gzip, and gunzip -c gives its text")]
+    Compressed,
     #[error("no memory")]
     Memory,
 }

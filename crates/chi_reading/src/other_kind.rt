@@ -1,8 +1,8 @@
-//! Inputs of the other kind: a trace where events are wanted, and events where a trace is.
+//! Inputs of another kind: a trace where events are wanted, events where a trace is, and what gzip compressed.
 
 ghost use Rattle.std.specs.Prelude.{◌≡◌, ◌==◌, ◌≤◌, find, length, not, position, IfOk, IfSome};
 ghost use Rattle.serde_json.specs.View.{view};
-ghost use Rattle.chi_reading.specs.OtherKind.{begins_events, begins_object, first_line, is_blank, is_of_event, is_of_trace, unread_line, unread_text};
+ghost use Rattle.chi_reading.specs.OtherKind.{begins_events, begins_object, first_line, is_blank, is_compressed, is_of_event, is_of_trace, unread_first, unread_line, unread_text};
 
 use crate::fault::{LineFault, TraceFault};
 use crate::member::Member;
@@ -48,12 +48,32 @@ fn begins_object(text: &[u8]) -> bool
     }
 }
 
+/// Whether a text is compressed by gzip.
+fn is_compressed(text: &[u8]) -> bool
+    ensures { result ≡ is_compressed text.now }
+{
+    text.starts_with(&[0x1f, 0x8b])
+}
+
+/// Why a first line that has no value tells no event.
+fn unread_first(line: &[u8]) -> LineFault
+    ensures { result ≡ unread_first line.now }
+{
+    if begins_object(line) {
+        LineFault::NotWhole
+    } else if is_compressed(line) {
+        LineFault::Compressed
+    } else {
+        LineFault::Object(ObjectFault::NotJson)
+    }
+}
+
 /// Why the line with this number, which has no value, tells no event.
 pub(crate) fn unread_line(number_of_line: u64, line: &[u8]) -> LineFault
     ensures { result ≡ unread_line number_of_line line.now }
 {
-    if number_of_line == 1 && begins_object(line) {
-        LineFault::NotWhole
+    if number_of_line == 1 {
+        unread_first(line)
     } else {
         LineFault::Object(ObjectFault::NotJson)
     }
@@ -93,6 +113,8 @@ pub(crate) fn unread_text(alloc: Global, text: &[u8]) -> Result<TraceFault, Allo
 {
     if begins_events(alloc, text)? {
         Ok(TraceFault::OfEvents)
+    } else if is_compressed(text) {
+        Ok(TraceFault::Compressed)
     } else {
         Ok(TraceFault::Object(ObjectFault::NotJson))
     }

@@ -224,8 +224,8 @@ fn object_trace(
 /// `requests` has at most 1,048,576 requests as a script has them, of requesters and transactions up to 65,535. Each has
 /// `start` and `end`, whole numbers below 2^64, of which the end is not the less; `end` is left out where the operation was
 /// open when the trace ended. `reply` is the text `comp`, one of 32 hex digits, lane 0 first, or `null` where it was not seen;
-/// it may be left out where `end` is. A request that a home refuses is a fault, and so is a reply that it gives to no request
-/// like this one, whatever the memory holds. A request that was refused has `refused`, the name of the reason, as `Misaligned`,
+/// it may be left out where `end` is. A request that a home refuses is a fault. A reply that no home gives, whatever the
+/// memory holds, is none: no order explains it. A request that was refused has `refused`, the name of the reason, as `Misaligned`,
 /// and no `reply`: it is no operation, and a fault where a home does not refuse it for just this reason.
 ///
 /// Members whose name begins with `x-` are ignored, in the trace and in its requests, and others than those above are refused.

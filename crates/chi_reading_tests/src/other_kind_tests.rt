@@ -64,6 +64,10 @@ fn texts_of_their_faults(rt: HostRuntime) -> Result<(), Fail> {
             LineFault::NotWhole,
             "is not one whole JSON object, as an event is; chicheck explain reads a trace",
         ),
+        (
+            LineFault::Compressed,
+            "is compressed by gzip, and gunzip -c gives its text",
+        ),
         (LineFault::Object(ObjectFault::NotJson), "is not JSON"),
         (LineFault::Memory, "no memory"),
     ] {
