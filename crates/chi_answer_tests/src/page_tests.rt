@@ -1,8 +1,8 @@
 //! The data of a small page, worked by hand, and what of a trace reaches a page.
 
 use crate::comparison::assert_same;
-use chi_judge::Stop;
-use chi_page::{Drawn, Finding, add_page, are_of_trace};
+use chi_judge::{Standing, Stop};
+use chi_page::{Drawn, add_page, are_of_trace};
 use chi_reading::read_trace;
 use chi_search::Words;
 use chi_trace::Operation;
@@ -40,12 +40,12 @@ fn granules(alloc: Global) -> Result<Vec<Drawn>, AllocError> {
     let mut granules = Vec::new(alloc);
     granules.push(Drawn {
         granule: 0x1008 / 8,
-        finding: Finding::Unexplained,
+        finding: Standing::Unexplained,
         order: Vec::from_slice(alloc, &[0, 2])?,
     })?;
     granules.push(Drawn {
         granule: 0x2000 / 8,
-        finding: Finding::Undecided,
+        finding: Standing::Undecided,
         order: Vec::new(alloc),
     })?;
     Ok(granules)

@@ -8,11 +8,11 @@ use Rattle.chi_reading.specs.TraceText.{RecordedValue}
 use Rattle.chi_excerpt.proofs.Failures.{granule_places, order_places}
 use Rattle.chi_page.specs.Granules.{AreOfTrace}
 use Rattle.chi_page.specs.declared.drawn.Drawn.{Drawn}
-use Rattle.chi_page.specs.declared.drawn.Finding.{Finding}
-use Rattle.chi_page.specs.declared.drawn.Finding.TheVariants.{Explained, Unexplained, Undecided}
+use Rattle.chi_judge.specs.declared.standing.Standing.{Standing}
+use Rattle.chi_judge.specs.declared.standing.Standing.TheVariants.{Explained, Unexplained, Undecided}
 use Rattle.chi_granules.specs.Judged.{IsFound, IsJudged, IsShown}
 
-found_places : (r : RecordedValue) (g : ℕ) (f : Finding) (order : List ℕ) → IsFound r g f order → All (λ i. i < length r.trace.operations) order
+found_places : (r : RecordedValue) (g : ℕ) (f : Standing) (order : List ℕ) → IsFound r g f order → All (λ i. i < length r.trace.operations) order
 found_places r g Explained order is = granule_places r.trace g order (passes (is_of r.trace.operations g) order is.once)
 found_places r g Unexplained order is = subst (All (λ i. i < length r.trace.operations)) (sym is.1) (All-nil (λ i. i < length r.trace.operations))
 found_places r g Undecided order is = subst (All (λ i. i < length r.trace.operations)) (sym is) (All-nil (λ i. i < length r.trace.operations))

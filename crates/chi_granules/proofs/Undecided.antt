@@ -4,12 +4,13 @@ use Rattle.std.proofs.lemmas.List.Elements.{All-push, All-weaker}
 use Rattle.chi_search.specs.Looks.{LookedAtLeast, LookedMore, LookedSome}
 use Rattle.chi_search.proofs.Looking.{at_least_after, at_least_before}
 use Rattle.chi_page.specs.declared.drawn.Drawn.{Drawn}
-use Rattle.chi_page.specs.declared.drawn.Finding.{Finding}
-use Rattle.chi_page.specs.declared.drawn.Finding.TheVariants.{Explained, Unexplained, Undecided}
-use Rattle.chi_granules.specs.Judged.{IfNeither, IfUndecided}
+use Rattle.chi_judge.specs.declared.standing.Standing.{Standing}
+use Rattle.chi_judge.specs.declared.standing.Standing.TheVariants.{Explained, Unexplained, Undecided}
+use Rattle.chi_judge.specs.Standings.{IfUndecided as IfNeither}
+use Rattle.chi_granules.specs.Judged.{IfUndecided}
 
 -- what follows of one that was not decided
-neither_implies : (f : Finding) (A B : Type 0) → (A → B) → IfNeither f A → IfNeither f B
+neither_implies : (f : Standing) (A B : Type 0) → (A → B) → IfNeither f A → IfNeither f B
 neither_implies Explained A B implies a = tt
 neither_implies Unexplained A B implies a = tt
 neither_implies Undecided A B implies a = implies a

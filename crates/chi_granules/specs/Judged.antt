@@ -4,15 +4,16 @@ use Rattle.std.specs.List.{Contains, filter}
 use Rattle.std.specs.List.Sorted.{IsStrictlyIncreasing}
 use Rattle.chi_trace.specs.Granules.{granule_of}
 use Rattle.chi_verdict.specs.declared.first.Blame.{Blame}
+use Rattle.chi_judge.specs.Standings.{IfUndecided as IfNeither}
 use Rattle.chi_trace.specs.Traces.{IsExplainedIn}
 use Rattle.chi_reading.specs.TraceText.{RecordedValue}
 use Rattle.chi_excerpt.specs.Failures.{order_in}
 use Rattle.chi_page.specs.declared.drawn.Drawn.{Drawn}
-use Rattle.chi_page.specs.declared.drawn.Finding.{Finding}
-use Rattle.chi_page.specs.declared.drawn.Finding.TheVariants.{Explained, Unexplained, Undecided}
+use Rattle.chi_judge.specs.declared.standing.Standing.{Standing}
+use Rattle.chi_judge.specs.declared.standing.Standing.TheVariants.{Explained, Unexplained, Undecided}
 
 -- a granule's operations are explained by this order; or no order explains them; or neither was found
-abbrev pub IsFound : RecordedValue → ℕ → Finding → List ℕ → Type 0
+abbrev pub IsFound : RecordedValue → ℕ → Standing → List ℕ → Type 0
 IsFound r g Explained order = IsExplainedIn r.trace r.final_words g order
 IsFound r g Unexplained order = ((other : List ℕ) → IsExplainedIn r.trace r.final_words g other → ⊥) × (order ≡ [])
 IsFound r g Undecided order = order ≡ []
@@ -60,12 +61,6 @@ pub record AreAround (r : RecordedValue) (blame : Blame) (drawn : List Drawn) : 
   pub granule_numbers : List ℕ
   pub are_granules : AreGranules r granule_numbers
   pub but_blamed : map (λ d. d.granule) others ≡ filter (λ g. not (g == blame.granule)) granule_numbers
-
--- A, where neither was found
-abbrev pub IfNeither : Finding → Type 0 → Type 0
-IfNeither Explained A = Unit {0}
-IfNeither Unexplained A = Unit {0}
-IfNeither Undecided A = A
 
 -- A, where a granule was not decided
 abbrev pub IfUndecided : Drawn → Type 0 → Type 0

@@ -4,14 +4,15 @@ ghost use Rattle.std.specs.Prelude.{◌≡◌, ◌≤◌, ◌-◌, [], IfOk};
 ghost use Rattle.chi_search.specs.Looks.{LookedMore};
 ghost use Rattle.chi_granules.specs.Judged.{IfUndecided, IsJudged};
 
-use chi_page::{Drawn, Finding};
+use chi_judge::Standing;
+use chi_page::Drawn;
 use chi_reading::Recorded;
 use chi_search::{Found, Progress};
 use chi_verdict::explain_granule;
 use std::alloc::{AllocError, Global};
 
 /// A granule of which no order was found.
-fn unordered(alloc: Global, granule: u64, finding: Finding) -> Drawn
+fn unordered(alloc: Global, granule: u64, finding: Standing) -> Drawn
     ensures granule { result.granule ≡ granule }
     ensures finding { result.finding ≡ finding }
     ensures order { result.order.items ≡ [] }
@@ -46,10 +47,10 @@ pub fn judged_granule<P: Progress>(
     match explain_granule(alloc, trace, final_words, granule, budget, progress)? {
         Found::Order(order) => Ok(Drawn {
             granule,
-            finding: Finding::Explained,
+            finding: Standing::Explained,
             order,
         }),
-        Found::Nothing => Ok(unordered(alloc, granule, Finding::Unexplained)),
-        Found::Undecided => Ok(unordered(alloc, granule, Finding::Undecided)),
+        Found::Nothing => Ok(unordered(alloc, granule, Standing::Unexplained)),
+        Found::Undecided => Ok(unordered(alloc, granule, Standing::Undecided)),
     }
 }

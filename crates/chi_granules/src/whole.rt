@@ -5,7 +5,8 @@ ghost use Rattle.chi_granules.specs.Judged.{AreAll, AreAround, AreGranules, IsJu
 
 use crate::listing::judged_granules;
 use chi_excerpt::order_in;
-use chi_page::{Drawn, Finding};
+use chi_judge::Standing;
+use chi_page::Drawn;
 use chi_reading::Recorded;
 use chi_search::NoProgress;
 use chi_verdict::Blame;
@@ -79,7 +80,7 @@ pub fn granules_around(
         0,
         Drawn {
             granule: blame.granule,
-            finding: Finding::Unexplained,
+            finding: Standing::Unexplained,
             order,
         },
     )?;

@@ -10,12 +10,12 @@ use Rattle.chi_verdict.specs.declared.first.Blame.{Blame}
 use Rattle.chi_trace.specs.Words.{find_word, word_or_zero}
 use Rattle.chi_reading.specs.TraceText.{RecordedValue}
 use Rattle.chi_page.specs.declared.drawn.Drawn.{Drawn}
-use Rattle.chi_page.specs.declared.drawn.Finding.{Finding}
-use Rattle.chi_page.specs.declared.drawn.Finding.TheVariants.{Explained, Unexplained, Undecided}
+use Rattle.chi_judge.specs.declared.standing.Standing.{Standing}
+use Rattle.chi_judge.specs.declared.standing.Standing.TheVariants.{Explained, Unexplained, Undecided}
 use Rattle.chi_page.specs.Listed.{listed}
 
 -- what was found of a granule
-unfoldable pub finding_json : Finding → List ℕ
+unfoldable pub finding_json : Standing → List ℕ
 finding_json Explained = codes "\"explained\""
 finding_json Unexplained = codes "\"not explained\""
 finding_json Undecided = codes "\"undecided\""
@@ -47,7 +47,7 @@ unfoldable pub steps_json : List Operation → ℕ → List ℕ → List ℕ
 steps_json ops word order = listed (step_at ops word order) (length order)
 
 -- a granule, what was found of it, and its words at the opening and at the end
-unfoldable pub head_json : ℕ → Finding → ℕ → Option ℕ → List ℕ
+unfoldable pub head_json : ℕ → Standing → ℕ → Option ℕ → List ℕ
 head_json granule finding word final_word =
     codes "{\"granule\":" ++ (granule_json granule ++ (codes ",\"finding\":" ++ (finding_json finding ++ (codes ",\"opening\":" ++ (word_json word
     ++ (codes ",\"final\":" ++ told_json final_word))))))

@@ -3,22 +3,15 @@
 ghost use Rattle.std.specs.Prelude.{◌<◌, ◌↔◌, All, IsTrue, length};
 ghost use Rattle.chi_page.specs.Granules.{AreOfTrace};
 
+use chi_judge::Standing;
 use chi_reading::Recorded;
 
-/// What was found of a granule: its operations can be explained, or they cannot, or neither was found.
-#[derive(Clone, Copy, Debug, PartialEq, Eq)]
-pub enum Finding {
-    Explained,
-    Unexplained,
-    Undecided,
-}
-
-/// A granule, by its number, counted from address 0. `order` has places of the trace: the granule's operations in an order
-/// that explains them, as far as they can be explained.
+/// A granule, by its number, counted from address 0, and whether its operations can be explained. `order` has places of the trace: the
+/// granule's operations in an order that explains them, as far as they can be explained.
 #[derive(Debug, Drop)]
 pub struct Drawn {
     pub granule: u64,
-    pub finding: Finding,
+    pub finding: Standing,
     pub order: Vec<usize>,
 }
 

@@ -5,8 +5,9 @@ ghost use Rattle.chi_trace.specs.Explains.{IsTrace, at};
 ghost use Rattle.chi_trace.specs.Granules.{next};
 ghost use Rattle.chi_page.specs.Granules.{AreOfTrace, drawn_at, drawn_json, finding_json, granule_json, granules_json, head_json, step_json, steps_json, told_json, word_json};
 
-use crate::drawn::{Drawn, Finding};
+use crate::drawn::Drawn;
 use crate::listed::add_comma;
+use chi_judge::Standing;
 use chi_reading::Recorded;
 use chi_text::Part::{Address, Number, Text, Word};
 use chi_text::add_parts;
@@ -15,13 +16,13 @@ use std::alloc::AllocError;
 
 /// What was found of a granule.
 #[tactic(auto, unfolding(crate::specs::Granules::finding_json))]
-fn add_finding(to: &mut Vec<u8>, finding: Finding) -> Result<(), AllocError>
+fn add_finding(to: &mut Vec<u8>, finding: Standing) -> Result<(), AllocError>
     ensures { OnOk result (to.new.items ≡ to.old.items ++ finding_json finding) }
 {
     match finding {
-        Finding::Explained => add_parts(to, &[Text("\"explained\"")]),
-        Finding::Unexplained => add_parts(to, &[Text("\"not explained\"")]),
-        Finding::Undecided => add_parts(to, &[Text("\"undecided\"")]),
+        Standing::Explained => add_parts(to, &[Text("\"explained\"")]),
+        Standing::Unexplained => add_parts(to, &[Text("\"not explained\"")]),
+        Standing::Undecided => add_parts(to, &[Text("\"undecided\"")]),
     }
 }
 
@@ -104,7 +105,7 @@ fn add_steps(
 fn add_head(
     to: &mut Vec<u8>,
     granule: u64,
-    finding: Finding,
+    finding: Standing,
     word: u64,
     final_word: Option<u64>,
 ) -> Result<(), AllocError>

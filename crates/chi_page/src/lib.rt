@@ -14,5 +14,5 @@ mod page;
 mod page_script;
 mod style;
 
-pub use drawn::{Drawn, Finding, are_of_trace};
+pub use drawn::{Drawn, are_of_trace};
 pub use page::add_page;

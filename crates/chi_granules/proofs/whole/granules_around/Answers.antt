@@ -1,7 +1,7 @@
 -- the granule that is blamed, and the others
 use Rattle.std.proofs.Common.{◌∷◌, map, refl, ap, ◌∙◌}
 use Rattle.chi_excerpt.specs.Failures.{order_in}
-use Rattle.chi_page.specs.declared.drawn.Finding.TheVariants.{Unexplained}
+use Rattle.chi_judge.specs.declared.standing.Standing.TheVariants.{Unexplained}
 use Rattle.chi_granules.proofs.Numbers.{has_first, has_granules}
 use Rattle.chi_granules.proofs.whole.granules_around.Goals as goal
 
