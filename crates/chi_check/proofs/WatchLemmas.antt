@@ -1,52 +1,135 @@
 -- what is written of what was found, and what flushing it leaves
-use Rattle.std.proofs.Common.{◌≡◌, ℕ, Bool, true, false, List, [], ◌∷◌, All, Option, None, Some, Result, Ok, Err, IfOk, IfSome, refl, sym, subst, ◌∙◌, append-nil, ◌⊎◌, inl, inr}
+use Rattle.std.proofs.Common.{◌≡◌, ℕ, Bool, true, false, List, [], ◌∷◌, All, Option, None, Some, Result, Ok, Err, IfOk, IfSome, ◌++◌, flat_map, refl, sym, ap, subst, ◌∙◌, append_assoc, append-nil, ◌⊎◌, inl, inr, arith}
 use Rattle.std.specs.Io.KnownBytes.{Appends, Keeps}
 use Rattle.std.proofs.lemmas.List.Elements.{All-head}
 use Rattle.chi_script.specs.WriterBytes.{AppendsFront}
+use Rattle.chi_script.proofs.WriterBytesLemmas.{taken_then}
 use Rattle.chi_script.specs.declared.device.WriteFault.{WriteFault}
 use Rattle.chi_script.specs.declared.device.WriteFault.TheVariants.{Failed}
 use Rattle.chi_search.specs.Looks.{LookedAtLeast}
 use Rattle.chi_watch.specs.declared.ending.Ending.{Ending}
 use Rattle.chi_watch.specs.declared.ending.FoundAtEnd.{FoundAtEnd}
 use Rattle.chi_watch_text.specs.FoundGranule.{ending_verdict, found_verdict, listed_verdict, verdict_of}
-use Rattle.chi_watch_text.specs.Outcomes.{IsWatched, WentBy}
+use Rattle.chi_watch_text.specs.Outcomes.{IsFoundBy, IsLinesFault, IsOutcome, IsWatched, IsWatchingFault, WentBy}
 use Rattle.chi_watch_text.specs.Required.{is_nothing, missing_of}
-use Rattle.chi_watch_text.specs.Texts.{watched_text}
+use Rattle.chi_watch_text.specs.Texts.{closing_text, found_text, watched_text}
+use Rattle.chi_watch_text.specs.declared.fault.LinesFault.{LinesFault}
+use Rattle.chi_watch_text.specs.declared.fault.LinesFault.TheVariants as lines_fault
+use Rattle.chi_watch_text.specs.declared.watched.Unfinished.{Unfinished}
 use Rattle.chi_watch_text.specs.declared.options.WatchOptions.{WatchOptions}
 use Rattle.chi_watch_text.specs.declared.watched.FoundGranule.{FoundGranule}
 use Rattle.chi_watch_text.specs.declared.watched.Watched.{Watched}
-use Rattle.chi_watch_text.specs.declared.watched.WatchVerdict.{WatchVerdict}
-use Rattle.chi_watch_text.specs.declared.watched.WatchVerdict.TheVariants.{Explained, Unexplained, Undecided}
+use Rattle.chi_judge.specs.declared.standing.Standing.{Standing}
+use Rattle.chi_judge.specs.declared.standing.Standing.TheVariants.{Explained, Unexplained, Undecided}
+use Rattle.chi_check.specs.Check.{KeepsUnanswered}
 use Rattle.chi_check.specs.CheckStatus.{IsAnswerStatus}
 use Rattle.chi_check.specs.Cover.{cover_text}
 use Rattle.chi_check.specs.ProgramOutcome.{Ends, TaskOutcome}
-use Rattle.chi_check.specs.Watch.{WatchOutcome, WritesWatched, verdict_status}
+use Rattle.chi_check.specs.Watch.{WatchOutcome, WritesClosing, found_before, stopped_by, verdict_status}
 use Rattle.chi_check.specs.declared.command.Task.{Task}
 use Rattle.chi_check.specs.declared.command.Task.TheVariants.{Explain, Watch, Cover}
 use Rattle.chi_check.specs.declared.fault.CheckFault.{CheckFault}
 use Rattle.chi_check.specs.declared.fault.CheckFault.TheVariants as check_fault
 use Rattle.chi_check.specs.declared.fault.SourceFault.TheVariants as source_fault
 
--- the text of what is found was written, or what a fault leaves of it
-pub watched_written : (options : WatchOptions) (remaining old new : Option (List ℕ)) (watched : Watched) (result : Result ℕ CheckFault)
-    → IfSome remaining (λ input. IsWatched input options.keep_going watched) → WritesWatched options watched old new result → IfSome remaining (λ input. WatchOutcome options input old new result)
-watched_written options None old new watched result is writes = tt
-watched_written options (Some input) old new watched (Ok status) is (status_is, appends) = (watched, is, status_is, appends)
-watched_written options (Some input) old new watched (Err (check_fault.Input source_fault.Memory)) is keeps = tt
-watched_written options (Some input) old new watched (Err (check_fault.Write fault)) is front = inl (watched, is, front)
-watched_written options (Some input) old new watched (Err (check_fault.Input source_fault.Read)) is writes = absurd writes
-watched_written options (Some input) old new watched (Err (check_fault.Input source_fault.TooLong)) is writes = absurd writes
-watched_written options (Some input) old new watched (Err (check_fault.Input (source_fault.Trace fault))) is writes = absurd writes
-watched_written options (Some input) old new watched (Err (check_fault.Input (source_fault.Events fault))) is writes = absurd writes
-watched_written options (Some input) old new watched (Err (check_fault.File place fault)) is writes = absurd writes
-watched_written options (Some input) old new watched (Err check_fault.Page) is writes = absurd writes
-watched_written options (Some input) old new watched (Err (check_fault.Unfinished fault)) is writes = absurd writes
+-- a text that was written stays so when nothing follows
+pub appends_kept : (old mid new : Option (List ℕ)) (text : List ℕ) → Appends old mid text → Keeps mid new → Appends old new text
+appends_kept None mid new text appends keeps = tt
+appends_kept (Some xs) None new text appends keeps = absurd appends
+appends_kept (Some xs) (Some ys) None text appends keeps = absurd keeps
+appends_kept (Some xs) (Some ys) (Some zs) text appends keeps = keeps ∙ appends
+
+-- a text, and then a prefix of another
+front_then : (a b c : Option (List ℕ)) (s t : List ℕ) → Appends a b s → AppendsFront b c t → AppendsFront a c (s ++ t)
+front_then a b c s t appends front = record {
+  front = s ++ front.front;
+  rest = front.rest;
+  whole = append_assoc s front.front front.rest ∙ ap (λ l. s ++ l) front.whole;
+  taken = taken_then a b c s front.front appends front.taken;
+}
+
+-- nothing was written of no granule
+kept_none : (a b : Option (List ℕ)) → Appends a b [] → Keeps a b
+kept_none None b appends = tt
+kept_none (Some xs) None appends = absurd appends
+kept_none (Some xs) (Some ys) appends = appends ∙ append-nil xs
+
+-- a watch that has no answer: the granules that were found are written
+module _ (options : WatchOptions) (old new : Option (List ℕ)) where
+  before_it : (input : List ℕ) (f : LinesFault) (found : List FoundGranule) → IsLinesFault input f → All (IsFoundBy input) found → Appends old new (flat_map found_text found)
+      → WatchOutcome options input old new (Err (found_before f found))
+  before_it input f [] is all appends = is
+  before_it input f (g ∷ found) is all appends = (is, (g ∷ found, all, omega arith, appends))
+
+  kept_before : (f : LinesFault) (found : List FoundGranule) → Appends old new (flat_map found_text found) → KeepsUnanswered old new (Err (found_before f found))
+  kept_before f [] appends = kept_none old new appends
+  kept_before f (g ∷ found) appends = tt
+
+  -- or a prefix of them, where they could not be
+  stops_in : (input : List ℕ) (f : LinesFault) (found : List FoundGranule) → IsWatchingFault input f → All (IsFoundBy input) found → ((f ≡ lines_fault.Write → ⊥) → Appends old new (flat_map found_text found))
+      → AppendsFront old new (flat_map found_text found) → WatchOutcome options input old new (Err (stopped_by f found))
+  stops_in input lines_fault.Write found is all kept front = inr (found, all, front)
+  stops_in input lines_fault.Read found is all kept front = let not : lines_fault.Read ≡ lines_fault.Write → ⊥ = λ same. cc in before_it input lines_fault.Read found (is not) all (kept not)
+  stops_in input (lines_fault.Line n f) found is all kept front =
+      let not : lines_fault.Line n f ≡ lines_fault.Write → ⊥ = λ same. cc in before_it input (lines_fault.Line n f) found (is not) all (kept not)
+  stops_in input (lines_fault.Event n f) found is all kept front =
+      let not : lines_fault.Event n f ≡ lines_fault.Write → ⊥ = λ same. cc in before_it input (lines_fault.Event n f) found (is not) all (kept not)
+  stops_in input lines_fault.TooManyLines found is all kept front =
+      let not : lines_fault.TooManyLines ≡ lines_fault.Write → ⊥ = λ same. cc in before_it input lines_fault.TooManyLines found (is not) all (kept not)
+  stops_in input lines_fault.Memory found is all kept front = let not : lines_fault.Memory ≡ lines_fault.Write → ⊥ = λ same. cc in before_it input lines_fault.Memory found (is not) all (kept not)
+
+  pub stopped : (remaining : Option (List ℕ)) (u : Unfinished) → IfSome remaining (λ input. IsOutcome input options.keep_going (Err u)) → ((u.fault ≡ lines_fault.Write → ⊥) → Appends old new (flat_map found_text u.found.items))
+      → AppendsFront old new (flat_map found_text u.found.items) → IfSome remaining (λ input. WatchOutcome options input old new (Err (stopped_by u.fault u.found.items)))
+  stopped None u is kept front = tt
+  stopped (Some input) u (fault, all) kept front = stops_in input u.fault u.found.items fault all kept front
+
+  pub unanswered : (f : LinesFault) (found : List FoundGranule) → ((f ≡ lines_fault.Write → ⊥) → Appends old new (flat_map found_text found)) → KeepsUnanswered old new (Err (stopped_by f found))
+  unanswered lines_fault.Write found kept = tt
+  unanswered lines_fault.Read found kept = kept_before lines_fault.Read found (kept (λ (same : lines_fault.Read ≡ lines_fault.Write). cc))
+  unanswered (lines_fault.Line n f) found kept = kept_before (lines_fault.Line n f) found (kept (λ (same : lines_fault.Line n f ≡ lines_fault.Write). cc))
+  unanswered (lines_fault.Event n f) found kept = kept_before (lines_fault.Event n f) found (kept (λ (same : lines_fault.Event n f ≡ lines_fault.Write). cc))
+  unanswered lines_fault.TooManyLines found kept = kept_before lines_fault.TooManyLines found (kept (λ (same : lines_fault.TooManyLines ≡ lines_fault.Write). cc))
+  unanswered lines_fault.Memory found kept = kept_before lines_fault.Memory found (kept (λ (same : lines_fault.Memory ≡ lines_fault.Write). cc))
+
+-- what is said once all is watched was written after the granules that were found, or what a fault leaves of it
+module _ (options : WatchOptions) (old mid new : Option (List ℕ)) (watched : Watched) (told : Appends old mid (flat_map found_text watched.found.items)) where
+  no_memory : (input : List ℕ) (fault : CheckFault) → IsWatched input options.keep_going watched → fault ≡ stopped_by lines_fault.Memory watched.found.items → Keeps mid new
+      → WatchOutcome options input old new (Err fault)
+  no_memory input fault is same keeps =
+      subst (λ (f : CheckFault). WatchOutcome options input old new (Err f)) (sym same)
+      (before_it options old new input lines_fault.Memory watched.found.items tt is.found (appends_kept old mid new (flat_map found_text watched.found.items) told keeps))
+
+  closed_in : (input : List ℕ) (result : Result ℕ CheckFault) → IsWatched input options.keep_going watched → WritesClosing options watched mid new result → WatchOutcome options input old new result
+  closed_in input (Ok status) is (status_is, appends) = (watched, is, status_is, taken_then old mid new (flat_map found_text watched.found.items) (closing_text options watched) told appends)
+  closed_in input (Err (check_fault.Write fault)) is front = inl (watched, is, front_then old mid new (flat_map found_text watched.found.items) (closing_text options watched) told front)
+  closed_in input (Err (check_fault.Input fault)) is (same, keeps) = no_memory input (check_fault.Input fault) is same keeps
+  closed_in input (Err (check_fault.File place fault)) is (same, keeps) = no_memory input (check_fault.File place fault) is same keeps
+  closed_in input (Err check_fault.Page) is (same, keeps) = no_memory input check_fault.Page is same keeps
+  closed_in input (Err (check_fault.Unfinished fault)) is (same, keeps) = no_memory input (check_fault.Unfinished fault) is same keeps
+
+  pub closed : (remaining : Option (List ℕ)) (result : Result ℕ CheckFault) → IfSome remaining (λ input. IsWatched input options.keep_going watched) → WritesClosing options watched mid new result
+      → IfSome remaining (λ input. WatchOutcome options input old new result)
+  closed None result is writes = tt
+  closed (Some input) result is writes = closed_in input result is writes
+
+  kept_memory : (fault : CheckFault) → fault ≡ stopped_by lines_fault.Memory watched.found.items → Keeps mid new → KeepsUnanswered old new (Err fault)
+  kept_memory fault same keeps =
+      subst (λ (f : CheckFault). KeepsUnanswered old new (Err f)) (sym same)
+      (kept_before options old new lines_fault.Memory watched.found.items (appends_kept old mid new (flat_map found_text watched.found.items) told keeps))
+
+  pub closed_unanswered : (result : Result ℕ CheckFault) → WritesClosing options watched mid new result → KeepsUnanswered old new result
+  closed_unanswered (Ok status) writes = tt
+  closed_unanswered (Err (check_fault.Write fault)) writes = tt
+  closed_unanswered (Err (check_fault.Input fault)) (same, keeps) = kept_memory (check_fault.Input fault) same keeps
+  closed_unanswered (Err (check_fault.File place fault)) (same, keeps) = kept_memory (check_fault.File place fault) same keeps
+  closed_unanswered (Err check_fault.Page) (same, keeps) = kept_memory check_fault.Page same keeps
+  closed_unanswered (Err (check_fault.Unfinished fault)) (same, keeps) = kept_memory (check_fault.Unfinished fault) same keeps
 
 -- the status of what is found is one of an answer
-pub watched_status : (options : WatchOptions) (old new : Option (List ℕ)) (watched : Watched) (result : Result ℕ CheckFault) → WritesWatched options watched old new result → IfOk result IsAnswerStatus
+pub watched_status : (options : WatchOptions) (old new : Option (List ℕ)) (watched : Watched) (result : Result ℕ CheckFault) → WritesClosing options watched old new result → IfOk result IsAnswerStatus
 watched_status options old new watched (Ok status) (is, appends) = subst IsAnswerStatus (sym is) (by_verdict (verdict_of watched) (is_nothing (missing_of options.required watched)))
   where
-    by_verdict : (v : WatchVerdict) (complete : Bool) → IsAnswerStatus (verdict_status v complete)
+    by_verdict : (v : Standing) (complete : Bool) → IsAnswerStatus (verdict_status v complete)
     by_verdict Explained true = inl refl
     by_verdict Explained false = inr (inl refl)
     by_verdict Unexplained complete = inr (inl refl)
@@ -55,7 +138,7 @@ watched_status options old new watched (Err fault) writes = tt
 
 -- the status of what is not decided tells that the budget was spent
 pub spent_at_six : {P : Type 0} (looked : P → ℕ → Type 0) (old new : P) (options : WatchOptions) (before after : Option (List ℕ)) (watched : Watched) (result : Result ℕ CheckFault)
-    → WritesWatched options watched before after result → WentBy looked old new options.budget watched → IfOk result (λ status. status ≡ 6 → LookedAtLeast looked old new options.budget)
+    → WritesClosing options watched before after result → WentBy looked old new options.budget watched → IfOk result (λ status. status ≡ 6 → LookedAtLeast looked old new options.budget)
 spent_at_six looked old new options before after watched (Err fault) writes went = tt
 spent_at_six looked old new options before after watched (Ok status) (is, appends) went =
     λ six. by_found watched.found.items watched.ending went (is_nothing (missing_of options.required watched)) (sym is ∙ six)
@@ -76,13 +159,7 @@ spent_at_six looked old new options before after watched (Ok status) (is, append
     by_found (f ∷ found) o all complete is_six = cc
     by_found [] o all complete is_six = by_ending o all complete is_six
 
--- a text that was written stays so when it is flushed
-appends_kept : (old mid new : Option (List ℕ)) (text : List ℕ) → Appends old mid text → Keeps mid new → Appends old new text
-appends_kept None mid new text appends keeps = tt
-appends_kept (Some xs) None new text appends keeps = absurd appends
-appends_kept (Some xs) (Some ys) None text appends keeps = absurd keeps
-appends_kept (Some xs) (Some ys) (Some zs) text appends keeps = keeps ∙ appends
-
+-- a whole text is a prefix of it
 whole_front : (old new : Option (List ℕ)) (text : List ℕ) → Appends old new text → AppendsFront old new text
 whole_front old new text appends = record { front = text; rest = []; whole = append-nil text; taken = appends }
 

@@ -16,10 +16,11 @@ abbrev pub trace_status : TraceFault → ℕ
 trace_status trace_fault.Memory = 4
 trace_status _ = 3
 
--- a line of events that is refused, or out of memory, or a read that failed
+-- a line of events that is refused, or out of memory, or a read or a write that failed
 abbrev pub lines_status : LinesFault → ℕ
 lines_status lines_fault.Read = 5
 lines_status lines_fault.Memory = 4
+lines_status lines_fault.Write = 5
 lines_status _ = 3
 
 -- an input of which there is nothing to write

@@ -11,14 +11,14 @@ use crate::fault::CheckFault;
 use crate::meter::Meter;
 use crate::named_input::{explain_input, watch_input};
 use crate::pages::Pages;
-use crate::progress_line::ShownProgress;
 use crate::sources::Sources;
 use chi_program::{ProgramFault, flushed_status, report_arguments, report_fault};
+use chi_watch_text::WatchProgress;
 use std::alloc::Global;
 use std::io::{Read, Write};
 
 // Does a task with its input.
-fn do_task<R: Read, W: Write, P: ShownProgress, G: Pages + Sources + Meter>(
+fn do_task<R: Read, W: Write, P: WatchProgress, G: Pages + Sources + Meter>(
     alloc: Global,
     task: &Task<'_>,
     from: &mut R,
@@ -66,7 +66,7 @@ fn report_task_fault<E: Write>(task: &Task<'_>, fault: &CheckFault, errors: &mut
 }
 
 // Does a task with its input, flushes what was written, and reports a fault of either.
-fn end_task<R: Read, W: Write, E: Write, P: ShownProgress, G: Pages + Sources + Meter>(
+fn end_task<R: Read, W: Write, E: Write, P: WatchProgress, G: Pages + Sources + Meter>(
     alloc: Global,
     task: &Task<'_>,
     from: &mut R,
@@ -91,7 +91,7 @@ fn end_task<R: Read, W: Write, E: Write, P: ShownProgress, G: Pages + Sources + 
 /// ```
 /// let status = run_arguments(alloc, &arguments, &mut input, &mut output, &mut errors, &mut progress, &mut machine);
 /// ```
-pub fn run_arguments<R: Read, W: Write, E: Write, P: ShownProgress, G: Pages + Sources + Meter>(
+pub fn run_arguments<R: Read, W: Write, E: Write, P: WatchProgress, G: Pages + Sources + Meter>(
     alloc: Global,
     arguments: &[String],
     from: &mut R,

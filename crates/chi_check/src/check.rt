@@ -15,7 +15,6 @@ use crate::meter::Meter;
 use crate::options::CheckOptions;
 use crate::page::{blamed_page_asked, page_asked};
 use crate::pages::Pages;
-use crate::progress_line::ShownProgress;
 use crate::recorded::trace_told;
 use crate::search::{Searched, search};
 use chi_answer::{Answer, answer_text};
@@ -23,8 +22,8 @@ use chi_excerpt::failure_text;
 use chi_json::{InputFault, read_input};
 use chi_reading::Recorded;
 use chi_script::write_bytes;
-use chi_search::Progress;
 use chi_verdict::Blame;
+use chi_watch_text::WatchProgress;
 use std::alloc::{AllocError, Global};
 use std::io::{Read, Write};
 
@@ -164,7 +163,7 @@ fn report_of(
 }
 
 // What is reported of a trace.
-fn answered<P: ShownProgress, M: Meter>(
+fn answered<P: WatchProgress, M: Meter>(
     alloc: Global,
     recorded: &Recorded,
     options: &CheckOptions<'_>,
@@ -179,7 +178,7 @@ fn answered<P: ShownProgress, M: Meter>(
 }
 
 // What is reported of what is judged of a trace, once what is shown of the progress is taken back.
-fn reported<P: ShownProgress, M: Meter>(
+fn reported<P: WatchProgress, M: Meter>(
     alloc: Global,
     recorded: Recorded,
     options: &CheckOptions<'_>,
@@ -216,7 +215,7 @@ pub(crate) fn put_page<G: Pages>(pages: &mut G, path: Option<&str>, page: &[u8])
 /// ```
 /// let status = check(alloc, &mut trace.as_bytes(), &mut answer, &options, &mut progress, &mut machine)?; // explained
 /// ```
-pub fn check<R: Read, W: Write, P: ShownProgress, G: Pages + Meter>(
+pub fn check<R: Read, W: Write, P: WatchProgress, G: Pages + Meter>(
     alloc: Global,
     from: &mut R,
     to: &mut W,

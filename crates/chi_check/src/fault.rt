@@ -56,7 +56,7 @@ fn lines_status(fault: &LinesFault) -> u8
     ensures { result ≡ lines_status fault.now }
 {
     match fault {
-        LinesFault::Read => 5,
+        LinesFault::Read | LinesFault::Write => 5,
         LinesFault::Memory => 4,
         _ => 3,
     }

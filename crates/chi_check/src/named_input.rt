@@ -11,15 +11,14 @@ use crate::fault::{CheckFault, SourceFault};
 use crate::meter::Meter;
 use crate::options::CheckOptions;
 use crate::pages::Pages;
-use crate::progress_line::ShownProgress;
 use crate::sources::Sources;
 use crate::watch::watch;
-use chi_watch_text::{LinesFault, WatchOptions};
+use chi_watch_text::{LinesFault, WatchOptions, WatchProgress};
 use std::alloc::Global;
 use std::io::{Read, Write};
 
 /// Explains the trace of the file at a path, where one is named, and else of the standard input.
-pub(crate) fn explain_input<R: Read, W: Write, P: ShownProgress, G: Pages + Sources + Meter>(
+pub(crate) fn explain_input<R: Read, W: Write, P: WatchProgress, G: Pages + Sources + Meter>(
     alloc: Global,
     file: Option<&str>,
     from: &mut R,
@@ -42,7 +41,7 @@ pub(crate) fn explain_input<R: Read, W: Write, P: ShownProgress, G: Pages + Sour
 }
 
 /// Watches the events of the file at a path, where one is named, and else of the standard input.
-pub(crate) fn watch_input<R: Read, W: Write, P: ShownProgress, G: Sources>(
+pub(crate) fn watch_input<R: Read, W: Write, P: WatchProgress, G: Sources>(
     alloc: Global,
     file: Option<&str>,
     from: &mut R,

@@ -19,15 +19,6 @@ const STATES: u64 = 4096;
 
 const EVENTS: u64 = 1024;
 
-/// Shows how far a search is, until something else is written.
-pub trait ShownProgress: WatchProgress {
-    ghost use Rattle.std.specs.Prelude.{ℕ};
-
-    /// Takes back what is shown.
-    fn clear(&mut self)
-        ensures { (n : ℕ) → Self.looked self.old n → Self.looked self.new n };
-}
-
 /// A line on a terminal that says how many states a search has looked at, or, once events are told, how many operations have
 /// ended, of how many granules, how many requests are outstanding, and the time of the last event. It is first written where a
 /// second has gone by since the program began, and then written over ten times a second. Where `to` is no terminal nothing is
@@ -141,9 +132,7 @@ impl<'a, C: Clock, W: Write> WatchProgress for ProgressLine<'a, C, W> {
             self.show_if_due();
         }
     }
-}
 
-impl<'a, C: Clock, W: Write> ShownProgress for ProgressLine<'a, C, W> {
     fn clear(&mut self)
         ensures counted { (n : ℕ) → self.old.states ≡ min n (2 ^ 64 - 1) → self.new.states ≡ min n (2 ^ 64 - 1) }
         ensures quiet { self.old.shown ≡ None → Keeps (W.contents self.old.to) (W.contents self.new.to) }

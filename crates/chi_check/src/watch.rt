@@ -1,31 +1,34 @@
 //! From the lines of events to an answer's bytes.
 
-ghost use Rattle.std.specs.Prelude.{◌≡◌, IfOk, IfSome};
+ghost use Rattle.std.specs.Prelude.{◌≡◌, ◌≢◌, IfErr, IfOk, IfSome, flat_map};
+ghost use Rattle.std.specs.Io.KnownBytes.{Appends};
+ghost use Rattle.chi_script.specs.WriterBytes.{AppendsFront};
 ghost use Rattle.chi_search.specs.Looks.{LookedAtLeast};
 ghost use Rattle.chi_watch_text.specs.Outcomes.{IsOutcome, WentBy};
 ghost use Rattle.chi_watch_text.specs.Required.{is_nothing, missing_of};
+ghost use Rattle.chi_watch_text.specs.Texts.{found_text};
 ghost use Rattle.chi_check.specs.Check.{KeepsUnanswered};
 ghost use Rattle.chi_check.specs.CheckStatus.{IsAnswerStatus};
-ghost use Rattle.chi_check.specs.Watch.{WatchOutcome, WritesFound, WritesWatched, verdict_status, watch_status};
+ghost use Rattle.chi_check.specs.Watch.{WatchOutcome, WritesClosing, found_before, stopped_by, verdict_status, watch_status};
 
 use crate::fault::{CheckFault, SourceFault};
-use crate::progress_line::ShownProgress;
+use chi_judge::Standing;
 use chi_script::{WriteFault, write_bytes};
 use chi_watch_text::{
-    LinesFault, Unfinished, WatchOptions, WatchProgress, WatchVerdict, Watched, unfinished_text,
-    watch_lines, watched_text,
+    FoundGranule, LinesFault, Unfinished, WatchOptions, WatchProgress, Watched, closing_text,
+    watch_lines,
 };
 use std::alloc::Global;
 use std::io::{BufReader, Read, Write};
 
 // The status of a verdict, and of whether all is there that is required.
-fn verdict_status(verdict: WatchVerdict, is_complete: bool) -> u8
+fn verdict_status(verdict: Standing, is_complete: bool) -> u8
     ensures { result ≡ verdict_status verdict is_complete }
 {
     match verdict {
-        WatchVerdict::Explained if is_complete => 0,
-        WatchVerdict::Explained | WatchVerdict::Unexplained => 1,
-        WatchVerdict::Undecided => 6,
+        Standing::Explained if is_complete => 0,
+        Standing::Explained | Standing::Unexplained => 1,
+        Standing::Undecided => 6,
     }
 }
 
@@ -37,14 +40,39 @@ fn watch_status(watched: &Watched, options: &WatchOptions) -> u8
     verdict_status(watched.verdict(), missing.is_nothing())
 }
 
-// What is found of the events that a reader gives.
-fn watched<R: Read, P: WatchProgress>(
+// Why a watch has no answer, by whether granules were found before.
+fn found_before(fault: LinesFault, found: &[FoundGranule]) -> CheckFault
+    ensures { result ≡ found_before fault found.now }
+{
+    if found.is_empty() {
+        CheckFault::Input(SourceFault::Events(fault))
+    } else {
+        CheckFault::Unfinished(fault)
+    }
+}
+
+// The same, or that they could not be told.
+fn stopped_by(fault: LinesFault, found: &[FoundGranule]) -> CheckFault
+    ensures { result ≡ stopped_by fault found.now }
+{
+    match fault {
+        LinesFault::Write => CheckFault::Write(WriteFault::Failed),
+        fault => found_before(fault, found),
+    }
+}
+
+// What is found of the events that a reader gives. Each granule is told when it is found.
+fn watched<R: Read, W: Write, P: WatchProgress>(
     alloc: Global,
     from: &mut R,
+    to: &mut W,
     options: &WatchOptions,
     progress: &mut P,
 ) -> Result<Watched, Unfinished>
     ensures outcome { IfSome (R.remaining from.old) (λ input. IsOutcome input options.now.keep_going result) }
+    ensures told { IfOk result (λ watched. Appends (W.contents to.old) (W.contents to.new) (flat_map found_text watched.found.items)) }
+    ensures kept { IfErr result (λ unfinished. unfinished.fault ≢ LinesFault.Write → Appends (W.contents to.old) (W.contents to.new) (flat_map found_text unfinished.found.items)) }
+    ensures begun { IfErr result (λ unfinished. AppendsFront (W.contents to.old) (W.contents to.new) (flat_map found_text unfinished.found.items)) }
     ensures undecided { IfOk result (WentBy P.looked progress.old progress.new options.now.budget) }
 {
     let mut lines = match BufReader::new(alloc, from) {
@@ -56,20 +84,20 @@ fn watched<R: Read, P: WatchProgress>(
             });
         }
     };
-    watch_lines(alloc, &mut lines, options, progress)
+    watch_lines(alloc, &mut lines, to, options, progress)
 }
 
-// Writes the text of what is found, and answers its status.
-fn write_watched<W: Write>(
+// Writes what is said once all is watched, and answers the status of what is found.
+fn write_closing<W: Write>(
     alloc: Global,
     watched: &Watched,
     to: &mut W,
     options: &WatchOptions,
 ) -> Result<u8, CheckFault>
-    ensures { WritesWatched options.now watched.now (W.contents to.old) (W.contents to.new) result }
+    ensures { WritesClosing options.now watched.now (W.contents to.old) (W.contents to.new) result }
 {
-    let Ok(text) = watched_text(alloc, watched, options) else {
-        return Err(CheckFault::Input(SourceFault::Memory));
+    let Ok(text) = closing_text(alloc, watched, options) else {
+        return Err(stopped_by(LinesFault::Memory, &watched.found));
     };
     match write_bytes(to, &text) {
         Ok(()) => Ok(watch_status(watched, options)),
@@ -77,38 +105,18 @@ fn write_watched<W: Write>(
     }
 }
 
-// Writes the granules that were found before a fault of the events, if there are any, and answers the fault.
-fn write_found<W: Write>(alloc: Global, unfinished: &Unfinished, to: &mut W) -> CheckFault
-    ensures { WritesFound unfinished.now (W.contents to.old) (W.contents to.new) result }
-{
-    if unfinished.found.is_empty() {
-        return CheckFault::Input(SourceFault::Events(unfinished.fault));
-    }
-    let Ok(text) = unfinished_text(alloc, &unfinished.found) else {
-        return CheckFault::Input(SourceFault::Memory);
-    };
-    if let Err(fault) = write_bytes(to, &text) {
-        return CheckFault::Write(fault);
-    }
-    match to.flush() {
-        Ok(()) => CheckFault::Unfinished(unfinished.fault),
-        Err(_) => CheckFault::Write(WriteFault::Failed),
-    }
-}
-
 /// Reads events, a line of JSON each, as they come, and writes whether what they tell can be explained. The answer is a
 /// status: 0 where it can, and all is there that is required; 1 where it cannot, or something is missing; 6 where it is
 /// undecided within the budget.
 ///
-/// It ends at the first line by which it is seen that no order explains the operations of a granule, unless it keeps going.
-/// Nothing is written before the answer is found, or a line is refused; then the granules are written that were found by then.
-/// After a fault of the writer a prefix of the text has been written. `progress` is told how far it is, and cleared before
-/// anything is written.
+/// It ends at the first line by which it is seen that no order explains the operations of a granule, unless it keeps going. Each such
+/// granule is written as soon as it is found, and nothing else before the end, or a line that is refused. After a fault of the writer
+/// a prefix of the text has been written. `progress` is told how far it is, and cleared before anything is written.
 ///
 /// ```
 /// let status = watch(alloc, &mut events.as_bytes(), &mut answer, &options, &mut progress)?; // explained
 /// ```
-pub fn watch<R: Read, W: Write, P: ShownProgress>(
+pub fn watch<R: Read, W: Write, P: WatchProgress>(
     alloc: Global,
     from: &mut R,
     to: &mut W,
@@ -120,10 +128,10 @@ pub fn watch<R: Read, W: Write, P: ShownProgress>(
     ensures status { IfOk result (λ status. IsAnswerStatus status) }
     ensures spent { IfOk result (λ status. status ≡ 6 → LookedAtLeast P.looked progress.old progress.new options.now.budget) }
 {
-    let found = watched(alloc, from, options, progress);
+    let found = watched(alloc, from, to, options, progress);
     progress.clear();
     match found {
-        Ok(watched) => write_watched(alloc, &watched, to, options),
-        Err(unfinished) => Err(write_found(alloc, &unfinished, to)),
+        Ok(watched) => write_closing(alloc, &watched, to, options),
+        Err(unfinished) => Err(stopped_by(unfinished.fault, &unfinished.found)),
     }
 }

@@ -92,6 +92,7 @@ line_refused (Some text) (Some rest) count number ended refusals o fault.Read ha
 line_refused (Some text) (Some rest) count number ended refusals o (fault.Line n f) has here (same, refused) = (has.events, count, rest, has.told, sym (same ∙ here), subst (λ n. event_text n (take_through 10 rest) ≡ Err f) (sym same) refused)
 line_refused (Some text) (Some rest) count number ended refusals o (fault.Event n f) has here is = absurd is
 line_refused (Some text) (Some rest) count number ended refusals o fault.TooManyLines has here is = absurd is
+line_refused (Some text) (Some rest) count number ended refusals o fault.Write has here is = absurd is
 line_refused (Some text) (Some rest) count number ended refusals o fault.Memory has here is = tt
 
 -- or one whose event cannot come next
@@ -105,6 +106,7 @@ event_refused (Some text) (Some rest) later count number ended refusals o e (fau
 event_refused (Some text) (Some rest) later count number ended refusals o e (fault.Event n f) has here read (same, refused) =
     (has.events, count, rest, has.told, sym (same ∙ here), (e, subst (λ n. event_text n (take_through 10 rest) ≡ Ok e) (sym same) read.1, (ended, o, has.tells, refused)))
 event_refused (Some text) (Some rest) later count number ended refusals o e fault.TooManyLines has here read is = absurd is
+event_refused (Some text) (Some rest) later count number ended refusals o e fault.Write has here read is = absurd is
 event_refused (Some text) (Some rest) later count number ended refusals o e fault.Memory has here read is = tt
 
 -- operations of a trace are one in every order of their starts

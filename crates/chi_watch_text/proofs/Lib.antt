@@ -3,3 +3,4 @@ pub mod KnownWords
 pub mod Recordings
 pub mod Refused
 pub mod Told
+pub mod ToldTexts

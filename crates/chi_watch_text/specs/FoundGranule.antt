@@ -6,8 +6,8 @@ use Rattle.chi_watch.specs.declared.ending.FoundAtEnd.{FoundAtEnd}
 use Rattle.chi_watch_text.specs.declared.quiet.Quiet.{Quiet}
 use Rattle.chi_watch_text.specs.declared.watched.FoundGranule.{FoundGranule}
 use Rattle.chi_watch_text.specs.declared.watched.Watched.{Watched}
-use Rattle.chi_watch_text.specs.declared.watched.WatchVerdict.{WatchVerdict}
-use Rattle.chi_watch_text.specs.declared.watched.WatchVerdict.TheVariants.{Explained, Unexplained, Undecided}
+use Rattle.chi_judge.specs.declared.standing.Standing.{Standing}
+use Rattle.chi_judge.specs.declared.standing.Standing.TheVariants.{Explained, Unexplained, Undecided}
 
 -- the granule was found
 abbrev pub is_found : ℕ → List FoundGranule → Bool
@@ -19,19 +19,19 @@ with_quiet None line quiet = quiet
 with_quiet (Some g) line quiet = filter (λ q. not (q.granule == g)) quiet ++ record { granule = g; line = line } ∷ []
 
 -- Some of one kind come before none of another.
-abbrev pub listed_verdict : List FoundAtEnd → List ℕ → WatchVerdict
+abbrev pub listed_verdict : List FoundAtEnd → List ℕ → Standing
 listed_verdict (f ∷ unexplained) undecided = Unexplained
 listed_verdict [] (g ∷ undecided) = Undecided
 listed_verdict [] [] = Explained
 
-abbrev pub ending_verdict : Option Ending → WatchVerdict
+abbrev pub ending_verdict : Option Ending → Standing
 ending_verdict None = Explained
 ending_verdict (Some ending) = listed_verdict ending.unexplained.items ending.undecided.items
 
-abbrev pub found_verdict : List FoundGranule → Option Ending → WatchVerdict
+abbrev pub found_verdict : List FoundGranule → Option Ending → Standing
 found_verdict (f ∷ found) ending = Unexplained
 found_verdict [] ending = ending_verdict ending
 
 -- what was found or is said at the end
-abbrev pub verdict_of : Watched → WatchVerdict
+abbrev pub verdict_of : Watched → Standing
 verdict_of w = found_verdict w.found.items w.ending

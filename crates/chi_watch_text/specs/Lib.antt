@@ -6,4 +6,5 @@ pub mod ReachTexts
 pub mod Recorded
 pub mod Reading
 pub mod Required
+pub mod Telling
 pub mod Texts

@@ -49,6 +49,7 @@ IsTakingFault o event number fault.Read = ⊥
 IsTakingFault o event number (fault.Line n f) = ⊥
 IsTakingFault o event number (fault.Event n f) = (n ≡ number) × Refuses o event f
 IsTakingFault o event number fault.TooManyLines = ⊥
+IsTakingFault o event number fault.Write = ⊥
 IsTakingFault o event number fault.Memory = Unit {0}
 
 -- the line with this number is the first whose event cannot come next, for this reason
@@ -63,4 +64,5 @@ IsOperationsFault text fault.Read = Unit {0}
 IsOperationsFault text (fault.Line number f) = IsNoEvent text number f
 IsOperationsFault text (fault.Event number f) = IsNotNext text number f
 IsOperationsFault text fault.TooManyLines = Unit {0}
+IsOperationsFault text fault.Write = ⊥
 IsOperationsFault text fault.Memory = Unit {0}

@@ -35,6 +35,7 @@ IsEventFault watch event number fault.Read = ⊥
 IsEventFault watch event number (fault.Line n f) = ⊥
 IsEventFault watch event number (fault.Event n f) = (n ≡ number) × (fault_of watch event ≡ Some f)
 IsEventFault watch event number fault.TooManyLines = ⊥
+IsEventFault watch event number fault.Write = ⊥
 IsEventFault watch event number fault.Memory = Unit {0}
 
 -- by the lines up to this one no order explains the granule
@@ -125,12 +126,17 @@ IsLinesFault text (fault.Line number f) =
 IsLinesFault text (fault.Event number f) =
     (events : List Event) × (before : ℕ) × (rest : List ℕ) × AreTold text before events rest × (before + 1 ≡ number) × ((e : Event) × (event_text number (take_through 10 rest) ≡ Ok e) × ((w : WatchValue) × HasTaken events w × (fault_of w e ≡ Some f)))
 IsLinesFault text fault.TooManyLines = Unit {0}
+IsLinesFault text fault.Write = ⊥
 IsLinesFault text fault.Memory = Unit {0}
+
+-- the same, or that a granule that was found could not be told
+abbrev pub IsWatchingFault : List ℕ → LinesFault → Type 0
+IsWatchingFault text f = f ≢ fault.Write → IsLinesFault text f
 
 -- what comes of a text: what is found of it, or why it is watched no further, and the granules that were found by then
 abbrev pub IsOutcome : List ℕ → Bool → Result Watched Unfinished → Type 0
 IsOutcome text going (Ok watched) = IsWatched text going watched
-IsOutcome text going (Err unfinished) = IsLinesFault text unfinished.fault × All (IsFoundBy text) unfinished.found.items
+IsOutcome text going (Err unfinished) = IsWatchingFault text unfinished.fault × All (IsFoundBy text) unfinished.found.items
 
 -- what a watch says once its events have ended, or where it stops
 pub record IsTold (w : WatchValue) (found : List FoundGranule) (ended : Bool) (watched : Watched) : Type 0 where

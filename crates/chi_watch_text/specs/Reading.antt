@@ -17,4 +17,5 @@ IsRefused line number fault.Read = Unit {0}
 IsRefused line number (fault.Line n f) = (n ≡ number) × (event_text number line ≡ Err f)
 IsRefused line number (fault.Event n f) = ⊥
 IsRefused line number fault.TooManyLines = ⊥
+IsRefused line number fault.Write = ⊥
 IsRefused line number fault.Memory = Unit {0}

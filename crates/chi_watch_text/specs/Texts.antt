@@ -11,8 +11,8 @@ use Rattle.chi_watch_text.specs.declared.options.WatchOptions.{WatchOptions}
 use Rattle.chi_watch_text.specs.declared.required.Required.{Required}
 use Rattle.chi_watch_text.specs.declared.watched.FoundGranule.{FoundGranule}
 use Rattle.chi_watch_text.specs.declared.watched.Watched.{Watched}
-use Rattle.chi_watch_text.specs.declared.watched.WatchVerdict.{WatchVerdict}
-use Rattle.chi_watch_text.specs.declared.watched.WatchVerdict.TheVariants.{Explained, Unexplained, Undecided}
+use Rattle.chi_judge.specs.declared.standing.Standing.{Standing}
+use Rattle.chi_judge.specs.declared.standing.Standing.TheVariants.{Explained, Unexplained, Undecided}
 
 -- a granule, how far it can be explained, and the line by which it was found
 unfoldable pub found_text : FoundGranule → List ℕ
@@ -31,14 +31,11 @@ abbrev pub ending_text : ℕ → List FoundGranule → Option Ending → List �
 ending_text budget found None = []
 ending_text budget found (Some ending) = flat_map (end_text found) ending.unexplained.items ++ flat_map (undecided_text budget) ending.undecided.items
 
--- that all is explained, or each granule that is not
-abbrev pub verdict_text : WatchVerdict → ℕ → Watched → List ℕ
+-- that all is explained, or each granule that is found at the end, or is not decided then
+abbrev pub verdict_text : Standing → ℕ → Watched → List ℕ
 verdict_text Explained budget w = codes "explained\n"
-verdict_text Unexplained budget w = flat_map found_text w.found.items ++ ending_text budget w.found.items w.ending
-verdict_text Undecided budget w = flat_map found_text w.found.items ++ ending_text budget w.found.items w.ending
-
-abbrev pub answer_text : ℕ → Watched → List ℕ
-answer_text budget w = verdict_text (verdict_of w) budget w
+verdict_text Unexplained budget w = ending_text budget w.found.items w.ending
+verdict_text Undecided budget w = ending_text budget w.found.items w.ending
 
 -- how much was told
 unfoldable pub counts_text : Counts → ℕ → List ℕ
@@ -72,6 +69,10 @@ abbrev pub missing_text : Required → Watched → List ℕ
 missing_text missing w =
     end_line missing.end ++ (operations_line missing.operations w.counts.ended ++ (quiet_line missing.quiet w.counts.outstanding ++ judged_line missing.judged w.unjudged))
 
--- the whole text
+-- what is said once all is watched
+abbrev pub closing_text : WatchOptions → Watched → List ℕ
+closing_text options w = verdict_text (verdict_of w) options.budget w ++ (counts_text w.counts w.unjudged ++ missing_text (missing_of options.required w) w)
+
+-- the whole text: the granules that were told when they were found, and what is said once all is watched
 abbrev pub watched_text : WatchOptions → Watched → List ℕ
-watched_text options w = answer_text options.budget w ++ (counts_text w.counts w.unjudged ++ missing_text (missing_of options.required w) w)
+watched_text options w = flat_map found_text w.found.items ++ closing_text options w

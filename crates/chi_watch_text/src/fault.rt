@@ -11,6 +11,7 @@ use thiserror::Error;
 /// - `Line`: the line tells no event.
 /// - `Event`: the event of the line cannot be taken.
 /// - `TooManyLines`: there are so many lines that their numbers do not fit 64 bits.
+/// - `Write`: a granule that was found could not be told.
 ///
 /// ```
 /// let fault = LinesFault::Read; // input could not be read
@@ -25,6 +26,8 @@ pub enum LinesFault {
     Event { number: u64, fault: WatchFault },
     #[error("input has too many lines")]
     TooManyLines,
+    #[error("output could not be written")]
+    Write,
     #[error("no memory")]
     Memory,
 }

@@ -1,15 +1,20 @@
 //! Granules that became quiet, or had stopped being explained, and that no order explains by what is told up to then.
 
-ghost use Rattle.std.specs.Prelude.{◌≡◌, ◌==◌, ◌≢◌, [], true, false, All, not, filter, IfOk};
+ghost use Rattle.std.specs.Prelude.{◌≡◌, ◌==◌, ◌≢◌, ◌⊎◌, ◌++◌, [], ◌∷◌, true, false, All, not, filter, IfErr, IfOk};
 ghost use Rattle.std.specs.List.{AllPairs};
 ghost use Rattle.chi_search.specs.Looks.{LookedSome};
 ghost use Rattle.chi_watch_text.specs.FoundGranule.{with_quiet};
 ghost use Rattle.chi_watch_text.specs.Outcomes.{AreUnreached, IsSettled, IsStillFound};
+ghost use Rattle.chi_watch_text.specs.Telling.{AreAllTold, AreSomeTold};
 
+use crate::fault::LinesFault;
+use crate::progress::WatchProgress;
+use crate::telling::tell;
+use crate::text::text_of_found;
 use crate::watched::{FoundGranule, is_found};
-use chi_search::Progress;
 use chi_watch::Watch;
 use std::alloc::{AllocError, Global};
+use std::io::Write;
 
 /// A granule that became quiet, or had stopped being explained, and that no order explains by what was told then, by its number;
 /// and the line by which that was seen.
@@ -48,15 +53,29 @@ pub(crate) fn note_quiet(
     Ok(())
 }
 
-/// Notes a granule, where it is still seen to be unexplained and was not noted before.
-fn judge_one<P: Progress>(
+/// Adds a granule to those that were found.
+fn add(found: &mut Vec<FoundGranule>, noted: FoundGranule) -> Result<(), AllocError>
+    ensures added { IfOk result (λ _. found.new.items ≡ found.old.items ++ noted ∷ []) }
+    ensures kept { IfErr result (λ _. found.new.items ≡ found.old.items) }
+{
+    found.push(noted)?;
+    Ok(())
+}
+
+/// Notes and tells a granule, where it is still seen to be unexplained and was not noted before.
+fn judge_one<W: Write, P: WatchProgress>(
     alloc: Global,
     watch: &Watch,
     it: Quiet,
     found: &mut Vec<FoundGranule>,
+    to: &mut W,
     budget: u64,
     progress: &mut P,
-) -> Result<(), AllocError>
+) -> Result<(), LinesFault>
+    ensures told { IfOk result (λ _. AreAllTold found.old.items found.new.items (W.contents to.old) (W.contents to.new)) }
+    ensures kept { IfErr result (λ fault. fault ≢ LinesFault.Write → AreAllTold found.old.items found.new.items (W.contents to.old) (W.contents to.new)) }
+    ensures begun { AreSomeTold found.old.items found.new.items (W.contents to.old) (W.contents to.new) }
+    ensures fault { IfErr result (λ fault. (fault ≡ LinesFault.Memory) ⊎ (fault ≡ LinesFault.Write)) }
     ensures noted { IsSettled watch.now it found.old.items found.new.items }
     ensures unreached { IfOk result (λ _. AreUnreached watch.now P.looked progress.old progress.new budget found.old.items found.new.items) }
     ensures looked { IfOk result (λ _. LookedSome P.looked progress.old progress.new) }
@@ -66,45 +85,58 @@ fn judge_one<P: Progress>(
     }
     if watch.is_unexplained(alloc, it.granule, budget, progress)? {
         let reach = watch.reach(alloc, it.granule, budget, progress)?;
-        found.push(FoundGranule {
+        let noted = FoundGranule {
             granule: it.granule,
             line: it.line,
             reach,
-        })?;
+        };
+        let text = text_of_found(alloc, &noted)?;
+        add(found, noted)?;
+        tell(to, &text, progress)?;
     }
     Ok(())
 }
 
-/// Notes those that are still seen to be unexplained.
-fn judge_each<P: Progress>(
+/// Notes and tells those that are still seen to be unexplained.
+fn judge_each<W: Write, P: WatchProgress>(
     alloc: Global,
     watch: &Watch,
     quiet: &[Quiet],
     found: &mut Vec<FoundGranule>,
+    to: &mut W,
     budget: u64,
     progress: &mut P,
-) -> Result<(), AllocError>
+) -> Result<(), LinesFault>
+    ensures told { IfOk result (λ _. AreAllTold found.old.items found.new.items (W.contents to.old) (W.contents to.new)) }
+    ensures kept { IfErr result (λ fault. fault ≢ LinesFault.Write → AreAllTold found.old.items found.new.items (W.contents to.old) (W.contents to.new)) }
+    ensures begun { AreSomeTold found.old.items found.new.items (W.contents to.old) (W.contents to.new) }
+    ensures fault { IfErr result (λ fault. (fault ≡ LinesFault.Memory) ⊎ (fault ≡ LinesFault.Write)) }
     ensures each { All (IsStillFound watch.now quiet.now found.old.items) found.new.items }
     ensures unreached { IfOk result (λ _. AreUnreached watch.now P.looked progress.old progress.new budget found.old.items found.new.items) }
     ensures once { IfOk result (λ _. AllPairs (λ a b. a.granule ≢ b.granule) found.old.items → AllPairs (λ a b. a.granule ≢ b.granule) found.new.items) }
     ensures looked { IfOk result (λ _. LookedSome P.looked progress.old progress.new) }
 {
     for it in quiet {
-        judge_one(alloc, watch, *it, found, budget, progress)?;
+        judge_one(alloc, watch, *it, found, to, budget, progress)?;
     }
     Ok(())
 }
 
-/// Notes those that are still seen to be unexplained, where all events of their time are told.
-pub(crate) fn judge_quiet<P: Progress>(
+/// Notes and tells those that are still seen to be unexplained, where all events of their time are told.
+pub(crate) fn judge_quiet<W: Write, P: WatchProgress>(
     alloc: Global,
     watch: &Watch,
     is_past: bool,
     quiet: &mut Vec<Quiet>,
     found: &mut Vec<FoundGranule>,
+    to: &mut W,
     budget: u64,
     progress: &mut P,
-) -> Result<(), AllocError>
+) -> Result<(), LinesFault>
+    ensures told { IfOk result (λ _. AreAllTold found.old.items found.new.items (W.contents to.old) (W.contents to.new)) }
+    ensures kept { IfErr result (λ fault. fault ≢ LinesFault.Write → AreAllTold found.old.items found.new.items (W.contents to.old) (W.contents to.new)) }
+    ensures begun { AreSomeTold found.old.items found.new.items (W.contents to.old) (W.contents to.new) }
+    ensures fault { IfErr result (λ fault. (fault ≡ LinesFault.Memory) ⊎ (fault ≡ LinesFault.Write)) }
     ensures waits { is_past ≡ false → (found.new.items ≡ found.old.items) × (quiet.new.items ≡ quiet.old.items) }
     ensures cleared { IfOk result (λ _. is_past ≡ true → quiet.new.items ≡ []) }
     ensures each { is_past ≡ true → All (IsStillFound watch.now quiet.old.items found.old.items) found.new.items }
@@ -115,7 +147,7 @@ pub(crate) fn judge_quiet<P: Progress>(
     if !is_past {
         return Ok(());
     }
-    judge_each(alloc, watch, quiet, found, budget, progress)?;
+    judge_each(alloc, watch, quiet, found, to, budget, progress)?;
     quiet.clear();
     Ok(())
 }

@@ -1,13 +1,15 @@
 //! The text of what is found of events.
 
 ghost use Rattle.std.specs.Prelude.{◌≡◌, ◌++◌, IfOk, OnOk, flat_map};
-ghost use Rattle.chi_watch_text.specs.Texts.{answer_text, are_text, counts_text, end_line, end_text, ending_text, found_text, judged_line, missing_text, operations_line, operations_text, quiet_line, undecided_text, watched_text};
+ghost use Rattle.chi_watch_text.specs.FoundGranule.{verdict_of};
+ghost use Rattle.chi_watch_text.specs.Texts.{are_text, closing_text, counts_text, end_line, end_text, ending_text, found_text, judged_line, missing_text, operations_line, operations_text, quiet_line, undecided_text, verdict_text};
 
 use crate::options::WatchOptions;
 use crate::reach_lines::add_reach;
 use crate::required::Required;
-use crate::watched::{FoundGranule, WatchVerdict, Watched, is_found};
+use crate::watched::{FoundGranule, Watched, is_found};
 use chi_answer::{add_granule, add_undecided};
+use chi_judge::Standing;
 use chi_text::{Part, add_parts};
 use chi_watch::{Counts, Ending, FoundAtEnd};
 use std::alloc::{AllocError, Global};
@@ -45,14 +47,13 @@ fn add_at_end(
     add_parts(to, &[Part::Text("  at the end\n")])
 }
 
-/// The lines of granules that were found.
-fn add_all_found(alloc: Global, to: &mut Vec<u8>, found: &[FoundGranule]) -> Result<(), AllocError>
-    ensures { OnOk result (to.new.items ≡ to.old.items ++ flat_map found_text found.now) }
+/// The lines of a granule that was found, as a text.
+pub(crate) fn text_of_found(alloc: Global, found: &FoundGranule) -> Result<Vec<u8>, AllocError>
+    ensures { IfOk result (λ text. text.items ≡ found_text found.now) }
 {
-    for it in found {
-        add_found(alloc, to, it)?;
-    }
-    Ok(())
+    let mut text = Vec::new(alloc);
+    add_found(alloc, &mut text, found)?;
+    Ok(text)
 }
 
 /// The lines of granules that no order explains at the end.
@@ -97,19 +98,18 @@ fn add_ending(
     add_all_undecided(to, &ending.undecided, budget)
 }
 
-/// The answer: that all is explained, or each granule that is not.
-fn add_answer(
+/// That all is explained, or each granule that is found at the end, or is not decided then.
+fn add_verdict(
     alloc: Global,
     to: &mut Vec<u8>,
     watched: &Watched,
     budget: u64,
 ) -> Result<(), AllocError>
-    ensures { OnOk result (to.new.items ≡ to.old.items ++ answer_text budget watched.now) }
+    ensures { OnOk result (to.new.items ≡ to.old.items ++ verdict_text (verdict_of watched.now) budget watched.now) }
 {
     match watched.verdict() {
-        WatchVerdict::Explained => add_parts(to, &[Part::Text("explained\n")]),
-        WatchVerdict::Unexplained | WatchVerdict::Undecided => {
-            add_all_found(alloc, to, &watched.found)?;
+        Standing::Explained => add_parts(to, &[Part::Text("explained\n")]),
+        Standing::Unexplained | Standing::Undecided => {
             add_ending(alloc, to, &watched.found, &watched.ending, budget)
         }
     }
@@ -231,35 +231,24 @@ fn add_missing(to: &mut Vec<u8>, missing: &Required, watched: &Watched) -> Resul
     add_judged(to, missing.judged, watched.unjudged)
 }
 
-/// The text of what is found. `options` are those by which it was watched.
+/// What is said once all is watched, after the granules that were told when they were found: that all is explained, or what is found
+/// at the end; how much was told; and what is required and does not hold. `options` are those by which it was watched.
 ///
 /// ```
-/// let text = watched_text(alloc, &watched, &options)?; // explained
+/// let watched = watch_lines(alloc, &mut reader, &mut out, &options, &mut NoProgress)?;
+/// out.write_all(&closing_text(alloc, &watched, &options)?)?; // explained
 /// ```
-pub fn watched_text(
+pub fn closing_text(
     alloc: Global,
     watched: &Watched,
     options: &WatchOptions,
 ) -> Result<Vec<u8>, AllocError>
-    ensures { IfOk result (λ text. text.items ≡ watched_text options.now watched.now) }
+    ensures { IfOk result (λ text. text.items ≡ closing_text options.now watched.now) }
 {
     let missing = options.required.missing(watched);
     let mut text = Vec::new(alloc);
-    add_answer(alloc, &mut text, watched, options.budget)?;
+    add_verdict(alloc, &mut text, watched, options.budget)?;
     add_counts(&mut text, &watched.counts, watched.unjudged)?;
     add_missing(&mut text, &missing, watched)?;
-    Ok(text)
-}
-
-/// The text of the granules that were found before events are watched no further: that of each, as `watched_text` has it.
-///
-/// ```
-/// let text = unfinished_text(alloc, &unfinished.found)?; // not explained: granule 0000000000001000 ..
-/// ```
-pub fn unfinished_text(alloc: Global, found: &[FoundGranule]) -> Result<Vec<u8>, AllocError>
-    ensures { IfOk result (λ text. text.items ≡ flat_map found_text found.now) }
-{
-    let mut text = Vec::new(alloc);
-    add_all_found(alloc, &mut text, found)?;
     Ok(text)
 }

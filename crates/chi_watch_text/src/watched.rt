@@ -4,7 +4,7 @@ ghost use Rattle.std.specs.Prelude.{◌≡◌};
 ghost use Rattle.chi_watch_text.specs.FoundGranule.{is_found, verdict_of};
 
 use crate::fault::LinesFault;
-use chi_judge::Reach;
+use chi_judge::{Reach, Standing};
 use chi_watch::{Counts, Ending};
 use thiserror::Error;
 
@@ -39,39 +39,27 @@ pub struct Unfinished {
     pub fault: LinesFault,
 }
 
-/// Whether all that was watched is explained.
-///
-/// - `Explained`: some order explains it.
-/// - `Unexplained`: of a granule at least none does.
-/// - `Undecided`: neither was found.
-#[derive(Clone, Copy, Debug, PartialEq, Eq)]
-pub enum WatchVerdict {
-    Explained,
-    Unexplained,
-    Undecided,
-}
-
 impl Watched {
-    /// Whether all that was watched is explained.
+    /// Whether all that was watched is explained: some order explains it; of a granule at least none does; or neither was found.
     ///
     /// ```
-    /// let is_right = watched.verdict() == WatchVerdict::Explained;
+    /// let is_right = watched.verdict() == Standing::Explained;
     /// ```
-    pub fn verdict(&self) -> WatchVerdict
+    pub fn verdict(&self) -> Standing
         ensures { result ≡ verdict_of self.now }
     {
         if self.found.len() > 0 {
-            return WatchVerdict::Unexplained;
+            return Standing::Unexplained;
         }
         match &self.ending {
-            None => WatchVerdict::Explained,
+            None => Standing::Explained,
             Some(ending) => {
                 if ending.unexplained.len() > 0 {
-                    WatchVerdict::Unexplained
+                    Standing::Unexplained
                 } else if ending.undecided.len() > 0 {
-                    WatchVerdict::Undecided
+                    Standing::Undecided
                 } else {
-                    WatchVerdict::Explained
+                    Standing::Explained
                 }
             }
         }

@@ -1,11 +1,14 @@
 //! Events that are read line by line and watched.
 
-ghost use Rattle.std.specs.Prelude.{◌≡◌, ◌≢◌, ◌<◌, ◌≤◌, ◌⊎◌, ℕ, [], List, All, None, true, false, IfErr, IfOk, IfSome, IsSomeAnd, length};
+ghost use Rattle.std.specs.Prelude.{◌≡◌, ◌≢◌, ◌<◌, ◌≤◌, ◌⊎◌, ℕ, [], List, All, None, true, false, IfErr, IfOk, IfSome, IsSomeAnd, flat_map, length};
+ghost use Rattle.std.specs.Io.KnownBytes.{Appends};
+ghost use Rattle.chi_script.specs.WriterBytes.{AppendsFront};
 ghost use Rattle.chi_events.specs.Ended.{is_end};
 ghost use Rattle.chi_events.specs.declared.event.Event.{Event};
 ghost use Rattle.chi_search.specs.Looks.{LookedSome};
 ghost use Rattle.chi_watch.specs.Watches.{HasTaken};
-ghost use Rattle.chi_watch_text.specs.Outcomes.{IsEventFault, IsFoundBy, IsLinesFault, IsOutcome, IsTold, IsUnreached, IsWatched, ReachedBy, SaysAtEnd, TakesEvent, WentBy};
+ghost use Rattle.chi_watch_text.specs.Outcomes.{IsEventFault, IsFoundBy, IsOutcome, IsTold, IsUnreached, IsWatched, IsWatchingFault, ReachedBy, SaysAtEnd, TakesEvent, WentBy};
+ghost use Rattle.chi_watch_text.specs.Texts.{found_text};
 
 use crate::fault::LinesFault;
 use crate::lines::next_event;
@@ -16,7 +19,7 @@ use crate::watched::{FoundGranule, Unfinished, Watched};
 use chi_events::{Event, EventKind};
 use chi_watch::{Watch, WatchFault};
 use std::alloc::{AllocError, Global};
-use std::io::BufRead;
+use std::io::{BufRead, Write};
 use std::mem;
 
 /// Has the watch take the event of the line with this number.
@@ -111,18 +114,22 @@ fn ended<P: WatchProgress>(
     })
 }
 
-/// Reads events line by line, and watches the granules that they tell of. Those that no order explains are in `found`, until it
-/// ends.
-fn watch_each<R: BufRead, P: WatchProgress>(
+/// Reads events line by line, and watches the granules that they tell of. Those that no order explains are told, and are in `found`
+/// until it ends.
+fn watch_each<R: BufRead, W: Write, P: WatchProgress>(
     alloc: Global,
     from: &mut R,
+    to: &mut W,
     options: &WatchOptions,
     found: &mut Vec<FoundGranule>,
     progress: &mut P,
 ) -> Result<Watched, LinesFault>
     requires { found.old.items ≡ [] }
     ensures watched { IfSome (R.remaining from.old) (λ text. IfOk result (IsWatched text options.now.keep_going)) }
-    ensures fault { IfSome (R.remaining from.old) (λ text. IfErr result (IsLinesFault text)) }
+    ensures fault { IfSome (R.remaining from.old) (λ text. IfErr result (IsWatchingFault text)) }
+    ensures told { IfOk result (λ watched. Appends (W.contents to.old) (W.contents to.new) (flat_map found_text watched.found.items)) }
+    ensures kept { IfErr result (λ fault. fault ≢ LinesFault.Write → Appends (W.contents to.old) (W.contents to.new) (flat_map found_text found.new.items)) }
+    ensures begun { IfErr result (λ _. AppendsFront (W.contents to.old) (W.contents to.new) (flat_map found_text found.new.items)) }
     ensures found { IfSome (R.remaining from.old) (λ text. IfErr result (λ _. All (IsFoundBy text) found.new.items)) }
     ensures undecided { IfOk result (WentBy P.looked progress.old progress.new options.now.budget) }
     ensures unreached { IfOk result (ReachedBy P.looked progress.old progress.new options.now.budget) }
@@ -141,6 +148,7 @@ fn watch_each<R: BufRead, P: WatchProgress>(
             is_past,
             &mut quiet,
             found,
+            to,
             options.budget,
             progress,
         )?;
@@ -165,23 +173,28 @@ fn watch_each<R: BufRead, P: WatchProgress>(
 /// request may be told of the same time, it is found once the next event is later, or the text has ended. A line is read when it
 /// is there. The last line needs no line feed.
 ///
-/// After a fault nothing is said of the events but the granules that were found by then.
+/// Each granule is told to `to` as soon as it is found, and in place of how far the watch is. After a fault nothing else is said of
+/// the events.
 ///
 /// ```
-/// let watched = watch_lines(alloc, &mut reader, &options, &mut NoProgress)?;
+/// let watched = watch_lines(alloc, &mut reader, &mut out, &options, &mut NoProgress)?;
 /// ```
-pub fn watch_lines<R: BufRead, P: WatchProgress>(
+pub fn watch_lines<R: BufRead, W: Write, P: WatchProgress>(
     alloc: Global,
     from: &mut R,
+    to: &mut W,
     options: &WatchOptions,
     progress: &mut P,
 ) -> Result<Watched, Unfinished>
     ensures outcome { IfSome (R.remaining from.old) (λ text. IsOutcome text options.now.keep_going result) }
+    ensures told { IfOk result (λ watched. Appends (W.contents to.old) (W.contents to.new) (flat_map found_text watched.found.items)) }
+    ensures kept { IfErr result (λ unfinished. unfinished.fault ≢ LinesFault.Write → Appends (W.contents to.old) (W.contents to.new) (flat_map found_text unfinished.found.items)) }
+    ensures begun { IfErr result (λ unfinished. AppendsFront (W.contents to.old) (W.contents to.new) (flat_map found_text unfinished.found.items)) }
     ensures undecided { IfOk result (WentBy P.looked progress.old progress.new options.now.budget) }
     ensures unreached { IfOk result (ReachedBy P.looked progress.old progress.new options.now.budget) }
 {
     let mut found = Vec::new(alloc);
-    match watch_each(alloc, from, options, &mut found, progress) {
+    match watch_each(alloc, from, to, options, &mut found, progress) {
         Ok(watched) => Ok(watched),
         Err(fault) => Err(Unfinished { found, fault }),
     }

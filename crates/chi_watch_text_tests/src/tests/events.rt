@@ -2,7 +2,7 @@
 
 use chi_search::NoProgress;
 use chi_watch_text::{
-    LinesFault, Required, Unfinished, WatchOptions, Watched, watch_lines, watched_text,
+    LinesFault, Required, Unfinished, WatchOptions, Watched, closing_text, watch_lines,
 };
 use std::alloc::{AllocError, Global};
 use std::test::Fail;
@@ -77,7 +77,8 @@ pub(crate) fn watched(
         }
     };
     let mut from = all.as_slice();
-    watch_lines(alloc, &mut from, options, &mut NoProgress)
+    let mut told = Vec::new(alloc);
+    watch_lines(alloc, &mut from, &mut told, options, &mut NoProgress)
 }
 
 /// The text of it.
@@ -86,8 +87,11 @@ pub(crate) fn answer(
     texts: &[&str],
     options: &WatchOptions,
 ) -> Result<String, Fail> {
-    let watched = watched(alloc, texts, options)?;
-    let text = watched_text(alloc, &watched, options)?;
+    let all = joined(alloc, texts)?;
+    let mut from = all.as_slice();
+    let mut text = Vec::new(alloc);
+    let watched = watch_lines(alloc, &mut from, &mut text, options, &mut NoProgress)?;
+    text.extend_from_slice(&closing_text(alloc, &watched, options)?)?;
     Ok(String::from_utf8(text)?)
 }
 

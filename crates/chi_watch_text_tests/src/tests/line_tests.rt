@@ -6,9 +6,10 @@ use crate::tests::events::{
 };
 use chi_events::EventFault;
 use chi_json::ObjectFault;
+use chi_judge::Standing;
 use chi_reading::{LineFault, Member};
 use chi_watch::WatchFault;
-use chi_watch_text::{LinesFault, WatchVerdict};
+use chi_watch_text::LinesFault;
 use std::test::Fail;
 
 #[test]
@@ -23,7 +24,7 @@ fn lines_that_are_explained(rt: HostRuntime) -> Result<(), Fail> {
         assert_same(
             &rt,
             (texts.len(), watched.verdict(), watched.ending.is_some()),
-            (texts.len(), WatchVerdict::Explained, true),
+            (texts.len(), Standing::Explained, true),
         );
     }
     Ok(())
@@ -52,11 +53,8 @@ fn a_lost_write(rt: HostRuntime) -> Result<(), Fail> {
 #[test]
 fn a_write_of_the_same_time(rt: HostRuntime) -> Result<(), Fail> {
     for (texts, wanted) in &[
-        (
-            [READ, FIVE, WRITE_AT_FOUR].as_slice(),
-            WatchVerdict::Explained,
-        ),
-        (&[READ, FIVE, LAST], WatchVerdict::Unexplained),
+        ([READ, FIVE, WRITE_AT_FOUR].as_slice(), Standing::Explained),
+        (&[READ, FIVE, LAST], Standing::Unexplained),
     ] {
         let verdict = watched(rt.alloc(), texts, &STOPPING)?.verdict();
         assert_same(&rt, (texts.len(), verdict), (texts.len(), *wanted));

@@ -3,16 +3,17 @@
 ghost use Rattle.std.specs.Prelude.{⊤};
 
 use crate::tests::comparison::assert_same;
-use crate::tests::events::{FIVE, READ, STOPPING, WRITE, joined};
+use crate::tests::events::{FIVE, READ, STOPPING, WRITE, ZERO, joined};
 use chi_search::Progress;
 use chi_watch::Counts;
 use chi_watch_text::{WatchProgress, watch_lines};
 use std::test::Fail;
 
-// Keeps what it was told last, and how often it was told.
+// Keeps what it was told last, how often it was told, and how often it was cleared.
 #[derive(Drop)]
 struct Kept {
     told: u64,
+    cleared: u64,
     last: Option<(Counts, u64)>,
 }
 
@@ -27,30 +28,41 @@ impl WatchProgress for Kept {
         self.told = self.told.saturating_add(1);
         self.last = Some((counts, time));
     }
+
+    fn clear(&mut self) {
+        self.cleared = self.cleared.saturating_add(1);
+    }
 }
 
-// A line that tells no event is not told of.
+// A line that tells no event is not told of. What is shown is taken back before a granule is told.
 #[test]
 fn the_last_event(rt: HostRuntime) -> Result<(), Fail> {
-    for (texts, told, ended, outstanding, time) in &[
-        ([WRITE, "", ""], 2, 1, 0, 2),
-        ([WRITE, READ, ""], 3, 1, 1, 3),
-        ([WRITE, READ, FIVE], 4, 2, 0, 4),
-        ([WRITE, READ, "\n"], 3, 1, 1, 3),
+    for (texts, told, ended, outstanding, time, cleared) in &[
+        ([WRITE, "", ""], 2, 1, 0, 2, 0),
+        ([WRITE, READ, ""], 3, 1, 1, 3, 0),
+        ([WRITE, READ, FIVE], 4, 2, 0, 4, 0),
+        ([WRITE, READ, ZERO], 4, 2, 0, 4, 1),
+        ([WRITE, READ, "\n"], 3, 1, 1, 3, 0),
     ] {
         let text = joined(rt.alloc(), texts)?;
         let mut from = text.as_slice();
         let mut kept = Kept {
             told: 0,
+            cleared: 0,
             last: None,
         };
-        let _watched = watch_lines(rt.alloc(), &mut from, &STOPPING, &mut kept);
+        let mut out = Vec::new(rt.alloc());
+        let _watched = watch_lines(rt.alloc(), &mut from, &mut out, &STOPPING, &mut kept);
         let counts = Counts {
             ended: *ended,
             outstanding: *outstanding,
             granules: 1,
         };
-        assert_same(&rt, (kept.told, kept.last), (*told, Some((counts, *time))));
+        assert_same(
+            &rt,
+            (kept.told, kept.last, kept.cleared),
+            (*told, Some((counts, *time)), *cleared),
+        );
     }
     Ok(())
 }

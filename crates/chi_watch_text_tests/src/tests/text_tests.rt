@@ -6,7 +6,7 @@ use crate::tests::events::{
 };
 use chi_judge::Reach;
 use chi_watch::{Counts, Ending, FoundAtEnd};
-use chi_watch_text::{FoundGranule, Required, WatchOptions, Watched, watched_text};
+use chi_watch_text::{FoundGranule, Required, WatchOptions, Watched, closing_text};
 use std::process::Abort;
 use std::test::Fail;
 
@@ -145,13 +145,11 @@ fn all_there_is_to_tell(rt: HostRuntime) -> Result<(), Fail> {
             ..ALL
         },
     };
-    let text = String::from_utf8(watched_text(rt.alloc(), &watched, &options)?)?;
+    let text = String::from_utf8(closing_text(rt.alloc(), &watched, &options)?)?;
     assert_same(
         &rt,
         text.as_str(),
-        "not explained: granule 0000000000001008
-  at line 18446744073709551614
-not explained: granule 0000000000000000
+        "not explained: granule 0000000000000000
   at the end
 undecided: granule 0000000000001000 after 70 states
 undecided: granule 000ffffffffffff8 after 70 states

@@ -1,9 +1,9 @@
 //! The verdict on what is found.
 
 use crate::tests::comparison::assert_same;
-use chi_judge::Reach;
+use chi_judge::{Reach, Standing};
 use chi_watch::{Counts, Ending, FoundAtEnd};
-use chi_watch_text::{FoundGranule, WatchVerdict, Watched};
+use chi_watch_text::{FoundGranule, Watched};
 use std::alloc::{AllocError, Global};
 use std::test::Fail;
 
@@ -13,7 +13,7 @@ fn verdict(
     found: usize,
     unexplained: usize,
     undecided: usize,
-) -> Result<WatchVerdict, AllocError> {
+) -> Result<Standing, AllocError> {
     let mut by_line = Vec::new(alloc);
     for _ in 0..found {
         by_line.push(FoundGranule {
@@ -52,13 +52,13 @@ fn verdict(
 #[test]
 fn each_kind(rt: HostRuntime) -> Result<(), Fail> {
     for (found, unexplained, undecided, wanted) in [
-        (0, 0, 0, WatchVerdict::Explained),
-        (0, 0, 1, WatchVerdict::Undecided),
-        (0, 1, 0, WatchVerdict::Unexplained),
-        (0, 1, 1, WatchVerdict::Unexplained),
-        (1, 0, 0, WatchVerdict::Unexplained),
-        (1, 0, 1, WatchVerdict::Unexplained),
-        (1, 1, 1, WatchVerdict::Unexplained),
+        (0, 0, 0, Standing::Explained),
+        (0, 0, 1, Standing::Undecided),
+        (0, 1, 0, Standing::Unexplained),
+        (0, 1, 1, Standing::Unexplained),
+        (1, 0, 0, Standing::Unexplained),
+        (1, 0, 1, Standing::Unexplained),
+        (1, 1, 1, Standing::Unexplained),
     ] {
         let verdict = verdict(rt.alloc(), found, unexplained, undecided)?;
         assert_same(

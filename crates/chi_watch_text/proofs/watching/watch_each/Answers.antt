@@ -1,17 +1,23 @@
 -- line after line is taken
-use Rattle.std.proofs.Common.{ℕ, Bool, ◌-◌, ◌++◌, ◌∷◌, [], All, IfErr, IfSome, List, Option, Result, length, ap, subst, sym, arith}
+use Rattle.std.proofs.Common.{◌≡◌, ℕ, Bool, ◌-◌, ◌++◌, ◌∷◌, [], All, IfErr, IfOk, IfSome, flat_map, List, Option, Result, length, ap, subst, sym, arith}
+use Rattle.std.specs.Io.KnownBytes.{Appends}
 use Rattle.std.proofs.lemmas.List.Elements.{All-nil}
+use Rattle.chi_script.specs.WriterBytes.{AppendsFront}
+use Rattle.chi_script.proofs.WriterBytesLemmas.{none_taken as nothing_written}
 use Rattle.chi_search.proofs.Looking.{looked_none, some_after}
 use Rattle.chi_events.specs.declared.event.Event.{Event}
 use Rattle.chi_watch.specs.declared.ending.Ending.{Ending}
 use Rattle.chi_watch.specs.declared.ending.FoundAtEnd.{FoundAtEnd}
-use Rattle.chi_watch_text.specs.Outcomes.{HasTakenLines, IsFoundBy, IsLinesFault, IsUnreached}
+use Rattle.chi_watch_text.specs.Outcomes.{HasTakenLines, IsFoundBy, IsUnreached, IsWatchingFault}
 use Rattle.chi_watch_text.specs.Reading.{IsRead}
+use Rattle.chi_watch_text.specs.Texts.{found_text}
 use Rattle.chi_watch_text.specs.declared.fault.LinesFault.{LinesFault}
+use Rattle.chi_watch_text.specs.declared.fault.LinesFault.TheVariants as fault
 use Rattle.chi_watch_text.specs.declared.watched.FoundGranule.{FoundGranule}
 use Rattle.chi_watch_text.specs.declared.watched.Watched.{Watched}
+use Rattle.chi_watch_text.proofs.ToldTexts.{at_fault, begun_more, but_at_fault, told_more, whole_front}
 use Rattle.chi_watch_text.proofs.Told.{at_end, at_stop, event_taken, found_so_far, kept_at_fault, none_found, none_taken, passed_on, reached_by_found, settled, took, undecided_after, unreached_all, unreached_at_end}
-use Rattle.chi_watch_text.proofs.Refused.{where_not_taken, where_refused}
+use Rattle.chi_watch_text.proofs.Refused.{but_write, held_up, where_not_taken, where_refused}
 use Rattle.chi_watch_text.proofs.watching.watch_each.Goals as goal
 
 pub loop-number-init : goal.loop-number-init
@@ -21,16 +27,17 @@ loop-number-init g c = record {
   told = ([], ([], c.new-watch.ensures));
   unreached = subst (All (λ (f : FoundGranule). IsUnreached g.P.Progress.looked c.args.progress.now c.args.progress.now c.args.options.now.budget f.reach)) (sym c.requires)
       (All-nil (λ (f : FoundGranule). IsUnreached g.P.Progress.looked c.args.progress.now c.args.progress.now c.args.options.now.budget f.reach));
+  written = subst (λ (l : List FoundGranule). Appends (g.W.Write.contents c.args.to.now) (g.W.Write.contents c.args.to.now) (flat_map found_text l)) (sym c.requires) (nothing_written (g.W.Write.contents c.args.to.now));
   first = λ stop. c.requires;
   looked = looked_none g.P.Progress.looked c.args.progress.now;
 }
 
 pub returns-in_err-next-clause-fault : goal.returns-in_err-next-clause-fault
 returns-in_err-next-clause-fault g c =
-    passed_on c.from_residual.result c.in_err-next.field-0.0 (λ (r : Result Watched LinesFault). IfSome (g.R.Read.remaining c.args.from.now) (λ text. IfErr r (IsLinesFault text))) c.from_residual.ensures.1
-    (where_refused (g.R.Read.remaining c.args.from.now) (g.R.Read.remaining c.loop-number.from) (c.loop-number.number - 1) c.loop-number.number c.loop-number.watch c.in_err-next.field-0.0
+    passed_on c.from_residual.result c.in_err-next.field-0.0 (λ (r : Result Watched LinesFault). IfSome (g.R.Read.remaining c.args.from.now) (λ text. IfErr r (IsWatchingFault text))) c.from_residual.ensures.1
+    (but_write (g.R.Read.remaining c.args.from.now) c.in_err-next.field-0.0 (where_refused (g.R.Read.remaining c.args.from.now) (g.R.Read.remaining c.loop-number.from) (c.loop-number.number - 1) c.loop-number.number c.loop-number.watch c.in_err-next.field-0.0
     (took (g.R.Read.remaining c.args.from.now) (g.R.Read.remaining c.loop-number.from) (c.loop-number.number - 1) c.loop-number.time c.loop-number.is_ended c.loop-number.found.items c.loop-number.quiet.items c.loop-number.watch c.loop-number.invariant.taken)
-    (omega arith) c.in_err-next.ensures.fault)
+    (omega arith) c.in_err-next.ensures.fault))
 
 pub loop-number-preserved : goal.loop-number-preserved
 loop-number-preserved g c =
@@ -52,6 +59,7 @@ loop-number-preserved g c =
       told = (before.told.0 ++ c.in-Some.event ∷ [], c.in_ok-seen.ensures.taken.taken before.told.0 before.told.1);
       unreached = unreached_all c.loop-number.watch g.P.Progress.looked c.args.progress.now c.loop-number.progress c.judge_quiet.new.progress c.take_event.new.progress c.args.options.now.budget
           c.loop-number.found.items c.judge_quiet.new.found.items before.looked c.in_ok-judge_quiet.ensures.looked c.in_ok-seen.ensures.looked before.told.0 before.told.1 c.in_ok-judge_quiet.ensures.unreached before.unreached;
+      written = told_more c.loop-number.found.items c.judge_quiet.new.found.items (g.W.Write.contents c.args.to.now) (g.W.Write.contents c.loop-number.to) (g.W.Write.contents c.judge_quiet.new.to) before.written c.in_ok-judge_quiet.ensures.told;
       first = first;
       looked = some_after g.P.Progress.looked c.args.progress.now c.judge_quiet.new.progress c.take_event.new.progress some c.in_ok-seen.ensures.looked;
     }
@@ -123,10 +131,10 @@ returns-in_err-seen-clause-fault g c =
     c.judge_quiet.new.found.items c.loop-number.quiet.items c.judge_quiet.new.quiet.items c.loop-number.watch c.in_ok-next.next c.is_past-is_past.result before.taken (omega arith) c.in_ok-next.ensures.told c.is_past-is_past.ensures.past
     c.in_ok-judge_quiet.ensures.waits c.in_ok-judge_quiet.ensures.cleared c.in_ok-judge_quiet.ensures.each in
     let read = subst (λ (o : Option Event). IfSome (g.R.Read.remaining c.loop-number.from) (λ text. IsRead c.loop-number.number text o (g.R.Read.remaining c.next_event.new.from))) c.in-Some.is c.in_ok-next.ensures.told in
-    passed_on c.from_residual-in_err-seen.result c.in_err-seen.field-0.0 (λ (r : Result Watched LinesFault). IfSome (g.R.Read.remaining c.args.from.now) (λ text. IfErr r (IsLinesFault text))) c.from_residual-in_err-seen.ensures.1
-    (where_not_taken (g.R.Read.remaining c.args.from.now) (g.R.Read.remaining c.loop-number.from) (g.R.Read.remaining c.next_event.new.from) (c.loop-number.number - 1) c.loop-number.number c.loop-number.watch c.in-Some.event c.in_err-seen.field-0.0
+    passed_on c.from_residual-in_err-seen.result c.in_err-seen.field-0.0 (λ (r : Result Watched LinesFault). IfSome (g.R.Read.remaining c.args.from.now) (λ text. IfErr r (IsWatchingFault text))) c.from_residual-in_err-seen.ensures.1
+    (but_write (g.R.Read.remaining c.args.from.now) c.in_err-seen.field-0.0 (where_not_taken (g.R.Read.remaining c.args.from.now) (g.R.Read.remaining c.loop-number.from) (g.R.Read.remaining c.next_event.new.from) (c.loop-number.number - 1) c.loop-number.number c.loop-number.watch c.in-Some.event c.in_err-seen.field-0.0
     (took (g.R.Read.remaining c.args.from.now) (g.R.Read.remaining c.loop-number.from) (c.loop-number.number - 1) c.loop-number.time c.loop-number.is_ended c.judge_quiet.new.found.items c.judge_quiet.new.quiet.items c.loop-number.watch settled_now)
-    (omega arith) read c.in_err-seen.ensures.fault)
+    (omega arith) read c.in_err-seen.ensures.fault))
 
 pub returns-in_err-judge_quiet-clause-found : goal.returns-in_err-judge_quiet-clause-found
 returns-in_err-judge_quiet-clause-found g c =
@@ -156,3 +164,54 @@ returns-in_err-note_quiet-clause-found g c =
     (found_so_far (g.R.Read.remaining c.args.from.now) (g.R.Read.remaining c.loop-number.from) (g.R.Read.remaining c.next_event.new.from) (c.loop-number.number - 1) c.loop-number.number c.loop-number.time c.loop-number.is_ended c.loop-number.found.items
     c.judge_quiet.new.found.items c.loop-number.quiet.items c.loop-number.watch c.in_ok-next.next c.is_past-is_past.result c.loop-number.invariant.taken (omega arith) c.in_ok-next.ensures.told c.is_past-is_past.ensures.past
     (λ wait. (c.in_ok-judge_quiet.ensures.waits wait).0) c.in_ok-judge_quiet.ensures.each)
+
+pub returns-in_err-next-clause-begun : goal.returns-in_err-next-clause-begun
+returns-in_err-next-clause-begun g c =
+    at_fault c.from_residual.result (AppendsFront (g.W.Write.contents c.args.to.now) (g.W.Write.contents c.loop-number.to) (flat_map found_text c.loop-number.found.items))
+    (whole_front (g.W.Write.contents c.args.to.now) (g.W.Write.contents c.loop-number.to) (flat_map found_text c.loop-number.found.items) c.loop-number.invariant.written)
+
+pub returns-in_err-judge_quiet-clause-fault : goal.returns-in_err-judge_quiet-clause-fault
+returns-in_err-judge_quiet-clause-fault g c =
+    passed_on c.from_residual-in_err-judge_quiet.result c.in_err-judge_quiet.field-0.0 (λ (r : Result Watched LinesFault). IfSome (g.R.Read.remaining c.args.from.now) (λ text. IfErr r (IsWatchingFault text)))
+    c.from_residual-in_err-judge_quiet.ensures.1 (held_up (g.R.Read.remaining c.args.from.now) c.in_err-judge_quiet.field-0.0 c.in_err-judge_quiet.ensures.fault)
+
+pub returns-in_err-judge_quiet-clause-kept : goal.returns-in_err-judge_quiet-clause-kept
+returns-in_err-judge_quiet-clause-kept g c =
+    passed_on c.from_residual-in_err-judge_quiet.result c.in_err-judge_quiet.field-0.0 (λ (r : Result Watched LinesFault). IfErr r (λ x. (x ≡ fault.Write → ⊥) → Appends (g.W.Write.contents c.args.to.now) (g.W.Write.contents c.judge_quiet.new.to) (flat_map found_text c.judge_quiet.new.found.items)))
+    c.from_residual-in_err-judge_quiet.ensures.1 (λ not. told_more c.loop-number.found.items c.judge_quiet.new.found.items (g.W.Write.contents c.args.to.now) (g.W.Write.contents c.loop-number.to) (g.W.Write.contents c.judge_quiet.new.to) c.loop-number.invariant.written (c.in_err-judge_quiet.ensures.kept not))
+
+pub returns-in_err-judge_quiet-clause-begun : goal.returns-in_err-judge_quiet-clause-begun
+returns-in_err-judge_quiet-clause-begun g c =
+    at_fault c.from_residual-in_err-judge_quiet.result (AppendsFront (g.W.Write.contents c.args.to.now) (g.W.Write.contents c.judge_quiet.new.to) (flat_map found_text c.judge_quiet.new.found.items))
+    (begun_more c.loop-number.found.items c.judge_quiet.new.found.items (g.W.Write.contents c.args.to.now) (g.W.Write.contents c.loop-number.to) (g.W.Write.contents c.judge_quiet.new.to) c.loop-number.invariant.written c.judge_quiet.ensures.begun)
+
+pub returns-in_err-ended-clause-begun : goal.returns-in_err-ended-clause-begun
+returns-in_err-ended-clause-begun g c =
+    at_fault c.from_residual-in_err-ended.result (AppendsFront (g.W.Write.contents c.args.to.now) (g.W.Write.contents c.judge_quiet.new.to) (flat_map found_text c.ended.new.found.items))
+    (subst (λ (l : List FoundGranule). AppendsFront (g.W.Write.contents c.args.to.now) (g.W.Write.contents c.judge_quiet.new.to) (flat_map found_text l)) (sym c.in_err-ended.ensures.kept)
+    (begun_more c.loop-number.found.items c.judge_quiet.new.found.items (g.W.Write.contents c.args.to.now) (g.W.Write.contents c.loop-number.to) (g.W.Write.contents c.judge_quiet.new.to) c.loop-number.invariant.written c.judge_quiet.ensures.begun))
+
+pub returns-in_default-clause-told : goal.returns-in_default-clause-told
+returns-in_default-clause-told g c =
+    subst (λ (l : List FoundGranule). Appends (g.W.Write.contents c.args.to.now) (g.W.Write.contents c.judge_quiet.new.to) (flat_map found_text l)) (sym c.in_ok-ended.ensures.told.found_is)
+    (told_more c.loop-number.found.items c.judge_quiet.new.found.items (g.W.Write.contents c.args.to.now) (g.W.Write.contents c.loop-number.to) (g.W.Write.contents c.judge_quiet.new.to) c.loop-number.invariant.written c.in_ok-judge_quiet.ensures.told)
+
+pub returns-in_err-seen-clause-kept : goal.returns-in_err-seen-clause-kept
+returns-in_err-seen-clause-kept g c =
+    but_at_fault c.from_residual-in_err-seen.result (λ x. x ≡ fault.Write → ⊥) (Appends (g.W.Write.contents c.args.to.now) (g.W.Write.contents c.judge_quiet.new.to) (flat_map found_text c.judge_quiet.new.found.items))
+    (told_more c.loop-number.found.items c.judge_quiet.new.found.items (g.W.Write.contents c.args.to.now) (g.W.Write.contents c.loop-number.to) (g.W.Write.contents c.judge_quiet.new.to) c.loop-number.invariant.written c.in_ok-judge_quiet.ensures.told)
+
+pub returns-in_err-seen-clause-begun : goal.returns-in_err-seen-clause-begun
+returns-in_err-seen-clause-begun g c =
+    at_fault c.from_residual-in_err-seen.result (AppendsFront (g.W.Write.contents c.args.to.now) (g.W.Write.contents c.judge_quiet.new.to) (flat_map found_text c.judge_quiet.new.found.items))
+    (begun_more c.loop-number.found.items c.judge_quiet.new.found.items (g.W.Write.contents c.args.to.now) (g.W.Write.contents c.loop-number.to) (g.W.Write.contents c.judge_quiet.new.to) c.loop-number.invariant.written c.judge_quiet.ensures.begun)
+
+pub returns-in_err-note_quiet-clause-kept : goal.returns-in_err-note_quiet-clause-kept
+returns-in_err-note_quiet-clause-kept g c =
+    but_at_fault c.from_residual-in_err-note_quiet.result (λ x. x ≡ fault.Write → ⊥) (Appends (g.W.Write.contents c.args.to.now) (g.W.Write.contents c.judge_quiet.new.to) (flat_map found_text c.judge_quiet.new.found.items))
+    (told_more c.loop-number.found.items c.judge_quiet.new.found.items (g.W.Write.contents c.args.to.now) (g.W.Write.contents c.loop-number.to) (g.W.Write.contents c.judge_quiet.new.to) c.loop-number.invariant.written c.in_ok-judge_quiet.ensures.told)
+
+pub returns-in_err-note_quiet-clause-begun : goal.returns-in_err-note_quiet-clause-begun
+returns-in_err-note_quiet-clause-begun g c =
+    at_fault c.from_residual-in_err-note_quiet.result (AppendsFront (g.W.Write.contents c.args.to.now) (g.W.Write.contents c.judge_quiet.new.to) (flat_map found_text c.judge_quiet.new.found.items))
+    (begun_more c.loop-number.found.items c.judge_quiet.new.found.items (g.W.Write.contents c.args.to.now) (g.W.Write.contents c.loop-number.to) (g.W.Write.contents c.judge_quiet.new.to) c.loop-number.invariant.written c.judge_quiet.ensures.begun)

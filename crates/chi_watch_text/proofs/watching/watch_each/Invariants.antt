@@ -1,11 +1,13 @@
 -- the lines before this one were taken, and what is found is found once, and not at all where it does not keep going; how far it can be
 -- explained is known, or so many states were looked at
-use Rattle.std.proofs.Common.{◌≡◌, ◌≢◌, ◌-◌, List, [], All, false}
+use Rattle.std.proofs.Common.{◌≡◌, ◌≢◌, ◌-◌, List, [], All, false, flat_map}
 use Rattle.std.specs.List.{AllPairs}
+use Rattle.std.specs.Io.KnownBytes.{Appends}
 use Rattle.chi_events.specs.declared.event.Event.{Event}
 use Rattle.chi_search.specs.Looks.{LookedSome}
 use Rattle.chi_watch.specs.Watches.{HasTaken}
 use Rattle.chi_watch_text.specs.Outcomes.{HasTakenLines, IsUnreached}
+use Rattle.chi_watch_text.specs.Texts.{found_text}
 use Rattle.chi_watch_text.specs.declared.watched.FoundGranule.{FoundGranule}
 use Rattle.chi_watch_text.proofs.watching.watch_each.Given as goal
 
@@ -15,6 +17,7 @@ invariant-loop-number g l = record {
   once : AllPairs (λ a b. a.granule ≢ b.granule) l.found.items;
   told : (events : List Event) × HasTaken events l.watch;
   unreached : All (λ (f : FoundGranule). IsUnreached g.P.Progress.looked l.initial.progress l.progress l.options.budget f.reach) l.found.items;
+  written : Appends (g.W.Write.contents l.initial.to) (g.W.Write.contents l.to) (flat_map found_text l.found.items);
   first : l.options.keep_going ≡ false → l.found.items ≡ [];
   looked : LookedSome g.P.Progress.looked l.initial.progress l.progress;
 }
