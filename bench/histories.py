@@ -1,5 +1,5 @@
 """Histories of a home by chance, as the events that a monitor tells: a memory executes each request at one instant between
-its first event, or that of its data where they are told later, and its last, and in half of the histories one mistake is made."""
+its first event and its last, and in half of the histories one mistake is made."""
 
 from memory import COMPARE, OPCODES, READ, WRITE, answers_data, enabled, execute, granule_of, length_of
 
@@ -136,11 +136,10 @@ class Home:
         found = []
         if not it.has_data and it.fate != "no data":
             found.append(self.tell_data)
-        if it.takes_effect and it.has_data and not it.is_executed:
+        if it.takes_effect and not it.is_executed:
             found.append(self.take_effect)
         is_answered = it.fate in ("usual", "null", "no data") or it.fate == "dropped" and not it.has_data
-        is_known = it.is_executed or not it.takes_effect or not it.has_data and (it.fate == "null" or it.reply == "comp")
-        if is_answered and not it.is_replied and is_known:
+        if is_answered and not it.is_replied and (it.is_executed or not it.takes_effect):
             found.append(self.tell_reply)
         if it.fate == "dropped":
             found.append(self.tell_dropped)
@@ -151,9 +150,6 @@ class Home:
             return self.tell_dropped(it)
         self.traits.add("data told later")
         it.has_data = True
-        if it.is_replied and it.takes_effect:
-            self.traits.add("reply before the data")
-            self.take_effect(it)
         self.tell("data", id=it.number, be=it.request["be"], lanes=it.request["lanes"])
         self.end(it)
 

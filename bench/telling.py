@@ -59,7 +59,7 @@ class Told:
     def take_data(self, event):
         it = self.open[event["id"]]
         it["request"] |= {"be": event["be"], "lanes": event["lanes"]}
-        it["has_data"], it["start"] = True, event["time"]
+        it["has_data"] = True
         return self.end(event)
 
     def take_reply(self, event):

@@ -98,21 +98,11 @@ def lines_by_granule(answer):
     return {int(granule, 16): int(line[1]) for granule, line in parts if line}
 
 
-def start_at(events, line):
-    """When the request of a line starts: with its data, where they are told later."""
-    number = events[line - 1]["id"]
-    for it in events[line:]:
-        if it.get("id") == number and it["event"] in ("data", "request"):
-            return it["time"] if it["event"] == "data" else events[line - 1]["time"]
-    return events[line - 1]["time"]
-
-
 def is_told_there(row, events):
     """Whether the line whose number a row has told its request."""
     line, _, _, start, src, txn = row.groups()
     event = events[int(line) - 1]
-    is_same = event["event"] == "request" and (event["src"], event["txn"]) == (int(src), int(txn))
-    return is_same and start_at(events, int(line)) == int(start)
+    return event["event"] == "request" and (event["time"], event["src"], event["txn"]) == (int(start), int(src), int(txn))
 
 
 def stop_of(lines):

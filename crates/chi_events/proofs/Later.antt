@@ -16,7 +16,7 @@ use Rattle.chi_trace.specs.declared.request_fields.RequestFields.{RequestFields}
 use Rattle.chi_events.specs.declared.event.EventKind.{EventKind}
 use Rattle.chi_events.specs.declared.event.EventKind.TheVariants as event_kind
 use Rattle.chi_events.specs.declared.outstanding.Open.{Open}
-use Rattle.chi_events.specs.Operations.{AccessAt, DataAt, ReplyAt, access_told, data_at, data_told, decided_at, ended_at, first, is_drop, is_dropped, is_outstanding, is_whole, operation_of, refused_at, refused_told, reply_at, reply_told, start_told, with_packet}
+use Rattle.chi_events.specs.Operations.{AccessAt, DataAt, ReplyAt, access_told, data_at, data_told, decided_at, ended_at, first, is_drop, is_dropped, is_outstanding, is_whole, operation_of, refused_at, refused_told, reply_at, reply_told, with_packet}
 use Rattle.chi_events.specs.Outstanding.{open_of}
 use Rattle.chi_events.specs.EventEffects.{ended_by, still_open}
 use Rattle.chi_events.specs.RequestEvents.{RequestEvents}
@@ -125,7 +125,7 @@ abbrev outstanding_by : Bool → Option AccessAt → Option ReplyAt → Bool
 outstanding_by dropped a r = not (dropped || is_some (end_by a r))
 
 abbrev operation_by : RequestEvents → Option AccessAt → Option ReplyAt → Option Operation
-operation_by t a r = option_map (λ (x : AccessAt). as_operation t.request.fields x.access (start_told t) (unwrap_or (end_by a r) (2 ^ 64 - 1))
+operation_by t a r = option_map (λ (x : AccessAt). as_operation t.request.fields x.access t.time (unwrap_or (end_by a r) (2 ^ 64 - 1))
     (option_and_then (λ end. option_and_then (λ (y : ReplyAt). y.reply) r) (end_by a r))) a
 
 -- what is left of a request, and the operation that it was, where it has ended
@@ -142,12 +142,12 @@ keeps_by t (Some a) (Some r) = refl
 
 ends_by : (t : RequestEvents) (time : ℕ) (a : Option AccessAt) (r : Option ReplyAt) → ((x : AccessAt) (y : ReplyAt) → a ≡ Some x → r ≡ Some y → max x.time y.time ≡ time)
     → operation_of t ≡ operation_by t a r → filter_map operation_of (cond (not (outstanding_by false a r)) (t ∷ []) [])
-    ≡ option_to_list (option_and_then (λ access. option_map (λ reply. as_operation t.request.fields access (start_told t) time reply)
+    ≡ option_to_list (option_and_then (λ access. option_map (λ reply. as_operation t.request.fields access t.time time reply)
     (option_map (λ (y : ReplyAt). y.reply) r)) (option_map (λ (x : AccessAt). x.access) a))
 ends_by t time None r last same = refl
 ends_by t time (Some a) None last same = refl
 ends_by t time (Some a) (Some r) last same =
-    let ended : ℕ → Operation = λ end. as_operation t.request.fields a.access (start_told t) end r.reply in
+    let ended : ℕ → Operation = λ end. as_operation t.request.fields a.access t.time end r.reply in
     ap (λ o. cons_option o []) same ∙ ap (λ n. ended n ∷ []) (last a r refl refl)
 
 -- a request that was not dropped ends by its access and its completion, the later of which was told at this time

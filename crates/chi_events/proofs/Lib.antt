@@ -9,6 +9,7 @@ pub mod OneMore
 pub mod Opens
 pub mod Lists
 pub mod Observable
-pub mod Traced
+pub mod InTime
 pub mod Parted
+pub mod About
 pub mod Refusals

@@ -3,7 +3,7 @@ use Rattle.std.proofs.Common.{◌≡◌, ℕ, ◌-◌, ◌^◌, ◌<◌, ◌≤�
 use Rattle.std.specs.Prelude.{max, option_and_then, option_map}
 use Rattle.std.specs.Option.{unwrap_or}
 use Rattle.std.specs.Result.{result_ok}
-use Rattle.std.proofs.Math.Nat.{le-max_left}
+use Rattle.std.proofs.Math.Nat.{le-max_right}
 use Rattle.chi_fields.specs.Access.{Access}
 use Rattle.chi_fields.specs.declared.refusal.Refusal.{Refusal}
 use Rattle.chi_trace.specs.Explains.{IsOperation}
@@ -11,19 +11,25 @@ use Rattle.chi_trace.specs.declared.operation.Operation.{Operation}
 use Rattle.chi_trace.specs.RequestFields.{access_of, as_operation}
 use Rattle.chi_trace.specs.declared.request_fields.RequestFields.{RequestFields}
 use Rattle.chi_trace.proofs.Decided.{IsWithin, accessed}
+use Rattle.chi_events.specs.declared.event.Event.{Event}
 use Rattle.chi_events.specs.declared.event.EventKind.{EventKind}
 use Rattle.chi_events.specs.declared.event.EventKind.TheVariants.{Request, Data, Reply, Dropped, Refused, Word, Final, Unknown, End}
-use Rattle.chi_events.specs.Operations.{AccessAt, DataAt, ReplyAt, access_told, data_at, data_told, decided_at, ended_at, is_dropped, is_whole, operation_of, reply_told, start_told, with_packet}
+use Rattle.chi_events.specs.Operations.{AccessAt, DataAt, ReplyAt, access_told, data_at, data_told, decided_at, ended_at, is_dropped, is_whole, operation_of, reply_at, reply_told, with_packet}
 use Rattle.chi_trace.specs.RequestFields.{IsPacket}
-use Rattle.chi_events.specs.Outstanding.{HasPacket, IsEvent}
+use Rattle.chi_events.specs.Outstanding.{HasPacket}
 use Rattle.chi_events.specs.RequestEvents.{RequestEvents}
 use Rattle.chi_events.proofs.Lists.{first_taken}
+
+-- an event of a time or later, the data of which are a packet
+pub record IsAfter (time : ℕ) (e : Event) : Type 0 where
+  pub later : time ≤ e.time
+  pub packet : HasPacket e.kind
 
 -- what is true of a request that events tell
 pub record IsTold (t : RequestEvents) : Type 0 where
   pub time : t.time < 2 ^ 64
   pub packet : IsPacket t.request.fields.be t.request.fields.lanes
-  pub later : All IsEvent t.later
+  pub later : All (IsAfter t.time) t.later
 
 decided_within : (time : ℕ) (a : RequestFields) → IsPacket a.be a.lanes → IfSome (decided_at time a) (λ x. IsWithin x.access)
 decided_within time a packet =
@@ -46,7 +52,7 @@ data_packet time End has = tt
 
 told_packet : (t : RequestEvents) → IsTold t → IfSome (data_told t) (λ d. IsPacket d.packet.be d.packet.lanes)
 told_packet t is =
-    first_taken (λ e. data_at e.time e.kind) IsEvent (λ d. IsPacket d.packet.be d.packet.lanes) (λ e is. data_packet e.time e.kind is.packet) t.later is.later
+    first_taken (λ e. data_at e.time e.kind) (IsAfter t.time) (λ d. IsPacket d.packet.be d.packet.lanes) (λ e after. data_packet e.time e.kind after.packet) t.later is.later
 
 told_within : (t : RequestEvents) → IsTold t → IfSome (access_told t) (λ x. IsWithin x.access)
 told_within t is = by_test (is_whole t.request)
@@ -61,57 +67,35 @@ told_within t is = by_test (is_whole t.request)
     by_test true = decided_within t.time t.request.fields is.packet
     by_test false = by_data (data_told t) (told_packet t is)
 
-data_time : (time : ℕ) (kind : EventKind) → time < 2 ^ 64 → IfSome (data_at time kind) (λ d. d.time < 2 ^ 64)
-data_time time (Request r) fits = tt
-data_time time (Data p) fits = fits
-data_time time (Reply c) fits = tt
-data_time time (Dropped id) fits = tt
-data_time time (Refused id reason) fits = tt
-data_time time (Word w) fits = tt
-data_time time (Final w) fits = tt
-data_time time (Unknown addr len) fits = tt
-data_time time End fits = tt
+reply_time : (start time : ℕ) (kind : EventKind) → start ≤ time → IfSome (reply_at time kind) (λ r. start ≤ r.time)
+reply_time start time (Request r) later = tt
+reply_time start time (Data p) later = tt
+reply_time start time (Reply c) later = later
+reply_time start time (Dropped id) later = tt
+reply_time start time (Refused id reason) later = tt
+reply_time start time (Word w) later = tt
+reply_time start time (Final w) later = tt
+reply_time start time (Unknown addr len) later = tt
+reply_time start time End later = tt
 
--- the time at which a request starts is one
-start_fits : (t : RequestEvents) → IsTold t → start_told t < 2 ^ 64
-start_fits t is =
-    by_data (is_whole t.request) (data_told t)
-    (first_taken (λ e. data_at e.time e.kind) IsEvent (λ d. d.time < 2 ^ 64) (λ e is. data_time e.time e.kind is.time) t.later is.later)
+told_reply : (t : RequestEvents) → IsTold t → IfSome (reply_told t) (λ r. t.time ≤ r.time)
+told_reply t is =
+    first_taken (λ e. reply_at e.time e.kind) (IsAfter t.time) (λ r. t.time ≤ r.time) (λ e after. reply_time t.time e.time e.kind after.later) t.later is.later
+
+-- an operation ends no earlier than its request was taken
+told_end : (t : RequestEvents) → IsTold t → t.time ≤ unwrap_or (ended_at t) (2 ^ 64 - 1)
+told_end t is = by_case (access_told t) (reply_told t) (told_reply t is)
   where
-    by_data : (b : Bool) (o : Option DataAt) → IfSome o (λ d. d.time < 2 ^ 64) → (if b then t.time else unwrap_or (option_map (λ d. d.time) o) t.time) < 2 ^ 64
-    by_data true o fits = is.time
-    by_data false None fits = is.time
-    by_data false (Some d) fits = fits
-
--- a request starts when its access is known
-starts_with : (t : RequestEvents) → IfSome (access_told t) (λ a. start_told t ≡ a.time)
-starts_with t = by_data (is_whole t.request) (data_told t)
-  where
-    at_time : (time : ℕ) (o : Option Access) → IfSome (option_map {U = AccessAt} (λ access. record { time = time; access = access }) o) (λ a. time ≡ a.time)
-    at_time time None = tt
-    at_time time (Some access) = refl
-
-    by_data : (b : Bool) (o : Option DataAt)
-        → IfSome (if b then decided_at t.time t.request.fields else option_and_then (λ d. decided_at d.time (with_packet t.request.fields d.packet)) o)
-        (λ a. (if b then t.time else unwrap_or (option_map (λ d. d.time) o) t.time) ≡ a.time)
-    by_data true o = at_time t.time (result_ok (access_of None t.request.fields))
-    by_data false None = tt
-    by_data false (Some d) = at_time d.time (result_ok (access_of None (with_packet t.request.fields d.packet)))
-
--- an operation ends no earlier than it starts
-told_end : (t : RequestEvents) → IsTold t → start_told t ≤ unwrap_or (ended_at t) (2 ^ 64 - 1)
-told_end t is = by_case (access_told t) (reply_told t) (starts_with t) (start_fits t is)
-  where
-    by_case : (a : Option AccessAt) (r : Option ReplyAt) → IfSome a (λ a. start_told t ≡ a.time) → start_told t < 2 ^ 64
-        → start_told t ≤ unwrap_or (option_and_then (λ x. option_map (λ y. max x.time y.time) r) a) (2 ^ 64 - 1)
-    by_case None r starts fits = omega (arith, fits)
-    by_case (Some a) None starts fits = omega (arith, fits)
-    by_case (Some a) (Some r) starts fits = omega (arith, starts, le-max_left a.time r.time)
+    by_case : (a : Option AccessAt) (r : Option ReplyAt) → IfSome r (λ r. t.time ≤ r.time)
+        → t.time ≤ unwrap_or (option_and_then (λ x. option_map (λ y. max x.time y.time) r) a) (2 ^ 64 - 1)
+    by_case None r later = omega (arith, is.time)
+    by_case (Some a) None later = omega (arith, is.time)
+    by_case (Some a) (Some r) later = omega (arith, later, le-max_right a.time r.time)
 
 -- the operation of a request with this access, which ended then or was open
 abbrev pub operation_as : RequestEvents → Option ℕ → AccessAt → Operation
 operation_as t end a =
-    as_operation t.request.fields a.access (start_told t) (unwrap_or end (2 ^ 64 - 1)) (option_and_then (λ n. option_and_then (λ r. r.reply) (reply_told t)) end)
+    as_operation t.request.fields a.access t.time (unwrap_or end (2 ^ 64 - 1)) (option_and_then (λ n. option_and_then (λ r. r.reply) (reply_told t)) end)
 
 pub operation_observed : (t : RequestEvents) → IsTold t → IfSome (operation_of t) IsOperation
 operation_observed t is = by_test (is_dropped t) (access_told t) (told_within t is)
@@ -121,3 +105,12 @@ operation_observed t is = by_test (is_dropped t) (access_told t) (told_within t 
     by_test true o within = tt
     by_test false None within = tt
     by_test false (Some a) within = record { lawful = within.lawful; within = within.below; lasting = told_end t is }
+
+pub operation_start : (t : RequestEvents) → IfSome (operation_of t) (λ op. op.start ≡ t.time)
+operation_start t = by_test (is_dropped t) (access_told t)
+  where
+    by_test : (b : Bool) (o : Option AccessAt)
+        → IfSome (if b then None else option_map (operation_as t (ended_at t)) o) (λ op. op.start ≡ t.time)
+    by_test true o = tt
+    by_test false None = tt
+    by_test false (Some a) = refl

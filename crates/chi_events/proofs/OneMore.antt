@@ -71,7 +71,7 @@ module _ (events : List Event) (ended : List Operation) (o : OutstandingValue) (
   tells_more (event_kind.Request r) op after is_event fault takes =
       tell_none (event_kind.Request r) op after _ takes.0 takes.1 (started events ended o time r tells later is_event (free (open_with r.id o.requests) fault))
   tells_more (event_kind.Data p) op after is_event fault takes =
-      tell_change (event_kind.Data p) p.id (λ o. still_open (with_data time p o)) (λ o. ended_by time (with_data time p o)) op after takes (data_about time p)
+      tell_change (event_kind.Data p) p.id (λ o. still_open (with_data p o)) (λ o. ended_by time (with_data p o)) op after takes (data_about time p)
       (λ t by accepted outstanding fault found. data_leaves time t by accepted outstanding p (ap (data_fault p) (sym found) ∙ fault)) is_event fault
   tells_more (event_kind.Reply c) op after is_event fault takes =
       tell_change (event_kind.Reply c) c.id (λ o. still_open (with_reply c o)) (λ o. ended_by time (with_reply c o)) op after takes (reply_about time c)

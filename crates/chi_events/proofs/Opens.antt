@@ -3,7 +3,6 @@ use Rattle.std.specs.Prelude.{if◌then◌else◌}
 use Rattle.std.proofs.Common.{◌≡◌, ℕ, ◌+◌, ◌^◌, ◌≤◌, ◌&&◌, Bool, true, false, List, [], ◌∷◌, ◌++◌, All, Option, Some, None, is_some, IfSome, inl, inr, refl, sym, ap, subst, ◌∙◌, arith}
 use Rattle.std.specs.List.{Contains}
 use Rattle.std.specs.Result.{result_ok}
-use Rattle.std.proofs.lemmas.Bool.{true≢false}
 use Rattle.std.proofs.lemmas.List.Elements.{All-append, All-cons, All-contains, All-contains_itself, All-nil, All-weaker, Contains-append_left, Contains-append_right}
 use Rattle.chi_fields.specs.Access.{Access}
 use Rattle.chi_lanes.specs.declared.reply.Reply.{Reply}
@@ -14,14 +13,11 @@ use Rattle.chi_trace.proofs.Decided.{accessed_so, value_of}
 use Rattle.chi_events.specs.declared.event.Event.{Event}
 use Rattle.chi_events.specs.declared.event.EventKind.{EventKind}
 use Rattle.chi_events.specs.declared.event.EventKind.TheVariants as event_kind
-use Rattle.chi_events.specs.declared.event.Packet.{Packet}
 use Rattle.chi_events.specs.declared.event.Requested.{Requested}
-use Rattle.chi_events.specs.declared.fault.EventFault.TheVariants as fault
 use Rattle.chi_events.specs.declared.outstanding.Open.{Open}
 use Rattle.chi_events.specs.Operations.{is_whole, with_packet}
-use Rattle.chi_events.specs.Outstanding.{IsEndOf, IsEndOfAbout, IsOpen, StaysOrStarts, data_fault, decided_fault, kind_fault, open_with, request_about, start_after}
+use Rattle.chi_events.specs.Outstanding.{IsEndOf, IsOpen, StaysOrStarts}
 use Rattle.chi_events.specs.EventEffects.{Changes, Takes, ended_by, opened, still_open, with_data, with_reply}
-use Rattle.chi_events.proofs.Steps.{no_fault}
 
 -- an access at an address, within 2^52 bytes
 pub record IsAccessAt (addr : ℕ) (a : Access) : Type 0 where
@@ -37,12 +33,8 @@ accessed a =
 abbrev HasAccess : ℕ → Option Access → Type 0
 HasAccess addr o = IfSome o (IsAccessAt addr)
 
--- an access is known only once the data have come
-abbrev IsKnownWhole : Option Access → Bool → Type 0
-IsKnownWhole o whole = is_some o ≡ true → whole ≡ true
-
-open_from : (time : ℕ) (o : Open) → o.start ≤ time → HasAccess o.fields.addr o.access → IsKnownWhole o.access o.is_whole → IsOpen time o
-open_from time o before has whole = record { start = before; at = at_of o.access has; within = within_of o.access has; whole = whole }
+open_from : (time : ℕ) (o : Open) → o.start ≤ time → HasAccess o.fields.addr o.access → IsOpen time o
+open_from time o before has = record { start = before; at = at_of o.access has; within = within_of o.access has }
   where
     at_of : (a : Option Access) → HasAccess o.fields.addr a → IfSome a (λ access. access.addr ≡ o.fields.addr)
     at_of None has = tt
@@ -59,65 +51,34 @@ has_access time o is = by_access o.access is.at is.within
     by_access None at within = tt
     by_access (Some a) at within = record { at = at; within = within }
 
--- a request that has its data, or still waits for them, starts as before
-same_start : (whole : Bool) (start time : ℕ) → start ≡ start_after whole whole start time
-same_start true start time = refl
-same_start false start time = refl
-
--- a request that takes data waits for them
-waits : (p : Packet) (found : Option Open) (request : Open) → found ≡ Some request → data_fault p found ≡ None → request.is_whole ≡ false
-waits p found request is fits =
-    (no_fault request.is_whole fault.DataTwice (decided_fault request.completion (access_of None (with_packet request.fields p))) (ap (data_fault p) (sym is) ∙ fits)).0
-
 -- the request as an event leaves it, as it was asked
 pub record Follows (time : ℕ) (request now : Open) : Type 0 where
-  pub start : now.start ≡ start_after request.is_whole now.is_whole request.start time
+  pub start : now.start ≡ request.start
   pub fields : now.fields ≡ request.fields
   pub before : now.start ≤ time
   pub has : HasAccess now.fields.addr now.access
-  pub whole : IsKnownWhole now.access now.is_whole
-
--- an operation starts as its request does once it has its data
-start_of : (time : ℕ) (request now : Open) → Follows time request now → now.is_whole ≡ true → now.start ≡ start_after request.is_whole true request.start time
-start_of time request now follows whole = follows.start ∙ ap (λ b. start_after request.is_whole b request.start time) whole
 
 ends_at : (before : List Open) (time : ℕ) (request now : Open) → Contains before request → Follows time request now → IfSome (ended_by time now) (IsEndOf before time)
-ends_at before time request now is follows = by_parts now.access now.completion follows.has follows.whole
+ends_at before time request now is follows = by_parts now.access now.completion follows.has
   where
-    by_parts : (a : Option Access) (r : Option (Option Reply)) → HasAccess now.fields.addr a → IsKnownWhole a now.is_whole
+    by_parts : (a : Option Access) (r : Option (Option Reply)) → HasAccess now.fields.addr a
         → IfSome (ended_by time (record now { access = a; completion = r })) (IsEndOf before time)
-    by_parts None r has whole = tt
-    by_parts (Some a) None has whole = tt
-    by_parts (Some a) (Some r) has whole = record {
+    by_parts None r has = tt
+    by_parts (Some a) None has = tt
+    by_parts (Some a) (Some r) has = record {
       request = request;
       is = is;
-      start = start_of time request now follows (whole refl);
+      start = follows.start;
       at = has.at ∙ ap (λ (a : RequestFields). a.addr) follows.fields;
       within = has.within;
       end = refl;
       lasting = follows.before;
     }
 
-ends_about : (before : List Open) (e : Event) (request now : Open) → request_about before e.kind ≡ Some request → Follows e.time request now
-    → IfSome (ended_by e.time now) (IsEndOfAbout before e)
-ends_about before e request now is follows = by_parts now.access now.completion follows.whole
-  where
-    by_parts : (a : Option Access) (r : Option (Option Reply)) → IsKnownWhole a now.is_whole
-        → IfSome (ended_by e.time (record now { access = a; completion = r })) (IsEndOfAbout before e)
-    by_parts None r whole = tt
-    by_parts (Some a) None whole = tt
-    by_parts (Some a) (Some r) whole = record {
-      request = request;
-      is = is;
-      start = start_of e.time request now follows (whole refl);
-      src = ap (λ (a : RequestFields). a.src) follows.fields;
-    }
-
 -- what is true after an event
 pub record Stays (before : List Open) (e : Event) (op : Option Operation) (after : List Open) : Type 0 where
   pub are_open : All (IsOpen e.time) after
   pub ended : IfSome op (IsEndOf before e.time)
-  pub about : IfSome op (IsEndOfAbout before e)
   pub requests : All (StaysOrStarts before e) after
 
 left_all : (P : Open → Type 0) (b : Bool) (o : Open) → P o → All P (if b then [] else o ∷ [])
@@ -126,7 +87,7 @@ left_all P false o here = All-cons P o [] here (All-nil P)
 
 module _ (before : List Open) (first time : ℕ) (open_before : All (IsOpen first) before) (later : first ≤ time) where
   is_open : (o : Open) → Contains before o → IsOpen time o
-  is_open o has = let is = All-contains (IsOpen first) before o open_before has in record { start = omega (arith, is.start, later); at = is.at; within = is.within; whole = is.whole }
+  is_open o has = let is = All-contains (IsOpen first) before o open_before has in record { start = omega (arith, is.start, later); at = is.at; within = is.within }
 
   open_later : (requests : List Open) → ((o : Open) → Contains requests o → Contains before o) → All (IsOpen time) requests
   open_later requests among = All-weaker (Contains requests) (IsOpen time) (λ o has. is_open o (among o has)) requests (All-contains_itself requests)
@@ -137,10 +98,10 @@ module _ (before : List Open) (first time : ℕ) (open_before : All (IsOpen firs
     e = record { time = time; kind = kind }
 
     stay : (requests : List Open) → ((o : Open) → Contains requests o → Contains before o) → All (StaysOrStarts before e) requests
-    stay requests among = All-weaker (Contains requests) (StaysOrStarts before e) (λ o has. inr (o, among o has, same_start o.is_whole o.start time, refl)) requests (All-contains_itself requests)
+    stay requests among = All-weaker (Contains requests) (StaysOrStarts before e) (λ o has. inr (o, among o has, refl, refl)) requests (All-contains_itself requests)
 
     same : Stays before e None before
-    same = record { are_open = open_later before (λ o has. has); ended = tt; about = tt; requests = stay before (λ o has. has) }
+    same = record { are_open = open_later before (λ o has. has); ended = tt; requests = stay before (λ o has. has) }
 
     same_as : (op : Option Operation) (after : List Open) → op ≡ None → after ≡ before → Stays before e op after
     same_as op after none is = subst (λ (o : Option Operation). Stays before e o after) (sym none) (subst (Stays before e None) (sym is) same)
@@ -157,25 +118,21 @@ module _ (before : List Open) (first time : ℕ) (open_before : All (IsOpen firs
       has_rest o has = subst (λ (l : List Open). Contains l o) (sym k.was)
           (Contains-append_right k.first (k.request ∷ k.rest) o (Contains-append_right (k.request ∷ []) k.rest o has))
 
-      one_changes : All (IsOpen time) (left k.request) → All (StaysOrStarts before e) (left k.request) → IfSome (end k.request) (IsEndOf before time)
-          → IfSome (end k.request) (IsEndOfAbout before e) → Stays before e op after
-      one_changes are_open stays ends about = record {
+      one_changes : All (IsOpen time) (left k.request) → All (StaysOrStarts before e) (left k.request) → IfSome (end k.request) (IsEndOf before time) → Stays before e op after
+      one_changes are_open stays ends = record {
         are_open = subst (All (IsOpen time)) (sym k.is) (All-append (IsOpen time) k.first (left k.request ++ k.rest) (open_later k.first has_first)
             (All-append (IsOpen time) (left k.request) k.rest are_open (open_later k.rest has_rest)));
         ended = subst (λ (o : Option Operation). IfSome o (IsEndOf before time)) (sym k.ends) ends;
-        about = subst (λ (o : Option Operation). IfSome o (IsEndOfAbout before e)) (sym k.ends) about;
         requests = subst (All (StaysOrStarts before e)) (sym k.is) (All-append (StaysOrStarts before e) k.first (left k.request ++ k.rest) (stay k.first has_first)
             (All-append (StaysOrStarts before e) (left k.request) k.rest stays (stay k.rest has_rest)));
       }
 
-      now_changes : (now : Open) → left k.request ≡ still_open now → end k.request ≡ ended_by time now → request_about before kind ≡ Some k.request
-          → Follows time k.request now → Stays before e op after
-      now_changes now leaves ends about follows = one_changes
-          (subst (All (IsOpen time)) (sym leaves) (left_all (IsOpen time) (is_some now.access && is_some now.completion) now (open_from time now follows.before follows.has follows.whole)))
+      now_changes : (now : Open) → left k.request ≡ still_open now → end k.request ≡ ended_by time now → Follows time k.request now → Stays before e op after
+      now_changes now leaves ends follows = one_changes
+          (subst (All (IsOpen time)) (sym leaves) (left_all (IsOpen time) (is_some now.access && is_some now.completion) now (open_from time now follows.before follows.has)))
           (subst (All (StaysOrStarts before e)) (sym leaves)
           (left_all (StaysOrStarts before e) (is_some now.access && is_some now.completion) now (inr (k.request, has_request, follows.start, follows.fields))))
           (subst (λ (o : Option Operation). IfSome o (IsEndOf before time)) (sym ends) (ends_at before time k.request now has_request follows))
-          (subst (λ (o : Option Operation). IfSome o (IsEndOfAbout before e)) (sym ends) (ends_about before e k.request now about follows))
 
   -- a request is taken
   new_one : (r : Requested) → Stays before (record { time = time; kind = event_kind.Request r }) None (before ++ opened time r ∷ [])
@@ -183,9 +140,8 @@ module _ (before : List Open) (first time : ℕ) (open_before : All (IsOpen firs
       let e : Event = record { time = time; kind = event_kind.Request r } in
       record {
         are_open = All-append (IsOpen time) before (opened time r ∷ []) (same (event_kind.Request r)).are_open
-            (All-cons (IsOpen time) (opened time r) [] (open_from time (opened time r) (omega arith) (by_whole (is_whole r)) (known (is_whole r))) (All-nil (IsOpen time)));
+            (All-cons (IsOpen time) (opened time r) [] (open_from time (opened time r) (omega arith) (by_whole (is_whole r))) (All-nil (IsOpen time)));
         ended = tt;
-        about = tt;
         requests = All-append (StaysOrStarts before e) before (opened time r ∷ []) (same (event_kind.Request r)).requests
             (All-cons (StaysOrStarts before e) (opened time r) [] (inl (refl, (r, refl, refl))) (All-nil (StaysOrStarts before e)));
       }
@@ -194,44 +150,29 @@ module _ (before : List Open) (first time : ℕ) (open_before : All (IsOpen firs
       by_whole true = accessed r.fields
       by_whole false = tt
 
-      known : (b : Bool) → IsKnownWhole (if b then result_ok (access_of None r.fields) else None) b
-      known true some = refl
-      known false some = absurd (true≢false (sym some))
-
-  pub stays_more : (kind : EventKind) (op : Option Operation) (after : List Open) → kind_fault before kind ≡ None → Takes kind time before op after
-      → Stays before (record { time = time; kind = kind }) op after
-  stays_more (event_kind.Request r) op after fits takes =
+  pub stays_more : (kind : EventKind) (op : Option Operation) (after : List Open) → Takes kind time before op after → Stays before (record { time = time; kind = kind }) op after
+  stays_more (event_kind.Request r) op after takes =
       let e : Event = record { time = time; kind = event_kind.Request r } in
       subst (λ (o : Option Operation). Stays before e o after) (sym takes.0) (subst (Stays before e None) (sym takes.1) (new_one r))
-  stays_more (event_kind.Data p) op after fits takes =
-      let left = λ (o : Open). still_open (with_data time p o) in
-      let end = λ (o : Open). ended_by time (with_data time p o) in
-      let without = waits p (open_with p.id before) takes.request takes.found fits in
-      now_changes (event_kind.Data p) p.id left end op after takes (with_data time p takes.request) refl refl takes.found (record {
-        start = ap (λ b. start_after b true takes.request.start time) (sym without);
-        fields = refl;
-        before = omega arith;
-        has = accessed (with_packet takes.request.fields p);
-        whole = λ some. refl;
-      })
-  stays_more (event_kind.Reply c) op after fits takes =
+  stays_more (event_kind.Data p) op after takes =
+      let left = λ (o : Open). still_open (with_data p o) in
+      let end = λ (o : Open). ended_by time (with_data p o) in
+      let is = is_open takes.request (has_request (event_kind.Data p) p.id left end op after takes) in
+      now_changes (event_kind.Data p) p.id left end op after takes (with_data p takes.request) refl refl
+      (record { start = refl; fields = refl; before = is.start; has = accessed (with_packet takes.request.fields p) })
+  stays_more (event_kind.Reply c) op after takes =
       let left = λ (o : Open). still_open (with_reply c o) in
       let end = λ (o : Open). ended_by time (with_reply c o) in
       let is = is_open takes.request (has_request (event_kind.Reply c) c.id left end op after takes) in
-      now_changes (event_kind.Reply c) c.id left end op after takes (with_reply c takes.request) refl refl takes.found (record {
-        start = same_start takes.request.is_whole takes.request.start time;
-        fields = refl;
-        before = is.start;
-        has = has_access time takes.request is;
-        whole = is.whole;
-      })
-  stays_more (event_kind.Dropped id) op after fits takes =
+      now_changes (event_kind.Reply c) c.id left end op after takes (with_reply c takes.request) refl refl
+      (record { start = refl; fields = refl; before = is.start; has = has_access time takes.request is })
+  stays_more (event_kind.Dropped id) op after takes =
       let e : Event = record { time = time; kind = event_kind.Dropped id } in
-      one_changes (event_kind.Dropped id) id (λ o. []) (λ o. None) op after takes (All-nil (IsOpen time)) (All-nil (StaysOrStarts before e)) tt tt
-  stays_more (event_kind.Refused id reason) op after fits takes =
+      one_changes (event_kind.Dropped id) id (λ o. []) (λ o. None) op after takes (All-nil (IsOpen time)) (All-nil (StaysOrStarts before e)) tt
+  stays_more (event_kind.Refused id reason) op after takes =
       let e : Event = record { time = time; kind = event_kind.Refused id reason } in
-      one_changes (event_kind.Refused id reason) id (λ o. []) (λ o. None) op after takes (All-nil (IsOpen time)) (All-nil (StaysOrStarts before e)) tt tt
-  stays_more (event_kind.Word w) op after fits takes = same_as (event_kind.Word w) op after takes.0 takes.1
-  stays_more (event_kind.Final w) op after fits takes = same_as (event_kind.Final w) op after takes.0 takes.1
-  stays_more (event_kind.Unknown addr len) op after fits takes = same_as (event_kind.Unknown addr len) op after takes.0 takes.1
-  stays_more event_kind.End op after fits takes = same_as event_kind.End op after takes.0 takes.1
+      one_changes (event_kind.Refused id reason) id (λ o. []) (λ o. None) op after takes (All-nil (IsOpen time)) (All-nil (StaysOrStarts before e)) tt
+  stays_more (event_kind.Word w) op after takes = same_as (event_kind.Word w) op after takes.0 takes.1
+  stays_more (event_kind.Final w) op after takes = same_as (event_kind.Final w) op after takes.0 takes.1
+  stays_more (event_kind.Unknown addr len) op after takes = same_as (event_kind.Unknown addr len) op after takes.0 takes.1
+  stays_more event_kind.End op after takes = same_as event_kind.End op after takes.0 takes.1

@@ -1,7 +1,7 @@
 -- operations are those that had ended and those that are still open
 use Rattle.std.proofs.Common.{◌≡◌, ℕ, Bool, true, false, cond, not, ◌||◌, if◌then◌else◌, List, [], ◌∷◌, ◌++◌, map, Option, Some, None, refl, sym, ap, ◌∙◌, subst}
 use Rattle.std.specs.Prelude.{IsPermutation, filter, filter_map, is_some, option_map}
-use Rattle.std.proofs.lemmas.List.Sorted.{IsPermutation-append, IsPermutation-append_comm, IsPermutation-refl, IsPermutation-sym, IsPermutation-trans}
+use Rattle.std.proofs.lemmas.List.Sorted.{IsPermutation-append, IsPermutation-append_comm, IsPermutation-refl, IsPermutation-trans}
 use Rattle.chi_trace.specs.declared.operation.Operation.{Operation}
 use Rattle.chi_events.specs.declared.event.Event.{Event}
 use Rattle.chi_events.specs.Operations.{AccessAt, access_told, ended_at, is_dropped, is_outstanding, operation_of, operations}
@@ -9,7 +9,6 @@ use Rattle.chi_events.specs.Outstanding.{OutstandingValue, Tells, open_of, open_
 use Rattle.chi_events.specs.RequestEvents.{RequestEvents, each_request}
 use Rattle.chi_events.proofs.Observable.{operation_as}
 use Rattle.chi_events.proofs.Lists.{taken_of_both}
-use Rattle.chi_events.proofs.Traced.{by_start_same}
 
 -- a request that is outstanding is the same operation as what is kept of it
 same_operation : (t : RequestEvents) → is_outstanding t ≡ true → operation_of t ≡ open_operation (open_of t)
@@ -37,11 +36,10 @@ same_operations (t ∷ ts) = by_test (is_outstanding t) (same_operation t) (same
 pub operations_parted : (events : List Event) (ended : List Operation) (o : OutstandingValue) → Tells events ended o
     → IsPermutation (operations events) (ended ++ filter_map open_operation o.requests)
 operations_parted events ended o tells =
-    IsPermutation-trans _ _ _ (IsPermutation-sym _ _ (by_start_same (filter_map operation_of (each_request events))))
-    (IsPermutation-trans _ _ _ (taken_of_both operation_of is_outstanding (each_request events))
+    IsPermutation-trans _ _ _ (taken_of_both operation_of is_outstanding (each_request events))
     (IsPermutation-trans _ _ _ (IsPermutation-append_comm opens ends)
     (IsPermutation-append ends ended opens (filter_map open_operation o.requests) tells.ends
-    (subst (IsPermutation opens) same (IsPermutation-refl opens)))))
+    (subst (IsPermutation opens) same (IsPermutation-refl opens))))
   where
     opens : List Operation
     opens = filter_map operation_of (filter is_outstanding (each_request events))

@@ -1,7 +1,6 @@
 -- what an event about a request leaves of it
 use Rattle.std.specs.Prelude.{if◌then◌else◌, max, option_map, option_and_then, IfSome}
 use Rattle.std.proofs.Common.{◌≡◌, ℕ, ◌≤◌, Bool, true, false, not, ◌||◌, ◌&&◌, List, [], ◌∷◌, Option, Some, None, is_some, refl, sym, ap, subst, ◌∙◌, arith}
-use Rattle.std.specs.Option.{unwrap_or}
 use Rattle.std.specs.Result.{result_ok}
 use Rattle.std.proofs.lemmas.Bool.{not-false, not-true, or_parts, or_right, true≢false}
 use Rattle.std.proofs.Math.Bool.{or-false}
@@ -32,7 +31,7 @@ none_mapped : {X Y : Type 0} (f : X → Y) (o : Option X) → is_some (option_ma
 none_mapped f None is = refl
 none_mapped f (Some x) is = absurd (true≢false is)
 
-pub no_fault : {X : Type 0} (b : Bool) (x : X) (o : Option X) → (if b then Some x else o) ≡ None → (b ≡ false) × (o ≡ None)
+no_fault : {X : Type 0} (b : Bool) (x : X) (o : Option X) → (if b then Some x else o) ≡ None → (b ≡ false) × (o ≡ None)
 no_fault true x o is = cc
 no_fault false x o is = (refl, is)
 
@@ -62,7 +61,7 @@ earlier_time time first second before same = omega arith
 abbrev open_by : RequestEvents → Bool → Option DataAt → Option ReplyAt → Open
 open_by t whole d r = record {
   id = t.request.id;
-  start = if whole then t.time else unwrap_or (option_map (λ (d : DataAt). d.time) d) t.time;
+  start = t.time;
   fields = t.request.fields;
   is_whole = not (not (whole || is_some d));
   refusal = if whole then refusal_of true (access_of None t.request.fields) else refusal_with t.request.fields d;
@@ -120,7 +119,7 @@ module _ (time : ℕ) (t : RequestEvents) (by : IsBy time t) (accepted : IsAccep
 
   pub data_leaves : (p : Packet) → data_fault p (Some (open_of t)) ≡ None
       → let e : Event = record { time = time; kind = event_kind.Data p } in
-      Leaves (with_event e t) (still_open (with_data time p (open_of t))) (ended_by time (with_data time p (open_of t))) × IsAccepted (with_event e t)
+      Leaves (with_event e t) (still_open (with_data p (open_of t))) (ended_by time (with_data p (open_of t))) × IsAccepted (with_event e t)
   data_leaves p fault =
       let e : Event = record { time = time; kind = event_kind.Data p } in
       let decision = access_of None (with_packet t.request.fields p) in
@@ -135,7 +134,7 @@ module _ (time : ℕ) (t : RequestEvents) (by : IsBy time t) (accepted : IsAccep
       ap (λ b. if b then refusal_of true (access_of None t.request.fields) else refusal_with t.request.fields (data_told (with_event e t))) waits.0
       ∙ ap (refusal_with t.request.fields) came in
       let reply : reply_told (with_event e t) ≡ reply_told t = reply_more e t ∙ or_none (reply_told t) in
-      let same : open_of (with_event e t) ≡ with_data time p (open_of t) =
+      let same : open_of (with_event e t) ≡ with_data p (open_of t) =
       ap (λ b. open_by t b (data_told (with_event e t)) (reply_told (with_event e t))) waits.0
       ∙ ap (λ (d : Option DataAt). open_by t false d (reply_told (with_event e t))) came
       ∙ ap (λ (r : Option ReplyAt). open_by t false (Some at) r) reply

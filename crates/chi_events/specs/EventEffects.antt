@@ -29,10 +29,10 @@ opened time r = record {
   completion = None;
 }
 
--- the request with its data, which came at this time: it starts then; or with its completion
-abbrev pub with_data : ℕ → Packet → Open → Open
-with_data time p o =
-    record o { start = time; is_whole = true; refusal = refusal_of true (access_of None (with_packet o.fields p)); access = result_ok (access_of None (with_packet o.fields p)) }
+-- the request with its data, or with its completion
+abbrev pub with_data : Packet → Open → Open
+with_data p o =
+    record o { is_whole = true; refusal = refusal_of true (access_of None (with_packet o.fields p)); access = result_ok (access_of None (with_packet o.fields p)) }
 
 abbrev pub with_reply : Completion → Open → Open
 with_reply c o = record o { completion = Some c.reply }
@@ -60,7 +60,7 @@ pub record Changes (id : ℕ) (left : Open → List Open) (end : Open → Option
 -- what an event of this kind at this time does
 abbrev pub Takes : EventKind → ℕ → List Open → Option Operation → List Open → Type 0
 Takes (event_kind.Request r) time before ended after = (ended ≡ None) × (after ≡ before ++ opened time r ∷ [])
-Takes (event_kind.Data p) time before ended after = Changes p.id (λ o. still_open (with_data time p o)) (λ o. ended_by time (with_data time p o)) before ended after
+Takes (event_kind.Data p) time before ended after = Changes p.id (λ o. still_open (with_data p o)) (λ o. ended_by time (with_data p o)) before ended after
 Takes (event_kind.Reply c) time before ended after = Changes c.id (λ o. still_open (with_reply c o)) (λ o. ended_by time (with_reply c o)) before ended after
 Takes (event_kind.Dropped id) time before ended after = Changes id (λ o. []) (λ o. None) before ended after
 Takes (event_kind.Refused id reason) time before ended after = Changes id (λ o. []) (λ o. None) before ended after

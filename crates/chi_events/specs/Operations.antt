@@ -1,5 +1,5 @@
 -- the operations that events tell
-use Rattle.std.specs.Prelude.{ℕ, ◌-◌, ◌^◌, ◌==◌, nat_le, max, Bool, true, false, not, ◌||◌, if◌then◌else◌, List, [], ◌∷◌, Option, Some, None, is_some, option_map, option_and_then, filter_map, Result, Ok, Err}
+use Rattle.std.specs.Prelude.{ℕ, ◌-◌, ◌^◌, ◌==◌, max, Bool, true, false, not, ◌||◌, if◌then◌else◌, List, [], ◌∷◌, Option, Some, None, is_some, option_map, option_and_then, filter_map, Result, Ok, Err}
 use Rattle.std.specs.List.{list_any}
 use Rattle.std.specs.Option.{option_or, unwrap_or}
 use Rattle.std.specs.Result.{result_ok}
@@ -96,10 +96,6 @@ refusal_told t = if is_whole t.request then refusal_of true (access_of None t.re
 abbrev pub waits_for_data : RequestEvents → Bool
 waits_for_data t = not (is_whole t.request || is_some (data_told t))
 
--- when it starts: when the request was taken, and where its data come later, when they have come. No home can execute it before.
-abbrev pub start_told : RequestEvents → ℕ
-start_told t = if is_whole t.request then t.time else unwrap_or (option_map (λ d. d.time) (data_told t)) t.time
-
 -- when the operation had ended: its data had come, and its completion had left
 abbrev pub ended_at : RequestEvents → Option ℕ
 ended_at t = option_and_then (λ a. option_map (λ r. max a.time r.time) (reply_told t)) (access_told t)
@@ -109,25 +105,15 @@ abbrev pub reply_of : RequestEvents → Option Reply
 reply_of t = option_and_then (λ end. option_and_then (λ r. r.reply) (reply_told t)) (ended_at t)
 
 -- The operation that a request is: none where it was dropped or refused, where its data have not come, or where a home of all
--- addresses refuses it. It starts once its data have come. One that has not ended was open when the events ended.
+-- addresses refuses it. One that has not ended was open when the events ended.
 abbrev pub operation_of : RequestEvents → Option Operation
 operation_of t =
     if is_dropped t then None
-    else option_map (λ a. as_operation t.request.fields a.access (start_told t) (unwrap_or (ended_at t) (2 ^ 64 - 1)) (reply_of t)) (access_told t)
+    else option_map (λ a. as_operation t.request.fields a.access t.time (unwrap_or (ended_at t) (2 ^ 64 - 1)) (reply_of t)) (access_told t)
 
--- an operation among others that stand in the order of their starts: before the first of them that starts no earlier
-unfoldable pub among : Operation → List Operation → List Operation
-among op [] = op ∷ []
-among op (x ∷ ops) = if nat_le op.start x.start then op ∷ x ∷ ops else x ∷ among op ops
-
--- operations in the order of their starts; those that start at one time stay as they stand
-unfoldable pub by_start : List Operation → List Operation
-by_start [] = []
-by_start (op ∷ ops) = among op (by_start ops)
-
--- the operations that the events tell, in the order of their starts
+-- the operations that the events tell, in the order in which their requests were taken
 abbrev pub operations : List Event → List Operation
-operations events = by_start (filter_map operation_of (each_request events))
+operations events = filter_map operation_of (each_request events)
 
 -- the request is outstanding: neither dropped nor refused nor ended
 abbrev pub is_outstanding : RequestEvents → Bool

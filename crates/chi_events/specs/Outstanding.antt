@@ -20,7 +20,7 @@ use Rattle.chi_events.specs.declared.event.Requested.{Requested}
 use Rattle.chi_events.specs.declared.fault.EventFault.{EventFault}
 use Rattle.chi_events.specs.declared.fault.EventFault.TheVariants as fault
 use Rattle.chi_events.specs.declared.outstanding.Open.{Open}
-use Rattle.chi_events.specs.Operations.{access_told, is_outstanding, operation_of, refusal_of, refusal_told, reply_told, start_told, waits_for_data, with_packet}
+use Rattle.chi_events.specs.Operations.{access_told, is_outstanding, operation_of, refusal_of, refusal_told, reply_told, waits_for_data, with_packet}
 use Rattle.chi_events.specs.RequestEvents.{RequestEvents, each_request, requested}
 
 -- the outstanding requests in the order in which they were taken, and the time of the last event
@@ -28,18 +28,17 @@ pub record OutstandingValue : Type 0 where
   pub requests : List Open
   pub time : ℕ
 
--- it was taken by now, and its access, which it has only once its data have come, is at its address and within 2^52 bytes
+-- it was taken by now, and its access, once its data have come, is at its address and within 2^52 bytes
 pub record IsOpen (time : ℕ) (o : Open) : Type 0 where
   pub start : o.start ≤ time
   pub at : IfSome o.access (λ access. access.addr ≡ o.fields.addr)
   pub within : IfSome o.access (λ access. access.addr + access.len ≤ 2 ^ 52)
-  pub whole : is_some o.access ≡ true → o.is_whole ≡ true
 
 -- what is kept of a request
 abbrev pub open_of : RequestEvents → Open
 open_of t = record {
   id = t.request.id;
-  start = start_told t;
+  start = t.time;
   fields = t.request.fields;
   is_whole = not (waits_for_data t);
   refusal = refusal_told t;
@@ -183,27 +182,23 @@ fault_of o e = if nat_lt e.time o.time then Some fault.TimeFalls else kind_fault
 abbrev pub IsTakenBy : Event → Open → Type 0
 IsTakenBy e o = (o.start ≡ e.time) × ((r : Requested) × (requested e.kind ≡ Some r) × (o.fields ≡ r.fields))
 
--- when a request starts as an event of this time leaves it: then, where its data have come by it
-abbrev pub start_after : Bool → Bool → ℕ → ℕ → ℕ
-start_after was_whole whole start time = if whole && not was_whole then time else start
-
--- an outstanding request was so before, with its data or without, or was taken by this event
+-- an outstanding request was so before, or was taken by this event
 abbrev pub StaysOrStarts : List Open → Event → Open → Type 0
-StaysOrStarts before e o = IsTakenBy e o ⊎ ((p : Open) × Contains before p × (o.start ≡ start_after p.is_whole o.is_whole p.start e.time) × (o.fields ≡ p.fields))
+StaysOrStarts before e o = IsTakenBy e o ⊎ ((p : Open) × Contains before p × (o.start ≡ p.start) × (o.fields ≡ p.fields))
 
 -- the operation is one of these requests, and ended at this time
 pub record IsEndOf (before : List Open) (time : ℕ) (op : Operation) : Type 0 where
   pub request : Open
   pub is : Contains before request
-  pub start : op.start ≡ start_after request.is_whole true request.start time
+  pub start : op.start ≡ request.start
   pub at : op.access.addr ≡ request.fields.addr
   pub within : op.access.addr + op.access.len ≤ 2 ^ 52
   pub end : op.end ≡ time
   pub lasting : op.start ≤ op.end
 
 -- the operation is that of the request that the event is about
-pub record IsEndOfAbout (before : List Open) (e : Event) (op : Operation) : Type 0 where
+pub record IsEndOfAbout (before : List Open) (kind : EventKind) (op : Operation) : Type 0 where
   pub request : Open
-  pub is : request_about before e.kind ≡ Some request
-  pub start : op.start ≡ start_after request.is_whole true request.start e.time
+  pub is : request_about before kind ≡ Some request
+  pub start : op.start ≡ request.start
   pub src : op.src ≡ request.fields.src

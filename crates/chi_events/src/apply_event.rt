@@ -129,15 +129,15 @@ fn outstanding_at(requests: &[Open], id: u64) -> Result<usize, EventFault>
     }
 }
 
-/// A request with its data, which came at this time, where it waits for them.
-fn data_taken(request: &Open, packet: &Packet, time: u64) -> Result<Open, EventFault>
-    ensures taken { IfOk result (λ now. (data_fault packet.now (Some request.now) ≡ None) × (now ≡ with_data time packet.now request.now)) }
+/// A request with its data, where it waits for them.
+fn data_taken(request: &Open, packet: &Packet) -> Result<Open, EventFault>
+    ensures taken { IfOk result (λ now. (data_fault packet.now (Some request.now) ≡ None) × (now ≡ with_data packet.now request.now)) }
     ensures fault { IfErr result (λ fault. data_fault packet.now (Some request.now) ≡ Some fault) }
 {
     if request.is_whole {
         return Err(EventFault::DataTwice);
     }
-    fitting(with_data(request, packet, time))
+    fitting(with_data(request, packet))
 }
 
 /// A request with its completion, where none has left.
@@ -185,7 +185,7 @@ pub(crate) fn apply_event(
         }
         EventKind::Data(packet) => {
             let place = outstanding_at(requests, packet.id)?;
-            let now = data_taken(&requests[place], packet, time)?;
+            let now = data_taken(&requests[place], packet)?;
             Ok(end_if_complete(requests, place, now, time))
         }
         EventKind::Reply(sent) => {

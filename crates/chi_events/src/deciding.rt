@@ -38,9 +38,9 @@ pub(crate) fn opened(request: &Requested, time: u64) -> Open
     }
 }
 
-/// A request with its data, which came at this time.
-pub(crate) fn with_data(request: &Open, packet: &Packet, time: u64) -> Open
-    ensures { result ≡ with_data time packet.now request.now }
+/// A request with its data.
+pub(crate) fn with_data(request: &Open, packet: &Packet) -> Open
+    ensures { result ≡ with_data packet.now request.now }
 {
     let fields = RequestFields {
         be: packet.be,
@@ -49,7 +49,6 @@ pub(crate) fn with_data(request: &Open, packet: &Packet, time: u64) -> Open
     };
     let decision = access(&fields, &None);
     Open {
-        start: time,
         is_whole: true,
         refusal: refusal_of(true, &decision),
         access: decision.ok(),

@@ -10,9 +10,9 @@ use chi_lanes::Reply;
 /// An operation that was observed: whose it was, what it did, what was answered, and when.
 ///
 /// `number` says which part of the input told of it, counted as the input counts. `src` is its requester's number and `txn`
-/// its number for the transaction, by which nothing is matched. `start` is a time at or before the one at which the home had
-/// the request and its data, and `end` one at or after its response; of an operation that was still open when the observation
-/// ended, it is `u64::MAX`. Both are counts of one clock; only their order is looked at. `reply` is `None` where what was answered was not
+/// its number for the transaction, by which nothing is matched. `start` is a time at or before the one at which the home took
+/// the request, and `end` one at or after its response; of an operation that was still open when the observation ended, it is
+/// `u64::MAX`. Both are counts of one clock; only their order is looked at. `reply` is `None` where what was answered was not
 /// seen, or does not say what was done: such an operation may have taken effect or not.
 #[derive(Clone, Copy, Debug)]
 pub struct Operation {

@@ -4,7 +4,7 @@ use Rattle.std.specs.Prelude.{option_to_list}
 use Rattle.std.proofs.lemmas.List.Elements.{All-contains, All-weaker, filter-append}
 use Rattle.chi_events.specs.declared.event.Event.{Event}
 use Rattle.chi_events.specs.declared.outstanding.Open.{Open}
-use Rattle.chi_events.specs.Outstanding.{IsEndOf, OutstandingValue, StaysOrStarts, start_after}
+use Rattle.chi_events.specs.Outstanding.{IsEndOf, OutstandingValue, StaysOrStarts}
 use Rattle.chi_judge.specs.Judges.{Keeps}
 use Rattle.chi_judge.proofs.Keeping.{keeps_later}
 use Rattle.chi_trace.specs.AtPlaces.{is_in}
@@ -25,24 +25,17 @@ other_more : (g : ℕ) (ended : List Operation) (op : Operation) → (granule_of
 other_more g ended op other =
     filter-append (is_in g) ended (op ∷ []) ∙ (ap (λ (b : Bool). filter (is_in g) ended ++ cond b (op ∷ []) []) other ∙ append-nil (filter (is_in g) ended))
 
--- a request that has its data starts as before, or at the time of the event
-no_earlier : (was : Bool) (start time low : ℕ) → (was ≡ true → low ≤ start) → low ≤ time → low ≤ start_after was true start time
-no_earlier true start time low before now = before refl
-no_earlier false start time low before now = now
-
 module _ (events : List Event) (ended : List Operation) (before after : OutstandingValue) (e : Event) (now : after.time ≡ e.time) (later : before.time ≤ e.time)
     (stay : All (StaysOrStarts before.requests e) after.requests) where
-  -- a horizon stays one, since a request that is taken now starts no earlier, nor does one whose data come now
+  -- a horizon stays one, since a request that is taken now starts no earlier
   starts_on : (g horizon : ℕ) → horizon ≤ before.time → StartsBy before.requests g horizon → StartsBy after.requests g horizon
-  starts_on g horizon past starts = All-weaker (StaysOrStarts before.requests e) (λ p. granule_of_request p ≡ g → p.is_whole ≡ true → horizon ≤ p.start) each after.requests stay
+  starts_on g horizon past starts = All-weaker (StaysOrStarts before.requests e) (λ p. granule_of_request p ≡ g → horizon ≤ p.start) each after.requests stay
     where
-      each : (p : Open) → StaysOrStarts before.requests e p → granule_of_request p ≡ g → p.is_whole ≡ true → horizon ≤ p.start
-      each p (inl taken) is whole = omega (arith, taken.0, past, later)
-      each p (inr (old, has, start, fields)) is whole =
-          subst (λ n. horizon ≤ n) (sym (start ∙ ap (λ b. start_after old.is_whole b old.start e.time) whole))
-          (no_earlier old.is_whole old.start e.time horizon
-          (All-contains (λ (q : Open). granule_of_request q ≡ g → q.is_whole ≡ true → horizon ≤ q.start) before.requests old starts has (ap (λ a. a.addr / 8) (sym fields) ∙ is))
-          (omega (arith, past, later)))
+      each : (p : Open) → StaysOrStarts before.requests e p → granule_of_request p ≡ g → horizon ≤ p.start
+      each p (inl taken) is = omega (arith, taken.0, past, later)
+      each p (inr (old, has, start, fields)) is =
+          let starts_by : horizon ≤ old.start = All-contains (λ (q : Open). granule_of_request q ≡ g → horizon ≤ q.start) before.requests old starts has (ap (λ a. a.addr / 8) (sym fields) ∙ is) in
+          omega (arith, start, starts_by)
 
   -- where no operation of the granule ended
   watched_on : (g : ℕ) (f : Followed) (more : List Operation) → filter (is_in g) more ≡ filter (is_in g) ended → IsWatched events ended before g f → IsWatched events more after g f
@@ -67,10 +60,9 @@ module _ (events : List Event) (ended : List Operation) (before after : Outstand
     can_end : (f : Followed) → IsWatched events ended before g f → CanEnd horizon f op
     can_end f w =
         let own : granule_of_request ends.request ≡ g = ap (λ n. n / 8) (sym ends.at) ∙ is in
-        let starts = All-contains (λ (q : Open). granule_of_request q ≡ g → q.is_whole ≡ true → f.judge.horizon ≤ q.start) before.requests ends.request w.horizon ends.is own in
+        let starts : f.judge.horizon ≤ ends.request.start = All-contains (λ (q : Open). granule_of_request q ≡ g → f.judge.horizon ≤ q.start) before.requests ends.request w.horizon ends.is own in
         record {
-          past = subst (λ n. f.judge.horizon ≤ n) (sym ends.start)
-              (no_earlier ends.request.is_whole ends.request.start e.time f.judge.horizon starts (omega (arith, w.past, later)));
+          past = omega (arith, starts, ends.start);
           starts = early;
           ends = omega (arith, w.latest, later, ends.end);
           lasting = ends.lasting;
@@ -95,9 +87,8 @@ module _ (events : List Event) (ended : List Operation) (before after : Outstand
         past from to was (inr same) = omega (arith, same, was, later, now)
 
         starts : (from to : ℕ) → from ≤ before.time → StartsBy before.requests g from → (to ≤ horizon) ⊎ (to ≡ from) → StartsBy after.requests g to
-        starts from to was by (inl below) = All-weaker (λ (p : Open). granule_of_request p ≡ g → p.is_whole ≡ true → horizon ≤ p.start)
-            (λ (p : Open). granule_of_request p ≡ g → p.is_whole ≡ true → to ≤ p.start)
-            (λ p so own whole. let here : horizon ≤ p.start = so own whole in omega (arith, below, here)) after.requests earliest
+        starts from to was by (inl below) = All-weaker (λ (p : Open). granule_of_request p ≡ g → horizon ≤ p.start) (λ (p : Open). granule_of_request p ≡ g → to ≤ p.start)
+            (λ p so own. let here : horizon ≤ p.start = so own in omega (arith, below, here)) after.requests earliest
         starts from to was by (inr same) = subst (StartsBy after.requests g) (sym same) (starts_on g from was by)
 
         kept : Keeps (word_or_zero (openings events) g ∷ []) (filter (is_in g) ended ++ op ∷ []) op.end new.judge

@@ -1,5 +1,5 @@
 -- granules that are quiet, or of which it is known that nothing explains them
-use Rattle.std.proofs.Common.{◌≡◌, ℕ, ◌-◌, ◌/◌, ◌^◌, ◌≤◌, ◌==◌, ◌⊎◌, ◌||◌, Bool, true, false, List, [], ◌∷◌, ◌++◌, All, Option, Some, None, IfSome, is_some, IsTrue, cond, get_or, inl, inr, not, filter, filter_map, refl, sym, ap, subst, ◌∙◌, append_assoc, append-nil, arith, eqb-true, eq-eqb, true≢false}
+use Rattle.std.proofs.Common.{◌≡◌, ℕ, ◌-◌, ◌/◌, ◌^◌, ◌≤◌, ◌==◌, ◌⊎◌, ◌||◌, Bool, true, false, List, [], ◌∷◌, ◌++◌, All, Option, Some, None, IfSome, IsTrue, cond, get_or, inl, inr, not, filter, filter_map, refl, sym, ap, subst, ◌∙◌, append_assoc, append-nil, arith, eqb-true, eq-eqb, true≢false}
 use Rattle.std.specs.Prelude.{IsPermutation}
 use Rattle.std.specs.List.{list_any}
 use Rattle.std.proofs.lemmas.Bool.{or_parts}
@@ -78,14 +78,13 @@ keeps_open words r g stopped (op ∷ ops) told all keeps =
     by_test false other rest = rest told keeps
 
 -- the operation of an outstanding request starts with it, and has not ended
-open_starts : (g horizon : ℕ) (p : Open) → IfSome p.access (λ access. access.addr ≡ p.fields.addr) → (is_some p.access ≡ true → p.is_whole ≡ true)
-    → (granule_of_request p ≡ g → p.is_whole ≡ true → horizon ≤ p.start) → IfSome (open_operation p) (λ op. granule_of op ≡ g → (horizon ≤ op.start) × (op.end ≡ 2 ^ 64 - 1))
-open_starts g horizon p at whole starts = by_access p.access at whole
+open_starts : (g horizon : ℕ) (p : Open) → IfSome p.access (λ access. access.addr ≡ p.fields.addr) → (granule_of_request p ≡ g → horizon ≤ p.start)
+    → IfSome (open_operation p) (λ op. granule_of op ≡ g → (horizon ≤ op.start) × (op.end ≡ 2 ^ 64 - 1))
+open_starts g horizon p at starts = by_access p.access at
   where
-    by_access : (a : Option Access) → IfSome a (λ access. access.addr ≡ p.fields.addr) → (is_some a ≡ true → p.is_whole ≡ true)
-        → IfSome (open_operation (record p { access = a })) (λ op. granule_of op ≡ g → (horizon ≤ op.start) × (op.end ≡ 2 ^ 64 - 1))
-    by_access None is whole = tt
-    by_access (Some access) is whole = λ own. (starts (ap (λ addr. addr / 8) (sym is) ∙ own) (whole refl), refl)
+    by_access : (a : Option Access) → IfSome a (λ access. access.addr ≡ p.fields.addr) → IfSome (open_operation (record p { access = a })) (λ op. granule_of op ≡ g → (horizon ≤ op.start) × (op.end ≡ 2 ^ 64 - 1))
+    by_access None is = tt
+    by_access (Some access) is = λ own. (starts (ap (λ addr. addr / 8) (sym is) ∙ own), refl)
 
 -- All the operations of a granule count as told, where it is quiet, or has stopped.
 pub keeps_all : (events : List Event) (ended : List Operation) (w : WatchValue) → All (IsOpen w.outstanding.time) w.outstanding.requests → Watches events ended w
@@ -97,7 +96,7 @@ keeps_all events ended w are_open is g f here known can = elim can [
       subst (λ (l : List Operation). Keeps words l (2 ^ 64 - 1) f.judge) (sym (filter-append (is_in g) ended (filter_map open_operation w.outstanding.requests)))
       (keeps_open words f.judge g (subst HasStopped here stopped) (filter_map open_operation w.outstanding.requests) (filter (is_in g) ended)
       (All-filter_map open_operation (λ op. granule_of op ≡ g → (f.judge.horizon ≤ op.start) × (op.end ≡ 2 ^ 64 - 1)) w.outstanding.requests
-      (λ i d below. open_starts g f.judge.horizon (get_or w.outstanding.requests i d) (are_open i d below).at (are_open i d below).whole (watched.horizon i d below)))
+      (λ i d below. open_starts g f.judge.horizon (get_or w.outstanding.requests i d) (are_open i d below).at (watched.horizon i d below)))
       keeps)
 ]
   where

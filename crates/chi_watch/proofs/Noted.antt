@@ -42,7 +42,7 @@ told_own xs w none = told_both xs (w ∷ []) w.granule none ∙ ap (λ (b : Bool
 
 -- no request starts before time 0
 pub from_start : (o : OutstandingValue) (g horizon : ℕ) → horizon ≡ 0 → StartsBy o.requests g horizon
-from_start o g horizon none = All-weaker (λ (p : Open). Unit {0}) (λ (p : Open). granule_of_request p ≡ g → p.is_whole ≡ true → horizon ≤ p.start) (λ p all is whole. omega (arith, none)) o.requests (λ i d below. tt)
+from_start o g horizon none = All-weaker (λ (p : Open). Unit {0}) (λ (p : Open). granule_of_request p ≡ g → horizon ≤ p.start) (λ p all is. omega (arith, none)) o.requests (λ i d below. tt)
 
 -- a granule that is watched from now on
 pub begun : (events : List Event) (ended : List Operation) (o : OutstandingValue) (g word : ℕ) (f : Followed) → is_known events g ≡ true → filter (is_in g) ended ≡ [] → word_or_zero (openings events) g ≡ word

@@ -81,16 +81,8 @@ module _ (p : Open) (op : Operation) (old new : ℕ → Option Followed) (can : 
   own : IsOpened p op
   own = opened old p op can is
 
-  takes_request : TakesOpen p.start (old (granule_of_request p))
-  takes_request = by_access p.access is can.takes
-    where
-      by_access : (a : Option Access) → Some op ≡ open_operation (record p { access = a }) → IfSome a (λ access. TakesOpen p.start (old (granule_of_request p)))
-          → TakesOpen p.start (old (granule_of_request p))
-      by_access None is takes = absurd (true≢false (ap is_some is))
-      by_access (Some access) is takes = takes
-
   takes : TakesOpen op.start (old (granule_of op))
-  takes = subst (λ n. TakesOpen n (old (granule_of op))) (sym own.start) (subst (λ g. TakesOpen p.start (old g)) (sym own.granule) takes_request)
+  takes = subst (λ n. TakesOpen n (old (granule_of op))) (sym own.start) (subst (λ g. TakesOpen p.start (old g)) (sym own.granule) can.takes)
 
   pub told_one : (g : ℕ) → AreToldTo (filter (is_in g) (op ∷ [])) (old g) (new g)
   told_one g = by_test (granule_of op == g) refl
@@ -104,30 +96,26 @@ module _ (p : Open) (op : Operation) (old new : ℕ → Option Followed) (can : 
 
   -- and the others can still be told
   closes_on : (q : Open) → CanClose old q → CanClose new q
-  closes_on q c = record { at = c.at; within = c.within; lasting = c.lasting; takes = by_access q.access c.takes }
+  closes_on q c = record { at = c.at; within = c.within; lasting = c.lasting; takes = by_test (granule_of op == granule_of_request q) refl }
     where
-      by_test : (b : Bool) → (granule_of op == granule_of_request q) ≡ b → TakesOpen q.start (old (granule_of_request q)) → TakesOpen q.start (new (granule_of_request q))
-      by_test true here was =
+      by_test : (b : Bool) → (granule_of op == granule_of_request q) ≡ b → TakesOpen q.start (new (granule_of_request q))
+      by_test true here =
           let at : granule_of op ≡ granule_of_request q = eqb-true (granule_of op) (granule_of_request q) here in
           subst (λ g. TakesOpen q.start (new g)) at
-          (takes_on op own.lasting own.within own.end q.start (old (granule_of op)) (new (granule_of op)) takes more.own (subst (λ g. TakesOpen q.start (old g)) (sym at) was))
-      by_test false other was =
-          subst (TakesOpen q.start) (sym (more.others (granule_of_request q) (λ same. absurd (true≢false (sym (eq-eqb (granule_of op) (granule_of_request q) (sym same)) ∙ other))))) was
-
-      by_access : (a : Option Access) → IfSome a (λ access. TakesOpen q.start (old (granule_of_request q))) → IfSome a (λ access. TakesOpen q.start (new (granule_of_request q)))
-      by_access None was = tt
-      by_access (Some access) was = by_test (granule_of op == granule_of_request q) refl was
+          (takes_on op own.lasting own.within own.end q.start (old (granule_of op)) (new (granule_of op)) takes more.own (subst (λ g. TakesOpen q.start (old g)) (sym at) c.takes))
+      by_test false other =
+          subst (TakesOpen q.start) (sym (more.others (granule_of_request q) (λ same. absurd (true≢false (sym (eq-eqb (granule_of op) (granule_of_request q) (sym same)) ∙ other))))) c.takes
 
   pub all_close_on : (requests : List Open) → All (CanClose old) requests → All (CanClose new) requests
   all_close_on = All-weaker (CanClose old) (CanClose new) closes_on
 
 -- each outstanding request's operation can be told, where the watch took the events
 module _ (events : List Event) (ended : List Operation) (w : WatchValue) (is : Watches events ended w) (are_open : All (IsOpen w.outstanding.time) w.outstanding.requests) where
-  takes_open : (p : Open) → p.start ≤ w.outstanding.time → Contains w.outstanding.requests p → p.is_whole ≡ true → (x : Option Followed) → IsTrue (is_some x)
+  takes_open : (p : Open) → p.start ≤ w.outstanding.time → Contains w.outstanding.requests p → (x : Option Followed) → IsTrue (is_some x)
       → IsGranuleOf events ended w.outstanding (granule_of_request p) x → TakesOpen p.start x
-  takes_open p start has whole None some of = absurd (true≢false (sym some))
-  takes_open p start has whole (Some f) some of = (
-    All-contains (λ (q : Open). granule_of_request q ≡ granule_of_request p → q.is_whole ≡ true → f.judge.horizon ≤ q.start) w.outstanding.requests p of.horizon has refl whole,
+  takes_open p start has None some of = absurd (true≢false (sym some))
+  takes_open p start has (Some f) some of = (
+    All-contains (λ (q : Open). granule_of_request q ≡ granule_of_request p → f.judge.horizon ≤ q.start) w.outstanding.requests p of.horizon has refl,
     let time : w.outstanding.time < 2 ^ 64 = is.time in let latest : f.judge.latest ≤ w.outstanding.time = of.latest in omega arith,
   )
 
@@ -139,14 +127,9 @@ module _ (events : List Event) (ended : List Operation) (w : WatchValue) (is : W
         at = o.at;
         within = o.within;
         lasting = omega (arith, o.start);
-        takes = by_access p.access o.whole (λ whole. takes_open p o.start has whole (granule w (granule_of_request p))
-            (All-contains (λ (q : Open). IsTrue (is_some (granule w (granule_of_request q)))) w.outstanding.requests p is.requested has) (is.each (granule_of_request p)));
+        takes = takes_open p o.start has (granule w (granule_of_request p))
+            (All-contains (λ (q : Open). IsTrue (is_some (granule w (granule_of_request q)))) w.outstanding.requests p is.requested has) (is.each (granule_of_request p));
       }
-    where
-      by_access : (a : Option Access) → (is_some a ≡ true → p.is_whole ≡ true) → (p.is_whole ≡ true → TakesOpen p.start (granule w (granule_of_request p)))
-          → IfSome a (λ access. TakesOpen p.start (granule w (granule_of_request p)))
-      by_access None whole takes = tt
-      by_access (Some access) whole takes = takes (whole refl)
 
   pub all_can_close : All (CanClose (granule w)) w.outstanding.requests
   all_can_close = All-weaker (Contains w.outstanding.requests) (CanClose (granule w)) can_close w.outstanding.requests (All-contains_itself w.outstanding.requests)

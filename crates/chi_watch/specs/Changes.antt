@@ -66,8 +66,7 @@ pub record HasOneMore (op : Operation) (horizon : ℕ) (old new : ℕ → Option
   pub others : OthersStay old new (granule_of op)
   pub own : IsClosed op horizon (old (granule_of op)) (new (granule_of op))
 
--- the operation that ended, if one did, was told with a horizon before which no outstanding request of its granule starts that has
--- its data
+-- the operation that ended, if one did, was told with a horizon at or before which no outstanding request of its granule was taken
 abbrev pub IsClosedBy : Option Operation → List Open → (ℕ → Option Followed) → (ℕ → Option Followed) → Type 0
 IsClosedBy None requests old new = (g : ℕ) → new g ≡ old g
 IsClosedBy (Some op) requests old new = (horizon : ℕ) × (horizon ≤ op.start) × StartsBy requests (granule_of op) horizon × HasOneMore op horizon old new

@@ -22,7 +22,7 @@ pub record CanClose (granules : ℕ → Option Followed) (p : Open) : Type 0 whe
   pub at : IfSome p.access (λ access. access.addr ≡ p.fields.addr)
   pub within : IfSome p.access (λ access. access.addr + access.len ≤ 2 ^ 52)
   pub lasting : p.start ≤ 2 ^ 64 - 1
-  pub takes : IfSome p.access (λ access. TakesOpen p.start (granules (granule_of_request p)))
+  pub takes : TakesOpen p.start (granules (granule_of_request p))
 
 -- these operations more were told of the granule, where all that wrote to it is told
 pub record AreTold (ops : List Operation) (old new : Followed) : Type 0 where

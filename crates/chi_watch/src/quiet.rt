@@ -7,15 +7,14 @@ ghost use Rattle.chi_watch.specs.Requests.{StartsBy, granule_of_request};
 use chi_events::Open;
 use chi_fields::ADDRESSES;
 
-/// A time before which no outstanding request of the granule that has its data starts, at or before this one. One that waits for
-/// them cannot start before they come.
+/// A time at or before which each outstanding request of the granule was taken, and at or before this one.
 pub(crate) fn earliest(requests: &[Open], granule: u64, time: u64) -> u64
     ensures time { result ≤ time }
     ensures starts { StartsBy requests.now granule result }
 {
     let mut least = time;
     for request in requests {
-        if request.is_whole && request.fields.addr / 8 == granule {
+        if request.fields.addr / 8 == granule {
             least = least.min(request.start);
         }
     }

@@ -3,7 +3,6 @@
 use crate::tests::comparison::assert_same;
 use crate::tests::home::{
     GRANULE, add, answer, assert_ends, assert_found, done, read, store_add, take,
-    write_without_data,
 };
 use chi_events::{Completion, EventKind};
 use chi_judge::Reach;
@@ -83,32 +82,5 @@ fn lost_update_of_a_granule_that_is_never_quiet(rt: HostRuntime) -> Result<(), F
     };
     assert_same(&rt, (500 <= found && found < 700, stops), (true, true));
     assert_same(&rt, four_open(rt.alloc(), 2000)?, None);
-    Ok(())
-}
-
-// Three hundred additions of 1, one after the other, beside a write whose data never come. From this one on each answers one less
-// than it should. The number of the one by whose answer the granule is found.
-fn beside_a_write_that_waits(alloc: Global, lost: u64) -> Result<Option<u64>, WatchFault> {
-    let mut watch = Watch::new(alloc);
-    take(alloc, &mut watch, 0, write_without_data(1000))?;
-    for id in 0..300 {
-        take(alloc, &mut watch, 2 * id + 1, add(id, 1))?;
-        let sum = if id < lost { id } else { id.saturating_sub(1) };
-        let found = take(alloc, &mut watch, 2 * id + 2, answer_sum(id, sum))?;
-        if found.is_some() {
-            return Ok(Some(id));
-        }
-    }
-    Ok(None)
-}
-
-// The write cannot take effect before its data come, so what came before is judged while it is outstanding.
-#[test]
-fn lost_update_beside_a_write_that_waits(rt: HostRuntime) -> Result<(), Fail> {
-    let Some(found) = beside_a_write_that_waits(rt.alloc(), 100)? else {
-        return Err(Fail::new("the granule was not found"));
-    };
-    assert_same(&rt, 100 <= found && found < 300, true);
-    assert_same(&rt, beside_a_write_that_waits(rt.alloc(), 300)?, None);
     Ok(())
 }

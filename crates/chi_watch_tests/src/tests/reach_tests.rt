@@ -60,7 +60,7 @@ fn a_lost_addition(rt: HostRuntime) -> Result<(), Fail> {
     assert_stops(&rt, &reach_after(rt.alloc(), &kinds)?, stop)
 }
 
-// The first read is dropped, and the second has its identifier. The write's request has the number 3; it starts with its data, at 4.
+// The first read is dropped, and the second has its identifier. The write's data come after its request, which starts at 3.
 #[test]
 fn identifiers_that_are_used_again(rt: HostRuntime) -> Result<(), Fail> {
     let kinds = [

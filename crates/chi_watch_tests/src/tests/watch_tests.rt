@@ -2,8 +2,8 @@
 
 use crate::tests::comparison::assert_same;
 use crate::tests::home::{
-    GRANULE, add, answer, assert_found, data, done, dropped, error, read, read_next, take,
-    take_all, word, write, write_without_data,
+    GRANULE, add, answer, assert_found, done, dropped, error, read, read_next, take, take_all,
+    word, write,
 };
 use chi_events::{Event, EventKind};
 use chi_watch::{Watch, WatchFault};
@@ -20,73 +20,6 @@ fn granule_if(is_found: bool) -> Option<u64> {
 fn a_write_that_is_read_or_lost(rt: HostRuntime) -> Result<(), Fail> {
     for (value, is_found) in [(0, true), (5, false)] {
         let kinds = [write(1, 5), done(1), read(2), answer(2, value)];
-        assert_found(&rt, &kinds, granule_if(is_found))?;
-    }
-    Ok(())
-}
-
-// A read that has ended before the data of a write come cannot answer what the write sends. One that ends later may, and so may
-// one that is told to end when they come.
-#[test]
-fn a_read_of_data_that_come_later(rt: HostRuntime) -> Result<(), Fail> {
-    for (value, is_found) in [(0, false), (5, true)] {
-        let kinds = [
-            write_without_data(1),
-            read(2),
-            answer(2, value),
-            data(1, 5),
-            done(1),
-        ];
-        assert_found(&rt, &kinds, granule_if(is_found))?;
-        let kinds = [
-            write_without_data(1),
-            read(2),
-            data(1, 5),
-            answer(2, value),
-            done(1),
-        ];
-        assert_found(&rt, &kinds, None)?;
-    }
-    Ok(())
-}
-
-// A read that ends at the time at which the data come may answer what they are, and what was there before.
-#[test]
-fn a_read_that_ends_as_data_come(rt: HostRuntime) -> Result<(), Fail> {
-    for (value, is_found) in [(0, false), (5, false), (6, true)] {
-        let mut watch = Watch::new(rt.alloc());
-        let events = [
-            (1, write_without_data(1)),
-            (2, read(2)),
-            (3, answer(2, value)),
-            (3, data(1, 5)),
-        ];
-        for (time, kind) in &events {
-            let found = take(rt.alloc(), &mut watch, *time, *kind)?;
-            assert_same(&rt, found, None);
-        }
-        let found = take(rt.alloc(), &mut watch, 4, done(1))?;
-        assert_same(&rt, (value, found), (value, granule_if(is_found)));
-    }
-    Ok(())
-}
-
-// The completion of the write has left before its data come, and a read that ends between may answer what was there before. A read
-// that starts after the data cannot.
-#[test]
-fn a_write_whose_data_come_after_its_completion(rt: HostRuntime) -> Result<(), Fail> {
-    let before = [write_without_data(1), done(1), read(2), answer(2, 0)];
-    assert_found(&rt, &before, None)?;
-    for (value, is_found) in [(5, false), (0, true)] {
-        let kinds = [
-            before[0],
-            before[1],
-            before[2],
-            before[3],
-            data(1, 5),
-            read(3),
-            answer(3, value),
-        ];
         assert_found(&rt, &kinds, granule_if(is_found))?;
     }
     Ok(())

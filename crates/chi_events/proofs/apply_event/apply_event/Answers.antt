@@ -21,7 +21,7 @@ returns-in_ok-now-in-Data-clause-taken c =
     let requests = c.args.requests.now.items in
     let at = at_place c.in-Data.packet.id c.deref.result.now requests c.in_ok-place-in-Data.place c.index.result.now c.deref.ensures.value c.in_ok-place-in-Data.ensures.found c.index.ensures in
     of_kind requests c.args.time _ _ _ _ c.in-Data.is
-    (taken_further (data_fault c.in-Data.packet) c.in-Data.packet.id (with_data c.args.time c.in-Data.packet) c.args.time requests c.end_if_complete.result c.end_if_complete.new.requests.items c.in_ok-place-in-Data.place c.index.result.now
+    (taken_further (data_fault c.in-Data.packet) c.in-Data.packet.id (with_data c.in-Data.packet) c.args.time requests c.end_if_complete.result c.end_if_complete.new.requests.items c.in_ok-place-in-Data.place c.index.result.now
     c.in_ok-now-in-Data.now at c.in_ok-now-in-Data.ensures.taken c.end_if_complete.ensures.left c.end_if_complete.ensures.ended)
 
 pub returns-in_err-place-in-Reply-clause-fault : goal.returns-in_err-place-in-Reply-clause-fault

@@ -3,4 +3,4 @@ use Rattle.std.proofs.Common.{arith}
 use Rattle.chi_watch.proofs.ended.horizon_of.Goals as goal
 
 pub returns-else-looks-clause-starts : goal.returns-else-looks-clause-starts
-returns-else-looks-clause-starts c k p below here whole = omega arith
+returns-else-looks-clause-starts c k p below here = omega arith

@@ -1,4 +1,4 @@
--- none of the first requests that are the granule's starts earlier
+-- none of the first requests that are the granule's was taken earlier
 use Rattle.std.proofs.Common.{◌≤◌, take}
 use Rattle.chi_watch.specs.Requests.{StartsBy}
 use Rattle.chi_watch.proofs.quiet.earliest.Given as goal

@@ -238,6 +238,6 @@ fn refused_data(rt: HostRuntime) -> Result<(), Fail> {
     let left = outstanding.requests().len();
     assert_same(&rt, (found, left), (Some(fault), 1));
     let ended = take(&mut outstanding, 13, data(3, ENABLES))?;
-    assert_load(&rt, ended, (13, 13), Some(Reply::CompData(OLD)));
+    assert_load(&rt, ended, (10, 13), Some(Reply::CompData(OLD)));
     Ok(())
 }

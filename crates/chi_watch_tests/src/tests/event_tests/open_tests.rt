@@ -16,7 +16,7 @@ fn none_is_outstanding(rt: HostRuntime) {
     assert_same(&rt, outstanding.requests().len(), 0);
 }
 
-// With its data a request may have taken effect, at any time from when they came on.
+// With its data a request may have taken effect, at any time from its start on.
 #[test]
 fn open_with_data(rt: HostRuntime) -> Result<(), Fail> {
     let events = [
@@ -29,28 +29,8 @@ fn open_with_data(rt: HostRuntime) -> Result<(), Fail> {
         return Err(Fail::new("there are not two requests"));
     };
     assert_load(&rt, first.operation(), (10, u64::MAX), None);
-    assert_load(&rt, second.operation(), (12, u64::MAX), None);
+    assert_load(&rt, second.operation(), (11, u64::MAX), None);
     assert_same(&rt, first.completion, None);
-    Ok(())
-}
-
-// When the one outstanding request starts, and whether it has its data.
-fn start_of(outstanding: &Outstanding) -> Result<(u64, bool), Fail> {
-    let [request] = outstanding.requests() else {
-        return Err(Fail::new("there is not one request"));
-    };
-    Ok((request.start, request.is_whole))
-}
-
-// It starts when it was taken, and once its data have come later, when they came: those that a home refuses too.
-#[test]
-fn starts_with_its_data(rt: HostRuntime) -> Result<(), Fail> {
-    for be in &[ENABLES, 0x00ff] {
-        let mut outstanding = after(rt.alloc(), &[(11, load_without_data(4))])?;
-        assert_same(&rt, start_of(&outstanding)?, (11, false));
-        take_each(&mut outstanding, &[(20, data(4, *be))])?;
-        assert_same(&rt, start_of(&outstanding)?, (20, true));
-    }
     Ok(())
 }
 

@@ -19,15 +19,15 @@ fn data_with_the_request(rt: HostRuntime) -> Result<(), Fail> {
     Ok(())
 }
 
-// The operation starts when its data have come, and ends when its completion has left too, in either order.
+// The operation ends when both have come, in either order.
 #[test]
 fn data_after_the_request(rt: HostRuntime) -> Result<(), Fail> {
     let (sent, its_data) = (answer(3), data(3, ENABLES));
-    for (first, last, start) in &[(its_data, sent, 20), (sent, its_data, 35)] {
+    for (first, last) in &[(its_data, sent), (sent, its_data)] {
         let mut outstanding = after(rt.alloc(), &[(10, load_without_data(3)), (20, *first)])?;
         let open = outstanding.requests().len();
         let ended = take(&mut outstanding, 35, *last)?;
-        assert_load(&rt, ended, (*start, 35), Some(Reply::CompData(OLD)));
+        assert_load(&rt, ended, (10, 35), Some(Reply::CompData(OLD)));
         assert_same(&rt, (open, outstanding.requests().len()), (1, 0));
     }
     Ok(())
@@ -93,7 +93,7 @@ fn number_taken_again(rt: HostRuntime) -> Result<(), Fail> {
         (45, data(3, ENABLES)),
     ];
     take_each(&mut outstanding, &again)?;
-    assert_answered(&rt, &mut outstanding, (45, 50), 3)
+    assert_answered(&rt, &mut outstanding, (40, 50), 3)
 }
 
 // Other requests stay in the order in which they were taken.

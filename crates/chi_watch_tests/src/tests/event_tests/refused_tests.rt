@@ -137,7 +137,7 @@ fn refused_between_others(rt: HostRuntime) -> Result<(), Fail> {
     ];
     let mut outstanding = after(rt.alloc(), &events)?;
     let ended = take(&mut outstanding, 15, data(4, ENABLES))?;
-    assert_load(&rt, ended, (15, 15), Some(Reply::CompData(OLD)));
+    assert_load(&rt, ended, (12, 15), Some(Reply::CompData(OLD)));
     let ended = take(&mut outstanding, 16, answer(3))?;
     assert_load(&rt, ended, (10, 16), Some(Reply::CompData(OLD)));
     assert_same(&rt, outstanding.requests().len(), 0);

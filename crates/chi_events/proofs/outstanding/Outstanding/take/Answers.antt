@@ -2,6 +2,7 @@
 use Rattle.std.proofs.Common.{◌≤◌, IfSome, All, IsPermutation, [], ◌∷◌, ◌++◌, option_to_list, sym, subst, arith}
 use Rattle.chi_events.specs.Operations.{refusals_told}
 use Rattle.chi_events.specs.Outstanding.{IsEndOf, IsEndOfAbout, OutstandingValue, StaysOrStarts, Tells, refusal_by}
+use Rattle.chi_events.proofs.About.{ends_about}
 use Rattle.chi_events.proofs.OneMore.{tells_more}
 use Rattle.chi_events.proofs.Opens.{stays_more}
 use Rattle.chi_events.proofs.Refusals.{refusals_more}
@@ -12,7 +13,7 @@ invariant_of-self-2 c =
     let e = c.args.event.now in
     let s = c.self.inside in
     let later : s.time ≤ e.time = omega arith in
-    (stays_more s.requests.items s.time e.time c.self.invariant later e.kind c.in_ok-ended.ended c.apply_event.new.requests.items c.in_ok-ended.ensures.taken.0 c.in_ok-ended.ensures.taken.1).are_open
+    (stays_more s.requests.items s.time e.time c.self.invariant later e.kind c.in_ok-ended.ended c.apply_event.new.requests.items c.in_ok-ended.ensures.taken.1).are_open
 
 pub returns-clause-tells : goal.returns-clause-tells
 returns-clause-tells c events before tells =
@@ -29,7 +30,7 @@ returns-clause-ended c =
     let s = c.self.inside in
     let later : s.time ≤ e.time = omega arith in
     subst (λ (o : OutstandingValue). IfSome c.in_ok-ended.ended (IsEndOf o.requests e.time)) c.self.view_is
-    (stays_more s.requests.items s.time e.time c.self.invariant later e.kind c.in_ok-ended.ended c.apply_event.new.requests.items c.in_ok-ended.ensures.taken.0 c.in_ok-ended.ensures.taken.1).ended
+    (stays_more s.requests.items s.time e.time c.self.invariant later e.kind c.in_ok-ended.ended c.apply_event.new.requests.items c.in_ok-ended.ensures.taken.1).ended
 
 pub returns-clause-requests : goal.returns-clause-requests
 returns-clause-requests c =
@@ -37,15 +38,14 @@ returns-clause-requests c =
     let s = c.self.inside in
     let later : s.time ≤ e.time = omega arith in
     subst (λ (o : OutstandingValue). All (StaysOrStarts o.requests e) c.apply_event.new.requests.items) c.self.view_is
-    (stays_more s.requests.items s.time e.time c.self.invariant later e.kind c.in_ok-ended.ended c.apply_event.new.requests.items c.in_ok-ended.ensures.taken.0 c.in_ok-ended.ensures.taken.1).requests
+    (stays_more s.requests.items s.time e.time c.self.invariant later e.kind c.in_ok-ended.ended c.apply_event.new.requests.items c.in_ok-ended.ensures.taken.1).requests
 
 pub returns-clause-about : goal.returns-clause-about
 returns-clause-about c =
     let e = c.args.event.now in
     let s = c.self.inside in
-    let later : s.time ≤ e.time = omega arith in
-    subst (λ (o : OutstandingValue). IfSome c.in_ok-ended.ended (IsEndOfAbout o.requests e)) c.self.view_is
-    (stays_more s.requests.items s.time e.time c.self.invariant later e.kind c.in_ok-ended.ended c.apply_event.new.requests.items c.in_ok-ended.ensures.taken.0 c.in_ok-ended.ensures.taken.1).about
+    subst (λ (o : OutstandingValue). IfSome c.in_ok-ended.ended (IsEndOfAbout o.requests e.kind)) c.self.view_is
+    (ends_about e.time s.requests.items c.apply_event.new.requests.items c.in_ok-ended.ended e.kind c.in_ok-ended.ensures.taken.1)
 
 pub returns-clause-refusals : goal.returns-clause-refusals
 returns-clause-refusals c events before tells =
