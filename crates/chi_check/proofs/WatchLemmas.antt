@@ -1,5 +1,5 @@
 -- what is written of what was found, and what flushing it leaves
-use Rattle.std.proofs.Common.{◌≡◌, ℕ, Bool, true, false, List, [], ◌∷◌, All, Option, None, Some, Result, Ok, Err, IfOk, IfSome, ◌++◌, flat_map, refl, sym, ap, subst, ◌∙◌, append_assoc, append-nil, ◌⊎◌, inl, inr, arith}
+use Rattle.std.proofs.Common.{◌≡◌, ℕ, Bool, true, false, List, [], ◌∷◌, All, Option, None, Some, Result, Ok, Err, IfOk, IfSome, flat_map, refl, sym, ap, subst, ◌∙◌, append-nil, ◌⊎◌, inl, inr, arith}
 use Rattle.std.specs.Io.KnownBytes.{Appends, Keeps}
 use Rattle.std.proofs.lemmas.List.Elements.{All-head}
 use Rattle.chi_script.specs.WriterBytes.{AppendsFront}
@@ -19,6 +19,7 @@ use Rattle.chi_watch_text.specs.declared.watched.Unfinished.{Unfinished}
 use Rattle.chi_watch_text.specs.declared.options.WatchOptions.{WatchOptions}
 use Rattle.chi_watch_text.specs.declared.watched.FoundGranule.{FoundGranule}
 use Rattle.chi_watch_text.specs.declared.watched.Watched.{Watched}
+use Rattle.chi_watch_text.proofs.ToldTexts.{front_then, whole_front}
 use Rattle.chi_judge.specs.declared.standing.Standing.{Standing}
 use Rattle.chi_judge.specs.declared.standing.Standing.TheVariants.{Explained, Unexplained, Undecided}
 use Rattle.chi_check.specs.Check.{KeepsUnanswered}
@@ -38,15 +39,6 @@ appends_kept None mid new text appends keeps = tt
 appends_kept (Some xs) None new text appends keeps = absurd appends
 appends_kept (Some xs) (Some ys) None text appends keeps = absurd keeps
 appends_kept (Some xs) (Some ys) (Some zs) text appends keeps = keeps ∙ appends
-
--- a text, and then a prefix of another
-front_then : (a b c : Option (List ℕ)) (s t : List ℕ) → Appends a b s → AppendsFront b c t → AppendsFront a c (s ++ t)
-front_then a b c s t appends front = record {
-  front = s ++ front.front;
-  rest = front.rest;
-  whole = append_assoc s front.front front.rest ∙ ap (λ l. s ++ l) front.whole;
-  taken = taken_then a b c s front.front appends front.taken;
-}
 
 -- nothing was written of no granule
 kept_none : (a b : Option (List ℕ)) → Appends a b [] → Keeps a b
@@ -159,11 +151,7 @@ spent_at_six looked old new options before after watched (Ok status) (is, append
     by_found (f ∷ found) o all complete is_six = cc
     by_found [] o all complete is_six = by_ending o all complete is_six
 
--- a whole text is a prefix of it
-whole_front : (old new : Option (List ℕ)) (text : List ℕ) → Appends old new text → AppendsFront old new text
-whole_front old new text appends = record { front = text; rest = []; whole = append-nil text; taken = appends }
-
--- and so does the outcome of a task, also where the flush fails
+-- the outcome of a task stays so when its text is flushed, also where the flush fails
 module _ (holds : List ℕ → List ℕ → Type 0) where
   flushed : (task : Task) (remaining old mid new : Option (List ℕ)) (status : ℕ) → IfSome remaining (λ input. TaskOutcome holds task input old mid (Ok status)) → Keeps mid new
       → IfSome remaining (λ input. TaskOutcome holds task input old new (Ok status))

@@ -35,19 +35,19 @@ const VERSION: &str = "0.1.0";
 const ABOUT: &str = "Says whether what was observed at a CHI home node can be explained.";
 
 const MORE: &str =
-    "A trace in FILE or on standard input is a script of chihome whose requests have the members start, end
-and reply too. It may have the member final, the words at the end. Where granules is left out
-the memory is all addresses; where end is left out a request was still open, and where reply
-is null its answer was not seen. The answer on standard output is `explained`, `not explained`
-with where, or `undecided`.
+    "A trace in FILE or on standard input is a script of chihome whose requests have the members
+start, end and reply too. It may have the member final, the words at the end. Where granules is
+left out the memory is all addresses; where end is left out a request was still open, and where
+reply is null its answer was not seen. The answer on standard output is `explained`,
+`not explained` with where, or `undecided`.
 
   $ echo '{\"base\":4096,\"granules\":1,\"requests\":[{\"src\":0,\"txn\":1,\"op\":4,\"size\":3,
     \"addr\":4096,\"endian\":0,\"be\":0,\"lanes\":\"00000000000000000000000000000000\",
     \"start\":10,\"end\":20,\"reply\":\"00000000000000000000000000000000\"}]}' | chicheck explain
   explained
 
-Events in FILE or on standard input are one JSON object a line: requests, their data and their replies, as
-a monitor tells them. `watch` reads them as they come (docs/EVENTS.md).
+Events in FILE or on standard input are one JSON object a line: requests, their data and their
+replies, as a monitor tells them. `watch` reads them as they come (docs/EVENTS.md).
 
 `cover` writes a table of how many operations each bin counted, of a trace or of events on standard
 input, or of all the files that are named (docs/COVERAGE.md).
