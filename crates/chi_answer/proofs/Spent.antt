@@ -1,6 +1,6 @@
 -- the states that were looked at on the way to an answer
 use Rattle.std.proofs.Common.{◌≡◌, ℕ, ◌+◌, ◌≤◌, ◌⊎◌, inl, inr, Result, Ok, Err, IfOk, refl, arith}
-use Rattle.chi_doubt.specs.Doubts.{IsAsFar}
+use Rattle.chi_verdict.specs.Doubts.{IsAsFar}
 use Rattle.chi_search.specs.Looks.{LookedAtLeast, LookedMore, LookedSome}
 use Rattle.chi_search.proofs.Looking.{at_least_after, more_after, some_after}
 use Rattle.chi_trace.specs.Traces.{TraceValue}

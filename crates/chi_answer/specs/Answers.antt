@@ -1,8 +1,8 @@
 -- what is answered of a trace that was read
 use Rattle.std.specs.Prelude.{ℕ, ◌≤◌, List, ◌↔◌}
 use Rattle.std.specs.List.{Contains}
-use Rattle.chi_doubt.specs.Doubts.{IsDoubt}
-use Rattle.chi_doubt.specs.declared.doubt.Doubt.{Doubt}
+use Rattle.chi_verdict.specs.Doubts.{IsDoubt}
+use Rattle.chi_verdict.specs.declared.doubt.Doubt.{Doubt}
 use Rattle.chi_search.specs.Found.{IfWords}
 use Rattle.chi_search.specs.Looks.{LookedMore}
 use Rattle.chi_verdict.specs.Blames.{IsBlame}

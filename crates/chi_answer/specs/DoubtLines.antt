@@ -1,6 +1,6 @@
 -- the lines of a granule that was not decided
 use Rattle.std.specs.Prelude.{ℕ, List, [], ◌++◌, codes, decimal, Option, None, Some}
-use Rattle.chi_doubt.specs.declared.doubt.Doubt.{Doubt}
+use Rattle.chi_verdict.specs.declared.doubt.Doubt.{Doubt}
 use Rattle.chi_answer.specs.Lines.{undecided_line}
 
 -- a time up to which its operations are explained

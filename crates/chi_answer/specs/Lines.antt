@@ -1,12 +1,10 @@
 -- the lines of an answer
 use Rattle.std.specs.Prelude.{ℕ, ◌-◌, ◌*◌, ◌^◌, ◌%◌, ◌==◌, nat_lt, if◌then◌else◌, List, [], ◌++◌, codes, decimal, flat_map, length, take, Option, None, Some}
 use Rattle.chi_lanes.specs.declared.reply.Reply.{Reply}
-use Rattle.chi_trace.specs.Explains.{at}
 use Rattle.chi_trace.specs.Fields.{request_in}
 use Rattle.chi_trace.specs.declared.operation.Operation.{Operation}
 use Rattle.chi_script.specs.Transcript.{reply_text, request_text}
 use Rattle.chi_text.specs.Part.{address_text, word_text}
-use Rattle.chi_reading.specs.TraceText.{RecordedValue}
 
 -- what was answered, where it was seen
 abbrev pub seen_text : Option Reply → List ℕ

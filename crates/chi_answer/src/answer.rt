@@ -1,14 +1,13 @@
 //! What is answered of a trace.
 
 ghost use Rattle.std.specs.Prelude.{◌≡◌, ℕ, IfOk};
-ghost use Rattle.chi_doubt.specs.Doubts.{IsAsFar};
+ghost use Rattle.chi_verdict.specs.Doubts.{IsAsFar};
 ghost use Rattle.chi_search.specs.Looks.{LookedMore};
 ghost use Rattle.chi_answer.specs.Answers.{IfUndecided, IsAnswer, IsUnexplained, IsUnexplainedIn, LookedForAnswer};
 
-use chi_doubt::{Doubt, doubt_of};
 use chi_reading::Recorded;
 use chi_search::{Progress, Words};
-use chi_verdict::{Blame, First, Verdict, explain, first_unexplained, words_held};
+use chi_verdict::{Blame, Doubt, First, Verdict, doubt_of, explain, first_unexplained, words_held};
 use std::alloc::{AllocError, Global};
 
 /// What is answered of a trace.

@@ -4,9 +4,9 @@ ghost use Rattle.std.specs.Prelude.{◌≡◌, ◌++◌, OnOk};
 ghost use Rattle.chi_answer.specs.DoubtLines.{doubt_text, explained_to_line, found_line, most_open_line};
 
 use crate::lines::add_undecided;
-use chi_doubt::Doubt;
 use chi_text::Part::{Number, Text};
 use chi_text::add_parts;
+use chi_verdict::Doubt;
 use std::alloc::AllocError;
 
 /// The line of a time up to which the granule's operations are explained.

@@ -1,4 +1,5 @@
 pub mod Answered
+pub mod AsFar
 pub mod Before
 pub mod Changed
 pub mod Checked

@@ -1,5 +1,5 @@
 -- what the operations that were told say of a granule of a trace, and up to which times they are explained
-use Rattle.std.proofs.Common.{◌≡◌, ℕ, ◌+◌, ◌-◌, ◌<◌, ◌≤◌, ◌==◌, ◌&&◌, nat_le, Bool, true, false, List, [], ◌∷◌, ◌++◌, All, ◌↔◌, filter, get_or, length, take, append-nil, refl, sym, ap, subst, ◌∙◌, ⊎_elim, arith, true≢false, ltb-true}
+use Rattle.std.proofs.Common.{◌≡◌, ℕ, ◌+◌, ◌-◌, ◌<◌, ◌≤◌, ◌==◌, ◌&&◌, nat_le, Bool, true, false, List, [], ◌∷◌, ◌++◌, All, ◌↔◌, filter, length, take, append-nil, refl, sym, ap, subst, ◌∙◌, ⊎_elim, arith, true≢false, ltb-true}
 use Rattle.std.specs.Prelude.{IsPermutation}
 use Rattle.std.specs.List.{Contains}
 use Rattle.std.proofs.lemmas.Bool.{and_from, and_parts, cases_lt, le-leb, lt-leb}
@@ -16,8 +16,8 @@ use Rattle.chi_search.specs.Frontiers.{Follows, FrontierValue}
 use Rattle.chi_search.specs.Layers.{SomeLeads}
 use Rattle.chi_trace.proofs.Later.{later_explains, none_needed}
 use Rattle.chi_judge.specs.Reaches.{CanLeave, IsExplained, IsJudgeOf, is_open_at}
-use Rattle.chi_judge.specs.Judges.{EndedBefore, EndedWithin, GoesNowhere, GoesOn, Keeps, JudgeValue}
-use Rattle.chi_judge.specs.Searches.{AreSeen, AreWordsBy, IsSeen, IsUnexplained, is_during}
+use Rattle.chi_judge.specs.Judges.{EndedBefore, GoesNowhere, GoesOn, Keeps, JudgeValue}
+use Rattle.chi_judge.specs.Searches.{AreSeen, AreWordsBy, IsSeen, is_during}
 use Rattle.chi_judge.proofs.Cutting.{EndedBy, cut_whole}
 use Rattle.chi_judge.proofs.Keeping.{cut_kept, late_after}
 use Rattle.chi_judge.proofs.Leading.{explained_from, leads_from, leaves_from, leaves_some, moved_cut}
@@ -94,6 +94,12 @@ module _ (law : GranulesStandAlone) (trace : List Operation) (g w : ℕ) (r : Ju
   all_parts : (P : Operation → Type 0) → All P k.earlier → All P ops → All P k.later → All P is.told
   all_parts P first middle last = subst (All P) (sym k.parts) (All-append P k.earlier (ops ++ k.later) first (All-append P ops k.later middle last))
 
+  -- up to the time before those that are kept some order explains them
+  pub explained_since : (time : ℕ) → time + 1 ≡ r.since → IsExplained time trace g w
+  explained_since time next =
+      let led = k.explained time next in
+      explained_from time trace g w led.0 (leaves_from law (cut time trace) (cut time is.told) g w led.0 (moved_cut time g trace is.told is.moved) led.1)
+
   -- none is answered between two times
   goes_on : (early late : ℕ) → early ≤ late → IsSeen r early → IsSeen r late → All (λ op. is_answered op ≡ true → early < op.end → late < op.end) ops
       → IsExplained early trace g w → IsExplained late trace g w
@@ -125,11 +131,9 @@ module _ (law : GranulesStandAlone) (trace : List Operation) (g w : ℕ) (r : Ju
       some_before : 0 < r.since → IsExplained time trace g w
       some_before some =
           let before = r.since - 1 in
-          let led = k.explained before (omega (arith, some)) in
           goes_on before time (omega (arith, seen.since)) (record { since = omega (arith, some); before = λ stopped. omega (arith, some, seen.since, seen.before stopped) }) seen
           (All-weaker (λ (op : Operation). is_answered op ≡ true → time < op.end) (λ (op : Operation). is_answered op ≡ true → before < op.end → time < op.end) (λ op n answered after. n answered) ops none)
-          (explained_from before trace g w led.0
-          (leaves_from law (cut before trace) (cut before is.told) g w led.0 (moved_cut before g trace is.told is.moved) led.1))
+          (explained_since before (omega (arith, some)))
 
   -- no order explains them up to the end of the last of some, where none does up to a later time and no other ends by then
   last_of : (late : ℕ) → IsSeen r late → (IsExplained late trace g w → ⊥) → (count : ℕ) → count ≤ length ops

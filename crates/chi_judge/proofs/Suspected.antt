@@ -1,5 +1,5 @@
 -- operations of a granule whose answer may be the one that is wrong
-use Rattle.std.proofs.Common.{◌≡◌, ℕ, ◌+◌, ◌<◌, ◌≤◌, ◌⊎◌, true, None, Option, Some, List, [], ◌∷◌, ◌++◌, All, IfSome, filter, inl, inr, length, map, slice_get, take, refl, sym, ap, subst, ◌∙◌, arith}
+use Rattle.std.proofs.Common.{◌≡◌, ℕ, ◌+◌, ◌<◌, ◌≤◌, ◌⊎◌, true, None, Option, Some, List, [], ◌∷◌, All, IfSome, filter, inl, inr, length, slice_get, take, refl, sym, ap, subst, ◌∙◌, arith}
 use Rattle.std.specs.Prelude.{IsPermutation}
 use Rattle.std.specs.List.{Contains}
 use Rattle.std.proofs.lemmas.List.{take_more}

@@ -1,3 +1,4 @@
+pub mod Explained
 pub mod Judges
 pub mod Shown
 pub mod Legal

@@ -63,6 +63,7 @@ impl Judge {
     pub fn new(alloc: Global, word: u64, shown: usize) -> Result<Judge, AllocError>
         ensures keeps { IfOk result (λ judge. Keeps (word ∷ []) [] 0 judge) }
         ensures untold { IfOk result (λ judge. (judge.horizon ≡ 0) × (judge.latest ≡ 0)) }
+        ensures goes_on { IfOk result (λ judge. judge.is_stopped ≡ false) }
         ensures shown { IfOk result (λ judge. judge.shown ≡ shown) }
     {
         Ok(Judge {
@@ -92,6 +93,7 @@ impl Judge {
         ensures keeps { IfOk result (λ is. IsTrue is → (words : List ℕ) (told : List Operation) (now : ℕ) → now ≤ op.now.end → Keeps words told now self.old → Keeps words (told ++ op.now ∷ []) op.now.end self.new) }
         ensures horizon { IfOk result (λ _. self.new.horizon ≡ self.old.horizon) }
         ensures latest { IfOk result (λ is. IsTrue is → self.new.latest ≤ op.now.end) }
+        ensures stopped { IfOk result (λ _. self.new.is_stopped ≡ self.old.is_stopped) }
         ensures refused { IfOk result (λ is. is ≡ false → self.new ≡ self.old) }
         ensures shown { IfOk result (λ _. self.new.shown ≡ self.old.shown) }
     {

@@ -2,6 +2,7 @@
 #![tactic(auto)]
 
 mod ahead;
+mod explained;
 mod forgetting;
 mod judge;
 mod legal;
@@ -13,6 +14,7 @@ mod shown;
 mod standing;
 mod suspects;
 mod told;
+mod up_to_time;
 
 pub use judge::Judge;
 pub use reach::{Reach, Stop};

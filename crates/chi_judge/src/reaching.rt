@@ -16,7 +16,7 @@ use crate::forgetting::ended_before;
 use crate::judge::Judge;
 use crate::legal::legal_replies;
 use crate::reach::{Reach, Stop};
-use crate::search::{order_after, order_by, words_after, words_by};
+use crate::search::{order_after, words_after, words_by};
 use crate::shown::{answered_at, before_at, open_at};
 use crate::suspects::suspects_at;
 use chi_search::{Found, Progress, Words};
@@ -62,86 +62,6 @@ impl Judge {
         let mut left = budget;
         let words = words_after(alloc, &self.before, ops, &mut left, progress)?;
         Ok(Reach::Whole(words))
-    }
-
-    /// Whether they are seen not to be explained up to a time, within so many states.
-    fn is_unexplained<P: Progress>(
-        &self,
-        alloc: Global,
-        ops: &[Operation],
-        time: u64,
-        budget: u64,
-        progress: &mut P,
-    ) -> Result<bool, AllocError>
-        requires kept { ops.now ≡ self.now.kept }
-        ensures unexplained { IfOk result (λ is. IsTrue is → (trace : List Operation) (g w : ℕ) → IsJudgeOf trace g w self.now → IsSeen self.now time → IsExplained time trace g w → ⊥) }
-        ensures explained { IfOk result (λ is. is ≡ false → (trace : List Operation) (g w : ℕ) → IsJudgeOf trace g w self.now → IsSeen self.now time → IsExplained time trace g w ⊎ LookedAtLeast P.looked progress.old progress.new budget) }
-        ensures looked { IfOk result (λ _. LookedSome P.looked progress.old progress.new) }
-    {
-        granules_stand_alone();
-        match order_by(alloc, &self.before, ops, time, budget, progress)? {
-            Found::Nothing => Ok(true),
-            Found::Order(_) => Ok(false),
-            Found::Undecided => Ok(false),
-        }
-    }
-
-    /// Of the first so many, up to the end of the last of which they are not explained, one up to whose end they are not: the
-    /// first, where the searches before it come to an end within so many states each.
-    fn first_place<P: Progress>(
-        &self,
-        alloc: Global,
-        ops: &[Operation],
-        count: usize,
-        budget: u64,
-        progress: &mut P,
-    ) -> Result<usize, AllocError>
-        requires kept { ops.now ≡ self.now.kept }
-        requires some { 0 < count }
-        requires within { count ≤ length ops.now }
-        requires seen { AreSeen self.now ops.now count }
-        requires last { IsUnexplained self.now (at ops.now (count - 1)).end }
-        ensures within { IfOk result (λ place. place < count) }
-        ensures unexplained { IfOk result (λ place. IsUnexplained self.now (at ops.now place).end) }
-        ensures first { IfOk result (λ place. (trace : List Operation) (g w : ℕ) → IsJudgeOf trace g w self.now → ((i : ℕ) → i + 1 ≡ place → IsExplained (at ops.now i).end trace g w) ⊎ LookedAtLeast P.looked progress.old progress.new budget) }
-        ensures looked { IfOk result (λ _. LookedSome P.looked progress.old progress.new) }
-    {
-        let mut low = 0;
-        let mut high = count - 1;
-        while low < high {
-            let middle = low + (high - low) / 2;
-            if self.is_unexplained(alloc, ops, ops[middle].end, budget, progress)? {
-                high = middle;
-            } else {
-                low = middle + 1;
-            }
-        }
-        Ok(high)
-    }
-
-    /// Whether they are seen to be explained up to the time before, or there is no such time.
-    fn is_explained_before<P: Progress>(
-        &self,
-        alloc: Global,
-        ops: &[Operation],
-        time: u64,
-        budget: u64,
-        progress: &mut P,
-    ) -> Result<bool, AllocError>
-        requires kept { ops.now ≡ self.now.kept }
-        ensures explained { IfOk result (λ is. IsTrue is → (earlier : ℕ) → earlier + 1 ≡ time → (trace : List Operation) (g w : ℕ) → IsJudgeOf trace g w self.now → IsSeen self.now earlier → IsExplained earlier trace g w) }
-        ensures other { IfOk result (λ is. is ≡ false → (trace : List Operation) (g w : ℕ) → IsJudgeOf trace g w self.now → ((earlier : ℕ) × (earlier + 1 ≡ time) × (IsSeen self.now earlier → IsExplained earlier trace g w → ⊥)) ⊎ LookedAtLeast P.looked progress.old progress.new budget) }
-        ensures looked { IfOk result (λ _. LookedSome P.looked progress.old progress.new) }
-    {
-        granules_stand_alone();
-        if time == 0 {
-            return Ok(true);
-        }
-        match order_by(alloc, &self.before, ops, time - 1, budget, progress)? {
-            Found::Order(_) => Ok(true),
-            Found::Nothing => Ok(false),
-            Found::Undecided => Ok(false),
-        }
     }
 
     /// The words that they can leave up to the time before, where there is one.
@@ -230,7 +150,7 @@ impl Judge {
         if count == 0 {
             return Ok(Reach::Undecided);
         }
-        let place = self.first_place(alloc, ops, count, budget, progress)?;
+        let place = self.first_place(alloc, ops, count - 1, true, budget, progress)?;
         self.stop_at(alloc, ops, place, budget, progress)
     }
 

@@ -1,6 +1,6 @@
 //! The judge of a granule of a trace.
 
-ghost use Rattle.std.specs.Prelude.{◌≡◌, IfOk};
+ghost use Rattle.std.specs.Prelude.{◌≡◌, false, IfOk};
 ghost use Rattle.chi_trace.specs.Explains.{IsTrace};
 ghost use Rattle.chi_judge.specs.Reaches.{IsJudgeOf};
 
@@ -24,6 +24,7 @@ impl Judge {
     ) -> Result<Judge, AllocError>
         requires traced { IsTrace ops.now }
         ensures judge { IfOk result (IsJudgeOf ops.now granule word) }
+        ensures goes_on { IfOk result (λ judge. judge.is_stopped ≡ false) }
         ensures shown { IfOk result (λ judge. judge.shown ≡ shown) }
     {
         let mut own = operations_of(alloc, ops, granule)?;

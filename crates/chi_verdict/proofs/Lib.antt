@@ -1,6 +1,7 @@
 mod Added
 mod Ahead
 mod Blamed
+mod Counting
 mod Filling
 pub mod FirstPlaces
 mod Gained

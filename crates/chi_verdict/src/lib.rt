@@ -1,14 +1,18 @@
-//! Whether a whole trace is explained: by which order, or in which granule and from which time on it is not. Source: profile.
+//! Whether a whole trace is explained: by which order, or in which granule and from which time on it is not; and what is said of a
+//! granule that was not decided. Source: profile.
 #![tactic(auto)]
 
+mod doubt;
 mod first;
 mod granule;
 mod grouping;
 mod held;
 mod merge_orders;
 mod next_granule;
+mod open;
 mod verdict;
 
+pub use doubt::{Doubt, doubt_of};
 pub use first::{Blame, First, first_unexplained};
 pub use granule::explain_granule;
 pub use held::words_held;

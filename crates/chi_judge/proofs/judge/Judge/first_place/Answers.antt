@@ -1,10 +1,10 @@
--- a middle end up to which they cannot be explained is the next high one, and one up to which they can stands before the next low one
-use Rattle.std.proofs.Common.{◌≡◌, ℕ, ◌+◌, ◌-◌, ◌/◌, ◌<◌, ◌⊎◌, List, get_or, length, inl, inr, sym, ap, subst, ⊎_elim, arith}
+-- a middle end up to which they are explained stands before the next low one, and one up to which they are not is the next high one
+use Rattle.std.proofs.Common.{◌≡◌, ℕ, ◌+◌, ◌-◌, ◌/◌, ◌<◌, ◌⊎◌, IsTrue, List, get_or, length, inl, inr, sym, ap, subst, ⊎_elim, arith}
 use Rattle.std.proofs.lemmas.List.{get_or_default}
 use Rattle.chi_trace.specs.Explains.{at, nothing}
 use Rattle.chi_trace.specs.declared.operation.Operation.{Operation}
 use Rattle.chi_search.proofs.Looking.{at_least_after, at_least_before, some_after}
-use Rattle.chi_search.specs.Looks.{LookedAtLeast}
+use Rattle.chi_search.specs.Looks.{LookedAtLeast, LookedSome}
 use Rattle.chi_judge.specs.Reaches.{IsExplained, IsJudgeOf}
 use Rattle.chi_judge.specs.Judges.{JudgeValue}
 use Rattle.chi_judge.specs.Searches.{AreSeen, IsSeen}
@@ -21,48 +21,67 @@ read_seen : (r : JudgeValue) (ops : List Operation) (count i : ℕ) (read : Oper
 read_seen r ops count i read kept seen first below trace n w is =
     subst (IsSeen r) (read_end ops i read below) (place_seen r ops count i kept seen first below trace n w is)
 
+-- what was said before more states were looked at, or after them
+module _ {P A B : Type 0} (looked : P → ℕ → Type 0) (old middle new : P) (budget : ℕ) where
+  said_before : A ⊎ (B × LookedAtLeast looked old middle budget) → LookedSome looked middle new → A ⊎ (B × LookedAtLeast looked old new budget)
+  said_before (inl is) more = inl is
+  said_before (inr (so, least)) more = inr (so, at_least_before looked old middle new budget least more)
+
+  said_after : LookedSome looked old middle → A ⊎ (B × LookedAtLeast looked middle new budget) → A ⊎ (B × LookedAtLeast looked old new budget)
+  said_after more (inl is) = inl is
+  said_after more (inr (so, least)) = inr (so, at_least_after looked old middle new budget more least)
+
 pub loop-low-preserved-then-branch : goal.loop-low-preserved-then-branch
 loop-low-preserved-then-branch g c =
-    let middle = c.loop-low.low + (c.loop-low.high - c.loop-low.low) / 2 in
-    let first : middle < c.args.count = omega arith in
-    let below : middle < length c.args.ops.now = omega arith in
-    record {
-      order = omega arith;
-      within = first;
-      unexplained = λ trace n w is explained.
-          c.in_ok-is_unexplained.ensures.unexplained c.if-branch.true trace n w is
-          (read_seen c.args.self.now c.args.ops.now c.args.count middle c.index-ops-middle.result c.requires.kept c.requires.seen first below trace n w is)
-          (subst (λ (end : ℕ). IsExplained end trace n w) (read_end c.args.ops.now middle c.index-ops-middle.result below) explained);
-      first = λ trace n w is. ⊎_elim
-          (λ explained. inl explained)
-          (λ least. inr (at_least_before g.P.Progress.looked c.args.progress.now c.loop-low.progress c.is_unexplained.new.progress c.args.budget least c.in_ok-is_unexplained.ensures.looked))
-          (c.loop-low.invariant.first trace n w is);
-      looked = some_after g.P.Progress.looked c.args.progress.now c.loop-low.progress c.is_unexplained.new.progress c.loop-low.invariant.looked c.in_ok-is_unexplained.ensures.looked;
-    }
-
-pub loop-low-preserved : goal.loop-low-preserved
-loop-low-preserved g c =
+    let looked = g.P.Progress.looked in
+    let old = c.args.progress.now in
     let ops = c.args.ops.now in
     let middle = c.loop-low.low + (c.loop-low.high - c.loop-low.low) / 2 in
-    let first : middle < c.args.count = omega arith in
-    let below : middle < length ops = omega arith in
+    let bound = c.loop-low.invariant.within in
+    let first : middle < c.args.count = omega (arith, bound) in
+    let below : middle < length ops = omega (arith, bound) in
     record {
       order = omega arith;
       within = c.loop-low.invariant.within;
-      unexplained = c.loop-low.invariant.unexplained;
-      first = λ trace n w is. ⊎_elim
+      explained = λ trace n w is. said_after looked old c.loop-low.progress c.is_explained.new.progress c.args.budget c.loop-low.invariant.looked
+          (⊎_elim
           (λ explained. inl (λ i next.
           let place : middle ≡ i = omega (arith, next) in
           subst (λ (j : ℕ). IsExplained (at ops j).end trace n w) place
           (subst (λ (end : ℕ). IsExplained end trace n w) (sym (read_end ops middle c.index-ops-middle.result below)) explained)))
-          (λ least. inr (at_least_after g.P.Progress.looked c.args.progress.now c.loop-low.progress c.is_unexplained.new.progress c.args.budget c.loop-low.invariant.looked least))
-          (c.in_ok-is_unexplained.ensures.explained c.if-branch.false trace n w is
-          (read_seen c.args.self.now ops c.args.count middle c.index-ops-middle.result c.requires.kept c.requires.seen first below trace n w is));
-      looked = some_after g.P.Progress.looked c.args.progress.now c.loop-low.progress c.is_unexplained.new.progress c.loop-low.invariant.looked c.in_ok-is_unexplained.ensures.looked;
+          inr
+          (c.in_ok-is_explained.ensures.explained c.if-branch.true trace n w is
+          (read_seen c.args.self.now ops c.args.count middle c.index-ops-middle.result c.requires.kept c.requires.seen first below trace n w is)));
+      unexplained = λ trace n w is under. said_before looked old c.loop-low.progress c.is_explained.new.progress c.args.budget (c.loop-low.invariant.unexplained trace n w is under)
+          c.in_ok-is_explained.ensures.looked;
+      looked = some_after looked old c.loop-low.progress c.is_explained.new.progress c.loop-low.invariant.looked c.in_ok-is_explained.ensures.looked;
     }
 
-pub returns-clause-first : goal.returns-clause-first
-returns-clause-first g c trace n w is =
+pub loop-low-preserved : goal.loop-low-preserved
+loop-low-preserved g c =
+    let looked = g.P.Progress.looked in
+    let old = c.args.progress.now in
+    let ops = c.args.ops.now in
+    let middle = c.loop-low.low + (c.loop-low.high - c.loop-low.low) / 2 in
+    let bound = c.loop-low.invariant.within in
+    let first : middle < c.args.count = omega (arith, bound) in
+    let below : middle < length ops = omega (arith, bound) in
+    record {
+      order = omega arith;
+      within = omega (arith, bound);
+      explained = λ trace n w is. said_before looked old c.loop-low.progress c.is_explained.new.progress c.args.budget (c.loop-low.invariant.explained trace n w is)
+          c.in_ok-is_explained.ensures.looked;
+      unexplained = λ trace n w is under. said_after looked old c.loop-low.progress c.is_explained.new.progress c.args.budget c.loop-low.invariant.looked
+          (⊎_elim
+          (λ none. inl (λ explained. none (subst (λ (end : ℕ). IsExplained end trace n w) (read_end ops middle c.index-ops-middle.result below) explained)))
+          inr
+          (c.in_ok-is_explained.ensures.unexplained c.if-branch.false trace n w is
+          (read_seen c.args.self.now ops c.args.count middle c.index-ops-middle.result c.requires.kept c.requires.seen first below trace n w is)));
+      looked = some_after looked old c.loop-low.progress c.is_explained.new.progress c.loop-low.invariant.looked c.in_ok-is_explained.ensures.looked;
+    }
+
+pub returns-clause-explained : goal.returns-clause-explained
+returns-clause-explained g c trace n w is =
     let same : c.loop-low.low ≡ c.loop-low.high = omega arith in
-    subst (λ (place : ℕ). ((i : ℕ) → i + 1 ≡ place → IsExplained (at c.args.ops.now i).end trace n w) ⊎ LookedAtLeast g.P.Progress.looked c.args.progress.now c.loop-low.progress c.args.budget) same
-    (c.loop-low.invariant.first trace n w is)
+    subst (λ (place : ℕ). ((i : ℕ) → i + 1 ≡ place → IsExplained (at c.args.ops.now i).end trace n w) ⊎ (IsTrue c.args.undecided × LookedAtLeast g.P.Progress.looked c.args.progress.now c.loop-low.progress c.args.budget)) same
+    (c.loop-low.invariant.explained trace n w is)

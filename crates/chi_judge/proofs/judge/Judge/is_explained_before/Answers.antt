@@ -1,67 +1,23 @@
--- with an order some order explains them up to the time before, and where the search goes nowhere none does
-use Rattle.std.proofs.Common.{◌≡◌, ◌⊎◌, ℕ, ◌+◌, ◌-◌, Bool, false, IfOk, IsTrue, List, inl, inr, sym, ap, subst, arith, true≢false}
-use Rattle.std.specs.Prelude.{All}
-use Rattle.chi_search.specs.declared.order.Found.{Found}
-use Rattle.chi_search.specs.Found.{IfNothing, IfOrder, IfUndecided}
-use Rattle.chi_search.specs.Frontiers.{FrontierValue, MayBeTold}
-use Rattle.chi_search.specs.Looks.{LookedAtLeast, LookedMore}
-use Rattle.chi_trace.specs.Cuts.{cut}
-use Rattle.chi_trace.specs.declared.operation.Operation.{Operation}
-use Rattle.chi_judge.specs.Judges.{GoesNowhere, GoesOn, LiesWithin, JudgeValue}
-use Rattle.chi_judge.specs.Reaches.{IsExplained, IsJudgeOf}
+-- the time before is one less
+use Rattle.std.proofs.Common.{◌≡◌, ℕ, ◌-◌, inl, inr, sym, subst, ⊎_elim, arith, true≢false}
+use Rattle.std.proofs.lemmas.Result.{IfOk-weaker}
+use Rattle.chi_judge.specs.Reaches.{IsExplained}
 use Rattle.chi_judge.specs.Searches.{IsSeen}
-use Rattle.chi_judge.proofs.Reached.{explained_by, unexplained_by}
 use Rattle.chi_judge.proofs.judge.Judge.is_explained_before.Goals as goal
-use Rattle.chi_judge.proofs.judge.Judge.is_explained_before.Goals.{in-Nothing, in-Order, in-Undecided}
-
--- what is said where they are seen to be explained, and where they are not seen to be so
-abbrev Explained : JudgeValue → ℕ → Bool → Type 0
-Explained r time is = IsTrue is → (earlier : ℕ) → earlier + 1 ≡ time → (trace : List Operation) (n w : ℕ) → IsJudgeOf trace n w r → IsSeen r earlier → IsExplained earlier trace n w
-
-abbrev Other : JudgeValue → ℕ → Type 0 → Bool → Type 0
-Other r time looked is =
-    is ≡ false → (trace : List Operation) (n w : ℕ) → IsJudgeOf trace n w r → ((earlier : ℕ) × (earlier + 1 ≡ time) × (IsSeen r earlier → IsExplained earlier trace n w → ⊥)) ⊎ looked
 
 pub returns-clause-explained : goal.returns-clause-explained
-returns-clause-explained g c =
-    let r = c.args.self.now in
-    let P = Explained r c.args.time in
-    elim c.match-branch-2.branch [
-      | in-Order m ↦
-          let on = subst (λ (f : Found). IfOrder f (λ order. GoesOn c.self.inside.before (cut (c.args.time - 1) c.args.ops.now))) m.in-Order.is c.in_ok-order_by.ensures.order in
-          subst (λ (o : _). IfOk o P) (sym m.result-is)
-          (λ so earlier next trace n w is seen.
-          let same : c.args.time - 1 ≡ earlier = omega (arith, next) in
-          explained_by c.granules_stand_alone.ensures trace n w r is earlier seen
-          (subst (λ (t : ℕ). GoesOn r.before (cut t r.kept)) same
-          (subst (λ (f : FrontierValue). GoesOn f (cut (c.args.time - 1) r.kept)) (ap (λ (v : JudgeValue). v.before) c.self.view_is)
-          (subst (λ (ops : List Operation). GoesOn c.self.inside.before (cut (c.args.time - 1) ops)) c.requires.kept on))))
-      | in-Nothing m ↦ subst (λ (o : _). IfOk o P) (sym m.result-is) (λ so. absurd (true≢false (sym so)))
-      | in-Undecided m ↦ subst (λ (o : _). IfOk o P) (sym m.result-is) (λ so. absurd (true≢false (sym so)))
-    ]
+returns-clause-explained g c = IfOk-weaker c.is_explained.result _ _
+    (λ is said so earlier next trace n w judged seen.
+    let same : c.args.time - 1 ≡ earlier = omega (arith, next) in
+    ⊎_elim (λ explained. subst (λ (t : ℕ). IsExplained t trace n w) same explained) (λ spent. absurd (true≢false (sym spent.0)))
+    (said so trace n w judged (subst (IsSeen c.args.self.now) (sym same) seen)))
+    c.is_explained.ensures.explained
 
 pub returns-clause-other : goal.returns-clause-other
-returns-clause-other g c =
-    let r = c.args.self.now in
-    let more = LookedMore g.P.Progress.looked c.args.progress.now c.order_by.new.progress c.args.budget in
-    let P = Other r c.args.time (LookedAtLeast g.P.Progress.looked c.args.progress.now c.order_by.new.progress c.args.budget) in
-    elim c.match-branch-2.branch [
-      | in-Order m ↦ subst (λ (o : _). IfOk o P) (sym m.result-is) (λ so. absurd (true≢false so))
-      | in-Nothing m ↦
-          let none = subst (λ (f : Found). IfNothing f (GoesNowhere c.self.inside.before (cut (c.args.time - 1) c.args.ops.now))) m.in-Nothing.is c.in_ok-order_by.ensures.nothing in
-          subst (λ (o : _). IfOk o P) (sym m.result-is)
-          (λ so trace n w is. inl (
-            c.args.time - 1,
-            omega arith,
-            λ seen. unexplained_by c.granules_stand_alone.ensures trace n w r is (c.args.time - 1) seen
-                (subst (λ (f : FrontierValue). GoesNowhere f (cut (c.args.time - 1) r.kept)) (ap (λ (v : JudgeValue). v.before) c.self.view_is)
-                (subst (λ (ops : List Operation). GoesNowhere c.self.inside.before (cut (c.args.time - 1) ops)) c.requires.kept none)),
-          ))
-      | in-Undecided m ↦
-          let said = subst (λ (f : Found). IfUndecided f (MayBeTold c.self.inside.before c.args.ops.now → All LiesWithin c.args.ops.now → more)) m.in-Undecided.is c.in_ok-order_by.ensures.undecided in
-          subst (λ (o : _). IfOk o P) (sym m.result-is)
-          (λ so trace n w is.
-          let next = subst (λ (ops : List Operation). MayBeTold r.before ops) (sym c.requires.kept) is.keeps.next in
-          let within = subst (All LiesWithin) (sym c.requires.kept) is.keeps.within in
-          inr (c.args.budget, omega arith, said (subst (λ (f : FrontierValue). MayBeTold f c.args.ops.now) (sym (ap (λ (v : JudgeValue). v.before) c.self.view_is)) next) within))
-    ]
+returns-clause-other g c = IfOk-weaker c.is_explained.result _ _
+    (λ is said so trace n w judged. (
+      c.args.time - 1,
+      omega arith,
+      λ seen. ⊎_elim inl (λ spent. inr spent.1) (said so trace n w judged seen),
+    ))
+    c.is_explained.ensures.unexplained

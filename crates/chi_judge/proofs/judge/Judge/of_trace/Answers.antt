@@ -21,6 +21,7 @@ loop-op-init c = record {
   keeps = (0, c.in_ok-judge.ensures.keeps, λ i from below. omega arith);
   horizon = c.in_ok-judge.ensures.untold.0;
   latest = λ i from below. let none = c.in_ok-judge.ensures.untold.1 in omega (arith, none);
+  goes_on = c.in_ok-judge.ensures.goes_on;
   shown = c.in_ok-judge.ensures.shown;
 }
 
@@ -53,6 +54,7 @@ loop-op-preserved c =
           let by = c.in_ok-add.ensures.latest taken in
           let order : op.end ≤ (at items j).end = subst (λ (o : Operation). o.end ≤ (at items j).end) (sym is) (by_end i j (omega (arith, from)) inside) in
           omega (arith, by, order);
+      goes_on = c.in_ok-add.ensures.stopped ∙ c.loop-op.invariant.goes_on;
       shown = c.in_ok-add.ensures.shown ∙ c.loop-op.invariant.shown;
     }
 

@@ -26,8 +26,8 @@ pub returns-then-not-branch-clause-undecided : goal.returns-then-not-branch-clau
 returns-then-not-branch-clause-undecided g c trace n w is first =
     let v = c.args.self.now in
     let stop = stops_at c.granules_stand_alone.ensures v c.args.ops.now v.kept c.args.place c.index-ops-place.result c.requires.kept refl c.requires.within c.requires.seen c.requires.unexplained trace n w is in
-    ⊎_elim (λ none. absurd (none.2 (stop.seen none.0 none.1) (stop.before first none.0 none.1))) (λ least. least)
-    (c.in_ok-is_explained_before.ensures.other c.if-not-branch.true trace n w is)
+    let said = c.in_ok-is_explained_before.ensures.other c.if-not-branch.true trace n w is in
+    ⊎_elim (λ none. absurd (none (stop.before first said.0 said.1))) (λ least. least) (said.2 (stop.seen said.0 said.1))
 
 pub returns-in_default-clause-undecided : goal.returns-in_default-clause-undecided
 returns-in_default-clause-undecided g c trace n w is first =

@@ -1,3 +1,0 @@
-mod Answering
-mod Counting
-pub mod Granule

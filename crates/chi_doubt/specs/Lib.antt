@@ -1,3 +1,0 @@
-pub mod Doubts
-pub mod Explained
-pub mod Open
