@@ -75,13 +75,13 @@ pub all_read : (start now later : Option (List ℕ)) (count number : ℕ) (ended
 all_read None now later count number ended ops refusals o has end order = tt
 all_read (Some text) None later count number ended ops refusals o has end order = absurd has
 all_read (Some text) (Some rest) later count number ended ops refusals o has end order =
-    (has.events, count, subst (AreTold text count has.events) end has.told, order has.events has.tells)
+    (has.events, count, (rest, has.told, end), order has.events has.tells)
 
 pub all_refused : (start now later : Option (List ℕ)) (count number : ℕ) (ended : List Operation) (refusals : List Refusal) (o : OutstandingValue) → HasRead start count ended refusals o now
     → IfSome now (λ text. IsRead number text None later) → IfSome start (λ text. AreRefusals text refusals)
 all_refused None now later count number ended refusals o has end = tt
 all_refused (Some text) None later count number ended refusals o has end = absurd has
-all_refused (Some text) (Some rest) later count number ended refusals o has end = (has.events, count, subst (AreTold text count has.events) end has.told, has.refused)
+all_refused (Some text) (Some rest) later count number ended refusals o has end = (has.events, count, (rest, has.told, end), has.refused)
 
 -- a line tells no event
 pub line_refused : (start now : Option (List ℕ)) (count number : ℕ) (ended : List Operation) (refusals : List Refusal) (o : OutstandingValue) (f : LinesFault) → HasRead start count ended refusals o now

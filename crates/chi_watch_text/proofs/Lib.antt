@@ -1,4 +1,5 @@
 pub mod AllRead
+pub mod Blank
 pub mod KnownWords
 pub mod Recordings
 pub mod Refused

@@ -112,7 +112,7 @@ pub all_recorded : (start now later : Option (List ℕ)) (count line : ℕ) (rec
     → ((events : List Event) → HasRecorded events recording → IsToldTrace events r) → IfSome start (λ text. IsRecorded text r)
 all_recorded None now later count line recording r has end is = tt
 all_recorded (Some text) None later count line recording r has end is = absurd has
-all_recorded (Some text) (Some rest) later count line recording r (events, told, has) end is = (events, count, subst (AreTold text count events) end told, is events has)
+all_recorded (Some text) (Some rest) later count line recording r (events, told, has) end is = (events, count, (rest, told, end), is events has)
 
 -- a watch took them
 pub taken_lines : (start now : Option (List ℕ)) (count : ℕ) (r : Recording) → HasRecordedLines start count r now → TookLines start count r.watch now

@@ -1,5 +1,4 @@
 -- one line more
-use Rattle.std.specs.Prelude.{if◌then◌else◌}
 use Rattle.std.proofs.Common.{◌≡◌, ◌≢◌, ℕ, ◌≤◌, filter, get_or, not, ◌==◌, ◌||◌, ◌⊎◌, ◌+◌, ◌<◌, List, [], ◌∷◌, ◌++◌, All, Option, None, Some, IfErr, IfSome, inl, inr, Ok, Err, Result, IsErrAnd, Bool, true, false, true≢false, eq-eqb, length, length-append, refl, sym, ap, subst, ◌∙◌, arith}
 use Rattle.std.specs.List.{AllPairs, Contains, last_or}
 use Rattle.std.specs.Option.{option_map_or}
@@ -146,20 +145,7 @@ module _ {P : Type 0} (w : WatchValue) (looked : P → ℕ → Type 0) where
           (All-contains (λ x. IsUnreached looked old middle budget x.reach) before f all here)
       by_side f (inr is) = unreached_wider old middle new last budget f.reach some rest is
 
--- a text whose next line is empty is at its end
-pub none_left : (now later : Option (List ℕ)) (line : List ℕ) → line ≡ [] → IfSome now (λ text. (line ≡ take_through 10 text) × (later ≡ Some (drop_through 10 text))) → IfSome now (λ text. text ≡ [])
-none_left None later line none is = tt
-none_left (Some []) later line none is = refl
-none_left (Some (b ∷ rest)) later line none (same, left) = absurd (omega (arith, is_long b rest, ap length (sym same ∙ none)))
-  where
-    is_long : (b : ℕ) (rest : List ℕ) → 0 < length (take_through 10 (b ∷ rest))
-    is_long b rest = by_test (b == 10) (take_through 10 rest)
-      where
-        by_test : (t : Bool) (more : List ℕ) → 0 < length (if t then b ∷ [] else b ∷ more)
-        by_test true more = omega arith
-        by_test false more = omega arith
-
--- and of those that became quiet one is put in its place
+-- of those that became quiet one is put in its place
 quiet_noted : (P : Quiet → Type 0) (seen : Option ℕ) (line : ℕ) (quiet : List Quiet) → All P quiet → IfSome seen (λ g. P (record { granule = g; line = line })) → All P (with_quiet seen line quiet)
 quiet_noted P None line quiet all one = all
 quiet_noted P (Some g) line quiet all one =
@@ -273,11 +259,11 @@ at_end (Some text) None later count number time ended found quiet going w watche
 at_end (Some text) (Some rest) later count number time ended found quiet going w watched has read once first told some says = record {
   events = has.events;
   count = count;
-  rest = [];
-  told = subst (AreTold text count has.events) read has.told;
+  rest = rest;
+  told = has.told;
   found = subst (All (IsFoundBy text)) (sym told.found_is) has.found_by;
   once = subst (AllPairs (λ (x y : FoundGranule). x.granule ≢ y.granule)) (sym told.found_is) once;
-  ends = subst (λ l. EndsAt going count [] has.events l watched.ending) (sym told.found_is) (by_ending watched.ending some says);
+  ends = subst (λ l. EndsAt going count rest has.events l watched.ending) (sym told.found_is) (by_ending watched.ending some says);
   counted = told.counted has.events has.taken;
   watch = w;
   taken = has.taken;
@@ -286,9 +272,9 @@ at_end (Some text) (Some rest) later count number time ended found quiet going w
   ended_is = told.ended_is ∙ has.ended_is;
 }
   where
-    by_ending : (o : Option Ending) → o ≢ None → IfSome o (SaysAtEnd w) → EndsAt going count [] has.events found o
+    by_ending : (o : Option Ending) → o ≢ None → IfSome o (SaysAtEnd w) → EndsAt going count rest has.events found o
     by_ending None is_some said = absurd (is_some refl)
-    by_ending (Some ending) is_some said = (refl, says_of w has.events has.taken ending said, first)
+    by_ending (Some ending) is_some said = (read, says_of w has.events has.taken ending said, first)
 
 -- what is said of the text where it stops
 pub at_stop : (start now later : Option (List ℕ)) (count number time : ℕ) (ended : Bool) (found : List FoundGranule) (quiet : List Quiet) (going is_past : Bool) (w : WatchValue) (next : Option Event) (watched : Watched)

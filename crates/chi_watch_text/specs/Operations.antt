@@ -1,5 +1,5 @@
 -- what comes of events that are read line by line as a trace
-use Rattle.std.specs.Prelude.{◌≡◌, ℕ, ◌+◌, List, [], Some, Ok, Err, IsPermutation}
+use Rattle.std.specs.Prelude.{◌≡◌, ℕ, ◌+◌, List, Some, Ok, Err, IsPermutation}
 use Rattle.std.specs.Io.BufRead.{take_through}
 use Rattle.chi_fields.specs.declared.refusal.Refusal.{Refusal}
 use Rattle.chi_trace.specs.declared.operation.Operation.{Operation}
@@ -11,7 +11,7 @@ use Rattle.chi_reading.specs.EventText.{event_text}
 use Rattle.chi_reading.specs.declared.fault.LineFault.{LineFault}
 use Rattle.chi_watch.specs.declared.fault.WatchFault.{WatchFault}
 use Rattle.chi_watch.specs.declared.fault.WatchFault.TheVariants as watch_fault
-use Rattle.chi_watch_text.specs.Lines.{AreTold}
+use Rattle.chi_watch_text.specs.Lines.{AreTold, AreToldAll}
 use Rattle.chi_watch_text.specs.declared.fault.LinesFault.{LinesFault}
 use Rattle.chi_watch_text.specs.declared.fault.LinesFault.TheVariants as fault
 
@@ -22,11 +22,11 @@ pub record AreInOrder (events : List Event) (ops : List Operation) : Type 0 wher
 
 -- all lines of the text tell events, and these are their operations
 abbrev pub AreOperations : List ℕ → List Operation → Type 0
-AreOperations text ops = (events : List Event) × (count : ℕ) × AreTold text count events [] × AreInOrder events ops
+AreOperations text ops = (events : List Event) × (count : ℕ) × AreToldAll text count events × AreInOrder events ops
 
 -- all lines of the text tell events, and these are the reasons for which requests were refused, in some order
 abbrev pub AreRefusals : List ℕ → List Refusal → Type 0
-AreRefusals text refusals = (events : List Event) × (count : ℕ) × AreTold text count events [] × IsPermutation (refusals_told events) refusals
+AreRefusals text refusals = (events : List Event) × (count : ℕ) × AreToldAll text count events × IsPermutation (refusals_told events) refusals
 
 -- the line with this number is the first that tells no event, for this reason
 abbrev pub IsNoEvent : List ℕ → ℕ → LineFault → Type 0

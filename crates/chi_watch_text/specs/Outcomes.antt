@@ -16,7 +16,7 @@ use Rattle.chi_watch.specs.Reaching.{IsFoundAtEnd, IsReach, granules_of}
 use Rattle.chi_watch.specs.Watches.{HasTaken, IsUnexplained, WatchValue, fault_of}
 use Rattle.chi_watch.specs.declared.ending.Ending.{Ending}
 use Rattle.chi_watch_text.specs.FoundGranule.{is_found}
-use Rattle.chi_watch_text.specs.Lines.{AreTold}
+use Rattle.chi_watch_text.specs.Lines.{AreTold, is_blank}
 use Rattle.chi_watch_text.specs.declared.fault.LinesFault.{LinesFault}
 use Rattle.chi_watch_text.specs.declared.fault.LinesFault.TheVariants as fault
 use Rattle.chi_watch_text.specs.declared.quiet.Quiet.{Quiet}
@@ -49,9 +49,9 @@ pub record IsSeenBy (text : List ℕ) (g line : ℕ) : Type 0 where
 abbrev pub IsQuietBy : List ℕ → Quiet → Type 0
 IsQuietBy text q = IsSeenBy text q.granule q.line
 
--- all events of the last time are told by so many lines: nothing follows, or the next line tells one of a later time
+-- all events of the last time are told by so many lines: no other follows, or the next line tells one of a later time
 abbrev pub IsPast : ℕ → List Event → List ℕ → Type 0
-IsPast count events rest = (rest ≡ []) ⊎ ((e : Event) × (event_text (count + 1) (take_through 10 rest) ≡ Ok e) × All (λ d. d.time < e.time) events)
+IsPast count events rest = (is_blank rest ≡ true) ⊎ ((e : Event) × (event_text (count + 1) (take_through 10 rest) ≡ Ok e) × All (λ d. d.time < e.time) events)
 
 -- No order explains the granule by the lines up to the one that is named, and none does once all events of that time are told. By
 -- these its operations can be explained so far.
@@ -99,7 +99,7 @@ pub record SaysOf (events : List Event) (ending : Ending) : Type 0 where
 -- where the reading ends after so many lines: at the end of the text, or, where it does not keep going, once all events are told of
 -- a time at which a granule was found
 abbrev pub EndsAt : Bool → ℕ → List ℕ → List Event → List FoundGranule → Option Ending → Type 0
-EndsAt going count rest events found (Some ending) = (rest ≡ []) × SaysOf events ending × (going ≡ false → found ≡ [])
+EndsAt going count rest events found (Some ending) = (is_blank rest ≡ true) × SaysOf events ending × (going ≡ false → found ≡ [])
 EndsAt going count rest events found None = (going ≡ false) × (0 < length found) × IsPast count events rest
 
 -- What is found of a text: of so many lines, which tell events that a watch takes.

@@ -8,7 +8,7 @@ use Rattle.chi_trace.specs.declared.words.GranuleWord.{GranuleWord}
 use Rattle.chi_trace.specs.Words.{find_word}
 use Rattle.chi_watch.specs.Judged.{final_of, final_words, judged, openings}
 use Rattle.chi_watch.specs.Watches.{Watches}
-use Rattle.chi_watch_text.specs.Lines.{AreTold}
+use Rattle.chi_watch_text.specs.Lines.{AreToldAll}
 use Rattle.chi_watch_text.specs.declared.recorded.Recording.{Recording}
 
 -- This is the trace that events tell: of all addresses, with the operations of the granules of which all is told, by their starts, the
@@ -22,7 +22,7 @@ pub record IsToldTrace (events : List Event) (r : RecordedValue) : Type 0 where
 
 -- all lines of the text tell events that a watch takes, and this is their trace
 abbrev pub IsRecorded : List ℕ → RecordedValue → Type 0
-IsRecorded text r = (events : List Event) × (count : ℕ) × AreTold text count events [] × IsToldTrace events r
+IsRecorded text r = (events : List Event) × (count : ℕ) × AreToldAll text count events × IsToldTrace events r
 
 -- the words that are noted are the first that are told of each granule
 abbrev pub HasWords : List GranuleWord → (ℕ → Option ℕ) → Type 0

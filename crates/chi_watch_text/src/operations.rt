@@ -82,7 +82,8 @@ pub(crate) fn in_order(
 /// refused, or whose data never came, is no operation; one that was outstanding at the end is open, unless a home of all
 /// addresses refuses it. Words are read, and nothing is said of them.
 ///
-/// The last line needs no line feed. Operations that start at the same time stand in some order.
+/// The last line needs no line feed, and blank ones after it tell nothing. Operations that start at the same time stand in some
+/// order.
 ///
 /// ```
 /// let ops = read_operations(alloc, &mut reader)?.operations;

@@ -166,7 +166,8 @@ impl Recording {
 /// have written, each with the number of the line that told its request; the words at the opening; and those that were told of
 /// these granules at the end. Requests that were refused are left out.
 ///
-/// A line is refused where `watch_lines` refuses it, and for the same reason. The last line needs no line feed.
+/// A line is refused where `watch_lines` refuses it, and for the same reason. The last line needs no line feed, and blank ones
+/// after it tell nothing.
 ///
 /// ```
 /// let recorded = read_events(alloc, &mut reader)?;

@@ -171,7 +171,7 @@ fn watch_each<R: BufRead, W: Write, P: WatchProgress>(
 ///
 /// A granule is judged when its last outstanding request has gone, and looked at now and then where it is never quiet. As another
 /// request may be told of the same time, it is found once the next event is later, or the text has ended. A line is read when it
-/// is there. The last line needs no line feed.
+/// is there. The last line needs no line feed, and blank ones after it tell nothing.
 ///
 /// Each granule is told to `to` as soon as it is found, and in place of how far the watch is. After a fault nothing else is said of
 /// the events.

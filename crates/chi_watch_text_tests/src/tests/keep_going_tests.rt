@@ -31,8 +31,8 @@ fn each_granule_at_its_first_line(rt: HostRuntime) -> Result<(), Fail> {
 #[test]
 fn a_fault_after_a_granule(rt: HostRuntime) -> Result<(), Fail> {
     for (texts, lines, count) in &[
-        ([WRITE, READ, ZERO, "\n\n"].as_slice(), 5, 0),
-        (&[WRITE, READ, ZERO, "\n", LAST, "\n"], 6, 1),
+        ([WRITE, READ, ZERO, "\n{\n"].as_slice(), 5, 0),
+        (&[WRITE, READ, ZERO, "\n", LAST, "{\n"], 6, 1),
     ] {
         let (number, found) = match watched(rt.alloc(), texts, &GOING) {
             Ok(_) => (0, 0),

@@ -66,7 +66,7 @@ fn a_write_of_the_same_time(rt: HostRuntime) -> Result<(), Fail> {
 fn faults_and_their_texts(rt: HostRuntime) -> Result<(), Fail> {
     for (texts, fault, text) in &[
         (
-            [WRITE, "\n"],
+            [WRITE, "{\n"],
             LinesFault::Line {
                 number: 3,
                 fault: LineFault::Object(ObjectFault::NotJson),

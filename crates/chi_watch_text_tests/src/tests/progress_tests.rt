@@ -42,7 +42,7 @@ fn the_last_event(rt: HostRuntime) -> Result<(), Fail> {
         ([WRITE, READ, ""], 3, 1, 1, 3, 0),
         ([WRITE, READ, FIVE], 4, 2, 0, 4, 0),
         ([WRITE, READ, ZERO], 4, 2, 0, 4, 1),
-        ([WRITE, READ, "\n"], 3, 1, 1, 3, 0),
+        ([WRITE, READ, "{\n"], 3, 1, 1, 3, 0),
     ] {
         let text = joined(rt.alloc(), texts)?;
         let mut from = text.as_slice();

@@ -1,5 +1,5 @@
 -- line after line is taken
-use Rattle.std.proofs.Common.{◌≡◌, ℕ, Bool, ◌-◌, ◌++◌, ◌∷◌, [], All, IfErr, IfOk, IfSome, flat_map, List, Option, Result, length, ap, subst, sym, arith}
+use Rattle.std.proofs.Common.{◌≡◌, ℕ, Bool, ◌-◌, ◌++◌, ◌∷◌, [], All, IfErr, IfSome, flat_map, List, Option, Result, length, ap, subst, sym, arith}
 use Rattle.std.specs.Io.KnownBytes.{Appends}
 use Rattle.std.proofs.lemmas.List.Elements.{All-nil}
 use Rattle.chi_script.specs.WriterBytes.{AppendsFront}
