@@ -10,9 +10,10 @@ use Rattle.chi_json.specs.declared.member.MemberFault.TheVariants as member_faul
 use Rattle.chi_json.specs.declared.fault.ObjectFault.TheVariants.{NotObject, UnknownMember}
 use Rattle.chi_json.specs.Members.{◌>>=◌, member_by, number_of, or_else}
 use Rattle.chi_json.specs.Unknown.{unknown_in}
-use Rattle.chi_json.specs.Values.{hex_bytes, json_value}
+use Rattle.chi_json.specs.Values.{hex_bytes}
 use Rattle.chi_reading.specs.declared.member.Member.{Member}
 use Rattle.chi_reading.specs.declared.member.Member.TheVariants as name
+use Rattle.chi_reading.specs.Mark.{line_value}
 use Rattle.chi_reading.specs.Member.{member_name, request_members}
 use Rattle.chi_reading.specs.declared.fault.LineFault.{LineFault}
 use Rattle.chi_reading.specs.declared.fault.LineFault.TheVariants.{Object, OfTrace}
@@ -142,6 +143,6 @@ object_event number d members = do
 -- the event of the line with a number, which is an object and none of a trace
 unfoldable pub event_text : ℕ → List ℕ → Result Event LineFault
 event_text number text = do
-  d ← ok_or (json_value text) (unread_line number text)
+  d ← ok_or (line_value number text) (unread_line number text)
   members ← ok_or (as_object d) (Object NotObject)
   if is_of_trace d then Err OfTrace else object_event number d members

@@ -1,5 +1,6 @@
 pub mod EventText
 pub mod Faults
+pub mod Mark
 pub mod Member
 pub mod OtherKind
 pub mod Refused

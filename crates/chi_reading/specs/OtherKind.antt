@@ -4,8 +4,8 @@ use Rattle.std.specs.List.{starts_with}
 use Rattle.std.specs.Option.{option_map_or}
 use Rattle.serde_json.specs.Data.{Data}
 use Rattle.serde_json.specs.Find.{get}
-use Rattle.chi_json.specs.Values.{json_value}
 use Rattle.chi_json.specs.declared.fault.ObjectFault.TheVariants.{NotJson}
+use Rattle.chi_reading.specs.Mark.{text_value, without_mark}
 use Rattle.chi_reading.specs.Member.{member_name}
 use Rattle.chi_reading.specs.declared.member.Member.TheVariants as member
 use Rattle.chi_reading.specs.declared.fault.LineFault.{LineFault}
@@ -39,7 +39,7 @@ unread_first text = if begins_object text then line_fault.NotWhole else if is_co
 
 -- the same of the line with this number
 abbrev pub unread_line : ℕ → List ℕ → LineFault
-unread_line number text = if number == 1 then unread_first text else line_fault.Object NotJson
+unread_line number text = if number == 1 then unread_first (without_mark text) else line_fault.Object NotJson
 
 -- the first line of a text, without its line feed: up to where that is, or all of it where it has none
 abbrev pub up_to : Option ℕ → List ℕ → List ℕ
@@ -51,7 +51,7 @@ first_line text = up_to (position (λ b. b == 10) text) text
 
 -- a text whose first line is an object that names an event
 abbrev pub begins_events : List ℕ → Bool
-begins_events text = option_map_or is_of_event (json_value (first_line text)) false
+begins_events text = option_map_or is_of_event (text_value (first_line text)) false
 
 -- why a text that has no value is no trace
 abbrev pub unread_text : List ℕ → TraceFault

@@ -7,12 +7,12 @@ use Rattle.chi_fields.specs.Extent.{Extent, region_of}
 use Rattle.chi_fields.specs.declared.refusal.Refusal.{Refusal}
 use Rattle.chi_json.specs.Members.{◌>>=◌, member_by, number_of, opening_words, or_else, stated_words}
 use Rattle.chi_json.specs.Unknown.{unknown_in}
-use Rattle.chi_json.specs.Values.{json_value}
 use Rattle.chi_trace.specs.AtPlaces.{is_in}
 use Rattle.chi_trace.specs.declared.words.GranuleWord.{GranuleWord}
 use Rattle.chi_trace.specs.Traces.{TraceValue, trace_at}
 use Rattle.chi_trace.specs.Words.{find_word}
 use Rattle.chi_reading.specs.declared.member.Member.TheVariants as member
+use Rattle.chi_reading.specs.Mark.{text_value}
 use Rattle.chi_reading.specs.Member.{member_name, trace_members}
 use Rattle.chi_reading.specs.declared.recorded.Memory.{Memory}
 use Rattle.chi_reading.specs.declared.fault.TraceFault.{TraceFault}
@@ -72,7 +72,7 @@ object_text d members = do
 -- the trace that a text is, or the first fault
 unfoldable pub trace_text : List ℕ → Result TextValue TraceFault
 trace_text text = do
-  d ← ok_or (json_value text) (unread_text text)
+  d ← ok_or (text_value text) (unread_text text)
   members ← ok_or (as_object d) (Object NotObject)
   if is_of_event d then Err OfEvents else object_text d members
 

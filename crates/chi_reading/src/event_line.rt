@@ -9,10 +9,11 @@ ghost use Rattle.chi_reading.specs.EventText.{event_text, kind_of, object_event}
 use crate::fault::LineFault;
 use crate::line_kind::LineKind;
 use crate::line_members::told;
+use crate::mark::line_value;
 use crate::member::Member;
 use crate::other_kind::{is_of_trace, unread_line};
 use chi_events::Event;
-use chi_json::{MemberFault, ObjectFault, json, number, stated, unknown_member};
+use chi_json::{MemberFault, ObjectFault, number, stated, unknown_member};
 use serde_json::{Map, Value};
 use std::alloc::Global;
 
@@ -46,7 +47,7 @@ fn object_event(
 /// The event that a line tells, or the line's first fault. `number_of_line` says which line it is; a request has it as its
 /// number.
 ///
-/// The line is a JSON object in UTF-8. Its member `event` names what is told, and `time` is a whole number below 2^64, as
+/// The line is a JSON object in UTF-8, before which line 1 may have the mark that says so, the bytes ef, bb and bf. Its member `event` names what is told, and `time` is a whole number below 2^64, as
 /// `id` and `addr` are. The members beside these are, by the kind of event:
 ///
 /// - `request`: `id`, and the fields of a request as a trace has them: `src` and `txn`, 0 to 65,535; `op`, 0 to 255; `size`,
@@ -77,7 +78,7 @@ pub fn read_event(alloc: Global, number_of_line: u64, line: &[u8]) -> Result<Eve
     ensures ok { IfOk result (λ event. event_text number_of_line line.now ≡ Ok event) }
     ensures fault { IfErr result (λ fault. fault ≢ LineFault.Memory → event_text number_of_line line.now ≡ Err fault) }
 {
-    let Some(object) = json(alloc, line)? else {
+    let Some(object) = line_value(alloc, number_of_line, line)? else {
         return Err(unread_line(number_of_line, line));
     };
     match object.as_object() {

@@ -7,6 +7,7 @@ mod fault;
 mod fields;
 mod line_kind;
 mod line_members;
+mod mark;
 mod member;
 mod other_kind;
 mod recorded;

@@ -5,8 +5,9 @@ ghost use Rattle.serde_json.specs.View.{view};
 ghost use Rattle.chi_reading.specs.OtherKind.{begins_events, begins_object, first_line, is_blank, is_compressed, is_of_event, is_of_trace, unread_first, unread_line, unread_text};
 
 use crate::fault::{LineFault, TraceFault};
+use crate::mark::{text_value, without_mark};
 use crate::member::Member;
-use chi_json::{ObjectFault, json};
+use chi_json::ObjectFault;
 use serde_json::Value;
 use std::alloc::{AllocError, Global};
 
@@ -73,7 +74,7 @@ pub(crate) fn unread_line(number_of_line: u64, line: &[u8]) -> LineFault
     ensures { result ≡ unread_line number_of_line line.now }
 {
     if number_of_line == 1 {
-        unread_first(line)
+        unread_first(without_mark(line))
     } else {
         LineFault::Object(ObjectFault::NotJson)
     }
@@ -101,7 +102,7 @@ fn first_line(text: &[u8]) -> &[u8]
 fn begins_events(alloc: Global, text: &[u8]) -> Result<bool, AllocError>
     ensures { IfOk result (λ is. is ≡ begins_events text.now) }
 {
-    match json(alloc, first_line(text))? {
+    match text_value(alloc, first_line(text))? {
         Some(value) => Ok(is_of_event(&value)),
         None => Ok(false),
     }

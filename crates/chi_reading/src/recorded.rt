@@ -5,12 +5,13 @@ ghost use Rattle.serde_json.specs.View.{members_view, view};
 ghost use Rattle.chi_reading.specs.TraceText.{IsMemoryOf, IsOf, MemoryText, TextValue, cut_at, memory_text, object_text, region_memory, trace_text, wide_memory};
 
 use crate::fault::TraceFault;
+use crate::mark::text_value;
 use crate::member::{Member, TRACE};
 use crate::other_kind::{is_of_event, unread_text};
 use crate::requests::{Found, all_completed};
 use crate::told::{region_words, stated_list};
 use chi_fields::{Refusal, Region};
-use chi_json::{ObjectFault, json, number, opening_words, stated, stated_words, unknown_member};
+use chi_json::{ObjectFault, number, opening_words, stated, stated_words, unknown_member};
 use chi_trace::{GranuleWords, Trace};
 use serde_json::{Map, Value};
 use std::alloc::{AllocError, Global};
@@ -216,7 +217,7 @@ fn object_trace(
 
 /// The trace that a text is, or its first fault.
 ///
-/// The text is a JSON object in UTF-8. With `base` and `granules`, and perhaps `image` and `final`, its memory is a region, as
+/// The text is a JSON object in UTF-8, before which the mark that says so may stand, the bytes ef, bb and bf. With `base` and `granules`, and perhaps `image` and `final`, its memory is a region, as
 /// that of a script. Where `granules` is left out the memory is all addresses below 2^52, and `image` and
 /// `final` are lists of objects with `addr`, a multiple of 8, and `bytes`, the eight bytes of that granule as 16 hex digits in
 /// address order; no granule is told twice.
@@ -243,7 +244,7 @@ pub fn read_trace(alloc: Global, text: &[u8]) -> Result<Recorded, TraceFault>
     ensures ok { IfOk result (λ r. (t : TextValue) × (trace_text text.now ≡ Ok t) × IsOf t r) }
     ensures fault { IfErr result (λ f. f ≢ TraceFault.Memory → trace_text text.now ≡ Err f) }
 {
-    let Some(value) = json(alloc, text)? else {
+    let Some(value) = text_value(alloc, text)? else {
         return Err(unread_text(alloc, text)?);
     };
     match value.as_object() {

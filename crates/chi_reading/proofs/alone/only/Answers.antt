@@ -1,5 +1,5 @@
 -- one word stands in order, and is the one that is told
-use Rattle.std.proofs.Common.{◌<◌, [], subst, sym}
+use Rattle.std.proofs.Common.{◌<◌, subst, sym}
 use Rattle.std.proofs.lemmas.List.Elements.{All-nil}
 use Rattle.chi_trace.specs.declared.words.GranuleWord.{GranuleWord}
 use Rattle.chi_trace.specs.Words.{AreInOrder}
