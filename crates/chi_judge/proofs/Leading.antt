@@ -21,7 +21,7 @@ known_in g time op = by_test (nat_le op.end time)
     by_test false = refl
 
 -- a cut of the granule's operations
-cut_filter : (time g : ℕ) (ops : List Operation) → filter (is_in g) (cut time ops) ≡ cut time (filter (is_in g) ops)
+pub cut_filter : (time g : ℕ) (ops : List Operation) → filter (is_in g) (cut time ops) ≡ cut time (filter (is_in g) ops)
 cut_filter time g [] = refl
 cut_filter time g (op ∷ ops) = by_tests (has_started time op) (is_in g op) refl (known_in g time op) (cut_filter time g ops)
   where
@@ -41,11 +41,14 @@ cut_filter time g (op ∷ ops) = by_tests (has_started time op) (is_in g op) ref
         rest ∙ ap (λ (c : Bool). map (operation_at time) (cond c (op ∷ filter (has_started time) own) (filter (has_started time) own))) (sym started)
     by_tests false false started is rest = rest
 
+-- a cut of operations in another order
+pub cut_moved : (time : ℕ) (a b : List Operation) → IsPermutation a b → IsPermutation (cut time a) (cut time b)
+cut_moved time a b moved =
+    IsPermutation-map (operation_at time) (filter (has_started time) a) (filter (has_started time) b) (IsPermutation-filter (has_started time) a b moved)
+
 pub moved_cut : (time g : ℕ) (trace told : List Operation) → IsPermutation (filter (is_in g) trace) told → IsPermutation (filter (is_in g) (cut time trace)) (cut time told)
 moved_cut time g trace told moved =
-    subst (λ (l : List Operation). IsPermutation l (cut time told)) (sym (cut_filter time g trace))
-    (IsPermutation-map (operation_at time) (filter (has_started time) (filter (is_in g) trace)) (filter (has_started time) told)
-    (IsPermutation-filter (has_started time) (filter (is_in g) trace) told moved))
+    subst (λ (l : List Operation). IsPermutation l (cut time told)) (sym (cut_filter time g trace)) (cut_moved time (filter (is_in g) trace) told moved)
 
 -- an order of the granule leads to the word that it leaves, and the other way round
 pub leads_from : GranulesStandAlone → (trace ops : List Operation) (g w v : ℕ) → IsPermutation (filter (is_in g) trace) ops → CanLeave trace g w v → SomeLeads ops (w ∷ []) v

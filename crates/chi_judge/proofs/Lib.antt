@@ -3,6 +3,7 @@ pub mod AsFar
 pub mod Before
 pub mod Changed
 pub mod Checked
+pub mod CutShort
 pub mod Cutting
 pub mod Earlier
 pub mod Found
@@ -15,3 +16,4 @@ pub mod Reached
 pub mod Replaced
 pub mod Stopping
 pub mod Suspected
+pub mod UntilLists

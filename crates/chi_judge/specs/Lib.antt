@@ -5,3 +5,4 @@ pub mod Legal
 pub mod Reaches
 pub mod Searches
 pub mod Standings
+pub mod Until

@@ -14,8 +14,10 @@ mod shown;
 mod standing;
 mod suspects;
 mod told;
+mod until;
 mod up_to_time;
 
 pub use judge::Judge;
 pub use reach::{Reach, Stop};
 pub use standing::Standing;
+pub use until::happened_until;
