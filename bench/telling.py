@@ -42,7 +42,7 @@ class Told:
     def __init__(self):
         self.open, self.ended, self.line = {}, [], 0
         self.openings, self.finals = {}, {}
-        self.granules, self.unknown = set(), set()
+        self.granules, self.unknown = set(), {}
 
     def take(self, event):
         """Takes an event. Answers the granule whose last outstanding request went by it, if one's did."""
@@ -90,18 +90,24 @@ class Told:
         self.granules.add(event["addr"])
 
     def take_unknown(self, event):
+        """From this time on the granules may have been written by what is not told: the first such time counts."""
         first, last = event["addr"] // 8, (event["addr"] + event["length"] - 1) // 8
-        self.unknown |= {8 * it for it in range(first, last + 1)}
-        self.granules |= self.unknown
+        self.unknown = {8 * it: event["time"] for it in range(first, last + 1)} | self.unknown
+        self.granules |= self.unknown.keys()
 
     def operations(self):
         """The operations that have ended, and those that are open, of which the data are told."""
         return self.ended + [Operation(it["request"], it["start"], MOST, None, it["line"]) for it in self.open.values() if it["has_data"]]
 
+    def judged(self):
+        """The operations as far as they had happened before what is not told may have written to their granules."""
+        all_told = [(it, self.unknown.get(granule_of(it.request), MOST + 1)) for it in self.operations()]
+        return [it if it.end < time else it._replace(reply=None) for it, time in all_told if it.start < time]
+
     def of_granule(self, granule):
-        """The granule's word at the opening, its operations, and its word at the end, where one was told."""
-        operations = [it for it in self.operations() if granule_of(it.request) == granule]
-        return self.openings.get(granule, bytes(8)), operations, self.finals.get(granule)
+        """The granule's word at the opening, what is judged of its operations, and its word at the end, where one was told and is judged."""
+        operations = [it for it in self.judged() if granule_of(it.request) == granule]
+        return self.openings.get(granule, bytes(8)), operations, None if granule in self.unknown else self.finals.get(granule)
 
     def is_explained(self, granule):
         return is_explained(*self.of_granule(granule))
@@ -118,16 +124,16 @@ class Told:
         ]
 
     def trace(self, only=None):
-        """The operations of the granules that are judged, or of one of them, as a trace of all addresses."""
-        left_out = self.unknown if only is None else self.granules - {only}
+        """What is judged of the granules, or of one of them, as a trace of all addresses."""
+        left_out = set() if only is None else self.granules - {only}
         requests = []
-        for it in sorted(self.operations(), key=lambda it: it.number):
+        for it in sorted(self.judged(), key=lambda it: it.number):
             if granule_of(it.request) not in left_out:
                 end = {} if it.end == MOST and it.reply is None else {"end": it.end}
                 requests.append({**it.request, "start": it.start, **end, "reply": it.reply})
         image, final = [
             [{"addr": granule, "bytes": word.hex()} for granule, word in words.items() if granule not in left_out]
-            for words in (self.openings, self.finals)
+            for words in (self.openings, {it: word for it, word in self.finals.items() if it not in self.unknown})
         ]
         return {"image": image, "final": final, "requests": requests}
 
@@ -157,7 +163,7 @@ class Watched:
         if self.places and not keeps_going:
             return
         for granule in sorted(self.told.granules):
-            if self.is_new(granule) and not self.told.is_explained(granule):
+            if granule not in self.places and not self.told.is_explained(granule):
                 self.find(granule, None)
 
     def find(self, granule, line):
@@ -174,7 +180,7 @@ class Watched:
         self.quiet = {}
 
     def is_new(self, granule):
-        """Whether the granule is judged, and was not found before."""
+        """Whether all that wrote to the granule is told, and it was not found before."""
         return granule is not None and granule not in self.told.unknown and granule not in self.places
 
     def answer(self):

@@ -126,7 +126,7 @@ def is_same_verdict(found, unexplained):
 
 
 def unexplained_as_a_whole(told):
-    return [it for it in told.granules - told.unknown if not told.is_explained(it)]
+    return [it for it in told.granules if not told.is_explained(it)]
 
 
 def disagreements(events):
@@ -154,7 +154,7 @@ def disagreements(events):
     unexplained = unexplained_as_a_whole(told)
     for words, text in [("explain", json.dumps(told.trace())), ("explain --events", lines_of(events))]:
         answer = run(words, text)
-        if not is_same_verdict(answer, unexplained) or set(unexplained) != watched.places.keys() - told.unknown:
+        if not is_same_verdict(answer, unexplained) or set(unexplained) != watched.places.keys():
             found.append((words, answer, unexplained))
     return found
 

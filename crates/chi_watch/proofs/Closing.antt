@@ -1,18 +1,20 @@
 -- what a watch knows once an operation has ended
-use Rattle.std.proofs.Common.{◌≡◌, ℕ, ◌/◌, ◌≤◌, ◌==◌, ◌⊎◌, Bool, true, false, List, [], ◌∷◌, ◌++◌, All, Option, Some, None, IfSome, IsTrue, is_some, filter, cond, inl, inr, refl, sym, ap, subst, ◌∙◌, arith, append-nil, eqb-true, eq-eqb, true≢false}
+use Rattle.std.proofs.Common.{◌≡◌, ℕ, ◌/◌, ◌≤◌, ◌==◌, ◌⊎◌, Bool, true, false, List, [], ◌∷◌, ◌++◌, All, Option, Some, None, IfSome, IsTrue, is_some, filter, cond, inl, inr, refl, sym, ap, ap₂, subst, ◌∙◌, arith, append-nil, eqb-true, eq-eqb, true≢false}
 use Rattle.std.specs.Prelude.{option_to_list}
 use Rattle.std.proofs.lemmas.List.Elements.{All-contains, All-weaker, filter-append}
 use Rattle.chi_events.specs.declared.event.Event.{Event}
 use Rattle.chi_events.specs.declared.outstanding.Open.{Open}
 use Rattle.chi_events.specs.Outstanding.{IsEndOf, OutstandingValue, StaysOrStarts}
 use Rattle.chi_judge.specs.Judges.{Keeps}
+use Rattle.chi_judge.specs.Until.{until}
 use Rattle.chi_judge.proofs.Keeping.{keeps_later}
+use Rattle.chi_judge.proofs.UntilLists.{until-append}
 use Rattle.chi_trace.specs.AtPlaces.{is_in}
 use Rattle.chi_trace.specs.Granules.{granule_of}
 use Rattle.chi_trace.specs.declared.operation.Operation.{Operation}
 use Rattle.chi_trace.specs.Words.{word_or_zero}
 use Rattle.chi_watch.specs.declared.followed.Followed.{Followed}
-use Rattle.chi_watch.specs.Changes.{CanEnd, IsClosed, IsClosedBy, IsTold, IsToldIfKnown}
+use Rattle.chi_watch.specs.Changes.{CanEnd, IsClosed, IsClosedBy, IsTold}
 use Rattle.chi_watch.specs.Judged.{openings}
 use Rattle.chi_watch.specs.Requests.{StartsBy, granule_of_request}
 use Rattle.chi_watch.specs.Watches.{IsGranuleOf, IsWatched}
@@ -40,10 +42,10 @@ module _ (events : List Event) (ended : List Operation) (before after : Outstand
   -- where no operation of the granule ended
   watched_on : (g : ℕ) (f : Followed) (more : List Operation) → filter (is_in g) more ≡ filter (is_in g) ended → IsWatched events ended before g f → IsWatched events more after g f
   watched_on g f more same w = record {
-    known = w.known;
-    keeps = λ known.
-        subst (λ (ops : List Operation). Keeps (word_or_zero (openings events) g ∷ []) ops after.time f.judge) (sym same)
-        (keeps_later (word_or_zero (openings events) g ∷ []) (filter (is_in g) ended) before.time f.judge (w.keeps known) after.time (omega (arith, later, now)));
+    since = w.since;
+    keeps =
+        subst (λ (ops : List Operation). Keeps (word_or_zero (openings events) g ∷ []) (until f.unknown_since ops) after.time f.judge) (sym same)
+        (keeps_later (word_or_zero (openings events) g ∷ []) (until f.unknown_since (filter (is_in g) ended)) before.time f.judge w.keeps after.time (omega (arith, later, now)));
     latest = omega (arith, w.latest, later, now);
     past = omega (arith, w.past, later, now);
     horizon = starts_on g f.judge.horizon w.past w.horizon;
@@ -52,7 +54,7 @@ module _ (events : List Event) (ended : List Operation) (before after : Outstand
   }
 
   stays_on : (g : ℕ) (x : Option Followed) (more : List Operation) → filter (is_in g) more ≡ filter (is_in g) ended → IsGranuleOf events ended before g x → IsGranuleOf events more after g x
-  stays_on g None more same w = record { known = w.known; none = same ∙ w.none; opening = w.opening; final_word = w.final_word }
+  stays_on g None more same w = record { since = w.since; none = same ∙ w.none; opening = w.opening; final_word = w.final_word }
   stays_on g (Some f) more same w = watched_on g f more same w
 
   -- where an operation of the granule ended
@@ -69,12 +71,12 @@ module _ (events : List Event) (ended : List Operation) (before after : Outstand
           within = ends.within;
         }
 
-    told_on : (old new : Followed) → IsTrue old.is_known → IsTold op horizon old new → IsWatched events ended before g old → IsWatched events (ended ++ op ∷ []) after g new
-    told_on old new known t w = record {
-      known = t.known ∙ w.known;
-      keeps = λ so.
-          subst (λ (ops : List Operation). Keeps (word_or_zero (openings events) g ∷ []) ops after.time new.judge) (sym (own_more g ended op is))
-          (keeps_later (word_or_zero (openings events) g ∷ []) (filter (is_in g) ended ++ op ∷ []) op.end new.judge kept after.time (omega (arith, ends.end, now)));
+    told_on : (old new : Followed) → IsTold op horizon old new → IsWatched events ended before g old → IsWatched events (ended ++ op ∷ []) after g new
+    told_on old new t w = record {
+      since = t.since ∙ w.since;
+      keeps =
+          subst (λ (ops : List Operation). Keeps words ops after.time new.judge) (sym (ap₂ until t.since (own_more g ended op is) ∙ until-append old.unknown_since (filter (is_in g) ended) (op ∷ [])))
+          (keeps_later words (told ++ until old.unknown_since (op ∷ [])) op.end new.judge kept after.time (omega (arith, ends.end, now)));
       latest = omega (arith, t.latest, ends.end, now);
       past = past old.judge.horizon new.judge.horizon w.past t.horizon_is;
       horizon = starts old.judge.horizon new.judge.horizon w.past w.horizon t.horizon_is;
@@ -91,32 +93,19 @@ module _ (events : List Event) (ended : List Operation) (before after : Outstand
             (λ p so own. let here : horizon ≤ p.start = so own in omega (arith, below, here)) after.requests earliest
         starts from to was by (inr same) = subst (StartsBy after.requests g) (sym same) (starts_on g from was by)
 
-        kept : Keeps (word_or_zero (openings events) g ∷ []) (filter (is_in g) ended ++ op ∷ []) op.end new.judge
-        kept = t.keeps (word_or_zero (openings events) g ∷ []) (filter (is_in g) ended)
-            (keeps_later (word_or_zero (openings events) g ∷ []) (filter (is_in g) ended) before.time old.judge (w.keeps known) op.end (omega (arith, later, ends.end)))
+        words : List ℕ
+        words = word_or_zero (openings events) g ∷ []
 
-    unknown_on : (old : Followed) → old.is_known ≡ false → IsWatched events ended before g old → IsWatched events (ended ++ op ∷ []) after g old
-    unknown_on old unknown w = record {
-      known = w.known;
-      keeps = λ known. absurd (true≢false (sym known ∙ unknown));
-      latest = omega (arith, w.latest, later, now);
-      past = omega (arith, w.past, later, now);
-      horizon = starts_on g old.judge.horizon w.past w.horizon;
-      shown = w.shown;
-      final_word = w.final_word;
-    }
+        told : List Operation
+        told = until old.unknown_since (filter (is_in g) ended)
 
-    closes_on : (old new : Followed) → IsToldIfKnown op horizon old new → IsWatched events ended before g old → IsWatched events (ended ++ op ∷ []) after g new
-    closes_on old new t w = by_known old.is_known refl
-      where
-        by_known : (b : Bool) → old.is_known ≡ b → IsWatched events (ended ++ op ∷ []) after g new
-        by_known true known = told_on old new known (t.told known (can_end old w)) w
-        by_known false unknown = subst (IsWatched events (ended ++ op ∷ []) after g) (sym (t.unknown unknown)) (unknown_on old unknown w)
+        kept : Keeps words (told ++ until old.unknown_since (op ∷ [])) op.end new.judge
+        kept = t.keeps words told (keeps_later words told before.time old.judge w.keeps op.end (omega (arith, later, ends.end)))
 
     closed_on : (x y : Option Followed) → IsTrue (is_some x) → IsClosed op horizon x y → IsGranuleOf events ended before g x → IsGranuleOf events (ended ++ op ∷ []) after g y
     closed_on None y some t w = absurd (true≢false (sym some))
     closed_on (Some old) None some t w = absurd t
-    closed_on (Some old) (Some new) some t w = closes_on old new t w
+    closed_on (Some old) (Some new) some t w = told_on old new (t.told (can_end old w)) w
 
   -- what is known of each granule
   pub closed : (old new : ℕ → Option Followed) (op : Option Operation) → IfSome op (IsEndOf before.requests e.time) → All (λ p. IsTrue (is_some (old (granule_of_request p)))) before.requests

@@ -1,6 +1,6 @@
 -- how much the events tell that a watch took
 use Rattle.std.specs.Prelude.{if◌then◌else◌, min}
-use Rattle.std.proofs.Common.{◌≡◌, ◌+◌, ◌-◌, ◌^◌, ℕ, Bool, true, false, cond, List, ◌∷◌, count_by, filter, length, not, ap, arith, ◌∙◌}
+use Rattle.std.proofs.Common.{◌≡◌, ◌+◌, ◌-◌, ◌^◌, ℕ, Bool, true, false, cond, List, ◌∷◌, count_by, filter, is_some, length, ap, arith, ◌∙◌}
 use Rattle.std.proofs.lemmas.List.{length-map}
 use Rattle.std.proofs.lemmas.List.Sorted.{length_permutation}
 use Rattle.std.proofs.lemmas.List.Sums.{sum_by-cons}
@@ -21,18 +21,18 @@ module _ (events : List Event) (ended : List Operation) (w : WatchValue) (is : W
 
 -- the granules that are not judged
 abbrev unknown_of : List (ℕ × Followed) → ℕ
-unknown_of entries = count_by (λ e. not e.1.is_known) entries
+unknown_of entries = count_by (λ e. is_some e.1.unknown_since) entries
 
 -- one granule more is counted
 pub unjudged_more : (count later total : ℕ) (before after : List (ℕ × Followed)) (g : ℕ) (f : Followed) → before ≡ (g, f) ∷ after
-    → later ≡ min (count + (if f.is_known then 0 else 1)) (2 ^ 64 - 1) → min (count + unknown_of before) (2 ^ 64 - 1) ≡ min total (2 ^ 64 - 1)
+    → later ≡ min (count + (if is_some f.unknown_since then 1 else 0)) (2 ^ 64 - 1) → min (count + unknown_of before) (2 ^ 64 - 1) ≡ min total (2 ^ 64 - 1)
     → min (later + unknown_of after) (2 ^ 64 - 1) ≡ min total (2 ^ 64 - 1)
-unjudged_more count later total before after g f one more so_far = by_known f.is_known whole more
+unjudged_more count later total before after g f one more so_far = by_known (is_some f.unknown_since) whole more
   where
-    whole : unknown_of before ≡ cond (not f.is_known) 1 0 + unknown_of after
-    whole = ap unknown_of one ∙ sum_by-cons (λ (e : ℕ × Followed). cond (not e.1.is_known) 1 0) (g, f) after
+    whole : unknown_of before ≡ cond (is_some f.unknown_since) 1 0 + unknown_of after
+    whole = ap unknown_of one ∙ sum_by-cons (λ (e : ℕ × Followed). cond (is_some e.1.unknown_since) 1 0) (g, f) after
 
-    by_known : (b : Bool) → unknown_of before ≡ cond (not b) 1 0 + unknown_of after → later ≡ min (count + (if b then 0 else 1)) (2 ^ 64 - 1)
+    by_known : (b : Bool) → unknown_of before ≡ cond b 1 0 + unknown_of after → later ≡ min (count + (if b then 1 else 0)) (2 ^ 64 - 1)
         → min (later + unknown_of after) (2 ^ 64 - 1) ≡ min total (2 ^ 64 - 1)
     by_known true is is_later = omega (arith, is, is_later, so_far)
     by_known false is is_later = omega (arith, is, is_later, so_far)

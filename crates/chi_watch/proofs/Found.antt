@@ -1,31 +1,30 @@
 -- granules that are quiet, or of which it is known that nothing explains them
 use Rattle.std.proofs.Common.{◌≡◌, ℕ, ◌-◌, ◌/◌, ◌^◌, ◌≤◌, ◌==◌, ◌⊎◌, ◌||◌, Bool, true, false, List, [], ◌∷◌, ◌++◌, All, Option, Some, None, IfSome, IsTrue, cond, get_or, inl, inr, not, filter, filter_map, refl, sym, ap, subst, ◌∙◌, append_assoc, append-nil, arith, eqb-true, eq-eqb, true≢false}
-use Rattle.std.specs.Prelude.{IsPermutation}
+use Rattle.std.specs.Prelude.{is_none}
 use Rattle.std.specs.List.{list_any}
 use Rattle.std.proofs.lemmas.Bool.{or_parts}
 use Rattle.std.proofs.lemmas.List.Elements.{All-cons, All-head, All-nil, All-tail, All-weaker, filter-append}
 use Rattle.chi_fields.specs.Access.{Access}
 use Rattle.chi_events.specs.EventLaws.{OperationsAreTold}
-use Rattle.chi_events.specs.Operations.{operations}
 use Rattle.chi_events.specs.declared.event.Event.{Event}
 use Rattle.chi_events.specs.declared.outstanding.Open.{Open}
 use Rattle.chi_events.specs.Outstanding.{IsOpen, open_operation}
 use Rattle.chi_judge.specs.Judges.{JudgeValue, Keeps}
+use Rattle.chi_judge.specs.Until.{until}
 use Rattle.chi_judge.specs.Standings.{IsInexplicable}
 use Rattle.chi_judge.proofs.Keeping.{keeps_later, keeps_stopped}
 use Rattle.chi_trace.specs.AtPlaces.{GranulesStandAlone, is_in}
 use Rattle.chi_trace.specs.Granules.{ExplainsGranule, granule_of}
 use Rattle.chi_trace.specs.TraceLaws.{PartsExplain}
 use Rattle.chi_trace.specs.declared.operation.Operation.{Operation}
-use Rattle.chi_trace.specs.Words.{find_word, word_or_zero}
+use Rattle.chi_trace.specs.Words.{word_or_zero}
 use Rattle.chi_watch.specs.Endings.{IsExplainable}
-use Rattle.chi_watch.specs.Judged.{final_words, is_known, openings}
-use Rattle.chi_watch.specs.Quiet.{CanBeExplained}
+use Rattle.chi_watch.specs.Judged.{CanBeExplained, final_of, is_known, judged, openings, unknown_since}
 use Rattle.chi_watch.specs.Requests.{IsQuiet, granule_of_request}
 use Rattle.chi_watch.specs.Watches.{CanBeJudged, HasStopped, HasTaken, IsFound, IsGranuleOf, IsUnexplained, IsWatched, WatchValue, Watches, granule}
 use Rattle.chi_watch.specs.declared.followed.Followed.{Followed}
 use Rattle.chi_watch.proofs.Lists.{All-filter_map}
-use Rattle.chi_watch.proofs.Verdicts.{all_told, explains_none, final_is, is_judge, quiet_none, unexplained}
+use Rattle.chi_watch.proofs.Verdicts.{can_without, is_judge, not_explained, quiet_none, whole_not_explained, word_is}
 
 is_quiet : (requests : List Open) (g : ℕ) → list_any (λ (p : Open). granule_of_request p == g) requests ≡ false → IsQuiet requests g
 is_quiet [] g none = All-nil (λ (p : Open). granule_of_request p ≡ g → ⊥)
@@ -88,17 +87,19 @@ open_starts g horizon p at starts = by_access p.access at
 
 -- All the operations of a granule count as told, where it is quiet, or has stopped.
 pub keeps_all : (events : List Event) (ended : List Operation) (w : WatchValue) → All (IsOpen w.outstanding.time) w.outstanding.requests → Watches events ended w
-    → (g : ℕ) (f : Followed) → granule w g ≡ Some f → IsTrue f.is_known → CanBeJudged w g
-    → Keeps (word_or_zero (openings events) g ∷ []) (filter (is_in g) (ended ++ filter_map open_operation w.outstanding.requests)) (2 ^ 64 - 1) f.judge
-keeps_all events ended w are_open is g f here known can = elim can [
-  | inl quiet ↦ subst (λ (l : List Operation). Keeps words l (2 ^ 64 - 1) f.judge) (sym (alone events ended w are_open g quiet)) keeps
-  | inr stopped ↦
-      subst (λ (l : List Operation). Keeps words l (2 ^ 64 - 1) f.judge) (sym (filter-append (is_in g) ended (filter_map open_operation w.outstanding.requests)))
-      (keeps_open words f.judge g (subst HasStopped here stopped) (filter_map open_operation w.outstanding.requests) (filter (is_in g) ended)
-      (All-filter_map open_operation (λ op. granule_of op ≡ g → (f.judge.horizon ≤ op.start) × (op.end ≡ 2 ^ 64 - 1)) w.outstanding.requests
-      (λ i d below. open_starts g f.judge.horizon (get_or w.outstanding.requests i d) (are_open i d below).at (watched.horizon i d below)))
-      keeps)
-]
+    → (g : ℕ) (f : Followed) → granule w g ≡ Some f → f.unknown_since ≡ None → CanBeJudged w g
+    → Keeps (word_or_zero (openings events) g ∷ []) (until (unknown_since events g) (filter (is_in g) (ended ++ filter_map open_operation w.outstanding.requests))) (2 ^ 64 - 1) f.judge
+keeps_all events ended w are_open is g f here since can =
+    subst (λ (u : Option ℕ). Keeps words (until u (filter (is_in g) (ended ++ filter_map open_operation w.outstanding.requests))) (2 ^ 64 - 1) f.judge) (sym since ∙ watched.since)
+    (elim can [
+      | inl quiet ↦ subst (λ (l : List Operation). Keeps words l (2 ^ 64 - 1) f.judge) (sym (alone events ended w are_open g quiet)) keeps
+      | inr stopped ↦
+          subst (λ (l : List Operation). Keeps words l (2 ^ 64 - 1) f.judge) (sym (filter-append (is_in g) ended (filter_map open_operation w.outstanding.requests)))
+          (keeps_open words f.judge g (subst HasStopped here stopped) (filter_map open_operation w.outstanding.requests) (filter (is_in g) ended)
+          (All-filter_map open_operation (λ op. granule_of op ≡ g → (f.judge.horizon ≤ op.start) × (op.end ≡ 2 ^ 64 - 1)) w.outstanding.requests
+          (λ i d below. open_starts g f.judge.horizon (get_or w.outstanding.requests i d) (are_open i d below).at (watched.horizon i d below)))
+          keeps)
+    ])
   where
     words : List ℕ
     words = word_or_zero (openings events) g ∷ []
@@ -107,35 +108,52 @@ keeps_all events ended w are_open is g f here known can = elim can [
     watched = subst (IsGranuleOf events ended w.outstanding g) here (is.each g)
 
     keeps : Keeps words (filter (is_in g) ended) (2 ^ 64 - 1) f.judge
-    keeps = keeps_later words (filter (is_in g) ended) w.outstanding.time f.judge (watched.keeps known) (2 ^ 64 - 1) (omega (arith, is.time))
+    keeps = keeps_later words (filter (is_in g) ended) w.outstanding.time f.judge
+        (subst (λ (u : Option ℕ). Keeps words (until u (filter (is_in g) ended)) w.outstanding.time f.judge) since watched.keeps) (2 ^ 64 - 1) (omega (arith, is.time))
 
 pub found_is : OperationsAreTold → PartsExplain → (events : List Event) (w : WatchValue) → All (IsOpen w.outstanding.time) w.outstanding.requests → HasTaken events w
     → (g : ℕ) → IsFound w g → IsUnexplained events g
-found_is operations_law parts_law events w are_open (ended, is) g found =
-    unexplained operations_law events ended w.outstanding g is.tells (2 ^ 64 - 1) found.followed.judge
-    (keeps_all events ended w are_open is g found.followed found.is found.known found.judged) parts_law (sym watched.known ∙ found.known)
-    (subst (IsInexplicable found.followed.judge) watched.final_word found.none)
+found_is operations_law parts_law events w are_open (ended, is) g found = record {
+  known = ap is_none (sym watched.since ∙ found.since);
+  none = not_explained operations_law events ended w.outstanding g is.tells (2 ^ 64 - 1) f.judge keeps none;
+  whole = whole_not_explained operations_law events ended w.outstanding g is.tells (2 ^ 64 - 1) f.judge keeps parts_law none;
+}
   where
-    watched : IsWatched events ended w.outstanding g found.followed
+    f : Followed
+    f = found.followed
+
+    watched : IsWatched events ended w.outstanding g f
     watched = subst (IsGranuleOf events ended w.outstanding g) found.is (is.each g)
+
+    keeps : Keeps (word_or_zero (openings events) g ∷ []) (until (unknown_since events g) (filter (is_in g) (ended ++ filter_map open_operation w.outstanding.requests))) (2 ^ 64 - 1) f.judge
+    keeps = keeps_all events ended w are_open is g f found.is found.since found.judged
+
+    none : IsInexplicable f.judge (final_of events g)
+    none = subst (IsInexplicable f.judge) (sym (ap (λ (u : Option ℕ). cond (is_none u) f.final_word None) found.since) ∙ word_is events g f watched.since watched.final_word) found.none
 
 -- A granule that is quiet is explained where it is not watched, and where some order explains what was told of it.
 pub not_found_is : OperationsAreTold → GranulesStandAlone → (A : Type 0) (events : List Event) (w : WatchValue) → All (IsOpen w.outstanding.time) w.outstanding.requests → HasTaken events w
-    → (g : ℕ) → list_any (λ p. granule_of_request p == g) w.outstanding.requests ≡ false → IfSome (granule w g) (λ f. IsExplainable f ⊎ A) → is_known events g ≡ true → CanBeExplained events g ⊎ A
+    → (g : ℕ) → list_any (λ p. granule_of_request p == g) w.outstanding.requests ≡ false → IfSome (granule w g) (λ f. f.unknown_since ≡ None → IsExplainable f ⊎ A) → is_known events g ≡ true
+    → CanBeExplained events g ⊎ A
 not_found_is operations_law granules_law A events w are_open (ended, is) g quiet said known = by_case (granule w g) refl (is.each g) said
   where
-    word : ℕ
-    word = word_or_zero (openings events) g
+    none_since : unknown_since events g ≡ None
+    none_since = by_time (unknown_since events g) known
+      where
+        by_time : (u : Option ℕ) → is_none u ≡ true → u ≡ None
+        by_time None so = refl
+        by_time (Some time) so = absurd (true≢false (sym so))
 
-    ends_with : (final_word : Option ℕ) → final_word ≡ find_word (final_words events) g → ((order : List ℕ) × ExplainsGranule (operations events) g word final_word order) → CanBeExplained events g
-    ends_with final_word same can = subst (λ f. (order : List ℕ) × ExplainsGranule (operations events) g word f order) (same ∙ final_is events g known) can
-
-    by_case : (x : Option Followed) → granule w g ≡ x → IsGranuleOf events ended w.outstanding g x → IfSome x (λ f. IsExplainable f ⊎ A) → CanBeExplained events g ⊎ A
+    by_case : (x : Option Followed) → granule w g ≡ x → IsGranuleOf events ended w.outstanding g x → IfSome x (λ f. f.unknown_since ≡ None → IsExplainable f ⊎ A) → CanBeExplained events g ⊎ A
     by_case None here was said =
-        inl (ends_with None (sym was.final_word) (explains_none granules_law (operations events) g word
-        (subst (IsPermutation (filter (is_in g) (operations events))) (alone events ended w are_open g quiet ∙ was.none) (all_told operations_law events ended w.outstanding g is.tells))))
-    by_case (Some f) here was (inl can) =
-        let f_known = was.known ∙ known in
-        inl (ends_with f.final_word was.final_word (can f_known (operations events) g word
-        (is_judge operations_law events ended w.outstanding g is.tells (2 ^ 64 - 1) f.judge (keeps_all events ended w are_open is g f here f_known (inl quiet)))))
-    by_case (Some f) here was (inr looked) = inr looked
+        inl (can_without granules_law operations_law events ended w.outstanding g is.tells (alone events ended w are_open g quiet ∙ was.none) was.final_word)
+    by_case (Some f) here was said = elim (said since) [
+      | inl can ↦
+          inl (subst (λ word. (order : List ℕ) × ExplainsGranule (judged events) g (word_or_zero (openings events) g) word order) (word_is events g f was.since was.final_word)
+          (can (judged events) g (word_or_zero (openings events) g)
+          (is_judge operations_law events ended w.outstanding g is.tells (2 ^ 64 - 1) f.judge (keeps_all events ended w are_open is g f here since (inl quiet)))))
+      | inr looked ↦ inr looked
+    ]
+      where
+        since : f.unknown_since ≡ None
+        since = was.since ∙ none_since

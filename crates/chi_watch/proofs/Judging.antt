@@ -1,5 +1,5 @@
 -- granules that are judged one after the other
-use Rattle.std.proofs.Common.{◌≡◌, ℕ, true, false, IsTrue, IfSome, List, [], ◌∷◌, ◌++◌, ◌⊎◌, inl, inr, All, Option, None, Some, refl, sym, ap, subst, ◌∙◌, append_assoc, append-nil, true≢false}
+use Rattle.std.proofs.Common.{◌≡◌, ℕ, true, IfSome, List, [], ◌∷◌, ◌++◌, ◌⊎◌, inl, inr, All, Option, None, Some, refl, sym, ap, subst, ◌∙◌, append_assoc, append-nil, true≢false}
 use Rattle.std.specs.BTreeMap.{is_at}
 use Rattle.std.specs.List.{Contains}
 use Rattle.std.specs.Map.{lookup}
@@ -10,7 +10,7 @@ use Rattle.std.proofs.lemmas.Map.Lookups.{exact_unsigned}
 use Rattle.std.proofs.lemmas.Map.Views.{Contains-from_lookup}
 use Rattle.std.proofs.lemmas.List.Elements.{All-contains, All-head, All-nil, All-push, All-tail, All-weaker, Contains-append_left, Contains-push}
 use Rattle.chi_search.specs.Looks.{LookedMore, LookedSome}
-use Rattle.chi_watch.specs.Endings.{IsExplainable, IsInexplicableAt, IsListed}
+use Rattle.chi_watch.specs.Endings.{IsExplainable, IsInexplicableAt, IsListed, judged_word}
 use Rattle.chi_judge.specs.Standings.{IfExplained, IfUndecided, IfUnexplained, IsExplainable as CanExplain, IsInexplicable as CanNotExplain}
 use Rattle.chi_watch.specs.ListedAs.{IsListedAs}
 use Rattle.chi_watch.specs.declared.judge_all.Listed.{Listed}
@@ -31,10 +31,6 @@ listed_unexplained un dec h g (inr in_dec) = inr in_dec
 listed_undecided : (un dec : List ℕ) (h g : ℕ) → IsListed g un dec → IsListed g un (dec ++ h ∷ [])
 listed_undecided un dec h g (inl in_un) = inl in_un
 listed_undecided un dec h g (inr in_dec) = inr (Contains-append_left dec (h ∷ []) g in_dec)
-
--- nothing has to be shown of a granule of which not all is told
-pub explainable_unknown : (f : Followed) → f.is_known ≡ false → IsExplainable f
-explainable_unknown f unknown known = absurd (true≢false (sym known ∙ unknown))
 
 -- what is said of a standing
 pub said_explained : (s : Standing) (A : Type 0) → s ≡ Explained → IfExplained s A → A
@@ -104,26 +100,15 @@ module _ {P : Type 0} (looked : P → ℕ → Type 0) (budget : ℕ) (get : ℕ 
         (All-weaker (IsSaid ending.unexplained.items ending.undecided.items) (IsSaid un dec)
         (λ e is. elim is [ inl can ↦ inl can | inr listed ↦ inr (stays e.0 listed) ]) are.seen are.said) own
 
-    -- not all is told of the granule
-    pub passed_over : f.is_known ≡ false → AreJudged now ending rest
-    passed_over unknown = record {
-      seen = are.seen ++ (g, f) ∷ [];
-      parts = parted;
-      said = said_more ending.unexplained.items ending.undecided.items (λ h is. is) (inl (explainable_unknown f unknown));
-      has = rest_has;
-      none = are.none;
-      spent = are.spent;
-    }
-
     -- it was judged, and listed where it is not explained
-    module _ (known : IsTrue f.is_known) (later : P) (next : Listed) where
-      pub listed : (s : Standing) → IfExplained s (CanExplain f.judge f.final_word)
-          → IfUnexplained s (CanNotExplain f.judge f.final_word)
+    module _ (later : P) (next : Listed) where
+      pub listed : (s : Standing) → IfExplained s (CanExplain f.judge (judged_word f))
+          → IfUnexplained s (CanNotExplain f.judge (judged_word f))
           → IfUndecided s (LookedMore looked now later budget) → LookedSome looked now later → IsListedAs s g ending next → AreJudged later next rest
       listed Explained can none whole some (un, dec) = record {
         seen = are.seen ++ (g, f) ∷ [];
         parts = parted;
-        said = said_more next.unexplained.items next.undecided.items (λ h is. subst (λ l. IsListed h l next.undecided.items) (sym un) (subst (λ l. IsListed h ending.unexplained.items l) (sym dec) is)) (inl (λ told. can));
+        said = said_more next.unexplained.items next.undecided.items (λ h is. subst (λ l. IsListed h l next.undecided.items) (sym un) (subst (λ l. IsListed h ending.unexplained.items l) (sym dec) is)) (inl can);
         has = rest_has;
         none = subst (All (λ h. IsInexplicableAt (get h))) (sym un) are.none;
         spent = subst (LookedFor looked start later budget) (sym dec) (looked_decided looked start now later budget ending.undecided.items are.spent some);
@@ -136,7 +121,7 @@ module _ {P : Type 0} (looked : P → ℕ → Type 0) (budget : ℕ) (get : ℕ 
             (inr (inl (subst (λ l. Contains l g) (sym un) (Contains-push ending.unexplained.items g))));
         has = rest_has;
         none = subst (All (λ h. IsInexplicableAt (get h))) (sym un)
-            (All-push (λ h. IsInexplicableAt (get h)) ending.unexplained.items g are.none (subst IsInexplicableAt (sym here) (record { known = known; none = none })));
+            (All-push (λ h. IsInexplicableAt (get h)) ending.unexplained.items g are.none (subst IsInexplicableAt (sym here) none));
         spent = subst (LookedFor looked start later budget) (sym dec) (looked_decided looked start now later budget ending.undecided.items are.spent some);
       }
       listed Undecided can none whole some (un, dec) = record {

@@ -2,6 +2,7 @@ pub mod AtTheEnd
 pub mod Closing
 pub mod Counted
 pub mod Found
+pub mod JudgedParts
 pub mod Judging
 pub mod Lists
 pub mod Looked

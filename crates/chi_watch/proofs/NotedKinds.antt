@@ -1,21 +1,22 @@
 -- what a watch knows once an event was noted, by the kind of the event
-use Rattle.std.proofs.Common.{◌≡◌, ℕ, ◌/◌, ◌==◌, ◌≤◌, Bool, true, false, List, [], ◌∷◌, ◌++◌, Option, Some, None, is_some, filter, filter_map, refl, sym, ap, subst, ◌∙◌, arith, append-nil, ne_eqb, eqb-true, eq-eqb, true≢false}
+use Rattle.std.proofs.Common.{◌≡◌, ℕ, ◌/◌, ◌==◌, Bool, true, false, List, [], ◌∷◌, ◌++◌, Option, Some, None, is_some, filter, filter_map, refl, sym, ap, subst, ◌∙◌, arith, append-nil, ne_eqb, eqb-true, eq-eqb, true≢false}
 use Rattle.std.specs.Option.{unwrap_or}
 use Rattle.chi_events.specs.declared.event.Event.{Event}
 use Rattle.chi_events.specs.declared.event.EventKind.{EventKind}
 use Rattle.chi_events.specs.declared.event.EventKind.TheVariants.{Request, Data, Reply, Dropped, Refused, Word, Final, Unknown, End}
 use Rattle.chi_events.specs.Outstanding.{OutstandingValue}
-use Rattle.chi_judge.specs.Judges.{Keeps, JudgeValue}
+use Rattle.chi_judge.specs.Judges.{Keeps}
+use Rattle.chi_judge.specs.Until.{until}
 use Rattle.chi_trace.specs.AtPlaces.{is_in}
 use Rattle.chi_trace.specs.declared.operation.Operation.{Operation}
 use Rattle.chi_trace.specs.declared.words.GranuleWord.{GranuleWord}
-use Rattle.chi_trace.specs.Words.{find_word}
+use Rattle.chi_trace.specs.Words.{find_word, word_or_zero}
 use Rattle.chi_watch.specs.declared.followed.Followed.{Followed}
-use Rattle.chi_watch.specs.Changes.{IsForgotten, IsGone, IsSameOrUntouched, IsTouched, IsTouchedAndMarked, IsUpdated}
+use Rattle.chi_watch.specs.Changes.{IsForgotten, IsGone, IsSameOrUntouched, IsTouched, IsTouchedAndMarked, IsUnknownSince, IsUpdated}
 use Rattle.chi_watch.specs.Judged.{covers, final_in, final_words, opening_in, openings}
 use Rattle.chi_watch.specs.Requests.{StartsBy}
 use Rattle.chi_watch.specs.Watches.{IsGranuleOf, IsUntold, IsWatched, has_final_word}
-use Rattle.chi_watch.proofs.Noted.{begun, finals_more, from_start, known_gone, known_same, openings_more, retold, told_other, told_own}
+use Rattle.chi_watch.proofs.Noted.{begun, finals_more, openings_more, retold, since_first, since_kept, since_same, told_other, told_own}
 
 one_none : {X Y : Type 0} (h : X → Option Y) (x : X) → h x ≡ None → filter_map h (x ∷ []) ≡ []
 one_none h x is = rw is refl
@@ -29,7 +30,7 @@ Fits (Word told) old = old told.granule ≡ None
 Fits (Final told) old = has_final_word (old told.granule) ≡ false
 Fits _ old = Unit {0}
 
-module _ (events : List Event) (e : Event) (ended : List Operation) (o : OutstandingValue) where
+module _ (events : List Event) (e : Event) (ended : List Operation) (o : OutstandingValue) (at : o.time ≡ e.time) where
   no_opening : opening_in e.kind ≡ None → (g : ℕ) → find_word (openings (events ++ e ∷ [])) g ≡ find_word (openings events) g
   no_opening none g = ap (λ (words : List GranuleWord). find_word words g) (openings_more events e ∙ (ap (λ words. openings events ++ words) (one_none (λ (x : Event). opening_in x.kind) e none) ∙ append-nil (openings events)))
 
@@ -50,12 +51,12 @@ module _ (events : List Event) (e : Event) (ended : List Operation) (o : Outstan
 
   -- an event that tells no word
   passes : opening_in e.kind ≡ None → final_in e.kind ≡ None → (g : ℕ) (x : Option Followed) → covers g e.kind ≡ false → Is g x → Will g x
-  passes none none_final g x other w = retold events e ended o g x (known_same events e g other) (no_opening none g) (no_final none_final g) w
+  passes none none_final g x other w = retold events e ended o g x (since_same events e g other) (no_opening none g) (no_final none_final g) w
 
   -- a granule that is watched from its first request on
   requested_own : opening_in e.kind ≡ None → final_in e.kind ≡ None → (g : ℕ) → covers g e.kind ≡ false → (x : Option Followed) (f : Followed) → IsSameOrUntouched 0 x f → Is g x → Will g (Some f)
   requested_own none none_final g other None f was w =
-      begun (events ++ e ∷ []) ended o g 0 f (known_same events e g other ∙ w.known) w.none (ap (λ (word : Option ℕ). unwrap_or word 0) (no_opening none g ∙ w.opening)) (no_final none_final g ∙ w.final_word) was
+      begun (events ++ e ∷ []) ended o g 0 f (since_same events e g other ∙ w.since) w.none (ap (λ (word : Option ℕ). unwrap_or word 0) (no_opening none g ∙ w.opening)) (no_final none_final g ∙ w.final_word) was
   requested_own none none_final g other (Some old) f was w = subst (λ (y : Followed). Will g (Some y)) (sym was) (passes none none_final g (Some old) other w)
 
   module _ (old new : ℕ → Option Followed) (each : (g : ℕ) → Is g (old g)) where
@@ -77,10 +78,10 @@ module _ (events : List Event) (e : Event) (ended : List Operation) (o : Outstan
     -- a word before the first request
     worded : (w : GranuleWord) → e.kind ≡ Word w → old w.granule ≡ None → IsTouched old new w.granule w.word → (g : ℕ) → Will g (new g)
     worded w is none t = by_other w.granule
-        (λ g other. moved g (old g) (t.others g other) (retold events e ended o g (old g) (known_same events e g (ap (covers g) is))
+        (λ g other. moved g (old g) (t.others g other) (retold events e ended o g (old g) (since_same events e g (ap (covers g) is))
         (ap (λ (words : List GranuleWord). find_word words g) (one_opening w (ap opening_in is)) ∙ told_other (openings events) w g (ne_eqb w.granule g (λ same. other (sym same))))
         (no_final (ap final_in is) g) (each g)))
-        (moved w.granule (Some t.followed) t.is (begun (events ++ e ∷ []) ended o w.granule w.word t.followed (known_same events e w.granule (ap (covers w.granule) is) ∙ untold.known) untold.none
+        (moved w.granule (Some t.followed) t.is (begun (events ++ e ∷ []) ended o w.granule w.word t.followed (since_same events e w.granule (ap (covers w.granule) is) ∙ untold.since) untold.none
         (ap (λ (word : Option ℕ). unwrap_or word 0) (ap (λ (words : List GranuleWord). find_word words w.granule) (one_opening w (ap opening_in is)) ∙ told_own (openings events) w untold.opening))
         (no_final (ap final_in is) w.granule ∙ untold.final_word) (subst (λ (x : Option Followed). IsSameOrUntouched w.word x t.followed) none t.was)))
       where
@@ -90,8 +91,8 @@ module _ (events : List Event) (e : Event) (ended : List Operation) (o : Outstan
     -- a word after the last request
     final_told : (w : GranuleWord) → e.kind ≡ Final w → (f : Followed) → IsWatched events ended o w.granule f → f.final_word ≡ None → Will w.granule (Some (record f { final_word = Some w.word }))
     final_told w is f base none = record {
-      known = base.known ∙ sym (known_same events e w.granule (ap (covers w.granule) is));
-      keeps = λ so. subst (λ (word : Option ℕ). Keeps (unwrap_or word 0 ∷ []) (filter (is_in w.granule) ended) o.time f.judge) (sym (no_opening (ap opening_in is) w.granule)) (base.keeps so);
+      since = base.since ∙ sym (since_same events e w.granule (ap (covers w.granule) is));
+      keeps = subst (λ (word : Option ℕ). Keeps (unwrap_or word 0 ∷ []) (until f.unknown_since (filter (is_in w.granule) ended)) o.time f.judge) (sym (no_opening (ap opening_in is) w.granule)) base.keeps;
       latest = base.latest;
       past = base.past;
       horizon = base.horizon;
@@ -102,7 +103,7 @@ module _ (events : List Event) (e : Event) (ended : List Operation) (o : Outstan
     final_own : (w : GranuleWord) → e.kind ≡ Final w → (x : Option Followed) (f : Followed) → IsSameOrUntouched 0 x f → has_final_word x ≡ false → Is w.granule x
         → Will w.granule (Some (record f { final_word = Some w.word }))
     final_own w is None f u none untold =
-        final_told w is f (begun events ended o w.granule 0 f untold.known untold.none (ap (λ (word : Option ℕ). unwrap_or word 0) untold.opening) untold.final_word u) u.final_word
+        final_told w is f (begun events ended o w.granule 0 f untold.since untold.none (ap (λ (word : Option ℕ). unwrap_or word 0) untold.opening) untold.final_word u) u.final_word
     final_own w is (Some before) f same none watched =
         final_told w is f (subst (IsWatched events ended o w.granule) (sym same) watched) (ap (λ (y : Followed). y.final_word) same ∙ no_final_word before.final_word none)
       where
@@ -112,33 +113,39 @@ module _ (events : List Event) (e : Event) (ended : List Operation) (o : Outstan
 
     ended_with : (w : GranuleWord) → e.kind ≡ Final w → has_final_word (old w.granule) ≡ false → IsTouchedAndMarked w.granule (λ f. record f { final_word = Some w.word }) old new → (g : ℕ) → Will g (new g)
     ended_with w is none t = by_other w.granule
-        (λ g other. moved g (old g) (t.others g other) (retold events e ended o g (old g) (known_same events e g (ap (covers g) is)) (no_opening (ap opening_in is) g)
+        (λ g other. moved g (old g) (t.others g other) (retold events e ended o g (old g) (since_same events e g (ap (covers g) is)) (no_opening (ap opening_in is) g)
         (ap (λ (words : List GranuleWord). find_word words g) (one_final w (ap final_in is)) ∙ told_other (final_words events) w g (ne_eqb w.granule g (λ same. other (sym same)))) (each g)))
         (moved w.granule (Some (record t.followed { final_word = Some w.word })) t.is (final_own w is (old w.granule) t.followed t.was none (each w.granule)))
 
     -- something that is not told
-    gone : opening_in e.kind ≡ None → final_in e.kind ≡ None → (g : ℕ) → covers g e.kind ≡ true → (x y : Option Followed) → IsGone x y → Is g x → Will g y
-    gone none none_final g covered x None was w = absurd was
-    gone none none_final g covered None (Some f) (unknown, horizon, latest, shown, final_word) w = record {
-      known = unknown ∙ sym (known_gone events e g covered);
-      keeps = λ known. absurd (true≢false (sym known ∙ unknown));
-      latest = omega (arith, latest);
-      past = omega (arith, horizon);
-      horizon = from_start o g f.judge.horizon horizon;
-      shown = shown;
-      final_word = final_word ∙ sym (no_final none_final g ∙ w.final_word);
+    cut_before_it : opening_in e.kind ≡ None → final_in e.kind ≡ None → (g : ℕ) → covers g e.kind ≡ true → (before f : Followed) (u : Option ℕ) → before.unknown_since ≡ u
+        → IsUnknownSince u e.time before f → IsWatched events ended o g before → Will g (Some f)
+    cut_before_it none none_final g covered before f None known cut w = record {
+      since = cut.since ∙ sym (since_first events e g covered (sym w.since ∙ known));
+      keeps =
+          subst (λ (word : Option ℕ). Keeps (unwrap_or word 0 ∷ []) (until f.unknown_since (filter (is_in g) ended)) o.time f.judge) (sym (no_opening none g))
+          (subst (λ (u : Option ℕ). Keeps (word_or_zero (openings events) g ∷ []) (until u (filter (is_in g) ended)) o.time f.judge) (sym cut.since)
+          (cut.keeps (word_or_zero (openings events) g ∷ []) (filter (is_in g) ended) o.time (omega (arith, w.past, at))
+          (subst (λ (u : Option ℕ). Keeps (word_or_zero (openings events) g ∷ []) (until u (filter (is_in g) ended)) o.time before.judge) known w.keeps)));
+      latest = omega (arith, cut.latest, w.latest);
+      past = omega (arith, cut.horizon, w.past);
+      horizon = subst (StartsBy o.requests g) (sym cut.horizon) w.horizon;
+      shown = cut.shown ∙ w.shown;
+      final_word = cut.final_word ∙ (w.final_word ∙ sym (no_final none_final g));
     }
-    gone none none_final g covered (Some before) (Some f) (unknown, judge, final_word) w = record {
-      known = unknown ∙ sym (known_gone events e g covered);
-      keeps = λ known. absurd (true≢false (sym known ∙ unknown));
-      latest = subst (λ (r : JudgeValue). r.latest ≤ o.time) (sym judge) w.latest;
-      past = subst (λ (r : JudgeValue). r.horizon ≤ o.time) (sym judge) w.past;
-      horizon = subst (λ (r : JudgeValue). StartsBy o.requests g r.horizon) (sym judge) w.horizon;
-      shown = ap (λ (r : JudgeValue). r.shown) judge ∙ w.shown;
-      final_word = final_word ∙ (w.final_word ∙ sym (no_final none_final g));
-    }
+    cut_before_it none none_final g covered before f (Some earlier) unknown same w =
+        subst (λ (x : Followed). Will g (Some x)) (sym same)
+        (retold events e ended o g (Some before) (since_kept events e g earlier covered (sym w.since ∙ unknown)) (no_opening none g) (no_final none_final g) w)
 
-    forgotten : opening_in e.kind ≡ None → final_in e.kind ≡ None → ((g : ℕ) → IsForgotten (covers g e.kind) (old g) (new g)) → (g : ℕ) → Will g (new g)
+    gone : opening_in e.kind ≡ None → final_in e.kind ≡ None → (g : ℕ) → covers g e.kind ≡ true → (x y : Option Followed) → IsGone e.time x y → Is g x → Will g y
+    gone none none_final g covered x None was w = absurd was
+    gone none none_final g covered x (Some f) (before, was, since) w = cut_before_it none none_final g covered before f before.unknown_since refl since (watched x was w)
+      where
+        watched : (x : Option Followed) → IsSameOrUntouched 0 x before → Is g x → IsWatched events ended o g before
+        watched None untouched untold = begun events ended o g 0 before untold.since untold.none (ap (λ (word : Option ℕ). unwrap_or word 0) untold.opening) untold.final_word untouched
+        watched (Some old) same is = subst (IsWatched events ended o g) (sym same) is
+
+    forgotten : opening_in e.kind ≡ None → final_in e.kind ≡ None → ((g : ℕ) → IsForgotten (covers g e.kind) e.time (old g) (new g)) → (g : ℕ) → Will g (new g)
     forgotten none none_final all g = by_test (covers g e.kind) refl
       where
         by_test : (b : Bool) → covers g e.kind ≡ b → Will g (new g)
@@ -148,11 +155,11 @@ module _ (events : List Event) (e : Event) (ended : List Operation) (o : Outstan
     stays : opening_in e.kind ≡ None → final_in e.kind ≡ None → ((g : ℕ) → covers g e.kind ≡ false) → ((g : ℕ) → new g ≡ old g) → (g : ℕ) → Will g (new g)
     stays none none_final uncovered same g = moved g (old g) (same g) (passes none none_final g (old g) (uncovered g) (each g))
 
-    pub noted : (k : EventKind) → e.kind ≡ k → Fits k old → IsUpdated k old new → (g : ℕ) → Will g (new g)
+    pub noted : (k : EventKind) → e.kind ≡ k → Fits k old → IsUpdated e.time k old new → (g : ℕ) → Will g (new g)
     noted (Request r) is fits t = touched (ap opening_in is) (ap final_in is) (λ g. ap (covers g) is) (r.fields.addr / 8) t
     noted (Word w) is fits t = worded w is fits t
     noted (Final w) is fits t = ended_with w is fits t
-    noted (Unknown addr len) is fits t = forgotten (ap opening_in is) (ap final_in is) (λ g. subst (λ (k : EventKind). IsForgotten (covers g k) (old g) (new g)) (sym is) (t g))
+    noted (Unknown addr len) is fits t = forgotten (ap opening_in is) (ap final_in is) (λ g. subst (λ (k : EventKind). IsForgotten (covers g k) e.time (old g) (new g)) (sym is) (t g))
     noted (Data p) is fits t = stays (ap opening_in is) (ap final_in is) (λ g. ap (covers g) is) t
     noted (Reply c) is fits t = stays (ap opening_in is) (ap final_in is) (λ g. ap (covers g) is) t
     noted (Dropped id) is fits t = stays (ap opening_in is) (ap final_in is) (λ g. ap (covers g) is) t

@@ -7,6 +7,7 @@ use Rattle.chi_events.specs.Outstanding.{IsOpen, open_operation}
 use Rattle.chi_events.specs.declared.event.Event.{Event}
 use Rattle.chi_events.specs.declared.outstanding.Open.{Open}
 use Rattle.chi_judge.specs.Judges.{Keeps}
+use Rattle.chi_judge.specs.Until.{until}
 use Rattle.chi_trace.specs.AtPlaces.{is_in}
 use Rattle.chi_trace.specs.Granules.{granule_of}
 use Rattle.chi_trace.specs.declared.operation.Operation.{Operation}
@@ -43,38 +44,28 @@ module _ (op : Operation) (lasting : op.start ≤ op.end) (within : op.access.ad
   told_to : (x y : Option Followed) → TakesOpen op.start x → IsClosed op 0 x y → AreToldTo (op ∷ []) x y
   told_to None y takes is = absurd takes
   told_to (Some f) None takes is = absurd is
-  told_to (Some f) (Some h) takes is = record {
-    keeps = λ known words told kept.
-        subst (λ n. Keeps words (told ++ op ∷ []) n h.judge) end ((is.told known (can_end f takes)).keeps words told (subst (λ n. Keeps words told n f.judge) (sym end) kept));
-    shown = shown_by f.is_known refl;
-    final_word = is.final_word;
-    known = by_known f.is_known refl;
-  }
-    where
-      by_known : (b : Bool) → f.is_known ≡ b → h.is_known ≡ f.is_known
-      by_known true known = (is.told known (can_end f takes)).known
-      by_known false unknown = ap (λ (x : Followed). x.is_known) (is.unknown unknown)
-
-      shown_by : (b : Bool) → f.is_known ≡ b → h.judge.shown ≡ f.judge.shown
-      shown_by true known = (is.told known (can_end f takes)).shown
-      shown_by false unknown = ap (λ (x : Followed). x.judge.shown) (is.unknown unknown)
+  told_to (Some f) (Some h) takes is =
+      let t = is.told (can_end f takes) in
+      record {
+        keeps = λ words told kept.
+            subst (λ n. Keeps words (told ++ until f.unknown_since (op ∷ [])) n h.judge) end (t.keeps words told (subst (λ n. Keeps words told n f.judge) (sym end) kept));
+        shown = t.shown;
+        final_word = t.final_word;
+        since = t.since;
+      }
 
   takes_on : (start : ℕ) (x y : Option Followed) → TakesOpen op.start x → IsClosed op 0 x y → TakesOpen start x → TakesOpen start y
   takes_on start None y takes is other = absurd takes
   takes_on start (Some f) None takes is other = absurd is
-  takes_on start (Some f) (Some h) takes is other = by_known f.is_known refl
+  takes_on start (Some f) (Some h) takes is other =
+      let t = is.told (can_end f takes) in (
+        horizon f.judge.horizon h.judge.horizon other.0 t.horizon_is,
+        subst (λ n. h.judge.latest ≤ n) end t.latest,
+      )
     where
       horizon : (from to : ℕ) → from ≤ start → (to ≤ 0) ⊎ (to ≡ from) → to ≤ start
       horizon from to was (inl none) = omega (arith, none)
       horizon from to was (inr same) = subst (λ n. n ≤ start) (sym same) was
-
-      by_known : (b : Bool) → f.is_known ≡ b → TakesOpen start (Some h)
-      by_known true known =
-          let t = is.told known (can_end f takes) in (
-            horizon f.judge.horizon h.judge.horizon other.0 t.horizon_is,
-            subst (λ n. h.judge.latest ≤ n) end t.latest,
-          )
-      by_known false unknown = subst (λ (x : Followed). TakesOpen start (Some x)) (sym (is.unknown unknown)) other
 
 -- one request's operation is told of its granule
 module _ (p : Open) (op : Operation) (old new : ℕ → Option Followed) (can : CanClose old p) (is : Some op ≡ open_operation p) (more : HasOneMore op 0 old new) where

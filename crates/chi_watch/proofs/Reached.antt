@@ -1,7 +1,7 @@
 -- how far a granule's operations can be explained, by those that were told and are kept
-use Rattle.std.proofs.Common.{◌≡◌, ℕ, ◌-◌, ◌^◌, List, All, Option, Some, None, IfSome, IsTrue, sym, subst, ◌∙◌, ◌⊎◌, inl, inr}
+use Rattle.std.specs.Prelude.{is_none}
+use Rattle.std.proofs.Common.{◌≡◌, ℕ, ◌-◌, ◌^◌, true, List, All, Option, Some, None, IfSome, sym, ap, subst, ◌∙◌, ◌⊎◌, inl, inr}
 use Rattle.chi_events.specs.EventLaws.{OperationsAreTold}
-use Rattle.chi_events.specs.Operations.{operations}
 use Rattle.chi_events.specs.Outstanding.{IsOpen}
 use Rattle.chi_events.specs.declared.event.Event.{Event}
 use Rattle.chi_search.specs.Looks.{LookedAtLeast, LookedSome}
@@ -14,7 +14,7 @@ use Rattle.chi_trace.specs.AtPlaces.{GranulesStandAlone}
 use Rattle.chi_trace.specs.declared.operation.Operation.{Operation}
 use Rattle.chi_trace.specs.Words.{word_or_zero}
 use Rattle.chi_watch.specs.Endings.{IsExplainable}
-use Rattle.chi_watch.specs.Judged.{openings}
+use Rattle.chi_watch.specs.Judged.{judged, openings}
 use Rattle.chi_watch.specs.Reaching.{IsOfSomeTrace, IsUnreachedIn, ReachesBy}
 use Rattle.chi_watch.specs.Watches.{CanBeJudged, HasStopped, HasTaken, IsGranuleOf, IsUnexplained, WatchValue, granule}
 use Rattle.chi_watch.specs.declared.ending.FoundAtEnd.{FoundAtEnd}
@@ -37,17 +37,17 @@ undecided_weaker Undecided f is = f is
 
 -- the operations of a granule that can be judged count as told
 pub judged_here : OperationsAreTold → (events : List Event) (w : WatchValue) → All (IsOpen w.outstanding.time) w.outstanding.requests → HasTaken events w
-    → (g : ℕ) (f : Followed) → granule w g ≡ Some f → IsTrue f.is_known → CanBeJudged w g → IsJudgeOf (operations events) g (word_or_zero (openings events) g) f.judge
-judged_here law events w are_open (ended, is) g f here known can =
-    is_judge law events ended w.outstanding g is.tells (2 ^ 64 - 1) f.judge (keeps_all events ended w are_open is g f here known can)
+    → (g : ℕ) (f : Followed) → granule w g ≡ Some f → f.unknown_since ≡ None → CanBeJudged w g → IsJudgeOf (judged events) g (word_or_zero (openings events) g) f.judge
+judged_here law events w are_open (ended, is) g f here since can =
+    is_judge law events ended w.outstanding g is.tells (2 ^ 64 - 1) f.judge (keeps_all events ended w are_open is g f here since can)
 
 -- so many are shown of one that is watched
 pub shown_here : (events : List Event) (w : WatchValue) → HasTaken events w → (g : ℕ) (f : Followed) → granule w g ≡ Some f → f.judge.shown ≡ 16
 shown_here events w (ended, is) g f here = (subst (IsGranuleOf events ended w.outstanding g) here (is.each g)).shown
 
 -- of a granule that is unexplained all is told
-pub unexplained_known : (events : List Event) (w : WatchValue) → HasTaken events w → (g : ℕ) (f : Followed) → granule w g ≡ Some f → IsUnexplained events g → IsTrue f.is_known
-unexplained_known events w (ended, is) g f here not = (subst (IsGranuleOf events ended w.outstanding g) here (is.each g)).known ∙ not.known
+pub unexplained_known : (events : List Event) (w : WatchValue) → HasTaken events w → (g : ℕ) (f : Followed) → granule w g ≡ Some f → IsUnexplained events g → is_none f.unknown_since ≡ true
+unexplained_known events w (ended, is) g f here not = ap is_none (subst (IsGranuleOf events ended w.outstanding g) here (is.each g)).since ∙ not.known
 
 -- how far that is, or how many states were looked at
 module _ {P : Type 0} (looked : P → ℕ → Type 0) (old middle new : P) (budget : ℕ) (granules : ℕ → Option Followed) where
@@ -71,8 +71,8 @@ module _ {P : Type 0} (looked : P → ℕ → Type 0) (old middle new : P) (budg
 pub untold_explained : OperationsAreTold → GranulesStandAlone → (events : List Event) (w : WatchValue) → All (IsOpen w.outstanding.time) w.outstanding.requests → HasTaken events w
     → (g : ℕ) → granule w g ≡ None → CanBeJudged w g → IsUnexplained events g → ⊥
 untold_explained operations_law granules_law events w are_open has g none (inl quiet) not =
-    elim (not_found_is operations_law granules_law ⊥ events w are_open has g quiet (subst (λ o. IfSome o (λ f. IsExplainable f ⊎ ⊥)) (sym none) tt) not.known) [
-      | inl can ↦ not.none can.0 can.1
+    elim (not_found_is operations_law granules_law ⊥ events w are_open has g quiet (subst (λ o. IfSome o (λ f. f.unknown_since ≡ None → IsExplainable f ⊎ ⊥)) (sym none) tt) not.known) [
+      | inl can ↦ not.none can
       | inr never ↦ never
     ]
 untold_explained operations_law granules_law events w are_open has g none (inr stopped) not = absurd (subst HasStopped none stopped)

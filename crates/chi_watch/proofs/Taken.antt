@@ -1,8 +1,7 @@
 -- what a watch knows once it took an event
-use Rattle.std.specs.Prelude.{◌+◌, ◌-◌, if◌then◌else◌, length, min, option_to_list}
+use Rattle.std.specs.Prelude.{◌+◌, ◌-◌, if◌then◌else◌, length, min, option_and_then, option_to_list}
 use Rattle.std.proofs.Common.{◌≡◌, ℕ, ◌/◌, ◌^◌, ◌==◌, ◌<◌, ◌≤◌, Bool, true, false, List, [], ◌∷◌, ◌++◌, All, Option, Some, None, IfSome, IsTrue, is_some, inl, inr, refl, sym, ap, subst, ◌∙◌, eqb-true, eq-eqb, true≢false, arith, length-append}
 use Rattle.std.specs.List.{list_any}
-use Rattle.std.specs.Option.{option_map_or}
 use Rattle.std.proofs.lemmas.List.Elements.{All-contains, All-pop, All-weaker}
 use Rattle.chi_events.specs.declared.event.Event.{Event}
 use Rattle.chi_events.specs.declared.event.EventKind.{EventKind}
@@ -16,9 +15,9 @@ use Rattle.chi_trace.specs.declared.operation.Operation.{Operation}
 use Rattle.chi_watch.specs.declared.followed.Followed.{Followed}
 use Rattle.chi_watch.specs.declared.fault.WatchFault.TheVariants as fault
 use Rattle.chi_watch.specs.Changes.{IsClosed, IsClosedBy, IsGone, IsUpdated, OthersStay}
-use Rattle.chi_watch.specs.Judged.{covers, is_known}
+use Rattle.chi_watch.specs.Judged.{covers, unknown_since}
 use Rattle.chi_watch.specs.Requests.{granule_of_request}
-use Rattle.chi_watch.specs.Watches.{HasTaken, IsGranuleOf, Takes, WatchValue, Watches, granule, granule_fault, has_final_word, knows}
+use Rattle.chi_watch.specs.Watches.{HasTaken, IsGranuleOf, Takes, WatchValue, Watches, granule, granule_fault, has_final_word}
 use Rattle.chi_watch.proofs.Closing.{closed}
 use Rattle.chi_watch.proofs.NotedKinds.{Fits, noted}
 
@@ -59,36 +58,36 @@ module _ (old new : ℕ → Option Followed) where
       by_granule true same = let at : g ≡ here = eqb-true g here same in rw at (ap is_some is)
       by_granule false other = ap is_some (others g (λ same. absurd (true≢false (sym (eq-eqb g here same) ∙ other)))) ∙ some
 
-  noted_some : (k : EventKind) → IsUpdated k old new → (g : ℕ) → IsTrue (is_some (old g)) → IsTrue (is_some (new g))
-  noted_some (Request r) t g some = others_some (r.fields.addr / 8) t.followed t.is t.others g some
-  noted_some (Word w) t g some = others_some w.granule t.followed t.is t.others g some
-  noted_some (Final w) t g some = others_some w.granule (record t.followed { final_word = Some w.word }) t.is t.others g some
-  noted_some (Unknown addr len) t g some = by_test (covers g (Unknown addr len)) refl
+  noted_some : (time : ℕ) (k : EventKind) → IsUpdated time k old new → (g : ℕ) → IsTrue (is_some (old g)) → IsTrue (is_some (new g))
+  noted_some time (Request r) t g some = others_some (r.fields.addr / 8) t.followed t.is t.others g some
+  noted_some time (Word w) t g some = others_some w.granule t.followed t.is t.others g some
+  noted_some time (Final w) t g some = others_some w.granule (record t.followed { final_word = Some w.word }) t.is t.others g some
+  noted_some time (Unknown addr len) t g some = by_test (covers g (Unknown addr len)) refl
     where
-      is_gone : (x y : Option Followed) → IsGone x y → IsTrue (is_some y)
+      is_gone : (x y : Option Followed) → IsGone time x y → IsTrue (is_some y)
       is_gone x None is = absurd is
       is_gone x (Some f) is = refl
 
       by_test : (b : Bool) → covers g (Unknown addr len) ≡ b → IsTrue (is_some (new g))
       by_test true covered = is_gone (old g) (new g) ((t g).gone covered)
       by_test false other = ap is_some ((t g).same other) ∙ some
-  noted_some (Data p) t g some = ap is_some (t g) ∙ some
-  noted_some (Reply c) t g some = ap is_some (t g) ∙ some
-  noted_some (Dropped id) t g some = ap is_some (t g) ∙ some
-  noted_some (Refused id reason) t g some = ap is_some (t g) ∙ some
-  noted_some End t g some = ap is_some (t g) ∙ some
+  noted_some time (Data p) t g some = ap is_some (t g) ∙ some
+  noted_some time (Reply c) t g some = ap is_some (t g) ∙ some
+  noted_some time (Dropped id) t g some = ap is_some (t g) ∙ some
+  noted_some time (Refused id reason) t g some = ap is_some (t g) ∙ some
+  noted_some time End t g some = ap is_some (t g) ∙ some
 
   -- the granule of a request that is taken is watched
-  request_some : (k : EventKind) (r : Requested) → requested k ≡ Some r → IsUpdated k old new → IsTrue (is_some (new (r.fields.addr / 8)))
-  request_some (Request q) r is t = subst (λ (o : Option Requested). IfSome o (λ s. IsTrue (is_some (new (s.fields.addr / 8))))) is (ap is_some t.is)
-  request_some (Word w) r is t = absurd (true≢false (ap is_some (sym is)))
-  request_some (Final w) r is t = absurd (true≢false (ap is_some (sym is)))
-  request_some (Unknown addr len) r is t = absurd (true≢false (ap is_some (sym is)))
-  request_some (Data p) r is t = absurd (true≢false (ap is_some (sym is)))
-  request_some (Reply c) r is t = absurd (true≢false (ap is_some (sym is)))
-  request_some (Dropped id) r is t = absurd (true≢false (ap is_some (sym is)))
-  request_some (Refused id reason) r is t = absurd (true≢false (ap is_some (sym is)))
-  request_some End r is t = absurd (true≢false (ap is_some (sym is)))
+  request_some : (time : ℕ) (k : EventKind) (r : Requested) → requested k ≡ Some r → IsUpdated time k old new → IsTrue (is_some (new (r.fields.addr / 8)))
+  request_some time (Request q) r is t = subst (λ (o : Option Requested). IfSome o (λ s. IsTrue (is_some (new (s.fields.addr / 8))))) is (ap is_some t.is)
+  request_some time (Word w) r is t = absurd (true≢false (ap is_some (sym is)))
+  request_some time (Final w) r is t = absurd (true≢false (ap is_some (sym is)))
+  request_some time (Unknown addr len) r is t = absurd (true≢false (ap is_some (sym is)))
+  request_some time (Data p) r is t = absurd (true≢false (ap is_some (sym is)))
+  request_some time (Reply c) r is t = absurd (true≢false (ap is_some (sym is)))
+  request_some time (Dropped id) r is t = absurd (true≢false (ap is_some (sym is)))
+  request_some time (Refused id reason) r is t = absurd (true≢false (ap is_some (sym is)))
+  request_some time End r is t = absurd (true≢false (ap is_some (sym is)))
 
 -- what is no fault
 pub none_of : {F : Type 0} (b : Bool) (f : F) (rest : Option F) → (if b then Some f else rest) ≡ None → b ≡ false
@@ -121,12 +120,12 @@ module _ (events : List Event) (ended : List Operation) (w : WatchValue) (e : Ev
   fits c End is = tt
 
   pub taken : granule_fault w e.kind ≡ None → o.time ≡ e.time → w.outstanding.time ≤ e.time → All (StaysOrStarts w.outstanding.requests e) o.requests → IfSome op (IsEndOf w.outstanding.requests e.time)
-      → IsClosedBy op o.requests (granule w) mid → IsUpdated e.kind mid (granule now) → Tells (events ++ e ∷ []) (ended ++ option_to_list op) o
+      → IsClosedBy op o.requests (granule w) mid → IsUpdated e.time e.kind mid (granule now) → Tells (events ++ e ∷ []) (ended ++ option_to_list op) o
       → count ≡ min (w.ended + length (option_to_list op)) (2 ^ 64 - 1) → Watches events ended w → Watches (events ++ e ∷ []) (ended ++ option_to_list op) now
   taken none at later stay ends c t tells more is = record {
     tells = tells;
     time = subst (λ n. n < 2 ^ 64) (sym at) (All-pop IsEvent (events ++ e ∷ []) events (Some e) refl tells.bounds).1.time;
-    each = noted events e (ended ++ option_to_list op) o mid (granule now)
+    each = noted events e (ended ++ option_to_list op) o at mid (granule now)
         (λ g. closed events ended w.outstanding o e at later stay (granule w) mid op ends is.requested c g (is.each g)) e.kind refl (fits c e.kind none) t;
     requested = All-weaker (StaysOrStarts w.outstanding.requests e) (λ (p : Open). IsTrue (is_some (granule now (granule_of_request p)))) each o.requests stay;
     count = counted more is.count;
@@ -134,24 +133,20 @@ module _ (events : List Event) (ended : List Operation) (w : WatchValue) (e : Ev
     where
       each : (p : Open) → StaysOrStarts w.outstanding.requests e p → IsTrue (is_some (granule now (granule_of_request p)))
       each p (inl (start, (r, is_r, fields))) =
-          subst (λ (n : ℕ). IsTrue (is_some (granule now n))) (ap (λ a. a.addr / 8) (sym fields)) (request_some mid (granule now) e.kind r is_r t)
+          subst (λ (n : ℕ). IsTrue (is_some (granule now n))) (ap (λ a. a.addr / 8) (sym fields)) (request_some mid (granule now) e.time e.kind r is_r t)
       each p (inr (old, has, start, fields)) =
           let before : IsTrue (is_some (granule w (granule_of_request old))) = All-contains (λ (q : Open). IsTrue (is_some (granule w (granule_of_request q)))) w.outstanding.requests old is.requested has in
           let middle : IsTrue (is_some (mid (granule_of_request old))) = same_some o.requests (granule w) mid op c (granule_of_request old) ∙ before in
-          subst (λ (n : ℕ). IsTrue (is_some (granule now n))) (ap (λ a. a.addr / 8) (sym fields)) (noted_some mid (granule now) e.kind t (granule_of_request old) middle)
+          subst (λ (n : ℕ). IsTrue (is_some (granule now n))) (ap (λ a. a.addr / 8) (sym fields)) (noted_some mid (granule now) e.time e.kind t (granule_of_request old) middle)
 
 -- a watch that took some events has taken one more
 pub taken_more : (e : Event) (ended : Option Operation) (old new : WatchValue) → Takes e ended old new → (events : List Event) → HasTaken events old → HasTaken (events ++ e ∷ []) new
 taken_more e ended old new takes events (past, is) = (past ++ option_to_list ended, takes events past is)
 
 -- what it knows of a granule is so of the events that it took
-module _ (events : List Event) (w : WatchValue) (g : ℕ) (has : HasTaken events w) where
-  known_of : (o : Option Followed) → IsGranuleOf events has.0 w.outstanding g o → option_map_or (λ (f : Followed). f.is_known) o true ≡ is_known events g
-  known_of None untold = sym untold.known
-  known_of (Some f) watched = watched.known
-
-  pub found_known : (o : Option Followed) → o ≡ granule w g → option_map_or (λ (f : Followed). f.is_known) o true ≡ is_known events g
-  found_known o here = known_of o (subst (IsGranuleOf events has.0 w.outstanding g) (sym here) (has.1.each g))
-
-  pub knows_told : knows w g ≡ is_known events g
-  knows_told = found_known (granule w g) refl
+pub since_told : (events : List Event) (w : WatchValue) (g : ℕ) (o : Option Followed) → HasTaken events w → o ≡ granule w g → option_and_then (λ (f : Followed). f.unknown_since) o ≡ unknown_since events g
+since_told events w g o (ended, is) here = by_case o (subst (IsGranuleOf events ended w.outstanding g) (sym here) (is.each g))
+  where
+    by_case : (x : Option Followed) → IsGranuleOf events ended w.outstanding g x → option_and_then (λ (f : Followed). f.unknown_since) x ≡ unknown_since events g
+    by_case None untold = sym untold.since
+    by_case (Some f) watched = watched.since

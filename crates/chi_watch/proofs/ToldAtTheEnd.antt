@@ -8,6 +8,9 @@ use Rattle.std.proofs.lemmas.List.Elements.{filter-append, filter_map-append}
 use Rattle.chi_events.specs.Outstanding.{open_operation}
 use Rattle.chi_events.specs.declared.outstanding.Open.{Open}
 use Rattle.chi_judge.specs.Judges.{Keeps}
+use Rattle.chi_judge.specs.Until.{until}
+use Rattle.chi_judge.proofs.UntilLists.{until-append}
+use Rattle.chi_watch.proofs.JudgedParts.{until-nil}
 use Rattle.chi_trace.specs.AtPlaces.{is_in}
 use Rattle.chi_trace.specs.declared.operation.Operation.{Operation}
 use Rattle.chi_watch.specs.Endings.{AreToldTo}
@@ -17,10 +20,10 @@ use Rattle.chi_watch.specs.declared.followed.Followed.{Followed}
 pub told_none : (x : Option Followed) → AreToldTo [] x x
 told_none None = refl
 told_none (Some f) = record {
-  keeps = λ known words told kept. subst (λ l. Keeps words l (2 ^ 64 - 1) f.judge) (sym (append-nil told)) kept;
+  keeps = λ words told kept. subst (λ l. Keeps words l (2 ^ 64 - 1) f.judge) (sym (ap (λ l. told ++ l) (until-nil f.unknown_since) ∙ append-nil told)) kept;
   shown = refl;
   final_word = refl;
-  known = refl;
+  since = refl;
 }
 
 pub told_more : (xs ys : List Operation) (a b c : Option Followed) → AreToldTo xs a b → AreToldTo ys b c → AreToldTo (xs ++ ys) a c
@@ -30,12 +33,14 @@ told_more xs ys None (Some g) c first second = absurd first
 told_more xs ys (Some f) None c first second = absurd first
 told_more xs ys (Some f) (Some g) None first second = second
 told_more xs ys (Some f) (Some g) (Some h) first second = record {
-  keeps = λ known words told kept.
-      subst (λ l. Keeps words l (2 ^ 64 - 1) h.judge) (append_assoc told xs ys)
-      (second.keeps (first.known ∙ known) words (told ++ xs) (first.keeps known words told kept));
+  keeps = λ words told kept.
+      subst (λ l. Keeps words l (2 ^ 64 - 1) h.judge)
+      (ap (λ u. (told ++ until f.unknown_since xs) ++ until u ys) first.since
+      ∙ (append_assoc told (until f.unknown_since xs) (until f.unknown_since ys) ∙ ap (λ l. told ++ l) (sym (until-append f.unknown_since xs ys))))
+      (second.keeps words (told ++ until f.unknown_since xs) (first.keeps words told kept));
   shown = second.shown ∙ first.shown;
   final_word = second.final_word ∙ first.final_word;
-  known = second.known ∙ first.known;
+  since = second.since ∙ first.since;
 }
 
 -- the operations of a granule that these requests are

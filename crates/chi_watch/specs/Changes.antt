@@ -1,9 +1,10 @@
 -- changes of the granules that are watched
-use Rattle.std.specs.Prelude.{◌≡◌, ℕ, ◌+◌, ◌/◌, ◌^◌, ◌<◌, ◌≤◌, ◌⊎◌, Bool, true, List, [], ◌∷◌, ◌++◌, Option, Some, None, false, IsTrue}
+use Rattle.std.specs.Prelude.{◌≡◌, ℕ, ◌+◌, ◌/◌, ◌^◌, ◌<◌, ◌≤◌, ◌⊎◌, Bool, true, List, [], ◌∷◌, ◌++◌, Option, Some, None, false}
 use Rattle.chi_events.specs.declared.event.EventKind.{EventKind}
 use Rattle.chi_events.specs.declared.outstanding.Open.{Open}
 use Rattle.chi_events.specs.declared.event.EventKind.TheVariants.{Request, Word, Final, Unknown}
 use Rattle.chi_judge.specs.Judges.{Keeps}
+use Rattle.chi_judge.specs.Until.{cut_before, until}
 use Rattle.chi_trace.specs.Granules.{granule_of}
 use Rattle.chi_trace.specs.declared.operation.Operation.{Operation}
 use Rattle.chi_watch.specs.declared.followed.Followed.{Followed}
@@ -21,7 +22,7 @@ pub record IsUntouched (word : ℕ) (f : Followed) : Type 0 where
   pub latest : f.judge.latest ≡ 0
   pub shown : f.judge.shown ≡ 16
   pub final_word : f.final_word ≡ None
-  pub known : IsTrue f.is_known
+  pub since : f.unknown_since ≡ None
 
 abbrev pub IsSameOrUntouched : ℕ → Option Followed → Followed → Type 0
 IsSameOrUntouched word None new = IsUntouched word new
@@ -42,25 +43,24 @@ pub record CanEnd (horizon : ℕ) (f : Followed) (op : Operation) : Type 0 where
   pub lasting : op.start ≤ op.end
   pub within : op.access.addr + op.access.len ≤ 2 ^ 52
 
--- one operation more of the granule was told
+-- one operation more of the granule was told, as far as all that wrote to it is told
 pub record IsTold (op : Operation) (horizon : ℕ) (old new : Followed) : Type 0 where
-  pub keeps : (words : List ℕ) (told : List Operation) → Keeps words told op.end old.judge → Keeps words (told ++ op ∷ []) op.end new.judge
+  pub keeps : (words : List ℕ) (told : List Operation) → Keeps words told op.end old.judge → Keeps words (told ++ until old.unknown_since (op ∷ [])) op.end new.judge
   pub horizon_is : (new.judge.horizon ≤ horizon) ⊎ (new.judge.horizon ≡ old.judge.horizon)
   pub latest : new.judge.latest ≤ op.end
   pub shown : new.judge.shown ≡ old.judge.shown
   pub final_word : new.final_word ≡ old.final_word
-  pub known : new.is_known ≡ old.is_known
+  pub since : new.unknown_since ≡ old.unknown_since
 
--- the operation was told of its granule, where all that wrote to the granule is told
-pub record IsToldIfKnown (op : Operation) (horizon : ℕ) (old new : Followed) : Type 0 where
-  pub told : IsTrue old.is_known → CanEnd horizon old op → IsTold op horizon old new
-  pub unknown : old.is_known ≡ false → new ≡ old
+-- the operation was told of its granule, where it can be
+pub record IsToldIfItCan (op : Operation) (horizon : ℕ) (old new : Followed) : Type 0 where
+  pub told : CanEnd horizon old op → IsTold op horizon old new
   pub final_word : new.final_word ≡ old.final_word
 
 abbrev pub IsClosed : Operation → ℕ → Option Followed → Option Followed → Type 0
 IsClosed op horizon None new = new ≡ None
 IsClosed op horizon (Some old) None = ⊥
-IsClosed op horizon (Some old) (Some new) = IsToldIfKnown op horizon old new
+IsClosed op horizon (Some old) (Some new) = IsToldIfItCan op horizon old new
 
 pub record HasOneMore (op : Operation) (horizon : ℕ) (old new : ℕ → Option Followed) : Type 0 where
   pub others : OthersStay old new (granule_of op)
@@ -85,23 +85,41 @@ pub record IsTouchedAndMarked (g : ℕ) (change : Followed → Followed) (old ne
   pub was : IsSameOrUntouched 0 (old g) followed
   pub is : new g ≡ Some (change followed)
 
--- something that is not told may have written to the granule: it is watched no further
-abbrev pub IsGone : Option Followed → Option Followed → Type 0
-IsGone old None = ⊥
-IsGone None (Some new) = (new.is_known ≡ false) × (new.judge.horizon ≡ 0) × (new.judge.latest ≡ 0) × (new.judge.shown ≡ 16) × (new.final_word ≡ None)
-IsGone (Some old) (Some new) = (new.is_known ≡ false) × (new.judge ≡ old.judge) × (new.final_word ≡ old.final_word)
+-- the granule is judged by what had happened before this time
+pub record IsCutBefore (time : ℕ) (old new : Followed) : Type 0 where
+  pub keeps : (words : List ℕ) (told : List Operation) (now : ℕ) → old.judge.horizon ≤ time → Keeps words told now old.judge → Keeps words (cut_before time told) now new.judge
+  pub horizon : new.judge.horizon ≡ old.judge.horizon
+  pub latest : new.judge.latest ≡ old.judge.latest
+  pub shown : new.judge.shown ≡ old.judge.shown
+  pub final_word : new.final_word ≡ old.final_word
+  pub since : new.unknown_since ≡ Some time
 
-pub record IsForgotten (covered : Bool) (old new : Option Followed) : Type 0 where
+-- from this time on something that is not told may have written to it: as before, where that was so from an earlier time on
+abbrev pub IsUnknownSince : Option ℕ → ℕ → Followed → Followed → Type 0
+IsUnknownSince None time old new = IsCutBefore time old new
+IsUnknownSince (Some earlier) time old new = new ≡ old
+
+-- the same of a granule that is watched from now on, where it was not before
+abbrev pub IsGone : ℕ → Option Followed → Option Followed → Type 0
+IsGone time old None = ⊥
+IsGone time old (Some new) = (before : Followed) × IsSameOrUntouched 0 old before × IsUnknownSince before.unknown_since time before new
+
+-- one granule was changed so, and no other
+pub record IsGoneAt (g time : ℕ) (old new : ℕ → Option Followed) : Type 0 where
+  pub others : OthersStay old new g
+  pub gone : IsGone time (old g) (new g)
+
+pub record IsForgotten (covered : Bool) (time : ℕ) (old new : Option Followed) : Type 0 where
   pub same : covered ≡ false → new ≡ old
-  pub gone : covered ≡ true → IsGone old new
+  pub gone : covered ≡ true → IsGone time old new
 
--- what is noted of the granules by an event
-abbrev pub IsUpdated : EventKind → (ℕ → Option Followed) → (ℕ → Option Followed) → Type 0
-IsUpdated (Request r) old new = IsTouched old new (r.fields.addr / 8) 0
-IsUpdated (Word told) old new = IsTouched old new told.granule told.word
-IsUpdated (Final told) old new = IsTouchedAndMarked told.granule (λ f. record f { final_word = Some told.word }) old new
-IsUpdated (Unknown addr len) old new = (g : ℕ) → IsForgotten (covers g (Unknown addr len)) (old g) (new g)
-IsUpdated _ old new = (g : ℕ) → new g ≡ old g
+-- what is noted of the granules by an event of this time
+abbrev pub IsUpdated : ℕ → EventKind → (ℕ → Option Followed) → (ℕ → Option Followed) → Type 0
+IsUpdated time (Request r) old new = IsTouched old new (r.fields.addr / 8) 0
+IsUpdated time (Word told) old new = IsTouched old new told.granule told.word
+IsUpdated time (Final told) old new = IsTouchedAndMarked told.granule (λ f. record f { final_word = Some told.word }) old new
+IsUpdated time (Unknown addr len) old new = (g : ℕ) → IsForgotten (covers g (Unknown addr len)) time (old g) (new g)
+IsUpdated time _ old new = (g : ℕ) → new g ≡ old g
 
 -- the bytes that are unknown lie below 2^52
 abbrev pub HasLength : EventKind → Type 0

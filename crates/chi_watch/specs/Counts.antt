@@ -1,5 +1,5 @@
 -- how much events tell
-use Rattle.std.specs.Prelude.{◌≡◌, ℕ, ◌-◌, ◌^◌, min, not, length, count_by, List, filter, filter_map}
+use Rattle.std.specs.Prelude.{◌≡◌, ℕ, ◌-◌, ◌^◌, min, not, length, count_by, is_some, List, filter, filter_map}
 use Rattle.chi_events.specs.declared.event.Event.{Event}
 use Rattle.chi_events.specs.Operations.{is_outstanding, operation_of}
 use Rattle.chi_events.specs.RequestEvents.{each_request}
@@ -18,4 +18,4 @@ pub record AreCounted (events : List Event) (c : Counts) : Type 0 where
 
 -- how many granules are not judged: 2^64 - 1 stands for that many and more
 abbrev pub unjudged : WatchValue → ℕ
-unjudged w = min (count_by (λ e. not e.1.is_known) w.granules) (2 ^ 64 - 1)
+unjudged w = min (count_by (λ e. is_some e.1.unknown_since) w.granules) (2 ^ 64 - 1)

@@ -1,8 +1,9 @@
 -- what is said where the events end
-use Rattle.std.specs.Prelude.{◌≡◌, ℕ, ◌+◌, ◌-◌, ◌^◌, ◌≤◌, ◌++◌, ◌⊎◌, List, [], Option, None, Some, IfSome, IsTrue}
+use Rattle.std.specs.Prelude.{◌≡◌, ℕ, ◌+◌, ◌-◌, ◌^◌, ◌≤◌, ◌++◌, ◌⊎◌, if◌then◌else◌, List, [], Option, None, Some, is_none, IfSome}
 use Rattle.std.specs.List.{Contains}
 use Rattle.chi_events.specs.declared.outstanding.Open.{Open}
 use Rattle.chi_judge.specs.Judges.{Keeps}
+use Rattle.chi_judge.specs.Until.{until}
 use Rattle.chi_judge.specs.Standings.{IsExplainable as CanExplain, IsInexplicable as CanNotExplain}
 use Rattle.chi_trace.specs.declared.operation.Operation.{Operation}
 use Rattle.chi_watch.specs.Requests.{granule_of_request}
@@ -24,12 +25,12 @@ pub record CanClose (granules : ℕ → Option Followed) (p : Open) : Type 0 whe
   pub lasting : p.start ≤ 2 ^ 64 - 1
   pub takes : TakesOpen p.start (granules (granule_of_request p))
 
--- these operations more were told of the granule, where all that wrote to it is told
+-- these operations more were told of the granule, as far as all that wrote to it is told
 pub record AreTold (ops : List Operation) (old new : Followed) : Type 0 where
-  pub keeps : IsTrue old.is_known → (words : List ℕ) (told : List Operation) → Keeps words told (2 ^ 64 - 1) old.judge → Keeps words (told ++ ops) (2 ^ 64 - 1) new.judge
+  pub keeps : (words : List ℕ) (told : List Operation) → Keeps words told (2 ^ 64 - 1) old.judge → Keeps words (told ++ until old.unknown_since ops) (2 ^ 64 - 1) new.judge
   pub shown : new.judge.shown ≡ old.judge.shown
   pub final_word : new.final_word ≡ old.final_word
-  pub known : new.is_known ≡ old.is_known
+  pub since : new.unknown_since ≡ old.unknown_since
 
 -- These operations more were told of a granule, where it is watched. There are none where it is not.
 abbrev pub AreToldTo : List Operation → Option Followed → Option Followed → Type 0
@@ -38,14 +39,17 @@ AreToldTo ops None (Some new) = ⊥
 AreToldTo ops (Some old) None = ⊥
 AreToldTo ops (Some old) (Some new) = AreTold ops old new
 
--- Where all that wrote to the granule is told, some order explains what was told of it, and leaves its final word.
-abbrev pub IsExplainable : Followed → Type 0
-IsExplainable f = IsTrue f.is_known → CanExplain f.judge f.final_word
+-- the word at the end that is judged: that of a granule of which all that wrote to it is told
+abbrev pub judged_word : Followed → Option ℕ
+judged_word f = if is_none f.unknown_since then f.final_word else None
 
--- All that wrote to the granule is told, and no such order does.
-pub record IsInexplicable (f : Followed) : Type 0 where
-  pub known : IsTrue f.is_known
-  pub none : CanNotExplain f.judge f.final_word
+-- some order explains what was told of the granule, and leaves that word
+abbrev pub IsExplainable : Followed → Type 0
+IsExplainable f = CanExplain f.judge (judged_word f)
+
+-- no such order does
+abbrev pub IsInexplicable : Followed → Type 0
+IsInexplicable f = CanNotExplain f.judge (judged_word f)
 
 abbrev pub IsInexplicableAt : Option Followed → Type 0
 IsInexplicableAt None = ⊥

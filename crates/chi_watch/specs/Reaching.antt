@@ -1,16 +1,15 @@
 -- how far a granule's operations can be explained
 use Rattle.std.specs.Prelude.{◌≡◌, ℕ, List, Option, IfSome, map}
 use Rattle.chi_events.specs.declared.event.Event.{Event}
-use Rattle.chi_events.specs.Operations.{operations}
 use Rattle.chi_search.specs.Looks.{LookedAtLeast}
 use Rattle.chi_judge.specs.Reaches.{AreLast, IfUndecided, IsJudgeOf, IsStop}
 use Rattle.chi_judge.specs.Judges.{JudgeValue}
 use Rattle.chi_judge.specs.declared.reach.Reach.{Reach}
 use Rattle.chi_judge.specs.declared.reach.Reach.TheVariants.{Whole, Stops, Undecided}
 use Rattle.chi_trace.specs.declared.operation.Operation.{Operation}
-use Rattle.chi_trace.specs.Words.{find_word, word_or_zero}
-use Rattle.chi_watch.specs.Judged.{final_words, openings}
-use Rattle.chi_watch.specs.Watches.{IsUnexplained}
+use Rattle.chi_trace.specs.Words.{word_or_zero}
+use Rattle.chi_watch.specs.Endings.{judged_word}
+use Rattle.chi_watch.specs.Judged.{CanBeExplained, IsExplained, final_of, judged, openings}
 use Rattle.chi_watch.specs.declared.ending.FoundAtEnd.{FoundAtEnd}
 use Rattle.chi_watch.specs.declared.followed.Followed.{Followed}
 
@@ -20,9 +19,9 @@ IsReachIn trace g w (Whole words) = AreLast trace g w words
 IsReachIn trace g w (Stops stop) = IsStop trace g w 16 stop
 IsReachIn trace g w Undecided = Unit {0}
 
--- those that the events tell, from its word at the opening on
+-- those that are judged, from its word at the opening on
 abbrev pub IsReach : List Event → ℕ → Reach → Type 0
-IsReach events g reach = IsReachIn (operations events) g (word_or_zero (openings events) g) reach
+IsReach events g reach = IsReachIn (judged events) g (word_or_zero (openings events) g) reach
 
 -- those of which the last are kept, in whichever trace they are
 abbrev pub ReachesBy : JudgeValue → Reach → Type 0
@@ -34,7 +33,7 @@ IsOfSomeTrace r = (trace : List Operation) × (g : ℕ) × (w : ℕ) × IsJudgeO
 
 -- what is said of a granule at the end: its word, and how far its operations can be explained
 pub record IsFoundIn (granules : ℕ → Option Followed) (found : FoundAtEnd) : Type 0 where
-  pub final_word : IfSome (granules found.granule) (λ f. found.final_word ≡ f.final_word)
+  pub final_word : IfSome (granules found.granule) (λ f. found.final_word ≡ judged_word f)
   pub reach : IfSome (granules found.granule) (λ f. ReachesBy f.judge found.reach)
 
 -- where that is not known so many states were looked at
@@ -45,8 +44,10 @@ IsUnreachedIn looked old new budget granules found = IfSome (granules found.gran
 abbrev pub granules_of : List FoundAtEnd → List ℕ
 granules_of found = map (λ f. f.granule) found
 
--- No order explains the granule. The word is the one that was told of it at the end, and its operations can be explained so far.
+-- No order explains what is judged of the granule. The word is the one that was told of it at the end, and its operations can be
+-- explained so far.
 pub record IsFoundAtEnd (events : List Event) (found : FoundAtEnd) : Type 0 where
-  pub unexplained : IsUnexplained events found.granule
-  pub final_word : found.final_word ≡ find_word (final_words events) found.granule
+  pub none : CanBeExplained events found.granule → ⊥
+  pub whole : IsExplained events → ⊥
+  pub final_word : found.final_word ≡ final_of events found.granule
   pub reach : IsReach events found.granule found.reach

@@ -1,19 +1,18 @@
 -- what a watch knows of the events that it took
-use Rattle.std.specs.Prelude.{◌≡◌, ℕ, ◌+◌, ◌-◌, ◌/◌, ◌^◌, ◌<◌, ◌≤◌, ◌==◌, ◌⊎◌, length, min, nat_le, nat_lt, Bool, true, false, ◌&&◌, if◌then◌else◌, List, [], ◌∷◌, ◌++◌, All, Option, Some, None, is_some, option_map, option_to_list, IsTrue, filter}
+use Rattle.std.specs.Prelude.{◌≡◌, ℕ, ◌+◌, ◌-◌, ◌/◌, ◌^◌, ◌<◌, ◌≤◌, ◌==◌, ◌⊎◌, length, min, nat_le, nat_lt, Bool, true, false, ◌&&◌, if◌then◌else◌, List, [], ◌∷◌, ◌++◌, All, Option, Some, None, is_some, option_and_then, option_map, option_to_list, IsTrue, filter}
 use Rattle.std.specs.List.{list_any}
 use Rattle.std.specs.BTreeMap.{is_at}
 use Rattle.std.specs.Map.{lookup}
-use Rattle.std.specs.Option.{option_map_or, option_or}
+use Rattle.std.specs.Option.{option_or}
 use Rattle.std.specs.Ordering.{nat_cmp}
 use Rattle.chi_events.specs.declared.event.Event.{Event}
-use Rattle.chi_events.specs.Operations.{operations}
 use Rattle.chi_events.specs.Outstanding.{OutstandingValue, Tells, fault_of as outstanding_fault}
 use Rattle.chi_events.specs.declared.event.EventKind.{EventKind}
 use Rattle.chi_events.specs.declared.event.EventKind.TheVariants.{Request, Word, Final, Unknown}
 use Rattle.chi_judge.specs.Judges.{Keeps}
+use Rattle.chi_judge.specs.Until.{until}
 use Rattle.chi_judge.specs.Standings.{IsInexplicable}
 use Rattle.chi_trace.specs.AtPlaces.{is_in}
-use Rattle.chi_trace.specs.Granules.{ExplainsGranule}
 use Rattle.chi_trace.specs.declared.operation.Operation.{Operation}
 use Rattle.chi_trace.specs.Words.{find_word, word_or_zero}
 use Rattle.chi_watch.specs.declared.followed.Followed.{Followed}
@@ -21,7 +20,7 @@ use Rattle.chi_watch.specs.declared.fault.WatchFault.{WatchFault}
 use Rattle.chi_watch.specs.declared.fault.WatchFault.TheVariants as fault
 use Rattle.chi_watch.specs.Faults.{as_watch_fault}
 use Rattle.chi_watch.specs.Requests.{StartsBy, granule_of_request}
-use Rattle.chi_watch.specs.Judged.{IsExplainedBy, final_of, final_words, is_known, openings}
+use Rattle.chi_watch.specs.Judged.{CanBeExplained, IsExplainedBy, final_words, is_known, openings, unknown_since}
 
 -- the requests that are outstanding, each granule of which something was told, and how many operations had ended: 2^64 - 1 stands
 -- for that many and more
@@ -34,15 +33,15 @@ pub record WatchValue : Type 0 where
 abbrev pub granule : WatchValue → ℕ → Option Followed
 granule w g = lookup (is_at (nat_cmp g)) w.granules
 
--- all that wrote to the granule is told, as far as is known
-abbrev pub knows : WatchValue → ℕ → Bool
-knows w g = option_map_or (λ (f : Followed). f.is_known) (granule w g) true
+-- from which time on something that is not told may have written to the granule, as far as is known
+abbrev pub unknown_in : WatchValue → ℕ → Option ℕ
+unknown_in w g = option_and_then (λ (f : Followed). f.unknown_since) (granule w g)
 
--- A granule that is watched: where all that wrote to it is told, its judge was told its operations that had ended, from its word
--- at the opening on.
+-- A granule that is watched: its judge was told its operations that had ended, from its word at the opening on, as far as all that
+-- wrote to it is told.
 pub record IsWatched (events : List Event) (ended : List Operation) (o : OutstandingValue) (g : ℕ) (f : Followed) : Type 0 where
-  pub known : f.is_known ≡ is_known events g
-  pub keeps : IsTrue f.is_known → Keeps (word_or_zero (openings events) g ∷ []) (filter (is_in g) ended) o.time f.judge
+  pub since : f.unknown_since ≡ unknown_since events g
+  pub keeps : Keeps (word_or_zero (openings events) g ∷ []) (until f.unknown_since (filter (is_in g) ended)) o.time f.judge
   pub latest : f.judge.latest ≤ o.time
   pub past : f.judge.horizon ≤ o.time
   pub horizon : StartsBy o.requests g f.judge.horizon
@@ -51,7 +50,7 @@ pub record IsWatched (events : List Event) (ended : List Operation) (o : Outstan
 
 -- nothing was told of the granule
 pub record IsUntold (events : List Event) (ended : List Operation) (g : ℕ) : Type 0 where
-  pub known : is_known events g ≡ true
+  pub since : unknown_since events g ≡ None
   pub none : filter (is_in g) ended ≡ []
   pub opening : find_word (openings events) g ≡ None
   pub final_word : find_word (final_words events) g ≡ None
@@ -79,7 +78,7 @@ Takes e ended old new = (events : List Event) (past : List Operation) → Watche
 -- told at the end.
 pub record IsUnexplained (events : List Event) (g : ℕ) : Type 0 where
   pub known : is_known events g ≡ true
-  pub none : (order : List ℕ) → ExplainsGranule (operations events) g (word_or_zero (openings events) g) (final_of events g) order → ⊥
+  pub none : CanBeExplained events g → ⊥
   pub whole : (order : List ℕ) → IsExplainedBy events order → ⊥
 
 -- what was told of the granule is known not to be explained
@@ -95,7 +94,7 @@ CanBeJudged w g = (list_any (λ p. granule_of_request p == g) w.outstanding.requ
 pub record IsFound (w : WatchValue) (g : ℕ) : Type 0 where
   pub followed : Followed
   pub is : granule w g ≡ Some followed
-  pub known : IsTrue followed.is_known
+  pub since : followed.unknown_since ≡ None
   pub judged : CanBeJudged w g
   pub none : IsInexplicable followed.judge followed.final_word
 

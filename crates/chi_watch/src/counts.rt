@@ -1,6 +1,6 @@
 //! How much was told to a watch.
 
-ghost use Rattle.std.specs.Prelude.{◌≡◌, ◌+◌, ◌-◌, ◌^◌, if◌then◌else◌, ℕ, List, length, min, not, count_by};
+ghost use Rattle.std.specs.Prelude.{◌≡◌, ◌+◌, ◌-◌, ◌^◌, if◌then◌else◌, ℕ, List, length, min, is_some, count_by};
 ghost use Rattle.chi_events.specs.declared.event.Event.{Event};
 ghost use Rattle.chi_watch.specs.Counts.{AreCounted, unjudged};
 ghost use Rattle.chi_watch.specs.Watches.{HasTaken};
@@ -19,23 +19,23 @@ pub struct Counts {
 }
 
 /// So many, and one more where it is not judged.
-fn with_unjudged(count: u64, is_known: bool) -> u64
-    ensures { result ≡ min (count + (if is_known then 0 else 1)) (2 ^ 64 - 1) }
+fn with_unjudged(count: u64, is_unjudged: bool) -> u64
+    ensures { result ≡ min (count + (if is_unjudged then 1 else 0)) (2 ^ 64 - 1) }
 {
-    if is_known {
-        count
-    } else {
+    if is_unjudged {
         count.saturating_add(1)
+    } else {
+        count
     }
 }
 
-/// How many of the granules are not judged.
+/// How many of the granules are not judged to the end.
 fn count_unjudged(granules: &BTreeMap<u64, Followed>) -> u64
-    ensures { result ≡ min (count_by (λ e. not e.1.is_known) granules.now.entries) (2 ^ 64 - 1) }
+    ensures { result ≡ min (count_by (λ e. is_some e.1.unknown_since) granules.now.entries) (2 ^ 64 - 1) }
 {
     let mut count = 0;
     for (_, followed) in granules {
-        count = with_unjudged(count, followed.is_known);
+        count = with_unjudged(count, followed.unknown_since.is_some());
     }
     count
 }
@@ -57,8 +57,8 @@ impl Watch {
         }
     }
 
-    /// How many granules are not judged: those to which something that is not told may have written. 2^64 - 1 stands for that
-    /// many and more.
+    /// How many granules are not judged to the end: those to which something that is not told may have written. 2^64 - 1 stands for
+    /// that many and more.
     ///
     /// ```
     /// let count = watch.unjudged();

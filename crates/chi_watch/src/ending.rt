@@ -1,6 +1,6 @@
 //! What is said where the events end.
 
-ghost use Rattle.std.specs.Prelude.{◌≡◌, ◌⊎◌, ℕ, [], true, List, All, IfOk, filter, filter_map};
+ghost use Rattle.std.specs.Prelude.{◌≡◌, ◌⊎◌, ℕ, [], List, All, IfOk, filter, filter_map};
 ghost use Rattle.std.specs.BTreeMap.{get};
 ghost use Rattle.std.specs.Ordering.{nat_cmp};
 ghost use Rattle.chi_events.specs.Outstanding.{open_operation};
@@ -9,12 +9,11 @@ ghost use Rattle.chi_search.specs.Looks.{LookedAtLeast, LookedSome};
 ghost use Rattle.chi_judge.specs.Reaches.{IfUndecided};
 ghost use Rattle.chi_trace.specs.AtPlaces.{is_in};
 ghost use Rattle.chi_watch.specs.Endings.{AreToldTo, CanClose, IsListed};
-ghost use Rattle.chi_watch.specs.Judged.{IsExplained, is_known};
-ghost use Rattle.chi_watch.specs.Quiet.{CanBeExplained};
+ghost use Rattle.chi_watch.specs.Judged.{CanBeExplained, IsExplained};
 ghost use Rattle.chi_watch.specs.Reaching.{IsFoundAtEnd, IsFoundIn, IsUnreachedIn, granules_of};
 ghost use Rattle.chi_watch.specs.Watches.{HasTaken};
 
-use crate::followed::Followed;
+use crate::followed::{Followed, judged_word};
 use crate::granules::close;
 use crate::judge_all::judge_all;
 use crate::reaching::reach_of;
@@ -27,8 +26,8 @@ use chi_trace::laws::{granules_explain, granules_stand_alone, parts_explain};
 use std::alloc::{AllocError, Global};
 use std::collections::BTreeMap;
 
-/// A granule that no order explains, by its number; its word at the end, where one was told; and how far its operations can be
-/// explained.
+/// A granule that no order explains, by its number; its word at the end, where one was told and is judged; and how far its operations
+/// can be explained.
 #[derive(Debug, Drop)]
 pub struct FoundAtEnd {
     pub granule: u64,
@@ -85,7 +84,7 @@ fn found_at_end<P: Progress>(
     let reach = reach_of(alloc, followed, budget, progress)?;
     Ok(FoundAtEnd {
         granule,
-        final_word: followed.final_word,
+        final_word: judged_word(followed),
         reach,
     })
 }
@@ -112,8 +111,8 @@ fn each_found_at_end<P: Progress>(
 }
 
 impl Watch {
-    /// What is said where the events end. Each operation that is still open may have taken effect or not, and each granule of which
-    /// all is told is judged. `budget` is how many states are looked at where one may be explained or not.
+    /// What is said where the events end. Each operation that is still open may have taken effect or not. Of a granule to which
+    /// something that is not told may have written it is judged what had happened before. `budget` is how many states are looked at where one may be explained or not.
     ///
     /// ```
     /// let ending = watch.ending(alloc, 1_000_000, &mut NoProgress)?;
@@ -125,7 +124,7 @@ impl Watch {
         progress: &mut P,
     ) -> Result<Ending, AllocError>
         ensures explained { IfOk result (λ ending. ending.unexplained.items ≡ [] → ending.undecided.items ≡ [] → (events : List Event) → HasTaken events self → IsExplained events) }
-        ensures each { IfOk result (λ ending. (g : ℕ) (events : List Event) → HasTaken events self → is_known events g ≡ true → CanBeExplained events g ⊎ IsListed g (granules_of ending.unexplained.items) ending.undecided.items) }
+        ensures each { IfOk result (λ ending. (g : ℕ) (events : List Event) → HasTaken events self → CanBeExplained events g ⊎ IsListed g (granules_of ending.unexplained.items) ending.undecided.items) }
         ensures unexplained { IfOk result (λ ending. All (λ found. (events : List Event) → HasTaken events self → IsFoundAtEnd events found) ending.unexplained.items) }
         ensures unreached { IfOk result (λ ending. All (λ found. (events : List Event) → HasTaken events self → IfUndecided found.reach (LookedAtLeast P.looked progress.old progress.new budget)) ending.unexplained.items) }
         ensures undecided { IfOk result (λ ending. All (λ g. LookedAtLeast P.looked progress.old progress.new budget) ending.undecided.items) }

@@ -4,11 +4,11 @@ ghost use Rattle.std.specs.Prelude.{◌≡◌, ℕ, ◌+◌, ◌^◌, ◌≤◌,
 ghost use Rattle.std.specs.BTreeMap.{get};
 ghost use Rattle.std.specs.Ordering.{nat_cmp};
 ghost use Rattle.chi_trace.specs.Granules.{granule_of};
-ghost use Rattle.chi_watch.specs.Changes.{HasOneMore, IsMarked, IsTouched, IsTouchedAndMarked};
+ghost use Rattle.chi_watch.specs.Changes.{HasOneMore, IsGoneAt, IsMarked, IsTouched, IsTouchedAndMarked};
 ghost use Rattle.chi_search.specs.Looks.{LookedSome};
 ghost use Rattle.chi_watch.specs.declared.followed.Followed.{Followed};
 
-use crate::followed::{Followed, tell, untouched};
+use crate::followed::{Followed, leave, tell, untouched};
 use chi_search::Progress;
 use chi_trace::Operation;
 use std::alloc::{AllocError, Global};
@@ -59,16 +59,6 @@ fn set_last(granules: &mut BTreeMap<u64, Followed>, granule: u64, word: u64)
     }
 }
 
-/// Notes that something that is not told may have written to a granule.
-fn set_unknown(granules: &mut BTreeMap<u64, Followed>, granule: u64)
-    requires watched { IsTrue (is_some (get nat_cmp granules.now granule)) }
-    ensures { IsMarked granule (λ f. record f { is_known = false }) (get nat_cmp granules.old) (get nat_cmp granules.new) }
-{
-    if let Some(followed) = granules.get_mut(&granule) {
-        followed.is_known = false;
-    }
-}
-
 /// Tells the word after a granule's last request.
 pub(crate) fn tell_last(
     alloc: Global,
@@ -83,15 +73,18 @@ pub(crate) fn tell_last(
     Ok(())
 }
 
-/// Tells that something that is not told may have written to a granule.
-pub(crate) fn forget_one(
+/// Tells that something that is not told may have written to a granule from this time on.
+pub(crate) fn leave_one(
     alloc: Global,
     granules: &mut BTreeMap<u64, Followed>,
     granule: u64,
+    time: u64,
 ) -> Result<(), AllocError>
-    ensures { IfOk result (λ _. IsTouchedAndMarked granule (λ f. record f { is_known = false }) (get nat_cmp granules.old) (get nat_cmp granules.new)) }
+    ensures { IfOk result (λ _. IsGoneAt granule time (get nat_cmp granules.old) (get nat_cmp granules.new)) }
 {
     touch(alloc, granules, granule, 0)?;
-    set_unknown(granules, granule);
-    Ok(())
+    match granules.get_mut(&granule) {
+        Some(followed) => leave(alloc, followed, time),
+        None => Ok(()),
+    }
 }

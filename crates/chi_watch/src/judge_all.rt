@@ -7,7 +7,7 @@ ghost use Rattle.chi_search.specs.Looks.{LookedAtLeast, LookedSome};
 ghost use Rattle.chi_watch.specs.Endings.{IsExplainable, IsInexplicableAt, IsListed};
 ghost use Rattle.chi_watch.specs.ListedAs.{IsListedAs};
 
-use crate::followed::Followed;
+use crate::followed::{Followed, judged_word};
 use chi_judge::Standing;
 use chi_search::Progress;
 use std::alloc::{AllocError, Global};
@@ -32,7 +32,7 @@ fn list(listed: &mut Listed, granule: u64, standing: Standing) -> Result<(), All
     Ok(())
 }
 
-/// Judges each granule of which all is told.
+/// Judges each granule, as far as all that wrote to it is told.
 pub(crate) fn judge_all<P: Progress>(
     alloc: Global,
     granules: &BTreeMap<u64, Followed>,
@@ -49,12 +49,10 @@ pub(crate) fn judge_all<P: Progress>(
         undecided: Vec::new(alloc),
     };
     for (granule, followed) in granules {
-        if followed.is_known {
-            let standing = followed
-                .judge
-                .check(alloc, followed.final_word, budget, progress)?;
-            list(&mut listed, *granule, standing)?;
-        }
+        let standing = followed
+            .judge
+            .check(alloc, judged_word(followed), budget, progress)?;
+        list(&mut listed, *granule, standing)?;
     }
     Ok(listed)
 }

@@ -53,7 +53,7 @@ impl Watch {
         let Some(followed) = self.granules.get(&granule) else {
             return Ok(Reach::Undecided);
         };
-        if !followed.is_known || !self.can_be_judged(followed, granule) {
+        if followed.unknown_since.is_some() || !self.can_be_judged(followed, granule) {
             return Ok(Reach::Undecided);
         }
         reach_of(alloc, followed, budget, progress)

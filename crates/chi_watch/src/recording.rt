@@ -2,8 +2,8 @@
 
 ghost use Rattle.std.specs.Prelude.{◌≡◌, ◌≢◌, List, None, Some, IfErr, IfOk};
 ghost use Rattle.chi_events.specs.declared.event.Event.{Event};
-ghost use Rattle.chi_watch.specs.Judged.{is_known};
-ghost use Rattle.chi_watch.specs.Watches.{HasTaken, Takes, fault_of, knows};
+ghost use Rattle.chi_watch.specs.Judged.{unknown_since};
+ghost use Rattle.chi_watch.specs.Watches.{HasTaken, Takes, fault_of, unknown_in};
 
 use crate::fault::WatchFault;
 use crate::watch::Watch;
@@ -27,18 +27,18 @@ impl Watch {
         self.step(alloc, event, false, &mut NoProgress)
     }
 
-    /// Whether all that wrote to a granule is told, as far as is known.
+    /// From which time on something that is not told may have written to a granule, where it may.
     ///
     /// ```
-    /// let is_judged = watch.is_known(0x1000 / 8);
+    /// let is_judged = watch.unknown_since(0x1000 / 8).is_none();
     /// ```
-    pub fn is_known(&self, granule: u64) -> bool
-        ensures known { result ≡ knows self.now granule }
-        ensures told { (events : List Event) → HasTaken events self.now → result ≡ is_known events granule }
+    pub fn unknown_since(&self, granule: u64) -> Option<u64>
+        ensures since { result ≡ unknown_in self.now granule }
+        ensures told { (events : List Event) → HasTaken events self.now → result ≡ unknown_since events granule }
     {
         match self.granules.get(&granule) {
-            Some(followed) => followed.is_known,
-            None => true,
+            Some(followed) => followed.unknown_since,
+            None => None,
         }
     }
 

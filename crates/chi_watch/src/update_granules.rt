@@ -8,42 +8,44 @@ ghost use Rattle.chi_watch.specs.Changes.{HasLength, IsForgotten, IsUpdated};
 ghost use Rattle.chi_watch.specs.Judged.{covers};
 
 use crate::followed::Followed;
-use crate::granules::{forget_one, tell_last, touch};
+use crate::granules::{leave_one, tell_last, touch};
 use chi_events::EventKind;
 use std::alloc::{AllocError, Global};
 use std::collections::BTreeMap;
 
-/// Tells that something that is not told may have written to the granules of so many bytes from an address on.
-fn forget(
+/// Tells that something that is not told may have written to the granules of so many bytes from an address on, from this time on.
+fn leave_each(
     alloc: Global,
     granules: &mut BTreeMap<u64, Followed>,
     addr: u64,
     length: u64,
+    time: u64,
 ) -> Result<(), AllocError>
     requires { (0 < length) × (addr + length ≤ 2 ^ 52) }
-    ensures { IfOk result (λ _. (g : ℕ) → IsForgotten (covers g (EventKind.Unknown addr length)) (get nat_cmp granules.old g) (get nat_cmp granules.new g)) }
+    ensures { IfOk result (λ _. (g : ℕ) → IsForgotten (covers g (EventKind.Unknown addr length)) time (get nat_cmp granules.old g) (get nat_cmp granules.new g)) }
 {
     let end = (addr + length - 1) / 8 + 1;
     for granule in addr / 8..end {
-        forget_one(alloc, granules, granule)?;
+        leave_one(alloc, granules, granule, time)?;
     }
     Ok(())
 }
 
-/// Updates the granules by an event.
+/// Updates the granules by an event of this time.
 pub(crate) fn update_granules(
     alloc: Global,
     granules: &mut BTreeMap<u64, Followed>,
+    time: u64,
     kind: &EventKind,
 ) -> Result<(), AllocError>
     requires { HasLength kind.now }
-    ensures { IfOk result (λ _. IsUpdated kind.now (get nat_cmp granules.old) (get nat_cmp granules.new)) }
+    ensures { IfOk result (λ _. IsUpdated time kind.now (get nat_cmp granules.old) (get nat_cmp granules.new)) }
 {
     match kind {
         EventKind::Request(request) => touch(alloc, granules, request.fields.addr / 8, 0),
         EventKind::Word(told) => touch(alloc, granules, told.granule, told.word),
         EventKind::Final(told) => tell_last(alloc, granules, told.granule, told.word),
-        EventKind::Unknown { addr, length } => forget(alloc, granules, *addr, *length),
+        EventKind::Unknown { addr, length } => { leave_each(alloc, granules, *addr, *length, time) }
         _ => Ok(()),
     }
 }

@@ -5,9 +5,9 @@ ghost use Rattle.std.specs.List.{list_any};
 ghost use Rattle.chi_events.specs.declared.event.Event.{Event};
 ghost use Rattle.chi_watch.specs.Changes.{HasLength};
 ghost use Rattle.chi_watch.specs.Endings.{IsExplainable};
-ghost use Rattle.chi_watch.specs.Judged.{is_known};
+ghost use Rattle.chi_watch.specs.Judged.{CanBeExplained, is_known};
 ghost use Rattle.chi_search.specs.Looks.{LookedAtLeast, LookedSome};
-ghost use Rattle.chi_watch.specs.Quiet.{BecomesQuiet, CanBeExplained, granule_about};
+ghost use Rattle.chi_watch.specs.Quiet.{BecomesQuiet, granule_about};
 ghost use Rattle.chi_watch.specs.Requests.{granule_of_request};
 ghost use Rattle.chi_watch.specs.Watches.{CanBeJudged, HasTaken, IsFound, IsUnexplained, Takes, Watches, fault_of, granule as granule_of, granule_fault, has_final_word};
 
@@ -156,13 +156,13 @@ impl Watch {
         progress: &mut P,
     ) -> Result<bool, AllocError>
         ensures found { IfOk result (λ is. IsTrue is → IsFound self.now granule) }
-        ensures none { IfOk result (λ is. is ≡ false → list_any (λ p. granule_of_request p == granule) self.now.outstanding.requests ≡ false → IfSome (granule_of self.now granule) (λ f. IsExplainable f ⊎ LookedAtLeast P.looked progress.old progress.new budget)) }
+        ensures none { IfOk result (λ is. is ≡ false → list_any (λ p. granule_of_request p == granule) self.now.outstanding.requests ≡ false → IfSome (granule_of self.now granule) (λ f. f.unknown_since ≡ None → IsExplainable f ⊎ LookedAtLeast P.looked progress.old progress.new budget)) }
         ensures looked { IfOk result (λ _. LookedSome P.looked progress.old progress.new) }
     {
         let Some(followed) = self.granules.get(&granule) else {
             return Ok(false);
         };
-        if !followed.is_known || !self.can_be_judged(followed, granule) {
+        if followed.unknown_since.is_some() || !self.can_be_judged(followed, granule) {
             return Ok(false);
         }
         match followed
@@ -223,7 +223,7 @@ impl Watch {
             looks,
             progress,
         )?;
-        update_granules(alloc, &mut self.granules, &event.kind)?;
+        update_granules(alloc, &mut self.granules, event.time, &event.kind)?;
         self.ended = one_more(self.ended, &ended);
         Ok(ended)
     }

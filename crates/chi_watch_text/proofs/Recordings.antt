@@ -1,9 +1,8 @@
 -- events that are recorded, one after another
-use Rattle.std.proofs.Common.{◌≡◌, ℕ, ◌+◌, ◌==◌, Bool, true, false, cond, filter, List, [], ◌∷◌, ◌++◌, Option, Some, None, IfSome, is_some, Ok, option_to_list, refl, sym, ap, subst, ◌∙◌, eqb-true, eq-eqb, true≢false, IsPermutation}
+use Rattle.std.proofs.Common.{◌≡◌, ℕ, ◌+◌, ◌==◌, Bool, true, false, cond, flat_map, is_none, List, [], ◌∷◌, ◌++◌, Option, Some, None, IfSome, is_some, Ok, option_to_list, refl, sym, ap, ap₂, subst, ◌∙◌, eqb-true, eq-eqb, true≢false, IsPermutation}
 use Rattle.std.specs.BTreeMap.{get}
 use Rattle.std.specs.Io.BufRead.{drop_through, take_through}
 use Rattle.std.specs.Ordering.{nat_cmp}
-use Rattle.std.proofs.lemmas.List.Elements.{filter_agree}
 use Rattle.chi_events.specs.declared.event.Event.{Event}
 use Rattle.chi_reading.specs.EventText.{event_text}
 use Rattle.chi_reading.specs.TraceText.{RecordedValue}
@@ -13,13 +12,13 @@ use Rattle.chi_trace.specs.Explains.{IsTrace}
 use Rattle.chi_trace.specs.Granules.{granule_of}
 use Rattle.chi_trace.specs.Traces.{TraceValue}
 use Rattle.chi_trace.specs.Words.{find_word}
-use Rattle.chi_judge.proofs.Lists.{IsPermutation-filter}
-use Rattle.chi_trace.proofs.TracedCuts.{IsTrace-filter}
 use Rattle.chi_events.specs.Operations.{operations}
-use Rattle.chi_watch.specs.Judged.{final_in, final_of, final_words, is_known, judged, opening_in, openings}
-use Rattle.chi_watch.specs.Watches.{HasTaken, Takes, WatchValue, Watches, knows}
+use Rattle.chi_judge.specs.Until.{until}
+use Rattle.chi_watch.specs.Judged.{final_in, final_of, final_words, judged, judged_part, opening_in, openings, unknown_since}
+use Rattle.chi_watch.specs.Watches.{HasTaken, Takes, WatchValue, Watches, granule, unknown_in}
+use Rattle.chi_watch.proofs.JudgedParts.{judged_permutation, judged_traced}
 use Rattle.chi_watch.proofs.Noted.{finals_more, openings_more, told_other, told_own}
-use Rattle.chi_watch.proofs.Taken.{knows_told}
+use Rattle.chi_watch.proofs.Taken.{since_told}
 use Rattle.chi_watch_text.specs.Operations.{AreInOrder}
 use Rattle.chi_watch_text.specs.Lines.{AreEvents, AreLines, AreTold}
 use Rattle.chi_watch_text.specs.Reading.{IsRead}
@@ -120,29 +119,37 @@ taken_lines None now count r has = tt
 taken_lines (Some text) None count r has = absurd has
 taken_lines (Some text) (Some rest) count r (events, told, has) = (events, told, (r.ended.items, has.watches))
 
--- of a trace the operations of the granules of which all is told are one
-pub known_trace : (w : WatchValue) (ops known : List Operation) → IsTrace ops → known ≡ filter (λ op. knows w (granule_of op)) ops → IsTrace known
-known_trace w ops known is all = subst IsTrace (sym all) (IsTrace-filter (λ op. knows w (granule_of op)) ops is)
+-- what a watch knows of an operation, as far as it is judged
+abbrev pub part_in : WatchValue → Operation → List Operation
+part_in w op = until (unknown_in w (granule_of op)) (op ∷ [])
 
 -- what a watch knows of granules is so of the events
 module _ (events : List Event) (w : WatchValue) (has : HasTaken events w) where
-  known_is_judged : (ops : List Operation) → filter (λ op. knows w (granule_of op)) ops ≡ filter (λ op. is_known events (granule_of op)) ops
-  known_is_judged ops = filter_agree (λ (op : Operation). knows w (granule_of op)) (λ op. is_known events (granule_of op)) (λ op. knows_told events w (granule_of op) has) ops
+  since_is : (g : ℕ) → unknown_in w g ≡ unknown_since events g
+  since_is g = since_told events w g (granule w g) has refl
 
-  known_final : (g : ℕ) (words : List GranuleWord) → find_word words g ≡ find_word (final_words events) g → cond (knows w g) (find_word words g) None ≡ final_of events g
-  known_final g words same = ap (λ (b : Bool). cond b (find_word words g) None) (knows_told events w g has) ∙ ap (λ (o : Option ℕ). cond (is_known events g) o None) same
+  judged_is : (ops : List Operation) → flat_map (part_in w) ops ≡ flat_map (judged_part events) ops
+  judged_is [] = refl
+  judged_is (op ∷ ops) = ap₂ (λ (u : Option ℕ) l. until u (op ∷ []) ++ l) (since_is (granule_of op)) (judged_is ops)
+
+  -- what is judged of a trace is one
+  pub judged_trace : (ops judged : List Operation) → IsTrace ops → judged ≡ flat_map (part_in w) ops → IsTrace judged
+  judged_trace ops judged is all = subst IsTrace (sym (all ∙ judged_is ops)) (judged_traced events ops is)
+
+  known_final : (g : ℕ) (words : List GranuleWord) → find_word words g ≡ find_word (final_words events) g → cond (is_none (unknown_in w g)) (find_word words g) None ≡ final_of events g
+  known_final g words same = ap₂ (λ (u : Option ℕ) (o : Option ℕ). cond (is_none u) o None) (since_is g) same
 
 pub told_trace : (events : List Event) (recording : Recording) (ops known : List Operation) (opening last kept : List GranuleWord) (trace : TraceValue) → HasRecorded events recording → AreInOrder events ops
-    → known ≡ filter (λ op. knows recording.watch (granule_of op)) ops → ((g : ℕ) → find_word opening g ≡ get nat_cmp recording.opening g) → ((g : ℕ) → find_word last g ≡ get nat_cmp recording.final_words g)
-    → ((g : ℕ) → find_word kept g ≡ cond (knows recording.watch g) (find_word last g) None) → trace ≡ record { opening = opening; operations = known }
+    → known ≡ flat_map (part_in recording.watch) ops → ((g : ℕ) → find_word opening g ≡ get nat_cmp recording.opening g) → ((g : ℕ) → find_word last g ≡ get nat_cmp recording.final_words g)
+    → ((g : ℕ) → find_word kept g ≡ cond (is_none (unknown_in recording.watch g)) (find_word last g) None) → trace ≡ record { opening = opening; operations = known }
     → (r : RecordedValue) → r ≡ record { region = None; trace = trace; final_words = kept; refusals = [] } → IsToldTrace events r
 told_trace events recording ops known opening last kept trace has order all first final some is r made =
     let taken : HasTaken events recording.watch = (recording.ended.items, has.watches) in
     subst (IsToldTrace events) (sym made) (record {
       region = refl;
       opening = λ g. ap (λ (t : TraceValue). find_word t.opening g) is ∙ (first g ∙ has.opening g);
-      operations = subst (IsPermutation (judged events)) (sym (ap (λ (t : TraceValue). t.operations) is ∙ (all ∙ known_is_judged events recording.watch taken ops)))
-          (IsPermutation-filter (λ op. is_known events (granule_of op)) (operations events) ops order.same);
+      operations = subst (IsPermutation (judged events)) (sym (ap (λ (t : TraceValue). t.operations) is ∙ (all ∙ judged_is events recording.watch taken ops)))
+          (judged_permutation events (operations events) ops order.same);
       final_words = λ g. some g ∙ known_final events recording.watch taken g last (final g ∙ has.final_words g);
       refusals = refl;
     })

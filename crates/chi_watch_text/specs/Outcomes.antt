@@ -10,8 +10,7 @@ use Rattle.chi_judge.specs.Reaches.{IfUndecided}
 use Rattle.chi_judge.specs.declared.reach.Reach.{Reach}
 use Rattle.chi_watch.specs.Counts.{AreCounted, unjudged}
 use Rattle.chi_watch.specs.Endings.{IsListed}
-use Rattle.chi_watch.specs.Judged.{IsExplained, is_known}
-use Rattle.chi_watch.specs.Quiet.{CanBeExplained}
+use Rattle.chi_watch.specs.Judged.{CanBeExplained, IsExplained}
 use Rattle.chi_watch.specs.Reaching.{IsFoundAtEnd, IsReach, granules_of}
 use Rattle.chi_watch.specs.Watches.{HasTaken, IsUnexplained, WatchValue, fault_of}
 use Rattle.chi_watch.specs.declared.ending.Ending.{Ending}
@@ -89,11 +88,11 @@ abbrev pub AreUnreached : {P : Type 0} → WatchValue → (P → ℕ → Type 0)
 AreUnreached w looked old new budget before after =
     (events : List Event) → HasTaken events w → All (λ f. Contains before f ⊎ IsUnreached looked old new budget f.reach) after
 
--- What is said of events at their end. Where no granule is listed all is explained. Each granule of which all is told can be
--- explained, or is listed; no order explains one that is listed as such.
+-- What is said of events at their end. Where no granule is listed all that is judged is explained. What is judged of each granule can
+-- be explained, or it is listed; no order explains one that is listed as such.
 pub record SaysOf (events : List Event) (ending : Ending) : Type 0 where
   pub whole : ending.unexplained.items ≡ [] → ending.undecided.items ≡ [] → IsExplained events
-  pub each : (g : ℕ) → is_known events g ≡ true → CanBeExplained events g ⊎ IsListed g (granules_of ending.unexplained.items) ending.undecided.items
+  pub each : (g : ℕ) → CanBeExplained events g ⊎ IsListed g (granules_of ending.unexplained.items) ending.undecided.items
   pub unexplained : All (IsFoundAtEnd events) ending.unexplained.items
 
 -- where the reading ends after so many lines: at the end of the text, or, where it does not keep going, once all events are told of
@@ -149,7 +148,7 @@ pub record IsTold (w : WatchValue) (found : List FoundGranule) (ended : Bool) (w
 -- what is said of the events that a watch took
 pub record SaysAtEnd (w : WatchValue) (ending : Ending) : Type 0 where
   pub whole : ending.unexplained.items ≡ [] → ending.undecided.items ≡ [] → (events : List Event) → HasTaken events w → IsExplained events
-  pub each : (g : ℕ) (events : List Event) → HasTaken events w → is_known events g ≡ true → CanBeExplained events g ⊎ IsListed g (granules_of ending.unexplained.items) ending.undecided.items
+  pub each : (g : ℕ) (events : List Event) → HasTaken events w → CanBeExplained events g ⊎ IsListed g (granules_of ending.unexplained.items) ending.undecided.items
   pub unexplained : All (λ f. (events : List Event) → HasTaken events w → IsFoundAtEnd events f) ending.unexplained.items
 
 -- After so many lines a watch took their events, of which none is later than this time, and the last tells the end or does not. These

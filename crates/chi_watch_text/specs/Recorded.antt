@@ -11,8 +11,8 @@ use Rattle.chi_watch.specs.Watches.{Watches}
 use Rattle.chi_watch_text.specs.Lines.{AreToldAll}
 use Rattle.chi_watch_text.specs.declared.recorded.Recording.{Recording}
 
--- This is the trace that events tell: of all addresses, with the operations of the granules of which all is told, by their starts, the
--- words at the opening, and those that were told of these granules at the end. Of refused requests nothing is kept.
+-- This is the trace that events tell: of all addresses, with what is judged of the operations, by their starts, the words at the
+-- opening, and those that were told at the end of the granules of which all is told. Of refused requests nothing is kept.
 pub record IsToldTrace (events : List Event) (r : RecordedValue) : Type 0 where
   pub region : r.region ≡ None
   pub opening : (g : ℕ) → find_word r.trace.opening g ≡ find_word (openings events) g

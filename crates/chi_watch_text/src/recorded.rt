@@ -1,6 +1,6 @@
 //! Events that are read line by line as a trace.
 
-ghost use Rattle.std.specs.Prelude.{◌≡◌, [], ◌∷◌, ◌++◌, List, None, IfErr, IfOk, IfSome, OnOk, filter, if◌then◌else◌, ℕ, option_to_list};
+ghost use Rattle.std.specs.Prelude.{◌≡◌, [], ◌∷◌, ◌++◌, List, None, IfErr, IfOk, IfSome, OnOk, filter, flat_map, if◌then◌else◌, is_none, ℕ, option_to_list};
 ghost use Rattle.std.specs.BTreeMap.{get};
 ghost use Rattle.std.specs.Ordering.{nat_cmp};
 ghost use Rattle.chi_events.specs.declared.event.Event.{Event};
@@ -8,7 +8,8 @@ ghost use Rattle.chi_trace.specs.declared.words.GranuleWord.{GranuleWord};
 ghost use Rattle.chi_trace.specs.Granules.{granule_of};
 ghost use Rattle.chi_trace.specs.Words.{find_word};
 ghost use Rattle.chi_watch.specs.Judged.{final_in, opening_in};
-ghost use Rattle.chi_watch.specs.Watches.{Takes, knows};
+ghost use Rattle.chi_judge.specs.Until.{until};
+ghost use Rattle.chi_watch.specs.Watches.{Takes, unknown_in};
 ghost use Rattle.chi_watch_text.specs.Outcomes.{IsEventFault, IsLinesFault};
 ghost use Rattle.chi_watch_text.specs.Recorded.{HasRecorded, HasWords, IsRecorded, IsToldTrace};
 
@@ -16,6 +17,7 @@ use crate::fault::LinesFault;
 use crate::lines::next_event;
 use crate::operations::{add_some, in_order};
 use chi_events::{Event, EventKind};
+use chi_judge::happened_until;
 use chi_reading::Recorded;
 use chi_trace::{GranuleWord, GranuleWords, Operation, Trace};
 use chi_watch::{Watch, WatchFault};
@@ -77,18 +79,21 @@ fn add_words(
     }
 }
 
-/// Of these operations those of the granules of which all is told.
-fn known_operations(
+/// What is judged of these operations: each as far as it had happened before something that is not told may have written to its
+/// granule.
+fn judged_operations(
     alloc: Global,
     watch: &Watch,
     ops: &[Operation],
 ) -> Result<Vec<Operation>, AllocError>
-    ensures { IfOk result (λ known. known.items ≡ filter (λ op. knows watch.now (granule_of op)) ops.now) }
+    ensures { IfOk result (λ judged. judged.items ≡ flat_map (λ op. until (unknown_in watch.now (granule_of op)) (op ∷ [])) ops.now) }
 {
-    ops.iter()
-        .copied()
-        .filter(|op| watch.is_known(op.granule()))
-        .collect(alloc)
+    let mut judged = Vec::new(alloc);
+    for op in ops {
+        let part = happened_until(op, watch.unknown_since(op.granule()));
+        add_some(&mut judged, part)?;
+    }
+    Ok(judged)
 }
 
 /// Of these words those of the granules of which all is told.
@@ -97,12 +102,12 @@ fn known_told(
     watch: &Watch,
     words: &[GranuleWord],
 ) -> Result<Vec<GranuleWord>, AllocError>
-    ensures { IfOk result (λ known. known.items ≡ filter (λ w. knows watch.now w.granule) words.now) }
+    ensures { IfOk result (λ known. known.items ≡ filter (λ w. is_none (unknown_in watch.now w.granule)) words.now) }
 {
     words
         .iter()
         .copied()
-        .filter(|told| watch.is_known(told.granule))
+        .filter(|told| watch.unknown_since(told.granule).is_none())
         .collect(alloc)
 }
 
@@ -112,7 +117,7 @@ fn known_words(
     watch: &Watch,
     words: &GranuleWords,
 ) -> Result<GranuleWords, AllocError>
-    ensures { IfOk result (λ known. (g : ℕ) → find_word known g ≡ (if knows watch.now g then find_word words.now g else None)) }
+    ensures { IfOk result (λ known. (g : ℕ) → find_word known g ≡ (if is_none (unknown_in watch.now g) then find_word words.now g else None)) }
 {
     let known = known_told(alloc, watch, words.as_slice())?;
     match GranuleWords::new(known) {
@@ -151,20 +156,20 @@ impl Recording {
         ensures { IfOk result (λ recorded. (events : List Event) → HasRecorded events self → IsToldTrace events recorded) }
     {
         let ops = in_order(self.ended, self.watch.outstanding())?;
-        let known = known_operations(alloc, &self.watch, &ops)?;
+        let judged = judged_operations(alloc, &self.watch, &ops)?;
         let opening = GranuleWords::of_map(alloc, &self.opening)?;
         let final_words = GranuleWords::of_map(alloc, &self.final_words)?;
         let final_words = known_words(alloc, &self.watch, &final_words)?;
-        match Trace::new(opening, known) {
+        match Trace::new(opening, judged) {
             Some(trace) => Ok(Recorded::of_addresses(alloc, trace, final_words)),
             None => unreachable!(),
         }
     }
 }
 
-/// Reads events line by line as a trace: of all addresses, with the operations of the granules to which nothing that is not told may
-/// have written, each with the number of the line that told its request; the words at the opening; and those that were told of
-/// these granules at the end. Requests that were refused are left out.
+/// Reads events line by line as a trace: of all addresses, with the operations that they tell, each with the number of the line that
+/// told its request; the words at the opening; and those that were told at the end. Of a granule to which something that is not told
+/// may have written it has what had happened before, and no word at the end. Requests that were refused are left out.
 ///
 /// A line is refused where `watch_lines` refuses it, and for the same reason. The last line needs no line feed, and blank ones
 /// after it tell nothing.

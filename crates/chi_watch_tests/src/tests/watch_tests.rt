@@ -110,7 +110,7 @@ fn a_word_at_the_opening(rt: HostRuntime) -> Result<(), Fail> {
     Ok(())
 }
 
-// After something that is not told the granule is judged no further.
+// What starts after something that is not told is not judged.
 #[test]
 fn something_unknown(rt: HostRuntime) -> Result<(), Fail> {
     for (addr, length, is_found) in [(4100, 1, false), (4104, 64, true)] {
@@ -157,6 +157,6 @@ fn events_that_are_recorded(rt: HostRuntime) -> Result<(), Fail> {
         assert_same(&rt, ended.is_some(), is_end);
     }
     assert_same(&rt, watch.counts().ended, 2);
-    assert_same(&rt, watch.is_known(GRANULE), true);
+    assert_same(&rt, watch.unknown_since(GRANULE), None);
     Ok(())
 }

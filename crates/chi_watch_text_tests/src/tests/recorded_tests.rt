@@ -21,7 +21,8 @@ fn recorded(alloc: Global, texts: &[&str]) -> Result<Recorded, LinesFault> {
     read_events(alloc, &mut from)
 }
 
-// Each operation has the number of the line of its request.
+// Each operation has the number of the line of its request. One that is open when something that is not told may have written there
+// is of the trace.
 #[test]
 fn operations_and_words(rt: HostRuntime) -> Result<(), Fail> {
     let texts = [WRITE, READ, FIVE, LAST, READ_OF_UNKNOWN, UNKNOWN];
@@ -32,7 +33,12 @@ fn operations_and_words(rt: HostRuntime) -> Result<(), Fail> {
         .iter()
         .map(|op| (op.number, op.start, op.end))
         .collect(rt.alloc())?;
-    assert_same(&rt, times.as_slice(), [(1, 1, 2), (3, 3, 4)].as_slice());
+    let open = (6, 9, u64::MAX);
+    assert_same(
+        &rt,
+        times.as_slice(),
+        [(1, 1, 2), (3, 3, 4), open].as_slice(),
+    );
     assert_same(&rt, recorded.final_words().get(514), Some(8));
     assert_same(&rt, recorded.refusals().len(), 0);
     Ok(())

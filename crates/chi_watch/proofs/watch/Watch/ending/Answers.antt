@@ -10,7 +10,7 @@ use Rattle.chi_search.specs.Looks.{LookedAtLeast, LookedSome}
 use Rattle.chi_judge.specs.Reaches.{IfUndecided}
 use Rattle.chi_search.proofs.Looking.{at_least_after, at_least_before, some_after}
 use Rattle.chi_watch.specs.Endings.{AreToldTo, CanClose, IsListed}
-use Rattle.chi_watch.specs.Quiet.{CanBeExplained}
+use Rattle.chi_watch.specs.Judged.{CanBeExplained}
 use Rattle.chi_watch.specs.Reaching.{IsFoundAtEnd, IsFoundIn, IsUnreachedIn, granules_of}
 use Rattle.chi_watch.specs.Watches.{HasTaken, WatchValue, granule}
 use Rattle.chi_watch.specs.declared.ending.FoundAtEnd.{FoundAtEnd}
@@ -43,14 +43,14 @@ returns-clause-explained g c unexplained undecided events has =
     (λ h. none_listed h un c.in_ok-listed.listed.undecided.items no_un undecided (new h) (c.in_ok-listed.ensures.each h)) events has
 
 pub returns-clause-each : goal.returns-clause-each
-returns-clause-each g c h events has known =
+returns-clause-each g c h events has =
     let new = get nat_cmp c.close_open.new.granules in
     let closes = closes_of _ c.args.self _ new c.self.view_is c.requests-requests.ensures.requests c.in_ok-close_open.ensures.told in
     let are_open = subst (λ (w : WatchValue). All (IsOpen w.outstanding.time) w.outstanding.requests) c.self.view_is c.requests-requests.ensures.are_open in
     let un = c.in_ok-listed.listed.unexplained.items in
     let same : granules_of c.in_ok-unexplained.unexplained.items ≡ un = c.in_ok-unexplained.ensures.granules ∙ c.deref.ensures.value in
     subst (λ (l : List ℕ). CanBeExplained events h ⊎ IsListed h l c.in_ok-listed.listed.undecided.items) (sym same)
-    (ended_each c.operations_are_told.ensures c.granules_stand_alone.ensures (IsListed h un c.in_ok-listed.listed.undecided.items) c.args.self new are_open closes h (c.in_ok-listed.ensures.each h) events has known)
+    (ended_each c.operations_are_told.ensures c.granules_stand_alone.ensures (IsListed h un c.in_ok-listed.listed.undecided.items) c.args.self new are_open closes h (c.in_ok-listed.ensures.each h) events has)
 
 pub returns-clause-unexplained : goal.returns-clause-unexplained
 returns-clause-unexplained g c =
@@ -78,7 +78,7 @@ returns-clause-unreached g c =
     let before : LookedSome looked old judged = some_after looked old closed judged c.in_ok-close_open.ensures.looked c.in_ok-listed.ensures.looked in
     all_found new (IsUnreachedIn looked judged last c.args.budget new) (λ (f : FoundAtEnd). (events : List Event) → HasTaken events c.args.self → IfUndecided f.reach whole) c.in_ok-unexplained.unexplained.items un same
     c.in_ok-listed.ensures.unexplained c.in_ok-unexplained.ensures.undecided
-    (λ f none spent. ended_unreached c.operations_are_told.ensures c.parts_explain.ensures whole c.args.self new are_open closes f none
+    (λ f none spent. ended_unreached c.operations_are_told.ensures whole c.args.self new are_open closes f none
     (unreached_after looked old judged last c.args.budget new before f spent))
 
 pub returns-clause-undecided : goal.returns-clause-undecided

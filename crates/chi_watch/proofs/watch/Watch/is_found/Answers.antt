@@ -1,24 +1,33 @@
 -- A granule whose judge says so can be explained, or cannot.
-use Rattle.std.proofs.Common.{◌≡◌, ◌⊎◌, IfSome, Option, Some, arith, inl, inr, subst, sym, ◌∙◌}
-use Rattle.chi_watch.specs.Endings.{IsExplainable}
+use Rattle.std.specs.Prelude.{is_none}
+use Rattle.std.proofs.Common.{◌≡◌, ◌⊎◌, ℕ, IfSome, Option, None, Some, is_some, cond, false, arith, inl, inr, ap, refl, subst, sym, ◌∙◌, true≢false}
+use Rattle.chi_watch.specs.Endings.{IsExplainable, judged_word}
 use Rattle.chi_search.specs.Looks.{LookedAtLeast}
 use Rattle.chi_watch.specs.Watches.{WatchValue, granule}
 use Rattle.chi_watch.specs.declared.followed.Followed.{Followed}
-use Rattle.chi_judge.specs.Standings.{IfUnexplained, IsInexplicable}
+use Rattle.chi_judge.specs.Standings.{IfUnexplained, IsExplainable as CanExplain, IsInexplicable}
 use Rattle.chi_judge.specs.declared.standing.Standing.{Standing}
 use Rattle.chi_watch.proofs.Found.{can_be}
 use Rattle.chi_watch.proofs.Judging.{said_explained, said_undecided}
 use Rattle.chi_watch.proofs.watch.Watch.is_found.Goals as goal
 
+no_time : (u : Option ℕ) → is_some u ≡ false → u ≡ None
+no_time None is = refl
+no_time (Some time) is = absurd (true≢false is)
+
+-- the word at the end of a granule of which all that wrote to it is told
+word_here : (f : Followed) → f.unknown_since ≡ None → f.final_word ≡ judged_word f
+word_here f since = sym (ap (λ (u : Option ℕ). cond (is_none u) f.final_word None) since)
+
 pub returns-in-Explained-clause-none : goal.returns-in-Explained-clause-none
 returns-in-Explained-clause-none g c so quiet =
     let said : IsExplainable c.in-Some.followed.now ⊎ LookedAtLeast g.P.Progress.looked c.args.progress.now c.check.new.progress c.args.budget =
     elim c.in-Explained.is [
-      | inl is ↦ inl (λ known. said_explained c.in_ok-check.field-0 _ is c.in_ok-check.ensures.explained)
+      | inl is ↦ inl (subst (CanExplain c.in-Some.followed.now.judge) (word_here c.in-Some.followed.now (no_time c.in-Some.followed.now.unknown_since (sym c.is_some.ensures ∙ c.if-is_some.false))) (said_explained c.in_ok-check.field-0 _ is c.in_ok-check.ensures.explained))
       | inr is ↦ inr (c.args.budget, omega arith, said_undecided c.in_ok-check.field-0 _ is c.in_ok-check.ensures.undecided)
     ] in
-    let judged = λ (f : Followed). IsExplainable f ⊎ LookedAtLeast g.P.Progress.looked c.args.progress.now c.check.new.progress c.args.budget in
-    subst (λ (w : WatchValue). IfSome (granule w c.args.granule) judged) c.self.view_is (subst (λ (o : Option Followed). IfSome o judged) c.in-Some.ensures.value said)
+    let judged = λ (f : Followed). f.unknown_since ≡ None → IsExplainable f ⊎ LookedAtLeast g.P.Progress.looked c.args.progress.now c.check.new.progress c.args.budget in
+    subst (λ (w : WatchValue). IfSome (granule w c.args.granule) judged) c.self.view_is (subst (λ (o : Option Followed). IfSome o judged) c.in-Some.ensures.value (λ since. said))
 
 pub returns-in-Unexplained-clause-found : goal.returns-in-Unexplained-clause-found
 returns-in-Unexplained-clause-found g c so =
@@ -28,7 +37,7 @@ returns-in-Unexplained-clause-found g c so =
     record {
       followed = f;
       is = here;
-      known = c.if-not-followed.false;
+      since = no_time f.unknown_since (sym c.is_some.ensures ∙ c.if-is_some.false);
       judged = can_be w c.args.granule f here (sym c.can_be_judged.ensures ∙ c.if-not-can_be_judged.false);
       none = subst (λ (s : Standing). IfUnexplained s (IsInexplicable f.judge f.final_word)) c.in-Unexplained.is c.in_ok-check.ensures.unexplained;
     }

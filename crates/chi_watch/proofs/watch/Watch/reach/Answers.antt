@@ -1,20 +1,28 @@
 -- What is kept of a granule that can be judged says how far its operations can be explained.
-use Rattle.std.proofs.Common.{◌≡◌, List, All, Some, None, sym, subst, ◌∙◌, true≢false}
+use Rattle.std.specs.Prelude.{is_none}
+use Rattle.std.proofs.Common.{◌≡◌, ℕ, List, All, Option, Some, None, is_some, true, false, refl, sym, subst, ◌∙◌, true≢false}
 use Rattle.std.proofs.lemmas.Result.{IfOk-weaker}
-use Rattle.chi_events.specs.Operations.{operations}
 use Rattle.chi_events.specs.Outstanding.{IsOpen}
 use Rattle.chi_events.specs.declared.event.Event.{Event}
 use Rattle.chi_search.specs.Looks.{LookedAtLeast}
 use Rattle.chi_judge.specs.Reaches.{IfUndecided}
 use Rattle.chi_judge.specs.declared.reach.Reach.{Reach}
 use Rattle.chi_trace.specs.Words.{word_or_zero}
-use Rattle.chi_watch.specs.Judged.{openings}
+use Rattle.chi_watch.specs.Judged.{judged, openings}
 use Rattle.chi_watch.specs.Reaching.{IsOfSomeTrace, IsReach, ReachesBy}
 use Rattle.chi_watch.specs.Watches.{CanBeJudged, HasTaken, IsUnexplained, WatchValue, granule}
 use Rattle.chi_watch.proofs.Found.{can_be, can_not}
 use Rattle.chi_watch.proofs.Reached.{judged_here, undecided_weaker, unexplained_known, untold_explained, shown_here}
 use Rattle.chi_watch.proofs.watch.Watch.reach.Goals as goal
-use Rattle.chi_watch.proofs.watch.Watch.reach.Goals.{then-not-followed-via-then-not-followed, then-not-followed-via-else-not-followed+then-not-can_be_judged}
+use Rattle.chi_watch.proofs.watch.Watch.reach.Goals.{then-is_some-via-then-is_some, then-is_some-via-else-is_some+then-not-can_be_judged}
+
+no_time : (u : Option ℕ) → is_some u ≡ false → u ≡ None
+no_time None is = refl
+no_time (Some time) is = absurd (true≢false is)
+
+some_time : (u : Option ℕ) → is_some u ≡ true → is_none u ≡ true → ⊥
+some_time None some none = true≢false (sym some)
+some_time (Some time) some none = true≢false (sym none)
 
 pub returns-in_default-clause-undecided : goal.returns-in_default-clause-undecided
 returns-in_default-clause-undecided g c can events has not =
@@ -23,15 +31,15 @@ returns-in_default-clause-undecided g c can events has not =
     let none : granule w c.args.granule ≡ None = subst (λ (v : WatchValue). granule v c.args.granule ≡ None) c.self.view_is (sym c.in_default.ensures.value) in
     absurd (untold_explained c.operations_are_told.ensures c.granules_stand_alone.ensures events w are_open has c.args.granule none can not)
 
-pub returns-then-not-followed-clause-undecided : goal.returns-then-not-followed-clause-undecided
-returns-then-not-followed-clause-undecided g c can events has not =
+pub returns-then-is_some-clause-undecided : goal.returns-then-is_some-clause-undecided
+returns-then-is_some-clause-undecided g c can events has not =
     let w = c.args.self.now in
     let f = c.in-Some.followed.now in
     let here : granule w c.args.granule ≡ Some f = subst (λ (v : WatchValue). granule v c.args.granule ≡ Some f) c.self.view_is (sym c.in-Some.ensures.value) in
     let known = unexplained_known events w has c.args.granule f here not in
-    elim c.then-not-followed.branch [
-      | then-not-followed-via-then-not-followed b ↦ absurd (true≢false (sym known ∙ b.if-not-followed.true))
-      | then-not-followed-via-else-not-followed+then-not-can_be_judged b ↦ absurd (can_not w c.args.granule f here (sym b.can_be_judged.ensures ∙ b.if-not-can_be_judged.true) can)
+    elim c.then-is_some.branch [
+      | then-is_some-via-then-is_some b ↦ absurd (some_time f.unknown_since (sym c.is_some.ensures ∙ b.if-is_some.true) known)
+      | then-is_some-via-else-is_some+then-not-can_be_judged b ↦ absurd (can_not w c.args.granule f here (sym b.can_be_judged.ensures ∙ b.if-not-can_be_judged.true) can)
     ]
 
 pub returns-clause-right : goal.returns-clause-right
@@ -43,7 +51,7 @@ returns-clause-right g c =
     let here : granule w n ≡ Some f = subst (λ (v : WatchValue). granule v n ≡ Some f) c.self.view_is (sym c.in-Some.ensures.value) in
     let can = can_be w n f here (sym c.can_be_judged.ensures ∙ c.if-not-can_be_judged.false) in
     IfOk-weaker c.reach_of.result (ReachesBy f.judge) (λ (reach : Reach). (events : List Event) → HasTaken events w → IsReach events n reach)
-    (λ reach by events has. by (shown_here events w has n f here) (operations events) n (word_or_zero (openings events) n) (judged_here c.operations_are_told.ensures events w are_open has n f here c.if-not-followed.false can))
+    (λ reach by events has. by (shown_here events w has n f here) (judged events) n (word_or_zero (openings events) n) (judged_here c.operations_are_told.ensures events w are_open has n f here (no_time f.unknown_since (sym c.is_some.ensures ∙ c.if-is_some.false)) can))
     c.reach_of.ensures.right
 
 pub returns-clause-undecided : goal.returns-clause-undecided
@@ -58,9 +66,9 @@ returns-clause-undecided g c =
     (λ (reach : Reach). IfUndecided reach (CanBeJudged w n → (events : List Event) → HasTaken events w → IsUnexplained events n → whole))
     (λ reach is. undecided_weaker reach
     (λ spent can events has not. spent (
-      operations events,
+      judged events,
       n,
       word_or_zero (openings events) n,
-      judged_here c.operations_are_told.ensures events w are_open has n f here c.if-not-followed.false can,
+      judged_here c.operations_are_told.ensures events w are_open has n f here (no_time f.unknown_since (sym c.is_some.ensures ∙ c.if-is_some.false)) can,
     )) is)
     c.reach_of.ensures.undecided

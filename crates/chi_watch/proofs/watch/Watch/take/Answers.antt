@@ -1,9 +1,9 @@
 -- What is found after the event, or not, is so of the events with it.
 use Rattle.std.proofs.Common.{◌≡◌, ℕ, ◌==◌, ◌⊎◌, ◌++◌, ◌∷◌, [], false, true, inl, inr, Some, sym, subst, ◌∙◌}
 use Rattle.std.specs.List.{list_any}
-use Rattle.chi_watch.specs.Judged.{is_known}
+use Rattle.chi_watch.specs.Judged.{CanBeExplained, is_known}
 use Rattle.chi_search.specs.Looks.{LookedAtLeast}
-use Rattle.chi_watch.specs.Quiet.{CanBeExplained, granule_about}
+use Rattle.chi_watch.specs.Quiet.{granule_about}
 use Rattle.chi_watch.specs.Requests.{granule_of_request}
 use Rattle.chi_search.proofs.Looking.{at_least_after, some_after}
 use Rattle.chi_watch.proofs.Taken.{taken_more}
