@@ -115,6 +115,12 @@ class Told:
     def stop_lines(self, granule):
         return stop_lines(*self.of_granule(granule))
 
+    def stop_time(self, granule):
+        """The time up to which nothing explains the granule, or the last where only its word at the end is not explained."""
+        word, operations, _ = self.of_granule(granule)
+        time = first_unexplained(word, operations)
+        return MOST if time is None else time
+
     def counts(self):
         return [
             f"  operations that ended: {len(self.ended)}",
@@ -162,9 +168,9 @@ class Watched:
         self.settle()
         if self.places and not keeps_going:
             return
-        for granule in sorted(self.told.granules):
-            if granule not in self.places and not self.told.is_explained(granule):
-                self.find(granule, None)
+        left = [it for it in sorted(self.told.granules) if it not in self.places and not self.told.is_explained(it)]
+        for granule in sorted(left, key=self.told.stop_time):
+            self.find(granule, None)
 
     def find(self, granule, line):
         self.places[granule], self.stops[granule], self.traces[granule] = line, self.told.stop_lines(granule), self.told.trace(granule)

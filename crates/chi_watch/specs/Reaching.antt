@@ -1,5 +1,5 @@
 -- how far a granule's operations can be explained
-use Rattle.std.specs.Prelude.{◌≡◌, ℕ, List, Option, IfSome, map}
+use Rattle.std.specs.Prelude.{◌≡◌, ℕ, ◌-◌, ◌^◌, List, Option, IfSome, map}
 use Rattle.chi_events.specs.declared.event.Event.{Event}
 use Rattle.chi_search.specs.Looks.{LookedAtLeast}
 use Rattle.chi_judge.specs.Reaches.{AreLast, IfUndecided, IsJudgeOf, IsStop}
@@ -39,6 +39,12 @@ pub record IsFoundIn (granules : ℕ → Option Followed) (found : FoundAtEnd) :
 -- where that is not known so many states were looked at
 abbrev pub IsUnreachedIn : {P : Type 0} → (P → ℕ → Type 0) → P → P → ℕ → (ℕ → Option Followed) → FoundAtEnd → Type 0
 IsUnreachedIn looked old new budget granules found = IfSome (granules found.granule) (λ f. IfUndecided found.reach (IsOfSomeTrace f.judge → LookedAtLeast looked old new budget))
+
+-- the time up to which no order explains them, where it is known, and else the last
+abbrev pub stop_time : Reach → ℕ
+stop_time (Whole words) = 2 ^ 64 - 1
+stop_time (Stops stop) = stop.time
+stop_time Undecided = 2 ^ 64 - 1
 
 -- the granules that are found at the end
 abbrev pub granules_of : List FoundAtEnd → List ℕ

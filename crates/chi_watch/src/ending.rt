@@ -1,6 +1,7 @@
 //! What is said where the events end.
 
-ghost use Rattle.std.specs.Prelude.{◌≡◌, ◌⊎◌, ℕ, [], List, All, IfOk, filter, filter_map};
+ghost use Rattle.std.specs.Prelude.{◌≡◌, ◌⊎◌, ℕ, [], List, All, IfOk, IsPermutation, filter, filter_map};
+ghost use Rattle.std.specs.List.Sorted.{IsNonDecreasingBy};
 ghost use Rattle.std.specs.BTreeMap.{get};
 ghost use Rattle.std.specs.Ordering.{nat_cmp};
 ghost use Rattle.chi_events.specs.Outstanding.{open_operation};
@@ -10,7 +11,7 @@ ghost use Rattle.chi_judge.specs.Reaches.{IfUndecided};
 ghost use Rattle.chi_trace.specs.AtPlaces.{is_in};
 ghost use Rattle.chi_watch.specs.Endings.{AreToldTo, CanClose, IsListed};
 ghost use Rattle.chi_watch.specs.Judged.{CanBeExplained, IsExplained};
-ghost use Rattle.chi_watch.specs.Reaching.{IsFoundAtEnd, IsFoundIn, IsUnreachedIn, granules_of};
+ghost use Rattle.chi_watch.specs.Reaching.{IsFoundAtEnd, IsFoundIn, IsUnreachedIn, granules_of, stop_time};
 ghost use Rattle.chi_watch.specs.Watches.{HasTaken};
 
 use crate::followed::{Followed, judged_word};
@@ -35,8 +36,9 @@ pub struct FoundAtEnd {
     pub reach: Reach,
 }
 
-/// The granules whose operations no order explains, and those of which that is not decided, in the order of their addresses.
-/// Where there are none of either, all that was told is explained.
+/// The granules whose operations no order explains, in the order of the times at which they stop being explained, and then of their
+/// addresses; and those of which that is not decided, in the order of their addresses. Where there are none of either, all that was
+/// told is explained.
 #[derive(Debug, Drop)]
 pub struct Ending {
     pub unexplained: Vec<FoundAtEnd>,
@@ -110,6 +112,25 @@ fn each_found_at_end<P: Progress>(
     Ok(found)
 }
 
+/// The time up to which no order explains a granule, where it is known, and else the last.
+fn stop_time(found: &FoundAtEnd) -> u64
+    ensures { result ≡ stop_time found.now.reach }
+{
+    match &found.reach {
+        Reach::Stops(stop) => stop.time,
+        Reach::Whole(_) | Reach::Undecided => u64::MAX,
+    }
+}
+
+/// The granules in the order of these times.
+fn by_time(mut found: Vec<FoundAtEnd>) -> Result<Vec<FoundAtEnd>, AllocError>
+    ensures same { IfOk result (λ sorted. IsPermutation found.items sorted.items) }
+    ensures earliest { IfOk result (λ sorted. IsNonDecreasingBy (λ f. stop_time f.reach) sorted.items) }
+{
+    found.sort_by_key(stop_time)?;
+    Ok(found)
+}
+
 impl Watch {
     /// What is said where the events end. Each operation that is still open may have taken effect or not. Of a granule to which
     /// something that is not told may have written it is judged what had happened before. `budget` is how many states are looked at where one may be explained or not.
@@ -126,6 +147,7 @@ impl Watch {
         ensures explained { IfOk result (λ ending. ending.unexplained.items ≡ [] → ending.undecided.items ≡ [] → (events : List Event) → HasTaken events self → IsExplained events) }
         ensures each { IfOk result (λ ending. (g : ℕ) (events : List Event) → HasTaken events self → CanBeExplained events g ⊎ IsListed g (granules_of ending.unexplained.items) ending.undecided.items) }
         ensures unexplained { IfOk result (λ ending. All (λ found. (events : List Event) → HasTaken events self → IsFoundAtEnd events found) ending.unexplained.items) }
+        ensures earliest { IfOk result (λ ending. IsNonDecreasingBy (λ f. stop_time f.reach) ending.unexplained.items) }
         ensures unreached { IfOk result (λ ending. All (λ found. (events : List Event) → HasTaken events self → IfUndecided found.reach (LookedAtLeast P.looked progress.old progress.new budget)) ending.unexplained.items) }
         ensures undecided { IfOk result (λ ending. All (λ g. LookedAtLeast P.looked progress.old progress.new budget) ending.undecided.items) }
         ensures looked { IfOk result (λ _. LookedSome P.looked progress.old progress.new) }
@@ -138,13 +160,8 @@ impl Watch {
         let requests = self.outstanding.requests();
         close_open(alloc, &mut granules, requests, progress)?;
         let listed = judge_all(alloc, &granules, budget, progress)?;
-        let unexplained = each_found_at_end(
-            alloc,
-            &granules,
-            &listed.unexplained,
-            budget,
-            progress,
-        )?;
+        let found = each_found_at_end(alloc, &granules, &listed.unexplained, budget, progress)?;
+        let unexplained = by_time(found)?;
         Ok(Ending {
             unexplained,
             undecided: listed.undecided,
