@@ -1,5 +1,5 @@
 -- operations that are told to a search one after the other
-use Rattle.std.proofs.Common.{◌≡◌, ℕ, ◌⊎◌, List, ◌∷◌, IfOk, inl, inr, arith}
+use Rattle.std.proofs.Common.{◌≡◌, ℕ, ◌⊎◌, All, List, ◌∷◌, IfOk, inl, inr, arith, subst, sym}
 use Rattle.std.specs.Prelude.{Result, Ok, Err}
 use Rattle.std.proofs.lemmas.List.Elements.{All-head, All-tail, All-weaker}
 use Rattle.chi_trace.specs.declared.operation.Operation.{Operation}
@@ -12,7 +12,8 @@ use Rattle.chi_search.specs.Frontiers.{CanBeTold, FrontierValue, MayBeTold}
 use Rattle.chi_judge.specs.declared.reach.Reach.{Reach}
 use Rattle.chi_judge.specs.declared.reach.Reach.TheVariants.{Whole, Stops, Undecided}
 use Rattle.chi_judge.specs.declared.reach.Stop.{Stop}
-use Rattle.chi_judge.specs.Reaches.{IfStops, IfUndecided, MissesNone}
+use Rattle.chi_judge.specs.Judges.{JudgeValue, LiesWithin}
+use Rattle.chi_judge.specs.Reaches.{IfStops, IfUndecided, IsJudgeOf, MissesNone}
 use Rattle.chi_search.specs.Looks.{LookedAtLeast, LookedSome}
 use Rattle.chi_search.proofs.Looking.{at_least_after, at_least_before}
 use Rattle.chi_judge.proofs.Cutting.{ends_after, sorted_tail}
@@ -38,6 +39,12 @@ may_rest f next op rest horizon latest may = record {
 -- the first may be told
 pub may_first : (f : FrontierValue) (op : Operation) (rest : List Operation) → MayBeTold f (op ∷ rest) → CanBeTold f op
 may_first f op rest may = All-head (CanBeTold f) op rest may.each
+
+-- what follows where the operations that a judge keeps may be told to the search before them
+pub told_kept : {A : Type 0} (before : FrontierValue) (ops : List Operation) (r : JudgeValue) → before ≡ r.before → ops ≡ r.kept → (MayBeTold before ops → All LiesWithin ops → A)
+    → (trace : List Operation) (g w : ℕ) → IsJudgeOf trace g w r → A
+told_kept before ops r same kept said trace g w is =
+    said (subst (λ (f : FrontierValue). MayBeTold f ops) (sym same) (subst (MayBeTold r.before) (sym kept) is.keeps.next)) (subst (All LiesWithin) (sym kept) is.keeps.within)
 
 -- what follows of words, and of words that are not known
 pub words_imply : (found : Words) (P Q : List ℕ → Type 0) → ((each : List ℕ) → P each → Q each) → IfWords found P → IfWords found Q
@@ -83,10 +90,6 @@ ok_undecided_implies (Ok (Whole words)) implies is looked = tt
 ok_undecided_implies (Ok (Stops stop)) implies is looked = tt
 ok_undecided_implies (Ok Undecided) implies is looked = implies is looked
 ok_undecided_implies (Err e) implies is looked = tt
-
-pub ok_implies : {E L M : Type 0} (r : Result Reach E) → (L → M) → IfOk r (λ reach. L) → IfOk r (λ reach. M)
-ok_implies (Ok reach) implies is = implies is
-ok_implies (Err e) implies is = tt
 
 -- what follows where they stop
 pub ok_stops_imply : {E L : Type 0} (r : Result Reach E) (P Q : Stop → Type 0) → ((stop : Stop) → L → P stop → Q stop) → IfOk r (λ reach. IfStops reach P) → IfOk r (λ reach. L) → IfOk r (λ reach. IfStops reach Q)

@@ -26,8 +26,8 @@ fn answered_count(ops: &[Operation]) -> usize
 }
 
 impl Judge {
-    /// The latest time up to which the operations that were told are seen to be explained, of the ends of those that were answered;
-    /// where there is none such the one before those that are kept. A bisection tries these ends, each within so many states.
+    /// The latest time up to which the operations that were told are seen to be explained: of the ends of those that are kept, up to
+    /// the last that was answered, and of the time before these. A bisection tries the ends, each within so many states.
     ///
     /// ```
     /// let time = judge.explained_to(alloc, 1_000_000, &mut NoProgress)?;

@@ -10,6 +10,7 @@ use Rattle.chi_trace.specs.declared.operation.Operation.{Operation}
 use Rattle.chi_judge.specs.Judges.{GoesNowhere, GoesOn, LiesWithin, JudgeValue}
 use Rattle.chi_judge.specs.Reaches.{IsExplained, IsJudgeOf}
 use Rattle.chi_judge.specs.Searches.{IsSeen}
+use Rattle.chi_judge.proofs.More.{told_kept}
 use Rattle.chi_judge.proofs.Reached.{explained_by, unexplained_by}
 use Rattle.chi_judge.proofs.judge.Judge.is_explained.Goals as goal
 use Rattle.chi_judge.proofs.judge.Judge.is_explained.Goals.{in-Nothing, in-Order, in-Undecided}
@@ -20,13 +21,6 @@ Explained r time looked is = IsTrue is → (trace : List Operation) (n w : ℕ) 
 
 abbrev Unexplained : JudgeValue → ℕ → Type 0 → Bool → Type 0
 Unexplained r time looked is = is ≡ false → (trace : List Operation) (n w : ℕ) → IsJudgeOf trace n w r → IsSeen r time → (IsExplained time trace n w → ⊥) ⊎ looked
-
--- where neither was found so many states were looked at
-spent : {P : Type 0} (looked : P → ℕ → Type 0) (old new : P) (budget : ℕ) (before : FrontierValue) (ops : List Operation) (r : JudgeValue) → before ≡ r.before → ops ≡ r.kept
-    → (MayBeTold before ops → All LiesWithin ops → LookedMore looked old new budget) → (trace : List Operation) (n w : ℕ) → IsJudgeOf trace n w r → LookedAtLeast looked old new budget
-spent looked old new budget before ops r same kept said trace n w is =
-    let next = subst (λ (f : FrontierValue). MayBeTold f ops) (sym same) (subst (λ (l : List Operation). MayBeTold r.before l) (sym kept) is.keeps.next) in
-    (budget, omega arith, said next (subst (All LiesWithin) (sym kept) is.keeps.within))
 
 pub returns-clause-explained : goal.returns-clause-explained
 returns-clause-explained g c =
@@ -44,7 +38,7 @@ returns-clause-explained g c =
           (subst (λ (ops : List Operation). GoesOn c.self.inside.before (cut c.args.time ops)) c.requires.kept on))))
       | in-Undecided m ↦
           let said = subst (λ (f : Found). IfUndecided f (MayBeTold c.self.inside.before c.args.ops.now → All LiesWithin c.args.ops.now → more)) m.in-Undecided.is c.in_ok-order_by.ensures.undecided in
-          subst (λ (o : _). IfOk o P) (sym m.result-is) (λ so trace n w is seen. inr (so, spent g.P.Progress.looked c.args.progress.now c.order_by.new.progress c.args.budget c.self.inside.before c.args.ops.now r (ap (λ (v : JudgeValue). v.before) c.self.view_is) c.requires.kept said trace n w is))
+          subst (λ (o : _). IfOk o P) (sym m.result-is) (λ so trace n w is seen. inr (so, (c.args.budget, omega arith, told_kept c.self.inside.before c.args.ops.now r (ap (λ (v : JudgeValue). v.before) c.self.view_is) c.requires.kept said trace n w is)))
     ]
 
 pub returns-clause-unexplained : goal.returns-clause-unexplained
@@ -63,5 +57,5 @@ returns-clause-unexplained g c =
           (subst (λ (ops : List Operation). GoesNowhere c.self.inside.before (cut c.args.time ops)) c.requires.kept none))))
       | in-Undecided m ↦
           let said = subst (λ (f : Found). IfUndecided f (MayBeTold c.self.inside.before c.args.ops.now → All LiesWithin c.args.ops.now → more)) m.in-Undecided.is c.in_ok-order_by.ensures.undecided in
-          subst (λ (o : _). IfOk o P) (sym m.result-is) (λ so trace n w is seen. inr (so, spent g.P.Progress.looked c.args.progress.now c.order_by.new.progress c.args.budget c.self.inside.before c.args.ops.now r (ap (λ (v : JudgeValue). v.before) c.self.view_is) c.requires.kept said trace n w is))
+          subst (λ (o : _). IfOk o P) (sym m.result-is) (λ so trace n w is seen. inr (so, (c.args.budget, omega arith, told_kept c.self.inside.before c.args.ops.now r (ap (λ (v : JudgeValue). v.before) c.self.view_is) c.requires.kept said trace n w is)))
     ]

@@ -1,8 +1,9 @@
 -- up to the last end no order explains them
 use Rattle.std.proofs.Common.{◌≡◌, ℕ, ◌-◌, ◌<◌, ◌≤◌, true, false, List, All, length, take, sym, ap, subst, ◌∙◌, arith}
+use Rattle.std.proofs.lemmas.Result.{IfOk-weaker}
 use Rattle.chi_search.specs.declared.order.Found.{Found}
 use Rattle.chi_search.specs.Found.{IfNothing, IfOrder, IfUndecided as IfNeither}
-use Rattle.chi_search.specs.Frontiers.{FrontierValue, MayBeTold}
+use Rattle.chi_search.specs.Frontiers.{MayBeTold}
 use Rattle.chi_search.specs.Looks.{LookedMore}
 use Rattle.chi_trace.specs.Explains.{at}
 use Rattle.chi_trace.specs.declared.operation.Operation.{Operation}
@@ -10,7 +11,7 @@ use Rattle.chi_search.proofs.Looking.{at_least_after, some_after}
 use Rattle.chi_judge.specs.Reaches.{IsExplained, IsJudgeOf, MissesNone}
 use Rattle.chi_judge.specs.Judges.{GoesNowhere, GoesOn, LiesWithin, JudgeValue}
 use Rattle.chi_judge.specs.declared.reach.Stop.{Stop}
-use Rattle.chi_judge.proofs.More.{misses_none_after, ok_implies, ok_stops_imply, ok_undecided_implies}
+use Rattle.chi_judge.proofs.More.{misses_none_after, ok_stops_imply, ok_undecided_implies, told_kept}
 use Rattle.chi_judge.proofs.Stopping.{last_before, last_of_all}
 use Rattle.chi_judge.proofs.judge.Judge.reach.Goals as goal
 
@@ -68,8 +69,8 @@ returns-in-Nothing-clause-all g c =
 
 pub returns-in-Order-clause-looked : goal.returns-in-Order-clause-looked
 returns-in-Order-clause-looked g c =
-    ok_implies c.whole.result
-    (λ looked. some_after g.P.Progress.looked c.args.progress.now c.order_after.new.progress c.whole.new.progress c.in_ok-order_after.ensures.looked looked)
+    IfOk-weaker c.whole.result _ _
+    (λ reach looked. some_after g.P.Progress.looked c.args.progress.now c.order_after.new.progress c.whole.new.progress c.in_ok-order_after.ensures.looked looked)
     c.whole.ensures.looked
 
 pub returns-in-Nothing-clause-undecided : goal.returns-in-Nothing-clause-undecided
@@ -81,8 +82,8 @@ returns-in-Nothing-clause-undecided g c =
 
 pub returns-in-Nothing-clause-looked : goal.returns-in-Nothing-clause-looked
 returns-in-Nothing-clause-looked g c =
-    ok_implies c.stop_within-in-Nothing.result
-    (λ looked. some_after g.P.Progress.looked c.args.progress.now c.order_after.new.progress c.stop_within-in-Nothing.new.progress c.in_ok-order_after.ensures.looked looked)
+    IfOk-weaker c.stop_within-in-Nothing.result _ _
+    (λ reach looked. some_after g.P.Progress.looked c.args.progress.now c.order_after.new.progress c.stop_within-in-Nothing.new.progress c.in_ok-order_after.ensures.looked looked)
     c.stop_within-in-Nothing.ensures.looked
 
 pub returns-clause-undecided : goal.returns-clause-undecided
@@ -90,7 +91,5 @@ returns-clause-undecided g c trace n w is =
     let r = c.args.self.now in
     let more = LookedMore g.P.Progress.looked c.args.progress.now c.order_after.new.progress c.args.budget in
     let ops_is : c.deref-2.result.now ≡ r.kept = c.deref-2.ensures.value ∙ (c.in_ok-ops.ensures.items ∙ (c.deref.ensures.value ∙ ap (λ (v : JudgeValue). v.kept) c.self.view_is)) in
-    let before : r.before ≡ c.self.inside.before = sym (ap (λ (v : JudgeValue). v.before) c.self.view_is) in
     let said = subst (λ (f : Found). IfNeither f (MayBeTold c.self.inside.before c.deref-2.result.now → All LiesWithin c.deref-2.result.now → more)) c.in-Undecided.is c.in_ok-order_after.ensures.undecided in
-    let next = subst (λ (ops : List Operation). MayBeTold r.before ops) (sym ops_is) is.keeps.next in
-    (c.args.budget, omega arith, said (subst (λ (f : FrontierValue). MayBeTold f c.deref-2.result.now) before next) (subst (All LiesWithin) (sym ops_is) is.keeps.within))
+    (c.args.budget, omega arith, told_kept c.self.inside.before c.deref-2.result.now r (ap (λ (v : JudgeValue). v.before) c.self.view_is) ops_is said trace n w is)

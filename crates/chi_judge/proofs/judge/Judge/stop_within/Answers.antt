@@ -1,12 +1,13 @@
 -- there is an operation, and what was looked at in one search after another
 use Rattle.std.proofs.Common.{◌≡◌, ℕ, ◌-◌, ⊎_elim, List, subst, arith, true≢false}
 use Rattle.std.proofs.lemmas.Bool.{cases_lt}
+use Rattle.std.proofs.lemmas.Result.{IfOk-weaker}
 use Rattle.chi_trace.specs.Explains.{at}
 use Rattle.chi_search.proofs.Looking.{at_least_after, at_least_before, some_after}
 use Rattle.chi_trace.specs.declared.operation.Operation.{Operation}
 use Rattle.chi_judge.specs.Reaches.{IsExplained, IsJudgeOf, MissesNone}
 use Rattle.chi_judge.specs.declared.reach.Stop.{Stop}
-use Rattle.chi_judge.proofs.More.{misses_none_after, ok_implies, ok_stops_imply, ok_undecided_implies}
+use Rattle.chi_judge.proofs.More.{misses_none_after, ok_stops_imply, ok_undecided_implies}
 use Rattle.chi_judge.proofs.judge.Judge.stop_within.Goals as goal
 
 pub returns-then-count-eq0-clause-undecided : goal.returns-then-count-eq0-clause-undecided
@@ -47,6 +48,6 @@ returns-clause-all g c =
 
 pub returns-clause-looked : goal.returns-clause-looked
 returns-clause-looked g c =
-    ok_implies c.stop_at.result
-    (λ looked. some_after g.P.Progress.looked c.args.progress.now c.first_place.new.progress c.stop_at.new.progress c.in_ok-place.ensures.looked looked)
+    IfOk-weaker c.stop_at.result _ _
+    (λ reach looked. some_after g.P.Progress.looked c.args.progress.now c.first_place.new.progress c.stop_at.new.progress c.in_ok-place.ensures.looked looked)
     c.stop_at.ensures.looked

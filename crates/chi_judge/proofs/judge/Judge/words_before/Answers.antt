@@ -1,18 +1,18 @@
 -- the words of the search are those that can be left up to the time before
-use Rattle.std.proofs.Common.{◌≡◌, ℕ, ◌+◌, ◌-◌, ◌≤◌, ◌++◌, ◌↔◌, IfOk, List, ap, inr, subst, sym, arith}
-use Rattle.std.specs.Prelude.{All, Result, ◌<◌}
+use Rattle.std.proofs.Common.{◌≡◌, ℕ, ◌+◌, ◌-◌, ◌≤◌, ◌++◌, ◌↔◌, IfOk, List, ap, inr, subst, arith}
+use Rattle.std.specs.Prelude.{Result, ◌<◌}
 use Rattle.std.specs.List.{Contains}
 use Rattle.std.proofs.lemmas.Result.{IfOk-weaker}
 use Rattle.chi_search.specs.declared.words.Words.{Words}
 use Rattle.chi_search.specs.Found.{IfWords}
-use Rattle.chi_search.specs.Frontiers.{Follows, FrontierValue, MayBeTold}
+use Rattle.chi_search.specs.Frontiers.{Follows}
 use Rattle.chi_search.specs.Layers.{SomeLeads}
 use Rattle.chi_search.specs.Looks.{LookedMore, LookedSome}
 use Rattle.chi_trace.specs.Cuts.{cut}
 use Rattle.chi_trace.specs.declared.operation.Operation.{Operation}
-use Rattle.chi_judge.specs.Judges.{JudgeValue, LiesWithin}
+use Rattle.chi_judge.specs.Judges.{JudgeValue}
 use Rattle.chi_judge.specs.Searches.{AreWordsBy}
-use Rattle.chi_judge.proofs.More.{ok_unknown_implies, ok_words_imply}
+use Rattle.chi_judge.proofs.More.{ok_unknown_implies, ok_words_imply, told_kept}
 use Rattle.chi_judge.proofs.Reached.{words_by_time}
 use Rattle.chi_judge.proofs.judge.Judge.words_before.Goals as goal
 
@@ -43,13 +43,10 @@ returns-clause-no_words g c =
 
 pub returns-clause-unknown : goal.returns-clause-unknown
 returns-clause-unknown g c =
-    let v = c.args.self.now in
     ok_unknown_implies c.words_by.result
     (λ spent spends trace n w is.
-    let next = subst (λ (f : FrontierValue). MayBeTold f c.args.ops.now) (sym (ap (λ (x : JudgeValue). x.before) c.self.view_is))
-    (subst (MayBeTold v.before) (sym c.requires.kept) is.keeps.next) in
-    let within = subst (All LiesWithin) (sym c.requires.kept) is.keeps.within in
-    inr (c.args.budget - c.words_by.new.budget, let none = spent next within in omega (arith, none), spends.1))
+    let none = told_kept c.self.inside.before c.args.ops.now c.args.self.now (ap (λ (x : JudgeValue). x.before) c.self.view_is) c.requires.kept spent trace n w is in
+    inr (c.args.budget - c.words_by.new.budget, omega (arith, none), spends.1))
     c.words_by.ensures.unknown c.words_by.ensures.spends
 
 pub returns-clause-looked : goal.returns-clause-looked
