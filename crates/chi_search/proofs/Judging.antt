@@ -14,7 +14,7 @@ use Rattle.chi_search.specs.Positions.{Position, is_left}
 use Rattle.chi_search.proofs.Telling.{none_told}
 
 -- an order leaves the last word of its operations
-to_last : (ops : List Operation) (l : ℕ → Bool) (w : ℕ) (final_word : Option ℕ) (x : List ℕ) → Finishes ops l w final_word x → Finishes ops l w (Some (last_word ops w x)) x
+pub to_last : (ops : List Operation) (l : ℕ → Bool) (w : ℕ) (final_word : Option ℕ) (x : List ℕ) → Finishes ops l w final_word x → Finishes ops l w (Some (last_word ops w x)) x
 to_last ops l w final_word x c = record { done = c.done; once = c.once; times = c.times; plays = c.plays; ending = refl }
 
 -- and the word that was observed, where it was that one

@@ -85,7 +85,7 @@ grown_refused ops old now p k grown refused = record {
 }
 
 -- orders that begin by it go on from the state after it
-takes_to : (ops : List Operation) (p q : Position) (k v : ℕ) → AreSorted ops → CanCome ops p k → Takes ops p k q → q.word < 2 ^ 64
+pub takes_to : (ops : List Operation) (p q : Position) (k v : ℕ) → AreSorted ops → CanCome ops p k → Takes ops p k q → q.word < 2 ^ 64
     → Ends ops (Some v) q → Ends ops (Some v) p
 takes_to ops p q k v sorted comes takes below (x, c) = (k ∷ x, from_taken ops (Some v) p q k x sorted comes takes below c)
 

@@ -24,6 +24,7 @@ pub mod MovedFirst
 pub mod Moves
 pub mod OneMore
 pub mod OneStart
+pub mod OneWay
 pub mod Operands
 pub mod Orders
 pub mod Paths

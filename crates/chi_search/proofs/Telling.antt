@@ -82,7 +82,7 @@ frontier_one f op is can lies = record {
     ]
 
 -- what may be told after it
-told_one : (f : FrontierValue) (op : Operation) (more : List Operation) → CanBeTold f op → MayBeTold (with_one f op) more → MayBeTold f (op ∷ more)
+pub told_one : (f : FrontierValue) (op : Operation) (more : List Operation) → CanBeTold f op → MayBeTold (with_one f op) more → MayBeTold f (op ∷ more)
 told_one f op more can may = record {
   sorted = sorted_after (op ∷ []) more op.end (sorted_one op can.lasting) may.sorted
       (All-cons (λ (o : Operation). o.end ≤ op.end) op [] (omega arith) (All-nil (λ (o : Operation). o.end ≤ op.end)))

@@ -41,3 +41,11 @@ GoesOn f more v = (p : Position) × Contains f.positions p × Ends (f.operations
 -- words to which it goes on.
 abbrev pub Follows : List ℕ → List Operation → FrontierValue → Type 0
 Follows words told f = (more : List Operation) → MayBeTold f more → (v : ℕ) → SomeLeads (told ++ more) words v ↔ GoesOn f more v
+
+-- The search goes along the operations that were told: with whatever may be told next they lead to each word to which it goes on.
+abbrev pub GoesAlong : List ℕ → List Operation → FrontierValue → Type 0
+GoesAlong words told f = (more : List Operation) → MayBeTold f more → (v : ℕ) → GoesOn f more v → SomeLeads (told ++ more) words v
+
+-- What goes on from the one state goes on from the position, whatever is told later.
+abbrev pub IsAfter : FrontierValue → Position → Position → Type 0
+IsAfter f p s = (more : List Operation) → AreSorted (f.operations ++ more) → (v : ℕ) → Ends (f.operations ++ more) (Some v) s → Ends (f.operations ++ more) (Some v) p

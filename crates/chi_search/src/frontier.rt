@@ -5,7 +5,7 @@ ghost use Rattle.std.specs.List.{AllPairs, Contains};
 ghost use Rattle.chi_trace.specs.declared.operation.Operation.{Operation};
 ghost use Rattle.chi_trace.specs.Granules.{Finishes};
 ghost use Rattle.chi_search.specs.Found.{IfNothing, IfOrder, IfUndecided, IfUnknown, IfWords};
-ghost use Rattle.chi_search.specs.Frontiers.{CanBeTold, Follows};
+ghost use Rattle.chi_search.specs.Frontiers.{CanBeTold, Follows, GoesAlong};
 ghost use Rattle.chi_search.specs.Layers.{SomeLeads, Waits};
 ghost use Rattle.chi_search.specs.Looks.{LookedMore};
 ghost use Rattle.chi_search.specs.Positions.{Position, is_left};
@@ -35,10 +35,10 @@ use std::marker::Model;
 /// ```
 #[derive(Drop)]
 pub struct Frontier {
-    states: States,
-    operations: Vec<Operation>,
-    horizon: u64,
-    latest: u64,
+    pub(crate) states: States,
+    pub(crate) operations: Vec<Operation>,
+    pub(crate) horizon: u64,
+    pub(crate) latest: u64,
 }
 
 impl Model for Frontier {
@@ -78,6 +78,7 @@ impl Frontier {
     /// ```
     pub fn copy(&self, alloc: Global) -> Result<Frontier, AllocError>
         ensures follows { IfOk result (λ copy. (words : List ℕ) (told : List Operation) → Follows words told self.now → Follows words told copy) }
+        ensures along { IfOk result (λ copy. (words : List ℕ) (told : List Operation) → GoesAlong words told self.now → GoesAlong words told copy) }
         ensures same { IfOk result (λ copy. (copy.operations ≡ self.now.operations) × (copy.horizon ≡ self.now.horizon) × (copy.latest ≡ self.now.latest)) }
     {
         let states = moved_back(alloc, &self.states, 0)?;
@@ -98,6 +99,7 @@ impl Frontier {
     /// ```
     pub fn add(&mut self, op: &Operation) -> Result<bool, AllocError>
         ensures told { IfOk result (λ is. IsTrue is → (words : List ℕ) (told : List Operation) → Follows words told self.old → Follows words (told ++ op.now ∷ []) self.new) }
+        ensures along { IfOk result (λ is. IsTrue is → (words : List ℕ) (told : List Operation) → GoesAlong words told self.old → GoesAlong words (told ++ op.now ∷ []) self.new) }
         ensures last { IfOk result (λ is. IsTrue is → (self.new.horizon ≡ self.old.horizon) × (self.new.latest ≡ op.now.end)) }
         ensures taken { IfOk result (λ is. IsTrue is ↔ (CanBeTold self.old op.now × (op.now.access.addr + op.now.access.len ≤ 2 ^ 52))) }
         ensures refused { IfOk result (λ is. is ≡ false → self.new ≡ self.old) }
@@ -179,6 +181,7 @@ impl Frontier {
     ) -> Result<Found, AllocError>
         ensures order { IfOk result (λ found. IfOrder found (λ order. (p : Position) × Contains self.now.positions p × Finishes self.now.operations (is_left (length self.now.operations) p) p.word final_word order)) }
         ensures leads { IfOk result (λ found. IfOrder found (λ order. (words : List ℕ) (told : List Operation) → Follows words told self.now → (v : ℕ) × SomeLeads told words v × IfSome final_word (λ seen. v ≡ seen))) }
+        ensures along { IfOk result (λ found. IfOrder found (λ order. (words : List ℕ) (told : List Operation) → GoesAlong words told self.now → (v : ℕ) × SomeLeads told words v × IfSome final_word (λ seen. v ≡ seen))) }
         ensures nothing { IfOk result (λ found. IfNothing found ((words : List ℕ) (told : List Operation) → Follows words told self.now → (v : ℕ) → SomeLeads told words v → IfSome final_word (λ seen. v ≡ seen) → ⊥)) }
         ensures undecided { IfOk result (λ found. IfUndecided found (budget.new ≡ 0)) }
         ensures spends { IfOk result (λ found. (budget.new ≤ budget.old) × LookedMore P.looked progress.old progress.new (budget.old - budget.new)) }

@@ -2,6 +2,7 @@
 #![tactic(auto)]
 
 mod absorbing;
+mod along;
 mod at_once;
 mod chains;
 mod choice;
@@ -10,6 +11,7 @@ mod earliest;
 mod effect;
 mod equal;
 mod frontier;
+mod later_makers;
 mod layer;
 mod makers;
 mod making;

@@ -157,3 +157,53 @@ fn each_state_once(rt: HostRuntime) -> Result<(), Fail> {
     assert_same(&rt, found, (true, (true, 4)));
     Ok(())
 }
+
+// Two additions, of which the first ended by time 15 and the second one did not.
+fn two_additions(alloc: Global) -> Result<Frontier, Fail> {
+    let first = told((0, 10), ADD, 1, 0);
+    let second = told((5, 30), ADD, 2, 1);
+    after(alloc, &[first, second])
+}
+
+// How many operations are kept by the search along an order up to a time, and whether these words can be left.
+fn along(
+    alloc: Global,
+    order: &[usize],
+    time: u64,
+    wanted: &[u64],
+) -> Result<Option<(usize, bool)>, Fail> {
+    match two_additions(alloc)?.along(alloc, order, time)? {
+        Some(next) => Ok(Some((next.kept(), leaves(alloc, &next, wanted)?))),
+        None => Ok(None),
+    }
+}
+
+#[test]
+fn along_an_order_up_to_a_time(rt: HostRuntime) -> Result<(), Fail> {
+    let alloc = rt.alloc();
+    let found = (
+        along(alloc, &[0, 1], 15, &[3])?,
+        along(alloc, &[0, 1], 30, &[3])?,
+        along(alloc, &[1, 0], 15, &[3])?,
+        along(alloc, &[1, 0], 30, &[3])?,
+    );
+    assert_same(
+        &rt,
+        found,
+        (Some((1, true)), Some((0, true)), Some((1, true)), None),
+    );
+    Ok(())
+}
+
+#[test]
+fn writes_of_what_later_ones_answered(rt: HostRuntime) -> Result<(), Fail> {
+    let alloc = rt.alloc();
+    let writes = two_additions(alloc)?.makers_after(alloc, 15)?;
+    let mut frontier = Frontier::new(alloc, &[99])?;
+    for write in &writes {
+        frontier.add(write)?;
+    }
+    let found = (writes.len(), leaves(alloc, &frontier, &[1, 99])?);
+    assert_same(&rt, found, (1, true));
+    Ok(())
+}
