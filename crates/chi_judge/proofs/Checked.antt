@@ -3,11 +3,12 @@ use Rattle.std.proofs.Common.{◌≡◌, ℕ, List, ◌∷◌, [], ◌++◌, Non
 use Rattle.chi_trace.specs.declared.operation.Operation.{Operation}
 use Rattle.chi_trace.specs.AtPlaces.{GranulesStandAlone}
 use Rattle.chi_trace.specs.Cuts.{cut}
-use Rattle.chi_trace.specs.Granules.{last_word}
+use Rattle.chi_trace.specs.Granules.{ExplainsGranule, last_word}
 use Rattle.chi_trace.proofs.Before.{before}
 use Rattle.chi_search.specs.Frontiers.{Follows, FrontierValue}
 use Rattle.chi_search.specs.Layers.{SomeLeads}
 use Rattle.chi_judge.specs.Judges.{JudgeValue}
+use Rattle.chi_judge.specs.Reaches.{IsJudgeOf}
 use Rattle.chi_judge.specs.Standings.{IsExplainable, IsInexplicable}
 use Rattle.chi_judge.proofs.Earlier.{earlier_explains}
 use Rattle.chi_judge.proofs.Leading.{leads_from, leaves_some, moved_cut}
@@ -20,18 +21,23 @@ stopped_none law r final_word stopped trace g w is order explains =
     let left = leaves_some none.0 trace g w (before trace none.0 order, earlier_explains trace g w none.0 final_word order is.traced explains) in
     none.2 left.0 (leads_from law (cut none.0 trace) (cut none.0 is.told) g w left.0 (moved_cut none.0 g trace is.told is.moved) left.1)
 
+-- an order that leads from the word to one explains all, where it has not stopped
+pub led_explains : GranulesStandAlone → (r : JudgeValue) (final_word : Option ℕ) → r.is_stopped ≡ false → (trace : List Operation) (g w : ℕ) (is : IsJudgeOf trace g w r)
+    → (v : ℕ) × SomeLeads (is.keeps.earlier ++ r.kept) (w ∷ []) v × IfSome final_word (λ seen. v ≡ seen) → (order : List ℕ) × ExplainsGranule trace g w final_word order
+led_explains law r final_word goes trace g w is led =
+    let can = (words_whole law trace g w r is goes led.0).0 led.1 in
+    (can.0, record { done = can.1.done; once = can.1.once; times = can.1.times; plays = can.1.plays; ending = by_last final_word can.1.ending led.2 })
+  where
+    by_last : (o : Option ℕ) {u v : ℕ} → u ≡ v → IfSome o (λ seen. v ≡ seen) → IfSome o (λ seen. u ≡ seen)
+    by_last None same is = tt
+    by_last (Some seen) same is = same ∙ is
+
 -- the search was told those that are kept
 module _ (law : GranulesStandAlone) (r : JudgeValue) (final_word : Option ℕ) (after : FrontierValue) (goes : r.is_stopped ≡ false)
     (follows : (words : List ℕ) (told : List Operation) → Follows words told r.before → Follows words (told ++ r.kept) after) where
   pub leads_some : ((words : List ℕ) (told : List Operation) → Follows words told after → (v : ℕ) × SomeLeads told words v × IfSome final_word (λ seen. v ≡ seen)) → IsExplainable r final_word
   leads_some leads trace g w is =
-      let led = leads (w ∷ []) (is.keeps.earlier ++ r.kept) (follows (w ∷ []) is.keeps.earlier is.keeps.follows) in
-      let can = (words_whole law trace g w r is goes led.0).0 led.1 in
-      (can.0, record { done = can.1.done; once = can.1.once; times = can.1.times; plays = can.1.plays; ending = by_last final_word can.1.ending led.2 })
-    where
-      by_last : (o : Option ℕ) {u v : ℕ} → u ≡ v → IfSome o (λ seen. v ≡ seen) → IfSome o (λ seen. u ≡ seen)
-      by_last None same is = tt
-      by_last (Some seen) same is = same ∙ is
+      led_explains law r final_word goes trace g w is (leads (w ∷ []) (is.keeps.earlier ++ r.kept) (follows (w ∷ []) is.keeps.earlier is.keeps.follows))
 
   pub leads_none : ((words : List ℕ) (told : List Operation) → Follows words told after → (v : ℕ) → SomeLeads told words v → IfSome final_word (λ seen. v ≡ seen) → ⊥) → IsInexplicable r final_word
   leads_none none trace g w is order e =

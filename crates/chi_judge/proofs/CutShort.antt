@@ -3,7 +3,7 @@ use Rattle.std.proofs.Common.{◌≡◌, ℕ, ◌<◌, ◌≤◌, zero, suc, Lis
 use Rattle.std.proofs.lemmas.List.Elements.{All-head, All-nil, All-weaker}
 use Rattle.chi_trace.specs.declared.operation.Operation.{Operation}
 use Rattle.chi_trace.specs.Cuts.{cut}
-use Rattle.chi_search.specs.Frontiers.{FrontierValue, MayBeTold}
+use Rattle.chi_search.specs.Frontiers.{FrontierValue, GoesAlong, MayBeTold}
 use Rattle.chi_search.specs.Layers.{SomeLeads}
 use Rattle.chi_search.proofs.Telling.{none_told}
 use Rattle.chi_judge.specs.Judges.{EndedBefore, EndedWithin, IsJudge, JudgeValue, Keeps, LiesWithin}
@@ -49,7 +49,7 @@ within_before time ops all = All-cut_before LiesWithin (λ op is. is) time ops a
 
 -- once it keeps only what had happened before a time
 abbrev pub cut_short : ℕ → JudgeValue → JudgeValue
-cut_short time r = record r { kept = cut_before time r.kept }
+cut_short time r = record r { kept = cut_before time r.kept; ahead = []; seen = 0 }
 
 pub judge_cut : (time : ℕ) (r : JudgeValue) → IsJudge r → IsJudge (cut_short time r)
 judge_cut time r is = record {
@@ -79,6 +79,8 @@ module _ (words : List ℕ) (told : List Operation) (now time : ℕ) (r : JudgeV
     next = told_before r.before time r.kept k.next;
     within = within_before time r.kept k.within;
     ends = All-cut_before (EndedWithin r.since now) (λ op e. e) time r.kept k.ends;
+    ahead = All-nil (GoesAlong words (k.earlier ++ []));
+    seen = omega arith;
     late = All-cut_before (λ op. r.horizon ≤ op.start) (λ op from. from) time k.later k.late;
     goes_on = λ goes. ap (cut_before time) (k.goes_on goes) ∙ nothing_before time;
     since_by = k.since_by;

@@ -18,7 +18,7 @@ use Rattle.chi_judge.specs.Reaches.{IsExplained}
 use Rattle.chi_judge.proofs.Cutting.{cut_again}
 
 -- the operations of an order fit up to the last of them that had ended
-play_before : (ops : List Operation) (time w : ℕ) (order : List ℕ) → Play ops w order → Play ops w (before ops time order)
+pub play_before : (ops : List Operation) (time w : ℕ) (order : List ℕ) → Play ops w order → Play ops w (before ops time order)
 unfolding before Play
 play_before ops time w [] plays = tt
 play_before ops time w (i ∷ order) plays = by_test (some_ended ops time (i ∷ order)) (play_before ops time (next (at ops i) w) order plays.2)
@@ -33,7 +33,7 @@ unfolding next
 next_unanswered op w = refl
 
 -- and fit as they were known then
-play_known : (ops : List Operation) (time : ℕ) (known : List Operation) (w : ℕ) (order : List ℕ) → AreKnown ops time known order → Play ops w order → Play known w order
+pub play_known : (ops : List Operation) (time : ℕ) (known : List Operation) (w : ℕ) (order : List ℕ) → AreKnown ops time known order → Play ops w order → Play known w order
 unfolding Play Fits
 play_known ops time known w [] same plays = tt
 play_known ops time known w (i ∷ order) same plays =

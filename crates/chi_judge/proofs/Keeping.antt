@@ -1,11 +1,12 @@
 -- operations that are kept: one more, and fewer
-use Rattle.std.proofs.Common.{◌≡◌, ℕ, ◌+◌, ◌-◌, ◌<◌, ◌≤◌, Bool, true, false, List, [], ◌∷◌, ◌++◌, All, IsTrue, get_or, get_or-drop, length, length-drop, take, drop, append_assoc, append-nil, refl, sym, ap, subst, ◌∙◌, arith, true≢false}
-use Rattle.std.proofs.lemmas.List.{get_or_default, take-append-drop}
+use Rattle.std.proofs.Common.{◌≡◌, ℕ, ◌+◌, ◌-◌, ◌<◌, ◌≤◌, Bool, true, false, List, [], ◌∷◌, ◌++◌, All, IsTrue, get_or, get_or-drop, length, length-append, length-drop, take, drop, append_assoc, append-nil, refl, sym, ap, subst, ◌∙◌, arith, true≢false}
+use Rattle.std.proofs.lemmas.List.{get_or_default, take-append-drop, take-append-le, take_all}
 use Rattle.std.proofs.lemmas.List.Elements.{All-append, All-cons, All-drop, All-nil, All-push, All-take, All-weaker}
 use Rattle.chi_trace.specs.declared.operation.Operation.{Operation}
 use Rattle.chi_trace.specs.Cuts.{cut}
 use Rattle.chi_trace.specs.Explains.{at, nothing}
-use Rattle.chi_search.specs.Frontiers.{CanBeTold, Follows, FrontierValue, MayBeTold}
+use Rattle.chi_trace.specs.Segments.{AreLasting}
+use Rattle.chi_search.specs.Frontiers.{CanBeTold, Follows, FrontierValue, GoesAlong, MayBeTold}
 use Rattle.chi_search.specs.Layers.{SomeLeads}
 use Rattle.chi_search.proofs.Telling.{sorted_after, sorted_one}
 use Rattle.chi_judge.specs.Judges.{CanBeKept, EndedBefore, EndedWithin, IsJudge, IsNextHorizon, Keeps, LiesWithin, JudgeValue}
@@ -80,6 +81,8 @@ module _ (words : List ℕ) (told : List Operation) (now : ℕ) (r : JudgeValue)
     next = k.next;
     within = k.within;
     ends = All-weaker (EndedWithin r.since now) (EndedWithin r.since next) (λ op e. (e.0, omega (arith, e.1, le))) r.kept k.ends;
+    ahead = k.ahead;
+    seen = k.seen;
     late = k.late;
     goes_on = k.goes_on;
     since_by = k.since_by;
@@ -88,8 +91,53 @@ module _ (words : List ℕ) (told : List Operation) (now : ℕ) (r : JudgeValue)
     stopped = k.stopped;
   }
 
-  told_kept : r.is_stopped ≡ false → told ≡ k.earlier ++ r.kept
+  -- searches along other orders of those that are kept
+  pub keeps_ahead : (ahead : List FrontierValue) (seen : ℕ) → seen ≤ length r.kept → All (GoesAlong words (k.earlier ++ take seen r.kept)) ahead
+      → Keeps words told now (record r { ahead = ahead; seen = seen })
+  keeps_ahead ahead seen some along = record {
+    earlier = k.earlier;
+    later = k.later;
+    parts = k.parts;
+    follows = k.follows;
+    left = k.left;
+    in_order = k.in_order;
+    ended = k.ended;
+    next = k.next;
+    within = k.within;
+    ends = k.ends;
+    ahead = along;
+    seen = some;
+    late = k.late;
+    goes_on = k.goes_on;
+    since_by = k.since_by;
+    past = k.past;
+    explained = k.explained;
+    stopped = k.stopped;
+  }
+
+  -- of all that are kept
+  pub keeps_ahead_of_all : (ahead : List FrontierValue) → All (GoesAlong words (k.earlier ++ r.kept)) ahead → Keeps words told now (record r { ahead = ahead; seen = length r.kept })
+  keeps_ahead_of_all ahead along =
+      keeps_ahead ahead (length r.kept) (omega arith) (subst (λ (l : List Operation). All (GoesAlong words (k.earlier ++ l)) ahead) (sym (take_all (length r.kept) r.kept (omega arith))) along)
+
+  -- once they were told all that is kept
+  pub ahead_of_all : r.seen ≡ length r.kept → All (GoesAlong words (k.earlier ++ r.kept)) r.ahead
+  ahead_of_all all = subst (λ (l : List Operation). All (GoesAlong words (k.earlier ++ l)) r.ahead) (ap (λ n. take n r.kept) all ∙ take_all (length r.kept) r.kept (omega arith)) k.ahead
+
+  -- what is kept beyond those that they were told
+  pub told_rest : (more : List Operation) → more ≡ drop r.seen r.kept → (k.earlier ++ take r.seen r.kept) ++ more ≡ k.earlier ++ r.kept
+  told_rest more rest =
+      append_assoc k.earlier (take r.seen r.kept) more
+      ∙ ap (λ (l : List Operation). k.earlier ++ l) (ap (λ (l : List Operation). take r.seen r.kept ++ l) rest ∙ take-append-drop r.seen r.kept)
+
+  pub told_kept : r.is_stopped ≡ false → told ≡ k.earlier ++ r.kept
   told_kept goes = k.parts ∙ ap (λ (l : List Operation). k.earlier ++ l) (ap (λ (l : List Operation). r.kept ++ l) (k.goes_on goes) ∙ append-nil r.kept)
+
+  -- each ends no earlier than it starts
+  pub told_lasting : r.is_stopped ≡ false → AreLasting told
+  told_lasting goes =
+      subst AreLasting (sym (told_kept goes))
+      (All-append (λ (op : Operation). op.start ≤ op.end) k.earlier r.kept (All-weaker (EndedBefore r.since) (λ (op : Operation). op.start ≤ op.end) (λ op e. e.0) k.earlier k.ended) k.next.sorted.1)
 
   -- one operation more was told
   module _ (t : Operation) (later : now ≤ t.end) (starts : r.horizon ≤ t.start) where
@@ -114,6 +162,8 @@ module _ (words : List ℕ) (told : List Operation) (now : ℕ) (r : JudgeValue)
           All-push (EndedWithin r.since t.end) r.kept t
           (All-weaker (EndedWithin r.since now) (EndedWithin r.since t.end) (λ op e. (e.0, omega (arith, e.1, later))) r.kept k.ends)
           (omega (arith, k.since_by, starts, lasting), omega arith);
+      ahead = subst (λ (l : List Operation). All (GoesAlong words (k.earlier ++ l)) r.ahead) (sym (take-append-le r.seen r.kept (t ∷ []) k.seen)) k.ahead;
+      seen = omega (arith, k.seen, length-append r.kept (t ∷ []));
       late = All-nil (λ (op : Operation). r.horizon ≤ op.start);
       goes_on = λ is. refl;
       since_by = k.since_by;
@@ -135,6 +185,8 @@ module _ (words : List ℕ) (told : List Operation) (now : ℕ) (r : JudgeValue)
       next = k.next;
       within = k.within;
       ends = All-weaker (EndedWithin r.since now) (EndedWithin r.since t.end) (λ op e. (e.0, omega (arith, e.1, later))) r.kept k.ends;
+      ahead = k.ahead;
+      seen = k.seen;
       late = All-push (λ (op : Operation). r.horizon ≤ op.start) k.later t k.late starts;
       goes_on = λ goes. absurd (true≢false (sym is ∙ goes));
       since_by = k.since_by;
@@ -159,6 +211,8 @@ module _ (words : List ℕ) (told : List Operation) (now : ℕ) (r : JudgeValue)
     next = k.next;
     within = k.within;
     ends = k.ends;
+    ahead = k.ahead;
+    seen = k.seen;
     late = All-nil (λ (op : Operation). horizon ≤ op.start);
     goes_on = λ is. refl;
     since_by = omega (arith, k.since_by, below);
@@ -168,11 +222,12 @@ module _ (words : List ℕ) (told : List Operation) (now : ℕ) (r : JudgeValue)
   }
 
   -- those that ended before a horizon are left to the search before the others
-  pub keeps_fewer : (horizon count : ℕ) (before : FrontierValue) (left : List Operation) → left ≡ last_of r.shown (r.left ++ take count r.kept) → IsNextHorizon words told now r horizon
+  pub keeps_fewer : (horizon count : ℕ) (before : FrontierValue) (left : List Operation) (ahead : List FrontierValue) (seen : ℕ) → left ≡ last_of r.shown (r.left ++ take count r.kept) → IsNextHorizon words told now r horizon
       → All (λ op. op.end < horizon) (take count r.kept) → (count < length r.kept → horizon ≤ (at r.kept count).end)
       → Follows words (k.earlier ++ take count r.kept) before → MayBeTold before (drop count r.kept)
-      → Keeps words told now (record { before = before; left = left; shown = r.shown; kept = drop count r.kept; since = horizon; horizon = horizon; latest = r.latest; is_stopped = r.is_stopped })
-  keeps_fewer horizon count before left left_is is ended first follows next = record {
+      → seen ≤ length (drop count r.kept) → All (GoesAlong words ((k.earlier ++ take count r.kept) ++ take seen (drop count r.kept))) ahead
+      → Keeps words told now (record { before = before; left = left; shown = r.shown; kept = drop count r.kept; ahead = ahead; seen = seen; since = horizon; horizon = horizon; latest = r.latest; is_stopped = r.is_stopped })
+  keeps_fewer horizon count before left ahead seen left_is is ended first follows next some along = record {
     earlier = k.earlier ++ take count ops;
     later = [];
     parts = told_kept is.goes_on ∙ (ap (λ (l : List Operation). k.earlier ++ l) (sym (take-append-drop count ops)) ∙ (sym (append_assoc k.earlier (take count ops) (drop count ops))
@@ -188,6 +243,8 @@ module _ (words : List ℕ) (told : List Operation) (now : ℕ) (r : JudgeValue)
     next = next;
     within = All-drop LiesWithin count ops k.within;
     ends = λ i d below. (late i d below, (All-drop (EndedWithin r.since now) count ops k.ends i d below).1);
+    ahead = along;
+    seen = some;
     late = All-nil (λ (op : Operation). horizon ≤ op.start);
     goes_on = λ goes. refl;
     since_by = omega arith;

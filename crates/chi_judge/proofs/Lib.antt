@@ -3,6 +3,7 @@ pub mod AsFar
 pub mod Before
 pub mod Changed
 pub mod Checked
+pub mod CutLeads
 pub mod CutShort
 pub mod Cutting
 pub mod Earlier

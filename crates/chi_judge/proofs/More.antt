@@ -46,6 +46,11 @@ pub told_kept : {A : Type 0} (before : FrontierValue) (ops : List Operation) (r 
 told_kept before ops r same kept said trace g w is =
     said (subst (λ (f : FrontierValue). MayBeTold f ops) (sym same) (subst (MayBeTold r.before) (sym kept) is.keeps.next)) (subst (All LiesWithin) (sym kept) is.keeps.within)
 
+-- what is so whether there is a value or not
+pub ok_always : {T E : Type 0} (A : Type 0) (r : Result T E) → A → IfOk r (λ _. A)
+ok_always A (Ok x) a = a
+ok_always A (Err e) a = tt
+
 -- what follows of words, and of words that are not known
 pub words_imply : (found : Words) (P Q : List ℕ → Type 0) → ((each : List ℕ) → P each → Q each) → IfWords found P → IfWords found Q
 words_imply (Each words) P Q implies is = implies words.items is

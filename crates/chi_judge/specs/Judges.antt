@@ -1,20 +1,23 @@
 -- the operations of one granule that are kept, to say where they stop being explained
-use Rattle.std.specs.Prelude.{◌≡◌, ℕ, ◌+◌, ◌^◌, ◌<◌, ◌≤◌, Bool, true, false, List, [], ◌++◌, All, IsTrue}
+use Rattle.std.specs.Prelude.{◌≡◌, ℕ, ◌+◌, ◌^◌, ◌<◌, ◌≤◌, Bool, true, false, List, [], ◌++◌, All, IsTrue, length, take}
 use Rattle.std.specs.List.{AllPairs}
-use Rattle.chi_search.specs.Frontiers.{Follows, FrontierValue, MayBeTold}
+use Rattle.chi_search.specs.Frontiers.{Follows, FrontierValue, GoesAlong, MayBeTold}
 use Rattle.chi_search.specs.Layers.{SomeLeads}
 use Rattle.chi_trace.specs.Cuts.{cut}
 use Rattle.chi_trace.specs.declared.operation.Operation.{Operation}
 use Rattle.chi_judge.specs.Shown.{EndsNoLater, last_of}
 
 -- The search over the operations before those that are kept, the last of the operations that were left to it, so many at most, and
--- those that are kept. None that is kept ended before `since`, and none that is told later starts before the horizon, or ends before the latest
--- end. Where they are known not to be explained up to the time before the horizon, it has stopped.
+-- those that are kept, with searches along orders that were told the first so many of these. None that is kept ended before `since`,
+-- and none that is told later starts before the horizon, or ends before the latest end. Where they are known not to be explained up
+-- to the time before the horizon, it has stopped.
 pub record JudgeValue : Type 0 where
   pub before : FrontierValue
   pub left : List Operation
   pub shown : ℕ
   pub kept : List Operation
+  pub ahead : List FrontierValue
+  pub seen : ℕ
   pub since : ℕ
   pub horizon : ℕ
   pub latest : ℕ
@@ -66,6 +69,8 @@ pub record Keeps (words : List ℕ) (told : List Operation) (now : ℕ) (r : Jud
   pub next : MayBeTold r.before r.kept
   pub within : All LiesWithin r.kept
   pub ends : All (EndedWithin r.since now) r.kept
+  pub ahead : All (GoesAlong words (earlier ++ take r.seen r.kept)) r.ahead
+  pub seen : r.seen ≤ length r.kept
   pub late : All (λ op. r.horizon ≤ op.start) later
   pub goes_on : r.is_stopped ≡ false → later ≡ []
   pub since_by : r.since ≤ r.horizon

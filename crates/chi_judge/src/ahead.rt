@@ -1,181 +1,151 @@
-//! An order that goes on while a granule is never quiet.
+//! Searches along orders, which go on while a granule is never quiet.
 
-ghost use Rattle.std.specs.Prelude.{IfOk};
+ghost use Rattle.std.specs.Prelude.{ℕ, ◌++◌, List, All, IfOk, IfSome};
+ghost use Rattle.chi_trace.specs.declared.operation.Operation.{Operation};
+ghost use Rattle.chi_search.specs.Frontiers.{Follows, GoesAlong};
 ghost use Rattle.chi_search.specs.Looks.{LookedSome};
 
-use crate::search::order_by;
-use chi_fields::ADDRESSES;
-use chi_search::{Found, Frontier, NoProgress, Progress, Words};
-use chi_trace::{Operation, apply_operation};
+use crate::judge::FEW;
+use crate::search::{order_until, told_after};
+use chi_search::{Found, Frontier, Progress};
+use chi_trace::Operation;
 use std::alloc::{AllocError, Global};
 
-/// How many states may be looked at to find the words with which an order may begin.
-const STATES_OF_WORDS: u64 = 4096;
+/// How many are kept at most.
+const MOST: usize = 8;
 
-/// How many operations more than those that are kept it has not passed, where it is far behind.
-const FAR: usize = 64;
+/// How far back one may stand from which a search goes on.
+const BACK: [usize; 4] = [1, 2, 4, 8];
 
-/// How far one order of a granule's operations has come: the word there, the operations that it has not passed, how many of those
-/// that are kept it knows of, and up to which time it was looked for. It stays where it was at the time of the look before, so that
-/// what was told since then fits it. Nothing is promised by it: where it goes on, the next order is found soon.
-#[derive(Drop)]
-pub(crate) struct Ahead {
-    word: u64,
-    left: Vec<Operation>,
-    seen: usize,
-    looked: u64,
-}
+/// How many times as many states it may look at from the start.
+const FROM_START: u64 = 16;
 
-// The word that an operation leaves of the word that it finds, where its reply fits that.
-fn left_by(op: &Operation, word: u64) -> Option<u64> {
-    if op.access.addr() > ADDRESSES - op.access.len() as u64 {
-        return None;
-    }
-    let (after, reply) = apply_operation(op, word);
-    match op.reply {
-        Some(seen) if seen != reply => None,
-        _ => Some(after),
-    }
-}
-
-// The operations of an order of those that had started by a time, by their places among all, up to the last that had ended by
-// another.
-fn settled_part(
+/// The searches that are told more operations, one after the other: those that can be.
+pub(crate) fn each_told(
     alloc: Global,
-    ops: &[Operation],
-    order: &[usize],
-    known: u64,
+    searches: &[Frontier],
+    more: &[Operation],
+) -> Result<Vec<Frontier>, AllocError>
+    ensures { IfOk result (λ each. (words : List ℕ) (told : List Operation) → All (GoesAlong words told) searches.now → All (GoesAlong words (told ++ more.now)) each.items) }
+{
+    let mut each = Vec::new(alloc);
+    for search in searches {
+        if let Some(next) = told_after(alloc, search, more)? {
+            each.push(next)?;
+        }
+    }
+    Ok(each)
+}
+
+/// The search along an order of what had happened by a time, from where this one stands, where there is one within so many states.
+pub(crate) fn next_along<P: Progress>(
+    alloc: Global,
+    from: &Frontier,
     time: u64,
-) -> Result<Vec<usize>, AllocError> {
-    let mut started = Vec::new(alloc);
-    for (place, op) in ops.iter().enumerate() {
-        if op.start <= known {
-            started.push(place)?;
-        }
-    }
-    let mut part = Vec::new(alloc);
-    let mut settled = 0;
-    for number in order {
-        if let Some(place) = started.get(*number) {
-            part.push(*place)?;
-            if ops.get(*place).is_some_and(|op| op.end <= time) {
-                settled = part.len();
-            }
-        }
-    }
-    part.truncate(settled);
-    Ok(part)
-}
-
-impl Ahead {
-    /// It begins with a word, and knows of no operation.
-    pub(crate) fn new(alloc: Global, word: u64) -> Ahead {
-        Ahead {
-            word,
-            left: Vec::new(alloc),
-            seen: 0,
-            looked: 0,
-        }
-    }
-
-    /// Those that are kept and that it did not know of are left.
-    pub(crate) fn see(&mut self, kept: &[Operation]) -> Result<(), AllocError> {
-        if let Some(more) = kept.get(self.seen..) {
-            self.left.extend_from_slice(more)?;
-        }
-        self.seen = kept.len();
-        Ok(())
-    }
-
-    // Goes along an order of what was known by a time, up to the last operation that had ended by the time of the look before. One
-    // that ended later is passed where its reply fits, and left where not. Answers whether it came so far.
-    fn pass(&mut self, alloc: Global, order: &[usize], known: u64) -> Result<bool, AllocError> {
-        let time = self.looked;
-        let part = settled_part(alloc, &self.left, order, known, time)?;
-        let mut is_passed = vec![in alloc; false; self.left.len()]?;
-        let mut word = self.word;
-        let mut is_whole = true;
-        for place in &part {
-            let Some(op) = self.left.get(*place) else {
-                break;
-            };
-            match left_by(op, word) {
-                Some(after) => {
-                    word = after;
-                    if let Some(passed) = is_passed.get_mut(*place) {
-                        *passed = true;
-                    }
-                }
-                None if op.end > time => {}
-                None => {
-                    is_whole = false;
-                    break;
-                }
-            }
-        }
-        let mut left = Vec::new(alloc);
-        for (op, passed) in self.left.iter().zip(&is_passed) {
-            if !*passed {
-                left.push(*op)?;
-            }
-        }
-        self.left = left;
-        self.word = word;
-        self.looked = known;
-        Ok(is_whole)
-    }
-
-    /// Looks for an order of what was known by a time, from where the last one stands, and goes along it. Answers whether there
-    /// is one within so many states.
-    pub(crate) fn goes_on<P: Progress>(
-        &mut self,
-        alloc: Global,
-        time: u64,
-        budget: u64,
-        progress: &mut P,
-    ) -> Result<bool, AllocError>
-        ensures looked { IfOk result (λ _. LookedSome P.looked progress.old progress.new) }
-    {
-        let start = Frontier::new(alloc, &[self.word])?;
-        match order_by(alloc, &start, &self.left, time, budget, progress)? {
-            Found::Order(order) => {
-                self.pass(alloc, &order, time)?;
-                Ok(true)
-            }
-            _ => Ok(false),
-        }
-    }
-
-    /// It knows of all that are kept, so many now. Answers whether it is far behind them.
-    pub(crate) fn knows(&mut self, kept: usize) -> bool {
-        self.seen = kept;
-        self.left.len() >= kept.saturating_add(FAR)
+    budget: u64,
+    progress: &mut P,
+) -> Result<Option<Frontier>, AllocError>
+    ensures along { IfOk result (λ next. IfSome next (λ f. (words : List ℕ) (told : List Operation) → GoesAlong words told from.now → GoesAlong words told f)) }
+    ensures looked { IfOk result (λ _. LookedSome P.looked progress.old progress.new) }
+{
+    match order_until(alloc, from, time, budget, progress)? {
+        Found::Order(order) => from.along(alloc, &order, time),
+        Found::Nothing => Ok(None),
+        Found::Undecided => Ok(None),
     }
 }
 
-/// How far an order of what was known by a time has come, that begins with a word of the search before it. It is not known where
-/// that search keeps operations.
-pub(crate) fn ahead_of(
+// The search along an order from the start: from before the operations that are kept.
+fn first_along<P: Progress>(
     alloc: Global,
     before: &Frontier,
     kept: &[Operation],
-    order: &[usize],
     time: u64,
-) -> Result<Option<Ahead>, AllocError> {
-    let mut budget = STATES_OF_WORDS;
-    if before.kept() > 0 {
-        return Ok(None);
+    budget: u64,
+    progress: &mut P,
+) -> Result<Option<Frontier>, AllocError>
+    ensures along { IfOk result (λ next. IfSome next (λ f. (words : List ℕ) (told : List Operation) → Follows words told before.now → GoesAlong words (told ++ kept.now) f)) }
+    ensures looked { IfOk result (λ _. LookedSome P.looked progress.old progress.new) }
+{
+    match told_after(alloc, before, kept)? {
+        Some(from) => next_along(alloc, &from, time, budget, progress),
+        None => Ok(None),
     }
-    let Words::Each(words) = before.words(alloc, &mut budget, &mut NoProgress)? else {
-        return Ok(None);
-    };
-    for word in &words {
-        let mut ahead = Ahead::new(alloc, *word);
-        ahead.looked = time;
-        ahead.see(kept)?;
-        if ahead.pass(alloc, order, time)? {
-            return Ok(Some(ahead));
+}
+
+// The search along an order from one of these, of which all were told all that is kept: from the last, or one that stands before
+// it, within twice as many states each time. With it how many of these there are up to that one.
+fn further_along<P: Progress>(
+    alloc: Global,
+    searches: &[Frontier],
+    time: u64,
+    budget: u64,
+    progress: &mut P,
+) -> Result<Option<(usize, Frontier)>, AllocError>
+    ensures along { IfOk result (λ found. IfSome found (λ next. (words : List ℕ) (told : List Operation) → All (GoesAlong words told) searches.now → GoesAlong words told next.1)) }
+    ensures looked { IfOk result (λ _. LookedSome P.looked progress.old progress.new) }
+{
+    let mut share = budget;
+    for back in BACK {
+        let Some(place) = searches.len().checked_sub(back) else {
+            break;
+        };
+        let Some(from) = searches.get(place) else {
+            break;
+        };
+        if let Some(next) = next_along(alloc, from, time, share, progress)? {
+            return Ok(Some((place + 1, next)));
         }
+        share = share.saturating_mul(2);
     }
     Ok(None)
+}
+
+/// The search along an order of what had happened by a time: from one of these, which all were told all that is kept, or from the
+/// start. With it how many of these it goes on from.
+pub(crate) fn found_along<P: Progress>(
+    alloc: Global,
+    before: &Frontier,
+    kept: &[Operation],
+    searches: &[Frontier],
+    time: u64,
+    budget: u64,
+    progress: &mut P,
+) -> Result<Option<(usize, Frontier)>, AllocError>
+    ensures along { IfOk result (λ found. IfSome found (λ next. (words : List ℕ) (told : List Operation) → Follows words told before.now → All (GoesAlong words (told ++ kept.now)) searches.now → GoesAlong words (told ++ kept.now) next.1)) }
+    ensures looked { IfOk result (λ _. LookedSome P.looked progress.old progress.new) }
+{
+    if let Some(found) = further_along(alloc, searches, time, budget, progress)? {
+        return Ok(Some(found));
+    }
+    let whole = budget.saturating_mul(FROM_START);
+    match first_along(alloc, before, kept, time, whole, progress)? {
+        Some(next) => Ok(Some((0, next))),
+        None => Ok(None),
+    }
+}
+
+/// Keeps the first so many, and one more. The first is left out where they are too many.
+pub(crate) fn keep_along(
+    searches: &mut Vec<Frontier>,
+    count: usize,
+    next: Frontier,
+) -> Result<(), AllocError>
+    ensures { IfOk result (λ _. (words : List ℕ) (told : List Operation) → All (GoesAlong words told) searches.old.items → GoesAlong words told next → All (GoesAlong words told) searches.new.items) }
+{
+    searches.truncate(count);
+    if searches.len() >= MOST {
+        searches.remove(0);
+    }
+    searches.push(next)?;
+    Ok(())
+}
+
+/// Leaves all out where so few operations are kept, since an order is soon found from the start then.
+pub(crate) fn leave_where_few(alloc: Global, searches: &mut Vec<Frontier>, kept: usize)
+    ensures { (words : List ℕ) (told : List Operation) → All (GoesAlong words told) searches.old.items → All (GoesAlong words told) searches.new.items }
+{
+    if kept < FEW {
+        *searches = Vec::new(alloc);
+    }
 }

@@ -4,7 +4,6 @@ ghost use Rattle.std.specs.Prelude.{◌≡◌, ◌≤◌, ◌↔◌, ℕ, [], �
 ghost use Rattle.chi_trace.specs.declared.operation.Operation.{Operation};
 ghost use Rattle.chi_judge.specs.Judges.{CanBeKept, Keeps};
 
-use crate::ahead::Ahead;
 use crate::forgetting::MOST_STATES;
 use chi_fields::ADDRESSES;
 use chi_search::Frontier;
@@ -34,7 +33,8 @@ pub struct Judge {
     pub(crate) horizon: u64,
     pub(crate) latest: u64,
     pub(crate) is_stopped: bool,
-    pub(crate) ahead: Option<Ahead>,
+    pub(crate) ahead: Vec<Frontier>,
+    pub(crate) seen: usize,
     pub(crate) next_look: usize,
     pub(crate) limit: usize,
     pub(crate) states: u64,
@@ -45,9 +45,9 @@ impl Model for Judge {
 
     ghost Value = { JudgeValue };
 
-    ghost view = { λ r. record { before = r.before; left = r.left.items; shown = r.shown; kept = r.kept.items; since = r.since; horizon = r.horizon; latest = r.latest; is_stopped = r.is_stopped } };
+    ghost view = { λ r. record { before = r.before; left = r.left.items; shown = r.shown; kept = r.kept.items; ahead = r.ahead.items; seen = r.seen; since = r.since; horizon = r.horizon; latest = r.latest; is_stopped = r.is_stopped } };
 
-    ghost invariant = { λ r. IsJudge (record { before = r.before; left = r.left.items; shown = r.shown; kept = r.kept.items; since = r.since; horizon = r.horizon; latest = r.latest; is_stopped = r.is_stopped }) };
+    ghost invariant = { λ r. IsJudge (record { before = r.before; left = r.left.items; shown = r.shown; kept = r.kept.items; ahead = r.ahead.items; seen = r.seen; since = r.since; horizon = r.horizon; latest = r.latest; is_stopped = r.is_stopped }) };
 }
 
 /// How many operations it keeps at least before it looks whether it may keep fewer.
@@ -75,7 +75,8 @@ impl Judge {
             horizon: 0,
             latest: 0,
             is_stopped: false,
-            ahead: Some(Ahead::new(alloc, word)),
+            ahead: Vec::new(alloc),
+            seen: 0,
             next_look: FEW,
             limit: FEW,
             states: MOST_STATES,

@@ -3,11 +3,12 @@
 ghost use Rattle.std.specs.Prelude.{◌≡◌, ◌+◌, ◌-◌, ◌≤◌, ◌<◌, ◌⊎◌, ℕ, ◌++◌, ◌↔◌, List, All, None, IfOk, IfSome, length, take};
 ghost use Rattle.std.specs.List.{Contains};
 ghost use Rattle.chi_search.specs.Found.{IfNothing, IfOrder, IfUndecided, IfUnknown, IfWords};
-ghost use Rattle.chi_search.specs.Frontiers.{Follows, MayBeTold};
+ghost use Rattle.chi_search.specs.Frontiers.{Follows, GoesAlong, MayBeTold};
 ghost use Rattle.chi_search.specs.Layers.{SomeLeads};
 ghost use Rattle.chi_search.specs.Looks.{LookedMore, LookedSome};
 ghost use Rattle.chi_trace.specs.Cuts.{cut};
 ghost use Rattle.chi_trace.specs.Explains.{at};
+ghost use Rattle.chi_trace.specs.Segments.{AreLasting};
 ghost use Rattle.chi_trace.specs.declared.operation.Operation.{Operation};
 ghost use Rattle.chi_judge.specs.Judges.{GoesNowhere, GoesOn, LiesWithin};
 
@@ -22,6 +23,7 @@ pub(crate) fn told_after(
     more: &[Operation],
 ) -> Result<Option<Frontier>, AllocError>
     ensures follows { IfOk result (λ after. IfSome after (λ frontier. (words : List ℕ) (told : List Operation) → Follows words told before.now → Follows words (told ++ more.now) frontier)) }
+    ensures along { IfOk result (λ after. IfSome after (λ frontier. (words : List ℕ) (told : List Operation) → GoesAlong words told before.now → GoesAlong words (told ++ more.now) frontier)) }
     ensures next { IfOk result (λ after. IfSome after (λ frontier. (rest : List Operation) → MayBeTold before.now (more.now ++ rest) → MayBeTold frontier rest)) }
     ensures horizon { IfOk result (λ after. IfSome after (λ frontier. frontier.horizon ≡ before.now.horizon)) }
     ensures latest { IfOk result (λ after. IfSome after (λ frontier. (time : ℕ) → before.now.latest ≤ time → All (λ op. op.end ≤ time) more.now → frontier.latest ≤ time)) }
@@ -82,6 +84,7 @@ pub(crate) fn order_after<P: Progress>(
     progress: &mut P,
 ) -> Result<Found, AllocError>
     ensures order { IfOk result (λ found. IfOrder found (λ order. GoesOn before.now more.now)) }
+    ensures along { IfOk result (λ found. IfOrder found (λ order. (words : List ℕ) (told : List Operation) → GoesAlong words told before.now → (v : ℕ) × SomeLeads (told ++ more.now) words v)) }
     ensures nothing { IfOk result (λ found. IfNothing found (GoesNowhere before.now more.now)) }
     ensures undecided { IfOk result (λ found. IfUndecided found (MayBeTold before.now more.now → All LiesWithin more.now → LookedMore P.looked progress.old progress.new budget)) }
     ensures looked { IfOk result (λ _. LookedSome P.looked progress.old progress.new) }
@@ -91,6 +94,21 @@ pub(crate) fn order_after<P: Progress>(
         Some(after) => after.order(alloc, None, &mut left, progress),
         None => Ok(Found::Undecided),
     }
+}
+
+/// The same by a time, of a search along an order of operations: an order says that what had happened by then is explained.
+pub(crate) fn order_until<P: Progress>(
+    alloc: Global,
+    from: &Frontier,
+    time: u64,
+    budget: u64,
+    progress: &mut P,
+) -> Result<Found, AllocError>
+    ensures explained { IfOk result (λ found. IfOrder found (λ order. (words : List ℕ) (told : List Operation) → AreLasting told → GoesAlong words told from.now → (v : ℕ) × SomeLeads (cut time told) words v)) }
+    ensures looked { IfOk result (λ _. LookedSome P.looked progress.old progress.new) }
+{
+    let makers = from.makers_after(alloc, time)?;
+    order_after(alloc, from, &makers, budget, progress)
 }
 
 /// The same by a time: of the operations that had started, with the replies of those that had ended.

@@ -1,11 +1,11 @@
 //! A look at what can be explained, while operations are told.
 
-ghost use Rattle.std.specs.Prelude.{◌≡◌, ℕ, ◌+◌, ◌≤◌, ◌<◌, ◌⊎◌, false, List, IfOk};
+ghost use Rattle.std.specs.Prelude.{◌≡◌, ℕ, ◌+◌, ◌≤◌, ◌<◌, ◌⊎◌, false, List, IfOk, length};
 ghost use Rattle.chi_trace.specs.declared.operation.Operation.{Operation};
 ghost use Rattle.chi_search.specs.Looks.{LookedSome};
 ghost use Rattle.chi_judge.specs.Judges.{Keeps};
 
-use crate::ahead::ahead_of;
+use crate::ahead::{each_told, found_along, keep_along};
 use crate::forgetting::next_states;
 use crate::judge::{FEW, Judge};
 use chi_search::{Found, Progress};
@@ -24,24 +24,29 @@ const FEW_STATES: u64 = 4096;
 const FEW_STATES_EACH: u64 = 8;
 
 /// How many states may be looked at from where an order stands, where so many operations are kept.
-fn few_states_for(kept: usize) -> u64 {
+pub(crate) fn few_states_for(kept: usize) -> u64 {
     (kept as u64)
         .saturating_mul(FEW_STATES_EACH)
         .max(FEW_STATES)
 }
 
 impl Judge {
-    // Lets the order that goes on know of all that is kept.
-    fn show_ahead(&mut self) -> Result<(), AllocError>
-        ensures same { IfOk result (λ _. self.new ≡ self.old) }
+    // Tells the searches along orders all that is kept.
+    fn tell_ahead(&mut self, alloc: Global) -> Result<(), AllocError>
+        ensures keeps { IfOk result (λ _. (words : List ℕ) (told : List Operation) (now : ℕ) → Keeps words told now self.old → Keeps words told now self.new) }
+        ensures same { IfOk result (λ _. self.new ≡ record self.old { ahead = self.new.ahead; seen = length self.old.kept }) }
     {
-        if let Some(ahead) = &mut self.ahead {
-            ahead.see(&self.kept)?;
-        }
+        let Some(more) = self.kept.get(self.seen..) else {
+            self.ahead = Vec::new(alloc);
+            self.seen = self.kept.len();
+            return Ok(());
+        };
+        self.ahead = each_told(alloc, &self.ahead, more)?;
+        self.seen = self.kept.len();
         Ok(())
     }
 
-    // Whether an order of what had happened before the horizon is soon found from where the last one stands.
+    // Whether an order of what had happened before the horizon is found from where the last ones stand, or from the start.
     fn goes_ahead<P: Progress>(
         &mut self,
         alloc: Global,
@@ -49,40 +54,27 @@ impl Judge {
         progress: &mut P,
     ) -> Result<bool, AllocError>
         requires some { 0 < horizon }
-        ensures same { IfOk result (λ _. self.new ≡ self.old) }
+        ensures keeps { IfOk result (λ _. (words : List ℕ) (told : List Operation) (now : ℕ) → Keeps words told now self.old → Keeps words told now self.new) }
+        ensures same { IfOk result (λ _. self.new ≡ record self.old { ahead = self.new.ahead; seen = length self.old.kept }) }
         ensures looked { IfOk result (λ _. LookedSome P.looked progress.old progress.new) }
     {
+        self.tell_ahead(alloc)?;
         let budget = few_states_for(self.kept.len());
-        match &mut self.ahead {
-            Some(ahead) => ahead.goes_on(alloc, horizon - 1, budget, progress),
+        match found_along(
+            alloc,
+            &self.before,
+            &self.kept,
+            &self.ahead,
+            horizon - 1,
+            budget,
+            progress,
+        )? {
+            Some((count, next)) => {
+                keep_along(&mut self.ahead, count, next)?;
+                Ok(true)
+            }
             None => Ok(false),
         }
-    }
-
-    // Once fewer are kept: the order that goes on is left out where one can begin anew, since the search before the others keeps
-    // none; where it is far behind it follows, or is left out.
-    fn follow<P: Progress>(
-        &mut self,
-        alloc: Global,
-        horizon: u64,
-        progress: &mut P,
-    ) -> Result<(), AllocError>
-        requires some { 0 < horizon }
-        ensures same { IfOk result (λ _. self.new ≡ self.old) }
-        ensures looked { IfOk result (λ _. LookedSome P.looked progress.old progress.new) }
-    {
-        if self.before.kept() == 0 {
-            self.ahead = None;
-        }
-        let kept = self.kept.len();
-        let is_behind = match &mut self.ahead {
-            Some(ahead) => ahead.knows(kept),
-            None => false,
-        };
-        if is_behind && !self.goes_ahead(alloc, horizon, progress)? {
-            self.ahead = None;
-        }
-        Ok(())
     }
 
     /// Looks whether what had happened before the horizon can be explained, and answers whether that was seen. Where it cannot be,
@@ -99,16 +91,14 @@ impl Judge {
         ensures horizon { IfOk result (λ _. (self.new.horizon ≡ horizon) ⊎ (self.new.horizon ≡ self.old.horizon)) }
         ensures latest { IfOk result (λ _. self.new.latest ≡ self.old.latest) }
         ensures shown { IfOk result (λ _. self.new.shown ≡ self.old.shown) }
+        ensures told { IfOk result (λ _. self.new.seen ≡ length self.new.kept) }
         ensures looked { IfOk result (λ _. LookedSome P.looked progress.old progress.new) }
     {
         if self.goes_ahead(alloc, horizon, progress)? {
             return Ok(true);
         }
         match self.order_before(alloc, horizon, progress)? {
-            Found::Order(order) => {
-                self.ahead = ahead_of(alloc, &self.before, &self.kept, &order, horizon - 1)?;
-                Ok(true)
-            }
+            Found::Order(_) => Ok(true),
             Found::Nothing => {
                 self.horizon = horizon;
                 self.is_stopped = true;
@@ -135,14 +125,11 @@ impl Judge {
         ensures shown { IfOk result (λ _. self.new.shown ≡ self.old.shown) }
         ensures looked { IfOk result (λ _. LookedSome P.looked progress.old progress.new) }
     {
-        if !tries {
-            return self.look(alloc, horizon, progress);
+        let is_seen = self.look(alloc, horizon, progress)?;
+        if tries && is_seen && !self.is_stopped && self.horizon < horizon {
+            self.forget(alloc, horizon, progress)?;
         }
-        if self.forget(alloc, horizon, progress)? {
-            self.follow(alloc, horizon, progress)?;
-            return Ok(true);
-        }
-        self.look(alloc, horizon, progress)
+        Ok(is_seen)
     }
 
     // When it looks again, and tries again to keep fewer.
@@ -154,9 +141,10 @@ impl Judge {
             self.states = next_states(self.states, kept < self.limit);
             self.limit = kept.saturating_mul(2).max(FEW);
         }
-        let more = match &self.ahead {
-            Some(_) => MORE,
-            None => MORE.max(kept / PART),
+        let more = if self.ahead.is_empty() {
+            MORE.max(kept / PART)
+        } else {
+            MORE
         };
         self.next_look = if is_seen {
             kept.saturating_add(more).min(self.limit)
@@ -189,7 +177,6 @@ impl Judge {
             return Ok(());
         }
         let tries = kept >= self.limit;
-        self.show_ahead()?;
         let is_seen = self.move_on(alloc, horizon, tries, progress)?;
         self.plan(tries, is_seen);
         Ok(())

@@ -62,7 +62,8 @@ impl Judge {
         ensures stopped { IfOk result (λ _. self.new.is_stopped ≡ self.old.is_stopped) }
     {
         self.kept = happened_before(alloc, &self.kept, time)?;
-        self.ahead = None;
+        self.ahead = Vec::new(alloc);
+        self.seen = 0;
         Ok(())
     }
 }

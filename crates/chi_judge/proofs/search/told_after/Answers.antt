@@ -3,7 +3,7 @@ use Rattle.std.proofs.Common.{◌≡◌, ◌+◌, ◌≤◌, List, [], ◌∷◌
 use Rattle.std.proofs.lemmas.List.{take-append-drop, take_all, take_more}
 use Rattle.std.proofs.lemmas.List.Elements.{All-contains, Contains-push}
 use Rattle.chi_trace.specs.declared.operation.Operation.{Operation}
-use Rattle.chi_search.specs.Frontiers.{Follows, MayBeTold}
+use Rattle.chi_search.specs.Frontiers.{Follows, GoesAlong, MayBeTold}
 use Rattle.chi_judge.specs.Judges.{LiesWithin}
 use Rattle.chi_judge.proofs.More.{may_first, may_rest, may_same}
 use Rattle.chi_judge.proofs.search.told_after.Goals as goal
@@ -11,6 +11,7 @@ use Rattle.chi_judge.proofs.search.told_after.Goals as goal
 pub loop-op-init : goal.loop-op-init
 loop-op-init c = record {
   follows = λ words told follows. subst (λ (l : List Operation). Follows words l c.in_ok-after.after) (sym (append-nil told)) (c.in_ok-after.ensures.follows words told follows);
+  along = λ words told along. subst (λ (l : List Operation). GoesAlong words l c.in_ok-after.after) (sym (append-nil told)) (c.in_ok-after.ensures.along words told along);
   next = λ rest may. may_same c.args.before.now c.in_ok-after.after rest c.in_ok-after.ensures.same.1 c.in_ok-after.ensures.same.2 may;
   horizon = c.in_ok-after.ensures.same.1;
   latest = λ time le all. subst (λ n. n ≤ time) (sym c.in_ok-after.ensures.same.2) le;
@@ -41,6 +42,9 @@ loop-op-preserved c =
       follows = λ words told follows.
           subst (λ (l : List Operation). Follows words l c.add.new.self) (append_assoc told (take i more) (op ∷ []) ∙ ap (λ (l : List Operation). told ++ l) (sym grown))
           (c.in_ok-add.ensures.told c.if-not-branch.false words (told ++ take i more) (c.loop-op.invariant.follows words told follows));
+      along = λ words told along.
+          subst (λ (l : List Operation). GoesAlong words l c.add.new.self) (append_assoc told (take i more) (op ∷ []) ∙ ap (λ (l : List Operation). told ++ l) (sym grown))
+          (c.in_ok-add.ensures.along c.if-not-branch.false words (told ++ take i more) (c.loop-op.invariant.along words told along));
       next = λ rest may.
           may_rest c.loop-op.after c.add.new.self op rest last.0 last.1
           (c.loop-op.invariant.next (op ∷ rest) (subst (MayBeTold c.args.before.now) (ap (λ (l : List Operation). l ++ rest) grown ∙ append_assoc (take i more) (op ∷ []) rest) may));
@@ -53,6 +57,10 @@ loop-op-preserved c =
 pub returns-clause-follows : goal.returns-clause-follows
 returns-clause-follows c words told follows =
     subst (λ (l : List Operation). Follows words (told ++ l) c.loop-op.after) (take_all c.loop-op.op-index c.args.more.now (omega arith)) (c.loop-op.invariant.follows words told follows)
+
+pub returns-clause-along : goal.returns-clause-along
+returns-clause-along c words told along =
+    subst (λ (l : List Operation). GoesAlong words (told ++ l) c.loop-op.after) (take_all c.loop-op.op-index c.args.more.now (omega arith)) (c.loop-op.invariant.along words told along)
 
 pub returns-clause-next : goal.returns-clause-next
 returns-clause-next c rest may =

@@ -8,7 +8,7 @@ use Rattle.chi_judge.proofs.judge.Judge.add.Goals as goal
 pub returns-in_ok-push-clause-keeps : goal.returns-in_ok-push-clause-keeps
 returns-in_ok-push-clause-keeps c taken words told now later keeps =
     let s = c.self.inside in
-    let r : JudgeValue = record { before = s.before; left = s.left.items; shown = s.shown; kept = s.kept.items; since = s.since; horizon = s.horizon; latest = s.latest; is_stopped = s.is_stopped } in
+    let r : JudgeValue = record { before = s.before; left = s.left.items; shown = s.shown; kept = s.kept.items; ahead = s.ahead.items; seen = s.seen; since = s.since; horizon = s.horizon; latest = s.latest; is_stopped = s.is_stopped } in
     let t = c.args.op.now in
     let can : CanBeKept r t = record { ends = omega arith; starts = omega arith; lasting = omega arith; within = omega arith } in
     subst (λ (kept : List Operation). Keeps words (told ++ t ∷ []) t.end (record r { kept = kept; latest = t.end })) (sym c.in_ok-push.ensures.items)
@@ -17,7 +17,7 @@ returns-in_ok-push-clause-keeps c taken words told now later keeps =
 pub returns-else-not-self-clause-keeps : goal.returns-else-not-self-clause-keeps
 returns-else-not-self-clause-keeps c taken words told now later keeps =
     let s = c.self.inside in
-    let r : JudgeValue = record { before = s.before; left = s.left.items; shown = s.shown; kept = s.kept.items; since = s.since; horizon = s.horizon; latest = s.latest; is_stopped = s.is_stopped } in
+    let r : JudgeValue = record { before = s.before; left = s.left.items; shown = s.shown; kept = s.kept.items; ahead = s.ahead.items; seen = s.seen; since = s.since; horizon = s.horizon; latest = s.latest; is_stopped = s.is_stopped } in
     let t = c.args.op.now in
     subst (Keeps words (told ++ t ∷ []) t.end) c.self.view_is
     (keeps_stopped words told now r (subst (Keeps words told now) (sym c.self.view_is) keeps) t later (omega arith) c.if-not-self.false)

@@ -5,6 +5,7 @@ use Rattle.chi_search.specs.declared.order.Found.{Found}
 use Rattle.chi_search.specs.Found.{IfNothing, IfOrder}
 use Rattle.chi_search.specs.Frontiers.{Follows, FrontierValue}
 use Rattle.chi_search.specs.Layers.{SomeLeads}
+use Rattle.chi_search.proofs.Looking.{some_after}
 use Rattle.chi_judge.specs.Judges.{JudgeValue}
 use Rattle.chi_judge.proofs.Checked.{leads_none, leads_some, stopped_none}
 use Rattle.chi_judge.proofs.judge.Judge.check.Goals as goal
@@ -45,3 +46,15 @@ returns-in-Nothing-clause-unexplained g c =
     let goes : r.is_stopped ≡ false = ap (λ (v : JudgeValue). v.is_stopped) (sym c.self.view_is) ∙ c.if-self.false in
     let none = subst (λ (found : Found). IfNothing found (LeadsToNone after (λ v. IfSome c.args.final_word (λ seen. v ≡ seen)))) c.in-Nothing.is c.in_ok-order.ensures.nothing in
     leads_none c.granules_stand_alone.ensures r c.args.final_word after goes (follows_kept r _ _ _ after c.self.view_is c.deref.ensures.value c.in-Some.is c.in_ok-after.ensures.follows) none
+
+pub returns-in-Order-clause-looked : goal.returns-in-Order-clause-looked
+returns-in-Order-clause-looked g c =
+    some_after g.P.Progress.looked c.args.progress.now c.goes_on.new.progress c.order.new.progress (_, c.in_ok-goes_on.ensures.spends.1) (_, c.in_ok-order.ensures.spends.1)
+
+pub returns-in-Nothing-clause-looked : goal.returns-in-Nothing-clause-looked
+returns-in-Nothing-clause-looked g c =
+    some_after g.P.Progress.looked c.args.progress.now c.goes_on.new.progress c.order.new.progress (_, c.in_ok-goes_on.ensures.spends.1) (_, c.in_ok-order.ensures.spends.1)
+
+pub returns-clause-looked : goal.returns-clause-looked
+returns-clause-looked g c =
+    some_after g.P.Progress.looked c.args.progress.now c.goes_on.new.progress c.order.new.progress (_, c.in_ok-goes_on.ensures.spends.1) (_, c.in_ok-order.ensures.spends.1)
