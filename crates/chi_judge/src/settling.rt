@@ -14,6 +14,12 @@ use std::alloc::{AllocError, Global};
 /// From how many operations more on it looks again, where an order goes on from the last one.
 const MORE: usize = 64;
 
+/// With how many that are kept it is taken that some are always open.
+const SOME: usize = 8;
+
+/// How many operations more are kept then before it tries again to keep fewer.
+const MANY: usize = 128;
+
 /// From which part of those that are kept on, where none does and that is more.
 const PART: usize = 8;
 
@@ -28,6 +34,13 @@ pub(crate) fn few_states_for(kept: usize) -> u64 {
     (kept as u64)
         .saturating_mul(FEW_STATES_EACH)
         .max(FEW_STATES)
+}
+
+/// At how many that are kept it tries again to keep fewer, once so many are left: at twice as many, and where some are always open
+/// no sooner than after some more.
+fn limit_after(kept: usize) -> usize {
+    let more = if kept < SOME { FEW } else { MANY };
+    kept.saturating_mul(2).max(kept.saturating_add(more))
 }
 
 impl Judge {
@@ -139,7 +152,7 @@ impl Judge {
         let kept = self.kept.len();
         if tries {
             self.states = next_states(self.states, kept < self.limit);
-            self.limit = kept.saturating_mul(2).max(FEW);
+            self.limit = limit_after(kept);
         }
         let more = if self.ahead.is_empty() {
             MORE.max(kept / PART)
