@@ -37,6 +37,17 @@ pub(crate) fn each_told(
     Ok(each)
 }
 
+// An order up to the last operation that had ended by a time.
+fn settled_part<'a>(ops: &[Operation], order: &'a [usize], time: u64) -> &'a [usize] {
+    let mut settled = 0;
+    for (count, place) in order.iter().enumerate() {
+        if ops.get(*place).is_some_and(|op| op.end <= time) {
+            settled = count.saturating_add(1);
+        }
+    }
+    order.get(..settled).unwrap_or(order)
+}
+
 /// The search along an order of what had happened by a time, from where this one stands, where there is one within so many states.
 pub(crate) fn next_along<P: Progress>(
     alloc: Global,
@@ -49,7 +60,10 @@ pub(crate) fn next_along<P: Progress>(
     ensures looked { IfOk result (λ _. LookedSome P.looked progress.old progress.new) }
 {
     match order_until(alloc, from, time, budget, progress)? {
-        Found::Order(order) => from.along(alloc, &order, time),
+        Found::Order(order) => {
+            let part = settled_part(from.operations(), &order, time);
+            from.after(alloc, part)
+        }
         Found::Nothing => Ok(None),
         Found::Undecided => Ok(None),
     }

@@ -5,6 +5,7 @@ mod ahead;
 mod explained;
 mod forgetting;
 mod judge;
+mod later_makers;
 mod legal;
 mod reach;
 mod reaching;

@@ -12,6 +12,7 @@ ghost use Rattle.chi_trace.specs.Segments.{AreLasting};
 ghost use Rattle.chi_trace.specs.declared.operation.Operation.{Operation};
 ghost use Rattle.chi_judge.specs.Judges.{GoesNowhere, GoesOn, LiesWithin};
 
+use crate::later_makers::makers_after;
 use chi_search::{Found, Frontier, Progress, Words};
 use chi_trace::{Operation, cut};
 use std::alloc::{AllocError, Global};
@@ -107,7 +108,7 @@ pub(crate) fn order_until<P: Progress>(
     ensures explained { IfOk result (λ found. IfOrder found (λ order. (words : List ℕ) (told : List Operation) → AreLasting told → GoesAlong words told from.now → (v : ℕ) × SomeLeads (cut time told) words v)) }
     ensures looked { IfOk result (λ _. LookedSome P.looked progress.old progress.new) }
 {
-    let makers = from.makers_after(alloc, time)?;
+    let makers = makers_after(alloc, from.operations(), time)?;
     order_after(alloc, from, &makers, budget, progress)
 }
 

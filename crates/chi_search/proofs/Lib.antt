@@ -14,6 +14,7 @@ pub mod Exchange
 pub mod FirstAndLast
 pub mod Following
 pub mod Idle
+pub mod InTurn
 pub mod Judging
 pub mod Layers
 pub mod Leaving

@@ -1,5 +1,5 @@
 -- a search that goes along one order
-use Rattle.std.proofs.Common.{◌≡◌, ℕ, ◌^◌, ◌<◌, ◌≤◌, List, [], ◌∷◌, ◌++◌, append-nil, drop, length, IfSome, Option, Some, sym, subst, arith}
+use Rattle.std.proofs.Common.{◌≡◌, ℕ, ◌^◌, ◌<◌, ◌≤◌, ◌↔◌, List, [], ◌∷◌, ◌++◌, append-nil, drop, length, IfSome, Option, Some, sym, subst, arith}
 use Rattle.std.proofs.lemmas.List.{append_assoc}
 use Rattle.std.specs.List.{Contains}
 use Rattle.std.proofs.lemmas.List.Elements.{All-weaker}
@@ -9,13 +9,12 @@ use Rattle.chi_search.specs.declared.order.Found.{Found}
 use Rattle.chi_search.specs.declared.order.Found.TheVariants.{Nothing, Order, Undecided}
 use Rattle.chi_search.specs.declared.states.States.{States}
 use Rattle.chi_search.specs.Found.{IfOrder}
-use Rattle.chi_search.specs.Frontiers.{CanBeTold, Follows, FrontierValue, GoesAlong, IsAfter, IsFrontier, MayBeTold}
-use Rattle.chi_search.specs.Layers.{SomeLeads}
+use Rattle.chi_search.specs.Frontiers.{CanBeTold, Follows, FrontierValue, GoesAlong, GoesOnFrom, IsFrontier, MayBeTold}
+use Rattle.chi_search.specs.Layers.{SomeEnds, SomeLeads}
 use Rattle.chi_search.specs.Moves.{CanCome, Ends, Takes}
 use Rattle.chi_search.specs.Positions.{Position, is_left}
 use Rattle.chi_search.specs.Searchable.{AreSorted}
 use Rattle.chi_search.specs.StateSets.{Has, positions}
-use Rattle.chi_search.proofs.Dropped.{drop_settled}
 use Rattle.chi_search.proofs.Following.{comes_on, takes_on}
 use Rattle.chi_search.proofs.Layers.{takes_to}
 use Rattle.chi_search.proofs.MovedBack.{AreBack, goes_back, told_back}
@@ -32,25 +31,34 @@ taken_on ops more p q i v sorted first below comes takes word ends =
 pub follows_along : (words : List ℕ) (told : List Operation) (f : FrontierValue) → Follows words told f → GoesAlong words told f
 follows_along words told f follows more may v goes = (follows more may v).1 goes
 
--- the search goes along the same operations from the one state on, told without those that this has passed
-pub along_back : (words : List ℕ) (told : List Operation) (f : FrontierValue) (p s : Position) (k : ℕ) (last back : States) → IsFrontier f → Contains f.positions p
-    → IsAfter f p s → ((q : Position) → Has last q → q ≡ s) → k ≤ length f.operations → ((q : Position) → Has last q → k ≤ q.first) → AreBack k back last
-    → GoesAlong words told f → GoesAlong words told (told_back f f.horizon k back)
-along_back words told f p s k last back is has after one within past are along more may v (r, there, ends) =
-    let of = (are r).0 there in
-    let goes : Ends (f.operations ++ more) (Some v) of.0 = (drop_settled f.operations more k v of.0 (past of.0 of.1) within).1 (subst (Ends (drop k f.operations ++ more) (Some v)) of.2 ends) in
-    along more before v (p, has, after more (may_follow f f.horizon more is same).sorted v (subst (Ends (f.operations ++ more) (Some v)) (one of.0 of.1) goes))
+-- the search from one state on, told without the operations that this has passed, goes on to just the words to which the state leads
+pub from_back : (f : FrontierValue) (s : Position) (k : ℕ) (last back : States) → Has last s → ((q : Position) → Has last q → q ≡ s) → k ≤ length f.operations
+    → ((q : Position) → Has last q → k ≤ q.first) → AreBack k back last → GoesOnFrom f (told_back f f.horizon k back) s
+from_back f s k last back has one within past are more v = (forth, λ ends. goes.0 (s, has, ends))
+  where
+    goes : SomeEnds (f.operations ++ more) last v ↔ SomeEnds (drop k f.operations ++ more) back v
+    goes = goes_back f.operations more k v last back within past are
+
+    forth : SomeEnds (drop k f.operations ++ more) back v → Ends (f.operations ++ more) (Some v) s
+    forth some = let of = goes.1 some in subst (Ends (f.operations ++ more) (Some v)) (one of.0 of.1) of.2
+
+-- a search that goes on from a position goes along what was told, where what goes on from there goes on from one of the first search
+pub along_from : (words : List ℕ) (told : List Operation) (f next : FrontierValue) (p s : Position) → IsFrontier f → Contains f.positions p
+    → ((more : List Operation) → AreSorted (f.operations ++ more) → (v : ℕ) → Ends (f.operations ++ more) (Some v) s → Ends (f.operations ++ more) (Some v) p)
+    → GoesOnFrom f next s → (next.horizon ≡ f.horizon) × (next.latest ≡ f.latest) → GoesAlong words told f → GoesAlong words told next
+along_from words told f next p s is has ends from same along more may v goes =
+    along more before v (p, has, ends more (may_follow f f.horizon more is there).sorted v ((from more v).0 goes))
   where
     before : MayBeTold f more
     before = record {
       sorted = may.sorted;
-      each = All-weaker (CanBeTold (told_back f f.horizon k back)) (CanBeTold f) (λ o c. record { lasting = c.lasting; starts = c.starts; ends = c.ends }) more may.each;
+      each = All-weaker (CanBeTold next) (CanBeTold f) (λ o c. record { lasting = c.lasting; starts = omega (arith, same.0, c.starts); ends = omega (arith, same.1, c.ends) }) more may.each;
     }
 
-    same : MayBeTold (record f { horizon = f.horizon }) more
-    same = record {
+    there : MayBeTold (record f { horizon = f.horizon }) more
+    there = record {
       sorted = may.sorted;
-      each = All-weaker (CanBeTold (told_back f f.horizon k back)) (CanBeTold (record f { horizon = f.horizon })) (λ o c. record { lasting = c.lasting; starts = c.starts; ends = c.ends }) more may.each;
+      each = All-weaker (CanBeTold f) (CanBeTold (record f { horizon = f.horizon })) (λ o c. record { lasting = c.lasting; starts = c.starts; ends = c.ends }) more before.each;
     }
 
 -- and so does a copy of it

@@ -46,6 +46,7 @@ Follows words told f = (more : List Operation) → MayBeTold f more → (v : ℕ
 abbrev pub GoesAlong : List ℕ → List Operation → FrontierValue → Type 0
 GoesAlong words told f = (more : List Operation) → MayBeTold f more → (v : ℕ) → GoesOn f more v → SomeLeads (told ++ more) words v
 
--- What goes on from the one state goes on from the position, whatever is told later.
-abbrev pub IsAfter : FrontierValue → Position → Position → Type 0
-IsAfter f p s = (more : List Operation) → AreSorted (f.operations ++ more) → (v : ℕ) → Ends (f.operations ++ more) (Some v) s → Ends (f.operations ++ more) (Some v) p
+-- The second search goes on to just the words to which the position leads by the operations of the first one, whatever is told
+-- later.
+abbrev pub GoesOnFrom : FrontierValue → FrontierValue → Position → Type 0
+GoesOnFrom f next q = (more : List Operation) (v : ℕ) → GoesOn next more v ↔ Ends (f.operations ++ more) (Some v) q

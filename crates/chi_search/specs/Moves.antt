@@ -1,9 +1,9 @@
 -- the moves of a search: the next operation is taken, or the first is left out, since it may have had no effect
-use Rattle.std.specs.Prelude.{◌≡◌, ℕ, ◌^◌, ◌<◌, ◌≤◌, true, List, length, Option, None}
+use Rattle.std.specs.Prelude.{◌≡◌, ℕ, ◌^◌, ◌<◌, ◌≤◌, true, List, [], ◌∷◌, length, Option, None}
 use Rattle.chi_trace.specs.declared.operation.Operation.{Operation}
 use Rattle.chi_trace.specs.Explains.{at}
 use Rattle.chi_trace.specs.Granules.{Finishes, Fits, next}
-use Rattle.chi_search.specs.Positions.{Position, Settles, is_left}
+use Rattle.chi_search.specs.Positions.{IsReady, Position, Settles, is_left}
 
 -- some order finishes what is left
 abbrev pub Ends : List Operation → Option ℕ → Position → Type 0
@@ -34,3 +34,8 @@ ByTaking ops final_word p i =
 -- the operation leaves each word that it fits as it is
 abbrev pub IsIdle : Operation → Type 0
 IsIdle op = (w : ℕ) → w < 2 ^ 64 → Fits op w → next op w ≡ w
+
+-- the operations come next in turn, and lead from the one position to the other
+unfoldable pub Comes : List Operation → Position → List ℕ → Position → Type 0
+Comes ops p [] q = q ≡ p
+Comes ops p (i ∷ order) q = (r : Position) × IsReady (length ops) r × CanCome ops p i × Takes ops p i r × Comes ops r order q

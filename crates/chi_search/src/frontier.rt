@@ -234,16 +234,16 @@ impl Frontier {
         }
     }
 
-    /// How many operations it keeps: those that are not settled for good.
+    /// The operations that it keeps, in the order in which they were told.
     ///
     /// ```
-    /// if frontier.kept() > 64 {
+    /// if frontier.operations().len() > 64 {
     ///     frontier = go_on(&frontier)?;
     /// }
     /// ```
-    pub fn kept(&self) -> usize
-        ensures { result ≡ length self.now.operations }
+    pub fn operations(&self) -> &[Operation]
+        ensures { result.now ≡ self.now.operations }
     {
-        self.operations.len()
+        self.operations.as_slice()
     }
 }

@@ -2,7 +2,7 @@
 #![tactic(auto)]
 
 mod absorbing;
-mod along;
+mod after;
 mod at_once;
 mod chains;
 mod choice;
@@ -11,7 +11,6 @@ mod earliest;
 mod effect;
 mod equal;
 mod frontier;
-mod later_makers;
 mod layer;
 mod makers;
 mod making;

@@ -84,7 +84,7 @@ fn order_from_whichever_position_has_one(rt: HostRuntime) -> Result<(), Fail> {
     let sixth = read_after_writes(alloc, 6)?;
     let seventh = read_after_writes(alloc, 7)?;
     let found = (
-        fifth.kept(),
+        fifth.operations().len(),
         has_order(alloc, &fifth, Some(5), &[0])?,
         has_order(alloc, &fifth, Some(6), &[999])?,
         has_order(alloc, &sixth, Some(6), &[0])?,

@@ -49,7 +49,7 @@ fn never_quiet(alloc: Global) -> Result<(usize, bool), Fail> {
             return Err(Fail::new("an operation was not taken"));
         }
         frontier = past(alloc, &frontier, 10 * number + 10)?;
-        most = frontier.kept().max(most);
+        most = frontier.operations().len().max(most);
     }
     Ok((most, leaves(alloc, &frontier, &[1000])?))
 }
@@ -113,7 +113,11 @@ fn nothing_within_no_budget(rt: HostRuntime) -> Result<(), Fail> {
     let frontier = after(rt.alloc(), &[done((0, 10), STORE_ADD, 1)])?;
     let mut none = 0;
     let next = frontier.advanced(rt.alloc(), 20, 1000, &mut none, &mut NoProgress)?;
-    assert_same(&rt, (next.is_none(), frontier.kept()), (true, 1));
+    assert_same(
+        &rt,
+        (next.is_none(), frontier.operations().len()),
+        (true, 1),
+    );
     Ok(())
 }
 
@@ -158,52 +162,45 @@ fn each_state_once(rt: HostRuntime) -> Result<(), Fail> {
     Ok(())
 }
 
-// Two additions, of which the first ended by time 15 and the second one did not.
+// Two additions at the same time, of which the second one found what the first one left.
 fn two_additions(alloc: Global) -> Result<Frontier, Fail> {
     let first = told((0, 10), ADD, 1, 0);
     let second = told((5, 30), ADD, 2, 1);
     after(alloc, &[first, second])
 }
 
-// How many operations are kept by the search along an order up to a time, and whether these words can be left.
-fn along(
+// How many operations the search after some of them keeps, and whether these words can be left.
+fn kept_after(
     alloc: Global,
     order: &[usize],
-    time: u64,
     wanted: &[u64],
 ) -> Result<Option<(usize, bool)>, Fail> {
-    match two_additions(alloc)?.along(alloc, order, time)? {
-        Some(next) => Ok(Some((next.kept(), leaves(alloc, &next, wanted)?))),
+    match two_additions(alloc)?.after(alloc, order)? {
+        Some(next) => {
+            let kept = next.operations().len();
+            Ok(Some((kept, leaves(alloc, &next, wanted)?)))
+        }
         None => Ok(None),
     }
 }
 
 #[test]
-fn along_an_order_up_to_a_time(rt: HostRuntime) -> Result<(), Fail> {
+fn after_operations_that_come_in_turn(rt: HostRuntime) -> Result<(), Fail> {
     let alloc = rt.alloc();
     let found = (
-        along(alloc, &[0, 1], 15, &[3])?,
-        along(alloc, &[0, 1], 30, &[3])?,
-        along(alloc, &[1, 0], 15, &[3])?,
-        along(alloc, &[1, 0], 30, &[3])?,
+        kept_after(alloc, &[], &[3])?,
+        kept_after(alloc, &[0], &[3])?,
+        kept_after(alloc, &[0, 1], &[3])?,
+        kept_after(alloc, &[1, 0], &[3])?,
+        kept_after(alloc, &[0, 2], &[3])?,
     );
-    assert_same(
-        &rt,
-        found,
-        (Some((1, true)), Some((0, true)), Some((1, true)), None),
+    let wanted = (
+        Some((2, true)),
+        Some((1, true)),
+        Some((0, true)),
+        None,
+        None,
     );
-    Ok(())
-}
-
-#[test]
-fn writes_of_what_later_ones_answered(rt: HostRuntime) -> Result<(), Fail> {
-    let alloc = rt.alloc();
-    let writes = two_additions(alloc)?.makers_after(alloc, 15)?;
-    let mut frontier = Frontier::new(alloc, &[99])?;
-    for write in &writes {
-        frontier.add(write)?;
-    }
-    let found = (writes.len(), leaves(alloc, &frontier, &[1, 99])?);
-    assert_same(&rt, found, (1, true));
+    assert_same(&rt, found, wanted);
     Ok(())
 }

@@ -1,6 +1,6 @@
 -- each write starts after the time, and ends no earlier
 use Rattle.std.proofs.Common.{◌<◌, ◌≤◌, All}
-use Rattle.chi_search.proofs.later_makers.makers_after.Given as goal
+use Rattle.chi_judge.proofs.later_makers.makers_after.Given as goal
 
 abbrev pub invariant-loop-op : goal.invariant-loop-op
 invariant-loop-op l = record {

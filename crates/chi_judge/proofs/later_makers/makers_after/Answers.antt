@@ -2,8 +2,8 @@
 use Rattle.std.proofs.Common.{◌<◌, ◌≤◌, All, IfSome, Option, sym, subst, ◌∙◌, ap}
 use Rattle.std.proofs.lemmas.List.Elements.{All-push}
 use Rattle.chi_trace.specs.declared.operation.Operation.{Operation}
-use Rattle.chi_search.proofs.later_makers.makers_after.Goals as goal
-use Rattle.chi_search.proofs.later_makers.makers_after.Goals.{in-Some+in_ok-push, in_default}
+use Rattle.chi_judge.proofs.later_makers.makers_after.Goals as goal
+use Rattle.chi_judge.proofs.later_makers.makers_after.Goals.{in-Some+in_ok-push, in_default}
 
 pub loop-op-preserved : goal.loop-op-preserved
 loop-op-preserved c =
