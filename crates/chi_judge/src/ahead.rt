@@ -12,10 +12,13 @@ use chi_trace::Operation;
 use std::alloc::{AllocError, Global};
 
 /// How many are kept at most.
-const MOST: usize = 8;
+const MOST: usize = 2;
 
 /// How far back one may stand from which a search goes on.
-const BACK: [usize; 4] = [1, 2, 4, 8];
+const BACK: [usize; 2] = [1, 2];
+
+/// How many of the last operations of an order a search does not go along, since what is told later decides how they stand.
+const LAST: usize = 24;
 
 /// How many times as many states it may look at from the start.
 const FROM_START: u64 = 16;
@@ -37,7 +40,7 @@ pub(crate) fn each_told(
     Ok(each)
 }
 
-// An order up to the last operation that had ended by a time.
+// An order up to the last operations that had ended by a time.
 fn settled_part<'a>(ops: &[Operation], order: &'a [usize], time: u64) -> &'a [usize] {
     let mut settled = 0;
     for (count, place) in order.iter().enumerate() {
@@ -45,10 +48,11 @@ fn settled_part<'a>(ops: &[Operation], order: &'a [usize], time: u64) -> &'a [us
             settled = count.saturating_add(1);
         }
     }
-    order.get(..settled).unwrap_or(order)
+    order.get(..settled.saturating_sub(LAST)).unwrap_or(order)
 }
 
-/// The search along an order of what had happened by a time, from where this one stands, where there is one within so many states.
+/// The search along the most of an order of what had happened by a time, from where this one stands, where there is one within so
+/// many states.
 pub(crate) fn next_along<P: Progress>(
     alloc: Global,
     from: &Frontier,
@@ -87,8 +91,8 @@ fn first_along<P: Progress>(
     }
 }
 
-// The search along an order from one of these, of which all were told all that is kept: from the last, or one that stands before
-// it, within twice as many states each time. With it how many of these there are up to that one.
+// The search along an order from one of these, of which all were told all that is kept: from the last, or the one that stands before
+// it, within twice as many states. With it how many of these there are up to that one.
 fn further_along<P: Progress>(
     alloc: Global,
     searches: &[Frontier],

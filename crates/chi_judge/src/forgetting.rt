@@ -16,11 +16,14 @@ use chi_search::{Found, Progress};
 use chi_trace::Operation;
 use std::alloc::{AllocError, Global};
 
-/// How many states may be looked at for positions at most.
-pub(crate) const MOST_STATES: u64 = 65_536;
+/// How many states may be looked at for positions, where few operations are kept.
+const POSITION_STATES: u64 = 8192;
 
-/// How many at least.
-const LEAST_STATES: u64 = 4096;
+/// How many for each operation, where more are.
+const POSITION_STATES_EACH: u64 = 16;
+
+/// How many at most.
+const MOST_POSITION_STATES: u64 = 65_536;
 
 /// How many may be looked at for an order, where few operations are kept.
 const ORDER_STATES: u64 = 65_536;
@@ -38,14 +41,12 @@ fn order_states(kept: usize) -> u64 {
         .max(ORDER_STATES)
 }
 
-/// How many states may be looked at for positions the next time, after so many: four times as many where fewer operations are kept
-/// now, and half as many where not.
-pub(crate) fn next_states(states: u64, is_fewer: bool) -> u64 {
-    if is_fewer {
-        states.saturating_mul(4).min(MOST_STATES)
-    } else {
-        (states / 2).max(LEAST_STATES)
-    }
+/// How many may be looked at for positions, where so many are kept: it takes no longer than the looks at these operations took.
+fn position_states(kept: usize) -> u64 {
+    (kept as u64)
+        .saturating_mul(POSITION_STATES_EACH)
+        .max(POSITION_STATES)
+        .min(MOST_POSITION_STATES)
 }
 
 /// How many of the operations, which stand in the order of their ends, ended before a time.
@@ -172,7 +173,7 @@ impl Judge {
         let Some(after) = told_after(alloc, &self.before, &self.kept[..count])? else {
             return Ok(false);
         };
-        let mut budget = self.states;
+        let mut budget = position_states(self.kept.len());
         let Some(before) = after.advanced(alloc, least, MOST_POSITIONS, &mut budget, progress)?
         else {
             return Ok(false);

@@ -4,7 +4,6 @@ ghost use Rattle.std.specs.Prelude.{◌≡◌, ◌≤◌, ◌↔◌, ℕ, [], �
 ghost use Rattle.chi_trace.specs.declared.operation.Operation.{Operation};
 ghost use Rattle.chi_judge.specs.Judges.{CanBeKept, Keeps};
 
-use crate::forgetting::MOST_STATES;
 use chi_fields::ADDRESSES;
 use chi_search::Frontier;
 use chi_trace::Operation;
@@ -37,7 +36,6 @@ pub struct Judge {
     pub(crate) seen: usize,
     pub(crate) next_look: usize,
     pub(crate) limit: usize,
-    pub(crate) states: u64,
 }
 
 impl Model for Judge {
@@ -79,7 +77,6 @@ impl Judge {
             seen: 0,
             next_look: FEW,
             limit: FEW,
-            states: MOST_STATES,
         })
     }
 

@@ -6,7 +6,6 @@ ghost use Rattle.chi_search.specs.Looks.{LookedSome};
 ghost use Rattle.chi_judge.specs.Judges.{Keeps};
 
 use crate::ahead::{each_told, found_along, keep_along};
-use crate::forgetting::next_states;
 use crate::judge::{FEW, Judge};
 use chi_search::{Found, Progress};
 use std::alloc::{AllocError, Global};
@@ -21,7 +20,7 @@ const SOME: usize = 8;
 const MANY: usize = 128;
 
 /// From which part of those that are kept on, where none does and that is more.
-const PART: usize = 8;
+const PART: usize = 4;
 
 /// How many states may be looked at from where an order stands, where few operations are kept.
 const FEW_STATES: u64 = 4096;
@@ -59,7 +58,8 @@ impl Judge {
         Ok(())
     }
 
-    // Whether an order of what had happened before the horizon is found from where the last ones stand, or from the start.
+    // Whether an order of what had happened before the horizon is found from where the last ones stand, or from the start. Where
+    // none is found they are left out, since no order goes on from them.
     fn goes_ahead<P: Progress>(
         &mut self,
         alloc: Global,
@@ -86,7 +86,10 @@ impl Judge {
                 keep_along(&mut self.ahead, count, next)?;
                 Ok(true)
             }
-            None => Ok(false),
+            None => {
+                self.ahead = Vec::new(alloc);
+                Ok(false)
+            }
         }
     }
 
@@ -151,7 +154,6 @@ impl Judge {
     {
         let kept = self.kept.len();
         if tries {
-            self.states = next_states(self.states, kept < self.limit);
             self.limit = limit_after(kept);
         }
         let more = if self.ahead.is_empty() {

@@ -12,9 +12,6 @@ use chi_search::{Found, Progress};
 use chi_trace::laws::granules_stand_alone;
 use std::alloc::{AllocError, Global};
 
-/// From how many orders back one of all is looked for: more of what was told since fits it than the last one.
-const BACK: usize = 4;
-
 /// How many times as many states are looked at there as at a look.
 const MORE: u64 = 4;
 
@@ -27,7 +24,7 @@ pub enum Standing {
 }
 
 impl Judge {
-    // Whether an order of all that was told is soon found from where an earlier one stands.
+    // Whether an order of all that was told is soon found from where the last one stands.
     fn goes_on<P: Progress>(
         &self,
         alloc: Global,
@@ -46,8 +43,7 @@ impl Judge {
         let Some(more) = self.kept.get(self.seen..) else {
             return Ok(false);
         };
-        let place = count.saturating_sub(BACK);
-        let last = &self.ahead[place];
+        let last = &self.ahead[count - 1];
         let Some(after) = told_after(alloc, last, more)? else {
             return Ok(false);
         };

@@ -25,7 +25,7 @@ returns-in-Order-clause-explained g c law is_true trace n w of_now =
     ∙ (take_all (length c.deref.result.now - s.seen) (drop s.seen c.deref.result.now) (omega (arith, length-drop s.seen c.deref.result.now)) ∙ ap (drop s.seen) c.deref.ensures.value) in
     let last = c.index-last.result.now in
     let before : GoesAlong (w ∷ []) (earlier ++ take s.seen s.kept.items) last =
-    subst (GoesAlong (w ∷ []) (earlier ++ take s.seen s.kept.items)) (sym c.index-last.ensures) (is.keeps.ahead c.saturating_sub-place.result last (omega arith)) in
+    subst (GoesAlong (w ∷ []) (earlier ++ take s.seen s.kept.items)) (sym c.index-last.ensures) (is.keeps.ahead (c.len-count.result - 1) last (omega arith)) in
     let told_more = subst (λ (o : Option FrontierValue). IfSome o (λ f. (words : List ℕ) (told : List Operation) → GoesAlong words told last → GoesAlong words (told ++ c.in-Some.more.now) f)) c.in-Some-2.is c.in_ok-after.ensures.along in
     let along : GoesAlong (w ∷ []) (earlier ++ s.kept.items) c.in-Some-2.after =
     subst (λ (l : List Operation). GoesAlong (w ∷ []) l c.in-Some-2.after) (told_rest (w ∷ []) is.told is.now r is.keeps c.in-Some.more.now more) (told_more (w ∷ []) (earlier ++ take s.seen s.kept.items) before) in
