@@ -35,6 +35,10 @@ GoesOn f more = (words : List ℕ) (told : List Operation) → Follows words tol
 abbrev pub GoesNowhere : FrontierValue → List Operation → Type 0
 GoesNowhere f more = (words : List ℕ) (told : List Operation) → Follows words told f → (v : ℕ) → SomeLeads (told ++ more) words v → ⊥
 
+-- what had happened by a time leads to some word
+abbrev pub LeadsBy : ℕ → List ℕ → List Operation → Type 0
+LeadsBy time words told = (v : ℕ) × SomeLeads (cut time told) words v
+
 -- the operand lies within 2^52 bytes
 abbrev pub LiesWithin : Operation → Type 0
 LiesWithin op = op.access.addr + op.access.len ≤ 2 ^ 52
@@ -75,7 +79,7 @@ pub record Keeps (words : List ℕ) (told : List Operation) (now : ℕ) (r : Jud
   pub goes_on : r.is_stopped ≡ false → later ≡ []
   pub since_by : r.since ≤ r.horizon
   pub past : r.since ≤ now + 1
-  pub explained : (time : ℕ) → time + 1 ≡ r.since → (v : ℕ) × SomeLeads (cut time told) words v
+  pub explained : (time : ℕ) → time + 1 ≡ r.since → LeadsBy time words told
   pub stopped : IsTrue r.is_stopped → (time : ℕ) × (time + 1 ≡ r.horizon) × ((v : ℕ) → SomeLeads (cut time told) words v → ⊥)
 
 -- the operation may be told next
@@ -90,4 +94,4 @@ pub record IsNextHorizon (words : List ℕ) (told : List Operation) (now : ℕ) 
   pub later : r.horizon < horizon
   pub past : horizon ≤ now + 1
   pub goes_on : r.is_stopped ≡ false
-  pub explained : (time : ℕ) → time + 1 ≡ horizon → (v : ℕ) × SomeLeads (cut time told) words v
+  pub explained : (time : ℕ) → time + 1 ≡ horizon → LeadsBy time words told

@@ -4,6 +4,8 @@ ghost use Rattle.std.specs.Prelude.{ℕ, ◌++◌, List, All, IfOk, IfSome};
 ghost use Rattle.chi_trace.specs.declared.operation.Operation.{Operation};
 ghost use Rattle.chi_search.specs.Frontiers.{Follows, GoesAlong};
 ghost use Rattle.chi_search.specs.Looks.{LookedSome};
+ghost use Rattle.chi_trace.specs.Segments.{AreLasting};
+ghost use Rattle.chi_judge.specs.Judges.{LeadsBy};
 
 use crate::judge::FEW;
 use crate::search::{order_until, told_after};
@@ -61,6 +63,7 @@ pub(crate) fn next_along<P: Progress>(
     progress: &mut P,
 ) -> Result<Option<Frontier>, AllocError>
     ensures along { IfOk result (λ next. IfSome next (λ f. (words : List ℕ) (told : List Operation) → GoesAlong words told from.now → GoesAlong words told f)) }
+    ensures leads { IfOk result (λ next. IfSome next (λ f. (words : List ℕ) (told : List Operation) → AreLasting told → GoesAlong words told from.now → LeadsBy time words told)) }
     ensures looked { IfOk result (λ _. LookedSome P.looked progress.old progress.new) }
 {
     match order_until(alloc, from, time, budget, progress)? {
@@ -83,6 +86,7 @@ fn first_along<P: Progress>(
     progress: &mut P,
 ) -> Result<Option<Frontier>, AllocError>
     ensures along { IfOk result (λ next. IfSome next (λ f. (words : List ℕ) (told : List Operation) → Follows words told before.now → GoesAlong words (told ++ kept.now) f)) }
+    ensures leads { IfOk result (λ next. IfSome next (λ f. (words : List ℕ) (told : List Operation) → AreLasting (told ++ kept.now) → Follows words told before.now → LeadsBy time words (told ++ kept.now))) }
     ensures looked { IfOk result (λ _. LookedSome P.looked progress.old progress.new) }
 {
     match told_after(alloc, before, kept)? {
@@ -101,6 +105,7 @@ fn further_along<P: Progress>(
     progress: &mut P,
 ) -> Result<Option<(usize, Frontier)>, AllocError>
     ensures along { IfOk result (λ found. IfSome found (λ next. (words : List ℕ) (told : List Operation) → All (GoesAlong words told) searches.now → GoesAlong words told next.1)) }
+    ensures leads { IfOk result (λ found. IfSome found (λ next. (words : List ℕ) (told : List Operation) → AreLasting told → All (GoesAlong words told) searches.now → LeadsBy time words told)) }
     ensures looked { IfOk result (λ _. LookedSome P.looked progress.old progress.new) }
 {
     let mut share = budget;
@@ -131,6 +136,7 @@ pub(crate) fn found_along<P: Progress>(
     progress: &mut P,
 ) -> Result<Option<(usize, Frontier)>, AllocError>
     ensures along { IfOk result (λ found. IfSome found (λ next. (words : List ℕ) (told : List Operation) → Follows words told before.now → All (GoesAlong words (told ++ kept.now)) searches.now → GoesAlong words (told ++ kept.now) next.1)) }
+    ensures leads { IfOk result (λ found. IfSome found (λ next. (words : List ℕ) (told : List Operation) → AreLasting (told ++ kept.now) → Follows words told before.now → All (GoesAlong words (told ++ kept.now)) searches.now → LeadsBy time words (told ++ kept.now))) }
     ensures looked { IfOk result (λ _. LookedSome P.looked progress.old progress.new) }
 {
     if let Some(found) = further_along(alloc, searches, time, budget, progress)? {

@@ -9,8 +9,7 @@ ghost use Rattle.chi_judge.specs.Judges.{IsNextHorizon, Keeps, stopped_at};
 
 use crate::ahead::leave_where_few;
 use crate::judge::Judge;
-use crate::search::{order_by, order_until, told_after};
-use crate::settling::few_states_for;
+use crate::search::{order_by, told_after};
 use crate::shown::last_with;
 use chi_search::{Found, Progress};
 use chi_trace::Operation;
@@ -102,56 +101,8 @@ impl Judge {
         )
     }
 
-    // Whether an order of what had happened before the horizon is soon found from where the last one stands.
-    fn is_ordered_ahead<P: Progress>(
-        &self,
-        alloc: Global,
-        horizon: u64,
-        progress: &mut P,
-    ) -> Result<bool, AllocError>
-        requires goes_on { self.now.is_stopped ≡ false }
-        requires later { self.now.horizon < horizon }
-        requires told { self.now.seen ≡ length self.now.kept }
-        ensures next { IfOk result (λ is. IsTrue is → (words : List ℕ) (told : List Operation) (now : ℕ) → horizon ≤ now + 1 → Keeps words told now self.now → IsNextHorizon words told now self.now horizon) }
-        ensures looked { IfOk result (λ _. LookedSome P.looked progress.old progress.new) }
-    {
-        let count = self.ahead.len();
-        if count == 0 {
-            return Ok(false);
-        }
-        let last = &self.ahead[count - 1];
-        let budget = few_states_for(self.kept.len());
-        if let Found::Order(_) = order_until(alloc, last, horizon - 1, budget, progress)? {
-            return Ok(true);
-        }
-        Ok(false)
-    }
-
-    // Whether one is found at all.
-    fn is_ordered<P: Progress>(
-        &self,
-        alloc: Global,
-        horizon: u64,
-        progress: &mut P,
-    ) -> Result<bool, AllocError>
-        requires goes_on { self.now.is_stopped ≡ false }
-        requires later { self.now.horizon < horizon }
-        requires told { self.now.seen ≡ length self.now.kept }
-        ensures next { IfOk result (λ is. IsTrue is → (words : List ℕ) (told : List Operation) (now : ℕ) → horizon ≤ now + 1 → Keeps words told now self.now → IsNextHorizon words told now self.now horizon) }
-        ensures looked { IfOk result (λ _. LookedSome P.looked progress.old progress.new) }
-    {
-        if self.is_ordered_ahead(alloc, horizon, progress)? {
-            return Ok(true);
-        }
-        match self.order_before(alloc, horizon, progress)? {
-            Found::Order(_) => Ok(true),
-            Found::Nothing => Ok(false),
-            Found::Undecided => Ok(false),
-        }
-    }
-
-    /// Leaves those that ended before the horizon to the search before the others, where that soon comes to few positions and what
-    /// had happened before the horizon can be explained. Answers whether it did.
+    /// Leaves those that ended before the horizon to the search before the others, where that soon comes to few positions. What had
+    /// happened before the horizon was seen to be explained. Answers whether it did.
     pub(crate) fn forget<P: Progress>(
         &mut self,
         alloc: Global,
@@ -161,7 +112,7 @@ impl Judge {
         requires goes_on { self.now.is_stopped ≡ false }
         requires later { self.now.horizon < horizon }
         requires told { self.now.seen ≡ length self.now.kept }
-        ensures keeps { IfOk result (λ _. (words : List ℕ) (told : List Operation) (now : ℕ) → horizon ≤ now + 1 → Keeps words told now self.old → Keeps words told now self.new) }
+        ensures keeps { IfOk result (λ _. (words : List ℕ) (told : List Operation) (now : ℕ) → IsNextHorizon words told now self.old horizon → Keeps words told now self.old → Keeps words told now self.new) }
         ensures horizon { IfOk result (λ is. IsTrue is → self.new.horizon ≡ horizon) }
         ensures latest { IfOk result (λ _. self.new.latest ≡ self.old.latest) }
         ensures shown { IfOk result (λ _. self.new.shown ≡ self.old.shown) }
@@ -178,9 +129,6 @@ impl Judge {
         else {
             return Ok(false);
         };
-        if !self.is_ordered(alloc, horizon, progress)? {
-            return Ok(false);
-        }
         let kept = Vec::from_slice(alloc, &self.kept[count..])?;
         let last = last_with(alloc, self.shown, &self.left, &self.kept[..count])?;
         leave_where_few(alloc, &mut self.ahead, kept.len());

@@ -10,7 +10,7 @@ ghost use Rattle.chi_trace.specs.Cuts.{cut};
 ghost use Rattle.chi_trace.specs.Explains.{at};
 ghost use Rattle.chi_trace.specs.Segments.{AreLasting};
 ghost use Rattle.chi_trace.specs.declared.operation.Operation.{Operation};
-ghost use Rattle.chi_judge.specs.Judges.{GoesNowhere, GoesOn, LiesWithin};
+ghost use Rattle.chi_judge.specs.Judges.{GoesNowhere, GoesOn, LeadsBy, LiesWithin};
 
 use crate::later_makers::makers_after;
 use chi_search::{Found, Frontier, Progress, Words};
@@ -105,7 +105,7 @@ pub(crate) fn order_until<P: Progress>(
     budget: u64,
     progress: &mut P,
 ) -> Result<Found, AllocError>
-    ensures explained { IfOk result (λ found. IfOrder found (λ order. (words : List ℕ) (told : List Operation) → AreLasting told → GoesAlong words told from.now → (v : ℕ) × SomeLeads (cut time told) words v)) }
+    ensures explained { IfOk result (λ found. IfOrder found (λ order. (words : List ℕ) (told : List Operation) → AreLasting told → GoesAlong words told from.now → LeadsBy time words told)) }
     ensures looked { IfOk result (λ _. LookedSome P.looked progress.old progress.new) }
 {
     let makers = makers_after(alloc, from.operations(), time)?;

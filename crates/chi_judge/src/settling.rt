@@ -1,9 +1,9 @@
 //! A look at what can be explained, while operations are told.
 
-ghost use Rattle.std.specs.Prelude.{◌≡◌, ℕ, ◌+◌, ◌≤◌, ◌<◌, ◌⊎◌, false, List, IfOk, length};
+ghost use Rattle.std.specs.Prelude.{◌≡◌, ℕ, ◌+◌, ◌≤◌, ◌<◌, ◌⊎◌, false, List, IfOk, IsTrue, length};
 ghost use Rattle.chi_trace.specs.declared.operation.Operation.{Operation};
 ghost use Rattle.chi_search.specs.Looks.{LookedSome};
-ghost use Rattle.chi_judge.specs.Judges.{Keeps};
+ghost use Rattle.chi_judge.specs.Judges.{IsNextHorizon, Keeps};
 
 use crate::ahead::{each_told, found_along, keep_along};
 use crate::judge::{FEW, Judge};
@@ -66,8 +66,10 @@ impl Judge {
         horizon: u64,
         progress: &mut P,
     ) -> Result<bool, AllocError>
-        requires some { 0 < horizon }
+        requires goes_on { self.now.is_stopped ≡ false }
+        requires later { self.now.horizon < horizon }
         ensures keeps { IfOk result (λ _. (words : List ℕ) (told : List Operation) (now : ℕ) → Keeps words told now self.old → Keeps words told now self.new) }
+        ensures next { IfOk result (λ is. IsTrue is → (words : List ℕ) (told : List Operation) (now : ℕ) → horizon ≤ now + 1 → Keeps words told now self.old → IsNextHorizon words told now self.new horizon) }
         ensures same { IfOk result (λ _. self.new ≡ record self.old { ahead = self.new.ahead; seen = length self.old.kept }) }
         ensures looked { IfOk result (λ _. LookedSome P.looked progress.old progress.new) }
     {
@@ -108,6 +110,7 @@ impl Judge {
         ensures latest { IfOk result (λ _. self.new.latest ≡ self.old.latest) }
         ensures shown { IfOk result (λ _. self.new.shown ≡ self.old.shown) }
         ensures told { IfOk result (λ _. self.new.seen ≡ length self.new.kept) }
+        ensures next { IfOk result (λ is. IsTrue is → self.new.is_stopped ≡ false → (words : List ℕ) (told : List Operation) (now : ℕ) → horizon ≤ now + 1 → Keeps words told now self.old → IsNextHorizon words told now self.new horizon) }
         ensures looked { IfOk result (λ _. LookedSome P.looked progress.old progress.new) }
     {
         if self.goes_ahead(alloc, horizon, progress)? {

@@ -7,7 +7,6 @@ use Rattle.chi_trace.specs.Explains.{at}
 use Rattle.chi_search.specs.Frontiers.{Follows, FrontierValue, GoesAlong, MayBeTold}
 use Rattle.chi_judge.specs.Judges.{IsJudge, IsNextHorizon, JudgeValue, Keeps, LiesWithin}
 use Rattle.chi_judge.specs.Shown.{last_of}
-use Rattle.chi_search.proofs.Looking.{some_after}
 use Rattle.chi_judge.proofs.Keeping.{ahead_of_all, keeps_fewer}
 use Rattle.chi_judge.proofs.judge.Judge.forget.Goals as goal
 
@@ -83,14 +82,6 @@ judge_fewer r count least horizon after before left ahead seen is later on = rec
       omega (arith, on.latest_before, after_by);
 }
 
-pub returns-then-not-branch-clause-looked : goal.returns-then-not-branch-clause-looked
-returns-then-not-branch-clause-looked g c =
-    some_after g.P.Progress.looked c.args.progress.now c.advanced.new.progress c.is_ordered.new.progress (_, c.in_ok-before.ensures.spends.1) c.in_ok-is_ordered.ensures.looked
-
-pub returns-clause-looked : goal.returns-clause-looked
-returns-clause-looked g c =
-    some_after g.P.Progress.looked c.args.progress.now c.advanced.new.progress c.is_ordered.new.progress (_, c.in_ok-before.ensures.spends.1) c.in_ok-is_ordered.ensures.looked
-
 pub invariant_of-self : goal.invariant_of-self
 invariant_of-self g c =
     let s = c.self.inside in
@@ -109,7 +100,7 @@ invariant_of-self g c =
     (judge_fewer r count least c.args.horizon c.in-Some.after c.in-Some-2.before c.in_ok-last.last.items c.leave_where_few.new.searches.items c.len-self-inside.result c.self.invariant later on)
 
 pub returns-clause-keeps : goal.returns-clause-keeps
-returns-clause-keeps g c words told now past keeps =
+returns-clause-keeps g c words told now next keeps =
     let s = c.self.inside in
     let r : JudgeValue = record { before = s.before; left = s.left.items; shown = s.shown; kept = s.kept.items; ahead = s.ahead.items; seen = s.seen; since = s.since; horizon = s.horizon; latest = s.latest; is_stopped = s.is_stopped } in
     let count = c.ended_before-count.result in
@@ -122,8 +113,6 @@ returns-clause-keeps g c words told now past keeps =
     (subst (λ (l : List Operation). All (λ op. least ≤ op.start) (drop count l)) (c.deref-2.ensures.value ∙ sym c.deref-3.ensures.value)
     (subst (All (λ (op : Operation). least ≤ op.start)) (rest_is count c.deref-2.result.now) c.least_start-least.ensures.each)) in
     let k : Keeps words told now r = subst (Keeps words told now) (sym c.self.view_is) keeps in
-    let next : IsNextHorizon words told now c.args.self.now c.args.horizon =
-    c.in_ok-is_ordered.ensures.next c.if-not-branch.false words told now past keeps in
     let later : IsNextHorizon words told now r c.args.horizon = subst (λ v. IsNextHorizon words told now v c.args.horizon) (sym c.self.view_is) next in
     let judge = judge_fewer r count least c.args.horizon c.in-Some.after c.in-Some-2.before c.in_ok-last.last.items c.leave_where_few.new.searches.items c.len-self-inside.result c.self.invariant later.later on in
     let left : c.in_ok-last.last.items ≡ last_of s.shown (s.left.items ++ take count s.kept.items) =
