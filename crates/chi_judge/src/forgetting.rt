@@ -19,16 +19,16 @@ use std::alloc::{AllocError, Global};
 const POSITION_STATES: u64 = 8192;
 
 /// How many for each operation, where more are.
-const POSITION_STATES_EACH: u64 = 16;
+const POSITION_STATES_EACH: u64 = 48;
 
 /// How many at most.
-const MOST_POSITION_STATES: u64 = 65_536;
+const MOST_POSITION_STATES: u64 = 262_144;
 
 /// How many may be looked at for an order, where few operations are kept.
 const ORDER_STATES: u64 = 65_536;
 
 /// How many for each operation, where many are.
-const ORDER_STATES_EACH: u64 = 256;
+const ORDER_STATES_EACH: u64 = 64;
 
 /// From how many positions the search goes on at most: with many it takes long to find an order.
 const MOST_POSITIONS: usize = 4096;
@@ -40,7 +40,7 @@ fn order_states(kept: usize) -> u64 {
         .max(ORDER_STATES)
 }
 
-/// How many may be looked at for positions, where so many are kept: it takes no longer than the looks at these operations took.
+/// How many states may be looked at for positions, where so many operations are kept.
 fn position_states(kept: usize) -> u64 {
     (kept as u64)
         .saturating_mul(POSITION_STATES_EACH)
@@ -102,7 +102,8 @@ impl Judge {
     }
 
     /// Leaves those that ended before the horizon to the search before the others, where that soon comes to few positions. What had
-    /// happened before the horizon was seen to be explained. Answers whether it did.
+    /// happened before the horizon was seen to be explained. Where these are fewer than half of those that are kept it does not: from
+    /// several positions a verdict takes longer. Answers whether it did.
     pub(crate) fn forget<P: Progress>(
         &mut self,
         alloc: Global,
@@ -120,6 +121,9 @@ impl Judge {
         ensures looked { IfOk result (λ _. LookedSome P.looked progress.old progress.new) }
     {
         let count = ended_before(&self.kept, horizon);
+        if count < self.kept.len() / 2 {
+            return Ok(false);
+        }
         let least = least_start(&self.kept[count..], horizon);
         let Some(after) = told_after(alloc, &self.before, &self.kept[..count])? else {
             return Ok(false);

@@ -36,8 +36,11 @@ pub(crate) fn few_states_for(kept: usize) -> u64 {
 }
 
 /// At how many that are kept it tries again to keep fewer, once so many are left: at twice as many, and where some are always open
-/// no sooner than after some more.
-fn limit_after(kept: usize) -> usize {
+/// no sooner than after some more; or at four times as many, where none could be left out.
+fn limit_after(kept: usize, are_fewer: bool) -> usize {
+    if !are_fewer {
+        return kept.saturating_mul(4);
+    }
     let more = if kept < SOME { FEW } else { MANY };
     kept.saturating_mul(2).max(kept.saturating_add(more))
 }
@@ -157,7 +160,7 @@ impl Judge {
     {
         let kept = self.kept.len();
         if tries {
-            self.limit = limit_after(kept);
+            self.limit = limit_after(kept, kept < self.limit);
         }
         let more = if self.ahead.is_empty() {
             MORE.max(kept / PART)

@@ -232,7 +232,7 @@ impl Watch {
     /// its operations. `budget` is how many states may be looked at for an answer.
     ///
     /// A granule is judged when its last outstanding request has ended, or was dropped or refused. Where requests of it are always
-    /// outstanding, it is looked at again once 64 operations more have ended, or an eighth more where many are kept.
+    /// outstanding, it is looked at again once 64 operations more have ended, or a quarter more where many are kept and no order is known to go on.
     ///
     /// ```
     /// let found = watch.take(alloc, &event, 1_000_000, &mut NoProgress)?;
