@@ -16,8 +16,12 @@ fn add_explained_to(to: &mut Vec<u8>, time: u64) -> Result<(), AllocError>
     add_parts(to, &[Text("  explained up to "), Number(time), Text("\n")])
 }
 
-/// The same, where one was found.
-fn add_found_time(to: &mut Vec<u8>, found: Option<u64>) -> Result<(), AllocError>
+/// Adds the line of a time up to which the granule's operations are explained, where one was found.
+///
+/// ```
+/// add_found_time(&mut text, Some(30))?; //   explained up to 30
+/// ```
+pub fn add_found_time(to: &mut Vec<u8>, found: Option<u64>) -> Result<(), AllocError>
     ensures { OnOk result (to.new.items ≡ to.old.items ++ found_line found) }
 {
     match found {

@@ -9,6 +9,7 @@ mod text;
 mod witness;
 
 pub use answer::{Answer, answer_of};
+pub use doubt_lines::add_found_time;
 pub use lines::{add_granule, add_undecided};
 pub use stop_lines::add_stop;
 pub use text::{add_blame, add_words_at_end, answer_text};

@@ -9,6 +9,7 @@ use Rattle.chi_script.specs.declared.device.WriteFault.TheVariants.{Failed}
 use Rattle.chi_search.specs.Looks.{LookedAtLeast}
 use Rattle.chi_watch.specs.declared.ending.Ending.{Ending}
 use Rattle.chi_watch.specs.declared.ending.FoundAtEnd.{FoundAtEnd}
+use Rattle.chi_watch.specs.declared.undecided.UndecidedAtEnd.{UndecidedAtEnd}
 use Rattle.chi_watch_text.specs.FoundGranule.{ending_verdict, found_verdict, listed_verdict, verdict_of}
 use Rattle.chi_watch_text.specs.Outcomes.{IsFoundBy, IsLinesFault, IsOutcome, IsWatched, IsWatchingFault, WentBy}
 use Rattle.chi_watch_text.specs.Required.{is_nothing, missing_of}
@@ -135,9 +136,9 @@ spent_at_six looked old new options before after watched (Err fault) writes went
 spent_at_six looked old new options before after watched (Ok status) (is, appends) went =
     λ six. by_found watched.found.items watched.ending went (is_nothing (missing_of options.required watched)) (sym is ∙ six)
   where
-    by_lists : (un : List FoundAtEnd) (dec : List ℕ) → All (λ (g : ℕ). LookedAtLeast looked old new options.budget) dec → (complete : Bool) → verdict_status (listed_verdict un dec) complete ≡ 6 → LookedAtLeast looked old new options.budget
+    by_lists : (un : List FoundAtEnd) (dec : List UndecidedAtEnd) → All (λ (u : UndecidedAtEnd). LookedAtLeast looked old new options.budget) dec → (complete : Bool) → verdict_status (listed_verdict un dec) complete ≡ 6 → LookedAtLeast looked old new options.budget
     by_lists (g ∷ un) dec all complete is_six = cc
-    by_lists [] (g ∷ dec) all complete is_six = All-head (λ (h : ℕ). LookedAtLeast looked old new options.budget) g dec all
+    by_lists [] (u ∷ dec) all complete is_six = All-head (λ (it : UndecidedAtEnd). LookedAtLeast looked old new options.budget) u dec all
     by_lists [] [] all true is_six = cc
     by_lists [] [] all false is_six = cc
 

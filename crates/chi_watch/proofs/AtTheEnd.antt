@@ -1,12 +1,12 @@
 -- what is said of the events by the granules once all that is still open was told
 use Rattle.std.proofs.Common.{◌≡◌, ℕ, ◌-◌, ◌^◌, ◌++◌, ◌⊎◌, inl, inr, List, [], ◌∷◌, All, Option, Some, None, IfSome, filter, length, sym, ap, ap₂, subst, ◌∙◌, arith}
-use Rattle.std.specs.Prelude.{filter_map}
+use Rattle.std.specs.Prelude.{filter_map, map}
 use Rattle.std.specs.List.{Contains}
 use Rattle.std.proofs.lemmas.List.Elements.{All-cons, All-head, All-nil, All-tail, filter-append}
 use Rattle.chi_events.specs.EventLaws.{OperationsAreTold}
 use Rattle.chi_events.specs.Outstanding.{IsOpen, open_operation}
 use Rattle.chi_events.specs.declared.event.Event.{Event}
-use Rattle.chi_judge.specs.Reaches.{IfUndecided, IsJudgeOf}
+use Rattle.chi_judge.specs.Reaches.{IfUndecided, IsExplained as IsExplainedUpTo, IsJudgeOf}
 use Rattle.chi_judge.specs.Judges.{Keeps}
 use Rattle.chi_judge.specs.Standings.{IsInexplicable as CanNotExplain}
 use Rattle.chi_judge.specs.Until.{until}
@@ -19,10 +19,12 @@ use Rattle.chi_trace.specs.declared.operation.Operation.{Operation}
 use Rattle.chi_trace.specs.Words.{find_word, word_or_zero}
 use Rattle.chi_watch.specs.Endings.{AreToldTo, CanClose, IsExplainable, IsInexplicable, IsInexplicableAt, IsListed, judged_word}
 use Rattle.chi_watch.specs.Judged.{CanBeExplained, IsExplained, final_of, final_words, judged, openings, unknown_since}
-use Rattle.chi_watch.specs.Reaching.{IsFoundAtEnd, IsFoundIn, IsOfSomeTrace, ReachesBy, granules_of}
+use Rattle.chi_watch.specs.Reaching.{IsFoundAtEnd, IsFoundIn, IsOfSomeTrace, ReachesBy}
+use Rattle.chi_watch.specs.Undecided.{AreExplainedAsFar, AreExplainedTo, GoesOnAt, IsAsFarIn, IsExplainedAsFar, IsExplainedIn, IsExplainedTo}
 use Rattle.chi_watch.specs.Watches.{HasTaken, IsGranuleOf, Watches, WatchValue, granule}
 use Rattle.chi_watch.specs.declared.ending.FoundAtEnd.{FoundAtEnd}
 use Rattle.chi_watch.specs.declared.followed.Followed.{Followed}
+use Rattle.chi_watch.specs.declared.undecided.UndecidedAtEnd.{UndecidedAtEnd}
 use Rattle.chi_watch.proofs.Opened.{all_can_close}
 use Rattle.chi_watch.proofs.ToldAtTheEnd.{own_open}
 use Rattle.chi_watch.proofs.Reached.{undecided_weaker}
@@ -103,6 +105,31 @@ module _ (events : List Event) (ended : List Operation) (w : WatchValue) (new : 
           undecided_weaker found.reach
           (λ so. so (judged events, found.granule, word_or_zero (openings events) found.granule, closed_judge operations_law found.granule f (followed_here found.granule f more))) spent
 
+  -- up to the time that is told some order explains what is judged of the granule
+  explained_to_here : OperationsAreTold → (u : UndecidedAtEnd) → GoesOnAt (new u.granule) → IsExplainedIn new u → IsExplainedTo events u
+  explained_to_here operations_law u goes said = by_case (new u.granule) (closed u.granule) goes said
+    where
+      at_time : (f : Followed) (found : Option ℕ) → IsJudgeOf (judged events) u.granule (word_or_zero (openings events) u.granule) f.judge → AreExplainedTo f.judge found
+          → IfSome found (λ time. IsExplainedUpTo time (judged events) u.granule (word_or_zero (openings events) u.granule))
+      at_time f None of_judge by = tt
+      at_time f (Some time) of_judge by = by (judged events) u.granule (word_or_zero (openings events) u.granule) of_judge
+
+      by_case : (b : Option Followed) → AreToldTo (own_open u.granule w.outstanding.requests) (granule w u.granule) b → GoesOnAt b → IfSome b (λ f. AreExplainedTo f.judge u.explained)
+          → IsExplainedTo events u
+      by_case None more goes said = absurd goes
+      by_case (Some f) more goes said = at_time f u.explained (closed_judge operations_law u.granule f (followed_here u.granule f more)) said
+
+  -- and it is explained as far as was found
+  as_far_here : OperationsAreTold → {P : Type 0} (looked : P → ℕ → Type 0) (before after : P) (budget : ℕ) (u : UndecidedAtEnd) → GoesOnAt (new u.granule)
+      → IsAsFarIn looked before after budget new u → IsExplainedAsFar looked before after budget events u
+  as_far_here operations_law looked before after budget u goes said = by_case (new u.granule) (closed u.granule) goes said
+    where
+      by_case : (b : Option Followed) → AreToldTo (own_open u.granule w.outstanding.requests) (granule w u.granule) b → GoesOnAt b
+          → IfSome b (λ f. AreExplainedAsFar looked before after budget f.judge u.explained) → IsExplainedAsFar looked before after budget events u
+      by_case None more goes said = absurd goes
+      by_case (Some f) more goes said =
+          said (judged events) u.granule (word_or_zero (openings events) u.granule) (closed_judge operations_law u.granule f (followed_here u.granule f more))
+
   -- some order explains what is judged of them
   explainable_here : OperationsAreTold → GranulesStandAlone → (g : ℕ) → IfSome (new g) IsExplainable → CanBeExplained events g
   explainable_here operations_law granules_law g can = by_case (new g) (closed g) can
@@ -132,6 +159,18 @@ pub ended_unreached : OperationsAreTold → (A : Type 0) (w : WatchValue) (new :
 ended_unreached operations_law A w new are_open closes found none spent events (ended, is) =
     unreached_here events ended w new is (closes (all_can_close events ended w is are_open)) operations_law A found none spent
 
+pub ended_explained_to : OperationsAreTold → (w : WatchValue) (new : ℕ → Option Followed) → All (IsOpen w.outstanding.time) w.outstanding.requests
+    → (All (CanClose (granule w)) w.outstanding.requests → AreClosed w new) → (u : UndecidedAtEnd) → GoesOnAt (new u.granule) → IsExplainedIn new u
+    → (events : List Event) → HasTaken events w → IsExplainedTo events u
+ended_explained_to operations_law w new are_open closes u goes said events (ended, is) =
+    explained_to_here events ended w new is (closes (all_can_close events ended w is are_open)) operations_law u goes said
+
+pub ended_far : OperationsAreTold → (w : WatchValue) (new : ℕ → Option Followed) → All (IsOpen w.outstanding.time) w.outstanding.requests
+    → (All (CanClose (granule w)) w.outstanding.requests → AreClosed w new) → {P : Type 0} (looked : P → ℕ → Type 0) (before after : P) (budget : ℕ) (u : UndecidedAtEnd) → GoesOnAt (new u.granule)
+    → IsAsFarIn looked before after budget new u → (events : List Event) → HasTaken events w → IsExplainedAsFar looked before after budget events u
+ended_far operations_law w new are_open closes looked before after budget u goes said events (ended, is) =
+    as_far_here events ended w new is (closes (all_can_close events ended w is are_open)) operations_law looked before after budget u goes said
+
 pub ended_explained : OperationsAreTold → GranulesStandAlone → GranulesExplain → (w : WatchValue) (new : ℕ → Option Followed) → All (IsOpen w.outstanding.time) w.outstanding.requests
     → (All (CanClose (granule w)) w.outstanding.requests → AreClosed w new) → ((g : ℕ) → IfSome (new g) IsExplainable) → (events : List Event) → HasTaken events w → IsExplained events
 ended_explained operations_law granules_law whole_law w new are_open closes each events (ended, is) =
@@ -155,15 +194,15 @@ ended_each operations_law granules_law A w new are_open closes g said events (en
     by_case (Some f) (inr other) explains = inr other
 
 -- what is said of each granule that is listed
-pub all_found : (new : ℕ → Option Followed) (P Q : FoundAtEnd → Type 0) (found : List FoundAtEnd) (un : List ℕ) → granules_of found ≡ un → All (λ h. IsInexplicableAt (new h)) un → All P found
-    → ((f : FoundAtEnd) → IsInexplicableAt (new f.granule) → P f → Q f) → All Q found
-all_found new P Q found un same listed all each = go found (subst (All (λ h. IsInexplicableAt (new h))) (sym same) listed) all
+pub all_listed : {X : Type 0} (number : X → ℕ) (H : ℕ → Type 0) (P Q : X → Type 0) (found : List X) (listed : List ℕ) → map number found ≡ listed → All H listed → All P found
+    → ((x : X) → H (number x) → P x → Q x) → All Q found
+all_listed {X} number H P Q found listed same of_all_listed all each = go found (subst (All H) (sym same) of_all_listed) all
   where
-    go : (l : List FoundAtEnd) → All (λ h. IsInexplicableAt (new h)) (granules_of l) → All P l → All Q l
-    go [] none of_all = All-nil Q
-    go (f ∷ l) none of_all =
-        All-cons Q f l (each f (All-head (λ h. IsInexplicableAt (new h)) f.granule (granules_of l) none) (All-head P f l of_all))
-        (go l (All-tail (λ h. IsInexplicableAt (new h)) f.granule (granules_of l) none) (All-tail P f l of_all))
+    go : (l : List X) → All H (map number l) → All P l → All Q l
+    go [] of_listed of_all = All-nil Q
+    go (x ∷ l) of_listed of_all =
+        All-cons Q x l (each x (All-head H (number x) (map number l) of_listed) (All-head P x l of_all))
+        (go l (All-tail H (number x) (map number l) of_listed) (All-tail P x l of_all))
 
 none_contained : (l : List ℕ) (g : ℕ) → l ≡ [] → Contains l g → ⊥
 none_contained l g none (k, below, is) = omega (arith, below, ap length none)

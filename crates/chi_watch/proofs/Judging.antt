@@ -1,5 +1,5 @@
 -- granules that are judged one after the other
-use Rattle.std.proofs.Common.{◌≡◌, ℕ, true, IfSome, List, [], ◌∷◌, ◌++◌, ◌⊎◌, inl, inr, All, Option, None, Some, refl, sym, ap, subst, ◌∙◌, append_assoc, append-nil, true≢false}
+use Rattle.std.proofs.Common.{◌≡◌, ℕ, true, false, IfSome, List, [], ◌∷◌, ◌++◌, ◌⊎◌, inl, inr, All, Option, None, Some, refl, sym, ap, subst, ◌∙◌, append_assoc, append-nil, true≢false}
 use Rattle.std.specs.BTreeMap.{is_at}
 use Rattle.std.specs.List.{Contains}
 use Rattle.std.specs.Map.{lookup}
@@ -13,6 +13,7 @@ use Rattle.chi_search.specs.Looks.{LookedMore, LookedSome}
 use Rattle.chi_watch.specs.Endings.{IsExplainable, IsInexplicableAt, IsListed, judged_word}
 use Rattle.chi_judge.specs.Standings.{IfExplained, IfUndecided, IfUnexplained, IsExplainable as CanExplain, IsInexplicable as CanNotExplain}
 use Rattle.chi_watch.specs.ListedAs.{IsListedAs}
+use Rattle.chi_watch.specs.Undecided.{GoesOnAt}
 use Rattle.chi_watch.specs.declared.judge_all.Listed.{Listed}
 use Rattle.chi_watch.specs.declared.followed.Followed.{Followed}
 use Rattle.chi_judge.specs.declared.standing.Standing.{Standing}
@@ -64,6 +65,7 @@ module _ {P : Type 0} (looked : P → ℕ → Type 0) (budget : ℕ) (get : ℕ 
     pub said : All (IsSaid ending.unexplained.items ending.undecided.items) seen
     pub has : All (λ e. get e.0 ≡ Some e.1) left
     pub none : All (λ g. IsInexplicableAt (get g)) ending.unexplained.items
+    pub go_on : All (λ g. GoesOnAt (get g)) ending.undecided.items
     pub spent : LookedFor looked start now budget ending.undecided.items
 
   pub judged_none : (ending : Listed) (left : List (ℕ × Followed)) → ending.unexplained.items ≡ [] → ending.undecided.items ≡ [] → left ≡ entries
@@ -74,6 +76,7 @@ module _ {P : Type 0} (looked : P → ℕ → Type 0) (budget : ℕ) (get : ℕ 
     said = All-nil (IsSaid ending.unexplained.items ending.undecided.items);
     has = subst (All (λ e. get e.0 ≡ Some e.1)) (sym is) has;
     none = subst (All (λ g. IsInexplicableAt (get g))) (sym no_un) (All-nil (λ g. IsInexplicableAt (get g)));
+    go_on = subst (All (λ g. GoesOnAt (get g))) (sym no_dec) (All-nil (λ g. GoesOnAt (get g)));
     spent = subst (LookedFor looked start start budget) (sym no_dec) (looked_first looked start budget);
   }
 
@@ -104,16 +107,17 @@ module _ {P : Type 0} (looked : P → ℕ → Type 0) (budget : ℕ) (get : ℕ 
     module _ (later : P) (next : Listed) where
       pub listed : (s : Standing) → IfExplained s (CanExplain f.judge (judged_word f))
           → IfUnexplained s (CanNotExplain f.judge (judged_word f))
-          → IfUndecided s (LookedMore looked now later budget) → LookedSome looked now later → IsListedAs s g ending next → AreJudged later next rest
-      listed Explained can none whole some (un, dec) = record {
+          → IfUndecided s (LookedMore looked now later budget) → IfUndecided s (f.judge.is_stopped ≡ false) → LookedSome looked now later → IsListedAs s g ending next → AreJudged later next rest
+      listed Explained can none whole goes some (un, dec) = record {
         seen = are.seen ++ (g, f) ∷ [];
         parts = parted;
         said = said_more next.unexplained.items next.undecided.items (λ h is. subst (λ l. IsListed h l next.undecided.items) (sym un) (subst (λ l. IsListed h ending.unexplained.items l) (sym dec) is)) (inl can);
         has = rest_has;
         none = subst (All (λ h. IsInexplicableAt (get h))) (sym un) are.none;
+        go_on = subst (All (λ h. GoesOnAt (get h))) (sym dec) are.go_on;
         spent = subst (LookedFor looked start later budget) (sym dec) (looked_decided looked start now later budget ending.undecided.items are.spent some);
       }
-      listed Unexplained can none whole some (un, dec) = record {
+      listed Unexplained can none whole goes some (un, dec) = record {
         seen = are.seen ++ (g, f) ∷ [];
         parts = parted;
         said = said_more next.unexplained.items next.undecided.items
@@ -122,9 +126,10 @@ module _ {P : Type 0} (looked : P → ℕ → Type 0) (budget : ℕ) (get : ℕ 
         has = rest_has;
         none = subst (All (λ h. IsInexplicableAt (get h))) (sym un)
             (All-push (λ h. IsInexplicableAt (get h)) ending.unexplained.items g are.none (subst IsInexplicableAt (sym here) none));
+        go_on = subst (All (λ h. GoesOnAt (get h))) (sym dec) are.go_on;
         spent = subst (LookedFor looked start later budget) (sym dec) (looked_decided looked start now later budget ending.undecided.items are.spent some);
       }
-      listed Undecided can none whole some (un, dec) = record {
+      listed Undecided can none whole goes some (un, dec) = record {
         seen = are.seen ++ (g, f) ∷ [];
         parts = parted;
         said = said_more next.unexplained.items next.undecided.items
@@ -132,5 +137,7 @@ module _ {P : Type 0} (looked : P → ℕ → Type 0) (budget : ℕ) (get : ℕ 
             (inr (inr (subst (λ l. Contains l g) (sym dec) (Contains-push ending.undecided.items g))));
         has = rest_has;
         none = subst (All (λ h. IsInexplicableAt (get h))) (sym un) are.none;
+        go_on = subst (All (λ h. GoesOnAt (get h))) (sym dec)
+            (All-push (λ h. GoesOnAt (get h)) ending.undecided.items g are.go_on (subst GoesOnAt (sym here) goes));
         spent = subst (LookedFor looked start later budget) (sym dec) (looked_undecided looked start now later budget ending.undecided.items g are.spent whole);
       }

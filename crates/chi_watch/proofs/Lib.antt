@@ -1,6 +1,7 @@
 pub mod AtTheEnd
 pub mod Closing
 pub mod Counted
+pub mod ExplainedFar
 pub mod Found
 pub mod JudgedParts
 pub mod Judging

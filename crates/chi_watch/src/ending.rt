@@ -12,12 +12,14 @@ ghost use Rattle.chi_trace.specs.AtPlaces.{is_in};
 ghost use Rattle.chi_watch.specs.Endings.{AreToldTo, CanClose, IsListed};
 ghost use Rattle.chi_watch.specs.Judged.{CanBeExplained, IsExplained};
 ghost use Rattle.chi_watch.specs.Reaching.{IsFoundAtEnd, IsFoundIn, IsUnreachedIn, granules_of, stop_time};
+ghost use Rattle.chi_watch.specs.Undecided.{IsExplainedAsFar, IsExplainedTo, states_for, undecided_of};
 ghost use Rattle.chi_watch.specs.Watches.{HasTaken};
 
 use crate::followed::{Followed, judged_word};
 use crate::granules::close;
 use crate::judge_all::judge_all;
 use crate::reaching::reach_of;
+use crate::undecided::{UndecidedAtEnd, each_undecided};
 use crate::watch::Watch;
 use chi_events::Open;
 use chi_events::laws::operations_are_told;
@@ -42,7 +44,7 @@ pub struct FoundAtEnd {
 #[derive(Debug, Drop)]
 pub struct Ending {
     pub unexplained: Vec<FoundAtEnd>,
-    pub undecided: Vec<u64>,
+    pub undecided: Vec<UndecidedAtEnd>,
 }
 
 /// Tells each operation that is still open of its granule.
@@ -133,7 +135,8 @@ fn by_time(mut found: Vec<FoundAtEnd>) -> Result<Vec<FoundAtEnd>, AllocError>
 
 impl Watch {
     /// What is said where the events end. Each operation that is still open may have taken effect or not. Of a granule to which
-    /// something that is not told may have written it is judged what had happened before. `budget` is how many states are looked at where one may be explained or not.
+    /// something that is not told may have written it is judged what had happened before. `budget` is how many states are looked at where
+    /// one may be explained or not, and for each time up to which one that is not decided may be explained.
     ///
     /// ```
     /// let ending = watch.ending(alloc, 1_000_000, &mut NoProgress)?;
@@ -145,11 +148,13 @@ impl Watch {
         progress: &mut P,
     ) -> Result<Ending, AllocError>
         ensures explained { IfOk result (λ ending. ending.unexplained.items ≡ [] → ending.undecided.items ≡ [] → (events : List Event) → HasTaken events self → IsExplained events) }
-        ensures each { IfOk result (λ ending. (g : ℕ) (events : List Event) → HasTaken events self → CanBeExplained events g ⊎ IsListed g (granules_of ending.unexplained.items) ending.undecided.items) }
+        ensures each { IfOk result (λ ending. (g : ℕ) (events : List Event) → HasTaken events self → CanBeExplained events g ⊎ IsListed g (granules_of ending.unexplained.items) (undecided_of ending.undecided.items)) }
         ensures unexplained { IfOk result (λ ending. All (λ found. (events : List Event) → HasTaken events self → IsFoundAtEnd events found) ending.unexplained.items) }
         ensures earliest { IfOk result (λ ending. IsNonDecreasingBy (λ f. stop_time f.reach) ending.unexplained.items) }
         ensures unreached { IfOk result (λ ending. All (λ found. (events : List Event) → HasTaken events self → IfUndecided found.reach (LookedAtLeast P.looked progress.old progress.new budget)) ending.unexplained.items) }
-        ensures undecided { IfOk result (λ ending. All (λ g. LookedAtLeast P.looked progress.old progress.new budget) ending.undecided.items) }
+        ensures undecided { IfOk result (λ ending. All (λ _. LookedAtLeast P.looked progress.old progress.new budget) ending.undecided.items) }
+        ensures explained_to { IfOk result (λ ending. All (λ u. (events : List Event) → HasTaken events self → IsExplainedTo events u) ending.undecided.items) }
+        ensures far { IfOk result (λ ending. All (λ u. (events : List Event) → HasTaken events self → IsExplainedAsFar P.looked progress.old progress.new (states_for budget ending.undecided.items) events u) ending.undecided.items) }
         ensures looked { IfOk result (λ _. LookedSome P.looked progress.old progress.new) }
     {
         operations_are_told();
@@ -162,9 +167,10 @@ impl Watch {
         let listed = judge_all(alloc, &granules, budget, progress)?;
         let found = each_found_at_end(alloc, &granules, &listed.unexplained, budget, progress)?;
         let unexplained = by_time(found)?;
+        let undecided = each_undecided(alloc, &granules, &listed.undecided, budget, progress)?;
         Ok(Ending {
             unexplained,
-            undecided: listed.undecided,
+            undecided,
         })
     }
 }

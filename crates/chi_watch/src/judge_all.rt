@@ -1,15 +1,18 @@
 //! Granules that are judged one after the other.
 
-ghost use Rattle.std.specs.Prelude.{◌≡◌, ◌⊎◌, ℕ, All, IfOk, IfSome};
+ghost use Rattle.std.specs.Prelude.{◌≡◌, ◌*◌, ◌⊎◌, ℕ, All, IfOk, IfSome, false, length};
 ghost use Rattle.std.specs.BTreeMap.{get};
 ghost use Rattle.std.specs.Ordering.{nat_cmp};
-ghost use Rattle.chi_search.specs.Looks.{LookedAtLeast, LookedSome};
-ghost use Rattle.chi_watch.specs.Endings.{IsExplainable, IsInexplicableAt, IsListed};
+ghost use Rattle.chi_judge.specs.Standings.{IfExplained, IfUndecided, IfUnexplained};
+ghost use Rattle.chi_search.specs.Looks.{LookedAtLeast, LookedMore, LookedSome};
+ghost use Rattle.chi_watch.specs.Endings.{IsExplainable, IsInexplicable, IsInexplicableAt, IsListed};
 ghost use Rattle.chi_watch.specs.ListedAs.{IsListedAs};
+ghost use Rattle.chi_watch.specs.Undecided.{GoesOnAt};
 
 use crate::followed::{Followed, judged_word};
 use chi_judge::Standing;
 use chi_search::Progress;
+use chi_trace::laws::granules_stand_alone;
 use std::alloc::{AllocError, Global};
 use std::collections::BTreeMap;
 
@@ -32,6 +35,28 @@ fn list(listed: &mut Listed, granule: u64, standing: Standing) -> Result<(), All
     Ok(())
 }
 
+/// Whether what is judged of a granule can be explained. Where its judge has stopped, it cannot.
+fn standing_of<P: Progress>(
+    alloc: Global,
+    followed: &Followed,
+    budget: u64,
+    progress: &mut P,
+) -> Result<Standing, AllocError>
+    ensures explained { IfOk result (λ s. IfExplained s (IsExplainable followed.now)) }
+    ensures unexplained { IfOk result (λ s. IfUnexplained s (IsInexplicable followed.now)) }
+    ensures undecided { IfOk result (λ s. IfUndecided s (LookedMore P.looked progress.old progress.new budget)) }
+    ensures goes_on { IfOk result (λ s. IfUndecided s (followed.now.judge.is_stopped ≡ false)) }
+    ensures looked { IfOk result (λ _. LookedSome P.looked progress.old progress.new) }
+{
+    granules_stand_alone();
+    if followed.judge.is_stopped() {
+        return Ok(Standing::Unexplained);
+    }
+    followed
+        .judge
+        .check(alloc, judged_word(followed), budget, progress)
+}
+
 /// Judges each granule, as far as all that wrote to it is told.
 pub(crate) fn judge_all<P: Progress>(
     alloc: Global,
@@ -41,7 +66,9 @@ pub(crate) fn judge_all<P: Progress>(
 ) -> Result<Listed, AllocError>
     ensures each { IfOk result (λ listed. (g : ℕ) → IfSome (get nat_cmp granules.now g) (λ f. IsExplainable f ⊎ IsListed g listed.unexplained.items listed.undecided.items)) }
     ensures unexplained { IfOk result (λ listed. All (λ g. IsInexplicableAt (get nat_cmp granules.now g)) listed.unexplained.items) }
-    ensures undecided { IfOk result (λ listed. All (λ g. LookedAtLeast P.looked progress.old progress.new budget) listed.undecided.items) }
+    ensures undecided { IfOk result (λ listed. All (λ _. LookedAtLeast P.looked progress.old progress.new budget) listed.undecided.items) }
+    ensures together { IfOk result (λ listed. LookedAtLeast P.looked progress.old progress.new (budget * length listed.undecided.items)) }
+    ensures go_on { IfOk result (λ listed. All (λ g. GoesOnAt (get nat_cmp granules.now g)) listed.undecided.items) }
     ensures looked { IfOk result (λ _. LookedSome P.looked progress.old progress.new) }
 {
     let mut listed = Listed {
@@ -49,9 +76,7 @@ pub(crate) fn judge_all<P: Progress>(
         undecided: Vec::new(alloc),
     };
     for (granule, followed) in granules {
-        let standing = followed
-            .judge
-            .check(alloc, judged_word(followed), budget, progress)?;
+        let standing = standing_of(alloc, followed, budget, progress)?;
         list(&mut listed, *granule, standing)?;
     }
     Ok(listed)

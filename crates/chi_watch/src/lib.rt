@@ -11,10 +11,12 @@ mod judge_all;
 mod quiet;
 mod reaching;
 mod recording;
+mod undecided;
 mod update_granules;
 mod watch;
 
 pub use counts::Counts;
 pub use ending::{Ending, FoundAtEnd};
 pub use fault::WatchFault;
+pub use undecided::UndecidedAtEnd;
 pub use watch::Watch;

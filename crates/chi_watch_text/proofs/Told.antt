@@ -13,15 +13,19 @@ use Rattle.chi_watch.specs.declared.ending.Ending.{Ending}
 use Rattle.chi_search.specs.Looks.{LookedAtLeast, LookedSome}
 use Rattle.chi_search.proofs.Looking.{at_least_after, at_least_before, looked_none, some_after}
 use Rattle.chi_judge.specs.declared.reach.Reach.{Reach}
+use Rattle.chi_trace.specs.Words.{word_or_zero}
+use Rattle.chi_watch.proofs.ExplainedFar.{as_far_by}
 use Rattle.chi_watch.proofs.Reached.{undecided_weaker}
+use Rattle.chi_watch.specs.Judged.{judged, openings}
 use Rattle.chi_watch.specs.Reaching.{IsFoundAtEnd}
+use Rattle.chi_watch.specs.Undecided.{IsExplainedAsFar, IsExplainedTo, states_for}
 use Rattle.chi_watch.specs.Watches.{HasTaken, IsUnexplained, WatchValue}
 use Rattle.chi_watch_text.specs.FoundGranule.{is_found, with_quiet}
 use Rattle.chi_watch_text.specs.Lines.{AreEvents, AreLines, AreTold}
 use Rattle.chi_watch_text.specs.declared.quiet.Quiet.{Quiet}
 use Rattle.chi_watch_text.specs.declared.watched.FoundGranule.{FoundGranule}
 use Rattle.chi_watch_text.specs.declared.watched.Watched.{Watched}
-use Rattle.chi_watch_text.specs.Outcomes.{AreTaken, AreUnreached, EndsAt, HasTakenLines, IsFoundBy, IsPast, IsQuietBy, IsSeenBy, IsSettled, IsStillFound, IsTold, IsUnreached, IsWatched, ReachedBy, SaysAtEnd, SaysOf, TakesEvent, WentBy}
+use Rattle.chi_watch_text.specs.Outcomes.{AreAsFar, AreTaken, AreUnreached, EndsAt, HasTakenLines, IsFoundBy, IsPast, IsQuietBy, IsSeenBy, IsSettled, IsStillFound, IsTold, IsUnreached, IsWatched, ReachedBy, SaysAtEnd, SaysOf, TakesEvent, WentBy}
 use Rattle.chi_watch_text.specs.Reading.{IsRead}
 use Rattle.chi_watch_text.proofs.Refused.{TookLines}
 
@@ -248,6 +252,7 @@ says_of w events has ending says = record {
   whole = λ none_un none_dec. says.whole none_un none_dec events has;
   each = λ g. says.each g events has;
   unexplained = All-weaker (λ f. (all : List Event) → HasTaken all w → IsFoundAtEnd all f) (IsFoundAtEnd events) (λ f is. is events has) ending.unexplained.items says.unexplained;
+  undecided = All-weaker (λ u. (all : List Event) → HasTaken all w → IsExplainedTo all u) (IsExplainedTo events) (λ u is. is events has) ending.undecided.items says.undecided;
 }
 
 -- what is said of the text where it ends at its end
@@ -320,6 +325,29 @@ undecided_after looked old middle new budget watched some went = by_ending watch
     by_ending None all = tt
     by_ending (Some ending) all =
         All-weaker (λ g. LookedAtLeast looked middle new budget) (λ g. LookedAtLeast looked old new budget) (λ g whole. at_least_after looked old middle new budget some whole) ending.undecided.items all
+
+-- each of these is explained as far as was found, of the events of the lines
+pub far_at_end : {P : Type 0} (looked : P → ℕ → Type 0) (old middle new : P) (budget : ℕ) → LookedSome looked old middle
+    → (start now later : Option (List ℕ)) (count number time : ℕ) (ended : Bool) (found : List FoundGranule) (quiet : List Quiet) (w : WatchValue) (o : Option Ending)
+    → HasTakenLines start count time ended found quiet w now → IfSome now (λ text. IsRead number text None later)
+    → IfSome o (λ ending. All (λ u. (events : List Event) → HasTaken events w → IsExplainedAsFar looked middle new (states_for budget ending.undecided.items) events u) ending.undecided.items)
+    → IfSome start (λ text. IfSome o (λ ending. AreAsFar looked old new budget text ending.undecided.items))
+far_at_end looked old middle new budget some None now later count number time ended found quiet w o has read far = tt
+far_at_end looked old middle new budget some (Some text) None later count number time ended found quiet w o has read far = absurd has
+far_at_end looked old middle new budget some (Some text) (Some rest) later count number time ended found quiet w None has read far = tt
+far_at_end looked old middle new budget some (Some text) (Some rest) later count number time ended found quiet w (Some ending) has read far =
+    let undecided = ending.undecided.items in
+    let states = states_for budget undecided in
+    record {
+      events = has.events;
+      count = count;
+      rest = rest;
+      told = has.told;
+      ended = read;
+      far = All-weaker (λ u. (events : List Event) → HasTaken events w → IsExplainedAsFar looked middle new states events u) (IsExplainedAsFar looked old new states has.events)
+          (λ u is. as_far_by looked middle new old new states states (λ whole. at_least_after looked old middle new states some whole) (judged has.events) u.granule (word_or_zero (openings has.events) u.granule) u.explained
+          (is has.events has.taken)) undecided far;
+    }
 
 -- and for each of which it is not known how far it can be explained
 pub reached_by_found : {P : Type 0} (looked : P → ℕ → Type 0) (old new : P) (budget : ℕ) (found : List FoundGranule) (watched : Watched) → watched.found.items ≡ found

@@ -3,6 +3,7 @@ use Rattle.std.specs.Prelude.{ℕ, ◌==◌, ◌++◌, Bool, not, filter, List, 
 use Rattle.std.specs.List.{list_any}
 use Rattle.chi_watch.specs.declared.ending.Ending.{Ending}
 use Rattle.chi_watch.specs.declared.ending.FoundAtEnd.{FoundAtEnd}
+use Rattle.chi_watch.specs.declared.undecided.UndecidedAtEnd.{UndecidedAtEnd}
 use Rattle.chi_watch_text.specs.declared.quiet.Quiet.{Quiet}
 use Rattle.chi_watch_text.specs.declared.watched.FoundGranule.{FoundGranule}
 use Rattle.chi_watch_text.specs.declared.watched.Watched.{Watched}
@@ -19,9 +20,9 @@ with_quiet None line quiet = quiet
 with_quiet (Some g) line quiet = filter (λ q. not (q.granule == g)) quiet ++ record { granule = g; line = line } ∷ []
 
 -- Some of one kind come before none of another.
-abbrev pub listed_verdict : List FoundAtEnd → List ℕ → Standing
+abbrev pub listed_verdict : List FoundAtEnd → List UndecidedAtEnd → Standing
 listed_verdict (f ∷ unexplained) undecided = Unexplained
-listed_verdict [] (g ∷ undecided) = Undecided
+listed_verdict [] (u ∷ undecided) = Undecided
 listed_verdict [] [] = Explained
 
 abbrev pub ending_verdict : Option Ending → Standing

@@ -12,8 +12,10 @@ use Rattle.chi_watch.specs.Counts.{AreCounted, unjudged}
 use Rattle.chi_watch.specs.Endings.{IsListed}
 use Rattle.chi_watch.specs.Judged.{CanBeExplained, IsExplained}
 use Rattle.chi_watch.specs.Reaching.{IsFoundAtEnd, IsReach, granules_of}
+use Rattle.chi_watch.specs.Undecided.{IsExplainedAsFar, IsExplainedTo, states_for, undecided_of}
 use Rattle.chi_watch.specs.Watches.{HasTaken, IsUnexplained, WatchValue, fault_of}
 use Rattle.chi_watch.specs.declared.ending.Ending.{Ending}
+use Rattle.chi_watch.specs.declared.undecided.UndecidedAtEnd.{UndecidedAtEnd}
 use Rattle.chi_watch_text.specs.FoundGranule.{is_found}
 use Rattle.chi_watch_text.specs.Lines.{AreTold, is_blank}
 use Rattle.chi_watch_text.specs.declared.fault.LinesFault.{LinesFault}
@@ -89,11 +91,13 @@ AreUnreached w looked old new budget before after =
     (events : List Event) → HasTaken events w → All (λ f. Contains before f ⊎ IsUnreached looked old new budget f.reach) after
 
 -- What is said of events at their end. Where no granule is listed all that is judged is explained. What is judged of each granule can
--- be explained, or it is listed; no order explains one that is listed as such.
+-- be explained, or it is listed; no order explains one that is listed as such, and one that is not decided is explained up to the time
+-- that is told.
 pub record SaysOf (events : List Event) (ending : Ending) : Type 0 where
   pub whole : ending.unexplained.items ≡ [] → ending.undecided.items ≡ [] → IsExplained events
-  pub each : (g : ℕ) → CanBeExplained events g ⊎ IsListed g (granules_of ending.unexplained.items) ending.undecided.items
+  pub each : (g : ℕ) → CanBeExplained events g ⊎ IsListed g (granules_of ending.unexplained.items) (undecided_of ending.undecided.items)
   pub unexplained : All (IsFoundAtEnd events) ending.unexplained.items
+  pub undecided : All (IsExplainedTo events) ending.undecided.items
 
 -- where the reading ends after so many lines: at the end of the text, or, where it does not keep going, once all events are told of
 -- a time at which a granule was found
@@ -148,8 +152,9 @@ pub record IsTold (w : WatchValue) (found : List FoundGranule) (ended : Bool) (w
 -- what is said of the events that a watch took
 pub record SaysAtEnd (w : WatchValue) (ending : Ending) : Type 0 where
   pub whole : ending.unexplained.items ≡ [] → ending.undecided.items ≡ [] → (events : List Event) → HasTaken events w → IsExplained events
-  pub each : (g : ℕ) (events : List Event) → HasTaken events w → CanBeExplained events g ⊎ IsListed g (granules_of ending.unexplained.items) ending.undecided.items
+  pub each : (g : ℕ) (events : List Event) → HasTaken events w → CanBeExplained events g ⊎ IsListed g (granules_of ending.unexplained.items) (undecided_of ending.undecided.items)
   pub unexplained : All (λ f. (events : List Event) → HasTaken events w → IsFoundAtEnd events f) ending.unexplained.items
+  pub undecided : All (λ u. (events : List Event) → HasTaken events w → IsExplainedTo events u) ending.undecided.items
 
 -- After so many lines a watch took their events, of which none is later than this time, and the last tells the end or does not. These
 -- granules were found by them, and these others became quiet at this time. The rest follows.
@@ -170,7 +175,20 @@ HasTakenLines (Some text) count time ended found quiet watch (Some rest) = AreTa
 
 -- for each granule that is not decided at least as many states as the budget were looked at
 abbrev pub WentBy : {P : Type 0} → (P → ℕ → Type 0) → P → P → ℕ → Watched → Type 0
-WentBy looked old new budget watched = IfSome watched.ending (λ ending. All (λ g. LookedAtLeast looked old new budget) ending.undecided.items)
+WentBy looked old new budget watched = IfSome watched.ending (λ ending. All (λ _. LookedAtLeast looked old new budget) ending.undecided.items)
+
+-- each of these is explained as far as was found of the events that the lines tell, to the end of the text
+pub record AreAsFar {P : Type 0} (looked : P → ℕ → Type 0) (old new : P) (budget : ℕ) (text : List ℕ) (undecided : List UndecidedAtEnd) : Type 0 where
+  pub events : List Event
+  pub count : ℕ
+  pub rest : List ℕ
+  pub told : AreTold text count events rest
+  pub ended : is_blank rest ≡ true
+  pub far : All (IsExplainedAsFar looked old new (states_for budget undecided) events) undecided
+
+-- so of those that are listed at the end
+abbrev pub WentAsFar : {P : Type 0} → (P → ℕ → Type 0) → P → P → ℕ → List ℕ → Watched → Type 0
+WentAsFar looked old new budget text watched = IfSome watched.ending (λ ending. AreAsFar looked old new budget text ending.undecided.items)
 
 -- and for each of which it is not known how far it can be explained
 pub record ReachedBy {P : Type 0} (looked : P → ℕ → Type 0) (old new : P) (budget : ℕ) (watched : Watched) : Type 0 where

@@ -1,9 +1,11 @@
 -- the text of what is found of events
 use Rattle.std.specs.Prelude.{ℕ, ◌==◌, ◌++◌, Bool, if◌then◌else◌, List, [], Option, None, Some, codes, decimal, flat_map}
+use Rattle.chi_answer.specs.DoubtLines.{found_line}
 use Rattle.chi_answer.specs.Lines.{granule_line, undecided_line}
 use Rattle.chi_watch.specs.declared.counts.Counts.{Counts}
 use Rattle.chi_watch.specs.declared.ending.Ending.{Ending}
 use Rattle.chi_watch.specs.declared.ending.FoundAtEnd.{FoundAtEnd}
+use Rattle.chi_watch.specs.declared.undecided.UndecidedAtEnd.{UndecidedAtEnd}
 use Rattle.chi_watch_text.specs.FoundGranule.{is_found, verdict_of}
 use Rattle.chi_watch_text.specs.ReachTexts.{reach_text}
 use Rattle.chi_watch_text.specs.Required.{missing_of}
@@ -22,9 +24,9 @@ found_text f = granule_line f.granule ++ (reach_text None f.reach ++ (codes "  a
 unfoldable pub end_text : List FoundGranule → FoundAtEnd → List ℕ
 end_text found f = if is_found f.granule found then [] else granule_line f.granule ++ (reach_text f.final_word f.reach ++ codes "  at the end\n")
 
--- one that is not decided
-abbrev pub undecided_text : ℕ → ℕ → List ℕ
-undecided_text budget g = undecided_line g budget
+-- one that is not decided, and the time up to which it is explained, where one was found
+abbrev pub undecided_text : ℕ → UndecidedAtEnd → List ℕ
+undecided_text budget u = undecided_line u.granule budget ++ found_line u.explained
 
 -- what is said at the end
 abbrev pub ending_text : ℕ → List FoundGranule → Option Ending → List ℕ

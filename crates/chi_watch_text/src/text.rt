@@ -8,10 +8,10 @@ use crate::options::WatchOptions;
 use crate::reach_lines::add_reach;
 use crate::required::Required;
 use crate::watched::{FoundGranule, Watched, is_found};
-use chi_answer::{add_granule, add_undecided};
+use chi_answer::{add_found_time, add_granule, add_undecided};
 use chi_judge::Standing;
 use chi_text::{Part, add_parts};
-use chi_watch::{Counts, Ending, FoundAtEnd};
+use chi_watch::{Counts, Ending, FoundAtEnd, UndecidedAtEnd};
 use std::alloc::{AllocError, Global};
 
 /// The lines of a granule that was found.
@@ -71,12 +71,28 @@ fn add_all_at_end(
     Ok(())
 }
 
+/// The lines of a granule that is not decided.
+fn add_undecided_at_end(
+    to: &mut Vec<u8>,
+    it: &UndecidedAtEnd,
+    budget: u64,
+) -> Result<(), AllocError>
+    ensures { OnOk result (to.new.items ≡ to.old.items ++ undecided_text budget it.now) }
+{
+    add_undecided(to, it.granule, budget)?;
+    add_found_time(to, it.explained)
+}
+
 /// The lines of granules that are not decided.
-fn add_all_undecided(to: &mut Vec<u8>, undecided: &[u64], budget: u64) -> Result<(), AllocError>
+fn add_all_undecided(
+    to: &mut Vec<u8>,
+    undecided: &[UndecidedAtEnd],
+    budget: u64,
+) -> Result<(), AllocError>
     ensures { OnOk result (to.new.items ≡ to.old.items ++ flat_map (undecided_text budget) undecided.now) }
 {
-    for granule in undecided {
-        add_undecided(to, *granule, budget)?;
+    for it in undecided {
+        add_undecided_at_end(to, it, budget)?;
     }
     Ok(())
 }

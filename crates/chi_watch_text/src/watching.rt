@@ -6,8 +6,9 @@ ghost use Rattle.chi_script.specs.WriterBytes.{AppendsFront};
 ghost use Rattle.chi_events.specs.Ended.{is_end};
 ghost use Rattle.chi_events.specs.declared.event.Event.{Event};
 ghost use Rattle.chi_search.specs.Looks.{LookedSome};
+ghost use Rattle.chi_watch.specs.Undecided.{IsExplainedAsFar, states_for};
 ghost use Rattle.chi_watch.specs.Watches.{HasTaken};
-ghost use Rattle.chi_watch_text.specs.Outcomes.{IsEventFault, IsFoundBy, IsOutcome, IsTold, IsUnreached, IsWatched, IsWatchingFault, ReachedBy, SaysAtEnd, TakesEvent, WentBy};
+ghost use Rattle.chi_watch_text.specs.Outcomes.{IsEventFault, IsFoundBy, IsOutcome, IsTold, IsUnreached, IsWatched, IsWatchingFault, ReachedBy, SaysAtEnd, TakesEvent, WentAsFar, WentBy};
 ghost use Rattle.chi_watch_text.specs.Texts.{found_text};
 
 use crate::fault::LinesFault;
@@ -99,6 +100,7 @@ fn ended<P: WatchProgress>(
     ensures ending { IfOk result (λ watched. watched.ending ≢ None) }
     ensures says { IfOk result (λ watched. IfSome watched.ending (SaysAtEnd watch)) }
     ensures undecided { IfOk result (WentBy P.looked progress.old progress.new budget) }
+    ensures far { IfOk result (λ watched. IfSome watched.ending (λ ending. All (λ u. (events : List Event) → HasTaken events watch → IsExplainedAsFar P.looked progress.old progress.new (states_for budget ending.undecided.items) events u) ending.undecided.items)) }
     ensures unreached { IfOk result (λ watched. IfSome watched.ending (λ ending. All (λ f. (events : List Event) → HasTaken events watch → IsUnreached P.looked progress.old progress.new budget f.reach) ending.unexplained.items)) }
     ensures looked { IfOk result (λ _. LookedSome P.looked progress.old progress.new) }
 {
@@ -132,6 +134,7 @@ fn watch_each<R: BufRead, W: Write, P: WatchProgress>(
     ensures begun { IfErr result (λ _. AppendsFront (W.contents to.old) (W.contents to.new) (flat_map found_text found.new.items)) }
     ensures found { IfSome (R.remaining from.old) (λ text. IfErr result (λ _. All (IsFoundBy text) found.new.items)) }
     ensures undecided { IfOk result (WentBy P.looked progress.old progress.new options.now.budget) }
+    ensures far { IfSome (R.remaining from.old) (λ text. IfOk result (WentAsFar P.looked progress.old progress.new options.now.budget text)) }
     ensures unreached { IfOk result (ReachedBy P.looked progress.old progress.new options.now.budget) }
 {
     let mut watch = Watch::new(alloc);
@@ -191,6 +194,7 @@ pub fn watch_lines<R: BufRead, W: Write, P: WatchProgress>(
     ensures kept { IfErr result (λ unfinished. unfinished.fault ≢ LinesFault.Write → Appends (W.contents to.old) (W.contents to.new) (flat_map found_text unfinished.found.items)) }
     ensures begun { IfErr result (λ unfinished. AppendsFront (W.contents to.old) (W.contents to.new) (flat_map found_text unfinished.found.items)) }
     ensures undecided { IfOk result (WentBy P.looked progress.old progress.new options.now.budget) }
+    ensures far { IfSome (R.remaining from.old) (λ text. IfOk result (WentAsFar P.looked progress.old progress.new options.now.budget text)) }
     ensures unreached { IfOk result (ReachedBy P.looked progress.old progress.new options.now.budget) }
 {
     let mut found = Vec::new(alloc);

@@ -1,8 +1,9 @@
 //! What is said where the events end.
 
+use crate::tests::comparison::assert_same;
 use crate::tests::home::{
-    GRANULE, add, answer, assert_ending, assert_ends, done, next_word, read, read_next, take_all,
-    word, write,
+    GRANULE, add, answer, assert_ending, assert_ends, done, next_word, read, read_next, store_add,
+    take_all, word, write,
 };
 use chi_events::EventKind;
 use chi_search::NoProgress;
@@ -60,4 +61,39 @@ fn no_budget(rt: HostRuntime) -> Result<(), Fail> {
     take_all(rt.alloc(), &mut watch, &kinds)?;
     let ending = watch.ending(rt.alloc(), 0, &mut NoProgress)?;
     assert_ending(&rt, &ending, &[GRANULE + 1], &[GRANULE])
+}
+
+// Seven additions of even numbers overlap, and a read beside them answers 1, which no set of them leaves: there are 128 sets, and
+// 50 states are too few. The last addition ends at time 15, and the read at 16. Up to 15 any order of the additions is right.
+#[test]
+fn time_up_to_which_it_is_explained(rt: HostRuntime) -> Result<(), Fail> {
+    let kinds = [
+        store_add(1, 2),
+        store_add(2, 4),
+        store_add(3, 8),
+        store_add(4, 16),
+        store_add(5, 32),
+        store_add(6, 64),
+        store_add(7, 128),
+        read(8),
+        done(1),
+        done(2),
+        done(3),
+        done(4),
+        done(5),
+        done(6),
+        done(7),
+        answer(8, 1),
+    ];
+    let mut watch = Watch::new(rt.alloc());
+    take_all(rt.alloc(), &mut watch, &kinds)?;
+    let ending = watch.ending(rt.alloc(), 50, &mut NoProgress)?;
+    assert_ending(&rt, &ending, &[], &[GRANULE])?;
+    let times: Vec<Option<u64>> = ending
+        .undecided
+        .iter()
+        .map(|it| it.explained)
+        .collect(rt.alloc())?;
+    assert_same(&rt, times.as_slice(), [Some(15)].as_slice());
+    Ok(())
 }

@@ -191,9 +191,14 @@ pub(crate) fn assert_ending<R: AllocGlobal + Abort>(
         .iter()
         .map(|it| it.granule)
         .collect(rt.alloc())?;
+    let listed: Vec<u64> = ending
+        .undecided
+        .iter()
+        .map(|it| it.granule)
+        .collect(rt.alloc())?;
     assert_same(
         rt,
-        (found.as_slice(), ending.undecided.as_slice()),
+        (found.as_slice(), listed.as_slice()),
         (unexplained, undecided),
     );
     Ok(())

@@ -5,7 +5,7 @@ use crate::tests::events::{
     ALL, FIVE, GOING, LAST, NINE_AND_FIVE, NOTHING, READ, STOPPING, UNKNOWN, WRITE, ZERO, answer,
 };
 use chi_judge::Reach;
-use chi_watch::{Counts, Ending, FoundAtEnd};
+use chi_watch::{Counts, Ending, FoundAtEnd, UndecidedAtEnd};
 use chi_watch_text::{FoundGranule, Required, WatchOptions, Watched, closing_text};
 use std::process::Abort;
 use std::test::Fail;
@@ -109,6 +109,11 @@ fn at_end(granule: u64) -> FoundAtEnd {
     }
 }
 
+/// A granule that is not decided, and the time up to which it is explained, where one was found.
+fn undecided(granule: u64, explained: Option<u64>) -> UndecidedAtEnd {
+    UndecidedAtEnd { granule, explained }
+}
+
 // A granule that was found by a line is not told of at the end. The address of the granule 2^52 / 8 - 1 is 2^52 - 8.
 #[test]
 fn all_there_is_to_tell(rt: HostRuntime) -> Result<(), Fail> {
@@ -122,7 +127,7 @@ fn all_there_is_to_tell(rt: HostRuntime) -> Result<(), Fail> {
     unexplained.push(at_end(513))?;
     let ending = Ending {
         unexplained,
-        undecided: vec![in rt.alloc(); 512, 562949953421311]?,
+        undecided: vec![in rt.alloc(); undecided(512, Some(30)), undecided(562949953421311, None)]?,
     };
     let mut by_line = Vec::new(rt.alloc());
     by_line.push(found)?;
@@ -152,6 +157,7 @@ fn all_there_is_to_tell(rt: HostRuntime) -> Result<(), Fail> {
         "not explained: granule 0000000000000000
   at the end
 undecided: granule 0000000000001000 after 70 states
+  explained up to 30
 undecided: granule 000ffffffffffff8 after 70 states
   operations that ended: 1000
   requests outstanding: 20

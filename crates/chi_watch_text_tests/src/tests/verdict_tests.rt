@@ -2,7 +2,7 @@
 
 use crate::tests::comparison::assert_same;
 use chi_judge::{Reach, Standing};
-use chi_watch::{Counts, Ending, FoundAtEnd};
+use chi_watch::{Counts, Ending, FoundAtEnd, UndecidedAtEnd};
 use chi_watch_text::{FoundGranule, Watched};
 use std::alloc::{AllocError, Global};
 use std::test::Fail;
@@ -30,9 +30,13 @@ fn verdict(
             reach: Reach::Undecided,
         })?;
     }
+    let granule = UndecidedAtEnd {
+        granule: 514,
+        explained: None,
+    };
     let ending = Ending {
         unexplained: at_end,
-        undecided: vec![in alloc; 514; undecided]?,
+        undecided: vec![in alloc; granule; undecided]?,
     };
     let watched = Watched {
         found: by_line,

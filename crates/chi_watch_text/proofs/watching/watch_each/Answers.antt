@@ -16,7 +16,7 @@ use Rattle.chi_watch_text.specs.declared.fault.LinesFault.TheVariants as fault
 use Rattle.chi_watch_text.specs.declared.watched.FoundGranule.{FoundGranule}
 use Rattle.chi_watch_text.specs.declared.watched.Watched.{Watched}
 use Rattle.chi_watch_text.proofs.ToldTexts.{at_fault, begun_more, but_at_fault, told_more, whole_front}
-use Rattle.chi_watch_text.proofs.Told.{at_end, at_stop, event_taken, found_so_far, kept_at_fault, none_found, none_taken, passed_on, reached_by_found, settled, took, undecided_after, unreached_all, unreached_at_end}
+use Rattle.chi_watch_text.proofs.Told.{at_end, at_stop, event_taken, far_at_end, found_so_far, kept_at_fault, none_found, none_taken, passed_on, reached_by_found, settled, took, undecided_after, unreached_all, unreached_at_end}
 use Rattle.chi_watch_text.proofs.Refused.{but_write, held_up, where_not_taken, where_refused}
 use Rattle.chi_watch_text.proofs.watching.watch_each.Goals as goal
 
@@ -93,6 +93,19 @@ pub returns-in_default-clause-undecided : goal.returns-in_default-clause-undecid
 returns-in_default-clause-undecided g c =
     let some = some_after g.P.Progress.looked c.args.progress.now c.loop-number.progress c.judge_quiet.new.progress c.loop-number.invariant.looked c.in_ok-judge_quiet.ensures.looked in
     undecided_after g.P.Progress.looked c.args.progress.now c.judge_quiet.new.progress c.ended.new.progress c.args.options.now.budget c.in_ok-ended.field-0 some c.in_ok-ended.ensures.undecided
+
+pub returns-in_default-clause-far : goal.returns-in_default-clause-far
+returns-in_default-clause-far g c =
+    let before = c.loop-number.invariant in
+    let settled_now =
+    settled (g.R.Read.remaining c.args.from.now) (g.R.Read.remaining c.loop-number.from) (g.R.Read.remaining c.next_event.new.from) (c.loop-number.number - 1) c.loop-number.number c.loop-number.time c.loop-number.is_ended c.loop-number.found.items
+    c.judge_quiet.new.found.items c.loop-number.quiet.items c.judge_quiet.new.quiet.items c.loop-number.watch c.in_ok-next.next c.is_past-is_past.result before.taken (omega arith) c.in_ok-next.ensures.told c.is_past-is_past.ensures.past
+    c.in_ok-judge_quiet.ensures.waits c.in_ok-judge_quiet.ensures.cleared c.in_ok-judge_quiet.ensures.each in
+    let read = subst (λ (o : Option Event). IfSome (g.R.Read.remaining c.loop-number.from) (λ text. IsRead c.loop-number.number text o (g.R.Read.remaining c.next_event.new.from))) c.in_default.is c.in_ok-next.ensures.told in
+    let some = some_after g.P.Progress.looked c.args.progress.now c.loop-number.progress c.judge_quiet.new.progress before.looked c.in_ok-judge_quiet.ensures.looked in
+    far_at_end g.P.Progress.looked c.args.progress.now c.judge_quiet.new.progress c.ended.new.progress c.args.options.now.budget some
+    (g.R.Read.remaining c.args.from.now) (g.R.Read.remaining c.loop-number.from) (g.R.Read.remaining c.next_event.new.from) (c.loop-number.number - 1) c.loop-number.number c.loop-number.time c.loop-number.is_ended
+    c.judge_quiet.new.found.items c.judge_quiet.new.quiet.items c.loop-number.watch c.in_ok-ended.field-0.ending settled_now read c.in_ok-ended.ensures.far
 
 pub returns-in_default-clause-unreached : goal.returns-in_default-clause-unreached
 returns-in_default-clause-unreached g c =

@@ -1,26 +1,29 @@
 -- what the granules say once all that is still open was told
-use Rattle.std.proofs.Common.{◌≡◌, ◌⊎◌, ℕ, [], List, All, Option, inl, inr, length, ap, subst, sym, ◌∙◌}
+use Rattle.std.proofs.Common.{◌≡◌, ◌⊎◌, ◌*◌, ℕ, [], List, All, Option, inl, inr, length, ap, subst, sym, ◌∙◌}
 use Rattle.std.specs.Prelude.{IsPermutation}
-use Rattle.std.proofs.lemmas.List.{nil_from_length}
+use Rattle.std.proofs.lemmas.List.{length-map, nil_from_length}
 use Rattle.std.proofs.lemmas.List.Sorted.{All-permutation, Contains-permutation, IsPermutation-map, length_permutation}
 use Rattle.std.specs.BTreeMap.{get}
 use Rattle.std.specs.Ordering.{nat_cmp}
-use Rattle.std.proofs.lemmas.List.Elements.{All-weaker}
 use Rattle.chi_events.specs.Outstanding.{IsOpen}
 use Rattle.chi_events.specs.declared.event.Event.{Event}
 use Rattle.chi_events.specs.declared.outstanding.Open.{Open}
 use Rattle.chi_search.specs.Looks.{LookedAtLeast, LookedSome}
 use Rattle.chi_judge.specs.Reaches.{IfUndecided}
 use Rattle.chi_search.proofs.Looking.{at_least_after, at_least_before, some_after}
-use Rattle.chi_watch.specs.Endings.{AreToldTo, CanClose, IsListed}
+use Rattle.chi_watch.specs.Endings.{AreToldTo, CanClose, IsInexplicableAt, IsListed}
 use Rattle.chi_watch.specs.Judged.{CanBeExplained}
 use Rattle.chi_watch.specs.Reaching.{IsFoundAtEnd, IsFoundIn, IsUnreachedIn, granules_of}
+use Rattle.chi_watch.specs.Undecided.{GoesOnAt, IsAsFarIn, IsExplainedAsFar, IsExplainedIn, IsExplainedTo, states_for, undecided_of}
 use Rattle.chi_watch.specs.Watches.{HasTaken, WatchValue, granule}
 use Rattle.chi_watch.specs.declared.ending.FoundAtEnd.{FoundAtEnd}
 use Rattle.chi_watch.specs.declared.followed.Followed.{Followed}
+use Rattle.chi_watch.specs.declared.undecided.UndecidedAtEnd.{UndecidedAtEnd}
 use Rattle.chi_watch.proofs.ToldAtTheEnd.{own_open}
-use Rattle.chi_watch.proofs.AtTheEnd.{AreClosed, all_found, ended_each, ended_explained, ended_found, ended_unreached, none_listed}
-use Rattle.chi_watch.proofs.Reached.{unreached_after}
+use Rattle.chi_watch.proofs.AtTheEnd.{AreClosed, all_listed, ended_each, ended_explained, ended_explained_to, ended_far, ended_found, ended_unreached, none_listed}
+use Rattle.chi_watch.proofs.ExplainedFar.{as_far_in}
+use Rattle.chi_watch.proofs.Looked.{at_least_both}
+use Rattle.chi_watch.proofs.Reached.{unreached_after, unreached_then}
 use Rattle.chi_watch.proofs.watch.Watch.ending.Goals as goal
 
 -- the open requests' operations were told, where they could be
@@ -51,8 +54,11 @@ returns-clause-explained g c unexplained undecided events has =
     let un = c.in_ok-listed.listed.unexplained.items in
     let same : granules_of c.in_ok-found.found.items ≡ un = c.in_ok-found.ensures.granules ∙ c.deref.ensures.value in
     let no_un : un ≡ [] = sym same ∙ ap granules_of (none_sorted c.in_ok-found.found.items c.in_ok-unexplained.unexplained.items c.in_ok-unexplained.ensures.same unexplained) in
+    let dec = c.in_ok-listed.listed.undecided.items in
+    let same_dec : undecided_of c.in_ok-undecided.undecided.items ≡ dec = c.in_ok-undecided.ensures.granules ∙ c.deref-2.ensures.value in
+    let no_dec : dec ≡ [] = sym same_dec ∙ ap undecided_of undecided in
     ended_explained c.operations_are_told.ensures c.granules_stand_alone.ensures c.granules_explain.ensures c.args.self new are_open closes
-    (λ h. none_listed h un c.in_ok-listed.listed.undecided.items no_un undecided (new h) (c.in_ok-listed.ensures.each h)) events has
+    (λ h. none_listed h un dec no_un no_dec (new h) (c.in_ok-listed.ensures.each h)) events has
 
 pub returns-clause-each : goal.returns-clause-each
 returns-clause-each g c h events has =
@@ -61,12 +67,16 @@ returns-clause-each g c h events has =
     let are_open = subst (λ (w : WatchValue). All (IsOpen w.outstanding.time) w.outstanding.requests) c.self.view_is c.requests-requests.ensures.are_open in
     let un = c.in_ok-listed.listed.unexplained.items in
     let same : granules_of c.in_ok-found.found.items ≡ un = c.in_ok-found.ensures.granules ∙ c.deref.ensures.value in
-    let said : CanBeExplained events h ⊎ IsListed h (granules_of c.in_ok-found.found.items) c.in_ok-listed.listed.undecided.items =
-    subst (λ (l : List ℕ). CanBeExplained events h ⊎ IsListed h l c.in_ok-listed.listed.undecided.items) (sym same)
-    (ended_each c.operations_are_told.ensures c.granules_stand_alone.ensures (IsListed h un c.in_ok-listed.listed.undecided.items) c.args.self new are_open closes h (c.in_ok-listed.ensures.each h) events has) in
+    let dec = c.in_ok-listed.listed.undecided.items in
+    let told = undecided_of c.in_ok-undecided.undecided.items in
+    let same_dec : told ≡ dec = c.in_ok-undecided.ensures.granules ∙ c.deref-2.ensures.value in
+    let said : CanBeExplained events h ⊎ IsListed h (granules_of c.in_ok-found.found.items) told =
+    subst (λ (l : List ℕ). CanBeExplained events h ⊎ IsListed h (granules_of c.in_ok-found.found.items) l) (sym same_dec)
+    (subst (λ (l : List ℕ). CanBeExplained events h ⊎ IsListed h l dec) (sym same)
+    (ended_each c.operations_are_told.ensures c.granules_stand_alone.ensures (IsListed h un dec) c.args.self new are_open closes h (c.in_ok-listed.ensures.each h) events has)) in
     elim said [
       | inl can ↦ inl can
-      | inr there ↦ inr (listed_sorted c.in_ok-found.found.items c.in_ok-unexplained.unexplained.items h c.in_ok-listed.listed.undecided.items c.in_ok-unexplained.ensures.same there)
+      | inr there ↦ inr (listed_sorted c.in_ok-found.found.items c.in_ok-unexplained.unexplained.items h told c.in_ok-unexplained.ensures.same there)
     ]
 
 pub returns-clause-unexplained : goal.returns-clause-unexplained
@@ -77,7 +87,7 @@ returns-clause-unexplained g c =
     let un = c.in_ok-listed.listed.unexplained.items in
     let same : granules_of c.in_ok-found.found.items ≡ un = c.in_ok-found.ensures.granules ∙ c.deref.ensures.value in
     All-permutation (λ (f : FoundAtEnd). (events : List Event) → HasTaken events c.args.self → IsFoundAtEnd events f) c.in_ok-found.found.items c.in_ok-unexplained.unexplained.items c.in_ok-unexplained.ensures.same
-    (all_found new (IsFoundIn new) (λ (f : FoundAtEnd). (events : List Event) → HasTaken events c.args.self → IsFoundAtEnd events f) c.in_ok-found.found.items un same c.in_ok-listed.ensures.unexplained
+    (all_listed (λ (f : FoundAtEnd). f.granule) (λ h. IsInexplicableAt (new h)) (IsFoundIn new) (λ (f : FoundAtEnd). (events : List Event) → HasTaken events c.args.self → IsFoundAtEnd events f) c.in_ok-found.found.items un same c.in_ok-listed.ensures.unexplained
     c.in_ok-found.ensures.found (ended_found c.operations_are_told.ensures c.parts_explain.ensures c.args.self new are_open closes))
 
 pub returns-clause-unreached : goal.returns-clause-unreached
@@ -91,28 +101,76 @@ returns-clause-unreached g c =
     let old = c.args.progress.now in
     let closed = c.close_open.new.progress in
     let judged = c.judge_all.new.progress in
-    let last = c.each_found_at_end.new.progress in
+    let reached = c.each_found_at_end.new.progress in
+    let last = c.each_undecided.new.progress in
     let whole = LookedAtLeast looked old last c.args.budget in
     let before : LookedSome looked old judged = some_after looked old closed judged c.in_ok-close_open.ensures.looked c.in_ok-listed.ensures.looked in
     All-permutation (λ (f : FoundAtEnd). (events : List Event) → HasTaken events c.args.self → IfUndecided f.reach whole) c.in_ok-found.found.items c.in_ok-unexplained.unexplained.items c.in_ok-unexplained.ensures.same
-    (all_found new (IsUnreachedIn looked judged last c.args.budget new) (λ (f : FoundAtEnd). (events : List Event) → HasTaken events c.args.self → IfUndecided f.reach whole) c.in_ok-found.found.items un same
+    (all_listed (λ (f : FoundAtEnd). f.granule) (λ h. IsInexplicableAt (new h)) (IsUnreachedIn looked judged reached c.args.budget new) (λ (f : FoundAtEnd). (events : List Event) → HasTaken events c.args.self → IfUndecided f.reach whole) c.in_ok-found.found.items un same
     c.in_ok-listed.ensures.unexplained c.in_ok-found.ensures.undecided
     (λ f none spent. ended_unreached c.operations_are_told.ensures whole c.args.self new are_open closes f none
-    (unreached_after looked old judged last c.args.budget new before f spent)))
+    (unreached_after looked old judged last c.args.budget new before f (unreached_then looked judged reached last c.args.budget new c.in_ok-undecided.ensures.looked f spent))))
 
 pub returns-clause-undecided : goal.returns-clause-undecided
 returns-clause-undecided g c =
+    let new = get nat_cmp c.close_open.new.granules in
     let looked = g.P.Progress.looked in
     let old = c.args.progress.now in
     let closed = c.close_open.new.progress in
     let judged = c.judge_all.new.progress in
-    let last = c.each_found_at_end.new.progress in
-    All-weaker (λ h. LookedAtLeast looked closed judged c.args.budget) (λ h. LookedAtLeast looked old last c.args.budget)
-    (λ h whole. at_least_before looked old judged last c.args.budget (at_least_after looked old closed judged c.args.budget c.in_ok-close_open.ensures.looked whole) c.in_ok-found.ensures.looked)
-    c.in_ok-listed.listed.undecided.items c.in_ok-listed.ensures.undecided
+    let reached = c.each_found_at_end.new.progress in
+    let last = c.each_undecided.new.progress in
+    let after : LookedSome looked judged last = some_after looked judged reached last c.in_ok-found.ensures.looked c.in_ok-undecided.ensures.looked in
+    all_listed (λ (u : UndecidedAtEnd). u.granule) (λ h. LookedAtLeast looked closed judged c.args.budget) (IsExplainedIn new) (λ (u : UndecidedAtEnd). LookedAtLeast looked old last c.args.budget)
+    c.in_ok-undecided.undecided.items c.in_ok-listed.listed.undecided.items (c.in_ok-undecided.ensures.granules ∙ c.deref-2.ensures.value) c.in_ok-listed.ensures.undecided c.in_ok-undecided.ensures.explained
+    (λ u whole said. at_least_before looked old judged last c.args.budget (at_least_after looked old closed judged c.args.budget c.in_ok-close_open.ensures.looked whole) after)
+
+pub returns-clause-explained_to : goal.returns-clause-explained_to
+returns-clause-explained_to g c =
+    let new = get nat_cmp c.close_open.new.granules in
+    let closes = closes_of _ c.args.self _ new c.self.view_is c.requests-requests.ensures.requests c.in_ok-close_open.ensures.told in
+    let are_open = subst (λ (w : WatchValue). All (IsOpen w.outstanding.time) w.outstanding.requests) c.self.view_is c.requests-requests.ensures.are_open in
+    all_listed (λ (u : UndecidedAtEnd). u.granule) (λ h. GoesOnAt (new h)) (IsExplainedIn new) (λ (u : UndecidedAtEnd). (events : List Event) → HasTaken events c.args.self → IsExplainedTo events u)
+    c.in_ok-undecided.undecided.items c.in_ok-listed.listed.undecided.items (c.in_ok-undecided.ensures.granules ∙ c.deref-2.ensures.value) c.in_ok-listed.ensures.go_on c.in_ok-undecided.ensures.explained
+    (ended_explained_to c.operations_are_told.ensures c.args.self new are_open closes)
+
+pub returns-clause-far : goal.returns-clause-far
+returns-clause-far g c =
+    let new = get nat_cmp c.close_open.new.granules in
+    let closes = closes_of _ c.args.self _ new c.self.view_is c.requests-requests.ensures.requests c.in_ok-close_open.ensures.told in
+    let are_open = subst (λ (w : WatchValue). All (IsOpen w.outstanding.time) w.outstanding.requests) c.self.view_is c.requests-requests.ensures.are_open in
+    let looked = g.P.Progress.looked in
+    let old = c.args.progress.now in
+    let closed = c.close_open.new.progress in
+    let judged = c.judge_all.new.progress in
+    let reached = c.each_found_at_end.new.progress in
+    let last = c.each_undecided.new.progress in
+    let budget = c.args.budget in
+    let items = c.in_ok-undecided.undecided.items in
+    let dec = c.in_ok-listed.listed.undecided.items in
+    let same_dec : undecided_of items ≡ dec = c.in_ok-undecided.ensures.granules ∙ c.deref-2.ensures.value in
+    let count : length dec ≡ length items = ap length (sym same_dec) ∙ length-map items (λ (u : UndecidedAtEnd). u.granule) in
+    let before : LookedAtLeast looked old reached (budget * length items) =
+    subst (λ (n : ℕ). LookedAtLeast looked old reached (budget * n)) count
+    (at_least_before looked old judged reached (budget * length dec)
+    (at_least_after looked old closed judged (budget * length dec) c.in_ok-close_open.ensures.looked c.in_ok-listed.ensures.together) c.in_ok-found.ensures.looked) in
+    all_listed (λ (u : UndecidedAtEnd). u.granule) (λ h. GoesOnAt (new h)) (IsAsFarIn looked reached last budget new)
+    (λ (u : UndecidedAtEnd). (events : List Event) → HasTaken events c.args.self → IsExplainedAsFar looked old last (states_for budget items) events u) items dec same_dec c.in_ok-listed.ensures.go_on
+    c.in_ok-undecided.ensures.far
+    (λ u goes far. ended_far c.operations_are_told.ensures c.args.self new are_open closes looked old last (states_for budget items) u goes
+    (as_far_in looked reached last old last budget (states_for budget items) (at_least_both looked old reached last (budget * length items) budget before) new u far))
 
 pub returns-clause-looked : goal.returns-clause-looked
 returns-clause-looked g c =
     let looked = g.P.Progress.looked in
-    some_after looked c.args.progress.now c.judge_all.new.progress c.each_found_at_end.new.progress
-    (some_after looked c.args.progress.now c.close_open.new.progress c.judge_all.new.progress c.in_ok-close_open.ensures.looked c.in_ok-listed.ensures.looked) c.in_ok-found.ensures.looked
+    let old = c.args.progress.now in
+    let judged = c.judge_all.new.progress in
+    let reached = c.each_found_at_end.new.progress in
+    some_after looked old reached c.each_undecided.new.progress
+    (some_after looked old judged reached (some_after looked old c.close_open.new.progress judged c.in_ok-close_open.ensures.looked c.in_ok-listed.ensures.looked) c.in_ok-found.ensures.looked)
+    c.in_ok-undecided.ensures.looked
+
+pub each_undecided-requires : goal.each_undecided-requires
+each_undecided-requires g c =
+    let new = get nat_cmp c.close_open.new.granules in
+    record { go_on = subst (λ (l : List ℕ). All (λ h. GoesOnAt (new h)) l) (sym c.deref-2.ensures.value) c.in_ok-listed.ensures.go_on }
