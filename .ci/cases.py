@@ -55,9 +55,22 @@ def wants(case, words, text, status, out="", errors=""):
     told(f"{case}: {found} in place of {wanted}", found == wanted)
 
 
-def is_not(name):
-    """What is said of a member that is not what it has to be."""
-    return f"member {name} is not {WANTED[name]}"
+def shown(value):
+    """A value as the text of a fault shows it: of a text its first 32 bytes."""
+    if isinstance(value, str):
+        text = value.encode()
+        letters = "".join(chr(byte) if 33 <= byte <= 126 else "?" for byte in text[:32])
+        return f'"{letters}{"..." if len(text) > 32 else ""}"'
+    if isinstance(value, (list, dict)):
+        return "a list" if isinstance(value, list) else "an object"
+    if isinstance(value, float) or (value is not None and not -(2**63) <= value < 2**64):
+        return "a number"
+    return json.dumps(value)
+
+
+def is_not(name, value):
+    """What is said of a member with this value, which is not what it has to be."""
+    return f"member {name} is {shown(value)}, and not {WANTED[name]}"
 
 
 def refused(case, text, fault):

@@ -1,5 +1,5 @@
 pub mod ObjectLemmas
-mod ShownNames
+mod ShownTexts
 mod UnknownNames
 pub mod ValueLemmas
 pub mod WalkLemmas

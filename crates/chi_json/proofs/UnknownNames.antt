@@ -4,8 +4,9 @@ use Rattle.std.specs.List.{list_any}
 use Rattle.std.specs.Map.{keys_of}
 use Rattle.serde_json.specs.View.{members_view}
 use Rattle.serde_json.specs.declared.value.Value.{Value}
-use Rattle.chi_json.specs.declared.unknown.MemberName.{MemberName}
-use Rattle.chi_json.specs.Unknown.{is_known, kept_name, unknown_in}
+use Rattle.chi_json.specs.declared.shown.ShownText.{ShownText}
+use Rattle.chi_json.specs.Shown.{shown_text}
+use Rattle.chi_json.specs.Unknown.{is_known, unknown_in}
 
 -- a test of what stands behind the elements of a list
 pub any_over : {A B : Type 0} (f : B → Bool) (g : A → B) (xs : List A) → list_any f (map g xs) ≡ list_any (λ x. f (g x)) xs
@@ -13,11 +14,11 @@ any_over f g [] = refl
 any_over f g (x ∷ xs) = ap (λ b. f (g x) || b) (any_over f g xs)
 
 -- the first of some names that an object may not have
-unfoldable pub unknown_among : {M : Type 0} → (M → List ℕ) → List (List M) → List (String Global) → Option MemberName
+unfoldable pub unknown_among : {M : Type 0} → (M → List ℕ) → List (List M) → List (String Global) → Option ShownText
 unknown_among name_of known [] = None
-unknown_among name_of known (s ∷ names) = if is_known name_of known (string_bytes s) then unknown_among name_of known names else Some (kept_name (string_bytes s))
+unknown_among name_of known (s ∷ names) = if is_known name_of known (string_bytes s) then unknown_among name_of known names else Some (shown_text (string_bytes s))
 
 pub unknown_keys : {M : Type 0} (name_of : M → List ℕ) (known : List (List M)) (es : List (String Global × Value)) → unknown_in name_of known (members_view es) ≡ unknown_among name_of known (keys_of es)
 unfolding unknown_in unknown_among
 unknown_keys name_of known [] = refl
-unknown_keys name_of known (e ∷ es) = ap (λ r. if is_known name_of known (string_bytes e.0) then r else Some (kept_name (string_bytes e.0))) (unknown_keys name_of known es)
+unknown_keys name_of known (e ∷ es) = ap (λ r. if is_known name_of known (string_bytes e.0) then r else Some (shown_text (string_bytes e.0))) (unknown_keys name_of known es)

@@ -22,6 +22,11 @@ pub renamed : {A E D : Type 0} (f : E → D) (r : Result A E) (P : A → Type 0)
 renamed f (Ok a) P h = h
 renamed f (Err e) P h = tt
 
+-- a step that meets no fault by another name meets none
+pub no_fault : {A E D : Type 0} (f : E → D) (r : Result A E) (a : A) → Ok a ≡ or_else f r → r ≡ Ok a
+no_fault f (Ok b) a is = cc is
+no_fault f (Err e) a is = cc is
+
 -- P of a value, where no value is told as a fault
 pub present : {A E : Type 0} (o : Option A) (e : E) (P : A → Type 0) → IfSome o P → IfOk (ok_or o e) P
 present (Some a) e P h = h

@@ -1,5 +1,6 @@
 pub mod Faults
 pub mod Members
 pub mod Object
+pub mod Shown
 pub mod Unknown
 pub mod Values

@@ -1,9 +1,10 @@
 -- the members that an object may have, and the name of one that it may not
-use Rattle.std.specs.Prelude.{ℕ, nat_eq, ◌-◌, ◌||◌, Bool, if◌then◌else◌, List, ◌++◌, codes, length, replicate, take, Option, None, Some}
+use Rattle.std.specs.Prelude.{ℕ, nat_eq, ◌||◌, Bool, if◌then◌else◌, List, codes, Option, None, Some}
 use Rattle.std.specs.List.{list_any, starts_with}
 use Rattle.std.specs.Str.{bytes_eq}
 use Rattle.serde_json.specs.Data.{Members, no_members, member}
-use Rattle.chi_json.specs.declared.unknown.MemberName.{MemberName}
+use Rattle.chi_json.specs.declared.shown.ShownText.{ShownText}
+use Rattle.chi_json.specs.Shown.{shown_text}
 
 -- members whose name begins with `x-` are ignored
 abbrev pub is_ignored : List ℕ → Bool
@@ -17,11 +18,7 @@ is_among name_of known s = list_any (λ m. bytes_eq (name_of m) s) known
 unfoldable pub is_known : {M : Type 0} → (M → List ℕ) → List (List M) → List ℕ → Bool
 is_known name_of known s = is_ignored s || list_any (λ members. is_among name_of members s) known
 
--- what is kept of a name: its first 32 bytes, and then zeros, and how many bytes it has
-abbrev pub kept_name : List ℕ → MemberName
-kept_name s = record { letters = take 32 s ++ replicate (32 - length s) 0; length = length s }
-
 -- the name of the first member that the object may not have
-unfoldable pub unknown_in : {M : Type 0} → (M → List ℕ) → List (List M) → Members → Option MemberName
+unfoldable pub unknown_in : {M : Type 0} → (M → List ℕ) → List (List M) → Members → Option ShownText
 unknown_in name_of known no_members = None
-unknown_in name_of known (member s d ms) = if is_known name_of known s then unknown_in name_of known ms else Some (kept_name s)
+unknown_in name_of known (member s d ms) = if is_known name_of known s then unknown_in name_of known ms else Some (shown_text s)

@@ -1,10 +1,13 @@
 //! Why an object is refused, whatever it is of.
 
 ghost use Rattle.std.specs.Prelude.{◌≡◌};
-ghost use Rattle.chi_json.specs.Faults.{of_member};
+ghost use Rattle.serde_json.specs.Find.{get};
+ghost use Rattle.serde_json.specs.View.{view};
+ghost use Rattle.chi_json.specs.Faults.{bad_member, of_member};
 
 use crate::member::{MemberFault, Named};
-use crate::unknown::MemberName;
+use crate::shown::{ShownText, ShownValue};
+use serde_json::Value;
 use std::alloc::AllocError;
 use thiserror::Error;
 
@@ -13,7 +16,7 @@ use thiserror::Error;
 ///
 /// - `NotJson`: the text is not one JSON text in UTF-8, or nests more than 127 deep.
 /// - `NotObject`: the value is not an object.
-/// - `Missing`, `BadMember`: a member is not there, or not as stated.
+/// - `Missing`, `BadMember`: a member is not there, or has this value, which is not as stated.
 /// - `UnknownMember`: there is a member that such an object does not have, and whose name does not begin with `x-`.
 ///
 /// ```
@@ -28,21 +31,39 @@ pub enum ObjectFault<M> {
     NotObject,
     #[error("member {} is missing", .0.name())]
     Missing(M),
-    #[error("member {} is not {}", .0.name(), .0.wanted())]
-    BadMember(M),
+    #[error("member {} is {value}, and not {}", .member.name(), .member.wanted())]
+    BadMember { member: M, value: ShownValue },
     #[error("has an unknown member {0}")]
-    UnknownMember(MemberName),
+    UnknownMember(ShownText),
     #[error("no memory")]
     Memory,
 }
 
-impl<M: Named> From<MemberFault<M>> for ObjectFault<M> {
-    ghost from_gives = { λ fault result. result ≡ of_member fault };
+/// The fault of an object of which a member is not as stated.
+fn bad_member<M: Named>(object: &Value, member: M) -> ObjectFault<M>
+    ensures { result ≡ bad_member member (get (M.name_of member) (view object.now)) }
+{
+    match object.get(member.name()) {
+        Some(value) => ObjectFault::BadMember {
+            member,
+            value: ShownValue::of(value),
+        },
+        None => ObjectFault::Missing(member),
+    }
+}
 
-    fn from(fault: MemberFault<M>) -> ObjectFault<M> {
+impl<M: Named> ObjectFault<M> {
+    /// The fault of an object of which a member has one.
+    ///
+    /// ```
+    /// let fault = ObjectFault::of_member(&object, MemberFault::Missing(Member::Time)); // member time is missing
+    /// ```
+    pub fn of_member(object: &Value, fault: MemberFault<M>) -> ObjectFault<M>
+        ensures { result ≡ of_member M.name_of (view object.now) fault }
+    {
         match fault {
             MemberFault::Missing(member) => ObjectFault::Missing(member),
-            MemberFault::BadMember(member) => ObjectFault::BadMember(member),
+            MemberFault::BadMember(member) => bad_member(object, member),
             MemberFault::Memory => ObjectFault::Memory,
         }
     }

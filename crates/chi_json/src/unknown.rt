@@ -1,57 +1,12 @@
-//! Members that an object may not have, and how a fault shows the name of one.
+//! Members that an object may not have.
 
 ghost use Rattle.std.specs.Prelude.{◌≡◌, map};
 ghost use Rattle.serde_json.specs.View.{members_view};
-ghost use Rattle.chi_json.specs.Unknown.{is_among, is_ignored, is_known, kept_name, unknown_in};
+ghost use Rattle.chi_json.specs.Unknown.{is_among, is_ignored, is_known, unknown_in};
 
 use crate::member::Named;
+use crate::shown::ShownText;
 use serde_json::{Map, Value};
-use std::fmt;
-
-/// The name of a member as a fault shows it: its first 32 bytes, each that is no printing ASCII letter as `?`, and `...` where
-/// it is longer.
-///
-/// ```
-/// let name = MemberName::of("finals"); // finals
-/// ```
-#[derive(Clone, Copy, Debug, PartialEq, Eq)]
-pub struct MemberName {
-    letters: [u8; 32],
-    length: usize,
-}
-
-impl MemberName {
-    /// What is kept of a name.
-    ///
-    /// ```
-    /// let name = MemberName::of("finals");
-    /// ```
-    pub fn of(name: &str) -> MemberName
-        ensures { result ≡ kept_name name.now }
-    {
-        let bytes = name.as_bytes();
-        let count = bytes.len().min(32);
-        let mut letters = [0; 32];
-        letters[..count].copy_from_slice(&bytes[..count]);
-        MemberName {
-            letters,
-            length: bytes.len(),
-        }
-    }
-}
-
-impl fmt::Display for MemberName {
-    fn fmt<W: fmt::Write>(&self, f: &mut fmt::Formatter<W>) -> fmt::Result {
-        for letter in self.letters.iter().take(self.length) {
-            let is_shown = letter.is_ascii_graphic();
-            f.write_char(if is_shown { *letter as char } else { '?' })?;
-        }
-        if self.length > self.letters.len() {
-            f.write_str("...")?;
-        }
-        Ok(())
-    }
-}
 
 /// Whether a member of this name is ignored: its name begins with `x-`.
 fn is_ignored(name: &str) -> bool
@@ -81,12 +36,12 @@ fn is_known<M: Named>(name: &str, known: &[&[M]]) -> bool
 /// let name = unknown_member(object.as_object()?, &[&[Member::Time], &FIELDS])?;
 /// ```
 #[tactic(auto, unfolding(crate::proofs::UnknownNames::unknown_among), using(crate::proofs::UnknownNames::unknown_keys))]
-pub fn unknown_member<M: Named>(members: &Map<String, Value>, known: &[&[M]]) -> Option<MemberName>
+pub fn unknown_member<M: Named>(members: &Map<String, Value>, known: &[&[M]]) -> Option<ShownText>
     ensures { result ≡ unknown_in M.name_of (map (λ members. members.now) known.now) (members_view members.now.entries) }
 {
     for name in members.keys() {
         if !is_known(name.as_str(), known) {
-            return Some(MemberName::of(name.as_str()));
+            return Some(ShownText::of(name.as_str()));
         }
     }
     None

@@ -132,13 +132,19 @@ told_of number line.Word d = word_of d
 told_of number line.Unknown d = unknown_of d
 told_of number line.End d = Ok kind.End
 
--- the event of an object on the line with a number: its kind, its time, what it tells, and that it has no other members
+-- the kind that an object on the line with a number names, and its event: its time, and what it tells
+unfoldable pub stated_event : ℕ → Data → Result (LineKind × Event) (MemberFault Member)
+stated_event number d = do
+  k ← member_by member_name name.Event kind_of d
+  time ← number_of member_name name.Time (2 ^ 64 - 1) d
+  told ← told_of number k d
+  Ok (k, record { time = time; kind = told })
+
+-- the event of an object on the line with a number, which has no other members
 unfoldable pub object_event : ℕ → Data → Members → Result Event LineFault
 object_event number d members = do
-  k ← or_else of_line (member_by member_name name.Event kind_of d)
-  time ← or_else of_line (number_of member_name name.Time (2 ^ 64 - 1) d)
-  told ← or_else of_line (told_of number k d)
-  faultless (λ unknown. Object (UnknownMember unknown)) (unknown_in member_name (members_of k) members) (record { time = time; kind = told })
+  stated ← or_else (of_line d) (stated_event number d)
+  faultless (λ unknown. Object (UnknownMember unknown)) (unknown_in member_name (members_of stated.0) members) stated.1
 
 -- the event of the line with a number, which is an object and none of a trace
 unfoldable pub event_text : ℕ → List ℕ → Result Event LineFault

@@ -95,7 +95,7 @@ members_of (Refused reason) = request_members ∷ (member.Start ∷ member.End �
 unfoldable pub stated_at : ℕ → Data → Result Stated RequestFault
 stated_at place d = do
   members ← ok_or (as_object d) (request_fault.Object NotObject)
-  stated ← or_else of_request (stated_of place d)
+  stated ← or_else (of_request d) (stated_of place d)
   faultless (λ name. request_fault.Object (UnknownMember name)) (unknown_in member_name (members_of stated.outcome) members) stated
 
 -- the operation that was observed of a request, with this reply

@@ -38,18 +38,18 @@ region_final_words first (Some words) = region_words first words
 -- of a region: its base, how many granules it has, and their words
 unfoldable pub region_memory : Data → Result MemoryText TraceFault
 region_memory d = do
-  base ← or_else of_trace (number_of member_name member.Base (2 ^ 64 - 1) d)
-  granules ← or_else of_trace (number_of member_name member.Granules 65535 d)
+  base ← or_else (of_trace d) (number_of member_name member.Base (2 ^ 64 - 1) d)
+  granules ← or_else (of_trace d) (number_of member_name member.Granules 65535 d)
   region ← or_else RegionRefused (region_of base granules)
-  image ← or_else of_trace (opening_words member_name member.Image granules d)
-  final_words ← or_else of_trace (stated_words member_name member.Final granules d)
+  image ← or_else (of_trace d) (opening_words member_name member.Image granules d)
+  final_words ← or_else (of_trace d) (stated_words member_name member.Final granules d)
   Ok (record { region = Some region; opening = region_words (base / 8) image; final_words = region_final_words (base / 8) final_words })
 
 -- of all addresses: the words of some granules
 unfoldable pub wide_memory : Data → Result MemoryText TraceFault
 wide_memory d = do
-  opening ← or_else of_trace (stated_list member.Image d)
-  final_words ← or_else of_trace (stated_list member.Final d)
+  opening ← or_else (of_trace d) (stated_list member.Image d)
+  final_words ← or_else (of_trace d) (stated_list member.Final d)
   Ok (record { region = None; opening = opening; final_words = final_words })
 
 -- the memory is a region where its number of granules is told
@@ -64,7 +64,7 @@ pub record TextValue : Type 0 where
 unfoldable pub object_text : Data → Members → Result TextValue TraceFault
 object_text d members = do
   memory ← memory_text d
-  listed ← or_else of_trace (member_by member_name member.Requests as_array d)
+  listed ← or_else (of_trace d) (member_by member_name member.Requests as_array d)
   elements ← faultless (λ name. Object (UnknownMember name)) (unknown_in member_name (trace_members ∷ []) members) listed
   completed ← all_completed memory.region elements
   Ok (record { memory = memory; completed = completed })

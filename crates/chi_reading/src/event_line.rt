@@ -4,7 +4,7 @@ ghost use Rattle.std.specs.Prelude.{◌≡◌, ◌≢◌, IfErr, IfOk, Ok, Err};
 ghost use Rattle.serde_json.specs.View.{members_view, view};
 ghost use Rattle.chi_json.specs.Members.{member_by};
 ghost use Rattle.chi_reading.specs.Member.{member_name};
-ghost use Rattle.chi_reading.specs.EventText.{event_text, kind_of, object_event};
+ghost use Rattle.chi_reading.specs.EventText.{event_text, kind_of, object_event, stated_event};
 
 use crate::fault::LineFault;
 use crate::line_kind::LineKind;
@@ -26,6 +26,20 @@ fn kind_told(object: &Value) -> Result<LineKind, MemberFault<Member>>
         .ok_or(MemberFault::BadMember(Member::Event))
 }
 
+/// The kind that an object on the line with this number names, and the event that it tells, or the first fault of its members.
+#[tactic(auto, unfolding(crate::specs::EventText::stated_event))]
+fn stated_event(
+    number_of_line: u64,
+    object: &Value,
+) -> Result<(LineKind, Event), MemberFault<Member>>
+    ensures { result ≡ stated_event number_of_line (view object.now) }
+{
+    let kind = kind_told(object)?;
+    let time = number(object, Member::Time, u64::MAX)?;
+    let told = told(number_of_line, kind, object)?;
+    Ok((kind, Event { time, kind: told }))
+}
+
 /// The event that an object on the line with this number tells, or its first fault.
 #[tactic(auto, unfolding(crate::specs::EventText::object_event))]
 fn object_event(
@@ -35,12 +49,13 @@ fn object_event(
 ) -> Result<Event, LineFault>
     ensures { result ≡ object_event number_of_line (view object.now) (members_view members.now.entries) }
 {
-    let kind = kind_told(object)?;
-    let time = number(object, Member::Time, u64::MAX)?;
-    let told = told(number_of_line, kind, object)?;
+    let (kind, event) = match stated_event(number_of_line, object) {
+        Ok(stated) => stated,
+        Err(fault) => return Err(LineFault::of_member(object, fault)),
+    };
     match unknown_member(members, kind.members()) {
         Some(name) => Err(LineFault::Object(ObjectFault::UnknownMember(name))),
-        None => Ok(Event { time, kind: told }),
+        None => Ok(event),
     }
 }
 

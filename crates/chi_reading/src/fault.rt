@@ -1,12 +1,13 @@
 //! Why a trace is refused, or a line of events.
 
 ghost use Rattle.std.specs.Prelude.{◌≡◌};
-ghost use Rattle.chi_json.specs.Faults.{of_member};
+ghost use Rattle.serde_json.specs.View.{view};
 ghost use Rattle.chi_reading.specs.Faults.{of_line, of_request, of_trace};
 
 use crate::member::Member;
 use chi_fields::{Refusal, RegionFault, refusal_name, region_fault_name};
 use chi_json::{MemberFault, ObjectFault};
+use serde_json::Value;
 use std::alloc::AllocError;
 use thiserror::Error;
 
@@ -90,32 +91,35 @@ pub enum LineFault {
     Memory,
 }
 
-impl From<MemberFault<Member>> for RequestFault {
-    ghost from_gives = { λ fault result. result ≡ of_request fault };
-
-    fn from(fault: MemberFault<Member>) -> RequestFault {
-        RequestFault::Object(ObjectFault::from(fault))
+impl RequestFault {
+    /// The fault of a request of which a member has one.
+    pub(crate) fn of_member(object: &Value, fault: MemberFault<Member>) -> RequestFault
+        ensures { result ≡ of_request (view object.now) fault }
+    {
+        RequestFault::Object(ObjectFault::of_member(object, fault))
     }
 }
 
-impl From<MemberFault<Member>> for TraceFault {
-    ghost from_gives = { λ fault result. result ≡ of_trace fault };
-
-    fn from(fault: MemberFault<Member>) -> TraceFault {
+impl TraceFault {
+    /// The fault of a trace of which a member has one.
+    pub(crate) fn of_member(object: &Value, fault: MemberFault<Member>) -> TraceFault
+        ensures { result ≡ of_trace (view object.now) fault }
+    {
         match fault {
             MemberFault::Memory => TraceFault::Memory,
-            other => TraceFault::Object(ObjectFault::from(other)),
+            other => TraceFault::Object(ObjectFault::of_member(object, other)),
         }
     }
 }
 
-impl From<MemberFault<Member>> for LineFault {
-    ghost from_gives = { λ fault result. result ≡ of_line fault };
-
-    fn from(fault: MemberFault<Member>) -> LineFault {
+impl LineFault {
+    /// The fault of a line of whose object a member has one.
+    pub(crate) fn of_member(object: &Value, fault: MemberFault<Member>) -> LineFault
+        ensures { result ≡ of_line (view object.now) fault }
+    {
         match fault {
             MemberFault::Memory => LineFault::Memory,
-            other => LineFault::Object(ObjectFault::from(other)),
+            other => LineFault::Object(ObjectFault::of_member(object, other)),
         }
     }
 }

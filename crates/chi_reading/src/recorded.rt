@@ -1,7 +1,12 @@
 //! Traces that were read, and how one is.
 
 ghost use Rattle.std.specs.Prelude.{◌≡◌, ◌≢◌, [], IfErr, IfOk, None, Ok, Err};
-ghost use Rattle.serde_json.specs.View.{members_view, view};
+ghost use Rattle.std.specs.Result.{result_map_both};
+ghost use Rattle.serde_json.specs.Find.{as_array};
+ghost use Rattle.serde_json.specs.View.{items_view, members_view, view};
+ghost use Rattle.chi_json.specs.Members.{member_by, or_else};
+ghost use Rattle.chi_reading.specs.Faults.{of_trace};
+ghost use Rattle.chi_reading.specs.Member.{member_name};
 ghost use Rattle.chi_reading.specs.TraceText.{IsMemoryOf, IsOf, MemoryText, TextValue, cut_at, memory_text, object_text, region_memory, trace_text, wide_memory};
 
 use crate::fault::TraceFault;
@@ -11,7 +16,9 @@ use crate::other_kind::{is_of_event, unread_text};
 use crate::requests::{Found, all_completed};
 use crate::told::{region_words, stated_list};
 use chi_fields::{Refusal, Region};
-use chi_json::{ObjectFault, number, opening_words, stated, stated_words, unknown_member};
+use chi_json::{
+    MemberFault, ObjectFault, number, opening_words, stated, stated_words, unknown_member,
+};
 use chi_trace::{GranuleWords, Trace};
 use serde_json::{Map, Value};
 use std::alloc::{AllocError, Global};
@@ -123,20 +130,33 @@ struct Memory {
     final_words: GranuleWords,
 }
 
+/// What a member of a trace tells: its fault is the trace's.
+fn in_trace<T>(object: &Value, told: Result<T, MemberFault<Member>>) -> Result<T, TraceFault>
+    ensures { result ≡ or_else (of_trace (view object.now)) told }
+{
+    match told {
+        Ok(value) => Ok(value),
+        Err(fault) => Err(TraceFault::of_member(object, fault)),
+    }
+}
+
 /// The memory of a region.
 #[tactic(auto, unfolding(crate::specs::TraceText::region_memory))]
 fn region_memory(alloc: Global, object: &Value) -> Result<Memory, TraceFault>
     ensures ok { IfOk result (λ m. (t : MemoryText) × (region_memory (view object.now) ≡ Ok t) × IsMemoryOf t m) }
     ensures fault { IfErr result (λ f. f ≢ TraceFault.Memory → region_memory (view object.now) ≡ Err f) }
 {
-    let base = number(object, Member::Base, u64::MAX)?;
-    let granules = number(object, Member::Granules, 65535)? as u16;
+    let base = in_trace(object, number(object, Member::Base, u64::MAX))?;
+    let granules = in_trace(object, number(object, Member::Granules, 65535))? as u16;
     let region = match Region::new(base, granules) {
         Ok(region) => region,
         Err(fault) => return Err(TraceFault::RegionRefused(fault)),
     };
-    let image = opening_words(alloc, object, Member::Image, granules)?;
-    let final_words = stated_words(alloc, object, Member::Final, granules)?;
+    let image = in_trace(
+        object,
+        opening_words(alloc, object, Member::Image, granules),
+    )?;
+    let final_words = in_trace(object, stated_words(alloc, object, Member::Final, granules))?;
     let opening = region_words(alloc, base / 8, &image)?;
     let final_words = match final_words {
         Some(words) => region_words(alloc, base / 8, &words)?,
@@ -155,8 +175,8 @@ fn wide_memory(alloc: Global, object: &Value) -> Result<Memory, TraceFault>
     ensures ok { IfOk result (λ m. (t : MemoryText) × (wide_memory (view object.now) ≡ Ok t) × IsMemoryOf t m) }
     ensures fault { IfErr result (λ f. f ≢ TraceFault.Memory → wide_memory (view object.now) ≡ Err f) }
 {
-    let opening = stated_list(alloc, object, Member::Image)?;
-    let final_words = stated_list(alloc, object, Member::Final)?;
+    let opening = in_trace(object, stated_list(alloc, object, Member::Image))?;
+    let final_words = in_trace(object, stated_list(alloc, object, Member::Final))?;
     Ok(Memory {
         region: None,
         opening,
@@ -193,6 +213,16 @@ fn in_order(memory: Memory, found: Found) -> Result<Recorded, AllocError>
     }
 }
 
+/// The requests that a trace lists.
+fn requests_listed(object: &Value) -> Result<&[Value], MemberFault<Member>>
+    ensures { result_map_both (λ list. items_view list.now) (λ fault. fault) result ≡ member_by member_name Member.Requests as_array (view object.now) }
+{
+    match stated(object, Member::Requests)?.as_array() {
+        Some(list) => Ok(list.as_slice()),
+        None => Err(MemberFault::BadMember(Member::Requests)),
+    }
+}
+
 /// The trace that an object is.
 #[tactic(auto, unfolding(crate::specs::TraceText::object_text))]
 fn object_trace(
@@ -204,13 +234,11 @@ fn object_trace(
     ensures fault { IfErr result (λ f. f ≢ TraceFault.Memory → object_text (view object.now) (members_view members.now.entries) ≡ Err f) }
 {
     let memory = memory_told(alloc, object)?;
-    let Some(list) = stated(object, Member::Requests)?.as_array() else {
-        return Err(TraceFault::Object(ObjectFault::BadMember(Member::Requests)));
-    };
+    let list = in_trace(object, requests_listed(object))?;
     if let Some(name) = unknown_member(members, &[&TRACE]) {
         return Err(TraceFault::Object(ObjectFault::UnknownMember(name)));
     }
-    let found = all_completed(alloc, list.as_slice(), &memory.region)?;
+    let found = all_completed(alloc, list, &memory.region)?;
     let recorded = in_order(memory, found)?;
     Ok(recorded)
 }

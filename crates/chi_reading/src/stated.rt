@@ -133,7 +133,10 @@ pub(crate) fn stated_at(place: usize, value: &Value) -> Result<Stated, RequestFa
     let Some(members) = value.as_object() else {
         return Err(RequestFault::Object(ObjectFault::NotObject));
     };
-    let stated = request_stated(place, value)?;
+    let stated = match request_stated(place, value) {
+        Ok(stated) => stated,
+        Err(fault) => return Err(RequestFault::of_member(value, fault)),
+    };
     match unknown_member(members, stated.outcome.members()) {
         Some(name) => Err(RequestFault::Object(ObjectFault::UnknownMember(name))),
         None => Ok(stated),

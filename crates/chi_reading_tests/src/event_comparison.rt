@@ -1,7 +1,7 @@
 //! What a line tells, and its fault, beside what is wanted.
 
 use chi_events::EventKind;
-use chi_json::ObjectFault;
+use chi_json::{ObjectFault, ShownText, ShownValue};
 use chi_reading::{LineFault, Member, read_event};
 use chi_trace::{GranuleWord, RequestFields};
 use std::process::Abort;
@@ -70,4 +70,19 @@ pub(crate) fn assert_tells<R: AllocGlobal + Abort>(rt: &R, line: &str, want: Eve
 pub(crate) fn assert_fault<R: AllocGlobal + Abort>(rt: &R, line: &str, want: ObjectFault<Member>) {
     let fault = read_event(rt.alloc(), 4, line.as_bytes()).err();
     assert_eq!(*rt; fault, Some(LineFault::Object(want)), "{line}");
+}
+
+/// A text as a fault shows it.
+pub(crate) fn shown_text(text: &str) -> ShownValue {
+    ShownValue::Text(ShownText::of(text))
+}
+
+/// Compares the fault of line 4, of which a member has this value.
+pub(crate) fn assert_bad_member<R: AllocGlobal + Abort>(
+    rt: &R,
+    line: &str,
+    member: Member,
+    value: ShownValue,
+) {
+    assert_fault(rt, line, ObjectFault::BadMember { member, value });
 }

@@ -1,8 +1,9 @@
 //! The faults of a line, and their texts.
 
-use crate::event_comparison::assert_fault;
-use chi_json::{MemberName, ObjectFault};
-use chi_reading::Member;
+use crate::comparison::assert_same;
+use crate::event_comparison::{assert_bad_member, assert_fault, shown_text};
+use chi_json::{ObjectFault, ShownText, ShownValue};
+use chi_reading::{Member, read_event};
 use std::process::Abort;
 use std::test::Fail;
 
@@ -34,8 +35,11 @@ fn faults_and_their_texts(rt: HostRuntime) -> Result<(), Fail> {
         ),
         (
             r#"{"event":"Data"}"#,
-            ObjectFault::BadMember(Member::Event),
-            "member event is not the name of an event",
+            ObjectFault::BadMember {
+                member: Member::Event,
+                value: shown_text("Data"),
+            },
+            "member event is \"Data\", and not the name of an event",
         ),
         (
             r#"{"event":"data"}"#,
@@ -44,8 +48,11 @@ fn faults_and_their_texts(rt: HostRuntime) -> Result<(), Fail> {
         ),
         (
             r#"{"event":"data","time":18446744073709551616}"#,
-            ObjectFault::BadMember(Member::Time),
-            "member time is not a whole number below 2^64",
+            ObjectFault::BadMember {
+                member: Member::Time,
+                value: ShownValue::Number,
+            },
+            "member time is a number, and not a whole number below 2^64",
         ),
         (
             r#"{"event":"dropped","time":70}"#,
@@ -64,7 +71,7 @@ fn faults_and_their_texts(rt: HostRuntime) -> Result<(), Fail> {
         ),
         (
             r#"{"event":"dropped","time":70,"id":3,"note":0}"#,
-            ObjectFault::UnknownMember(MemberName::of("note")),
+            ObjectFault::UnknownMember(ShownText::of("note")),
             "has an unknown member note",
         ),
     ] {
@@ -76,65 +83,126 @@ fn faults_and_their_texts(rt: HostRuntime) -> Result<(), Fail> {
 
 #[test]
 fn bad_members(rt: HostRuntime) {
-    for (line, member) in [
-        (r#"{"event":7}"#, Member::Event),
-        (r#"{"event":"dropped","time":-1}"#, Member::Time),
-        (r#"{"event":"dropped","time":70,"id":0.5}"#, Member::Id),
+    for (line, member, value) in [
+        (r#"{"event":7}"#, Member::Event, ShownValue::Whole(7)),
+        (
+            r#"{"event":"dropped","time":-1}"#,
+            Member::Time,
+            ShownValue::Whole(-1),
+        ),
+        (
+            r#"{"event":"dropped","time":70,"id":0.5}"#,
+            Member::Id,
+            ShownValue::Number,
+        ),
         (
             r#"{"event":"data","time":70,"id":3,"be":65536}"#,
             Member::Be,
+            ShownValue::Whole(65536),
         ),
         (
             r#"{"event":"data","time":70,"id":3,"be":1,"lanes":"0g000000000000000000000000000000"}"#,
             Member::Lanes,
+            shown_text("0g000000000000000000000000000000"),
         ),
         (
             r#"{"event":"reply","time":70,"id":3,"reply":"Comp"}"#,
             Member::Reply,
+            shown_text("Comp"),
         ),
         (
             r#"{"event":"reply","time":70,"id":3,"reply":0}"#,
             Member::Reply,
+            ShownValue::Whole(0),
         ),
         (
             r#"{"event":"refused","time":70,"id":3,"reason":"misaligned"}"#,
             Member::Reason,
+            shown_text("misaligned"),
         ),
         (
             r#"{"event":"refused","time":70,"id":3,"reason":null}"#,
             Member::Reason,
+            ShownValue::Null,
         ),
         (
             r#"{"event":"word","time":70,"addr":4,"bytes":"0000000000000000"}"#,
             Member::Addr,
+            ShownValue::Whole(4),
         ),
         (
             r#"{"event":"word","time":70,"addr":4503599627370496,"bytes":"0000000000000000"}"#,
             Member::Addr,
+            ShownValue::Whole(4503599627370496),
         ),
         (
             r#"{"event":"word","time":70,"addr":8,"bytes":"00000000000000"}"#,
             Member::Bytes,
+            shown_text("00000000000000"),
         ),
         (
             r#"{"event":"word","time":70,"addr":8,"bytes":"0000000000000000","final":1}"#,
             Member::Final,
+            ShownValue::Whole(1),
         ),
         (
             r#"{"event":"unknown","time":70,"addr":0,"length":0}"#,
             Member::Length,
+            ShownValue::Whole(0),
         ),
         (
             r#"{"event":"unknown","time":70,"addr":0,"length":4097}"#,
             Member::Length,
+            ShownValue::Whole(4097),
         ),
         (
             r#"{"event":"unknown","time":70,"addr":4503599627366401,"length":4096}"#,
             Member::Length,
+            ShownValue::Whole(4096),
         ),
     ] {
-        assert_fault(&rt, line, ObjectFault::BadMember(member));
+        assert_bad_member(&rt, line, member, value);
     }
+}
+
+// Of a text the first 32 bytes are shown; what is no printing letter is a question mark for each byte.
+#[test]
+fn values_and_their_texts(rt: HostRuntime) -> Result<(), Fail> {
+    for (value, shown) in &[
+        ("null", "null"),
+        ("true", "true"),
+        ("false", "false"),
+        ("-1", "-1"),
+        ("-9223372036854775808", "-9223372036854775808"),
+        ("-9223372036854775809", "a number"),
+        ("18446744073709551616", "a number"),
+        ("0.5", "a number"),
+        ("1e1", "a number"),
+        (r#""""#, r#""""#),
+        (r#""0x1000""#, r#""0x1000""#),
+        (
+            r#""abcdefghijklmnopqrstuvwxyz012345""#,
+            r#""abcdefghijklmnopqrstuvwxyz012345""#,
+        ),
+        (
+            r#""abcdefghijklmnopqrstuvwxyz0123456""#,
+            r#""abcdefghijklmnopqrstuvwxyz012345...""#,
+        ),
+        (r#""a \u00e9~""#, r#""a???~""#),
+        ("[0]", "a list"),
+        (r#"{"id":0}"#, "an object"),
+    ] {
+        let line = format!(in rt.alloc(); "{{\"event\":\"dropped\",\"time\":70,\"id\":{value}}}")?;
+        let wanted = format!(in rt.alloc();
+            "member id is {shown}, and not a whole number below 2^64"
+        )?;
+        let found = match read_event(rt.alloc(), 4, line.as_bytes()) {
+            Ok(_) => String::new(rt.alloc()),
+            Err(fault) => format!(in rt.alloc(); "{fault}")?,
+        };
+        assert_same(&rt, found.as_str(), wanted.as_str());
+    }
+    Ok(())
 }
 
 // Missing members that the table above does not have.
@@ -189,7 +257,7 @@ fn members_of_other_events(rt: HostRuntime) {
         (r#"{"event":"dropped","time":70,"id":3,"x":0}"#, "x"),
         (r#"{"event":"dropped","time":70,"id":3,"":0}"#, ""),
     ] {
-        assert_fault(&rt, line, ObjectFault::UnknownMember(MemberName::of(name)));
+        assert_fault(&rt, line, ObjectFault::UnknownMember(ShownText::of(name)));
     }
 }
 
@@ -199,15 +267,24 @@ fn first_fault(rt: HostRuntime) {
     for (line, fault) in [
         (
             r#"{"note":0,"time":-1,"event":"write"}"#,
-            ObjectFault::BadMember(Member::Event),
+            ObjectFault::BadMember {
+                member: Member::Event,
+                value: shown_text("write"),
+            },
         ),
         (
             r#"{"note":0,"event":"data","lanes":"","id":-1,"time":70}"#,
-            ObjectFault::BadMember(Member::Id),
+            ObjectFault::BadMember {
+                member: Member::Id,
+                value: ShownValue::Whole(-1),
+            },
         ),
         (
             r#"{"note":0,"event":"data","lanes":"","id":1,"be":0,"time":70}"#,
-            ObjectFault::BadMember(Member::Lanes),
+            ObjectFault::BadMember {
+                member: Member::Lanes,
+                value: shown_text(""),
+            },
         ),
     ] {
         assert_fault(&rt, line, fault);

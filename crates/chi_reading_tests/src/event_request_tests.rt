@@ -1,8 +1,8 @@
 //! Requests with and without data.
 
-use crate::event_comparison::{assert_fault, assert_tells};
+use crate::event_comparison::{assert_bad_member, assert_fault, assert_tells, shown_text};
 use chi_events::{EventKind, Requested};
-use chi_json::ObjectFault;
+use chi_json::{ObjectFault, ShownValue};
 use chi_reading::Member;
 use chi_trace::RequestFields;
 
@@ -67,45 +67,54 @@ fn half_of_the_data(rt: HostRuntime) {
 
 #[test]
 fn bad_members(rt: HostRuntime) {
-    for (line, member) in [
+    for (line, member, value) in [
         (
             r#"{"time":70,"event":"request","id":-1,"src":0,"txn":0,"op":0,"size":0,"addr":0,"endian":0}"#,
             Member::Id,
+            ShownValue::Whole(-1),
         ),
         (
             r#"{"time":70,"event":"request","id":0,"src":65536,"txn":0,"op":0,"size":0,"addr":0,"endian":0}"#,
             Member::Src,
+            ShownValue::Whole(65536),
         ),
         (
             r#"{"time":70,"event":"request","id":0,"src":0,"txn":65536,"op":0,"size":0,"addr":0,"endian":0}"#,
             Member::Txn,
+            ShownValue::Whole(65536),
         ),
         (
             r#"{"time":70,"event":"request","id":0,"src":0,"txn":0,"op":256,"size":0,"addr":0,"endian":0}"#,
             Member::Opcode,
+            ShownValue::Whole(256),
         ),
         (
             r#"{"time":70,"event":"request","id":0,"src":0,"txn":0,"op":0,"size":8,"addr":0,"endian":0}"#,
             Member::Size,
+            ShownValue::Whole(8),
         ),
         (
             r#"{"time":70,"event":"request","id":0,"src":0,"txn":0,"op":0,"size":0,"addr":18446744073709551616,"endian":0}"#,
             Member::Addr,
+            ShownValue::Number,
         ),
         (
             r#"{"time":70,"event":"request","id":0,"src":0,"txn":0,"op":0,"size":0,"addr":0,"endian":2}"#,
             Member::Endian,
+            ShownValue::Whole(2),
         ),
         (
             r#"{"time":70,"event":"request","id":0,"src":0,"txn":0,"op":0,"size":0,"addr":0,"endian":0,"be":65536,"lanes":"00000000000000000000000000000000"}"#,
             Member::Be,
+            ShownValue::Whole(65536),
         ),
         (
             r#"{"time":70,"event":"request","id":0,"src":0,"txn":0,"op":0,"size":0,"addr":0,"endian":0,"be":1,"lanes":"0000000000000000000000000000000"}"#,
             Member::Lanes,
+            shown_text("0000000000000000000000000000000"),
         ),
     ] {
-        assert_fault(&rt, line, ObjectFault::BadMember(member));
+        assert_bad_member(&rt, line, member, value);
     }
 }
 

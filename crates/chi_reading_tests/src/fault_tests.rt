@@ -2,7 +2,18 @@
 
 use crate::comparison::assert_same;
 use crate::texts::{fault, without_requests, write_with};
+use std::process::Abort;
 use std::test::Fail;
+
+// Compares the fault of each trace without requests that has such members.
+fn assert_faults<R: AllocGlobal + Abort>(rt: &R, cases: &[(&str, &str)]) -> Result<(), Fail> {
+    for (members, wanted) in cases {
+        let text = without_requests(rt.alloc(), members)?;
+        let found = fault(rt.alloc(), &text)?;
+        assert_same(rt, (*members, found.as_str()), (*members, *wanted));
+    }
+    Ok(())
+}
 
 #[test]
 fn faults_of_the_text(rt: HostRuntime) -> Result<(), Fail> {
@@ -29,25 +40,59 @@ fn faults_of_the_text(rt: HostRuntime) -> Result<(), Fail> {
 
 #[test]
 fn faults_of_words_anywhere(rt: HostRuntime) -> Result<(), Fail> {
-    let cases = [
-        r#""image": "00", "#,
-        r#""image": [1], "#,
-        r#""image": [{"bytes": "0300000000000000"}], "#,
-        r#""image": [{"addr": 9, "bytes": "0300000000000000"}], "#,
-        r#""image": [{"addr": 4503599627370496, "bytes": "0300000000000000"}], "#,
-        r#""image": [{"addr": 8, "bytes": "03000000000000"}], "#,
-        r#""image": [{"addr": 8, "bytes": "0300000000000000"}, {"addr": 8, "bytes": "0300000000000000"}], "#,
+    let listed = "trace member image is a list, and not the words of granules";
+    let cases = &[
+        (
+            r#""image": "00", "#,
+            r#"trace member image is "00", and not the words of granules"#,
+        ),
+        (r#""image": [1], "#, listed),
+        (r#""image": [{"bytes": "0300000000000000"}], "#, listed),
+        (
+            r#""image": [{"addr": 9, "bytes": "0300000000000000"}], "#,
+            listed,
+        ),
+        (
+            r#""image": [{"addr": 4503599627370496, "bytes": "0300000000000000"}], "#,
+            listed,
+        ),
+        (
+            r#""image": [{"addr": 8, "bytes": "03000000000000"}], "#,
+            listed,
+        ),
+        (
+            r#""image": [{"addr": 8, "bytes": "0300000000000000"}, {"addr": 8, "bytes": "0300000000000000"}], "#,
+            listed,
+        ),
+        (
+            r#""final": {"addr": 8}, "#,
+            "trace member final is an object, and not the words of granules, or of a word true or false",
+        ),
     ];
-    for members in cases {
-        let text = without_requests(rt.alloc(), members)?;
-        let found = fault(rt.alloc(), &text)?;
-        assert_same(
-            &rt,
-            (members, found.as_str()),
-            (members, "trace member image is not the words of granules"),
-        );
-    }
-    Ok(())
+    assert_faults(&rt, cases)
+}
+
+#[test]
+fn faults_of_a_region(rt: HostRuntime) -> Result<(), Fail> {
+    let cases = &[
+        (
+            r#""base": "0x1000", "granules": 2, "#,
+            r#"trace member base is "0x1000", and not a whole number below 2^64"#,
+        ),
+        (
+            r#""base": 4096, "granules": 65536, "#,
+            "trace member granules is 65536, and not a whole number up to 65535",
+        ),
+        (
+            r#""base": 4096, "granules": 1, "image": [], "#,
+            "trace member image is a list, and not the words of granules",
+        ),
+        (
+            r#""base": 4096, "granules": 2, "final": "030000000000000000000000000000000", "#,
+            r#"trace member final is "03000000000000000000000000000000...", and not the words of granules, or of a word true or false"#,
+        ),
+    ];
+    assert_faults(&rt, cases)
 }
 
 #[test]
@@ -59,7 +104,7 @@ fn faults_of_a_request(rt: HostRuntime) -> Result<(), Fail> {
         ),
         (
             r#", "start": 5, "end": 9, "reply": "done""#,
-            "request 0 member reply is not comp, 32 hex digits or null",
+            r#"request 0 member reply is "done", and not comp, 32 hex digits or null"#,
         ),
         (
             r#", "end": 9, "reply": null"#,
@@ -67,7 +112,7 @@ fn faults_of_a_request(rt: HostRuntime) -> Result<(), Fail> {
         ),
         (
             r#", "start": 5, "end": null, "reply": null"#,
-            "request 0 member end is not a whole number below 2^64",
+            "request 0 member end is null, and not a whole number below 2^64",
         ),
         (
             r#", "start": 5, "end": 4, "reply": "comp""#,
@@ -75,7 +120,11 @@ fn faults_of_a_request(rt: HostRuntime) -> Result<(), Fail> {
         ),
         (
             r#", "src": 65536"#,
-            "request 0 member src is not a whole number up to 65535",
+            "request 0 member src is 65536, and not a whole number up to 65535",
+        ),
+        (
+            r#", "size": 8"#,
+            "request 0 member size is 8, and not a whole number up to 7",
         ),
         (
             r#", "addr": 4503599627370496, "start": 5"#,
@@ -113,7 +162,6 @@ fn reasons_of_refusals(rt: HostRuntime) -> Result<(), Fail> {
 #[test]
 fn faults_of_a_refused_request(rt: HostRuntime) -> Result<(), Fail> {
     let not_so = "request 0 is not refused so";
-    let not_as_stated = "request 0 member refused is not the name of a refusal";
     let cases = [
         (r#", "start": 5, "refused": "Misaligned""#, not_so),
         (
@@ -121,11 +169,26 @@ fn faults_of_a_refused_request(rt: HostRuntime) -> Result<(), Fail> {
             not_so,
         ),
         (r#", "start": 5, "end": 4, "refused": "Misaligned""#, not_so),
-        (r#", "start": 5, "refused": "misaligned""#, not_as_stated),
-        (r#", "start": 5, "refused": "Misaligned ""#, not_as_stated),
-        (r#", "start": 5, "refused": """#, not_as_stated),
-        (r#", "start": 5, "refused": null"#, not_as_stated),
-        (r#", "start": 5, "refused": 3"#, not_as_stated),
+        (
+            r#", "start": 5, "refused": "misaligned""#,
+            r#"request 0 member refused is "misaligned", and not the name of a refusal"#,
+        ),
+        (
+            r#", "start": 5, "refused": "Misaligned ""#,
+            r#"request 0 member refused is "Misaligned?", and not the name of a refusal"#,
+        ),
+        (
+            r#", "start": 5, "refused": """#,
+            r#"request 0 member refused is "", and not the name of a refusal"#,
+        ),
+        (
+            r#", "start": 5, "refused": null"#,
+            r#"request 0 member refused is null, and not the name of a refusal"#,
+        ),
+        (
+            r#", "start": 5, "refused": 3"#,
+            r#"request 0 member refused is 3, and not the name of a refusal"#,
+        ),
         (
             r#", "addr": 4097, "start": 5, "end": 9, "refused": "Misaligned""#,
             "",
@@ -216,19 +279,14 @@ fn members_that_a_request_does_not_have(rt: HostRuntime) -> Result<(), Fail> {
 
 #[test]
 fn members_that_a_trace_does_not_have(rt: HostRuntime) -> Result<(), Fail> {
-    let cases = [
+    let cases = &[
         (r#""finals": [], "#, "trace has an unknown member finals"),
         (r#""start": 5, "#, "trace has an unknown member start"),
         (
             r#""finals": [], "image": 0, "#,
-            "trace member image is not the words of granules",
+            "trace member image is 0, and not the words of granules",
         ),
         (r#""x-note": [], "base": 9, "#, ""),
     ];
-    for (members, wanted) in cases {
-        let text = without_requests(rt.alloc(), members)?;
-        let found = fault(rt.alloc(), &text)?;
-        assert_same(&rt, (members, found.as_str()), (members, wanted));
-    }
-    Ok(())
+    assert_faults(&rt, cases)
 }

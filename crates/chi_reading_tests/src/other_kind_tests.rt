@@ -1,6 +1,7 @@
 //! Tests of inputs of the other kind: a trace where events are wanted, and events where a trace is.
 
 use crate::comparison::assert_same;
+use crate::event_comparison::shown_text;
 use crate::texts::fault;
 use chi_json::ObjectFault;
 use chi_reading::{LineFault, Member, read_event};
@@ -21,7 +22,10 @@ fn traces_as_lines(rt: HostRuntime) {
         ),
         (
             r#"{"requests":[],"event":"none"}"#,
-            LineFault::Object(ObjectFault::BadMember(Member::Event)),
+            LineFault::Object(ObjectFault::BadMember {
+                member: Member::Event,
+                value: shown_text("none"),
+            }),
         ),
         (r#"["requests"]"#, LineFault::Object(ObjectFault::NotObject)),
     ] {

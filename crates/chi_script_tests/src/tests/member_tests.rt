@@ -2,7 +2,7 @@
 
 use crate::tests::comparison::assert_same;
 use chi_json::{
-    MemberFault, MemberName, ObjectFault, json, number, opening_words, stated_bytes, stated_words,
+    MemberFault, ObjectFault, ShownText, json, number, opening_words, stated_bytes, stated_words,
 };
 use chi_script::Member;
 use std::test::Fail;
@@ -50,19 +50,20 @@ fn texts_of_member_faults(rt: HostRuntime) -> Result<(), Fail> {
         let text = format!(in rt.alloc(); "{fault}")?;
         assert_same(&rt, text.as_str(), want);
     }
+    let object = json(rt.alloc(), OBJECT)?.expect(&rt, "JSON");
     for (fault, want) in [
         (ObjectFault::NotJson, "is not JSON"),
         (ObjectFault::NotObject, "is not an object"),
         (
-            ObjectFault::from(MemberFault::Missing(Member::Opcode)),
+            ObjectFault::of_member(&object, MemberFault::Missing(Member::Opcode)),
             "member op is missing",
         ),
         (
-            ObjectFault::from(MemberFault::BadMember(Member::Opcode)),
-            "member op is not as stated",
+            ObjectFault::of_member(&object, MemberFault::BadMember(Member::Opcode)),
+            "member op is 48, and not as stated",
         ),
         (
-            ObjectFault::UnknownMember(MemberName::of("ops")),
+            ObjectFault::UnknownMember(ShownText::of("ops")),
             "has an unknown member ops",
         ),
         (ObjectFault::Memory, "no memory"),

@@ -1,6 +1,7 @@
 -- the text's region and words, and that the words are theirs
-use Rattle.std.proofs.Common.{◌≡◌, ℕ, ◌/◌, List, Option, refl, sym}
+use Rattle.std.proofs.Common.{◌≡◌, ℕ, ◌/◌, List, Option, refl, sym, ◌∙◌}
 use Rattle.std.specs.Option.{option_map}
+use Rattle.chi_json.proofs.WalkLemmas.{at_ok, no_fault}
 use Rattle.chi_trace.specs.Words.{find_word}
 use Rattle.chi_reading.specs.TraceText.{region_final_words}
 use Rattle.chi_reading.proofs.RegionText.{region_text}
@@ -18,6 +19,9 @@ final_words c g = elim c.match-final_words-2.branch [
 
 pub returns-clause-ok : goal.returns-clause-ok
 returns-clause-ok c =
-    let says = region_text _ c.in_ok-base.base c.in_ok-granules.field-0 c.in-Ok.region c.in_ok-image.image.items (last_words c) (sym c.in_ok-base.ensures.value)
-    (sym c.in_ok-granules.ensures.value) (sym c.in-Ok.ensures) c.in_ok-image.ensures.ok c.in_ok-final_words.ensures.ok in
+    let base = sym c.number.ensures.value ∙ no_fault _ _ _ c.in_ok-base.ensures in
+    let granules = sym c.number-2.ensures.value ∙ no_fault _ _ _ c.in_ok-granules.ensures in
+    let image = at_ok _ _ _ (no_fault _ _ _ c.in_ok-image.ensures) c.opening_words.ensures.ok in
+    let finals = at_ok _ _ _ (no_fault _ _ _ c.in_ok-final_words.ensures) c.stated_words.ensures.ok in
+    let says = region_text _ c.in_ok-base.base c.in_ok-granules.field-0 c.in-Ok.region c.in_ok-image.image.items (last_words c) base granules (sym c.in-Ok.ensures) image finals in
     (_, says, record { region = refl; opening = λ g. rw (← c.deref.ensures.value) (c.in_ok-opening.ensures g); final_words = final_words c })

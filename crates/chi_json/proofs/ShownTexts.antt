@@ -1,11 +1,11 @@
--- the bytes that are kept of a name
+-- the bytes that are kept of a text
 use Rattle.std.proofs.Common.{◌≡◌, ℕ, ◌-◌, ◌≤◌, ◌<◌, min, Bool, true, false, nat_le, List, ◌++◌, length, replicate, take, drop, refl, arith}
 use Rattle.std.proofs.lemmas.Bool.{leb-false, leb-true}
 use Rattle.std.proofs.lemmas.List.{drop-replicate, take_all}
-use Rattle.chi_json.specs.declared.unknown.MemberName.{MemberName}
-use Rattle.chi_json.specs.Unknown.{kept_name}
+use Rattle.chi_json.specs.declared.shown.ShownText.{ShownText}
+use Rattle.chi_json.specs.Shown.{shown_text}
 
--- so many bytes of a name, and zeros after them
+-- so many bytes of a text, and zeros after them
 pub kept : (s : List ℕ) (count : ℕ) → count ≡ min (length s) 32 → take count s ++ drop count (replicate 32 0) ≡ take 32 s ++ replicate (32 - length s) 0
 kept s count is = by_length (nat_le (length s) 32) refl
   where
@@ -21,7 +21,7 @@ kept s count is = by_length (nat_le (length s) 32) refl
         let none : 32 - length s ≡ 0 = omega arith in
         rw (whole, none) refl
 
--- a name of these bytes and this length
-pub named : (s letters : List ℕ) (long : ℕ) → letters ≡ take 32 s ++ replicate (32 - length s) 0 → long ≡ length s
-    → ◌≡◌ {A = MemberName} (record { letters = letters; length = long }) (kept_name s)
-named s letters long is counts = rw (is, counts) refl
+-- a text of these bytes and this length
+pub shown : (s letters : List ℕ) (long : ℕ) → letters ≡ take 32 s ++ replicate (32 - length s) 0 → long ≡ length s
+    → ◌≡◌ {A = ShownText} (record { letters = letters; length = long }) (shown_text s)
+shown s letters long is counts = rw (is, counts) refl
