@@ -12,7 +12,7 @@ use Rattle.chi_trace.specs.declared.operation.Operation.{Operation}
 use Rattle.chi_trace.specs.declared.words.GranuleWord.{GranuleWord}
 use Rattle.chi_trace.specs.Words.{find_word, word_or_zero}
 use Rattle.chi_watch.specs.declared.followed.Followed.{Followed}
-use Rattle.chi_watch.specs.Changes.{IsForgotten, IsGone, IsSameOrUntouched, IsTouched, IsTouchedAndMarked, IsUnknownSince, IsUpdated}
+use Rattle.chi_watch.specs.Changes.{BecomesUnknownWhere, BecomesUnknown, IsSameOrUntouched, IsTouched, IsTouchedAndMarked, IsUnknownSince, IsUpdated}
 use Rattle.chi_watch.specs.Judged.{covers, final_in, final_words, opening_in, openings}
 use Rattle.chi_watch.specs.Requests.{StartsBy}
 use Rattle.chi_watch.specs.Watches.{IsGranuleOf, IsUntold, IsWatched, has_final_word}
@@ -137,19 +137,19 @@ module _ (events : List Event) (e : Event) (ended : List Operation) (o : Outstan
         subst (λ (x : Followed). Will g (Some x)) (sym same)
         (retold events e ended o g (Some before) (since_kept events e g earlier covered (sym w.since ∙ unknown)) (no_opening none g) (no_final none_final g) w)
 
-    gone : opening_in e.kind ≡ None → final_in e.kind ≡ None → (g : ℕ) → covers g e.kind ≡ true → (x y : Option Followed) → IsGone e.time x y → Is g x → Will g y
-    gone none none_final g covered x None was w = absurd was
-    gone none none_final g covered x (Some f) (before, was, since) w = cut_before_it none none_final g covered before f before.unknown_since refl since (watched x was w)
+    unknown : opening_in e.kind ≡ None → final_in e.kind ≡ None → (g : ℕ) → covers g e.kind ≡ true → (x y : Option Followed) → BecomesUnknown e.time x y → Is g x → Will g y
+    unknown none none_final g covered x None was w = absurd was
+    unknown none none_final g covered x (Some f) (before, was, since) w = cut_before_it none none_final g covered before f before.unknown_since refl since (watched x was w)
       where
         watched : (x : Option Followed) → IsSameOrUntouched 0 x before → Is g x → IsWatched events ended o g before
         watched None untouched untold = begun events ended o g 0 before untold.since untold.none (ap (λ (word : Option ℕ). unwrap_or word 0) untold.opening) untold.final_word untouched
         watched (Some old) same is = subst (IsWatched events ended o g) (sym same) is
 
-    forgotten : opening_in e.kind ≡ None → final_in e.kind ≡ None → ((g : ℕ) → IsForgotten (covers g e.kind) e.time (old g) (new g)) → (g : ℕ) → Will g (new g)
+    forgotten : opening_in e.kind ≡ None → final_in e.kind ≡ None → ((g : ℕ) → BecomesUnknownWhere (covers g e.kind) e.time (old g) (new g)) → (g : ℕ) → Will g (new g)
     forgotten none none_final all g = by_test (covers g e.kind) refl
       where
         by_test : (b : Bool) → covers g e.kind ≡ b → Will g (new g)
-        by_test true covered = gone none none_final g covered (old g) (new g) ((all g).gone covered) (each g)
+        by_test true covered = unknown none none_final g covered (old g) (new g) ((all g).unknown covered) (each g)
         by_test false other = moved g (old g) ((all g).same other) (passes none none_final g (old g) other (each g))
 
     stays : opening_in e.kind ≡ None → final_in e.kind ≡ None → ((g : ℕ) → covers g e.kind ≡ false) → ((g : ℕ) → new g ≡ old g) → (g : ℕ) → Will g (new g)
@@ -159,7 +159,7 @@ module _ (events : List Event) (e : Event) (ended : List Operation) (o : Outstan
     noted (Request r) is fits t = touched (ap opening_in is) (ap final_in is) (λ g. ap (covers g) is) (r.fields.addr / 8) t
     noted (Word w) is fits t = worded w is fits t
     noted (Final w) is fits t = ended_with w is fits t
-    noted (Unknown addr len) is fits t = forgotten (ap opening_in is) (ap final_in is) (λ g. subst (λ (k : EventKind). IsForgotten (covers g k) e.time (old g) (new g)) (sym is) (t g))
+    noted (Unknown addr len) is fits t = forgotten (ap opening_in is) (ap final_in is) (λ g. subst (λ (k : EventKind). BecomesUnknownWhere (covers g k) e.time (old g) (new g)) (sym is) (t g))
     noted (Data p) is fits t = stays (ap opening_in is) (ap final_in is) (λ g. ap (covers g) is) t
     noted (Reply c) is fits t = stays (ap opening_in is) (ap final_in is) (λ g. ap (covers g) is) t
     noted (Dropped id) is fits t = stays (ap opening_in is) (ap final_in is) (λ g. ap (covers g) is) t

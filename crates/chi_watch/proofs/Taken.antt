@@ -14,7 +14,7 @@ use Rattle.chi_trace.specs.Granules.{granule_of}
 use Rattle.chi_trace.specs.declared.operation.Operation.{Operation}
 use Rattle.chi_watch.specs.declared.followed.Followed.{Followed}
 use Rattle.chi_watch.specs.declared.fault.WatchFault.TheVariants as fault
-use Rattle.chi_watch.specs.Changes.{IsClosed, IsClosedBy, IsGone, IsUpdated, OthersStay}
+use Rattle.chi_watch.specs.Changes.{IsClosed, IsClosedBy, BecomesUnknown, IsUpdated, OthersStay}
 use Rattle.chi_watch.specs.Judged.{covers, unknown_since}
 use Rattle.chi_watch.specs.Requests.{granule_of_request}
 use Rattle.chi_watch.specs.Watches.{HasTaken, IsGranuleOf, Takes, WatchValue, Watches, granule, granule_fault, has_final_word}
@@ -64,12 +64,12 @@ module _ (old new : ℕ → Option Followed) where
   noted_some time (Final w) t g some = others_some w.granule (record t.followed { final_word = Some w.word }) t.is t.others g some
   noted_some time (Unknown addr len) t g some = by_test (covers g (Unknown addr len)) refl
     where
-      is_gone : (x y : Option Followed) → IsGone time x y → IsTrue (is_some y)
-      is_gone x None is = absurd is
-      is_gone x (Some f) is = refl
+      is_watched : (x y : Option Followed) → BecomesUnknown time x y → IsTrue (is_some y)
+      is_watched x None is = absurd is
+      is_watched x (Some f) is = refl
 
       by_test : (b : Bool) → covers g (Unknown addr len) ≡ b → IsTrue (is_some (new g))
-      by_test true covered = is_gone (old g) (new g) ((t g).gone covered)
+      by_test true covered = is_watched (old g) (new g) ((t g).unknown covered)
       by_test false other = ap is_some ((t g).same other) ∙ some
   noted_some time (Data p) t g some = ap is_some (t g) ∙ some
   noted_some time (Reply c) t g some = ap is_some (t g) ∙ some

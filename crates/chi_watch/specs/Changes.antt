@@ -53,14 +53,14 @@ pub record IsTold (op : Operation) (horizon : ℕ) (old new : Followed) : Type 0
   pub since : new.unknown_since ≡ old.unknown_since
 
 -- the operation was told of its granule, where it can be
-pub record IsToldIfItCan (op : Operation) (horizon : ℕ) (old new : Followed) : Type 0 where
+pub record IsToldWherePossible (op : Operation) (horizon : ℕ) (old new : Followed) : Type 0 where
   pub told : CanEnd horizon old op → IsTold op horizon old new
   pub final_word : new.final_word ≡ old.final_word
 
 abbrev pub IsClosed : Operation → ℕ → Option Followed → Option Followed → Type 0
 IsClosed op horizon None new = new ≡ None
 IsClosed op horizon (Some old) None = ⊥
-IsClosed op horizon (Some old) (Some new) = IsToldIfItCan op horizon old new
+IsClosed op horizon (Some old) (Some new) = IsToldWherePossible op horizon old new
 
 pub record HasOneMore (op : Operation) (horizon : ℕ) (old new : ℕ → Option Followed) : Type 0 where
   pub others : OthersStay old new (granule_of op)
@@ -100,25 +100,25 @@ IsUnknownSince None time old new = IsCutBefore time old new
 IsUnknownSince (Some earlier) time old new = new ≡ old
 
 -- the same of a granule that is watched from now on, where it was not before
-abbrev pub IsGone : ℕ → Option Followed → Option Followed → Type 0
-IsGone time old None = ⊥
-IsGone time old (Some new) = (before : Followed) × IsSameOrUntouched 0 old before × IsUnknownSince before.unknown_since time before new
+abbrev pub BecomesUnknown : ℕ → Option Followed → Option Followed → Type 0
+BecomesUnknown time old None = ⊥
+BecomesUnknown time old (Some new) = (before : Followed) × IsSameOrUntouched 0 old before × IsUnknownSince before.unknown_since time before new
 
 -- one granule was changed so, and no other
-pub record IsGoneAt (g time : ℕ) (old new : ℕ → Option Followed) : Type 0 where
+pub record GranuleBecomesUnknown (g time : ℕ) (old new : ℕ → Option Followed) : Type 0 where
   pub others : OthersStay old new g
-  pub gone : IsGone time (old g) (new g)
+  pub unknown : BecomesUnknown time (old g) (new g)
 
-pub record IsForgotten (covered : Bool) (time : ℕ) (old new : Option Followed) : Type 0 where
+pub record BecomesUnknownWhere (covered : Bool) (time : ℕ) (old new : Option Followed) : Type 0 where
   pub same : covered ≡ false → new ≡ old
-  pub gone : covered ≡ true → IsGone time old new
+  pub unknown : covered ≡ true → BecomesUnknown time old new
 
 -- what is noted of the granules by an event of this time
 abbrev pub IsUpdated : ℕ → EventKind → (ℕ → Option Followed) → (ℕ → Option Followed) → Type 0
 IsUpdated time (Request r) old new = IsTouched old new (r.fields.addr / 8) 0
 IsUpdated time (Word told) old new = IsTouched old new told.granule told.word
 IsUpdated time (Final told) old new = IsTouchedAndMarked told.granule (λ f. record f { final_word = Some told.word }) old new
-IsUpdated time (Unknown addr len) old new = (g : ℕ) → IsForgotten (covers g (Unknown addr len)) time (old g) (new g)
+IsUpdated time (Unknown addr len) old new = (g : ℕ) → BecomesUnknownWhere (covers g (Unknown addr len)) time (old g) (new g)
 IsUpdated time _ old new = (g : ℕ) → new g ≡ old g
 
 -- the bytes that are unknown lie below 2^52

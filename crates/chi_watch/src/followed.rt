@@ -45,7 +45,11 @@ pub(crate) fn judged_word(followed: &Followed) -> Option<u64>
 }
 
 /// Tells that something which is not told may have written to the granule from this time on.
-pub(crate) fn leave(alloc: Global, followed: &mut Followed, time: u64) -> Result<(), AllocError>
+pub(crate) fn tell_unknown(
+    alloc: Global,
+    followed: &mut Followed,
+    time: u64,
+) -> Result<(), AllocError>
     ensures { IfOk result (λ _. IsUnknownSince followed.old.unknown_since time followed.old followed.new) }
 {
     if followed.unknown_since.is_none() {

@@ -4,11 +4,11 @@ ghost use Rattle.std.specs.Prelude.{◌≡◌, ℕ, ◌+◌, ◌^◌, ◌≤◌,
 ghost use Rattle.std.specs.BTreeMap.{get};
 ghost use Rattle.std.specs.Ordering.{nat_cmp};
 ghost use Rattle.chi_trace.specs.Granules.{granule_of};
-ghost use Rattle.chi_watch.specs.Changes.{HasOneMore, IsGoneAt, IsMarked, IsTouched, IsTouchedAndMarked};
+ghost use Rattle.chi_watch.specs.Changes.{HasOneMore, GranuleBecomesUnknown, IsMarked, IsTouched, IsTouchedAndMarked};
 ghost use Rattle.chi_search.specs.Looks.{LookedSome};
 ghost use Rattle.chi_watch.specs.declared.followed.Followed.{Followed};
 
-use crate::followed::{Followed, leave, tell, untouched};
+use crate::followed::{Followed, tell, tell_unknown, untouched};
 use chi_search::Progress;
 use chi_trace::Operation;
 use std::alloc::{AllocError, Global};
@@ -74,17 +74,17 @@ pub(crate) fn tell_last(
 }
 
 /// Tells that something that is not told may have written to a granule from this time on.
-pub(crate) fn leave_one(
+pub(crate) fn tell_unknown_at(
     alloc: Global,
     granules: &mut BTreeMap<u64, Followed>,
     granule: u64,
     time: u64,
 ) -> Result<(), AllocError>
-    ensures { IfOk result (λ _. IsGoneAt granule time (get nat_cmp granules.old) (get nat_cmp granules.new)) }
+    ensures { IfOk result (λ _. GranuleBecomesUnknown granule time (get nat_cmp granules.old) (get nat_cmp granules.new)) }
 {
     touch(alloc, granules, granule, 0)?;
     match granules.get_mut(&granule) {
-        Some(followed) => leave(alloc, followed, time),
+        Some(followed) => tell_unknown(alloc, followed, time),
         None => Ok(()),
     }
 }

@@ -4,17 +4,17 @@ ghost use Rattle.std.specs.Prelude.{ℕ, ◌+◌, ◌^◌, ◌<◌, ◌≤◌, I
 ghost use Rattle.std.specs.BTreeMap.{get};
 ghost use Rattle.std.specs.Ordering.{nat_cmp};
 ghost use Rattle.chi_events.specs.declared.event.EventKind.{EventKind};
-ghost use Rattle.chi_watch.specs.Changes.{HasLength, IsForgotten, IsUpdated};
+ghost use Rattle.chi_watch.specs.Changes.{HasLength, BecomesUnknownWhere, IsUpdated};
 ghost use Rattle.chi_watch.specs.Judged.{covers};
 
 use crate::followed::Followed;
-use crate::granules::{leave_one, tell_last, touch};
+use crate::granules::{tell_last, tell_unknown_at, touch};
 use chi_events::EventKind;
 use std::alloc::{AllocError, Global};
 use std::collections::BTreeMap;
 
 /// Tells that something that is not told may have written to the granules of so many bytes from an address on, from this time on.
-fn leave_each(
+fn tell_each_unknown(
     alloc: Global,
     granules: &mut BTreeMap<u64, Followed>,
     addr: u64,
@@ -22,11 +22,11 @@ fn leave_each(
     time: u64,
 ) -> Result<(), AllocError>
     requires { (0 < length) × (addr + length ≤ 2 ^ 52) }
-    ensures { IfOk result (λ _. (g : ℕ) → IsForgotten (covers g (EventKind.Unknown addr length)) time (get nat_cmp granules.old g) (get nat_cmp granules.new g)) }
+    ensures { IfOk result (λ _. (g : ℕ) → BecomesUnknownWhere (covers g (EventKind.Unknown addr length)) time (get nat_cmp granules.old g) (get nat_cmp granules.new g)) }
 {
     let end = (addr + length - 1) / 8 + 1;
     for granule in addr / 8..end {
-        leave_one(alloc, granules, granule, time)?;
+        tell_unknown_at(alloc, granules, granule, time)?;
     }
     Ok(())
 }
@@ -45,7 +45,9 @@ pub(crate) fn update_granules(
         EventKind::Request(request) => touch(alloc, granules, request.fields.addr / 8, 0),
         EventKind::Word(told) => touch(alloc, granules, told.granule, told.word),
         EventKind::Final(told) => tell_last(alloc, granules, told.granule, told.word),
-        EventKind::Unknown { addr, length } => { leave_each(alloc, granules, *addr, *length, time) }
+        EventKind::Unknown { addr, length } => {
+            tell_each_unknown(alloc, granules, *addr, *length, time)
+        }
         _ => Ok(()),
     }
 }
