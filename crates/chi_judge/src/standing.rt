@@ -80,6 +80,7 @@ impl Judge {
         ensures explained { IfOk result (λ s. IfExplained s (IsExplainable self.now final_word)) }
         ensures unexplained { IfOk result (λ s. IfUnexplained s (IsInexplicable self.now final_word)) }
         ensures undecided { IfOk result (λ s. IfUndecided s (LookedMore P.looked progress.old progress.new budget)) }
+        ensures goes_on { IfOk result (λ s. IfUndecided s (self.now.is_stopped ≡ false)) }
         ensures looked { IfOk result (λ _. LookedSome P.looked progress.old progress.new) }
     {
         granules_stand_alone();

@@ -35,28 +35,6 @@ fn list(listed: &mut Listed, granule: u64, standing: Standing) -> Result<(), All
     Ok(())
 }
 
-/// Whether what is judged of a granule can be explained. Where its judge has stopped, it cannot.
-fn standing_of<P: Progress>(
-    alloc: Global,
-    followed: &Followed,
-    budget: u64,
-    progress: &mut P,
-) -> Result<Standing, AllocError>
-    ensures explained { IfOk result (λ s. IfExplained s (IsExplainable followed.now)) }
-    ensures unexplained { IfOk result (λ s. IfUnexplained s (IsInexplicable followed.now)) }
-    ensures undecided { IfOk result (λ s. IfUndecided s (LookedMore P.looked progress.old progress.new budget)) }
-    ensures goes_on { IfOk result (λ s. IfUndecided s (followed.now.judge.is_stopped ≡ false)) }
-    ensures looked { IfOk result (λ _. LookedSome P.looked progress.old progress.new) }
-{
-    granules_stand_alone();
-    if followed.judge.is_stopped() {
-        return Ok(Standing::Unexplained);
-    }
-    followed
-        .judge
-        .check(alloc, judged_word(followed), budget, progress)
-}
-
 /// Judges each granule, as far as all that wrote to it is told.
 pub(crate) fn judge_all<P: Progress>(
     alloc: Global,
@@ -76,7 +54,9 @@ pub(crate) fn judge_all<P: Progress>(
         undecided: Vec::new(alloc),
     };
     for (granule, followed) in granules {
-        let standing = standing_of(alloc, followed, budget, progress)?;
+        let standing = followed
+            .judge
+            .check(alloc, judged_word(followed), budget, progress)?;
         list(&mut listed, *granule, standing)?;
     }
     Ok(listed)
