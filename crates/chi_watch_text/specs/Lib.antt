@@ -6,5 +6,6 @@ pub mod ReachTexts
 pub mod Recorded
 pub mod Reading
 pub mod Required
+pub mod Saved
 pub mod Telling
 pub mod Texts

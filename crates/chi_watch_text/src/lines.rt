@@ -13,7 +13,7 @@ use std::alloc::Global;
 use std::io::{BufRead, ErrorKind};
 
 /// Reads the next line. At the end it is empty.
-fn next_line<R: BufRead>(from: &mut R, line: &mut Vec<u8>) -> Result<(), LinesFault>
+pub(crate) fn next_line<R: BufRead>(from: &mut R, line: &mut Vec<u8>) -> Result<(), LinesFault>
     ensures line { IfOk result (λ _. IfSome (R.remaining from.old) (λ text. (line.new.items ≡ take_through 10 text) × (R.remaining from.new ≡ Some (drop_through 10 text)))) }
     ensures fault { IfErr result (λ fault. (fault ≡ LinesFault.Read) ⊎ (fault ≡ LinesFault.Memory)) }
 {
@@ -53,7 +53,7 @@ fn is_at_end<R: BufRead>(from: &mut R, line: &mut Vec<u8>) -> Result<bool, Lines
 }
 
 /// The event that the line with this number tells.
-fn event_told(alloc: Global, line: &[u8], number: u64) -> Result<Event, LinesFault>
+pub(crate) fn event_told(alloc: Global, line: &[u8], number: u64) -> Result<Event, LinesFault>
     ensures told { IfOk result (λ event. event_text number line.now ≡ Ok event) }
     ensures fault { IfErr result (IsRefused line.now number) }
 {

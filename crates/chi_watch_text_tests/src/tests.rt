@@ -10,5 +10,6 @@ mod reach_text_tests;
 mod reader_tests;
 mod recorded_tests;
 mod required_tests;
+mod saved_tests;
 mod text_tests;
 mod verdict_tests;
