@@ -1,5 +1,6 @@
 pub mod AllRead
 pub mod Blank
+pub mod KeptLines
 pub mod KnownWords
 pub mod Recordings
 pub mod Refused

@@ -1,7 +1,8 @@
 -- one line more
-use Rattle.std.proofs.Common.{◌≡◌, ◌≢◌, ℕ, ◌≤◌, filter, get_or, not, ◌==◌, ◌||◌, ◌⊎◌, ◌+◌, ◌<◌, List, [], ◌∷◌, ◌++◌, All, Option, None, Some, IfErr, IfSome, inl, inr, Ok, Err, Result, IsErrAnd, Bool, true, false, true≢false, eq-eqb, length, length-append, refl, sym, ap, subst, ◌∙◌, arith}
+use Rattle.std.proofs.Common.{◌≡◌, ◌≢◌, ℕ, ◌≤◌, filter, get_or, not, ◌==◌, ◌||◌, ◌⊎◌, ◌+◌, ◌<◌, List, [], ◌∷◌, ◌++◌, All, Option, None, Some, IfErr, IfSome, inl, inr, Ok, Err, Result, IsErrAnd, Bool, Vec, true, false, true≢false, eq-eqb, length, length-append, refl, sym, ap, subst, ◌∙◌, arith}
 use Rattle.std.specs.List.{AllPairs, Contains, last_or}
 use Rattle.std.specs.Option.{option_map_or}
+use Rattle.std.specs.declared.alloc.Global.{Global}
 use Rattle.std.proofs.lemmas.List.Elements.{All-cons, All-contains, All-contains_itself, All-filter, All-nil, All-push, All-weaker, Contains-get_or}
 use Rattle.std.proofs.lemmas.List.{get_or_push}
 use Rattle.std.proofs.lemmas.List.Quantifiers.{all_pairs_push}
@@ -25,6 +26,7 @@ use Rattle.chi_watch_text.specs.Lines.{AreEvents, AreLines, AreTold}
 use Rattle.chi_watch_text.specs.declared.quiet.Quiet.{Quiet}
 use Rattle.chi_watch_text.specs.declared.watched.FoundGranule.{FoundGranule}
 use Rattle.chi_watch_text.specs.declared.watched.Watched.{Watched}
+use Rattle.chi_watch_text.specs.Kept.{AreKept, AreKeptOf}
 use Rattle.chi_watch_text.specs.Outcomes.{AreAsFar, AreTaken, AreUnreached, EndsAt, HasTakenLines, IsFoundBy, IsPast, IsQuietBy, IsSeenBy, IsSettled, IsStillFound, IsTold, IsUnreached, IsWatched, ReachedBy, SaysAtEnd, SaysOf, TakesEvent, WentBy}
 use Rattle.chi_watch_text.specs.Reading.{IsRead}
 use Rattle.chi_watch_text.proofs.Refused.{TookLines}
@@ -256,12 +258,12 @@ says_of w events has ending says = record {
 }
 
 -- what is said of the text where it ends at its end
-pub at_end : (start now later : Option (List ℕ)) (count number time : ℕ) (ended : Bool) (found : List FoundGranule) (quiet : List Quiet) (going : Bool) (w : WatchValue) (watched : Watched) → HasTakenLines start count time ended found quiet w now
-    → IfSome now (λ text. IsRead number text None later) → AllPairs (λ a b. a.granule ≢ b.granule) found → (going ≡ false → found ≡ []) → IsTold w found ended watched → watched.ending ≢ None
-    → IfSome watched.ending (SaysAtEnd w) → IfSome start (λ text. IsWatched text going watched)
-at_end None now later count number time ended found quiet going w watched has read once first told some says = tt
-at_end (Some text) None later count number time ended found quiet going w watched has read once first told some says = absurd has
-at_end (Some text) (Some rest) later count number time ended found quiet going w watched has read once first told some says = record {
+pub at_end : (start now later : Option (List ℕ)) (count number time : ℕ) (ended : Bool) (found : List FoundGranule) (quiet : List Quiet) (going : Bool) (w : WatchValue) (kept : Option (Vec ℕ Global)) (watched : Watched) → HasTakenLines start count time ended found quiet w now
+    → IfSome now (λ text. IsRead number text None later) → AllPairs (λ a b. a.granule ≢ b.granule) found → (going ≡ false → found ≡ []) → IsTold w found ended kept watched → watched.ending ≢ None
+    → IfSome watched.ending (SaysAtEnd w) → AreKeptOf start kept now → IfSome start (λ text. IsWatched text going watched)
+at_end None now later count number time ended found quiet going w kept watched has read once first told some says are_kept = tt
+at_end (Some text) None later count number time ended found quiet going w kept watched has read once first told some says are_kept = absurd has
+at_end (Some text) (Some rest) later count number time ended found quiet going w kept watched has read once first told some says are_kept = record {
   events = has.events;
   count = count;
   rest = rest;
@@ -275,6 +277,7 @@ at_end (Some text) (Some rest) later count number time ended found quiet going w
   granules = told.granules;
   unjudged_is = told.unjudged_is;
   ended_is = told.ended_is ∙ has.ended_is;
+  kept = subst (λ (o : Option (Vec ℕ Global)). AreKept text o rest) (sym told.kept_is) are_kept;
 }
   where
     by_ending : (o : Option Ending) → o ≢ None → IfSome o (SaysAtEnd w) → EndsAt going count rest has.events found o
@@ -282,13 +285,13 @@ at_end (Some text) (Some rest) later count number time ended found quiet going w
     by_ending (Some ending) is_some said = (read, says_of w has.events has.taken ending said, first)
 
 -- what is said of the text where it stops
-pub at_stop : (start now later : Option (List ℕ)) (count number time : ℕ) (ended : Bool) (found : List FoundGranule) (quiet : List Quiet) (going is_past : Bool) (w : WatchValue) (next : Option Event) (watched : Watched)
+pub at_stop : (start now later : Option (List ℕ)) (count number time : ℕ) (ended : Bool) (found : List FoundGranule) (quiet : List Quiet) (going is_past : Bool) (w : WatchValue) (next : Option Event) (kept : Option (Vec ℕ Global)) (watched : Watched)
     → HasTakenLines start count time ended found quiet w now → number ≡ count + 1 → IfSome now (λ text. IsRead number text next later) → (is_past ≡ true → IfSome next (λ e. time < e.time))
-    → AllPairs (λ a b. a.granule ≢ b.granule) found → (is_past ≡ true) × (going ≡ false) × (0 < length found) → IsTold w found ended watched → watched.ending ≡ None
-    → IfSome start (λ text. IsWatched text going watched)
-at_stop None now later count number time ended found quiet going is_past w next watched has here read after once stops told none = tt
-at_stop (Some text) None later count number time ended found quiet going is_past w next watched has here read after once stops told none = absurd has
-at_stop (Some text) (Some rest) later count number time ended found quiet going is_past w next watched has here read after once stops told none = record {
+    → AllPairs (λ a b. a.granule ≢ b.granule) found → (is_past ≡ true) × (going ≡ false) × (0 < length found) → IsTold w found ended kept watched → watched.ending ≡ None
+    → AreKeptOf start kept now → IfSome start (λ text. IsWatched text going watched)
+at_stop None now later count number time ended found quiet going is_past w next kept watched has here read after once stops told none are_kept = tt
+at_stop (Some text) None later count number time ended found quiet going is_past w next kept watched has here read after once stops told none are_kept = absurd has
+at_stop (Some text) (Some rest) later count number time ended found quiet going is_past w next kept watched has here read after once stops told none are_kept = record {
   events = has.events;
   count = count;
   rest = rest;
@@ -303,6 +306,7 @@ at_stop (Some text) (Some rest) later count number time ended found quiet going 
   granules = told.granules;
   unjudged_is = told.unjudged_is;
   ended_is = told.ended_is ∙ has.ended_is;
+  kept = subst (λ (o : Option (Vec ℕ Global)). AreKept text o rest) (sym told.kept_is) are_kept;
 }
 
 -- and what was found by then

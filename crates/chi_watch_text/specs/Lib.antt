@@ -1,4 +1,5 @@
 pub mod FoundGranule
+pub mod Kept
 pub mod Lines
 pub mod Operations
 pub mod Outcomes

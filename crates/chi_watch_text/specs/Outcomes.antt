@@ -1,6 +1,7 @@
 -- what comes of events that are read line by line
-use Rattle.std.specs.Prelude.{◌≡◌, ◌≢◌, ℕ, ◌+◌, ◌<◌, ◌≤◌, ◌⊎◌, Bool, true, false, List, [], ◌∷◌, ◌++◌, All, length, Option, None, Some, IfSome, Result, Ok, Err}
+use Rattle.std.specs.Prelude.{◌≡◌, ◌≢◌, ℕ, ◌+◌, ◌<◌, ◌≤◌, ◌⊎◌, Bool, true, false, List, [], ◌∷◌, ◌++◌, All, length, Option, None, Some, IfSome, Result, Ok, Err, Vec}
 use Rattle.std.specs.List.{AllPairs, Contains}
+use Rattle.std.specs.declared.alloc.Global.{Global}
 use Rattle.std.specs.Io.BufRead.{take_through}
 use Rattle.chi_reading.specs.EventText.{event_text}
 use Rattle.chi_events.specs.Ended.{are_ended}
@@ -17,6 +18,7 @@ use Rattle.chi_watch.specs.Watches.{HasTaken, IsUnexplained, WatchValue, fault_o
 use Rattle.chi_watch.specs.declared.ending.Ending.{Ending}
 use Rattle.chi_watch.specs.declared.undecided.UndecidedAtEnd.{UndecidedAtEnd}
 use Rattle.chi_watch_text.specs.FoundGranule.{is_found}
+use Rattle.chi_watch_text.specs.Kept.{AreKept}
 use Rattle.chi_watch_text.specs.Lines.{AreTold, is_blank}
 use Rattle.chi_watch_text.specs.declared.fault.LinesFault.{LinesFault}
 use Rattle.chi_watch_text.specs.declared.fault.LinesFault.TheVariants as fault
@@ -105,7 +107,7 @@ abbrev pub EndsAt : Bool → ℕ → List ℕ → List Event → List FoundGranu
 EndsAt going count rest events found (Some ending) = (is_blank rest ≡ true) × SaysOf events ending × (going ≡ false → found ≡ [])
 EndsAt going count rest events found None = (going ≡ false) × (0 < length found) × IsPast count events rest
 
--- What is found of a text: of so many lines, which tell events that a watch takes.
+-- What is found of a text: of so many lines, which tell events that a watch takes. Where lines are kept, these are.
 pub record IsWatched (text : List ℕ) (going : Bool) (w : Watched) : Type 0 where
   pub events : List Event
   pub count : ℕ
@@ -120,6 +122,7 @@ pub record IsWatched (text : List ℕ) (going : Bool) (w : Watched) : Type 0 whe
   pub granules : w.counts.granules ≡ length watch.granules
   pub unjudged_is : w.unjudged ≡ unjudged watch
   pub ended_is : w.is_ended ≡ are_ended events
+  pub kept : AreKept text w.kept rest
 
 -- why a text is watched no further: the first line that is not taken
 abbrev pub IsLinesFault : List ℕ → LinesFault → Type 0
@@ -142,12 +145,13 @@ IsOutcome text going (Ok watched) = IsWatched text going watched
 IsOutcome text going (Err unfinished) = IsWatchingFault text unfinished.fault × All (IsFoundBy text) unfinished.found.items
 
 -- what a watch says once its events have ended, or where it stops
-pub record IsTold (w : WatchValue) (found : List FoundGranule) (ended : Bool) (watched : Watched) : Type 0 where
+pub record IsTold (w : WatchValue) (found : List FoundGranule) (ended : Bool) (kept : Option (Vec ℕ Global)) (watched : Watched) : Type 0 where
   pub found_is : watched.found.items ≡ found
   pub counted : (events : List Event) → HasTaken events w → AreCounted events watched.counts
   pub granules : watched.counts.granules ≡ length w.granules
   pub unjudged_is : watched.unjudged ≡ unjudged w
   pub ended_is : watched.is_ended ≡ ended
+  pub kept_is : watched.kept ≡ kept
 
 -- what is said of the events that a watch took
 pub record SaysAtEnd (w : WatchValue) (ending : Ending) : Type 0 where

@@ -2,6 +2,7 @@
 #![tactic(auto)]
 
 mod fault;
+mod kept;
 mod lines;
 mod operations;
 mod options;

@@ -72,6 +72,7 @@ pub(crate) fn next_event<R: BufRead>(
     number: u64,
 ) -> Result<Option<Event>, LinesFault>
     ensures told { IfOk result (λ event. IfSome (R.remaining from.old) (λ text. IsRead number text event (R.remaining from.new))) }
+    ensures line { IfOk result (λ event. IfSome event (λ _. IfSome (R.remaining from.old) (λ text. line.new.items ≡ take_through 10 text))) }
     ensures fault { IfErr result (λ fault. IfSome (R.remaining from.old) (λ text. IsRefused (take_through 10 text) number fault)) }
 {
     next_line(from, line)?;

@@ -3,10 +3,11 @@
 use crate::required::Required;
 
 /// How events are watched. `budget` is how many states are looked at for an answer. With `keep_going` a granule that no order
-/// explains does not end it. `required` changes nothing of what is found.
+/// explains does not end it. With `keep_lines` the lines that are taken are kept. `required` changes nothing of what is found.
 #[derive(Clone, Copy, Debug, PartialEq, Eq)]
 pub struct WatchOptions {
     pub budget: u64,
     pub keep_going: bool,
+    pub keep_lines: bool,
     pub required: Required,
 }

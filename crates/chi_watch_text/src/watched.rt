@@ -20,7 +20,7 @@ pub struct FoundGranule {
 /// What is found of events that are read line by line: granules that no order explains, each with the line by which that was first
 /// seen; what is said where the events end, or nothing where it stopped at the line of the last granule found; and how much was
 /// told. `unjudged` is of how many granules that were told of nothing is said. `is_ended` is whether the last line that was taken
-/// tells the end.
+/// tells the end. `kept` is the lines that were taken, as they stand one after the other, where they are kept.
 #[derive(Debug, Drop)]
 pub struct Watched {
     pub found: Vec<FoundGranule>,
@@ -28,6 +28,7 @@ pub struct Watched {
     pub counts: Counts,
     pub unjudged: u64,
     pub is_ended: bool,
+    pub kept: Option<Vec<u8>>,
 }
 
 /// Why events are watched no further, and the granules that were found by then: each that no order explains, with the line by which

@@ -1,6 +1,6 @@
 //! Events that are read line by line and watched.
 
-ghost use Rattle.std.specs.Prelude.{◌≡◌, ◌≢◌, ◌<◌, ◌≤◌, ◌⊎◌, ℕ, [], List, All, None, true, false, IfErr, IfOk, IfSome, IsSomeAnd, flat_map, length};
+ghost use Rattle.std.specs.Prelude.{◌≡◌, ◌≢◌, ◌<◌, ◌≤◌, ◌⊎◌, ℕ, [], List, All, None, true, false, IfErr, IfOk, IfSome, IsSomeAnd, flat_map, is_some, length};
 ghost use Rattle.std.specs.Io.KnownBytes.{Appends};
 ghost use Rattle.chi_script.specs.WriterBytes.{AppendsFront};
 ghost use Rattle.chi_events.specs.Ended.{is_end};
@@ -12,6 +12,7 @@ ghost use Rattle.chi_watch_text.specs.Outcomes.{IsEventFault, IsFoundBy, IsOutco
 ghost use Rattle.chi_watch_text.specs.Texts.{found_text};
 
 use crate::fault::LinesFault;
+use crate::kept::{keep_line, nothing_kept};
 use crate::lines::next_event;
 use crate::options::WatchOptions;
 use crate::progress::WatchProgress;
@@ -73,8 +74,14 @@ fn is_end(event: &Event) -> bool
 }
 
 /// What is said where it stops.
-fn stopped(alloc: Global, watch: &Watch, found: &mut Vec<FoundGranule>, is_ended: bool) -> Watched
-    ensures told { IsTold watch.now found.old.items is_ended result }
+fn stopped(
+    alloc: Global,
+    watch: &Watch,
+    found: &mut Vec<FoundGranule>,
+    is_ended: bool,
+    kept: Option<Vec<u8>>,
+) -> Watched
+    ensures told { IsTold watch.now found.old.items is_ended kept result }
     ensures ending { result.ending ≡ None }
 {
     Watched {
@@ -83,6 +90,7 @@ fn stopped(alloc: Global, watch: &Watch, found: &mut Vec<FoundGranule>, is_ended
         counts: watch.counts(),
         unjudged: watch.unjudged(),
         is_ended,
+        kept,
     }
 }
 
@@ -92,10 +100,11 @@ fn ended<P: WatchProgress>(
     watch: Watch,
     found: &mut Vec<FoundGranule>,
     is_ended: bool,
+    kept: Option<Vec<u8>>,
     budget: u64,
     progress: &mut P,
 ) -> Result<Watched, AllocError>
-    ensures told { IfOk result (λ watched. IsTold watch found.old.items is_ended watched) }
+    ensures told { IfOk result (λ watched. IsTold watch found.old.items is_ended kept watched) }
     ensures kept { IfErr result (λ _. found.new.items ≡ found.old.items) }
     ensures ending { IfOk result (λ watched. watched.ending ≢ None) }
     ensures says { IfOk result (λ watched. IfSome watched.ending (SaysAtEnd watch)) }
@@ -113,6 +122,7 @@ fn ended<P: WatchProgress>(
         counts,
         unjudged,
         is_ended,
+        kept,
     })
 }
 
@@ -133,12 +143,14 @@ fn watch_each<R: BufRead, W: Write, P: WatchProgress>(
     ensures kept { IfErr result (λ fault. fault ≢ LinesFault.Write → Appends (W.contents to.old) (W.contents to.new) (flat_map found_text found.new.items)) }
     ensures begun { IfErr result (λ _. AppendsFront (W.contents to.old) (W.contents to.new) (flat_map found_text found.new.items)) }
     ensures found { IfSome (R.remaining from.old) (λ text. IfErr result (λ _. All (IsFoundBy text) found.new.items)) }
+    ensures keeps { IfOk result (λ watched. is_some watched.kept ≡ options.now.keep_lines) }
     ensures undecided { IfOk result (WentBy P.looked progress.old progress.new options.now.budget) }
     ensures far { IfSome (R.remaining from.old) (λ text. IfOk result (WentAsFar P.looked progress.old progress.new options.now.budget text)) }
     ensures unreached { IfOk result (ReachedBy P.looked progress.old progress.new options.now.budget) }
 {
     let mut watch = Watch::new(alloc);
     let mut quiet = Vec::new(alloc);
+    let mut kept = nothing_kept(alloc, options.keep_lines);
     let mut line = Vec::new(alloc);
     let mut time = 0;
     let mut is_ended = false;
@@ -156,13 +168,22 @@ fn watch_each<R: BufRead, W: Write, P: WatchProgress>(
             progress,
         )?;
         if stops(is_past, found, options.keep_going) {
-            return Ok(stopped(alloc, &watch, found, is_ended));
+            return Ok(stopped(alloc, &watch, found, is_ended, kept));
         }
         let Some(event) = next else {
-            return Ok(ended(alloc, watch, found, is_ended, options.budget, progress)?);
+            return Ok(ended(
+                alloc,
+                watch,
+                found,
+                is_ended,
+                kept,
+                options.budget,
+                progress,
+            )?);
         };
         let seen = take_event(alloc, &mut watch, &event, number, options.budget, progress)?;
         note_quiet(alloc, &mut quiet, seen, number)?;
+        keep_line(&mut kept, &line)?;
         time = event.time;
         is_ended = is_end(&event);
     }
@@ -177,7 +198,7 @@ fn watch_each<R: BufRead, W: Write, P: WatchProgress>(
 /// is there. The last line needs no line feed, and blank ones after it tell nothing.
 ///
 /// Each granule is told to `to` as soon as it is found, and in place of how far the watch is. After a fault nothing else is said of
-/// the events.
+/// the events. Where lines are kept, all that are taken are, so they take as much memory as the input has by then.
 ///
 /// ```
 /// let watched = watch_lines(alloc, &mut reader, &mut out, &options, &mut NoProgress)?;
@@ -192,6 +213,7 @@ pub fn watch_lines<R: BufRead, W: Write, P: WatchProgress>(
     ensures outcome { IfSome (R.remaining from.old) (λ text. IsOutcome text options.now.keep_going result) }
     ensures told { IfOk result (λ watched. Appends (W.contents to.old) (W.contents to.new) (flat_map found_text watched.found.items)) }
     ensures kept { IfErr result (λ unfinished. unfinished.fault ≢ LinesFault.Write → Appends (W.contents to.old) (W.contents to.new) (flat_map found_text unfinished.found.items)) }
+    ensures keeps { IfOk result (λ watched. is_some watched.kept ≡ options.now.keep_lines) }
     ensures begun { IfErr result (λ unfinished. AppendsFront (W.contents to.old) (W.contents to.new) (flat_map found_text unfinished.found.items)) }
     ensures undecided { IfOk result (WentBy P.looked progress.old progress.new options.now.budget) }
     ensures far { IfSome (R.remaining from.old) (λ text. IfOk result (WentAsFar P.looked progress.old progress.new options.now.budget text)) }

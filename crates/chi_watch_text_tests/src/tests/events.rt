@@ -114,12 +114,14 @@ pub(crate) const ALL: Required = Required {
 pub(crate) const STOPPING: WatchOptions = WatchOptions {
     budget: 1_000_000,
     keep_going: false,
+    keep_lines: false,
     required: NOTHING,
 };
 
 pub(crate) const GOING: WatchOptions = WatchOptions {
     budget: 1_000_000,
     keep_going: true,
+    keep_lines: false,
     required: NOTHING,
 };
 

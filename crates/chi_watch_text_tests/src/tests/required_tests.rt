@@ -11,6 +11,7 @@ fn what_is_missing(rt: HostRuntime) -> Result<(), Fail> {
     let options = WatchOptions {
         budget: 1_000_000,
         keep_going: false,
+        keep_lines: false,
         required: ALL,
     };
     for (texts, missing) in &[

@@ -1,10 +1,12 @@
 //! The lines that tell of one granule.
 
 use crate::tests::comparison::assert_same;
-use crate::tests::events::joined;
+use crate::tests::events::{
+    FIVE, GOING, LAST, NINE_AND_FIVE, READ, STOPPING, WRITE, ZERO, joined, watched,
+};
 use chi_json::ObjectFault;
 use chi_reading::LineFault;
-use chi_watch_text::{LinesFault, lines_of_granule};
+use chi_watch_text::{LinesFault, WatchOptions, lines_of_granule};
 use std::alloc::Global;
 use std::process::Abort;
 use std::test::Fail;
@@ -159,5 +161,46 @@ fn a_line_that_tells_no_event(rt: HostRuntime) -> Result<(), Fail> {
         lines_of_granule(rt.alloc(), &text, 512).err(),
         Some(wanted),
     );
+    Ok(())
+}
+
+// The lines that a watch takes are kept where they are to be: those up to the time at which it stops, and without the blank ones at
+// the end.
+#[test]
+fn lines_that_are_kept(rt: HostRuntime) -> Result<(), Fail> {
+    for (options, texts, wanted) in &[
+        (
+            STOPPING,
+            [WRITE, READ, FIVE, " \n"].as_slice(),
+            [WRITE, READ, FIVE].as_slice(),
+        ),
+        (
+            STOPPING,
+            &[WRITE, READ, ZERO, "\n", LAST],
+            &[WRITE, READ, ZERO, "\n"],
+        ),
+        (STOPPING, &[WRITE, READ, ZERO], &[WRITE, READ, ZERO]),
+        (
+            GOING,
+            &[WRITE, NINE_AND_FIVE, LAST],
+            &[WRITE, NINE_AND_FIVE, LAST],
+        ),
+        (GOING, &[], &[]),
+    ] {
+        let keeping = WatchOptions {
+            keep_lines: true,
+            ..*options
+        };
+        let kept = watched(rt.alloc(), texts, &keeping)?
+            .kept
+            .unwrap_or(Vec::new(rt.alloc()));
+        let wanted = joined(rt.alloc(), wanted)?;
+        assert_same(&rt, String::from_utf8(kept)?, String::from_utf8(wanted)?);
+        assert_same(
+            &rt,
+            watched(rt.alloc(), texts, options)?.kept.is_some(),
+            false,
+        );
+    }
     Ok(())
 }

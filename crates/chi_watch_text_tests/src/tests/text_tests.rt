@@ -91,6 +91,7 @@ fn no_budget(rt: HostRuntime) -> Result<(), Fail> {
     let options = WatchOptions {
         budget: 0,
         keep_going: true,
+        keep_lines: false,
         required: NOTHING,
     };
     let found = "not explained: granule 0000000000001010
@@ -141,10 +142,12 @@ fn all_there_is_to_tell(rt: HostRuntime) -> Result<(), Fail> {
         },
         unjudged: 4,
         is_ended: false,
+        kept: None,
     };
     let options = WatchOptions {
         budget: 70,
         keep_going: true,
+        keep_lines: false,
         required: Required {
             operations: 1001,
             ..ALL

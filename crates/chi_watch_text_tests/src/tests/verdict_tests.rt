@@ -48,6 +48,7 @@ fn verdict(
         },
         unjudged: 0,
         is_ended: true,
+        kept: None,
     };
     Ok(watched.verdict())
 }

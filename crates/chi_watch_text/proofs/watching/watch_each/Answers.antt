@@ -1,5 +1,6 @@
 -- line after line is taken
-use Rattle.std.proofs.Common.{◌≡◌, ℕ, Bool, ◌-◌, ◌++◌, ◌∷◌, [], All, IfErr, IfSome, flat_map, List, Option, Result, length, ap, subst, sym, arith}
+use Rattle.std.proofs.Common.{◌≡◌, ℕ, Bool, ◌-◌, ◌++◌, ◌∷◌, [], All, IfErr, IfSome, ◌∙◌, flat_map, List, Option, Result, length, ap, subst, sym, arith}
+use Rattle.std.specs.Io.BufRead.{take_through}
 use Rattle.std.specs.Io.KnownBytes.{Appends}
 use Rattle.std.proofs.lemmas.List.Elements.{All-nil}
 use Rattle.chi_script.specs.WriterBytes.{AppendsFront}
@@ -8,6 +9,7 @@ use Rattle.chi_search.proofs.Looking.{looked_none, some_after}
 use Rattle.chi_events.specs.declared.event.Event.{Event}
 use Rattle.chi_watch.specs.declared.ending.Ending.{Ending}
 use Rattle.chi_watch.specs.declared.ending.FoundAtEnd.{FoundAtEnd}
+use Rattle.chi_watch_text.specs.Kept.{KeepsLine}
 use Rattle.chi_watch_text.specs.Outcomes.{HasTakenLines, IsFoundBy, IsUnreached, IsWatchingFault}
 use Rattle.chi_watch_text.specs.Reading.{IsRead}
 use Rattle.chi_watch_text.specs.Texts.{found_text}
@@ -15,6 +17,7 @@ use Rattle.chi_watch_text.specs.declared.fault.LinesFault.{LinesFault}
 use Rattle.chi_watch_text.specs.declared.fault.LinesFault.TheVariants as fault
 use Rattle.chi_watch_text.specs.declared.watched.FoundGranule.{FoundGranule}
 use Rattle.chi_watch_text.specs.declared.watched.Watched.{Watched}
+use Rattle.chi_watch_text.proofs.KeptLines.{keeps_still, line_kept, none_kept}
 use Rattle.chi_watch_text.proofs.ToldTexts.{at_fault, begun_more, but_at_fault, told_more, whole_front}
 use Rattle.chi_watch_text.proofs.Told.{at_end, at_stop, event_taken, far_at_end, found_so_far, kept_at_fault, none_found, none_taken, passed_on, reached_by_found, settled, took, undecided_after, unreached_all, unreached_at_end}
 use Rattle.chi_watch_text.proofs.Refused.{but_write, held_up, where_not_taken, where_refused}
@@ -30,6 +33,8 @@ loop-number-init g c = record {
   written = subst (λ (l : List FoundGranule). Appends (g.W.Write.contents c.args.to.now) (g.W.Write.contents c.args.to.now) (flat_map found_text l)) (sym c.requires) (nothing_written (g.W.Write.contents c.args.to.now));
   first = λ stop. c.requires;
   looked = looked_none g.P.Progress.looked c.args.progress.now;
+  kept = none_kept (g.R.Read.remaining c.args.from.now) c.nothing_kept-kept.result c.nothing_kept-kept.ensures.empty;
+  keeps = c.nothing_kept-kept.ensures.keeps;
 }
 
 pub returns-in_err-next-clause-fault : goal.returns-in_err-next-clause-fault
@@ -50,6 +55,8 @@ loop-number-preserved g c =
     (λ waits. (c.in_ok-judge_quiet.ensures.waits waits).0) c.if-stops.false (rw c.deref.ensures.value at c.stops.ensures.goes_on) in
     let some = some_after g.P.Progress.looked c.args.progress.now c.loop-number.progress c.judge_quiet.new.progress before.looked c.in_ok-judge_quiet.ensures.looked in
     let read = subst (λ (o : Option Event). IfSome (g.R.Read.remaining c.loop-number.from) (λ text. IsRead c.loop-number.number text o (g.R.Read.remaining c.next_event.new.from))) c.in-Some.is c.in_ok-next.ensures.told in
+    let line_read =
+    subst (λ (o : Option Event). IfSome o (λ _. IfSome (g.R.Read.remaining c.loop-number.from) (λ text. c.next_event.new.line.items ≡ take_through 10 text))) c.in-Some.is c.in_ok-next.ensures.line in
     record {
       taken = subst (λ (k : ℕ). HasTakenLines (g.R.Read.remaining c.args.from.now) k c.in-Some.event.time c.is_end-is_ended.result c.judge_quiet.new.found.items c.note_quiet.new.quiet.items c.take_event.new.watch (g.R.Read.remaining c.next_event.new.from)) (omega arith)
           (subst (λ (b : Bool). HasTakenLines (g.R.Read.remaining c.args.from.now) c.loop-number.number c.in-Some.event.time b c.judge_quiet.new.found.items c.note_quiet.new.quiet.items c.take_event.new.watch (g.R.Read.remaining c.next_event.new.from)) (sym c.is_end-is_ended.ensures)
@@ -62,6 +69,10 @@ loop-number-preserved g c =
       written = told_more c.loop-number.found.items c.judge_quiet.new.found.items (g.W.Write.contents c.args.to.now) (g.W.Write.contents c.loop-number.to) (g.W.Write.contents c.judge_quiet.new.to) before.written c.in_ok-judge_quiet.ensures.told;
       first = first;
       looked = some_after g.P.Progress.looked c.args.progress.now c.judge_quiet.new.progress c.take_event.new.progress some c.in_ok-seen.ensures.looked;
+      kept = line_kept (g.R.Read.remaining c.args.from.now) (g.R.Read.remaining c.loop-number.from) (g.R.Read.remaining c.next_event.new.from) c.loop-number.kept c.keep_line.new.kept c.next_event.new.line.items c.loop-number.number
+          c.in-Some.event before.kept
+          (subst (λ (l : List ℕ). KeepsLine c.loop-number.kept l c.keep_line.new.kept) c.deref-in-loop-number.ensures.value c.in_ok-keep_line.ensures) line_read read;
+      keeps = keeps_still c.loop-number.kept c.keep_line.new.kept _ c.in_ok-keep_line.ensures ∙ before.keeps;
     }
 
 pub returns-then-stops-clause-watched : goal.returns-then-stops-clause-watched
@@ -72,8 +83,8 @@ returns-then-stops-clause-watched g c =
     c.judge_quiet.new.found.items c.loop-number.quiet.items c.judge_quiet.new.quiet.items c.loop-number.watch c.in_ok-next.next c.is_past-is_past.result before.taken (omega arith) c.in_ok-next.ensures.told c.is_past-is_past.ensures.past
     c.in_ok-judge_quiet.ensures.waits c.in_ok-judge_quiet.ensures.cleared c.in_ok-judge_quiet.ensures.each in
     at_stop (g.R.Read.remaining c.args.from.now) (g.R.Read.remaining c.loop-number.from) (g.R.Read.remaining c.next_event.new.from) (c.loop-number.number - 1) c.loop-number.number c.loop-number.time c.loop-number.is_ended c.judge_quiet.new.found.items c.judge_quiet.new.quiet.items
-    c.args.options.now.keep_going c.is_past-is_past.result c.loop-number.watch c.in_ok-next.next c.stopped.result settled_now (omega arith) c.in_ok-next.ensures.told c.is_past-is_past.ensures.past (c.in_ok-judge_quiet.ensures.once before.once)
-    ((rw c.deref.ensures.value at c.stops.ensures.stops) c.if-stops.true) c.stopped.ensures.told c.stopped.ensures.ending
+    c.args.options.now.keep_going c.is_past-is_past.result c.loop-number.watch c.in_ok-next.next c.loop-number.kept c.stopped.result settled_now (omega arith) c.in_ok-next.ensures.told c.is_past-is_past.ensures.past (c.in_ok-judge_quiet.ensures.once before.once)
+    ((rw c.deref.ensures.value at c.stops.ensures.stops) c.if-stops.true) c.stopped.ensures.told c.stopped.ensures.ending before.kept
 
 pub returns-in_default-clause-watched : goal.returns-in_default-clause-watched
 returns-in_default-clause-watched g c =
@@ -87,7 +98,7 @@ returns-in_default-clause-watched g c =
     let read = subst (λ (o : Option Event). IfSome (g.R.Read.remaining c.loop-number.from) (λ text. IsRead c.loop-number.number text o (g.R.Read.remaining c.next_event.new.from))) c.in_default.is c.in_ok-next.ensures.told in
     let ended = c.in_ok-ended.ensures in
     at_end (g.R.Read.remaining c.args.from.now) (g.R.Read.remaining c.loop-number.from) (g.R.Read.remaining c.next_event.new.from) (c.loop-number.number - 1) c.loop-number.number c.loop-number.time c.loop-number.is_ended c.judge_quiet.new.found.items c.judge_quiet.new.quiet.items
-    c.args.options.now.keep_going c.loop-number.watch c.in_ok-ended.field-0 settled_now read (c.in_ok-judge_quiet.ensures.once before.once) first ended.told ended.ending ended.says
+    c.args.options.now.keep_going c.loop-number.watch c.loop-number.kept c.in_ok-ended.field-0 settled_now read (c.in_ok-judge_quiet.ensures.once before.once) first ended.told ended.ending ended.says before.kept
 
 pub returns-in_default-clause-undecided : goal.returns-in_default-clause-undecided
 returns-in_default-clause-undecided g c =
@@ -227,4 +238,21 @@ returns-in_err-note_quiet-clause-kept g c =
 pub returns-in_err-note_quiet-clause-begun : goal.returns-in_err-note_quiet-clause-begun
 returns-in_err-note_quiet-clause-begun g c =
     at_fault c.from_residual-in_err-note_quiet.result (AppendsFront (g.W.Write.contents c.args.to.now) (g.W.Write.contents c.judge_quiet.new.to) (flat_map found_text c.judge_quiet.new.found.items))
+    (begun_more c.loop-number.found.items c.judge_quiet.new.found.items (g.W.Write.contents c.args.to.now) (g.W.Write.contents c.loop-number.to) (g.W.Write.contents c.judge_quiet.new.to) c.loop-number.invariant.written c.judge_quiet.ensures.begun)
+
+pub returns-in_err-keep_line-clause-found : goal.returns-in_err-keep_line-clause-found
+returns-in_err-keep_line-clause-found g c =
+    kept_at_fault (g.R.Read.remaining c.args.from.now) (λ text. All (IsFoundBy text) c.judge_quiet.new.found.items) _
+    (found_so_far (g.R.Read.remaining c.args.from.now) (g.R.Read.remaining c.loop-number.from) (g.R.Read.remaining c.next_event.new.from) (c.loop-number.number - 1) c.loop-number.number c.loop-number.time c.loop-number.is_ended c.loop-number.found.items
+    c.judge_quiet.new.found.items c.loop-number.quiet.items c.loop-number.watch c.in_ok-next.next c.is_past-is_past.result c.loop-number.invariant.taken (omega arith) c.in_ok-next.ensures.told c.is_past-is_past.ensures.past
+    (λ wait. (c.in_ok-judge_quiet.ensures.waits wait).0) c.in_ok-judge_quiet.ensures.each)
+
+pub returns-in_err-keep_line-clause-kept : goal.returns-in_err-keep_line-clause-kept
+returns-in_err-keep_line-clause-kept g c =
+    but_at_fault c.from_residual-in_err-keep_line.result (λ x. x ≡ fault.Write → ⊥) (Appends (g.W.Write.contents c.args.to.now) (g.W.Write.contents c.judge_quiet.new.to) (flat_map found_text c.judge_quiet.new.found.items))
+    (told_more c.loop-number.found.items c.judge_quiet.new.found.items (g.W.Write.contents c.args.to.now) (g.W.Write.contents c.loop-number.to) (g.W.Write.contents c.judge_quiet.new.to) c.loop-number.invariant.written c.in_ok-judge_quiet.ensures.told)
+
+pub returns-in_err-keep_line-clause-begun : goal.returns-in_err-keep_line-clause-begun
+returns-in_err-keep_line-clause-begun g c =
+    at_fault c.from_residual-in_err-keep_line.result (AppendsFront (g.W.Write.contents c.args.to.now) (g.W.Write.contents c.judge_quiet.new.to) (flat_map found_text c.judge_quiet.new.found.items))
     (begun_more c.loop-number.found.items c.judge_quiet.new.found.items (g.W.Write.contents c.args.to.now) (g.W.Write.contents c.loop-number.to) (g.W.Write.contents c.judge_quiet.new.to) c.loop-number.invariant.written c.judge_quiet.ensures.begun)

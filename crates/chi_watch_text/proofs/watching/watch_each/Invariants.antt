@@ -1,11 +1,12 @@
 -- the lines before this one were taken, and what is found is found once, and not at all where it does not keep going; how far it can be
--- explained is known, or so many states were looked at
-use Rattle.std.proofs.Common.{◌≡◌, ◌≢◌, ◌-◌, List, [], All, false, flat_map}
+-- explained is known, or so many states were looked at; the lines are kept where they are to be
+use Rattle.std.proofs.Common.{◌≡◌, ◌≢◌, ◌-◌, List, [], All, false, flat_map, is_some}
 use Rattle.std.specs.List.{AllPairs}
 use Rattle.std.specs.Io.KnownBytes.{Appends}
 use Rattle.chi_events.specs.declared.event.Event.{Event}
 use Rattle.chi_search.specs.Looks.{LookedSome}
 use Rattle.chi_watch.specs.Watches.{HasTaken}
+use Rattle.chi_watch_text.specs.Kept.{AreKeptOf}
 use Rattle.chi_watch_text.specs.Outcomes.{HasTakenLines, IsUnreached}
 use Rattle.chi_watch_text.specs.Texts.{found_text}
 use Rattle.chi_watch_text.specs.declared.watched.FoundGranule.{FoundGranule}
@@ -20,4 +21,6 @@ invariant-loop-number g l = record {
   written : Appends (g.W.Write.contents l.initial.to) (g.W.Write.contents l.to) (flat_map found_text l.found.items);
   first : l.options.keep_going ≡ false → l.found.items ≡ [];
   looked : LookedSome g.P.Progress.looked l.initial.progress l.progress;
+  kept : AreKeptOf (g.R.Read.remaining l.initial.from) l.kept (g.R.Read.remaining l.from);
+  keeps : is_some l.kept ≡ l.options.keep_lines;
 }
