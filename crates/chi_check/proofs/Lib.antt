@@ -2,5 +2,6 @@ pub mod CheckLemmas
 pub mod CommandLemmas
 pub mod OptionValuesLemmas
 mod CoverLemmas
+mod SavingLemmas
 mod SearchLemmas
 mod WatchLemmas

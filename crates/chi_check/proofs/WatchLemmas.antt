@@ -1,5 +1,5 @@
 -- what is written of what was found, and what flushing it leaves
-use Rattle.std.proofs.Common.{◌≡◌, ℕ, Bool, true, false, List, [], ◌∷◌, All, Option, None, Some, Result, Ok, Err, IfOk, IfSome, flat_map, refl, sym, ap, subst, ◌∙◌, append-nil, ◌⊎◌, inl, inr, arith}
+use Rattle.std.proofs.Common.{◌≡◌, ℕ, Bool, true, false, List, [], ◌∷◌, All, Option, None, Some, Result, Ok, Err, IfOk, IfSome, flat_map, refl, sym, subst, ◌∙◌, append-nil, ◌⊎◌, inl, inr, arith}
 use Rattle.std.specs.Io.KnownBytes.{Appends, Keeps}
 use Rattle.std.proofs.lemmas.List.Elements.{All-head}
 use Rattle.chi_script.specs.WriterBytes.{AppendsFront}
@@ -27,12 +27,11 @@ use Rattle.chi_check.specs.Check.{KeepsUnanswered}
 use Rattle.chi_check.specs.CheckStatus.{IsAnswerStatus}
 use Rattle.chi_check.specs.Cover.{cover_text}
 use Rattle.chi_check.specs.ProgramOutcome.{Ends, TaskOutcome}
-use Rattle.chi_check.specs.Watch.{WatchOutcome, WritesClosing, found_before, stopped_by, verdict_status}
+use Rattle.chi_check.specs.Watch.{WatchOutcome, WritesClosing, found_before, stopped_by, verdict_status, watching}
 use Rattle.chi_check.specs.declared.command.Task.{Task}
 use Rattle.chi_check.specs.declared.command.Task.TheVariants.{Explain, Watch, Cover}
 use Rattle.chi_check.specs.declared.fault.CheckFault.{CheckFault}
 use Rattle.chi_check.specs.declared.fault.CheckFault.TheVariants as check_fault
-use Rattle.chi_check.specs.declared.fault.SourceFault.TheVariants as source_fault
 
 -- a text that was written stays so when nothing follows
 pub appends_kept : (old mid new : Option (List ℕ)) (text : List ℕ) → Appends old mid text → Keeps mid new → Appends old new text
@@ -49,7 +48,7 @@ kept_none (Some xs) (Some ys) appends = appends ∙ append-nil xs
 
 -- a watch that has no answer: the granules that were found are written
 module _ (options : WatchOptions) (old new : Option (List ℕ)) where
-  before_it : (input : List ℕ) (f : LinesFault) (found : List FoundGranule) → IsLinesFault input f → All (IsFoundBy input) found → Appends old new (flat_map found_text found)
+  pub before_it : (input : List ℕ) (f : LinesFault) (found : List FoundGranule) → IsLinesFault input f → All (IsFoundBy input) found → Appends old new (flat_map found_text found)
       → WatchOutcome options input old new (Err (found_before f found))
   before_it input f [] is all appends = is
   before_it input f (g ∷ found) is all appends = (is, (g ∷ found, all, omega arith, appends))
@@ -99,6 +98,7 @@ module _ (options : WatchOptions) (old mid new : Option (List ℕ)) (watched : W
   closed_in input (Err (check_fault.File place fault)) is (same, keeps) = no_memory input (check_fault.File place fault) is same keeps
   closed_in input (Err check_fault.Page) is (same, keeps) = no_memory input check_fault.Page is same keeps
   closed_in input (Err (check_fault.Unfinished fault)) is (same, keeps) = no_memory input (check_fault.Unfinished fault) is same keeps
+  closed_in input (Err check_fault.Unsaved) is (same, keeps) = no_memory input check_fault.Unsaved is same keeps
 
   pub closed : (remaining : Option (List ℕ)) (result : Result ℕ CheckFault) → IfSome remaining (λ input. IsWatched input options.keep_going watched) → WritesClosing options watched mid new result
       → IfSome remaining (λ input. WatchOutcome options input old new result)
@@ -117,6 +117,7 @@ module _ (options : WatchOptions) (old mid new : Option (List ℕ)) (watched : W
   closed_unanswered (Err (check_fault.File place fault)) (same, keeps) = kept_memory (check_fault.File place fault) same keeps
   closed_unanswered (Err check_fault.Page) (same, keeps) = kept_memory check_fault.Page same keeps
   closed_unanswered (Err (check_fault.Unfinished fault)) (same, keeps) = kept_memory (check_fault.Unfinished fault) same keeps
+  closed_unanswered (Err check_fault.Unsaved) (same, keeps) = kept_memory check_fault.Unsaved same keeps
 
 -- the status of what is found is one of an answer
 pub watched_status : (options : WatchOptions) (old new : Option (List ℕ)) (watched : Watched) (result : Result ℕ CheckFault) → WritesClosing options watched old new result → IfOk result IsAnswerStatus
@@ -160,7 +161,7 @@ module _ (holds : List ℕ → List ℕ → Type 0) where
   flushed (Explain options file) (Some input) old mid new status (answer, text, answers, status_is, appends) keeps =
       (answer, text, answers, status_is, appends_kept old mid new text appends keeps)
   flushed (Watch options file) (Some input) old mid new status (watched, is, status_is, appends) keeps =
-      (watched, is, status_is, appends_kept old mid new (watched_text options watched) appends keeps)
+      (watched, is, status_is, appends_kept old mid new (watched_text (watching options) watched) appends keeps)
   flushed (Cover options) (Some input) old mid new status (counts, has, status_is, appends) keeps =
       (counts, has, status_is, appends_kept old mid new (cover_text counts) appends keeps)
 
@@ -170,7 +171,7 @@ module _ (holds : List ℕ → List ℕ → Type 0) where
   flush_failed (Explain options file) (Some input) old mid new status fault (answer, text, answers, status_is, appends) keeps =
       (answer, text, answers, whole_front old new text (appends_kept old mid new text appends keeps))
   flush_failed (Watch options file) (Some input) old mid new status fault (watched, is, status_is, appends) keeps =
-      inl (watched, is, whole_front old new (watched_text options watched) (appends_kept old mid new (watched_text options watched) appends keeps))
+      inl (watched, is, whole_front old new (watched_text (watching options) watched) (appends_kept old mid new (watched_text (watching options) watched) appends keeps))
   flush_failed (Cover options) (Some input) old mid new status fault (counts, has, status_is, appends) keeps =
       (counts, has, whole_front old new (cover_text counts) (appends_kept old mid new (cover_text counts) appends keeps))
 

@@ -6,4 +6,5 @@ pub mod Limits
 pub mod OptionValues
 pub mod Pages
 pub mod ProgramOutcome
+pub mod Saving
 pub mod Watch

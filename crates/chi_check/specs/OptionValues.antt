@@ -7,12 +7,12 @@ use Rattle.clap.specs.Walk.{Row, Text, all_of, first_of, one_of}
 use Rattle.clap.specs.Simple.{subcommand_of}
 use Rattle.chi_check.specs.declared.command.Task.{Task}
 use Rattle.chi_check.specs.declared.command.Task.TheVariants.{Explain, Watch, Cover}
-use Rattle.chi_watch_text.specs.declared.options.WatchOptions.{WatchOptions}
 use Rattle.chi_watch_text.specs.declared.required.Required.{Required}
 use Rattle.chi_check.specs.CommandLine.{program_app}
 use Rattle.chi_check.specs.Cover.{paths_of}
 use Rattle.chi_check.specs.declared.options.CheckOptions.{CheckOptions}
 use Rattle.chi_check.specs.declared.options.CoverOptions.{CoverOptions}
+use Rattle.chi_check.specs.declared.options.WatchingOptions.{WatchingOptions}
 use Rattle.chi_program.specs.OptionValues.{BeginsWith, IsNumberOr, IsNumberOrNone, has_word}
 
 -- in these arguments `clap` finds the subcommand of this name, and this of its options, by use or by default
@@ -45,10 +45,11 @@ pub record HasRequired (found : List Row) (required : Required) : Type 0 where
   pub judged : required.judged ≡ has_word found (codes "require-judged") (codes "true")
 
 -- and its other options
-pub record HasWatchOptions (found : List Row) (options : WatchOptions) : Type 0 where
+pub record HasWatchOptions (found : List Row) (options : WatchingOptions) : Type 0 where
   pub keep_going : options.keep_going ≡ has_word found (codes "keep-going") (codes "true")
   pub budget : IsNumberOr 1000000 (one_of (codes "budget") found) options.budget
   pub required : HasRequired found options.required
+  pub save : option_map (λ s. s.now) options.save ≡ first_of (codes "save") found
 
 -- and those of `cover`
 pub record HasCoverOptions (found : List Row) (options : CoverOptions) : Type 0 where

@@ -10,7 +10,7 @@ use Rattle.chi_check.specs.Cover.{CoverOutcome}
 use Rattle.chi_check.specs.declared.fault.CheckFault.{CheckFault}
 use Rattle.chi_check.specs.declared.command.Task.{Task}
 use Rattle.chi_check.specs.declared.command.Task.TheVariants.{Explain, Watch, Cover}
-use Rattle.chi_check.specs.Watch.{WatchOutcome}
+use Rattle.chi_check.specs.Watch.{WatchOutcome, watching}
 use Rattle.chi_program.specs.Answered.{ReportsArguments}
 
 -- what is given to the reader of a task: by its file, where it names one, and else by the standard input
@@ -26,7 +26,7 @@ given_to given (Cover options) input = input
 -- what a task made of its input, or of what files hold, and what it wrote
 abbrev pub TaskOutcome : (List ℕ → List ℕ → Type 0) → Task → List ℕ → Option (List ℕ) → Option (List ℕ) → Result ℕ CheckFault → Type 0
 TaskOutcome holds (Explain options file) input old new result = Outcome options input old new result
-TaskOutcome holds (Watch options file) input old new result = WatchOutcome options input old new result
+TaskOutcome holds (Watch options file) input old new result = WatchOutcome (watching options) input old new result
 TaskOutcome holds (Cover options) input old new result = CoverOutcome holds options input old new result
 
 -- the status of the answer, else that of the fault

@@ -9,10 +9,9 @@ ghost use Rattle.chi_check.specs.OptionValues.{Chooses, HasOptions, IsNamed, IsN
 ghost use Rattle.chi_check.specs.CommandLine.{IsArgumentsFault, IsTaken, program_app};
 
 use crate::option_values::{cover_options, explain_options, file_given, watch_options};
-use crate::options::{CheckOptions, CoverOptions};
+use crate::options::{CheckOptions, CoverOptions, WatchingOptions};
 use crate::tasks::TASKS;
 use chi_program::program_command;
-use chi_watch_text::WatchOptions;
 use clap::error::ErrorKind;
 use clap::{ArgMatches, Command, Error};
 use std::alloc::{AllocError, Global};
@@ -22,7 +21,7 @@ use std::alloc::{AllocError, Global};
 #[derive(Drop)]
 pub enum Task<'a> {
     Explain(CheckOptions<'a>, Option<&'a str>),
-    Watch(WatchOptions, Option<&'a str>),
+    Watch(WatchingOptions<'a>, Option<&'a str>),
     Cover(CoverOptions<'a>),
 }
 

@@ -36,6 +36,7 @@ pub enum SourceFault {
 /// - `File`: the file at this place among those that were named, counted from 0, was not counted. Up to here nothing is written.
 /// - `Page`: the page was not written whole. Up to here nothing else is written.
 /// - `Unfinished`: a line of events was refused, or not read. The granules that were found by then are written.
+/// - `Unsaved`: the lines of a granule were not saved whole. The granules that were found by lines are written.
 /// - `Write`: the answer was not written whole.
 #[derive(Debug, Drop, Error)]
 pub enum CheckFault {
@@ -47,6 +48,8 @@ pub enum CheckFault {
     Page,
     #[error(transparent)]
     Unfinished(LinesFault),
+    #[error("lines could not be saved")]
+    Unsaved,
     #[error(transparent)]
     Write(WriteFault),
 }
@@ -85,6 +88,7 @@ impl ProgramFault for CheckFault {
             CheckFault::File { place: _, fault } => source_status(fault),
             CheckFault::Page => 5,
             CheckFault::Unfinished(fault) => lines_status(fault),
+            CheckFault::Unsaved => 5,
             CheckFault::Write(_) => 5,
         }
     }

@@ -17,6 +17,7 @@ mod page;
 mod pages;
 mod progress_line;
 mod recorded;
+mod save;
 mod search;
 mod sources;
 mod tasks;

@@ -4,16 +4,16 @@ ghost use Rattle.std.specs.Prelude.{IfOk, IfSome};
 ghost use Rattle.chi_check.specs.Check.{KeepsUnanswered, Outcome};
 ghost use Rattle.chi_check.specs.CheckStatus.{IsAnswerStatus};
 ghost use Rattle.chi_check.specs.ProgramOutcome.{by_file};
-ghost use Rattle.chi_check.specs.Watch.{WatchOutcome};
+ghost use Rattle.chi_check.specs.Watch.{WatchOutcome, watching};
 
 use crate::check::check;
 use crate::fault::{CheckFault, SourceFault};
 use crate::meter::Meter;
-use crate::options::CheckOptions;
+use crate::options::{CheckOptions, WatchingOptions};
 use crate::pages::Pages;
 use crate::sources::Sources;
 use crate::watch::watch;
-use chi_watch_text::{LinesFault, WatchOptions, WatchProgress};
+use chi_watch_text::{LinesFault, WatchProgress};
 use std::alloc::Global;
 use std::io::{Read, Write};
 
@@ -41,24 +41,24 @@ pub(crate) fn explain_input<R: Read, W: Write, P: WatchProgress, G: Pages + Sour
 }
 
 /// Watches the events of the file at a path, where one is named, and else of the standard input.
-pub(crate) fn watch_input<R: Read, W: Write, P: WatchProgress, G: Sources>(
+pub(crate) fn watch_input<R: Read, W: Write, P: WatchProgress, G: Pages + Sources>(
     alloc: Global,
     file: Option<&str>,
     from: &mut R,
     to: &mut W,
-    options: &WatchOptions,
+    options: &WatchingOptions<'_>,
     progress: &mut P,
-    machine: &G,
+    machine: &mut G,
 ) -> Result<u8, CheckFault>
-    ensures outcome { IfSome (by_file (G.given machine.now) file.entry (R.remaining from.old)) (λ input. WatchOutcome options.now input (W.contents to.old) (W.contents to.new) result) }
+    ensures outcome { IfSome (by_file (G.given machine.old) file.entry (R.remaining from.old)) (λ input. WatchOutcome (watching options.now) input (W.contents to.old) (W.contents to.new) result) }
     ensures unanswered { KeepsUnanswered (W.contents to.old) (W.contents to.new) result }
     ensures status { IfOk result IsAnswerStatus }
 {
     let Some(path) = file else {
-        return watch(alloc, from, to, options, progress);
+        return watch(alloc, from, to, options, progress, machine);
     };
     match machine.open_file(path) {
-        Some(mut opened) => watch(alloc, &mut opened, to, options, progress),
+        Some(mut opened) => watch(alloc, &mut opened, to, options, progress, machine),
         None => Err(CheckFault::Input(SourceFault::Events(LinesFault::Read))),
     }
 }

@@ -7,9 +7,9 @@ ghost use Rattle.clap.specs.Walk.{all_of, first_of, one_of, rows_of};
 ghost use Rattle.chi_check.specs.OptionValues.{HasCoverOptions, HasRequired, HasWatchOptions};
 ghost use Rattle.chi_program.specs.OptionValues.{IsNumberOr, IsNumberOrNone, has_word};
 
-use crate::options::{CheckOptions, CoverOptions};
+use crate::options::{CheckOptions, CoverOptions, WatchingOptions};
 use chi_program::{is_switched, number_given, number_or, text_given};
-use chi_watch_text::{Required, WatchOptions};
+use chi_watch_text::Required;
 use clap::ArgMatches;
 use std::alloc::{AllocError, Global};
 
@@ -84,13 +84,14 @@ fn required(matches: &ArgMatches<'_>) -> Required
 }
 
 /// The options that `watch` was given, or that stand in for them.
-pub(crate) fn watch_options(matches: &ArgMatches<'_>) -> WatchOptions
+pub(crate) fn watch_options<'a>(matches: &ArgMatches<'a>) -> WatchingOptions<'a>
     ensures { HasWatchOptions (rows_of (found_of matches.now)) result }
 {
-    WatchOptions {
+    WatchingOptions {
         budget: number_or(matches, "budget", BUDGET),
         keep_going: is_switched(matches, "keep-going"),
         required: required(matches),
+        save: text_given(matches, "save"),
     }
 }
 

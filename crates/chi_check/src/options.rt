@@ -1,4 +1,6 @@
-//! What a check and a count may be told.
+//! What a check, a watch and a count may be told.
+
+use chi_watch_text::Required;
 
 /// How a trace is checked. With `events` the input tells events, a line each, and is no trace. With `witness` the operations of a
 /// trace that is explained are written in the order found. `budget` is how many states of each granule are looked at for an
@@ -17,6 +19,17 @@ pub struct CheckOptions<'a> {
     pub until: Option<u64>,
     pub around: u64,
     pub html: Option<&'a str>,
+}
+
+/// How events are watched. `budget` is how many states are looked at for an answer. With `keep_going` a granule that no order explains
+/// does not end it. `required` changes nothing of what is found. `save` is the path of a file that is to be the lines that tell of
+/// the granule that is listed first, where one is listed that no order explains.
+#[derive(Clone, Copy)]
+pub struct WatchingOptions<'a> {
+    pub budget: u64,
+    pub keep_going: bool,
+    pub required: Required,
+    pub save: Option<&'a str>,
 }
 
 /// What is counted, and how. `require` is how many of a hundred bins have to have counted an operation. With `events` the inputs

@@ -1,15 +1,15 @@
-//! Where pages are put.
+//! Where pages and saved lines are put.
 
 ghost use Rattle.std.specs.Prelude.{IsTrue};
 
-/// What puts a page at a path.
+/// What puts a page, or lines that are saved, at a path.
 pub trait Pages {
     ghost use Rattle.std.specs.Prelude.{ℕ, List};
 
     /// This page was put at this path.
     ghost has_put: { Self → List ℕ → List ℕ → Type 0 };
 
-    /// Puts a page at a path, and answers whether it could.
+    /// Puts a page, or lines, at a path, and answers whether it could.
     fn put(&mut self, path: &str, page: &[u8]) -> bool
         ensures { IsTrue result → has_put self.new path.now page.now };
 }

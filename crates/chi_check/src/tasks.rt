@@ -63,8 +63,13 @@ const EXPLAIN: [NamedOption<'static>; 10] = [
 ];
 
 // The options of `watch`, and its file.
-const WATCH: [NamedOption<'static>; 7] = [
+const WATCH: [NamedOption<'static>; 8] = [
     BUDGET,
+    NamedOption {
+        name: "save",
+        takes: Takes::Text("FILE"),
+        help: "Makes this file the lines of the first granule that is not explained",
+    },
     NamedOption {
         name: "keep-going",
         takes: Takes::Nothing,

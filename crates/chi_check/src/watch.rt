@@ -1,6 +1,6 @@
 //! From the lines of events to an answer's bytes.
 
-ghost use Rattle.std.specs.Prelude.{◌≡◌, ◌≢◌, IfErr, IfOk, IfSome, flat_map};
+ghost use Rattle.std.specs.Prelude.{◌≡◌, ◌≢◌, IfErr, IfOk, IfSome, flat_map, is_some};
 ghost use Rattle.std.specs.Io.KnownBytes.{Appends};
 ghost use Rattle.chi_script.specs.WriterBytes.{AppendsFront};
 ghost use Rattle.chi_search.specs.Looks.{LookedAtLeast};
@@ -9,9 +9,13 @@ ghost use Rattle.chi_watch_text.specs.Required.{is_nothing, missing_of};
 ghost use Rattle.chi_watch_text.specs.Texts.{found_text};
 ghost use Rattle.chi_check.specs.Check.{KeepsUnanswered};
 ghost use Rattle.chi_check.specs.CheckStatus.{IsAnswerStatus};
-ghost use Rattle.chi_check.specs.Watch.{WatchOutcome, WritesClosing, found_before, stopped_by, verdict_status, watch_status};
+ghost use Rattle.chi_check.specs.Saving.{SavesFirst};
+ghost use Rattle.chi_check.specs.Watch.{WatchOutcome, WritesClosing, found_before, stopped_by, verdict_status, watch_status, watching};
 
 use crate::fault::{CheckFault, SourceFault};
+use crate::options::WatchingOptions;
+use crate::pages::Pages;
+use crate::save::save_first;
 use chi_judge::Standing;
 use chi_script::{WriteFault, write_bytes};
 use chi_watch_text::{
@@ -20,6 +24,18 @@ use chi_watch_text::{
 };
 use std::alloc::Global;
 use std::io::{BufReader, Read, Write};
+
+// How the events are watched: their lines are kept where some are to be saved.
+fn watching(options: &WatchingOptions<'_>) -> WatchOptions
+    ensures { result ≡ watching options.now }
+{
+    WatchOptions {
+        budget: options.budget,
+        keep_going: options.keep_going,
+        keep_lines: options.save.is_some(),
+        required: options.required,
+    }
+}
 
 // The status of a verdict, and of whether all is there that is required.
 fn verdict_status(verdict: Standing, is_complete: bool) -> u8
@@ -52,7 +68,7 @@ fn found_before(fault: LinesFault, found: &[FoundGranule]) -> CheckFault
 }
 
 // The same, or that they could not be told.
-fn stopped_by(fault: LinesFault, found: &[FoundGranule]) -> CheckFault
+pub(crate) fn stopped_by(fault: LinesFault, found: &[FoundGranule]) -> CheckFault
     ensures { result ≡ stopped_by fault found.now }
 {
     match fault {
@@ -74,6 +90,7 @@ fn watched<R: Read, W: Write, P: WatchProgress>(
     ensures kept { IfErr result (λ unfinished. unfinished.fault ≢ LinesFault.Write → Appends (W.contents to.old) (W.contents to.new) (flat_map found_text unfinished.found.items)) }
     ensures begun { IfErr result (λ unfinished. AppendsFront (W.contents to.old) (W.contents to.new) (flat_map found_text unfinished.found.items)) }
     ensures undecided { IfOk result (WentBy P.looked progress.old progress.new options.now.budget) }
+    ensures keeps { IfOk result (λ watched. is_some watched.kept ≡ options.now.keep_lines) }
 {
     let mut lines = match BufReader::new(alloc, from) {
         Ok(lines) => lines,
@@ -110,28 +127,36 @@ fn write_closing<W: Write>(
 /// undecided within the budget.
 ///
 /// It ends at the first line by which it is seen that no order explains the operations of a granule, unless it keeps going. Each such
-/// granule is written as soon as it is found, and nothing else before the end, or a line that is refused. After a fault of the writer
-/// a prefix of the text has been written. `progress` is told how far it is, and cleared before anything is written.
+/// granule is written as soon as it is found, and nothing else before the end, or a line that is refused. Where lines are to be saved,
+/// those that were read and tell of the granule that is listed first are put before what is said at the end is written. After a fault
+/// of the writer a prefix of the text has been written. `progress` is told how far it is, and cleared before anything is written.
+/// `machine` puts the lines.
 ///
 /// ```
-/// let status = watch(alloc, &mut events.as_bytes(), &mut answer, &options, &mut progress)?; // explained
+/// let status = watch(alloc, &mut events.as_bytes(), &mut answer, &options, &mut progress, &mut machine)?; // explained
 /// ```
-pub fn watch<R: Read, W: Write, P: WatchProgress>(
+pub fn watch<R: Read, W: Write, P: WatchProgress, G: Pages>(
     alloc: Global,
     from: &mut R,
     to: &mut W,
-    options: &WatchOptions,
+    options: &WatchingOptions<'_>,
     progress: &mut P,
+    machine: &mut G,
 ) -> Result<u8, CheckFault>
-    ensures outcome { IfSome (R.remaining from.old) (λ input. WatchOutcome options.now input (W.contents to.old) (W.contents to.new) result) }
+    ensures outcome { IfSome (R.remaining from.old) (λ input. WatchOutcome (watching options.now) input (W.contents to.old) (W.contents to.new) result) }
     ensures unanswered { KeepsUnanswered (W.contents to.old) (W.contents to.new) result }
     ensures status { IfOk result (λ status. IsAnswerStatus status) }
     ensures spent { IfOk result (λ status. status ≡ 6 → LookedAtLeast P.looked progress.old progress.new options.now.budget) }
+    ensures saved { IfOk result (λ status. IfSome (R.remaining from.old) (λ input. SavesFirst G.has_put options.now input (W.contents to.old) (W.contents to.new) status machine.old machine.new)) }
 {
-    let found = watched(alloc, from, to, options, progress);
+    let how = watching(options);
+    let found = watched(alloc, from, to, &how, progress);
     progress.clear();
     match found {
-        Ok(watched) => write_closing(alloc, &watched, to, options),
+        Ok(watched) => {
+            save_first(alloc, &watched, options.save, machine)?;
+            write_closing(alloc, &watched, to, &how)
+        }
         Err(unfinished) => Err(stopped_by(unfinished.fault, &unfinished.found)),
     }
 }
