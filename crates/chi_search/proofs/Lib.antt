@@ -32,6 +32,7 @@ pub mod Paths
 pub mod Picked
 pub mod Picking
 pub mod Reach
+pub mod Reached
 pub mod Runs
 pub mod SameSums
 pub mod Sets

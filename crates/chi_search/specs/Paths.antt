@@ -37,6 +37,21 @@ unfoldable pub Walks : List Operation → Position → List Step → Position �
 Walks ops p [] q = p ≡ q
 Walks ops p (step ∷ path) q = (p ≡ position_of step.from) × ((middle : Position) × Moves ops (position_of step.from) step.op middle × Walks ops middle path q)
 
+-- moves lead to the position from one of the set
+pub record IsReached (ops : List Operation) (from : States) (q : Position) : Type 0 where
+  pub start : Position
+  pub has : Has from start
+  pub path : List Step
+  pub walks : Walks ops start path q
+
+-- and so they do to each position of another set
+abbrev pub AreReached : List Operation → States → States → Type 0
+AreReached ops from states = (q : Position) → Has states q → IsReached ops from q
+
+-- and to each of two sets
+abbrev pub AreBothReached : List Operation → States → States → States → Type 0
+AreBothReached ops from states waiting = AreReached ops from states × AreReached ops from waiting
+
 -- the operations that were taken, in order
 abbrev pub after_op : Option ℕ → List ℕ → List ℕ
 after_op None order = order

@@ -4,10 +4,11 @@ ghost use Rattle.std.specs.Prelude.{◌≡◌, ◌≢◌, ℕ, ◌+◌, ◌-◌,
 ghost use Rattle.std.specs.List.{AllPairs, Contains};
 ghost use Rattle.chi_trace.specs.declared.operation.Operation.{Operation};
 ghost use Rattle.chi_trace.specs.Explains.{at};
+ghost use Rattle.chi_search.specs.declared.states.States.{States};
 ghost use Rattle.chi_search.specs.Layers.{AreReady, AreWaiting, ComeAfter, EitherEnds, MayFollow, SomeEnds, Waits};
 ghost use Rattle.chi_search.specs.Looks.{LookedMore};
 ghost use Rattle.chi_search.specs.Moves.{Ends};
-ghost use Rattle.chi_search.specs.Paths.{AreEarliest};
+ghost use Rattle.chi_search.specs.Paths.{AreBothReached, AreEarliest, AreReached, IsReached};
 ghost use Rattle.chi_search.specs.Positions.{IsReady, Position, position_of, start};
 ghost use Rattle.chi_search.specs.Searchable.{AreSorted, AreWithin};
 ghost use Rattle.chi_search.specs.StateSets.{Has, positions};
@@ -48,6 +49,7 @@ fn add_moves(
     requires ready { IsReady (length ops.now) (position_of state.now) }
     ensures ends { OnOk result ((more : List Operation) → ComeAfter ops.now (at ops.now state.now.first).end more → (v : ℕ) → SomeEnds (ops.now ++ more) states.new v ↔ (SomeEnds (ops.now ++ more) states.old v ⊎ Ends (ops.now ++ more) (Some v) (position_of state.now))) }
     ensures ready { OnOk result (AreReady ops.now states.old → AreReady ops.now states.new) }
+    ensures reached { OnOk result ((from : States) → IsReached ops.now from (position_of state.now) → AreReached ops.now from states.old → AreReached ops.now from states.new) }
 {
     if let Some(place) = idle_next(ops, &[], earliest, state) {
         if take(ops, state, place, next)? {
@@ -101,6 +103,7 @@ fn put_next(
     ensures ends { OnOk result ((more : List Operation) → MayFollow ops.now horizon more → (v : ℕ) → EitherEnds (ops.now ++ more) states.new waiting.new v ↔ (EitherEnds (ops.now ++ more) states.old waiting.old v ⊎ Ends (ops.now ++ more) (Some v) (position_of state.now))) }
     ensures ready { OnOk result (AreReady ops.now states.old → AreReady ops.now states.new) }
     ensures waiting { OnOk result (AreWaiting ops.now horizon waiting.old → AreWaiting ops.now horizon waiting.new) }
+    ensures reached { OnOk result ((from : States) → IsReached ops.now from (position_of state.now) → AreBothReached ops.now from states.old waiting.old → AreBothReached ops.now from states.new waiting.new) }
     ensures count { OnOk result (length (positions waiting.new) ≤ length (positions waiting.old) + 1) }
 {
     if waits(ops, horizon, state.first) {
@@ -159,6 +162,7 @@ fn next_layer<P: Progress>(
     ensures ends { IfOk result (λ next. IfSome next (λ states. (more : List Operation) → MayFollow ops.now horizon more → (v : ℕ) → EitherEnds (ops.now ++ more) states waiting.new v ↔ EitherEnds (ops.now ++ more) layer.now waiting.old v)) }
     ensures ready { IfOk result (λ next. IfSome next (λ states. AreReady ops.now states)) }
     ensures waiting { IfOk result (λ next. IfSome next (λ states. AreWaiting ops.now horizon waiting.new)) }
+    ensures reached { IfOk result (λ next. IfSome next (λ states. (from : States) → AreBothReached ops.now from layer.now waiting.old → AreBothReached ops.now from states waiting.new)) }
     ensures most { IfOk result (λ next. IfSome next (λ states. length (positions waiting.new) ≤ most)) }
     ensures fewer { IfOk result (λ next. IfSome next (λ states. 0 < length (positions layer.now) → budget.new < budget.old)) }
     ensures count { IfOk result (λ next. length (positions waiting.new) + budget.new ≤ length (positions waiting.old) + budget.old) }
@@ -225,6 +229,7 @@ pub(crate) fn advance<P: Progress>(
     ensures ends { IfOk result (λ last. IfSome last (λ states. (more : List Operation) → MayFollow ops.now horizon more → (v : ℕ) → SomeEnds (ops.now ++ more) states v ↔ SomeEnds (ops.now ++ more) from v)) }
     ensures ready { IfOk result (λ last. IfSome last (λ states. AreReady ops.now states)) }
     ensures waiting { IfOk result (λ last. IfSome last (λ states. (p : Position) → Has states p → Waits ops.now horizon p.first)) }
+    ensures reached { IfOk result (λ last. IfSome last (λ states. AreReached ops.now from states)) }
     ensures most { IfOk result (λ last. IfSome last (λ states. length (positions states) ≤ most)) }
     ensures spent { IfOk result (λ last. last ≡ None → (budget.new ≡ 0) ⊎ (most < budget.old - budget.new)) }
     ensures spends { IfOk result (λ last. (budget.new ≤ budget.old) × LookedMore P.looked progress.old progress.new (budget.old - budget.new)) }

@@ -6,9 +6,11 @@ use Rattle.chi_search.specs.declared.states.States.{States}
 use Rattle.chi_trace.specs.Granules.{Fits}
 use Rattle.chi_search.specs.Layers.{AreReady}
 use Rattle.chi_search.specs.Moves.{IsIdle}
+use Rattle.chi_search.specs.Paths.{AreReached}
 use Rattle.chi_search.specs.Positions.{position_of}
 use Rattle.chi_search.proofs.Following.{at_before, comes_back, comes_on, drops_on, ready_on, takes_on}
 use Rattle.chi_search.proofs.Layers.{Grown, IsAdded, grown_refused, grown_taken, is_late, late_on, ready_more, whole_answered, whole_dropped, whole_idle}
+use Rattle.chi_search.proofs.Reached.{reached_dropped, reached_more, reached_taken}
 use Rattle.chi_search.proofs.layer.add_moves.Goals as goal
 use Rattle.chi_search.proofs.layer.add_moves.Goals.{else-branch-2, else-loop-place-test, then-branch-2+in_ok-add_new, then-loop-place-test+else-earliest-place}
 
@@ -35,6 +37,17 @@ returns-then-branch-clause-ready c =
     ready_more c.args.ops.now c.add_new.new.states c.args.states.now (position_of c.take.new.next) added (c.in_ok-take.ensures.ready c.if-branch.true))
     c.add_new.ensures.has
 
+pub returns-then-branch-clause-reached : goal.returns-then-branch-clause-reached
+returns-then-branch-clause-reached c =
+    let ops = c.args.ops.now in
+    let q = position_of c.take.new.next in
+    on_ok_weaker c.add_new.result
+    (λ (added : IsAdded c.add_new.new.states c.args.states.now q) from reached.
+    reached_more ops from c.add_new.new.states c.args.states.now q added
+    (reached_taken ops from c.args.state.now c.in-Some.place q c.requires.ready (c.in_ok-take.ensures.comes c.if-branch.true) (c.in_ok-take.ensures.takes c.if-branch.true)
+    (c.in_ok-take.ensures.leaves c.if-branch.true) reached))
+    c.add_new.ensures.has
+
 pub loop-place-preserved : goal.loop-place-preserved
 loop-place-preserved c =
     let ops = c.args.ops.now in
@@ -55,6 +68,12 @@ loop-place-preserved c =
         ready = λ all.
             subst (AreReady ops) (sym w.states-is)
             (ready_more ops w.add_new-then-branch-2.new.states now q w.in_ok-add_new.ensures.has (c.in_ok-take-2.ensures.ready w.if-branch-2.true) (c.loop-place.invariant.ready all));
+        reached = λ from reached all.
+            subst (AreReached ops from) (sym w.states-is)
+            (reached_more ops from w.add_new-then-branch-2.new.states now q w.in_ok-add_new.ensures.has
+            (reached_taken ops from c.args.state.now place q c.requires.ready (c.in_ok-take-2.ensures.comes w.if-branch-2.true) (c.in_ok-take-2.ensures.takes w.if-branch-2.true)
+            (c.in_ok-take-2.ensures.leaves w.if-branch-2.true) reached)
+            (c.loop-place.invariant.reached from reached all));
       }
       | else-branch-2 w ↦ record {
         grown = λ more after.
@@ -64,6 +83,7 @@ loop-place-preserved c =
             c.in_ok-take-2.ensures.refused w.if-branch-2.false (comes_back ops more p place c.requires.first below comes)
             (subst (λ (o : Operation). Fits o p.word) (at_before ops more place below) fits)));
         ready = λ all. subst (AreReady ops) (sym w.states-is) (c.loop-place.invariant.ready all);
+        reached = λ from reached all. subst (AreReached ops from) (sym w.states-is) (c.loop-place.invariant.reached from reached all);
       }
     ]
 
@@ -88,6 +108,14 @@ pub returns-in_ok-add_new-2-clause-ready : goal.returns-in_ok-add_new-2-clause-r
 returns-in_ok-add_new-2-clause-ready c all =
     ready_more c.args.ops.now c.add_new-then-branch-3.new.states c.loop-place.states (position_of c.leave_out.new.next) c.in_ok-add_new-2.ensures.has
     (c.in_ok-leave_out.ensures.ready c.if-branch-3.true) (c.loop-place.invariant.ready all)
+
+pub returns-in_ok-add_new-2-clause-reached : goal.returns-in_ok-add_new-2-clause-reached
+returns-in_ok-add_new-2-clause-reached c from reached all =
+    let ops = c.args.ops.now in
+    let q = position_of c.leave_out.new.next in
+    reached_more ops from c.add_new-then-branch-3.new.states c.loop-place.states q c.in_ok-add_new-2.ensures.has
+    (reached_dropped ops from c.args.state.now q c.requires.ready c.requires.first (c.in_ok-leave_out.ensures.drops c.if-branch-3.true) reached)
+    (c.loop-place.invariant.reached from reached all)
 
 pub returns-else-branch-3-clause-ends : goal.returns-else-branch-3-clause-ends
 returns-else-branch-3-clause-ends c more after =

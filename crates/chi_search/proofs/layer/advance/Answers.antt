@@ -3,10 +3,12 @@ use Rattle.std.proofs.Common.{ℕ, ◌-◌, ◌≤◌, ◌↔◌, List, ◌++◌
 use Rattle.chi_trace.specs.declared.operation.Operation.{Operation}
 use Rattle.chi_search.specs.declared.states.States.{States}
 use Rattle.chi_search.specs.Layers.{AreReady, AreWaiting, EitherEnds, MayFollow, SomeEnds}
+use Rattle.chi_search.specs.Paths.{AreBothReached}
 use Rattle.chi_search.specs.StateSets.{positions}
 use Rattle.chi_search.proofs.FirstAndLast.{chained}
 use Rattle.chi_search.proofs.Layers.{first_either, last_either, none_has}
 use Rattle.chi_search.proofs.Looking.{none_more, spent_after}
+use Rattle.chi_search.proofs.Reached.{reached_first, reached_none}
 use Rattle.chi_search.proofs.layer.advance.Goals as goal
 
 pub loop-alloc-init : goal.loop-alloc-init
@@ -16,6 +18,7 @@ loop-alloc-init g c =
       ends = λ more follow v. first_either (c.args.ops.now ++ more) c.args.from c.no_states-waiting.result v none;
       ready = c.requires.ready;
       waiting = λ p has. absurd (none_has c.no_states-waiting.result p c.no_states-waiting.ensures has);
+      reached = (reached_first c.args.ops.now c.args.from, reached_none c.args.ops.now c.args.from c.no_states-waiting.result c.no_states-waiting.ensures);
       most = omega (arith, none);
       count = omega (arith, none);
       looked = none_more g.P.Progress.looked c.args.progress.now (c.args.budget.now - c.args.budget.now) (omega arith);
@@ -38,6 +41,8 @@ loop-alloc-preserved g c =
           (c.loop-alloc.invariant.ends more follow v);
       ready = subst (λ (o : Option States). IfSome o (AreReady ops)) c.in-Some.is c.in_ok-next.ensures.ready;
       waiting = subst (λ (o : Option States). IfSome o (λ next. AreWaiting ops c.args.horizon new)) c.in-Some.is c.in_ok-next.ensures.waiting;
+      reached = subst (λ (o : Option States). IfSome o (λ next. (from : States) → AreBothReached ops from layer old → AreBothReached ops from next new))
+          c.in-Some.is c.in_ok-next.ensures.reached c.args.from c.loop-alloc.invariant.reached;
       most = subst (λ (o : Option States). IfSome o (λ next. length (positions new) ≤ c.args.most)) c.in-Some.is c.in_ok-next.ensures.most;
       count = omega (arith, count, c.loop-alloc.invariant.count);
       looked = spent_after g.P.Progress.looked c.args.progress.now c.loop-alloc.progress c.next_layer.new.progress c.args.budget.now c.loop-alloc.budget c.next_layer.new.budget
@@ -50,3 +55,6 @@ returns-clause-ends g c more follow v =
 
 pub returns-clause-ready : goal.returns-clause-ready
 returns-clause-ready g c p has = (c.loop-alloc.invariant.waiting p has).0
+
+pub returns-clause-reached : goal.returns-clause-reached
+returns-clause-reached g c = c.loop-alloc.invariant.reached.1

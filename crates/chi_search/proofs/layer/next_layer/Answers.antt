@@ -5,8 +5,9 @@ use Rattle.chi_search.specs.Moves.{Ends}
 use Rattle.chi_search.specs.Positions.{IsReady, position_of}
 use Rattle.chi_search.specs.StateSets.{positions}
 use Rattle.chi_search.proofs.Elements.{some_end_beside, some_step_beside}
-use Rattle.chi_search.proofs.Layers.{ends_more, more_states, ready_at, ready_more}
+use Rattle.chi_search.proofs.Layers.{ends_more, has_at, more_states, ready_at, ready_more}
 use Rattle.chi_search.proofs.Looking.{one_more}
+use Rattle.chi_search.proofs.Reached.{reached_more}
 use Rattle.chi_search.proofs.layer.next_layer.Goals as goal
 
 pub loop-place-preserved : goal.loop-place-preserved
@@ -21,6 +22,7 @@ loop-place-preserved g c =
           (SomeEnds (ops ++ more) c.args.waiting.now v) (positions c.args.layer.now) c.loop-place.place p c.in_ok-read.ensures (so.ends more follow v) (c.in_ok-put_next.ensures.ends more follow v);
       ready = c.in_ok-put_next.ensures.ready so.ready;
       waiting = c.in_ok-put_next.ensures.waiting so.waiting;
+      reached = λ from all. c.in_ok-put_next.ensures.reached from (all.0 p (has_at c.args.layer.now c.loop-place.place p c.in_ok-read.ensures)) (so.reached from all);
       most = omega arith;
       count = omega (arith, c.in_ok-put_next.ensures.count, so.count, some);
       fewer = λ before. omega (arith, so.left, some);
@@ -50,6 +52,9 @@ loop-place-preserved-then-settled_count-fewest g c =
           (more_states (ops ++ more) new old c.loop-place.waiting p (ends_more (ops ++ more) new old p c.in_ok-add_new.ensures.has) v);
       ready = ready_more ops new old p c.in_ok-add_new.ensures.has ready so.ready;
       waiting = so.waiting;
+      reached = λ from all.
+          let before = so.reached from all in
+          (reached_more ops from new old p c.in_ok-add_new.ensures.has (all.0 p (has_at c.args.layer.now c.loop-place.place p c.in_ok-read.ensures)) before.0, before.1);
       most = so.most;
       count = so.count;
       fewer = λ before. so.fewer (omega (arith, before, c.if-place-least.true));
