@@ -1,5 +1,5 @@
 -- a position told without the first operations, once all of those are settled
-use Rattle.std.proofs.Common.{◌≡◌, ◌↔◌, ℕ, zero, suc, ◌+◌, ◌-◌, ◌≤◌, nat_le, nat_lt, ◌&&◌, not, Bool, true, false, List, ◌++◌, All, drop, get_or, length, map, Option, Some, refl, sym, ap, subst, ◌∙◌, arith, get_or-drop, length-append, length-drop, true≢false}
+use Rattle.std.proofs.Common.{◌≡◌, ◌↔◌, ℕ, zero, suc, ◌+◌, ◌-◌, ◌≤◌, nat_le, nat_lt, ◌&&◌, not, Bool, true, false, List, [], ◌∷◌, ◌++◌, All, drop, get_or, length, map, Option, Some, refl, sym, ap, subst, ◌∙◌, arith, get_or-drop, length-append, length-drop, true≢false}
 use Rattle.std.proofs.lemmas.Bool.Decides.{nat_tests}
 use Rattle.std.proofs.lemmas.List.{drop-append-le}
 use Rattle.std.proofs.lemmas.List.Elements.{All-map}
@@ -79,52 +79,59 @@ left_there n m k p j past count = ap (λ b. b && is_unsettled (back_by k p) j) w
     within : nat_lt j m ≡ nat_lt (k + j) n
     within = grind (arith, nat_tests)
 
+-- what is moved can be moved back
+moved_home : {ts us : List Operation} {s t : ℕ → Bool} {f g : ℕ → ℕ} → IsMove ts us s t f g → IsMove us ts t s g f
+moved_home {ts} {us} {s} {t} {f} {g} m = record {
+  same = λ j is. sym (m.same (g j) (m.back j is)) ∙ ap (at us) (m.there j is);
+  left = m.back;
+  home = m.there;
+  back = m.left;
+  there = m.home;
+}
+
+at_dropped : (ops more : List Operation) (k j : ℕ) → k ≤ length ops → at (drop k ops ++ more) j ≡ at (ops ++ more) (k + j)
+at_dropped ops more k j within = ap (λ (l : List Operation). at l j) (sym (drop-append-le k ops more within)) ∙ get_or-drop k (ops ++ more) j nothing
+
+-- what is left without the first operations is left with them, so many places on
+with_first : (ops more : List Operation) (k : ℕ) (p : Position) → k ≤ p.first → k ≤ length ops
+    → IsMove (drop k ops ++ more) (ops ++ more) (is_left (length (drop k ops ++ more)) (back_by k p)) (is_left (length (ops ++ more)) p) (λ j. k + j) (λ i. i - k)
+with_first ops more k p past within = record {
+  same = λ j is. sym (at_dropped ops more k j within);
+  left = λ j is. sym (left j) ∙ is;
+  home = λ j is. omega arith;
+  back = λ i is. left (i - k) ∙ (ap (is_left (length (ops ++ more)) p) (later i is) ∙ is);
+  there = later;
+}
+  where
+    count : length (ops ++ more) ≡ k + length (drop k ops ++ more)
+    count = omega (arith, length-append ops more, length-append (drop k ops) more, length-drop k ops)
+
+    left : (j : ℕ) → is_left (length (drop k ops ++ more)) (back_by k p) j ≡ is_left (length (ops ++ more)) p (k + j)
+    left j = left_there (length (ops ++ more)) (length (drop k ops ++ more)) k p j past count
+
+    later : (i : ℕ) → is_left (length (ops ++ more)) p i ≡ true → k + (i - k) ≡ i
+    later i is = omega (arith, (left_is (length (ops ++ more)) p i is).1)
+
+-- an order without the first operations is one with them, of the same operations
+pub undropped : (ops more : List Operation) (k : ℕ) (final_word : Option ℕ) (p : Position) (x : List ℕ) → k ≤ p.first → k ≤ length ops
+    → Finishes (drop k ops ++ more) (is_left (length (drop k ops ++ more)) (back_by k p)) p.word final_word x
+    → Finishes (ops ++ more) (is_left (length (ops ++ more)) p) p.word final_word (map (λ j. k + j) x)
+undropped ops more k final_word p x past within =
+    finishes_moved (drop k ops ++ more) (ops ++ more) (is_left (length (drop k ops ++ more)) (back_by k p)) (is_left (length (ops ++ more)) p) (λ j. k + j) (λ i. i - k) p.word final_word x
+    (with_first ops more k p past within)
+
+pub same_undropped : (ops more : List Operation) (k : ℕ) (x : List ℕ) → k ≤ length ops → map (at (ops ++ more)) (map (λ j. k + j) x) ≡ map (at (drop k ops ++ more)) x
+same_undropped ops more k [] within = refl
+same_undropped ops more k (j ∷ x) within = let here = at_dropped ops more k j within in let rest = same_undropped ops more k x within in cc
+
 -- some order finishes what is left if and only if some order does so without the first operations
 pub drop_settled : (ops more : List Operation) (k v : ℕ) (p : Position) → k ≤ p.first → k ≤ length ops
     → Ends (ops ++ more) (Some v) p ↔ Ends (drop k ops ++ more) (Some v) (back_by k p)
 drop_settled ops more k v p past within = (
-  λ (x, c). (map (λ i. i - k) x, finishes_moved ts us s t (λ i. i - k) (λ j. k + j) p.word (Some v) x forth c),
-  λ (x, c). (map (λ j. k + j) x, finishes_moved us ts t s (λ j. k + j) (λ i. i - k) p.word (Some v) x back c),
+  λ (x, c). (
+    map (λ i. i - k) x,
+    finishes_moved (ops ++ more) (drop k ops ++ more) (is_left (length (ops ++ more)) p) (is_left (length (drop k ops ++ more)) (back_by k p)) (λ i. i - k) (λ j. k + j) p.word (Some v) x
+        (moved_home (with_first ops more k p past within)) c,
+  ),
+  λ (x, c). (map (λ j. k + j) x, undropped ops more k (Some v) p x past within c),
 )
-  where
-    ts : List Operation
-    ts = ops ++ more
-
-    us : List Operation
-    us = drop k ops ++ more
-
-    s : ℕ → Bool
-    s = is_left (length ts) p
-
-    t : ℕ → Bool
-    t = is_left (length us) (back_by k p)
-
-    count : length ts ≡ k + length us
-    count = omega (arith, length-append ops more, length-append (drop k ops) more, length-drop k ops)
-
-    later : (i : ℕ) → s i ≡ true → k + (i - k) ≡ i
-    later i is = omega (arith, (left_is (length ts) p i is).1)
-
-    left : (j : ℕ) → t j ≡ s (k + j)
-    left j = left_there (length ts) (length us) k p j past count
-
-    same : (j : ℕ) → at us j ≡ at ts (k + j)
-    same j = ap (λ (l : List Operation). at l j) (sym (drop-append-le k ops more within)) ∙ get_or-drop k ts j nothing
-
-    forth : IsMove ts us s t (λ i. i - k) (λ j. k + j)
-    forth = record {
-      same = λ i is. same (i - k) ∙ ap (at ts) (later i is);
-      left = λ i is. left (i - k) ∙ (ap s (later i is) ∙ is);
-      home = later;
-      back = λ j is. sym (left j) ∙ is;
-      there = λ j is. omega arith;
-    }
-
-    back : IsMove us ts t s (λ j. k + j) (λ i. i - k)
-    back = record {
-      same = λ j is. sym (same j);
-      left = forth.back;
-      home = forth.there;
-      back = forth.left;
-      there = later;
-    }

@@ -1,12 +1,13 @@
--- the words that can follow from the first states, and from those in which none is left
-use Rattle.std.proofs.Common.{◌≡◌, ℕ, ◌≤◌, ◌↔◌, List, [], length, Some, refl, sym, subst}
+-- the words that can follow, and the orders, from the first states, and from those in which none is left
+use Rattle.std.proofs.Common.{◌≡◌, ℕ, ◌≤◌, ◌↔◌, List, [], length, None, Some, refl, sym, subst}
 use Rattle.std.specs.List.{Contains}
 use Rattle.chi_trace.specs.declared.operation.Operation.{Operation}
 use Rattle.chi_trace.specs.Granules.{Finishes}
 use Rattle.chi_search.specs.declared.states.States.{States}
+use Rattle.chi_search.specs.Frontiers.{AreEnds}
 use Rattle.chi_search.specs.Layers.{AreReady, SomeEnds, SomeLeads}
 use Rattle.chi_search.specs.Positions.{IsReady, Position, is_left, start}
-use Rattle.chi_search.specs.StateSets.{Has}
+use Rattle.chi_search.specs.StateSets.{Has, positions}
 use Rattle.chi_search.proofs.Moves.{at_end, ended}
 use Rattle.chi_search.proofs.Start.{at_start, from_start, ready_at_start}
 
@@ -28,6 +29,18 @@ first_leads ops words layer first v = (forth, back)
 
     back : SomeLeads ops words v → SomeEnds ops layer v
     back (w, has, (x, c)) = (start w, (first (start w)).1 (w, has, refl), (x, at_start ops w (Some v) x c))
+
+pub first_orders : (ops : List Operation) (words : List ℕ) (layer : States) → AreFirst layer words → AreEnds ops words (positions layer) ops
+first_orders ops words layer first p has x c =
+    let of = (first p).0 has in
+    record {
+      from = of.0;
+      is_there = of.1;
+      whole = x;
+      finishes = from_start ops of.0 None x (subst (λ (q : Position). Finishes ops (is_left (length ops) q) q.word None x) of.2 c);
+      earlier = [];
+      parts = refl;
+    }
 
 -- one layer more
 pub chained : (A B C : Type 0) → A ↔ B → B ↔ C → A ↔ C

@@ -1,19 +1,22 @@
 -- a search told without the first operations, which each of its positions has passed
-use Rattle.std.proofs.Common.{◌≡◌, ℕ, ◌+◌, ◌-◌, ◌^◌, ◌≤◌, ◌↔◌, List, [], ◌++◌, drop, length, length-drop, get_or-drop, append-nil, Some, None, refl, sym, ap, subst, ◌∙◌, arith, inl, inr}
+use Rattle.std.proofs.Common.{◌≡◌, ℕ, ◌+◌, ◌-◌, ◌^◌, ◌≤◌, ◌↔◌, List, [], ◌++◌, drop, length, length-drop, get_or-drop, append-nil, map, Some, None, refl, sym, ap, subst, ◌∙◌, arith, inl, inr}
 use Rattle.std.specs.List.{Contains}
-use Rattle.std.proofs.lemmas.List.Elements.{All-drop, All-weaker}
+use Rattle.std.proofs.lemmas.List.Elements.{All-drop}
 use Rattle.chi_trace.specs.declared.operation.Operation.{Operation}
 use Rattle.chi_trace.specs.Explains.{at, nothing}
+use Rattle.chi_trace.specs.Granules.{Finishes}
 use Rattle.chi_search.specs.declared.states.States.{States}
-use Rattle.chi_search.specs.Frontiers.{CanBeTold, Follows, FrontierValue, IsFrontier, MayBeTold}
+use Rattle.chi_search.specs.Frontiers.{AreEnds, EndsWith, Follows, FrontierValue, GoesOn, IsFrontier, MayBeTold}
 use Rattle.chi_search.specs.Layers.{MayFollow, SomeEnds, SomeLeads, Waits}
 use Rattle.chi_search.specs.Moves.{Ends}
-use Rattle.chi_search.specs.Positions.{IsReady, Position, back_by}
+use Rattle.chi_search.specs.Paths.{AreReached}
+use Rattle.chi_search.specs.Positions.{IsReady, Position, back_by, is_left}
 use Rattle.chi_search.specs.Searchable.{AreByEnd}
 use Rattle.chi_search.specs.StateSets.{Has, positions}
-use Rattle.chi_search.proofs.Dropped.{drop_settled, left_there, unsettled_there}
+use Rattle.chi_search.proofs.Dropped.{drop_settled, left_there, same_undropped, undropped, unsettled_there}
 use Rattle.chi_search.proofs.FirstAndLast.{chained}
-use Rattle.chi_search.proofs.Telling.{may_follow, none_follow, none_told}
+use Rattle.chi_search.proofs.Reached.{ends_reached}
+use Rattle.chi_search.proofs.Telling.{may_earlier, may_follow, none_follow, none_told}
 
 at_drop : (k : ℕ) (ops : List Operation) (i : ℕ) → at (drop k ops) i ≡ at ops (k + i)
 at_drop k ops i = get_or-drop k ops i nothing
@@ -81,32 +84,50 @@ waits_back ops horizon k last back within past waiting are p has =
           inr (omega (arith, late, there))
     ])
 
+-- an order that goes on without them is of the same operations as one with them
+ends_back : (told : List Operation) (words : List ℕ) (ops more : List Operation) (k : ℕ) (last back : States) → k ≤ length ops → ((p : Position) → Has last p → k ≤ p.first)
+    → AreBack k back last → AreEnds told words (positions last) (ops ++ more) → AreEnds told words (positions back) (drop k ops ++ more)
+ends_back told words ops more k last back within past are ends p has x c =
+    let of = (are p).0 has in
+    subst (EndsWith told words) (same_undropped ops more k x within)
+    (ends of.0 of.1 (map (λ j. k + j) x) (undropped ops more k None of.0 x (past of.0 of.1) within
+    (subst (λ (q : Position). Finishes (drop k ops ++ more) (is_left (length (drop k ops ++ more)) q) q.word None x) of.2 c)))
+
 -- it follows the same operations
 pub follows_back : (words : List ℕ) (told : List Operation) (f : FrontierValue) (horizon k : ℕ) (states from last back : States) → IsFrontier f → f.positions ≡ positions states
     → f.horizon ≤ horizon → k ≤ length f.operations → ((p : Position) → Has last p → k ≤ p.first) → AreBack 0 from states → AreBack k back last
     → ((more : List Operation) → MayFollow f.operations (Some horizon) more → (v : ℕ) → SomeEnds (f.operations ++ more) last v ↔ SomeEnds (f.operations ++ more) from v)
-    → Follows words told f → Follows words told (told_back f horizon k back)
-follows_back words told f horizon k states from last back is same later within past copied are goes follows more may v =
-    let ops = f.operations in
-    let here : SomeLeads (told ++ more) words v ↔ SomeEnds (ops ++ more) states v =
-    subst (λ (ps : List Position). SomeLeads (told ++ more) words v ↔ ((p : Position) × Contains ps p × Ends (ops ++ more) (Some v) p)) same (follows more before v) in
-    let first : SomeEnds (ops ++ more) states v ↔ SomeEnds (ops ++ more) from v = goes_back ops more 0 v states from (omega arith) (λ p has. omega arith) copied in
-    let on = goes more (may_follow f horizon more is there) v in
-    chained (SomeLeads (told ++ more) words v) (SomeEnds (ops ++ more) states v) (SomeEnds (drop k ops ++ more) back v) here
-    (chained (SomeEnds (ops ++ more) states v) (SomeEnds (ops ++ more) from v) (SomeEnds (drop k ops ++ more) back v) first
-    (chained (SomeEnds (ops ++ more) from v) (SomeEnds (ops ++ more) last v) (SomeEnds (drop k ops ++ more) back v) (on.1, on.0) (goes_back ops more k v last back within past are)))
+    → AreReached f.operations from last → Follows words told f → Follows words told (told_back f horizon k back)
+follows_back words told f horizon k states from last back is same later within past copied are goes reached follows = record { leads = leads; orders = orders }
   where
-    before : MayBeTold f more
-    before = record {
-      sorted = may.sorted;
-      each = All-weaker (CanBeTold (told_back f horizon k back)) (CanBeTold f) (λ o c. record { lasting = c.lasting; starts = omega (arith, later, c.starts); ends = c.ends }) more may.each;
-    }
+    ops : List Operation
+    ops = f.operations
 
-    there : MayBeTold (record f { horizon = horizon }) more
-    there = record {
-      sorted = may.sorted;
-      each = All-weaker (CanBeTold (told_back f horizon k back)) (CanBeTold (record f { horizon = horizon })) (λ o c. record { lasting = c.lasting; starts = c.starts; ends = c.ends }) more may.each;
-    }
+    next : FrontierValue
+    next = told_back f horizon k back
+
+    before : (more : List Operation) → MayBeTold next more → MayBeTold f more
+    before more may = may_earlier f next more later (omega arith) may
+
+    follow : (more : List Operation) → MayBeTold next more → MayFollow ops (Some horizon) more
+    follow more may = may_follow f horizon more is (may_earlier (record f { horizon = horizon }) next more (omega arith) (omega arith) may)
+
+    leads : (more : List Operation) → MayBeTold next more → (v : ℕ) → SomeLeads (told ++ more) words v ↔ GoesOn next more v
+    leads more may v =
+        let here : SomeLeads (told ++ more) words v ↔ SomeEnds (ops ++ more) states v =
+        subst (λ (ps : List Position). SomeLeads (told ++ more) words v ↔ ((p : Position) × Contains ps p × Ends (ops ++ more) (Some v) p)) same (follows.leads more (before more may) v) in
+        let first : SomeEnds (ops ++ more) states v ↔ SomeEnds (ops ++ more) from v = goes_back ops more 0 v states from (omega arith) (λ p has. omega arith) copied in
+        let on : SomeEnds (ops ++ more) last v ↔ SomeEnds (ops ++ more) from v = goes more (follow more may) v in
+        chained (SomeLeads (told ++ more) words v) (SomeEnds (ops ++ more) states v) (SomeEnds (drop k ops ++ more) back v) here
+        (chained (SomeEnds (ops ++ more) states v) (SomeEnds (ops ++ more) from v) (SomeEnds (drop k ops ++ more) back v) first
+        (chained (SomeEnds (ops ++ more) from v) (SomeEnds (ops ++ more) last v) (SomeEnds (drop k ops ++ more) back v) (on.1, on.0) (goes_back ops more k v last back within past are)))
+
+    orders : (more : List Operation) → MayBeTold next more → AreEnds (told ++ more) words next.positions (next.operations ++ more)
+    orders more may =
+        ends_back (told ++ more) words ops more k last back within past are
+        (ends_reached (told ++ more) words ops more from last (follow more may).sorted reached
+        (ends_back (told ++ more) words ops more 0 states from (omega arith) (λ p has. omega arith) copied
+        (subst (λ (ps : List Position). AreEnds (told ++ more) words ps (ops ++ more)) same (follows.orders more (before more may)))))
 
 -- a copy of the states is as ready as they are
 pub ready_copied : (ops : List Operation) (states from : States) → AreBack 0 from states → ((p : Position) → Has states p → IsReady (length ops) p)
@@ -125,7 +146,7 @@ follows_all words told f states from last is same copied goes follows v =
     let here : SomeLeads told words v ↔ SomeEnds ops states v =
     subst (λ (all : List Operation). SomeLeads all words v ↔ SomeEnds ops states v) (append-nil told)
     (subst (λ (all : List Operation). SomeLeads (told ++ []) words v ↔ SomeEnds all states v) (append-nil ops)
-    (subst (λ (ps : List Position). SomeLeads (told ++ []) words v ↔ ((p : Position) × Contains ps p × Ends (ops ++ []) (Some v) p)) same (follows [] (none_told f) v))) in
+    (subst (λ (ps : List Position). SomeLeads (told ++ []) words v ↔ ((p : Position) × Contains ps p × Ends (ops ++ []) (Some v) p)) same (follows.leads [] (none_told f) v))) in
     let first : SomeEnds ops states v ↔ SomeEnds ops from v =
     subst (λ (all : List Operation). SomeEnds all states v ↔ SomeEnds all from v) (append-nil ops) (goes_back ops [] 0 v states from (omega arith) (λ p has. omega arith) copied) in
     let on : SomeEnds ops last v ↔ SomeEnds ops from v =
@@ -145,15 +166,25 @@ frontier_copied f states back same copied is = record {
 -- and follows the same operations
 pub follows_copied : (words : List ℕ) (told : List Operation) (f : FrontierValue) (states back : States) → f.positions ≡ positions states → AreBack 0 back states
     → Follows words told f → Follows words told (record f { positions = positions back })
-follows_copied words told f states back same copied follows more may v =
-    let ops = f.operations in
-    let here : SomeLeads (told ++ more) words v ↔ SomeEnds (ops ++ more) states v =
-    subst (λ (ps : List Position). SomeLeads (told ++ more) words v ↔ ((p : Position) × Contains ps p × Ends (ops ++ more) (Some v) p)) same (follows more before v) in
-    chained (SomeLeads (told ++ more) words v) (SomeEnds (ops ++ more) states v) (SomeEnds (ops ++ more) back v) here
-    (goes_back ops more 0 v states back (omega arith) (λ p has. omega arith) copied)
+follows_copied words told f states back same copied follows = record { leads = leads; orders = orders }
   where
-    before : MayBeTold f more
-    before = record {
-      sorted = may.sorted;
-      each = All-weaker (CanBeTold (record f { positions = positions back })) (CanBeTold f) (λ o c. record { lasting = c.lasting; starts = c.starts; ends = c.ends }) more may.each;
-    }
+    ops : List Operation
+    ops = f.operations
+
+    copy : FrontierValue
+    copy = record f { positions = positions back }
+
+    before : (more : List Operation) → MayBeTold copy more → MayBeTold f more
+    before more may = may_earlier f copy more (omega arith) (omega arith) may
+
+    leads : (more : List Operation) → MayBeTold copy more → (v : ℕ) → SomeLeads (told ++ more) words v ↔ GoesOn copy more v
+    leads more may v =
+        let here : SomeLeads (told ++ more) words v ↔ SomeEnds (ops ++ more) states v =
+        subst (λ (ps : List Position). SomeLeads (told ++ more) words v ↔ ((p : Position) × Contains ps p × Ends (ops ++ more) (Some v) p)) same (follows.leads more (before more may) v) in
+        chained (SomeLeads (told ++ more) words v) (SomeEnds (ops ++ more) states v) (SomeEnds (ops ++ more) back v) here
+        (goes_back ops more 0 v states back (omega arith) (λ p has. omega arith) copied)
+
+    orders : (more : List Operation) → MayBeTold copy more → AreEnds (told ++ more) words copy.positions (ops ++ more)
+    orders more may =
+        ends_back (told ++ more) words ops more 0 states back (omega arith) (λ p has. omega arith) copied
+        (subst (λ (ps : List Position). AreEnds (told ++ more) words ps (ops ++ more)) same (follows.orders more (before more may)))

@@ -2,7 +2,6 @@
 use Rattle.std.proofs.Common.{◌≡◌, ℕ, ◌^◌, ◌<◌, ◌≤◌, ◌↔◌, List, [], ◌∷◌, ◌++◌, append-nil, drop, length, IfSome, Option, Some, sym, subst, arith}
 use Rattle.std.proofs.lemmas.List.{append_assoc}
 use Rattle.std.specs.List.{Contains}
-use Rattle.std.proofs.lemmas.List.Elements.{All-weaker}
 use Rattle.chi_trace.specs.declared.operation.Operation.{Operation}
 use Rattle.chi_trace.specs.Granules.{last_word}
 use Rattle.chi_search.specs.declared.order.Found.{Found}
@@ -19,7 +18,7 @@ use Rattle.chi_search.proofs.Following.{comes_on, takes_on}
 use Rattle.chi_search.proofs.Layers.{takes_to}
 use Rattle.chi_search.proofs.MovedBack.{AreBack, goes_back, told_back}
 use Rattle.chi_search.proofs.Judging.{IsFrom, to_last}
-use Rattle.chi_search.proofs.Telling.{may_follow, none_told, told_one, with_one}
+use Rattle.chi_search.proofs.Telling.{may_earlier, may_follow, none_told, told_one, with_one}
 
 -- what goes on after an operation that comes next goes on from before it, whatever is told later
 pub taken_on : (ops more : List Operation) (p q : Position) (i v : ℕ) → AreSorted (ops ++ more) → p.first < length ops → i < length ops → CanCome ops p i → Takes ops p i q
@@ -29,7 +28,7 @@ taken_on ops more p q i v sorted first below comes takes word ends =
 
 -- a search that follows what was told goes along it
 pub follows_along : (words : List ℕ) (told : List Operation) (f : FrontierValue) → Follows words told f → GoesAlong words told f
-follows_along words told f follows more may v goes = (follows more may v).1 goes
+follows_along words told f follows more may v goes = (follows.leads more may v).1 goes
 
 -- the search from one state on, told without the operations that this has passed, goes on to just the words to which the state leads
 pub from_back : (f : FrontierValue) (s : Position) (k : ℕ) (last back : States) → Has last s → ((q : Position) → Has last q → q ≡ s) → k ≤ length f.operations
@@ -47,33 +46,16 @@ pub along_from : (words : List ℕ) (told : List Operation) (f next : FrontierVa
     → ((more : List Operation) → AreSorted (f.operations ++ more) → (v : ℕ) → Ends (f.operations ++ more) (Some v) s → Ends (f.operations ++ more) (Some v) p)
     → GoesOnFrom f next s → (next.horizon ≡ f.horizon) × (next.latest ≡ f.latest) → GoesAlong words told f → GoesAlong words told next
 along_from words told f next p s is has ends from same along more may v goes =
-    along more before v (p, has, ends more (may_follow f f.horizon more is there).sorted v ((from more v).0 goes))
-  where
-    before : MayBeTold f more
-    before = record {
-      sorted = may.sorted;
-      each = All-weaker (CanBeTold next) (CanBeTold f) (λ o c. record { lasting = c.lasting; starts = omega (arith, same.0, c.starts); ends = omega (arith, same.1, c.ends) }) more may.each;
-    }
-
-    there : MayBeTold (record f { horizon = f.horizon }) more
-    there = record {
-      sorted = may.sorted;
-      each = All-weaker (CanBeTold f) (CanBeTold (record f { horizon = f.horizon })) (λ o c. record { lasting = c.lasting; starts = c.starts; ends = c.ends }) more before.each;
-    }
+    let before : MayBeTold f more = may_earlier f next more (omega (arith, same.0)) (omega (arith, same.1)) may in
+    along more before v (p, has, ends more (may_follow f f.horizon more is before).sorted v ((from more v).0 goes))
 
 -- and so does a copy of it
 pub along_copied : (words : List ℕ) (told : List Operation) (f : FrontierValue) (states back : States) → f.positions ≡ positions states → AreBack 0 back states
     → GoesAlong words told f → GoesAlong words told (record f { positions = positions back })
 along_copied words told f states back same copied along more may v goes =
-    along more before v
+    along more (may_earlier f (record f { positions = positions back }) more (omega arith) (omega arith) may) v
     (subst (λ (ps : List Position). (p : Position) × Contains ps p × Ends (f.operations ++ more) (Some v) p) (sym same)
     ((goes_back f.operations more 0 v states back (omega arith) (λ p has. omega arith) copied).1 goes))
-  where
-    before : MayBeTold f more
-    before = record {
-      sorted = may.sorted;
-      each = All-weaker (CanBeTold (record f { positions = positions back })) (CanBeTold f) (λ o c. record { lasting = c.lasting; starts = c.starts; ends = c.ends }) more may.each;
-    }
 
 -- one operation more is told
 pub along_one : (words : List ℕ) (told : List Operation) (f : FrontierValue) (op : Operation) → CanBeTold f op → GoesAlong words told f

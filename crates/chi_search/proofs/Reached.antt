@@ -1,16 +1,20 @@
 -- positions to which moves lead from those of a set
-use Rattle.std.proofs.Common.{◌≡◌, ℕ, ◌^◌, ◌<◌, List, [], ◌∷◌, ◌++◌, length, length-append, Option, None, Some, refl, sym, subst, arith, inl, inr}
+use Rattle.std.proofs.Common.{◌≡◌, ℕ, ◌^◌, ◌<◌, List, [], ◌∷◌, ◌++◌, length, length-append, map, Option, None, Some, refl, sym, ap, subst, ◌∙◌, arith, inl, inr}
+use Rattle.std.proofs.lemmas.List.{append_assoc, map-append}
 use Rattle.chi_trace.specs.declared.operation.Operation.{Operation}
+use Rattle.chi_trace.specs.Explains.{at}
 use Rattle.chi_search.specs.declared.path.Step.{Step}
 use Rattle.chi_search.specs.declared.state.State.{State}
 use Rattle.chi_search.specs.declared.states.States.{States}
+use Rattle.chi_search.specs.Frontiers.{AreEnds}
 use Rattle.chi_search.specs.Moves.{CanCome, Drops, Takes}
-use Rattle.chi_search.specs.Paths.{AreReached, IsReached, Moves, Walks}
+use Rattle.chi_search.specs.Paths.{AreReached, IsReached, Moves, Walks, taken}
 use Rattle.chi_search.specs.Positions.{IsReady, Position, position_of}
+use Rattle.chi_search.specs.Searchable.{AreSorted}
 use Rattle.chi_search.specs.StateSets.{positions}
 use Rattle.chi_search.proofs.Following.{comes_on, drops_on, ready_on, takes_on}
 use Rattle.chi_search.proofs.Layers.{IsAdded, none_has}
-use Rattle.chi_search.proofs.Paths.{walks_on}
+use Rattle.chi_search.proofs.Paths.{walks_end, walks_on}
 use Rattle.chi_search.proofs.Settling.{left_is}
 
 -- each of the set itself is reached
@@ -63,8 +67,25 @@ moves_on ops more p q (Some i) moves =
     let first : p.first < length ops = omega (arith, is.0, is.1) in
     (ready_on ops more p moves.0, comes_on ops more p i first moves.1, takes_on ops more p q i is.0 moves.2, moves.3)
 
-pub walks_further : (ops more : List Operation) (p q : Position) (path : List Step) → Walks ops p path q → Walks (ops ++ more) p path q
+walks_further : (ops more : List Operation) (p q : Position) (path : List Step) → Walks ops p path q → Walks (ops ++ more) p path q
 unfolding Walks
 walks_further ops more p q [] walks = walks
 walks_further ops more p q (step ∷ path) walks =
     (walks.0, (walks.1.0, moves_on ops more (position_of step.from) walks.1.0 step.op walks.1.1, walks_further ops more walks.1.0 q path walks.1.2))
+
+-- an order that goes on from one of the positions is how one ends that goes on from one of the set
+pub ends_reached : (told : List Operation) (words : List ℕ) (ops more : List Operation) (from last : States) → AreSorted (ops ++ more) → AreReached ops from last
+    → AreEnds told words (positions from) (ops ++ more) → AreEnds told words (positions last) (ops ++ more)
+ends_reached told words ops more from last sorted reached ends p has x c =
+    let r = reached p has in
+    let first = map (at (ops ++ more)) (taken r.path) in
+    let rest = map (at (ops ++ more)) x in
+    let of = ends r.start r.has (taken r.path ++ x) (walks_end (ops ++ more) None r.start p r.path x sorted (walks_further ops more r.start p r.path r.walks) c) in
+    record {
+      from = of.from;
+      is_there = of.is_there;
+      whole = of.whole;
+      finishes = of.finishes;
+      earlier = of.earlier ++ first;
+      parts = of.parts ∙ ap (λ l. of.earlier ++ l) (map-append (at (ops ++ more)) (taken r.path) x) ∙ sym (append_assoc of.earlier first rest);
+    }

@@ -8,13 +8,13 @@ use Rattle.chi_trace.specs.declared.operation.Operation.{Operation}
 use Rattle.chi_trace.specs.Explains.{at, nothing}
 use Rattle.chi_trace.proofs.Segments.{at_later}
 use Rattle.chi_search.specs.declared.states.States.{States}
-use Rattle.chi_search.specs.Frontiers.{CanBeTold, Follows, FrontierValue, GoesOn, IsFrontier, MayBeTold}
+use Rattle.chi_search.specs.Frontiers.{AreEnds, CanBeTold, Follows, FrontierValue, GoesOn, IsFrontier, MayBeTold}
 use Rattle.chi_search.specs.Layers.{CanStart, MayFollow, SomeLeads}
 use Rattle.chi_search.specs.Moves.{Ends}
 use Rattle.chi_search.specs.Positions.{Position}
 use Rattle.chi_search.specs.Searchable.{AreByEnd, AreSorted, AreWithin}
 use Rattle.chi_search.specs.StateSets.{positions}
-use Rattle.chi_search.proofs.FirstAndLast.{AreFirst, first_leads, first_ready}
+use Rattle.chi_search.proofs.FirstAndLast.{AreFirst, first_leads, first_orders, first_ready}
 use Rattle.chi_search.proofs.Following.{at_before, ready_on}
 
 -- operations in the order of their ends, and then others that end no earlier
@@ -95,17 +95,35 @@ told_one f op more can may = record {
 
 pub follows_one : (words : List ℕ) (told : List Operation) (f : FrontierValue) (op : Operation) → CanBeTold f op → Follows words told f
     → Follows words (told ++ op ∷ []) (with_one f op)
-follows_one words told f op can follows more may v =
-    subst (λ (all : List Operation). SomeLeads all words v ↔ GoesOn (with_one f op) more v) (sym (append_assoc told (op ∷ []) more))
-    (subst (λ (all : List Operation). SomeLeads (told ++ op ∷ more) words v ↔ ((p : Position) × Contains f.positions p × Ends all (Some v) p)) (sym (append_assoc f.operations (op ∷ []) more))
-    (follows (op ∷ more) (told_one f op more can may) v))
+follows_one words told f op can follows = record {
+  leads = λ more may v.
+      subst (λ (all : List Operation). SomeLeads all words v ↔ GoesOn (with_one f op) more v) (sym (append_assoc told (op ∷ []) more))
+      (subst (λ (all : List Operation). SomeLeads (told ++ op ∷ more) words v ↔ ((p : Position) × Contains f.positions p × Ends all (Some v) p))
+      (sym (append_assoc f.operations (op ∷ []) more))
+      (follows.leads (op ∷ more) (told_one f op more can may) v));
+  orders = λ more may.
+      subst (λ (all : List Operation). AreEnds all words f.positions ((f.operations ++ op ∷ []) ++ more)) (sym (append_assoc told (op ∷ []) more))
+      (subst (AreEnds (told ++ op ∷ more) words f.positions) (sym (append_assoc f.operations (op ∷ []) more)) (follows.orders (op ∷ more) (told_one f op more can may)));
+}
 
 -- before any operation is told
 pub follows_none : (words : List ℕ) (layer : States) (f : FrontierValue) → AreFirst layer words → f.positions ≡ positions layer → f.operations ≡ [] → Follows words [] f
-follows_none words layer f first same none more may v =
-    let here = first_leads more words layer first v in
-    subst (λ (ps : List Position). SomeLeads more words v ↔ ((p : Position) × Contains ps p × Ends (f.operations ++ more) (Some v) p)) (sym same)
-    (subst (λ (ops : List Operation). SomeLeads more words v ↔ ((p : Position) × Contains (positions layer) p × Ends (ops ++ more) (Some v) p)) (sym none) (here.1, here.0))
+follows_none words layer f first same none = record {
+  leads = λ more may v.
+      let here = first_leads more words layer first v in
+      subst (λ (ps : List Position). SomeLeads more words v ↔ ((p : Position) × Contains ps p × Ends (f.operations ++ more) (Some v) p)) (sym same)
+      (subst (λ (ops : List Operation). SomeLeads more words v ↔ ((p : Position) × Contains (positions layer) p × Ends (ops ++ more) (Some v) p)) (sym none) (here.1, here.0));
+  orders = λ more may.
+      subst (λ (ps : List Position). AreEnds more words ps (f.operations ++ more)) (sym same)
+      (subst (λ (ops : List Operation). AreEnds more words (positions layer) (ops ++ more)) (sym none) (first_orders more words layer first));
+}
+
+-- what may be told next may be told where the horizon is earlier, and the latest end
+pub may_earlier : (f g : FrontierValue) (more : List Operation) → f.horizon ≤ g.horizon → f.latest ≤ g.latest → MayBeTold g more → MayBeTold f more
+may_earlier f g more starts ends may = record {
+  sorted = may.sorted;
+  each = All-weaker (CanBeTold g) (CanBeTold f) (λ o c. record { lasting = c.lasting; starts = omega (arith, starts, c.starts); ends = omega (arith, ends, c.ends) }) more may.each;
+}
 
 -- what may be told next may follow the operations that it knows
 pub may_follow : (f : FrontierValue) (horizon : ℕ) (more : List Operation) → IsFrontier f → MayBeTold (record f { horizon = horizon }) more → MayFollow f.operations (Some horizon) more

@@ -1,10 +1,12 @@
 -- a search of one granule while its operations are told
-use Rattle.std.specs.Prelude.{ℕ, ◌≤◌, List, ◌++◌, All, Some, length, ◌↔◌}
+use Rattle.std.specs.Prelude.{◌≡◌, ℕ, ◌≤◌, List, ◌++◌, All, Some, None, length, map, ◌↔◌}
 use Rattle.std.specs.List.{Contains}
 use Rattle.chi_trace.specs.declared.operation.Operation.{Operation}
+use Rattle.chi_trace.specs.Explains.{at, is_place}
+use Rattle.chi_trace.specs.Granules.{Finishes}
 use Rattle.chi_search.specs.Layers.{SomeLeads}
 use Rattle.chi_search.specs.Moves.{Ends}
-use Rattle.chi_search.specs.Positions.{IsReady, Position}
+use Rattle.chi_search.specs.Positions.{IsReady, Position, is_left}
 use Rattle.chi_search.specs.Searchable.{AreSorted, AreWithin}
 
 -- The positions to which the search came, and the operations that one of them at least has not passed. No operation that is
@@ -37,10 +39,25 @@ pub record MayBeTold (f : FrontierValue) (more : List Operation) : Type 0 where
 abbrev pub GoesOn : FrontierValue → List Operation → ℕ → Type 0
 GoesOn f more v = (p : Position) × Contains f.positions p × Ends (f.operations ++ more) (Some v) p
 
+-- an order of all these operations, from one of the words on, whose last operations are those
+pub record EndsWith (told : List Operation) (words : List ℕ) (ops : List Operation) : Type 0 where
+  pub from : ℕ
+  pub is_there : Contains words from
+  pub whole : List ℕ
+  pub finishes : Finishes told (is_place told) from None whole
+  pub earlier : List Operation
+  pub parts : map (at told) whole ≡ earlier ++ ops
+
+-- each order that finishes the operations from one of the positions is how an order of all these ends
+abbrev pub AreEnds : List Operation → List ℕ → List Position → List Operation → Type 0
+AreEnds told words positions ops =
+    (p : Position) → Contains positions p → (order : List ℕ) → Finishes ops (is_left (length ops) p) p.word None order → EndsWith told words (map (at ops) order)
+
 -- The search follows the operations that were told, from some words on: with whatever may be told next they lead to just the
--- words to which it goes on.
-abbrev pub Follows : List ℕ → List Operation → FrontierValue → Type 0
-Follows words told f = (more : List Operation) → MayBeTold f more → (v : ℕ) → SomeLeads (told ++ more) words v ↔ GoesOn f more v
+-- words to which it goes on, and each order by which it goes on is how an order of all of them ends.
+pub record Follows (words : List ℕ) (told : List Operation) (f : FrontierValue) : Type 0 where
+  pub leads : (more : List Operation) → MayBeTold f more → (v : ℕ) → SomeLeads (told ++ more) words v ↔ GoesOn f more v
+  pub orders : (more : List Operation) → MayBeTold f more → AreEnds (told ++ more) words f.positions (f.operations ++ more)
 
 -- The search goes along the operations that were told: with whatever may be told next they lead to each word to which it goes on.
 abbrev pub GoesAlong : List ℕ → List Operation → FrontierValue → Type 0

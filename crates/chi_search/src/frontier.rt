@@ -1,11 +1,12 @@
 //! The search of one granule while its operations are told.
 
-ghost use Rattle.std.specs.Prelude.{◌≡◌, ◌≢◌, ℕ, ◌+◌, ◌-◌, ◌^◌, ◌<◌, ◌≤◌, ◌↔◌, ◌⊎◌, [], ◌∷◌, ◌++◌, false, List, None, Some, IfErr, IfOk, IfSome, IsTrue, length};
+ghost use Rattle.std.specs.Prelude.{◌≡◌, ◌≢◌, ℕ, ◌+◌, ◌-◌, ◌^◌, ◌<◌, ◌≤◌, ◌↔◌, ◌⊎◌, [], ◌∷◌, ◌++◌, false, List, None, Some, IfErr, IfOk, IfSome, IsTrue, length, map};
 ghost use Rattle.std.specs.List.{AllPairs, Contains};
 ghost use Rattle.chi_trace.specs.declared.operation.Operation.{Operation};
+ghost use Rattle.chi_trace.specs.Explains.{at};
 ghost use Rattle.chi_trace.specs.Granules.{Finishes};
 ghost use Rattle.chi_search.specs.Found.{IfNothing, IfOrder, IfUndecided, IfUnknown, IfWords};
-ghost use Rattle.chi_search.specs.Frontiers.{CanBeTold, Follows, GoesAlong};
+ghost use Rattle.chi_search.specs.Frontiers.{CanBeTold, EndsWith, Follows, GoesAlong};
 ghost use Rattle.chi_search.specs.Layers.{SomeLeads, Waits};
 ghost use Rattle.chi_search.specs.Looks.{LookedMore};
 ghost use Rattle.chi_search.specs.Positions.{Position, is_left};
@@ -162,8 +163,8 @@ impl Frontier {
         }
     }
 
-    /// An order of the operations that it keeps, from a position to which the search came, that leaves the final word where one was
-    /// told; that there is none, so that none explains what was told; or neither, since the budget was spent.
+    /// An order of the operations that it keeps, from one of its positions, that leaves the final word where one was told, and is how an
+    /// order of all that was told ends; that there is none, so that none explains it; or neither, since the budget was spent.
     ///
     /// ```
     /// match frontier.order(alloc, Some(0x2a), &mut budget, &mut NoProgress)? {
@@ -180,6 +181,7 @@ impl Frontier {
         progress: &mut P,
     ) -> Result<Found, AllocError>
         ensures order { IfOk result (λ found. IfOrder found (λ order. (p : Position) × Contains self.now.positions p × Finishes self.now.operations (is_left (length self.now.operations) p) p.word final_word order)) }
+        ensures ends { IfOk result (λ found. IfOrder found (λ order. (words : List ℕ) (told : List Operation) → Follows words told self.now → EndsWith told words (map (at self.now.operations) order))) }
         ensures leads { IfOk result (λ found. IfOrder found (λ order. (words : List ℕ) (told : List Operation) → Follows words told self.now → (v : ℕ) × SomeLeads told words v × IfSome final_word (λ seen. v ≡ seen))) }
         ensures along { IfOk result (λ found. IfOrder found (λ order. (words : List ℕ) (told : List Operation) → GoesAlong words told self.now → (v : ℕ) × SomeLeads told words v × IfSome final_word (λ seen. v ≡ seen))) }
         ensures nothing { IfOk result (λ found. IfNothing found ((words : List ℕ) (told : List Operation) → Follows words told self.now → (v : ℕ) → SomeLeads told words v → IfSome final_word (λ seen. v ≡ seen) → ⊥)) }

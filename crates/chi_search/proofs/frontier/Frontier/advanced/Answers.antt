@@ -5,6 +5,7 @@ use Rattle.chi_trace.specs.declared.operation.Operation.{Operation}
 use Rattle.chi_search.specs.declared.states.States.{States}
 use Rattle.chi_search.specs.Frontiers.{Follows, FrontierValue, IsFrontier}
 use Rattle.chi_search.specs.Layers.{AreReady, MayFollow, SomeEnds, Waits}
+use Rattle.chi_search.specs.Paths.{AreReached}
 use Rattle.chi_search.specs.Positions.{Position}
 use Rattle.chi_search.specs.StateSets.{Has, positions}
 use Rattle.chi_search.proofs.MovedBack.{follows_back, frontier_back, ready_copied, waits_back}
@@ -55,6 +56,8 @@ returns-in_ok-operations-in-Some-clause-follows g c words told follows =
     (follows_back words told old horizon by s.states from last back c.self.invariant refl later within c.passed-by.ensures.passed c.in_ok-from.ensures.has c.in_ok-states-in-Some.ensures.has
     (subst (λ (ops : List Operation). (more : List Operation) → MayFollow ops (Some horizon) more → (v : ℕ) → SomeEnds (ops ++ more) last v ↔ SomeEnds (ops ++ more) from v)
     c.deref.ensures.value ends)
+    (subst (λ (ops : List Operation). AreReached ops from last) c.deref.ensures.value
+    (subst (λ (o : Option States). IfSome o (AreReached c.deref.result.now from)) c.in-Some.is c.in_ok-last.ensures.reached))
     (subst (Follows words told) (sym c.self.view_is) follows))
 
 pub returns-in_ok-operations-in-Some-clause-waiting : goal.returns-in_ok-operations-in-Some-clause-waiting

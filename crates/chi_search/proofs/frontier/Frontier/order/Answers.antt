@@ -10,7 +10,7 @@ use Rattle.chi_search.specs.Layers.{AreReady, SomeLeads}
 use Rattle.chi_search.specs.Paths.{IsDead}
 use Rattle.chi_search.specs.Positions.{Position, is_left}
 use Rattle.chi_search.specs.StateSets.{positions}
-use Rattle.chi_search.proofs.Judging.{IsFrom, LeadsNowhere, LeadsOn, nothing_leads, order_leads}
+use Rattle.chi_search.proofs.Judging.{EndsAll, IsFrom, LeadsNowhere, LeadsOn, nothing_leads, order_ends, order_leads}
 use Rattle.chi_search.proofs.OneWay.{order_along}
 use Rattle.chi_search.proofs.frontier.Frontier.order.Goals as goal
 
@@ -23,6 +23,11 @@ returns-clause-order g c =
     subst (λ (f : FrontierValue). IfOk c.order_from.result (λ found. IfOrder found (IsFrom f c.args.final_word))) c.self.view_is
     (subst (λ (ops : List Operation). IfOk c.order_from.result (λ found. IfOrder found (λ x. (p : Position) × Contains (positions c.self.inside.states) p × Finishes ops (is_left (length ops) p) p.word c.args.final_word x)))
     c.deref.ensures.value c.order_from.ensures.order)
+
+pub returns-clause-ends : goal.returns-clause-ends
+returns-clause-ends g c =
+    IfOk-weaker c.order_from.result (λ found. IfOrder found (IsFrom c.args.self.now c.args.final_word)) (λ found. IfOrder found (EndsAll c.args.self.now))
+    (order_ends c.args.self.now c.args.final_word) (returns-clause-order g c)
 
 pub returns-clause-leads : goal.returns-clause-leads
 returns-clause-leads g c =
