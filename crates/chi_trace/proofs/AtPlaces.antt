@@ -116,6 +116,16 @@ nowhere p x i all out = by_number (times_in x i) refl
     by_number zero is = refl
     by_number (suc n) is = absurd (true≢false (sym (of_member (λ j. p j ≡ true) x i all (omega (arith, is))) ∙ out))
 
+-- what finishes them has indices alone
+chosen_below : (trace : List Operation) (places : List ℕ) (w : ℕ) (final_word : Option ℕ) (order : List ℕ)
+    → Finishes (at_places trace places) (is_place (at_places trace places)) w final_word order → All (λ k. k < length places) order
+chosen_below trace places w final_word order h n d under = is_index trace places (get_or order n d) (places_of (at_places trace places) order h.once n d under)
+
+-- so that each stands in the trace, at the place of its index
+pub chosen_moves : (trace : List Operation) (places : List ℕ) (w : ℕ) (final_word : Option ℕ) (order : List ℕ)
+    → Finishes (at_places trace places) (is_place (at_places trace places)) w final_word order → Moves (at_places trace places) trace (slice_index places) order
+chosen_moves trace places w final_word order h n d under = sym (at_chosen trace places (get_or order n d) (chosen_below trace places w final_word order h n d under))
+
 -- from the operations told by themselves to the trace
 pub told_there : (trace : List Operation) (left : ℕ → Bool) (places : List ℕ) (w : ℕ) (final_word : Option ℕ) → HasEach left places → (order : List ℕ)
     → Finishes (at_places trace places) (is_place (at_places trace places)) w final_word order → Finishes trace left w final_word (map (slice_index places) order)
@@ -134,10 +144,10 @@ told_there trace left places w final_word each order h = record {
     f = slice_index places
 
     below : All (λ k. k < length places) order
-    below n d under = is_index trace places (get_or order n d) (places_of own order h.once n d under)
+    below = chosen_below trace places w final_word order h
 
     moves : Moves own trace f order
-    moves n d under = sym (at_chosen trace places (get_or order n d) (below n d under))
+    moves = chosen_moves trace places w final_word order h
 
     are_left : All (λ i. left i ≡ true) (map f order)
     are_left = of_image (λ i. left i ≡ true) f order (λ n d under. left_at left places (get_or order n d) each (below n d under))

@@ -11,6 +11,13 @@ use Rattle.chi_trace.proofs.Places.{none}
 abbrev pub Moves : List Operation → List Operation → (ℕ → ℕ) → List ℕ → Type 0
 Moves ts us f x = All (λ i. at us (f i) ≡ at ts i) x
 
+-- the same operations come in turn
+pub at_moved : (ts us : List Operation) (f : ℕ → ℕ) (x : List ℕ) → Moves ts us f x → map (at us) (map f x) ≡ map (at ts) x
+at_moved ts us f [] same = refl
+at_moved ts us f (i ∷ x) same =
+    ap (λ o. o ∷ map (at us) (map f x)) (All-head (λ j. at us (f j) ≡ at ts j) i x same)
+    ∙ ap (λ l. at ts i ∷ l) (at_moved ts us f x (All-tail (λ j. at us (f j) ≡ at ts j) i x same))
+
 pub play_moved : (ts us : List Operation) (f : ℕ → ℕ) (w : ℕ) (x : List ℕ) → Moves ts us f x → Play ts w x → Play us w (map f x)
 unfolding Play
 play_moved ts us f w [] same h = tt

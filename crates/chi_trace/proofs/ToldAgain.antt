@@ -9,9 +9,9 @@ use Rattle.chi_trace.specs.declared.operation.Operation.{Operation}
 use Rattle.chi_trace.specs.AtPlaces.{at_places, is_in}
 use Rattle.chi_trace.specs.Explains.{at, is_place, times_in}
 use Rattle.chi_trace.specs.Granules.{ExplainsGranule, Finishes, granule_of, is_of}
-use Rattle.chi_trace.proofs.AtPlaces.{told_back, told_there}
+use Rattle.chi_trace.proofs.AtPlaces.{chosen_moves, told_back, told_there}
 use Rattle.chi_trace.proofs.Cuts.{first_place, next_place, no_place}
-use Rattle.chi_trace.proofs.Moved.{times_moved}
+use Rattle.chi_trace.proofs.Moved.{at_moved, times_moved}
 
 -- the places of a granule's operations, in the order of the trace
 unfoldable places_in : List Operation → ℕ → List ℕ
@@ -119,16 +119,28 @@ places_told trace ops g moved =
     let own = lifted (at trace) (places_in trace g) ops (subst (λ l. IsPermutation l ops) (sym (chosen_in trace g)) moved) in
     (own.0, own.1, λ i. times_permuted (places_in trace g) own.0 i own.2 ∙ each_in trace g i)
 
--- so they can be explained by themselves exactly where they can in the trace
-pub told_again : (trace ops : List Operation) (g w : ℕ) (final_word : Option ℕ) → IsPermutation (filter (is_in g) trace) ops
-    → ((order : List ℕ) × ExplainsGranule trace g w final_word order) ↔ ((order : List ℕ) × Finishes ops (is_place ops) w final_word order)
-told_again trace ops g w final_word moved = (
-  λ h. let own = told_back trace (is_of trace g) there.0 w final_word there.2 h.0 h.1 in (own.0, subst (Told own.0) there.1 own.1),
-  λ h. (map (slice_index there.0) h.0, told_there trace (is_of trace g) there.0 w final_word there.2 h.0 (subst (Told h.0) (sym there.1) h.1)),
+-- An order of them by themselves is one of the trace, in which the same operations come in turn
+pub told_orders : (trace ops : List Operation) (g w : ℕ) (final_word : Option ℕ) (own : List ℕ) → IsPermutation (filter (is_in g) trace) ops
+    → Finishes ops (is_place ops) w final_word own → (order : List ℕ) × ExplainsGranule trace g w final_word order × (at_places trace order ≡ at_places ops own)
+told_orders trace ops g w final_word own moved h = (
+  map (slice_index there.0) own,
+  told_there trace (is_of trace g) there.0 w final_word there.2 own chosen,
+  at_moved (at_places trace there.0) trace (slice_index there.0) own (chosen_moves trace there.0 w final_word own chosen) ∙ ap (λ l. at_places l own) there.1,
 )
   where
     there : (places : List ℕ) × (at_places trace places ≡ ops) × ((i : ℕ) → times_in places i ≡ one_if (is_of trace g i))
     there = places_told trace ops g moved
 
-    Told : List ℕ → List Operation → Type 0
-    Told order l = Finishes l (is_place l) w final_word order
+    chosen : Finishes (at_places trace there.0) (is_place (at_places trace there.0)) w final_word own
+    chosen = subst (λ l. Finishes l (is_place l) w final_word own) (sym there.1) h
+
+-- so they can be explained by themselves exactly where they can in the trace
+pub told_again : (trace ops : List Operation) (g w : ℕ) (final_word : Option ℕ) → IsPermutation (filter (is_in g) trace) ops
+    → ((order : List ℕ) × ExplainsGranule trace g w final_word order) ↔ ((order : List ℕ) × Finishes ops (is_place ops) w final_word order)
+told_again trace ops g w final_word moved = (
+  λ h. let own = told_back trace (is_of trace g) there.0 w final_word there.2 h.0 h.1 in (own.0, subst (λ l. Finishes l (is_place l) w final_word own.0) there.1 own.1),
+  λ h. let order = told_orders trace ops g w final_word h.0 moved h.1 in (order.0, order.1),
+)
+  where
+    there : (places : List ℕ) × (at_places trace places ≡ ops) × ((i : ℕ) → times_in places i ≡ one_if (is_of trace g i))
+    there = places_told trace ops g moved
