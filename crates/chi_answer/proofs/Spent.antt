@@ -1,8 +1,10 @@
 -- the states that were looked at on the way to an answer
-use Rattle.std.proofs.Common.{◌≡◌, ℕ, ◌+◌, ◌≤◌, ◌⊎◌, inl, inr, Result, Ok, Err, IfOk, refl, arith}
+use Rattle.std.proofs.Common.{◌≡◌, ℕ, ◌+◌, ◌≤◌, Result, Ok, Err, IfOk, refl, arith}
 use Rattle.chi_verdict.specs.Doubts.{IsAsFar}
 use Rattle.chi_search.specs.Looks.{LookedAtLeast, LookedMore, LookedSome}
-use Rattle.chi_search.proofs.Looking.{at_least_after, more_after, some_after}
+use Rattle.chi_judge.proofs.AsFar.{as_far_by}
+use Rattle.chi_search.proofs.Looking.{at_least_both, more_after, some_after}
+use Rattle.chi_trace.specs.Words.{word_or_zero}
 use Rattle.chi_trace.specs.Traces.{TraceValue}
 use Rattle.chi_answer.specs.declared.answer.Answer.{Answer}
 use Rattle.chi_answer.specs.declared.answer.Answer.TheVariants.{Explained, Blamed, Unexplained, Undecided}
@@ -37,18 +39,14 @@ undecided_after looked old middle new budget (Ok answer) before under first stat
     by_answer (Undecided doubt) is = omega (arith, is, under)
 undecided_after looked old middle new budget (Err e) before under first states more = tt
 
--- it is explained as far as was found, whatever was looked at before
-pub far_after : {P E : Type 0} (looked : P → ℕ → Type 0) (old middle new : P) (budget : ℕ) (t : TraceValue) (result : Result Answer E) → LookedSome looked old middle
-    → IfOk result (λ answer. IfUndecided answer (IsAsFar looked middle new budget t)) → IfOk result (λ answer. IfUndecided answer (IsAsFar looked old new budget t))
+-- it is explained as far as was found, by the states of the verdict and as many more
+pub far_after : {P E : Type 0} (looked : P → ℕ → Type 0) (old middle new : P) (budget : ℕ) (t : TraceValue) (result : Result Answer E) → LookedAtLeast looked old middle budget
+    → IfOk result (λ answer. IfUndecided answer (IsAsFar looked middle new budget t)) → IfOk result (λ answer. IfUndecided answer (IsAsFar looked old new (budget + budget) t))
 far_after looked old middle new budget t (Ok (Explained order)) before far = tt
 far_after looked old middle new budget t (Ok (Blamed blame)) before far = tt
 far_after looked old middle new budget t (Ok (Unexplained granule words)) before far = tt
-far_after looked old middle new budget t (Ok (Undecided doubt)) before (inl all) = inl all
-far_after looked old middle new budget t (Ok (Undecided doubt)) before (inr others) = inr (others.0, others.1, by_said others.2)
-  where
-    by_said : {A : Type 0} → A ⊎ LookedAtLeast looked middle new budget → A ⊎ LookedAtLeast looked old new budget
-    by_said (inl none) = inl none
-    by_said (inr least) = inr (at_least_after looked old middle new budget before least)
+far_after looked old middle new budget t (Ok (Undecided doubt)) before far =
+    as_far_by looked middle new old new budget (budget + budget) (at_least_both looked old middle new budget budget before) t.operations doubt.granule (word_or_zero t.opening doubt.granule) doubt.explained far
 far_after looked old middle new budget t (Err e) before far = tt
 
 -- there is none to say it of, where it was decided

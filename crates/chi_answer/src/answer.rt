@@ -1,6 +1,6 @@
 //! What is answered of a trace.
 
-ghost use Rattle.std.specs.Prelude.{◌≡◌, ℕ, IfOk};
+ghost use Rattle.std.specs.Prelude.{◌≡◌, ◌+◌, ℕ, IfOk};
 ghost use Rattle.chi_verdict.specs.Doubts.{IsAsFar};
 ghost use Rattle.chi_search.specs.Looks.{LookedMore};
 ghost use Rattle.chi_answer.specs.Answers.{IfUndecided, IsAnswer, IsUnexplained, IsUnexplainedIn, LookedForAnswer};
@@ -81,7 +81,7 @@ pub fn answer_of<P: Progress>(
 ) -> Result<Answer, AllocError>
     ensures right { IfOk result (IsAnswer recorded.now shown) }
     ensures undecided { IfOk result (λ answer. IfUndecided answer (λ doubt. doubt.states ≡ budget)) }
-    ensures far { IfOk result (λ answer. IfUndecided answer (IsAsFar P.looked progress.old progress.new budget recorded.now.trace)) }
+    ensures far { IfOk result (λ answer. IfUndecided answer (IsAsFar P.looked progress.old progress.new (budget + budget) recorded.now.trace)) }
     ensures spent { IfOk result (LookedForAnswer P.looked progress.old progress.new) }
 {
     match explain(

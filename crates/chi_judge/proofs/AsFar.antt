@@ -51,3 +51,10 @@ before_since (Some time) since is op early = (time, refl, omega (arith, is.1, ea
 pub so_before_since : (found : Option ℕ) (since : ℕ) (Q : ℕ → Type 0) → SomeIff found (1 ≤ since) (since - 1) → ((time : ℕ) → time + 1 ≡ since → Q time) → IfSome found Q
 so_before_since None since Q is each = tt
 so_before_since (Some time) since Q is each = each time (omega (arith, is.0, is.1))
+
+-- where so many states are known to be looked at from others, it is as far by these
+pub as_far_by : {P : Type 0} (looked : P → ℕ → Type 0) (old new before after : P) (budget more : ℕ) → (LookedAtLeast looked old new budget → LookedAtLeast looked before after more)
+    → (trace : List Operation) (g w : ℕ) (found : Option ℕ) → IsAsFar looked old new budget trace g w found → IsAsFar looked before after more trace g w found
+as_far_by looked old new before after budget more spent trace g w found (inl all) = inl all
+as_far_by looked old new before after budget more spent trace g w found (inr (next, beside, inl none)) = inr (next, beside, inl none)
+as_far_by looked old new before after budget more spent trace g w found (inr (next, beside, inr whole)) = inr (next, beside, inr (spent whole))

@@ -48,3 +48,7 @@ module _ {P : Type 0} (looked : P → ℕ → Type 0) where
       let whole = first.1 in omega (arith, whole),
       more_after looked old middle new first.0 then.0 (first.0 + then.0) refl first.2 then.1,
     )
+
+    -- at least so many, and then at least so many others
+    pub at_least_both : (first second : ℕ) → LookedAtLeast looked old middle first → LookedAtLeast looked middle new second → LookedAtLeast looked old new (first + second)
+    at_least_both first second (a, enough, before) (b, more, then) = (a + b, omega (arith, enough, more), more_after looked old middle new a b (a + b) refl before then)

@@ -1,26 +1,20 @@
 -- how far a granule's operations are seen to be explained, by more states
-use Rattle.std.proofs.Common.{ℕ, List, Option, Some, None, IfSome, inl, inr}
+use Rattle.std.proofs.Common.{ℕ, Option, Some, None, IfSome}
 use Rattle.chi_search.specs.Looks.{LookedAtLeast, LookedSome}
 use Rattle.chi_search.proofs.Looking.{at_least_after, at_least_before}
-use Rattle.chi_judge.specs.Explained.{IsAsFar}
-use Rattle.chi_trace.specs.declared.operation.Operation.{Operation}
+use Rattle.chi_judge.proofs.AsFar.{as_far_by}
 use Rattle.chi_watch.specs.Undecided.{AreExplainedAsFar, IsAsFarIn}
 use Rattle.chi_watch.specs.declared.followed.Followed.{Followed}
 use Rattle.chi_watch.specs.declared.undecided.UndecidedAtEnd.{UndecidedAtEnd}
 
 module _ {P : Type 0} (looked : P → ℕ → Type 0) (old new before after : P) (budget more : ℕ) (spent : LookedAtLeast looked old new budget → LookedAtLeast looked before after more) where
   -- where these are known from those, it is as far by them
-  pub as_far_by : (trace : List Operation) (g w : ℕ) (found : Option ℕ) → IsAsFar looked old new budget trace g w found → IsAsFar looked before after more trace g w found
-  as_far_by trace g w found (inl all) = inl all
-  as_far_by trace g w found (inr (next, beside, inl none)) = inr (next, beside, inl none)
-  as_far_by trace g w found (inr (next, beside, inr whole)) = inr (next, beside, inr (spent whole))
-
   pub as_far_in : (granules : ℕ → Option Followed) (u : UndecidedAtEnd) → IsAsFarIn looked old new budget granules u → IsAsFarIn looked before after more granules u
   as_far_in granules u = by_granule (granules u.granule)
     where
       by_granule : (o : Option Followed) → IfSome o (λ f. AreExplainedAsFar looked old new budget f.judge u.explained) → IfSome o (λ f. AreExplainedAsFar looked before after more f.judge u.explained)
       by_granule None is = tt
-      by_granule (Some f) is = λ trace g w of_judge. as_far_by trace g w u.explained (is trace g w of_judge)
+      by_granule (Some f) is = λ trace g w of_judge. as_far_by looked old new before after budget more spent trace g w u.explained (is trace g w of_judge)
 
 -- by one search after another
 module _ {P : Type 0} (looked : P → ℕ → Type 0) (old middle new : P) (budget : ℕ) (granules : ℕ → Option Followed) where

@@ -3,7 +3,7 @@ use Rattle.std.proofs.Common.{◌≡◌, ℕ, ◌+◌, ◌*◌, ◌++◌, ◌∷
 use Rattle.std.proofs.Math.Nat.{mul-suc}
 use Rattle.std.proofs.lemmas.List.Elements.{All-nil, All-push, All-weaker}
 use Rattle.chi_search.specs.Looks.{LookedAtLeast, LookedMore, LookedSome}
-use Rattle.chi_search.proofs.Looking.{at_least_after, at_least_before, looked_none, more_after, some_after}
+use Rattle.chi_search.proofs.Looking.{at_least_after, at_least_before, at_least_both, looked_none, some_after}
 
 module _ {P : Type 0} (looked : P → ℕ → Type 0) where
   -- some, and at least so many for each granule that is not decided
@@ -11,11 +11,6 @@ module _ {P : Type 0} (looked : P → ℕ → Type 0) where
     pub some : LookedSome looked old new
     pub whole : All (λ g. LookedAtLeast looked old new budget) undecided
     pub all : LookedAtLeast looked old new (budget * length undecided)
-
-  -- as many as two budgets, one after the other
-  pub at_least_both : (old middle new : P) (first second : ℕ) → LookedAtLeast looked old middle first → LookedAtLeast looked middle new second → LookedAtLeast looked old new (first + second)
-  at_least_both old middle new first second (a, enough, before) (b, more, then) =
-      (a + b, omega (arith, enough, more), more_after looked old middle new a b (a + b) (omega arith) before then)
 
   -- those of one granule more
   one_budget_more : (budget : ℕ) (undecided : List ℕ) (g : ℕ) → budget * length (undecided ++ g ∷ []) ≡ budget * length undecided + budget
@@ -47,5 +42,5 @@ module _ {P : Type 0} (looked : P → ℕ → Type 0) where
     whole = All-push (λ h. LookedAtLeast looked old new budget) undecided g
         (looked_decided old middle new budget undecided before (budget, then)).whole (at_least_after looked old middle new budget before.some (budget, omega arith, then));
     all = subst (LookedAtLeast looked old new) (sym (one_budget_more budget undecided g))
-        (at_least_both old middle new (budget * length undecided) budget before.all (budget, omega arith, then));
+        (at_least_both looked old middle new (budget * length undecided) budget before.all (budget, omega arith, then));
   }

@@ -15,7 +15,7 @@ use Rattle.chi_search.specs.Looks.{LookedAtLeast, LookedSome}
 use Rattle.chi_search.proofs.Looking.{at_least_after, at_least_before, looked_none, some_after}
 use Rattle.chi_judge.specs.declared.reach.Reach.{Reach}
 use Rattle.chi_trace.specs.Words.{word_or_zero}
-use Rattle.chi_watch.proofs.ExplainedFar.{as_far_by}
+use Rattle.chi_judge.proofs.AsFar.{as_far_by}
 use Rattle.chi_watch.proofs.Reached.{undecided_weaker}
 use Rattle.chi_watch.specs.Judged.{judged, openings}
 use Rattle.chi_watch.specs.Reaching.{IsFoundAtEnd}

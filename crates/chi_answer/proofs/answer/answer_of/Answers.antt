@@ -1,5 +1,5 @@
 -- the states of the verdict, and those looked at after it
-use Rattle.std.proofs.Common.{arith}
+use Rattle.std.proofs.Common.{◌+◌, arith}
 use Rattle.chi_answer.proofs.Spent.{decided_after, far_after, far_decided, undecided_after}
 use Rattle.chi_answer.proofs.answer.answer_of.Goals as goal
 
@@ -15,7 +15,7 @@ returns-in-Unexplained-clause-spent g c =
 
 pub returns-in-Unexplained-clause-far : goal.returns-in-Unexplained-clause-far
 returns-in-Unexplained-clause-far g c =
-    far_decided g.P.Progress.looked c.args.progress.now c.unexplained.new.progress c.args.budget c.args.recorded.now.trace c.unexplained.result c.unexplained.ensures.decided
+    far_decided g.P.Progress.looked c.args.progress.now c.unexplained.new.progress (c.args.budget + c.args.budget) c.args.recorded.now.trace c.unexplained.result c.unexplained.ensures.decided
 
 pub returns-in-Undecided-clause-spent : goal.returns-in-Undecided-clause-spent
 returns-in-Undecided-clause-spent g c =
@@ -28,5 +28,8 @@ returns-in-Undecided-clause-spent g c =
 pub returns-in-Undecided-clause-far : goal.returns-in-Undecided-clause-far
 returns-in-Undecided-clause-far g c =
     let spent = c.in_ok-order.ensures.spent in
-    far_after g.P.Progress.looked c.args.progress.now c.explain.new.progress c.undecided.new.progress c.args.budget c.args.recorded.now.trace c.undecided.result (spent.count, spent.more)
+    let under = rw c.in-Undecided.is at spent.undecided in
+    let whole = rw c.in-Undecided.is at c.in_ok-order.ensures.undecided in
+    far_after g.P.Progress.looked c.args.progress.now c.explain.new.progress c.undecided.new.progress c.args.budget c.args.recorded.now.trace c.undecided.result
+    (spent.count, omega (arith, under, whole), spent.more)
     c.undecided.ensures.far

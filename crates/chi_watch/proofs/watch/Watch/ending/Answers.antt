@@ -21,8 +21,8 @@ use Rattle.chi_watch.specs.declared.followed.Followed.{Followed}
 use Rattle.chi_watch.specs.declared.undecided.UndecidedAtEnd.{UndecidedAtEnd}
 use Rattle.chi_watch.proofs.ToldAtTheEnd.{own_open}
 use Rattle.chi_watch.proofs.AtTheEnd.{AreClosed, all_listed, ended_each, ended_explained, ended_explained_to, ended_far, ended_found, ended_unreached, none_listed}
+use Rattle.chi_search.proofs.Looking.{at_least_both}
 use Rattle.chi_watch.proofs.ExplainedFar.{as_far_in}
-use Rattle.chi_watch.proofs.Looked.{at_least_both}
 use Rattle.chi_watch.proofs.Reached.{unreached_after, unreached_then}
 use Rattle.chi_watch.proofs.watch.Watch.ending.Goals as goal
 
