@@ -124,6 +124,7 @@ bench-explain: checker
 	bench/verdict.sh $(SEED)
 	bench/chicheck.py $(SEED)
 	bench/watch.py 20000 $(or $(SEED),1)
+	bench/watch.py 20000 $(or $(SEED),1) prefixes
 
 corpus: build
 	bench/build.sh && cd bench && out/release/corpus ../$(PROGRAM) 10000 $(SEED)

@@ -38,28 +38,29 @@ class Taken:
 
 
 class Home:
-    """A home that serves some requests. `events` is what its monitor tells, and `traits` names what it met."""
+    """A home that serves some requests, at this pace, where one is given. `events` is what its monitor tells, and `traits` names what
+    it met."""
 
-    def __init__(self, chance):
+    def __init__(self, chance, pace):
         self.chance, self.events, self.open, self.traits = chance, [], [], set()
         self.time = chance.choice([0, 0, 1, 1000])
         self.equal = chance.choice([0.2, 0.5, 0.9])
         self.left = 40 if chance.random() < 0.05 else chance.choice([1, 2, 4, 6, 8, 8, 12])
         self.requesters = chance.randint(1, 6)
-        self.shape()
+        self.shape(pace)
         self.mistake = chance.choice(MISTAKES) if chance.random() < 0.5 else None
         self.until_mistake = chance.randrange(self.left // 3 + 1)
         self.closed = set()
         for granule in self.granules:
             self.tell_opening(granule)
 
-    def shape(self):
+    def shape(self, pace):
         """Chooses the granules, and how many requests are open at a time."""
         chance = self.chance
         count = chance.choice([1, 1, 2, 2, 3, 4])
         self.granules = chance.sample(ANYWHERE, count)
         self.is_hot = chance.random() < 0.6
-        self.pace = chance.choice(["often quiet", "mixed", "never quiet", "open for ever"])
+        self.pace = pace or chance.choice(["often quiet", "mixed", "never quiet", "open for ever"])
         self.width = chance.randint(1, 2) if self.pace == "often quiet" else chance.randint(1, 5)
         if self.left == 40:
             self.width = min(self.width, 3)
@@ -293,9 +294,15 @@ def mixed(chance, events):
     return events
 
 
-def history(chance):
+def prefix(chance):
+    """The first events of a history in which granules are never quiet, and the traits of the history."""
+    events, traits = history(chance, "never quiet")
+    return events[: chance.randint(0, len(events))], traits
+
+
+def history(chance, pace=None):
     """Events by chance, and the traits of their history."""
-    home = Home(chance)
+    home = Home(chance, pace)
     home.serve()
     events, traits = home.events, home.traits
     if events and chance.random() < 0.1:

@@ -22,23 +22,54 @@ def can_come(operations, taken, it):
     return True
 
 
-def words_left(word, operations):
-    """The word after each order that has each operation whose reply was seen once and each other at most once, none before one
-    that ended before it started, and each reply that was seen as the memory's answer. A word may come more than once."""
+def taken_next(operations, taken, word, at):
+    """The operations taken and the word once the one at this place is taken too, or None where it cannot come or was answered
+    otherwise."""
+    it = operations[at]
+    if at in taken or not can_come(operations, taken, it):
+        return None
+    after, reply = execute(word, it.request)
+    return (taken | {at}, after) if it.reply is None or it.reply.lower() == reply else None
+
+
+def states_met(word, operations, left_out=frozenset()):
+    """Each state to which operations but those at some places can come: those taken, and the word."""
     met, rest = set(), [(frozenset(), word)]
     while rest:
         state = rest.pop()
         if state in met:
             continue
         met.add(state)
-        taken, word = state
-        if all(at in taken or it.reply is None for at, it in enumerate(operations)):
-            yield word
-        for at, it in enumerate(operations):
-            if at not in taken and can_come(operations, taken, it):
-                after, reply = execute(word, it.request)
-                if it.reply is None or it.reply.lower() == reply:
-                    rest.append((taken | {at}, after))
+        yield state
+        following = (taken_next(operations, *state, at) for at in range(len(operations)) if at not in left_out)
+        rest += filter(None, following)
+
+
+def is_whole(operations, taken):
+    """Whether each operation whose reply was seen is taken."""
+    return all(at in taken or it.reply is None for at, it in enumerate(operations))
+
+
+def words_left(word, operations):
+    """The word after each order that has each operation whose reply was seen once and each other at most once, none before one
+    that ended before it started, and each reply that was seen as the memory's answer. A word may come more than once."""
+    return (word for taken, word in states_met(word, operations) if is_whole(operations, taken))
+
+
+def is_end_of_order(word, operations, numbers):
+    """Whether some order explains the operations, and ends with those of these numbers."""
+    places = {it.number: at for at, it in enumerate(operations)}
+    if not places.keys() >= set(numbers):
+        return False
+    last = [places[it] for it in numbers]
+    return any(is_finished(operations, state, last) for state in states_met(word, operations, frozenset(last)))
+
+
+def is_finished(operations, state, last):
+    """Whether the operations at these places can be taken in turn from a state on, and are the last that have to be."""
+    for at in last:
+        state = state and taken_next(operations, *state, at)
+    return bool(state) and is_whole(operations, state[0])
 
 
 def is_explained(word, operations, final):

@@ -115,6 +115,12 @@ class Told:
     def stop_lines(self, granule):
         return stop_lines(*self.of_granule(granule))
 
+    def before_stop(self, granule):
+        """The granule's word at the opening, and what is known of its operations before they stop being explained."""
+        word, operations, _ = self.of_granule(granule)
+        time = first_unexplained(word, operations)
+        return word, known_by(operations, time - 1) if time else []
+
     def stop_time(self, granule):
         """The time up to which nothing explains the granule, or the last where only its word at the end is not explained."""
         word, operations, _ = self.of_granule(granule)
@@ -146,13 +152,13 @@ class Told:
 
 class Watched:
     """What has to be answered on events: `places` has the granules that are not explained, in the order in which they are
-    found, each with the line, or None where that is at the end, and `stops` the lines that say how far each can be, and
-    `traces` its operations then as a trace. A granule is found once all events of a time are told. While its requests are
+    found, each with the line, or None where that is at the end, `stops` the lines that say how far each can be, `traces` its
+    operations then as a trace, and `before` what is known of them before they stop being explained. A granule is found once all events of a time are told. While its requests are
     outstanding it may be found, once it is known not to be explained: `busy` has the granules of which the program said so, each
     with its line."""
 
     def __init__(self, events, keeps_going, busy):
-        self.told, self.places, self.stops, self.traces, self.quiet, self.busy = Told(), {}, {}, {}, {}, busy
+        self.told, self.places, self.stops, self.traces, self.before, self.quiet, self.busy = Told(), {}, {}, {}, {}, {}, busy
         time = 0
         for line, event in enumerate(events, 1):
             if event["time"] > time:
@@ -174,6 +180,7 @@ class Watched:
 
     def find(self, granule, line):
         self.places[granule], self.stops[granule], self.traces[granule] = line, self.told.stop_lines(granule), self.told.trace(granule)
+        self.before[granule] = self.told.before_stop(granule)
 
     def settle(self):
         """Finds the granules that became quiet at a time, and are still so and unexplained once all of it is told; and those that were

@@ -1,11 +1,12 @@
 #!/usr/bin/env python3
-"""Tries chicheck watch on histories by chance: watch.py [COUNT [SEED]]
+"""Tries chicheck watch on histories by chance: watch.py [COUNT [SEED [prefixes]]]
 
 Each history is told as events (histories.py). What has to be answered on them, with and without --keep-going, is found by
 trying every order (telling.py, orders.py): which granules are not explained, by which line, and where each stops being so.
 `chicheck explain` has to give the same verdict on the same operations, told as a trace and as events, and of each such granule by
 itself it has to say the same and to show the same operations; each of these has to have the line that told its request. A
-history that the program disagrees on is shown. CHICHECK names the program."""
+history that the program disagrees on is shown. With `prefixes` each is the beginning of a history in which granules are never
+quiet. CHICHECK names the program."""
 
 import collections
 import json
@@ -19,11 +20,13 @@ from concurrent.futures import ThreadPoolExecutor
 os.chdir(f"{os.path.dirname(os.path.abspath(__file__))}/..")
 sys.dont_write_bytecode = True
 
-from histories import history
+from histories import history, prefix
+from orders import is_end_of_order
 from telling import Told, Watched
 
 CHECKER = os.environ.get("CHICHECK", "crates/chi_check/out/chi_check")
-COUNT, SEED = [int(it) for it in sys.argv[1:]] + [20000, 1][len(sys.argv) - 1 :]
+COUNT, SEED = [int(it) for it in sys.argv[1:3]] + [20000, 1][len(sys.argv[1:3]) :]
+CHOSEN = prefix if sys.argv[3:] == ["prefixes"] else history
 # How many disagreements are shown.
 SHOWN = 3
 # The status where an event is refused.
@@ -32,6 +35,8 @@ REFUSED = 3
 LAST = "  the last operations of the granule"
 ROW = re.compile(r"  (?:  |> )(?:request|line) +(\d+) \|([ =#]*)\|(  +(\d+) .* requester (\d+) txn (\d+))")
 LEGAL = "    legal would be: "
+# The line of an order of what had happened before.
+ORDER = re.compile(r"  up to (\d+) in an order that ends with lines((?: \d+)+)")
 # How the line begins of the answers that may be the wrong one.
 SUSPECTS = "  any one of these answers may be the wrong one: "
 
@@ -76,8 +81,8 @@ def is_same_part(found, wanted):
 
 
 def without_rows(lines):
-    """Lines without those of a granule's last operations."""
-    return [it for it in lines if not (it.startswith((LAST, LEGAL)) or ROW.fullmatch(it))]
+    """Lines without those of a granule's last operations, and of their order."""
+    return [it for it in lines if not (it.startswith((LAST, LEGAL)) or ROW.fullmatch(it) or ORDER.fullmatch(it))]
 
 
 def rows_of(lines):
@@ -86,10 +91,24 @@ def rows_of(lines):
     return sorted(it[2].replace("#", "=") + it[3] for it in rows) + [it for it in lines if it.startswith(LAST)]
 
 
+def by_granule(answer):
+    """The lines of each granule that is not explained."""
+    parts = answer.split("not explained: granule ")[1:]
+    return {int(it[:16], 16): it.splitlines() for it in parts}
+
+
 def rows_by_granule(answer):
     """The rows of each granule that is not explained."""
-    parts = answer.split("not explained: granule ")[1:]
-    return {int(it[:16], 16): rows_of(it.splitlines()) for it in parts}
+    return {granule: rows_of(lines) for granule, lines in by_granule(answer).items()}
+
+
+def is_right_order(lines, before):
+    """Whether the order among a granule's lines is how one ends that explains what is known before it stops being explained, up to
+    that time. There is none where no operation had ended by then."""
+    told = next(filter(None, map(ORDER.fullmatch, lines)), None)
+    numbers = [int(it) for it in told[2].split()] if told else []
+    times = [it for it in lines if told and it.startswith(f"  explained up to {told[1]}")]
+    return is_end_of_order(*before, numbers) and bool(times) == bool(told) and (bool(told) or all(it.reply is None for it in before[1]))
 
 
 def lines_by_granule(answer):
@@ -141,6 +160,9 @@ def disagreements(events):
             found.append((words, answer, watched.answer()))
         if not all(is_told_there(it, events) for it in filter(None, map(ROW.fullmatch, lines))):
             found.append((f"rows of {words}", answer, "the lines of their requests"))
+        for granule, its in by_granule(answer[1]).items():
+            if granule in watched.before and not is_right_order(its, watched.before[granule]):
+                found.append((f"order of {granule:016x} of {words}", answer, watched.before[granule]))
     rows = rows_by_granule(answer[1])
     for granule, lines in watched.stops.items():
         answer = run("explain", json.dumps(watched.traces[granule]))
@@ -193,7 +215,7 @@ def outcomes(events):
 
 def tried(number):
     """Tries a history. Returns what it was, and what the program disagrees on."""
-    events, traits = history(random.Random(f"{SEED}/{number}"))
+    events, traits = CHOSEN(random.Random(f"{SEED}/{number}"))
     return number, events, traits | outcomes(events), disagreements(events)
 
 

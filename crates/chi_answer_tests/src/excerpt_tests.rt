@@ -1,7 +1,7 @@
 //! The text of an excerpt, worked by hand.
 
 use crate::comparison::assert_same;
-use chi_excerpt::add_excerpt;
+use chi_excerpt::{add_excerpt, add_order_end};
 use chi_judge::Stop;
 use chi_lanes::Reply;
 use chi_search::Words;
@@ -63,6 +63,7 @@ fn lost_addition(alloc: Global) -> Result<Option<Stop>, Fail> {
         overlapping: Vec::from_slice(alloc, &[second, third])?,
         words: Words::Unknown,
         before: Vec::from_slice(alloc, &[first])?,
+        order: Vec::from_slice(alloc, &[first, third])?,
         legal: Vec::from_slice(alloc, &[one])?,
     }))
 }
@@ -85,5 +86,18 @@ fn a_lost_addition(rt: HostRuntime) -> Result<(), Fail> {
     let mut text = Vec::new(alloc);
     add_excerpt(alloc, &mut text, "request", &stop)?;
     assert_same(&rt, text.as_slice(), LOST_ADDITION.as_bytes());
+    Ok(())
+}
+
+#[test]
+fn the_order_before_a_lost_addition(rt: HostRuntime) -> Result<(), Fail> {
+    let alloc = rt.alloc();
+    let Some(stop) = lost_addition(alloc)? else {
+        return Err(Fail::new("a request is refused"));
+    };
+    let mut text = Vec::new(alloc);
+    add_order_end(&mut text, "request", stop.time, &stop.order)?;
+    let wanted = "  up to 39 in an order that ends with requests 0 17\n";
+    assert_same(&rt, text.as_slice(), wanted.as_bytes());
     Ok(())
 }

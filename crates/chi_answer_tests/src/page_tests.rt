@@ -65,6 +65,7 @@ fn blame(alloc: Global, ops: &[Operation]) -> Result<Blame, Fail> {
             overlapping: Vec::from_slice(alloc, &[*second, *open])?,
             words: Words::Each(Vec::from_slice(alloc, &[1, 0x0605_0000_0000_0001])?),
             before: Vec::new(alloc),
+            order: Vec::new(alloc),
             legal: Vec::new(alloc),
         },
         order: Vec::from_slice(alloc, &[0, 2])?,

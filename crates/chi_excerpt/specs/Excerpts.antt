@@ -1,5 +1,5 @@
 -- the last operations of a granule where they stop being explained, as lines
-use Rattle.std.specs.Prelude.{ℕ, nat_lt, true, false, if◌then◌else◌, List, [], ◌∷◌, ◌++◌, codes, decimal, filter, flat_map, length, Some}
+use Rattle.std.specs.Prelude.{ℕ, ◌-◌, nat_lt, true, false, if◌then◌else◌, List, [], ◌∷◌, ◌++◌, codes, decimal, filter, flat_map, length, Some}
 use Rattle.chi_lanes.specs.declared.reply.Reply.{Reply}
 use Rattle.chi_judge.specs.declared.reach.Stop.{Stop}
 use Rattle.chi_trace.specs.Replies.{reply_fault}
@@ -39,6 +39,13 @@ unfoldable pub suspects_line : List ℕ → List Operation → List ℕ
 suspects_line label suspects =
     if nat_lt 1 (length suspects)
     then codes "  any one of these answers may be the wrong one: " ++ (label ++ (codes "s" ++ (flat_map number_text suspects ++ codes "\n")))
+    else []
+
+-- the last operations of an order that explains a granule's up to the time before, where there are some
+unfoldable pub order_end_line : List ℕ → ℕ → List Operation → List ℕ
+order_end_line label time last =
+    if nat_lt 0 (length last)
+    then codes "  up to " ++ (decimal (time - 1) ++ (codes " in an order that ends with " ++ (label ++ (codes "s" ++ (flat_map number_text last ++ codes "\n")))))
     else []
 
 -- The rows of operations that ended before, of the one that is blamed, and of those that were still open, on a line of time from the

@@ -1,5 +1,5 @@
 -- the lines of rows
-use Rattle.std.specs.Prelude.{ℕ, Bool, true, false, if◌then◌else◌, List, ◌++◌, codes, decimal}
+use Rattle.std.specs.Prelude.{ℕ, Bool, if◌then◌else◌, List, ◌++◌, codes, decimal}
 use Rattle.chi_fields.specs.Opcode.{opcode_name}
 use Rattle.chi_excerpt.specs.declared.columns.Widths.{Widths}
 use Rattle.chi_trace.specs.Fields.{opcode_of}

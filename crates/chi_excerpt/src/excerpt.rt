@@ -1,7 +1,7 @@
 //! The last operations of a granule where they stop being explained, as lines.
 
 ghost use Rattle.std.specs.Prelude.{◌≡◌, ◌++◌, ◌∷◌, false, IfOk, OnOk, flat_map};
-ghost use Rattle.chi_excerpt.specs.Excerpts.{all_rows, blamed_text, ended_after, excerpt_text, legal_line, line_of_time, number_text, suspects_line};
+ghost use Rattle.chi_excerpt.specs.Excerpts.{all_rows, blamed_text, ended_after, excerpt_text, legal_line, line_of_time, number_text, order_end_line, suspects_line};
 ghost use Rattle.chi_excerpt.specs.Texts.{row_text};
 
 use crate::columns::{Widths, first_start, widths_of};
@@ -165,4 +165,36 @@ pub fn add_excerpt(
     add_blamed(to, label, line, widths, stop)?;
     add_rows(to, label, line, widths, &still_open)?;
     add_suspects(to, label, &stop.suspects)
+}
+
+/// Adds the line of the last operations of an order that explains a granule's up to the time before this one, where there are some.
+/// `label` is what the parts of the input are called.
+///
+/// ```
+/// add_order_end(&mut text, "line", 40, &stop.order)?; //   up to 39 in an order that ends with lines 1 3
+/// ```
+#[tactic(auto, unfolding(crate::specs::Excerpts::order_end_line))]
+pub fn add_order_end(
+    to: &mut Vec<u8>,
+    label: &'static str,
+    time: u64,
+    last: &[Operation],
+) -> Result<(), AllocError>
+    ensures { OnOk result (to.new.items ≡ to.old.items ++ order_end_line label.now time last.now) }
+{
+    if last.len() == 0 {
+        return Ok(());
+    }
+    add_parts(
+        to,
+        &[
+            Part::Text("  up to "),
+            Part::Number(time.saturating_sub(1)),
+            Part::Text(" in an order that ends with "),
+            Part::Text(label),
+            Part::Text("s"),
+        ],
+    )?;
+    add_numbers(to, last)?;
+    add_parts(to, &[Part::Text("\n")])
 }

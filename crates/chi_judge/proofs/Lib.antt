@@ -7,6 +7,7 @@ pub mod CutLeads
 pub mod CutShort
 pub mod Cutting
 pub mod Earlier
+mod Ending
 pub mod Found
 pub mod Keeping
 pub mod Last

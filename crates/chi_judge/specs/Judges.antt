@@ -1,8 +1,9 @@
 -- the operations of one granule that are kept, to say where they stop being explained
 use Rattle.std.specs.Prelude.{◌≡◌, ℕ, ◌+◌, ◌^◌, ◌<◌, ◌≤◌, Bool, true, false, List, [], ◌++◌, All, IsTrue, length, take}
 use Rattle.std.specs.List.{AllPairs}
-use Rattle.chi_search.specs.Frontiers.{Follows, FrontierValue, GoesAlong, MayBeTold}
+use Rattle.chi_search.specs.Frontiers.{EndsWith, Follows, FrontierValue, GoesAlong, MayBeTold}
 use Rattle.chi_search.specs.Layers.{SomeLeads}
+use Rattle.chi_trace.specs.AtPlaces.{at_places}
 use Rattle.chi_trace.specs.Cuts.{cut}
 use Rattle.chi_trace.specs.declared.operation.Operation.{Operation}
 use Rattle.chi_judge.specs.Shown.{EndsNoLater, last_of}
@@ -34,6 +35,13 @@ GoesOn f more = (words : List ℕ) (told : List Operation) → Follows words tol
 -- they lead to none
 abbrev pub GoesNowhere : FrontierValue → List Operation → Type 0
 GoesNowhere f more = (words : List ℕ) (told : List Operation) → Follows words told f → (v : ℕ) → SomeLeads (told ++ more) words v → ⊥
+
+-- These are the last operations, so many at most, of some order of what the search follows and then of these: it is the end of one of
+-- all that was told.
+pub record IsEndOfSome (f : FrontierValue) (more : List Operation) (most : ℕ) (last : List Operation) : Type 0 where
+  pub order : List ℕ
+  pub last_is : last ≡ last_of most (at_places (f.operations ++ more) order)
+  pub ends : (words : List ℕ) (told : List Operation) → Follows words told f → EndsWith (told ++ more) words (at_places (f.operations ++ more) order)
 
 -- what had happened by a time leads to some word
 abbrev pub LeadsBy : ℕ → List ℕ → List Operation → Type 0

@@ -1,7 +1,7 @@
 -- how far a granule's operations can be explained
-use Rattle.std.specs.Prelude.{◌≡◌, ℕ, ◌+◌, ◌⊎◌, nat_le, Bool, true, ◌&&◌, List, [], ◌∷◌, All, None, Some, ◌↔◌, IfSome, IsPermutation, slice_get}
+use Rattle.std.specs.Prelude.{◌≡◌, ℕ, ◌+◌, ◌≤◌, ◌⊎◌, ◌++◌, nat_le, Bool, true, ◌&&◌, List, [], ◌∷◌, All, length, None, Some, ◌↔◌, IfSome, IsPermutation, slice_get}
 use Rattle.std.specs.List.{Contains, filter}
-use Rattle.chi_trace.specs.AtPlaces.{is_in}
+use Rattle.chi_trace.specs.AtPlaces.{at_places, is_in}
 use Rattle.chi_trace.specs.Cuts.{cut}
 use Rattle.chi_trace.specs.Explains.{IsTrace, is_answered}
 use Rattle.chi_trace.specs.Granules.{ExplainsGranule}
@@ -36,11 +36,19 @@ is_open_at g time op = is_in g op && (nat_le op.start time && nat_le time op.end
 abbrev pub IsExplained : ℕ → List Operation → ℕ → ℕ → Type 0
 IsExplained time trace g w = (order : List ℕ) × ExplainsGranule (cut time trace) g w None order
 
+-- these are the last operations of an order that explains the granule's operations
+pub record EndAnOrder (trace : List Operation) (g w : ℕ) (ops : List Operation) : Type 0 where
+  pub order : List ℕ
+  pub explains : ExplainsGranule trace g w None order
+  pub earlier : List Operation
+  pub parts : at_places trace order ≡ earlier ++ ops
+
 -- Up to this time no order explains the granule's operations. Up to the time before, where there is one, some order does, and
 -- these are the words that they can leave, where they are known; before time 0 none are. The operation was answered then, and is
 -- one of those that were open. It is the first of those whose answer may be wrong, and where there is none no other that was
 -- answered then has an earlier request. The last so many of the others that had ended by then stand before it, and each of these
--- replies of it would have been right.
+-- replies of it would have been right. The order's last operations are those of one that explains what had happened up to the time
+-- before.
 pub record IsStop (trace : List Operation) (g w most : ℕ) (s : Stop) : Type 0 where
   pub after : IsExplained s.time trace g w → ⊥
   pub before_it : (time : ℕ) → time + 1 ≡ s.time → IsExplained time trace g w
@@ -54,6 +62,8 @@ pub record IsStop (trace : List Operation) (g w most : ℕ) (s : Stop) : Type 0 
   pub request : s.suspects.items ≡ [] → IsOfFirstRequest s.overlapping.items s.time s.op.number
   pub overlapping : IsPermutation (filter (is_open_at g s.time) trace) s.overlapping.items
   pub before : AreBefore trace g s.time s.op most s.before.items
+  pub order : (time : ℕ) → time + 1 ≡ s.time → EndAnOrder (cut time trace) g w s.order.items
+  pub order_within : length s.order.items ≤ most
   pub legal : All (IsLegal trace g w s.time s.op) s.legal.items
 
 -- What is not said was not found within the budget: each whose answer may be wrong is among the suspects, or as many states were

@@ -13,6 +13,8 @@ use chi_trace::Operation;
 /// - `overlapping`: the granule's operations that were open at the time, or ended at it, in the order of their starts.
 /// - `words`: those that the granule can hold up to the time before, where that was found. Where the time is 0 it is not.
 /// - `before`: the last of the other operations that had ended by the time, in the order in which they were told.
+/// - `order`: the last operations of an order that explains the granule's operations up to the time before, each as it was known by
+///   then. There are none where the time is 0.
 /// - `legal`: answers of the operation with which the granule's operations up to the time can be explained. Which are found is
 ///   not promised, only that each is one.
 #[derive(Debug, Drop)]
@@ -23,6 +25,7 @@ pub struct Stop {
     pub overlapping: Vec<Operation>,
     pub words: Words,
     pub before: Vec<Operation>,
+    pub order: Vec<Operation>,
     pub legal: Vec<Reply>,
 }
 

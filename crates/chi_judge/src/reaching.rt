@@ -108,9 +108,9 @@ impl Judge {
     {
         granules_stand_alone();
         let time = ops[place].end;
-        if !self.is_explained_before(alloc, ops, time, budget, progress)? {
+        let Some(order) = self.end_of_order_before(alloc, ops, time, budget, progress)? else {
             return Ok(Reach::Undecided);
-        }
+        };
         let suspects = suspects_at(alloc, &self.before, ops, time, budget, progress)?;
         let Some(blamed) = blamed_at(ops, &suspects, time) else {
             return Ok(Reach::Undecided);
@@ -124,6 +124,7 @@ impl Judge {
             overlapping: open_at(alloc, ops, time)?,
             words,
             before: before_at(alloc, self.shown, &self.left, ops, time, blamed)?,
+            order,
             legal,
         }))
     }

@@ -10,11 +10,11 @@ ghost use Rattle.chi_trace.specs.Cuts.{cut};
 ghost use Rattle.chi_trace.specs.Explains.{at};
 ghost use Rattle.chi_trace.specs.Segments.{AreLasting};
 ghost use Rattle.chi_trace.specs.declared.operation.Operation.{Operation};
-ghost use Rattle.chi_judge.specs.Judges.{GoesNowhere, GoesOn, LeadsBy, LiesWithin};
+ghost use Rattle.chi_judge.specs.Judges.{GoesNowhere, GoesOn, IsEndOfSome, LeadsBy, LiesWithin};
 
 use crate::later_makers::makers_after;
 use chi_search::{Found, Frontier, Progress, Words};
-use chi_trace::{Operation, cut};
+use chi_trace::{Operation, cut, operations_at};
 use std::alloc::{AllocError, Global};
 
 /// The search once more operations are told, one after the other. There is none where one of them cannot be told next.
@@ -25,6 +25,7 @@ pub(crate) fn told_after(
 ) -> Result<Option<Frontier>, AllocError>
     ensures follows { IfOk result (λ after. IfSome after (λ frontier. (words : List ℕ) (told : List Operation) → Follows words told before.now → Follows words (told ++ more.now) frontier)) }
     ensures along { IfOk result (λ after. IfSome after (λ frontier. (words : List ℕ) (told : List Operation) → GoesAlong words told before.now → GoesAlong words (told ++ more.now) frontier)) }
+    ensures operations { IfOk result (λ after. IfSome after (λ frontier. frontier.operations ≡ before.now.operations ++ more.now)) }
     ensures next { IfOk result (λ after. IfSome after (λ frontier. (rest : List Operation) → MayBeTold before.now (more.now ++ rest) → MayBeTold frontier rest)) }
     ensures horizon { IfOk result (λ after. IfSome after (λ frontier. frontier.horizon ≡ before.now.horizon)) }
     ensures latest { IfOk result (λ after. IfSome after (λ frontier. (time : ℕ) → before.now.latest ≤ time → All (λ op. op.end ≤ time) more.now → frontier.latest ≤ time)) }
@@ -128,4 +129,33 @@ pub(crate) fn order_by<P: Progress>(
 {
     let known = cut(alloc, more, time)?;
     order_after(alloc, before, &known, budget, progress)
+}
+
+/// The last operations, so many at most, of an order of what had happened by a time. There are none where no order is found.
+pub(crate) fn end_of_order_by<P: Progress>(
+    alloc: Global,
+    before: &Frontier,
+    more: &[Operation],
+    time: u64,
+    most: usize,
+    budget: u64,
+    progress: &mut P,
+) -> Result<Option<Vec<Operation>>, AllocError>
+    ensures last { IfOk result (λ found. IfSome found (λ last. IsEndOfSome before.now (cut time more.now) most last.items)) }
+    ensures none { IfOk result (λ found. found ≡ None → GoesNowhere before.now (cut time more.now) ⊎ (MayBeTold before.now more.now → All LiesWithin more.now → LookedMore P.looked progress.old progress.new budget)) }
+    ensures looked { IfOk result (λ _. LookedSome P.looked progress.old progress.new) }
+{
+    let known = cut(alloc, more, time)?;
+    let Some(after) = told_after(alloc, before, &known)? else {
+        return Ok(None);
+    };
+    let mut left = budget;
+    match after.order(alloc, None, &mut left, progress)? {
+        Found::Order(order) => {
+            let from = order.len().saturating_sub(most);
+            Ok(Some(operations_at(alloc, after.operations(), &order[from..])?))
+        }
+        Found::Nothing => Ok(None),
+        Found::Undecided => Ok(None),
+    }
 }

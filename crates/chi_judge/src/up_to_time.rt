@@ -1,14 +1,15 @@
 //! Up to which times the operations that are kept can be explained.
 
-ghost use Rattle.std.specs.Prelude.{◌≡◌, ℕ, ◌+◌, ◌<◌, ◌≤◌, ◌⊎◌, List, true, false, length, IfOk, IfSome, IsTrue};
+ghost use Rattle.std.specs.Prelude.{◌≡◌, ℕ, ◌+◌, ◌<◌, ◌≤◌, ◌⊎◌, List, None, true, false, length, IfOk, IfSome, IsTrue};
 ghost use Rattle.chi_search.specs.Looks.{LookedAtLeast, LookedSome};
+ghost use Rattle.chi_trace.specs.Cuts.{cut};
 ghost use Rattle.chi_trace.specs.Explains.{at, is_answered};
 ghost use Rattle.chi_trace.specs.declared.operation.Operation.{Operation};
-ghost use Rattle.chi_judge.specs.Reaches.{IsExplained, IsJudgeOf};
+ghost use Rattle.chi_judge.specs.Reaches.{EndAnOrder, IsExplained, IsJudgeOf};
 ghost use Rattle.chi_judge.specs.Searches.{AreSeen, IsSeen};
 
 use crate::judge::Judge;
-use crate::search::order_by;
+use crate::search::{end_of_order_by, order_by};
 use chi_search::{Found, Progress};
 use chi_trace::Operation;
 use chi_trace::laws::granules_stand_alone;
@@ -70,23 +71,34 @@ impl Judge {
         Ok(high)
     }
 
-    /// Whether they are seen to be explained up to the time before, or there is no such time.
-    pub(crate) fn is_explained_before<P: Progress>(
+    /// The last operations of an order that explains them up to the time before, as many as are shown at most. There are none where
+    /// there is no such time, and no answer where no order is found.
+    pub(crate) fn end_of_order_before<P: Progress>(
         &self,
         alloc: Global,
         ops: &[Operation],
         time: u64,
         budget: u64,
         progress: &mut P,
-    ) -> Result<bool, AllocError>
+    ) -> Result<Option<Vec<Operation>>, AllocError>
         requires kept { ops.now ≡ self.now.kept }
-        ensures explained { IfOk result (λ is. IsTrue is → (earlier : ℕ) → earlier + 1 ≡ time → (trace : List Operation) (g w : ℕ) → IsJudgeOf trace g w self.now → IsSeen self.now earlier → IsExplained earlier trace g w) }
-        ensures other { IfOk result (λ is. is ≡ false → (trace : List Operation) (g w : ℕ) → IsJudgeOf trace g w self.now → (earlier : ℕ) × (earlier + 1 ≡ time) × (IsSeen self.now earlier → (IsExplained earlier trace g w → ⊥) ⊎ LookedAtLeast P.looked progress.old progress.new budget)) }
+        ensures order { IfOk result (λ found. IfSome found (λ last. (earlier : ℕ) → earlier + 1 ≡ time → (trace : List Operation) (g w : ℕ) → IsJudgeOf trace g w self.now → IsSeen self.now earlier → EndAnOrder (cut earlier trace) g w last.items)) }
+        ensures within { IfOk result (λ found. IfSome found (λ last. length last.items ≤ self.now.shown)) }
+        ensures other { IfOk result (λ found. found ≡ None → (trace : List Operation) (g w : ℕ) → IsJudgeOf trace g w self.now → (earlier : ℕ) × (earlier + 1 ≡ time) × (IsSeen self.now earlier → (IsExplained earlier trace g w → ⊥) ⊎ LookedAtLeast P.looked progress.old progress.new budget)) }
         ensures looked { IfOk result (λ _. LookedSome P.looked progress.old progress.new) }
     {
+        granules_stand_alone();
         if time == 0 {
-            return Ok(true);
+            return Ok(Some(Vec::new(alloc)));
         }
-        self.is_explained(alloc, ops, time - 1, false, budget, progress)
+        end_of_order_by(
+            alloc,
+            &self.before,
+            ops,
+            time - 1,
+            self.shown,
+            budget,
+            progress,
+        )
     }
 }

@@ -30,9 +30,7 @@ use std::marker::Model;
 /// for op in &ended {
 ///     frontier.add(op)?;
 /// }
-/// if let Some(next) = frontier.advanced(alloc, earliest_open_start, 4096, &mut budget, &mut NoProgress)? {
-///     frontier = next;
-/// }
+/// let next = frontier.advanced(alloc, earliest_open_start, 4096, &mut budget, &mut NoProgress)?;
 /// ```
 #[derive(Drop)]
 pub struct Frontier {
@@ -101,6 +99,7 @@ impl Frontier {
     pub fn add(&mut self, op: &Operation) -> Result<bool, AllocError>
         ensures told { IfOk result (λ is. IsTrue is → (words : List ℕ) (told : List Operation) → Follows words told self.old → Follows words (told ++ op.now ∷ []) self.new) }
         ensures along { IfOk result (λ is. IsTrue is → (words : List ℕ) (told : List Operation) → GoesAlong words told self.old → GoesAlong words (told ++ op.now ∷ []) self.new) }
+        ensures operations { IfOk result (λ is. IsTrue is → self.new.operations ≡ self.old.operations ++ op.now ∷ []) }
         ensures last { IfOk result (λ is. IsTrue is → (self.new.horizon ≡ self.old.horizon) × (self.new.latest ≡ op.now.end)) }
         ensures taken { IfOk result (λ is. IsTrue is ↔ (CanBeTold self.old op.now × (op.now.access.addr + op.now.access.len ≤ 2 ^ 52))) }
         ensures refused { IfOk result (λ is. is ≡ false → self.new ≡ self.old) }

@@ -73,6 +73,24 @@ fn assert_starts<R: AllocGlobal + Abort>(
     Ok(())
 }
 
+// Compares the numbers of those of an order's last operations that were answered: these came one after the other, and where there are
+// 16 of them or more the first may be left out.
+fn assert_order<R: AllocGlobal + Abort>(
+    rt: &R,
+    order: &[Operation],
+    ended: &[u64],
+) -> Result<(), Fail> {
+    let answered: Vec<u64> = order
+        .iter()
+        .filter(|op| op.reply.is_some())
+        .map(|op| op.number)
+        .collect(rt.alloc())?;
+    let from = ended.len().saturating_sub(answered.len());
+    assert_same(rt, from == 0 || ended.len() >= 16, true);
+    assert_same(rt, answered.as_slice(), &ended[from..]);
+    Ok(())
+}
+
 /// Compares the time at which operations stop being explained, the request that was answered then, those that were open, by their
 /// starts, and the words that the granule can hold before.
 pub(crate) fn assert_stop<R: AllocGlobal + Abort>(
@@ -93,7 +111,7 @@ pub(crate) fn assert_stop<R: AllocGlobal + Abort>(
     }
 }
 
-/// Compares where a granule stops being explained.
+/// Compares where a granule stops being explained. Those that had ended before have to have come one after the other.
 pub(crate) fn assert_stops<R: AllocGlobal + Abort>(
     rt: &R,
     reach: &Reach,
@@ -106,6 +124,7 @@ pub(crate) fn assert_stops<R: AllocGlobal + Abort>(
     };
     assert_same(rt, stop.op.number, wanted.blamed);
     assert_numbers(rt, &stop.before, wanted.before)?;
+    assert_order(rt, &stop.order, wanted.before)?;
     assert_numbers(rt, &stop.overlapping, wanted.open)?;
     assert_legal(rt, &stop.legal, wanted.legal)
 }

@@ -81,7 +81,19 @@ pub(crate) fn watched(
     watch_lines(alloc, &mut from, &mut told, options, &mut NoProgress)
 }
 
-/// The text of it.
+/// A text without the lines of how an order ends, since it is not promised which order is found.
+fn without_orders(alloc: Global, text: &str) -> Result<String, Fail> {
+    let mut left = String::new(alloc);
+    for line in text.lines() {
+        if !line.starts_with("  up to ") {
+            left.push_str(line)?;
+            left.push_str("\n")?;
+        }
+    }
+    Ok(left)
+}
+
+/// The text of it, without the lines of how an order ends.
 pub(crate) fn answer(
     alloc: Global,
     texts: &[&str],
@@ -92,7 +104,7 @@ pub(crate) fn answer(
     let mut text = Vec::new(alloc);
     let watched = watch_lines(alloc, &mut from, &mut text, options, &mut NoProgress)?;
     text.extend_from_slice(&closing_text(alloc, &watched, options)?)?;
-    Ok(String::from_utf8(text)?)
+    without_orders(alloc, &String::from_utf8(text)?)
 }
 
 /// Nothing is required, or all of which one can say whether it is there.

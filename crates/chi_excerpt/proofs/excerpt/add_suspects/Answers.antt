@@ -1,5 +1,5 @@
 -- one part after the other, where there is more than one
-use Rattle.std.proofs.Common.{◌≡◌, ◌<◌, nat_lt, true, length, append_assoc, append-nil, arith, lt-ltb}
+use Rattle.std.proofs.Common.{◌≡◌, nat_lt, true, length, append_assoc, append-nil, arith, lt-ltb}
 use Rattle.chi_excerpt.specs.Excerpts.{suspects_line}
 use Rattle.chi_excerpt.proofs.excerpt.add_suspects.Goals as goal
 

@@ -12,6 +12,7 @@ pub loop-op-init : goal.loop-op-init
 loop-op-init c = record {
   follows = λ words told follows. subst (λ (l : List Operation). Follows words l c.in_ok-after.after) (sym (append-nil told)) (c.in_ok-after.ensures.follows words told follows);
   along = λ words told along. subst (λ (l : List Operation). GoesAlong words l c.in_ok-after.after) (sym (append-nil told)) (c.in_ok-after.ensures.along words told along);
+  operations = c.in_ok-after.ensures.same.0 ∙ sym (append-nil c.args.before.now.operations);
   next = λ rest may. may_same c.args.before.now c.in_ok-after.after rest c.in_ok-after.ensures.same.1 c.in_ok-after.ensures.same.2 may;
   horizon = c.in_ok-after.ensures.same.1;
   latest = λ time le all. subst (λ n. n ≤ time) (sym c.in_ok-after.ensures.same.2) le;
@@ -45,6 +46,11 @@ loop-op-preserved c =
       along = λ words told along.
           subst (λ (l : List Operation). GoesAlong words l c.add.new.self) (append_assoc told (take i more) (op ∷ []) ∙ ap (λ (l : List Operation). told ++ l) (sym grown))
           (c.in_ok-add.ensures.along c.if-not-branch.false words (told ++ take i more) (c.loop-op.invariant.along words told along));
+      operations =
+          c.in_ok-add.ensures.operations c.if-not-branch.false
+          ∙ ap (λ (l : List Operation). l ++ op ∷ []) c.loop-op.invariant.operations
+          ∙ append_assoc c.args.before.now.operations (take i more) (op ∷ [])
+          ∙ ap (λ (l : List Operation). c.args.before.now.operations ++ l) (sym grown);
       next = λ rest may.
           may_rest c.loop-op.after c.add.new.self op rest last.0 last.1
           (c.loop-op.invariant.next (op ∷ rest) (subst (MayBeTold c.args.before.now) (ap (λ (l : List Operation). l ++ rest) grown ∙ append_assoc (take i more) (op ∷ []) rest) may));
@@ -61,6 +67,10 @@ returns-clause-follows c words told follows =
 pub returns-clause-along : goal.returns-clause-along
 returns-clause-along c words told along =
     subst (λ (l : List Operation). GoesAlong words (told ++ l) c.loop-op.after) (take_all c.loop-op.op-index c.args.more.now (omega arith)) (c.loop-op.invariant.along words told along)
+
+pub returns-clause-operations : goal.returns-clause-operations
+returns-clause-operations c =
+    c.loop-op.invariant.operations ∙ ap (λ (l : List Operation). c.args.before.now.operations ++ l) (take_all c.loop-op.op-index c.args.more.now (omega arith))
 
 pub returns-clause-next : goal.returns-clause-next
 returns-clause-next c rest may =

@@ -8,6 +8,7 @@ abbrev pub invariant-loop-op : goal.invariant-loop-op
 invariant-loop-op l = record {
   follows : (words : List ℕ) (told : List Operation) → Follows words told l.before → Follows words (told ++ take l.op-index l.more) l.after;
   along : (words : List ℕ) (told : List Operation) → GoesAlong words told l.before → GoesAlong words (told ++ take l.op-index l.more) l.after;
+  operations : l.after.operations ≡ l.before.operations ++ take l.op-index l.more;
   next : (rest : List Operation) → MayBeTold l.before (take l.op-index l.more ++ rest) → MayBeTold l.after rest;
   horizon : l.after.horizon ≡ l.before.horizon;
   latest : (time : ℕ) → l.before.latest ≤ time → All (λ op. op.end ≤ time) (take l.op-index l.more) → l.after.latest ≤ time;

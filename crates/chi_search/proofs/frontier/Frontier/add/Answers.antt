@@ -1,5 +1,5 @@
 -- one operation more is told
-use Rattle.std.proofs.Common.{◌+◌, ◌^◌, ◌≤◌, List, [], ◌∷◌, ◌++◌, sym, subst, arith}
+use Rattle.std.proofs.Common.{◌+◌, ◌^◌, ◌≤◌, List, [], ◌∷◌, ◌++◌, sym, ap, subst, ◌∙◌, arith}
 use Rattle.chi_trace.specs.declared.operation.Operation.{Operation}
 use Rattle.chi_search.specs.Frontiers.{CanBeTold, Follows, FrontierValue, GoesAlong, IsFrontier}
 use Rattle.chi_search.specs.StateSets.{positions}
@@ -25,6 +25,9 @@ returns-clause-told c is words told follows =
     let can : CanBeTold old op = record { lasting = omega arith; starts = omega arith; ends = omega arith } in
     subst (λ (ops : List Operation). Follows words (told ++ op ∷ []) (record { positions = positions s.states; operations = ops; horizon = s.horizon; latest = op.end })) (sym c.in_ok-push.ensures.items)
     (follows_one words told old op can (subst (Follows words told) (sym c.self.view_is) follows))
+
+pub returns-clause-operations : goal.returns-clause-operations
+returns-clause-operations c is = c.in_ok-push.ensures.items ∙ ap (λ (f : FrontierValue). f.operations ++ c.args.op.now ∷ []) c.self.view_is
 
 pub returns-clause-along : goal.returns-clause-along
 returns-clause-along c is words told along =
