@@ -34,8 +34,8 @@ module _ (options : WatchOptions) (old new : Option (List ℕ)) (w : Watched) (t
   of_no_line input lines_fault.Write is none = absurd none
   of_no_line input lines_fault.Memory is none = before_it options old new input lines_fault.Memory w.found.items tt is.found told
 
-  unsaved_in : (input : List ℕ) (kept : Option (Vec ℕ Global)) (fault : CheckFault) (is : IsWatched input options.keep_going w) → AreKept input kept is.rest → IsSomeAnd kept (λ k. IsUnsaved w k.items fault)
-      → WatchOutcome options input old new (Err fault)
+  unsaved_in : (input : List ℕ) (kept : Option (Vec ℕ Global)) (fault : CheckFault) (is : IsWatched input options.keep_going w) → AreKept input kept is.rest
+      → IsSomeAnd kept (λ k. IsUnsaved w k.items fault) → WatchOutcome options input old new (Err fault)
   unsaved_in input None fault is are why = absurd why
   unsaved_in input (Some kept) fault is are (inl same) = subst (λ (f : CheckFault). WatchOutcome options input old new (Err f)) (sym same) (w, is, told)
   unsaved_in input (Some kept) fault is are (inr (f, same, saving)) =
@@ -55,33 +55,37 @@ module _ (options : WatchOptions) (old new : Option (List ℕ)) (w : Watched) (t
 
 -- what was put at the path
 module _ {P : Type 0} (has_put : P → List ℕ → List ℕ → Type 0) where
-  put_weaker : (granule : Option ℕ) (A B : ℕ → List ℕ → Type 0) (path : List ℕ) (before after : P) → ((g : ℕ) (lines : List ℕ) → A g lines → B g lines) → IsPutOf has_put granule A path before after
-      → IsPutOf has_put granule B path before after
+  put_weaker : (granule : Option ℕ) (A B : ℕ → List ℕ → Type 0) (path : List ℕ) (before after : P) → ((g : ℕ) (lines : List ℕ) → A g lines → B g lines)
+      → IsPutOf has_put granule A path before after → IsPutOf has_put granule B path before after
   put_weaker None A B path before after weaker same = same
   put_weaker (Some g) A B path before after weaker (lines, is, put) = (lines, weaker g lines is, put)
 
-  first_put : (input : List ℕ) (going : Bool) (w : Watched) (is : IsWatched input going w) (kept : Option (Vec ℕ Global)) (path : List ℕ) (before after : P) → is_some kept ≡ true → AreKept input kept is.rest
-      → IfSome kept (λ k. IsPutOf has_put (first_listed w) (IsSaved k.items) path before after)
+  first_put : (input : List ℕ) (going : Bool) (w : Watched) (is : IsWatched input going w) (kept : Option (Vec ℕ Global)) (path : List ℕ) (before after : P) → is_some kept ≡ true
+      → AreKept input kept is.rest → IfSome kept (λ k. IsPutOf has_put (first_listed w) (IsSaved k.items) path before after)
       → IsPutOf has_put (first_listed w) (λ g lines. lines ≡ lines_about g no_number is.told.lines is.events) path before after
   first_put input going w is None path before after some are put = absurd (true≢false (sym some))
   first_put input going w is (Some k) path before after some are put =
       put_weaker (first_listed w) (IsSaved k.items) (λ g lines. lines ≡ lines_about g no_number is.told.lines is.events) path before after
       (λ g lines saved. saved is.told.lines is.events (whole input going w is k.items are)) put
 
-  saved_in : (options : WatchingOptions) (input : List ℕ) (old new : Option (List ℕ)) (status : ℕ) (w : Watched) (before after : P) (save : Option (Bor (List ℕ))) (is : IsWatched input options.keep_going w)
-      → is_some w.kept ≡ is_some save → status ≡ watch_status (watching options) w → Appends old new (watched_text (watching options) w) → IfSome save (λ path. IsFirstPut has_put w path.now before after)
-      → IfSome save (λ path. (watched : Watched) × (it : IsWatched input options.keep_going watched) × (status ≡ watch_status (watching options) watched) × Appends old new (watched_text (watching options) watched)
+  saved_in : (options : WatchingOptions) (input : List ℕ) (old new : Option (List ℕ)) (status : ℕ) (w : Watched) (before after : P) (save : Option (Bor (List ℕ)))
+      → (is : IsWatched input options.keep_going w) → is_some w.kept ≡ is_some save → status ≡ watch_status (watching options) w → Appends old new (watched_text (watching options) w)
+      → IfSome save (λ path. IsFirstPut has_put w path.now before after)
+      → IfSome save (λ path. (watched : Watched) × (it : IsWatched input options.keep_going watched) × (status ≡ watch_status (watching options) watched)
+      × Appends old new (watched_text (watching options) watched)
       × IsPutOf has_put (first_listed watched) (λ g lines. lines ≡ lines_about g no_number it.told.lines it.events) path.now before after)
   saved_in options input old new status w before after None is keeps status_is appends put = tt
   saved_in options input old new status w before after (Some path) is keeps status_is appends put =
       (w, is, status_is, appends, first_put input options.keep_going w is w.kept path.now before after keeps is.kept put)
 
-  pub saved : (options : WatchingOptions) (how : WatchOptions) (remaining old mid new : Option (List ℕ)) (w : Watched) (before after : P) (result : Result ℕ CheckFault) → how ≡ watching options
-      → IfSome remaining (λ input. IsWatched input how.keep_going w) → is_some w.kept ≡ how.keep_lines → Appends old mid (flat_map found_text w.found.items) → WritesClosing how w mid new result
-      → IfSome options.save (λ path. IsFirstPut has_put w path.now before after) → IfOk result (λ status. IfSome remaining (λ input. SavesFirst has_put options input old new status before after))
+  pub saved : (options : WatchingOptions) (how : WatchOptions) (remaining old mid new : Option (List ℕ)) (w : Watched) (before after : P) (result : Result ℕ CheckFault)
+      → how ≡ watching options → IfSome remaining (λ input. IsWatched input how.keep_going w) → is_some w.kept ≡ how.keep_lines → Appends old mid (flat_map found_text w.found.items)
+      → WritesClosing how w mid new result → IfSome options.save (λ path. IsFirstPut has_put w path.now before after)
+      → IfOk result (λ status. IfSome remaining (λ input. SavesFirst has_put options input old new status before after))
   saved options how remaining old mid new w before after (Err fault) how_is is keeps told writes put = tt
   saved options how None old mid new w before after (Ok status) how_is is keeps told writes put = tt
   saved options how (Some input) old mid new w before after (Ok status) how_is is keeps told writes put =
       let both = subst (λ (h : WatchOptions). (status ≡ watch_status h w) × Appends mid new (closing_text h w)) how_is writes in
-      saved_in options input old new status w before after options.save (subst (λ (h : WatchOptions). IsWatched input h.keep_going w) how_is is) (keeps ∙ ap (λ (h : WatchOptions). h.keep_lines) how_is) both.0
+      saved_in options input old new status w before after options.save
+      (subst (λ (h : WatchOptions). IsWatched input h.keep_going w) how_is is) (keeps ∙ ap (λ (h : WatchOptions). h.keep_lines) how_is) both.0
       (taken_then old mid new (flat_map found_text w.found.items) (closing_text (watching options) w) told both.1) put

@@ -36,7 +36,8 @@ line_added : (text rest : List ℕ) (old new : Option (Vec ℕ Global)) → AreK
 line_added text rest None new are keeps = subst (λ (o : Option (Vec ℕ Global)). AreKept text o (drop_through 10 rest)) (sym keeps) tt
 line_added text rest (Some old) None are keeps = absurd keeps
 line_added text rest (Some old) (Some new) are keeps =
-    are ∙ (ap (λ l. old.items ++ l) (sym (line_then_rest rest)) ∙ (sym (append_assoc old.items (take_through 10 rest) (drop_through 10 rest)) ∙ ap (λ l. l ++ drop_through 10 rest) (sym keeps)))
+    are ∙ (ap (λ l. old.items ++ l) (sym (line_then_rest rest)) ∙ (sym (append_assoc old.items (take_through 10 rest) (drop_through 10 rest))
+    ∙ ap (λ l. l ++ drop_through 10 rest) (sym keeps)))
 
 pub line_kept : (start now later : Option (List ℕ)) (old new : Option (Vec ℕ Global)) (line : List ℕ) (number : ℕ) (e : Event) → AreKeptOf start old now → KeepsLine old line new
     → IfSome now (λ text. line ≡ take_through 10 text) → IfSome now (λ text. IsRead number text (Some e) later) → AreKeptOf start new later
@@ -89,5 +90,8 @@ lines_kept text (line ∷ lines) rest kept (some, line_is, are) is =
     append_cancel_right kept (take_through 10 text ++ mid) rest
     (sym is ∙ (sym (line_then_rest text) ∙ (ap (λ l. take_through 10 text ++ l) later.1 ∙ sym (append_assoc (take_through 10 text) mid rest)))) in
     let first = first_line_kept text mid rest later.1 in
-    let has_some : 0 < length kept = omega (arith, ap length kept_is, length-append (take_through 10 text) mid, line_some text some) in
-    (has_some, line_is ∙ (sym first.0 ∙ ap (take_through 10) (sym kept_is)), subst (λ (l : List ℕ). AreLines l lines []) (sym (ap (drop_through 10) kept_is ∙ first.1)) (lines_kept (drop_through 10 text) lines rest mid are later.1))
+    let has_some : 0 < length kept = omega (arith, ap length kept_is, length-append (take_through 10 text) mid, line_some text some) in (
+      has_some,
+      line_is ∙ (sym first.0 ∙ ap (take_through 10) (sym kept_is)),
+      subst (λ (l : List ℕ). AreLines l lines []) (sym (ap (drop_through 10) kept_is ∙ first.1)) (lines_kept (drop_through 10 text) lines rest mid are later.1),
+    )

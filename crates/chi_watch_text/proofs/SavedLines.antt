@@ -34,12 +34,14 @@ tells_same g numbers others (kind.Final told) same = refl
 tells_same g numbers others (kind.Unknown addr len) same = refl
 tells_same g numbers others kind.End same = refl
 
-about_same : (g : ℕ) (numbers others : ℕ → Bool) (lines : List (List ℕ)) (events : List Event) → ((id : ℕ) → numbers id ≡ others id) → lines_about g numbers lines events ≡ lines_about g others lines events
+about_same : (g : ℕ) (numbers others : ℕ → Bool) (lines : List (List ℕ)) (events : List Event) → ((id : ℕ) → numbers id ≡ others id)
+    → lines_about g numbers lines events ≡ lines_about g others lines events
 unfolding lines_about
 about_same g numbers others [] events same = refl
 about_same g numbers others (line ∷ lines) [] same = refl
 about_same g numbers others (line ∷ lines) (e ∷ events) same =
-    ap₂ (λ (b : Bool) l. cond b line [] ++ l) (tells_same g numbers others e.kind same) (about_same g (numbers_after g numbers e.kind) (numbers_after g others e.kind) lines events (after_same g numbers others e.kind same))
+    ap₂ (λ (b : Bool) l. cond b line [] ++ l) (tells_same g numbers others e.kind same)
+    (about_same g (numbers_after g numbers e.kind) (numbers_after g others e.kind) lines events (after_same g numbers others e.kind same))
 
 -- These lines are left, with their events; with what is saved so far they make all that tell of the granule.
 pub record IsLeft (g : ℕ) (numbers : ℕ → Bool) (number : ℕ) (rest saved all : List ℕ) : Type 0 where
@@ -50,7 +52,8 @@ pub record IsLeft (g : ℕ) (numbers : ℕ → Bool) (number : ℕ) (rest saved 
   pub all_is : all ≡ saved ++ lines_about g numbers lines events
 
 -- all are left at the start
-pub all_left : (g : ℕ) (numbers : ℕ → Bool) (text saved : List ℕ) → ((id : ℕ) → numbers id ≡ no_number id) → saved ≡ [] → (lines : List (List ℕ)) (events : List Event) → AreWhole text lines events
+pub all_left : (g : ℕ) (numbers : ℕ → Bool) (text saved : List ℕ) → ((id : ℕ) → numbers id ≡ no_number id) → saved ≡ []
+    → (lines : List (List ℕ)) (events : List Event) → AreWhole text lines events
     → IsLeft g numbers 1 text saved (lines_about g no_number lines events)
 all_left g numbers text saved none empty lines events whole = record {
   lines = lines;
@@ -90,12 +93,14 @@ line_saved g numbers after number rest saved new all e some tells is noted left 
           events = events;
           are_lines = are_lines;
           are_events = are_events;
-          all_is = all_is ∙ (ap₂ (λ (a b : List ℕ). saved ++ (a ++ b)) here later ∙ (sym (append_assoc saved (line_about g numbers (take_through 10 rest) e.kind) (lines_about g after lines events))
+          all_is = all_is ∙ (ap₂ (λ (a b : List ℕ). saved ++ (a ++ b)) here later
+              ∙ (sym (append_assoc saved (line_about g numbers (take_through 10 rest) e.kind) (lines_about g after lines events))
               ∙ ap (λ l. l ++ lines_about g after lines events) (sym is)));
         }
 
 -- and no line is at fault
-pub none_refused : (g : ℕ) (numbers : ℕ → Bool) (number : ℕ) (rest saved all : List ℕ) (f : LinesFault) → 0 < length rest → IsRefused (take_through 10 rest) number f → IsLeft g numbers number rest saved all → IsOfNoLine f
+pub none_refused : (g : ℕ) (numbers : ℕ → Bool) (number : ℕ) (rest saved all : List ℕ) (f : LinesFault) → 0 < length rest → IsRefused (take_through 10 rest) number f
+    → IsLeft g numbers number rest saved all → IsOfNoLine f
 unfolding AreEvents AreLines
 none_refused g numbers number rest saved all fault.Read some refused left = tt
 none_refused g numbers number rest saved all (fault.Line n f) some refused left = by_lines left.lines left.events left.are_lines left.are_events

@@ -12,8 +12,9 @@ use Rattle.chi_check.proofs.watch.watch.Goals as goal
 
 pub returns-in_ok-save_first-in-Ok-clause-outcome : goal.returns-in_ok-save_first-in-Ok-clause-outcome
 returns-in_ok-save_first-in-Ok-clause-outcome g c =
-    subst (λ (how : WatchOptions). IfSome (g.R.Read.remaining c.args.from.now) (λ input. WatchOutcome how input (g.W.Write.contents c.args.to.now) (g.W.Write.contents c.write_closing.new.to) c.write_closing.result))
-    c.watching-how.ensures
+    let old = g.W.Write.contents c.args.to.now in
+    let new = g.W.Write.contents c.write_closing.new.to in
+    subst (λ (how : WatchOptions). IfSome (g.R.Read.remaining c.args.from.now) (λ input. WatchOutcome how input old new c.write_closing.result)) c.watching-how.ensures
     (closed c.watching-how.result _ _ _ c.in-Ok.watched c.in-Ok.ensures.told (g.R.Read.remaining c.args.from.now) c.write_closing.result c.in-Ok.ensures.outcome c.write_closing.ensures)
 
 pub returns-in_ok-save_first-in-Ok-clause-unanswered : goal.returns-in_ok-save_first-in-Ok-clause-unanswered
@@ -25,13 +26,15 @@ returns-in_ok-save_first-in-Ok-clause-status g c = watched_status c.watching-how
 pub returns-in_ok-save_first-in-Ok-clause-spent : goal.returns-in_ok-save_first-in-Ok-clause-spent
 returns-in_ok-save_first-in-Ok-clause-spent g c =
     IfOk-weaker c.write_closing.result _ _
-    (λ status spent six. let went = spent six in (went.0, subst (λ (budget : ℕ). budget ≤ went.0) (ap (λ (how : WatchOptions). how.budget) c.watching-how.ensures) went.1, λ n known. c.clear.ensures _ (went.2 n known)))
-    (spent_at_six g.P.Progress.looked c.args.progress.now c.watched-found.new.progress c.watching-how.result _ _ c.in-Ok.watched c.write_closing.result c.write_closing.ensures c.in-Ok.ensures.undecided)
+    (λ status spent six. let went = spent six in
+    (went.0, subst (λ (budget : ℕ). budget ≤ went.0) (ap (λ (how : WatchOptions). how.budget) c.watching-how.ensures) went.1, λ n known. c.clear.ensures _ (went.2 n known)))
+    (spent_at_six g.P.Progress.looked c.args.progress.now c.watched-found.new.progress c.watching-how.result _ _ c.in-Ok.watched c.write_closing.result
+    c.write_closing.ensures c.in-Ok.ensures.undecided)
 
 pub returns-in_ok-save_first-in-Ok-clause-saved : goal.returns-in_ok-save_first-in-Ok-clause-saved
 returns-in_ok-save_first-in-Ok-clause-saved g c =
-    saved g.G.Pages.has_put c.args.options.now c.watching-how.result (g.R.Read.remaining c.args.from.now) _ _ _ c.in-Ok.watched _ _ c.write_closing.result c.watching-how.ensures c.in-Ok.ensures.outcome c.in-Ok.ensures.keeps
-    c.in-Ok.ensures.told c.write_closing.ensures c.in_ok-save_first-in-Ok.ensures.put
+    saved g.G.Pages.has_put c.args.options.now c.watching-how.result (g.R.Read.remaining c.args.from.now) _ _ _ c.in-Ok.watched _ _ c.write_closing.result c.watching-how.ensures
+    c.in-Ok.ensures.outcome c.in-Ok.ensures.keeps c.in-Ok.ensures.told c.write_closing.ensures c.in_ok-save_first-in-Ok.ensures.put
 
 pub returns-in_err-save_first-in-Ok-clause-outcome : goal.returns-in_err-save_first-in-Ok-clause-outcome
 returns-in_err-save_first-in-Ok-clause-outcome g c =
@@ -57,7 +60,8 @@ returns-in-Err-clause-outcome g c =
     let old = g.W.Write.contents c.args.to.now in
     let new = g.W.Write.contents c.watched-found.new.to in
     rw (c.stopped_by.ensures, c.deref.ensures.value)
-    (subst (λ (how : WatchOptions). IfSome input (λ bytes. WatchOutcome how bytes old new (Err (stopped_by c.in-Err.unfinished.fault c.in-Err.unfinished.found.items)))) c.watching-how.ensures
+    (subst (λ (how : WatchOptions). IfSome input (λ bytes. WatchOutcome how bytes old new (Err (stopped_by c.in-Err.unfinished.fault c.in-Err.unfinished.found.items))))
+    c.watching-how.ensures
     (stopped c.watching-how.result old new input c.in-Err.unfinished c.in-Err.ensures.outcome c.in-Err.ensures.kept c.in-Err.ensures.begun))
 
 pub returns-in-Err-clause-unanswered : goal.returns-in-Err-clause-unanswered

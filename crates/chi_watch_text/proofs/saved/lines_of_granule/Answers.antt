@@ -37,8 +37,11 @@ loop-number-preserved c =
     let told : event_text c.loop-number.number (take_through 10 rest) ≡ Ok event = ap (event_text c.loop-number.number) (sym (c.deref.ensures.value ∙ read.0)) ∙ c.in_ok-event.ensures.told in
     let added = c.in_ok-add_line.ensures ∙ ap (λ (l : List ℕ). c.loop-number.saved.items ++ line_about g numbers l event.kind) (c.deref-in-loop-number.ensures.value ∙ read.0) in
     let left_is : c.next_line.new.from.now ≡ drop_through 10 rest = let both = read.1 in cc in
+    let all = lines_about g no_number in
+    let after = contains nat_cmp c.note_number.new.numbers in
+    let new = c.add_line.new.saved.items in
     record {
-      left = λ lines events whole. subst (λ (l : List ℕ). IsLeft g (contains nat_cmp c.note_number.new.numbers) (c.loop-number.number + 1) l c.add_line.new.saved.items (lines_about g no_number lines events)) (sym left_is)
-          (line_saved g numbers (contains nat_cmp c.note_number.new.numbers) c.loop-number.number rest c.loop-number.saved.items c.add_line.new.saved.items (lines_about g no_number lines events) event some told added
-          c.in_ok-note_number.ensures (c.loop-number.invariant.left lines events whole));
+      left = λ lines events whole. subst (λ (l : List ℕ). IsLeft g after (c.loop-number.number + 1) l new (all lines events)) (sym left_is)
+          (line_saved g numbers after c.loop-number.number rest c.loop-number.saved.items new (all lines events) event some told added c.in_ok-note_number.ensures
+          (c.loop-number.invariant.left lines events whole));
     }
