@@ -4,6 +4,8 @@ its first event and its last, and in half of the histories one mistake is made."
 from memory import COMPARE, OPCODES, READ, WRITE, answers_data, enabled, execute, granule_of, length_of
 
 MOST = 2**64 - 1
+# How many requests of a prefix may have taken effect or not, at most.
+MOST_UNSEEN = 5
 # Bytes at which numbers carry, change their sign or stand still.
 BYTES = [0, 0, 0, 1, 1, 2, 127, 128, 255]
 IN_SERVING = ["lost", "lost", "twice", "stale", "stale", "changed", "changed"]
@@ -294,10 +296,24 @@ def mixed(chance, events):
     return events
 
 
+def is_answer(event):
+    """Whether an event tells an answer, or that a request took no effect."""
+    return event["event"] == "dropped" or event["event"] == "reply" and event["reply"] is not None
+
+
+def unseen(events):
+    """How many requests may have taken effect or not."""
+    return sum(it["event"] == "request" for it in events) - sum(map(is_answer, events))
+
+
 def prefix(chance):
-    """The first events of a history in which granules are never quiet, and the traits of the history."""
+    """The first events of a history in which granules are never quiet, and the traits of the history. They are so few that every order
+    can be tried."""
     events, traits = history(chance, "never quiet")
-    return events[: chance.randint(0, len(events))], traits
+    events = events[: chance.randint(0, len(events))]
+    while unseen(events) > MOST_UNSEEN:
+        events = events[:-1]
+    return events, traits
 
 
 def history(chance, pace=None):

@@ -21,7 +21,7 @@ os.chdir(f"{os.path.dirname(os.path.abspath(__file__))}/..")
 sys.dont_write_bytecode = True
 
 from histories import history, prefix
-from orders import is_end_of_order
+from orders import MOST, is_end_of_order
 from telling import Told, Watched
 
 CHECKER = os.environ.get("CHICHECK", "crates/chi_check/out/chi_check")
@@ -29,6 +29,8 @@ COUNT, SEED = [int(it) for it in sys.argv[1:3]] + [20000, 1][len(sys.argv[1:3]) 
 CHOSEN = prefix if sys.argv[3:] == ["prefixes"] else history
 # How many disagreements are shown.
 SHOWN = 3
+# How many operations are shown at most before the one that is blamed.
+SHOWN_BEFORE = 16
 # The status where an event is refused.
 REFUSED = 3
 # How the lines of a granule's last operations begin, and what stands in one of them.
@@ -144,6 +146,16 @@ def is_same_verdict(found, unexplained):
     return found[0] == 1 and found[1].split("\n")[0] in [f"not explained: granule {it:016x}" for it in unexplained]
 
 
+def are_last_clear(trace, lines):
+    """Whether it is clear which operations are the last that are shown before the one that is blamed: of those that ended at one time
+    all are shown, or none is."""
+    stop = re.match(r"at (\d+): ", lines[0])
+    if not stop:
+        return True
+    ends = sorted(it["end"] for it in trace["requests"] if it.get("end", MOST + 1) <= int(stop[1]))[:-1]
+    return len(ends) <= SHOWN_BEFORE or ends[-SHOWN_BEFORE] != ends[-SHOWN_BEFORE - 1]
+
+
 def unexplained_as_a_whole(told):
     return [it for it in told.granules if not told.is_explained(it)]
 
@@ -168,7 +180,7 @@ def disagreements(events):
         answer = run("explain", json.dumps(watched.traces[granule]))
         if not is_same_stop(answer, granule, lines):
             found.append((f"explain of {granule:016x}", answer, lines))
-        if rows_of(answer[1].splitlines()) != rows.get(granule):
+        if are_last_clear(watched.traces[granule], lines) and rows_of(answer[1].splitlines()) != rows.get(granule):
             found.append((f"rows of explain of {granule:016x}", answer, rows.get(granule)))
     told = Told()
     for event in events:
