@@ -4,4 +4,5 @@ pub mod OptionValuesLemmas
 mod CoverLemmas
 mod SavingLemmas
 mod SearchLemmas
+mod ShowingLemmas
 mod WatchLemmas

@@ -1,7 +1,10 @@
 -- the lines that are kept are those that were read, and those of the granule that is listed first are put
-use Rattle.std.proofs.Common.{◌≡◌, ◌∙◌, ℕ, ◌++◌, Bool, List, Option, None, Some, Result, Ok, Err, IfOk, IfSome, IsSomeAnd, Vec, flat_map, inl, inr, is_some, true, true≢false, sym, ap, subst}
+use Rattle.std.proofs.Common.{◌≡◌, ◌∙◌, ℕ, ◌++◌, Bool, List, Option, None, Some, Result, Ok, Err, IfOk, IfSome, IsSomeAnd, inl, inr, true, true≢false, sym, ap, subst}
+use Rattle.std.proofs.lemmas.Option.{IfSome_then}
+use Rattle.std.proofs.lemmas.Result.{IfOk-weaker}
 use Rattle.std.specs.Borrow.{Bor}
 use Rattle.std.specs.Io.KnownBytes.{Appends}
+use Rattle.std.specs.Prelude.{◌||◌, Vec, flat_map, is_some}
 use Rattle.std.specs.declared.alloc.Global.{Global}
 use Rattle.chi_script.proofs.WriterBytesLemmas.{taken_then}
 use Rattle.chi_watch_text.specs.Kept.{AreKept}
@@ -14,7 +17,7 @@ use Rattle.chi_watch_text.specs.declared.options.WatchOptions.{WatchOptions}
 use Rattle.chi_watch_text.specs.declared.watched.Watched.{Watched}
 use Rattle.chi_watch_text.proofs.KeptLines.{lines_kept}
 use Rattle.chi_check.specs.Check.{KeepsUnanswered}
-use Rattle.chi_check.specs.Saving.{IsFirstPut, IsPutOf, IsUnsaved, SavesFirst, first_listed}
+use Rattle.chi_check.specs.Saving.{IsFirstPut, IsPutOf, IsUnsaved, PutsMore, SavesFirst, first_listed}
 use Rattle.chi_check.specs.Watch.{WatchOutcome, WritesClosing, stopped_by, watch_status, watching}
 use Rattle.chi_check.specs.declared.fault.CheckFault.{CheckFault}
 use Rattle.chi_check.specs.declared.options.WatchingOptions.{WatchingOptions}
@@ -53,9 +56,20 @@ module _ (options : WatchOptions) (old new : Option (List ℕ)) (w : Watched) (t
   unsaved_unanswered (Some kept) fault (inr (f, same, saving)) =
       subst (λ (it : CheckFault). KeepsUnanswered old new (Err it)) (sym same) (unanswered options old new f w.found.items (λ _. told))
 
+-- after Ok all was watched, and this is its status and the text that was written
+pub whole_told : (options : WatchingOptions) (how : WatchOptions) (remaining old mid new : Option (List ℕ)) (w : Watched) (result : Result ℕ CheckFault) → how ≡ watching options
+    → IfSome remaining (λ input. IsWatched input how.keep_going w) → Appends old mid (flat_map found_text w.found.items) → WritesClosing how w mid new result
+    → IfOk result (λ status. IfSome remaining (λ input. IsWatched input options.keep_going w × (status ≡ watch_status (watching options) w)
+    × Appends old new (watched_text (watching options) w)))
+whole_told options how remaining old mid new w (Err fault) how_is is told writes = tt
+whole_told options how remaining old mid new w (Ok status) how_is is told writes =
+    let both = subst (λ (h : WatchOptions). (status ≡ watch_status h w) × Appends mid new (closing_text h w)) how_is writes in
+    let text = taken_then old mid new (flat_map found_text w.found.items) (closing_text (watching options) w) told both.1 in
+    IfSome_then remaining is (λ input it. (subst (λ (h : WatchOptions). IsWatched input h.keep_going w) how_is it, both.0, text))
+
 -- what was put at the path
 module _ {P : Type 0} (has_put : P → List ℕ → List ℕ → Type 0) where
-  put_weaker : (granule : Option ℕ) (A B : ℕ → List ℕ → Type 0) (path : List ℕ) (before after : P) → ((g : ℕ) (lines : List ℕ) → A g lines → B g lines)
+  pub put_weaker : (granule : Option ℕ) (A B : ℕ → List ℕ → Type 0) (path : List ℕ) (before after : P) → ((g : ℕ) (lines : List ℕ) → A g lines → B g lines)
       → IsPutOf has_put granule A path before after → IsPutOf has_put granule B path before after
   put_weaker None A B path before after weaker same = same
   put_weaker (Some g) A B path before after weaker (lines, is, put) = (lines, weaker g lines is, put)
@@ -68,24 +82,35 @@ module _ {P : Type 0} (has_put : P → List ℕ → List ℕ → Type 0) where
       put_weaker (first_listed w) (IsSaved k.items) (λ g lines. lines ≡ lines_about g no_number is.told.lines is.events) path before after
       (λ g lines saved. saved is.told.lines is.events (whole input going w is k.items are)) put
 
-  saved_in : (options : WatchingOptions) (input : List ℕ) (old new : Option (List ℕ)) (status : ℕ) (w : Watched) (before after : P) (save : Option (Bor (List ℕ)))
-      → (is : IsWatched input options.keep_going w) → is_some w.kept ≡ is_some save → status ≡ watch_status (watching options) w → Appends old new (watched_text (watching options) w)
-      → IfSome save (λ path. IsFirstPut has_put w path.now before after)
+  -- where more was put after it, or before it
+  put_then : (granule : Option ℕ) (A : ℕ → List ℕ → Type 0) (path : List ℕ) (before between after : P) → IsPutOf has_put granule A path before between
+      → PutsMore has_put granule between after → IsPutOf has_put granule A path before after
+  put_then None A path before between after same more = more ∙ same
+  put_then (Some g) A path before between after (lines, is, put) more = (lines, is, more path lines put)
+
+  pub more_then : (granule : Option ℕ) (A : ℕ → List ℕ → Type 0) (path : List ℕ) (before between after : P) → PutsMore has_put granule before between
+      → IsPutOf has_put granule A path between after → IsPutOf has_put granule A path before after
+  more_then None A path before between after more same = same ∙ more
+  more_then (Some g) A path before between after more put = put
+
+  saved_in : (options : WatchingOptions) (input : List ℕ) (old new : Option (List ℕ)) (status : ℕ) (w : Watched) (before between after : P) (save : Option (Bor (List ℕ))) (shows : Bool)
+      → (is : IsWatched input options.keep_going w) → is_some w.kept ≡ (is_some save || shows) → status ≡ watch_status (watching options) w
+      → Appends old new (watched_text (watching options) w) → IfSome save (λ path. IsFirstPut has_put w path.now before between) → PutsMore has_put (first_listed w) between after
       → IfSome save (λ path. (watched : Watched) × (it : IsWatched input options.keep_going watched) × (status ≡ watch_status (watching options) watched)
       × Appends old new (watched_text (watching options) watched)
       × IsPutOf has_put (first_listed watched) (λ g lines. lines ≡ lines_about g no_number it.told.lines it.events) path.now before after)
-  saved_in options input old new status w before after None is keeps status_is appends put = tt
-  saved_in options input old new status w before after (Some path) is keeps status_is appends put =
-      (w, is, status_is, appends, first_put input options.keep_going w is w.kept path.now before after keeps is.kept put)
+  saved_in options input old new status w before between after None shows is keeps status_is appends put more = tt
+  saved_in options input old new status w before between after (Some path) shows is keeps status_is appends put more =
+      let first = first_put input options.keep_going w is w.kept path.now before between keeps is.kept put in
+      (w, is, status_is, appends, put_then (first_listed w) (λ g lines. lines ≡ lines_about g no_number is.told.lines is.events) path.now before between after first more)
 
-  pub saved : (options : WatchingOptions) (how : WatchOptions) (remaining old mid new : Option (List ℕ)) (w : Watched) (before after : P) (result : Result ℕ CheckFault)
+  pub saved : (options : WatchingOptions) (how : WatchOptions) (remaining old mid new : Option (List ℕ)) (w : Watched) (before between after : P) (result : Result ℕ CheckFault)
       → how ≡ watching options → IfSome remaining (λ input. IsWatched input how.keep_going w) → is_some w.kept ≡ how.keep_lines → Appends old mid (flat_map found_text w.found.items)
-      → WritesClosing how w mid new result → IfSome options.save (λ path. IsFirstPut has_put w path.now before after)
+      → WritesClosing how w mid new result → IfSome options.save (λ path. IsFirstPut has_put w path.now before between) → PutsMore has_put (first_listed w) between after
       → IfOk result (λ status. IfSome remaining (λ input. SavesFirst has_put options input old new status before after))
-  saved options how remaining old mid new w before after (Err fault) how_is is keeps told writes put = tt
-  saved options how None old mid new w before after (Ok status) how_is is keeps told writes put = tt
-  saved options how (Some input) old mid new w before after (Ok status) how_is is keeps told writes put =
-      let both = subst (λ (h : WatchOptions). (status ≡ watch_status h w) × Appends mid new (closing_text h w)) how_is writes in
-      saved_in options input old new status w before after options.save
-      (subst (λ (h : WatchOptions). IsWatched input h.keep_going w) how_is is) (keeps ∙ ap (λ (h : WatchOptions). h.keep_lines) how_is) both.0
-      (taken_then old mid new (flat_map found_text w.found.items) (closing_text (watching options) w) told both.1) put
+  saved options how remaining old mid new w before between after result how_is is keeps told writes put more =
+      let kept = keeps ∙ ap (λ (h : WatchOptions). h.keep_lines) how_is in
+      IfOk-weaker result _ _
+      (λ status whole. IfSome_then remaining whole
+      (λ input all. saved_in options input old new status w before between after options.save (is_some options.html) all.0 kept all.1 all.2 put more))
+      (whole_told options how remaining old mid new w result how_is is told writes)

@@ -99,6 +99,7 @@ module _ (options : WatchOptions) (old mid new : Option (List ℕ)) (watched : W
   closed_in input (Err check_fault.Page) is (same, keeps) = no_memory input check_fault.Page is same keeps
   closed_in input (Err (check_fault.Unfinished fault)) is (same, keeps) = no_memory input (check_fault.Unfinished fault) is same keeps
   closed_in input (Err check_fault.Unsaved) is (same, keeps) = no_memory input check_fault.Unsaved is same keeps
+  closed_in input (Err check_fault.Unshown) is (same, keeps) = no_memory input check_fault.Unshown is same keeps
 
   pub closed : (remaining : Option (List ℕ)) (result : Result ℕ CheckFault) → IfSome remaining (λ input. IsWatched input options.keep_going watched) → WritesClosing options watched mid new result
       → IfSome remaining (λ input. WatchOutcome options input old new result)
@@ -118,6 +119,7 @@ module _ (options : WatchOptions) (old mid new : Option (List ℕ)) (watched : W
   closed_unanswered (Err check_fault.Page) (same, keeps) = kept_memory check_fault.Page same keeps
   closed_unanswered (Err (check_fault.Unfinished fault)) (same, keeps) = kept_memory (check_fault.Unfinished fault) same keeps
   closed_unanswered (Err check_fault.Unsaved) (same, keeps) = kept_memory check_fault.Unsaved same keeps
+  closed_unanswered (Err check_fault.Unshown) (same, keeps) = kept_memory check_fault.Unshown same keeps
 
 -- the status of what is found is one of an answer
 pub watched_status : (options : WatchOptions) (old new : Option (List ℕ)) (watched : Watched) (result : Result ℕ CheckFault) → WritesClosing options watched old new result → IfOk result IsAnswerStatus

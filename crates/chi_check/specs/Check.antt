@@ -15,7 +15,7 @@ use Rattle.chi_excerpt.specs.Failures.{failure_text}
 use Rattle.chi_check.specs.CheckStatus.{answer_status}
 use Rattle.chi_check.specs.Limits.{IsWithin}
 use Rattle.chi_check.specs.declared.fault.CheckFault.{CheckFault}
-use Rattle.chi_check.specs.declared.fault.CheckFault.TheVariants.{Input, File, Page, Unfinished, Unsaved, Write}
+use Rattle.chi_check.specs.declared.fault.CheckFault.TheVariants.{Input, File, Page, Unfinished, Unsaved, Unshown, Write}
 use Rattle.chi_check.specs.declared.fault.SourceFault.{SourceFault}
 use Rattle.chi_check.specs.declared.fault.SourceFault.TheVariants as source_fault
 use Rattle.chi_check.specs.declared.options.CheckOptions.{CheckOptions}
@@ -85,14 +85,16 @@ Outcome options input old new (Err (File place fault)) = ⊥
 Outcome options input old new (Err Page) = Unit {0}
 Outcome options input old new (Err (Unfinished fault)) = ⊥
 Outcome options input old new (Err Unsaved) = ⊥
+Outcome options input old new (Err Unshown) = ⊥
 Outcome options input old new (Err (Write fault)) = (answer : Answer) × (text : List ℕ) × Answers options input answer text × AppendsFront old new text
 
--- nothing is written where no answer was found, but granules before a fault of the events, or where lines were not saved
+-- nothing is written where no answer was found, but granules before a fault of the events, or where lines were not saved or no page of a granule was put
 abbrev pub KeepsUnanswered : Option (List ℕ) → Option (List ℕ) → Result ℕ CheckFault → Type 0
 KeepsUnanswered old new (Ok status) = Unit {0}
 KeepsUnanswered old new (Err (Write fault)) = Unit {0}
 KeepsUnanswered old new (Err (Unfinished fault)) = Unit {0}
 KeepsUnanswered old new (Err Unsaved) = Unit {0}
+KeepsUnanswered old new (Err Unshown) = Unit {0}
 KeepsUnanswered old new (Err fault) = Keeps old new
 
 -- why an input was not read whole

@@ -7,7 +7,7 @@ use Rattle.chi_reading.specs.declared.fault.TraceFault.TheVariants as trace_faul
 use Rattle.chi_watch_text.specs.declared.fault.LinesFault.{LinesFault}
 use Rattle.chi_watch_text.specs.declared.fault.LinesFault.TheVariants as lines_fault
 use Rattle.chi_check.specs.declared.fault.CheckFault.{CheckFault}
-use Rattle.chi_check.specs.declared.fault.CheckFault.TheVariants.{Input, File, Page, Unfinished, Unsaved, Write}
+use Rattle.chi_check.specs.declared.fault.CheckFault.TheVariants.{Input, File, Page, Unfinished, Unsaved, Unshown, Write}
 use Rattle.chi_check.specs.declared.fault.SourceFault.{SourceFault}
 use Rattle.chi_check.specs.declared.fault.SourceFault.TheVariants as source_fault
 
@@ -38,6 +38,7 @@ status_of (File place fault) = source_status fault
 status_of Page = 5
 status_of (Unfinished fault) = lines_status fault
 status_of Unsaved = 5
+status_of Unshown = 5
 status_of (Write fault) = 5
 
 -- 0 where the trace is explained, 1 where it is not, 6 where that is undecided

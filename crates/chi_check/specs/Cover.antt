@@ -17,7 +17,7 @@ use Rattle.chi_cover.specs.Texts.{table_text}
 use Rattle.chi_check.specs.Check.{most_bytes}
 use Rattle.chi_check.specs.declared.inputs.Counted.{Counted}
 use Rattle.chi_check.specs.declared.fault.CheckFault.{CheckFault}
-use Rattle.chi_check.specs.declared.fault.CheckFault.TheVariants.{Input, File, Page, Unfinished, Unsaved, Write}
+use Rattle.chi_check.specs.declared.fault.CheckFault.TheVariants.{Input, File, Page, Unfinished, Unsaved, Unshown, Write}
 use Rattle.chi_check.specs.declared.fault.SourceFault.{SourceFault}
 use Rattle.chi_check.specs.declared.fault.SourceFault.TheVariants as source_fault
 use Rattle.chi_check.specs.declared.options.CoverOptions.{CoverOptions}
@@ -131,6 +131,7 @@ IsInputFault events input (File place fault) = ⊥
 IsInputFault events input Page = ⊥
 IsInputFault events input (Unfinished fault) = ⊥
 IsInputFault events input Unsaved = ⊥
+IsInputFault events input Unshown = ⊥
 IsInputFault events input (Write fault) = ⊥
 
 -- why the files were not counted

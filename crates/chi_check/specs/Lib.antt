@@ -7,4 +7,5 @@ pub mod OptionValues
 pub mod Pages
 pub mod ProgramOutcome
 pub mod Saving
+pub mod Showing
 pub mod Watch

@@ -50,6 +50,7 @@ pub record HasWatchOptions (found : List Row) (options : WatchingOptions) : Type
   pub budget : IsNumberOr 1000000 (one_of (codes "budget") found) options.budget
   pub required : HasRequired found options.required
   pub save : option_map (λ s. s.now) options.save ≡ first_of (codes "save") found
+  pub html : option_map (λ s. s.now) options.html ≡ first_of (codes "html") found
 
 -- and those of `cover`
 pub record HasCoverOptions (found : List Row) (options : CoverOptions) : Type 0 where

@@ -39,6 +39,11 @@ IsPutOf has_put (Some g) are_lines path old new = (lines : List ℕ) × are_line
 abbrev pub IsFirstPut : {P : Type 0} → (P → List ℕ → List ℕ → Type 0) → Watched → List ℕ → P → P → Type 0
 IsFirstPut has_put w path old new = IfSome w.kept (λ kept. IsPutOf has_put (first_listed w) (IsSaved kept.items) path old new)
 
+-- where no granule is listed nothing was put, and where one is more may have been put than before
+abbrev pub PutsMore : {P : Type 0} → (P → List ℕ → List ℕ → Type 0) → Option ℕ → P → P → Type 0
+PutsMore has_put None old new = new ≡ old
+PutsMore has_put (Some g) old new = (path text : List ℕ) → has_put old path text → has_put new path text
+
 -- why they were not put: the path could not be written, or they were not found among the lines that are kept
 abbrev pub IsUnsaved : Watched → List ℕ → CheckFault → Type 0
 IsUnsaved w kept fault = (fault ≡ check_fault.Unsaved) ⊎ ((f : LinesFault) × (fault ≡ stopped_by f w.found.items) × IsSavingFault kept f)

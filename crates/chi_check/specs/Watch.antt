@@ -1,5 +1,5 @@
 -- what a watch does: what it answers to the events that its input tells
-use Rattle.std.specs.Prelude.{◌≡◌, ℕ, ◌<◌, ◌⊎◌, Bool, if◌then◌else◌, List, [], ◌∷◌, All, Option, Result, Ok, Err, flat_map, is_some, length}
+use Rattle.std.specs.Prelude.{◌≡◌, ℕ, ◌<◌, ◌⊎◌, ◌||◌, Bool, if◌then◌else◌, List, [], ◌∷◌, All, Option, Result, Ok, Err, flat_map, is_some, length}
 use Rattle.std.specs.Io.KnownBytes.{Appends, Keeps}
 use Rattle.chi_script.specs.WriterBytes.{AppendsFront}
 use Rattle.chi_script.specs.declared.device.WriteFault.TheVariants.{Failed}
@@ -19,9 +19,9 @@ use Rattle.chi_check.specs.declared.fault.CheckFault.TheVariants as check_fault
 use Rattle.chi_check.specs.declared.fault.SourceFault.TheVariants as source_fault
 use Rattle.chi_check.specs.declared.options.WatchingOptions.{WatchingOptions}
 
--- how the events are watched: their lines are kept where some are to be saved
+-- how the events are watched: their lines are kept where some are to be saved, or a page is to be made of them
 abbrev pub watching : WatchingOptions → WatchOptions
-watching options = record { budget = options.budget; keep_going = options.keep_going; keep_lines = is_some options.save; required = options.required }
+watching options = record { budget = options.budget; keep_going = options.keep_going; keep_lines = is_some options.save || is_some options.html; required = options.required }
 
 -- 0 where all is explained and nothing that is required is missing, 1 where something is or a granule is not explained, 6 where it
 -- is undecided whether one is
@@ -51,7 +51,7 @@ WritesClosing options watched old new (Err fault) = (fault ≡ stopped_by lines_
 
 -- After Ok the text of what is found of the events was written, and this is its status. What each fault means, and what was
 -- written then: nothing but the granules that were found before a line that is not taken, or by lines where some could not be
--- saved, and where the writer failed.
+-- saved or no page could be put, and where the writer failed.
 abbrev pub WatchOutcome : WatchOptions → List ℕ → Option (List ℕ) → Option (List ℕ) → Result ℕ CheckFault → Type 0
 WatchOutcome options input old new (Ok status) =
     (watched : Watched) × IsWatched input options.keep_going watched × (status ≡ watch_status options watched) × Appends old new (watched_text options watched)
@@ -59,6 +59,7 @@ WatchOutcome options input old new (Err (check_fault.Input (source_fault.Events 
 WatchOutcome options input old new (Err (check_fault.Unfinished fault)) =
     IsLinesFault input fault × ((found : List FoundGranule) × All (IsFoundBy input) found × (0 < length found) × Appends old new (flat_map found_text found))
 WatchOutcome options input old new (Err check_fault.Unsaved) = (watched : Watched) × IsWatched input options.keep_going watched × Appends old new (flat_map found_text watched.found.items)
+WatchOutcome options input old new (Err check_fault.Unshown) = (watched : Watched) × IsWatched input options.keep_going watched × Appends old new (flat_map found_text watched.found.items)
 WatchOutcome options input old new (Err (check_fault.Input source_fault.Memory)) = Unit {0}
 WatchOutcome options input old new (Err (check_fault.Write fault)) =
     ((watched : Watched) × IsWatched input options.keep_going watched × AppendsFront old new (watched_text options watched))

@@ -93,10 +93,10 @@ fn judged(
 
 /// The status of an answer, what is written of it, and the page of the trace, where one is asked for.
 #[derive(Drop)]
-struct Report {
-    status: u8,
-    text: Vec<u8>,
-    page: Vec<u8>,
+pub(crate) struct Report {
+    pub status: u8,
+    pub text: Vec<u8>,
+    pub page: Vec<u8>,
 }
 
 // What is reported of where a trace that no order explains stops being explained.
@@ -177,8 +177,8 @@ fn answered<P: WatchProgress, M: Meter>(
     report_of(alloc, recorded, searched, options)
 }
 
-// What is reported of what is judged of a trace, once what is shown of the progress is taken back.
-fn reported<P: WatchProgress, M: Meter>(
+/// What is reported of what is judged of a trace, once what is shown of the progress is taken back.
+pub(crate) fn reported<P: WatchProgress, M: Meter>(
     alloc: Global,
     recorded: Recorded,
     options: &CheckOptions<'_>,

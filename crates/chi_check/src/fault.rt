@@ -37,6 +37,7 @@ pub enum SourceFault {
 /// - `Page`: the page was not written whole. Up to here nothing else is written.
 /// - `Unfinished`: a line of events was refused, or not read. The granules that were found by then are written.
 /// - `Unsaved`: the lines of a granule were not saved whole. The granules that were found by lines are written.
+/// - `Unshown`: the page of a granule was not written whole. The granules that were found by lines are written.
 /// - `Write`: the answer was not written whole.
 #[derive(Debug, Drop, Error)]
 pub enum CheckFault {
@@ -50,6 +51,8 @@ pub enum CheckFault {
     Unfinished(LinesFault),
     #[error("lines could not be saved")]
     Unsaved,
+    #[error("page could not be written")]
+    Unshown,
     #[error(transparent)]
     Write(WriteFault),
 }
@@ -89,6 +92,7 @@ impl ProgramFault for CheckFault {
             CheckFault::Page => 5,
             CheckFault::Unfinished(fault) => lines_status(fault),
             CheckFault::Unsaved => 5,
+            CheckFault::Unshown => 5,
             CheckFault::Write(_) => 5,
         }
     }

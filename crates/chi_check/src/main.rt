@@ -19,6 +19,7 @@ mod progress_line;
 mod recorded;
 mod save;
 mod search;
+mod show;
 mod sources;
 mod tasks;
 mod watch;

@@ -41,7 +41,7 @@ pub(crate) fn explain_input<R: Read, W: Write, P: WatchProgress, G: Pages + Sour
 }
 
 /// Watches the events of the file at a path, where one is named, and else of the standard input.
-pub(crate) fn watch_input<R: Read, W: Write, P: WatchProgress, G: Pages + Sources>(
+pub(crate) fn watch_input<R: Read, W: Write, P: WatchProgress, G: Pages + Sources + Meter>(
     alloc: Global,
     file: Option<&str>,
     from: &mut R,

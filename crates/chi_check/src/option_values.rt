@@ -16,8 +16,8 @@ use std::alloc::{AllocError, Global};
 // How many states of each granule are looked at where no number is given.
 const BUDGET: u64 = 1_000_000;
 
-// How many operations are shown before the one that is blamed where no number is given.
-const AROUND: u64 = 16;
+/// How many operations are shown before the one that is blamed where no number is given.
+pub(crate) const AROUND: u64 = 16;
 
 // How many operations have to have ended where no number is given.
 const OPERATIONS: u64 = 0;
@@ -92,6 +92,7 @@ pub(crate) fn watch_options<'a>(matches: &ArgMatches<'a>) -> WatchingOptions<'a>
         keep_going: is_switched(matches, "keep-going"),
         required: required(matches),
         save: text_given(matches, "save"),
+        html: html_file(matches),
     }
 }
 

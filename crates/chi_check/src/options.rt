@@ -23,13 +23,14 @@ pub struct CheckOptions<'a> {
 
 /// How events are watched. `budget` is how many states are looked at for an answer. With `keep_going` a granule that no order explains
 /// does not end it. `required` changes nothing of what is found. `save` is the path of a file that is to be the lines that tell of
-/// the granule that is listed first, where one is listed that no order explains.
+/// the granule that is listed first, where one is listed that no order explains, and `html` that of one that is to be its page.
 #[derive(Clone, Copy)]
 pub struct WatchingOptions<'a> {
     pub budget: u64,
     pub keep_going: bool,
     pub required: Required,
     pub save: Option<&'a str>,
+    pub html: Option<&'a str>,
 }
 
 /// What is counted, and how. `require` is how many of a hundred bins have to have counted an operation. With `events` the inputs

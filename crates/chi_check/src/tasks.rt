@@ -63,12 +63,17 @@ const EXPLAIN: [NamedOption<'static>; 10] = [
 ];
 
 // The options of `watch`, and its file.
-const WATCH: [NamedOption<'static>; 8] = [
+const WATCH: [NamedOption<'static>; 9] = [
     BUDGET,
     NamedOption {
         name: "save",
         takes: Takes::Text("FILE"),
         help: "Makes this file the lines of the first granule that is not explained",
+    },
+    NamedOption {
+        name: "html",
+        takes: Takes::Text("FILE"),
+        help: "Makes this file a page of the first granule that is not explained",
     },
     NamedOption {
         name: "keep-going",

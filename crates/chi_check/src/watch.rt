@@ -10,12 +10,15 @@ ghost use Rattle.chi_watch_text.specs.Texts.{found_text};
 ghost use Rattle.chi_check.specs.Check.{KeepsUnanswered};
 ghost use Rattle.chi_check.specs.CheckStatus.{IsAnswerStatus};
 ghost use Rattle.chi_check.specs.Saving.{SavesFirst};
+ghost use Rattle.chi_check.specs.Showing.{ShowsFirst};
 ghost use Rattle.chi_check.specs.Watch.{WatchOutcome, WritesClosing, found_before, stopped_by, verdict_status, watch_status, watching};
 
 use crate::fault::{CheckFault, SourceFault};
+use crate::meter::Meter;
 use crate::options::WatchingOptions;
 use crate::pages::Pages;
 use crate::save::save_first;
+use crate::show::show_first;
 use chi_judge::Standing;
 use chi_script::{WriteFault, write_bytes};
 use chi_watch_text::{
@@ -25,14 +28,14 @@ use chi_watch_text::{
 use std::alloc::Global;
 use std::io::{BufReader, Read, Write};
 
-// How the events are watched: their lines are kept where some are to be saved.
+// How the events are watched: their lines are kept where some are to be saved, or a page is to be made of them.
 fn watching(options: &WatchingOptions<'_>) -> WatchOptions
     ensures { result ≡ watching options.now }
 {
     WatchOptions {
         budget: options.budget,
         keep_going: options.keep_going,
-        keep_lines: options.save.is_some(),
+        keep_lines: options.save.is_some() || options.html.is_some(),
         required: options.required,
     }
 }
@@ -128,14 +131,14 @@ fn write_closing<W: Write>(
 ///
 /// It ends at the first line by which it is seen that no order explains the operations of a granule, unless it keeps going. Each such
 /// granule is written as soon as it is found, and nothing else before the end, or a line that is refused. Where lines are to be saved,
-/// those that were read and tell of the granule that is listed first are put before what is said at the end is written. After a fault
-/// of the writer a prefix of the text has been written. `progress` is told how far it is, and cleared before anything is written.
-/// `machine` puts the lines.
+/// those that were read and tell of the granule that is listed first are put before what is said at the end is written, and then its
+/// page is, where one is asked for. After a fault of the writer a prefix of the text has been written. `progress` is told how far it
+/// is, and cleared before anything is written. `machine` puts the lines and the page.
 ///
 /// ```
 /// let status = watch(alloc, &mut events.as_bytes(), &mut answer, &options, &mut progress, &mut machine)?; // explained
 /// ```
-pub fn watch<R: Read, W: Write, P: WatchProgress, G: Pages>(
+pub fn watch<R: Read, W: Write, P: WatchProgress, G: Pages + Meter>(
     alloc: Global,
     from: &mut R,
     to: &mut W,
@@ -148,6 +151,7 @@ pub fn watch<R: Read, W: Write, P: WatchProgress, G: Pages>(
     ensures status { IfOk result (λ status. IsAnswerStatus status) }
     ensures spent { IfOk result (λ status. status ≡ 6 → LookedAtLeast P.looked progress.old progress.new options.now.budget) }
     ensures saved { IfOk result (λ status. IfSome (R.remaining from.old) (λ input. SavesFirst G.has_put options.now input (W.contents to.old) (W.contents to.new) status machine.old machine.new)) }
+    ensures shown { IfOk result (λ status. IfSome (R.remaining from.old) (λ input. ShowsFirst G.has_put options.now input (W.contents to.old) (W.contents to.new) status machine.old machine.new)) }
 {
     let how = watching(options);
     let found = watched(alloc, from, to, &how, progress);
@@ -155,6 +159,7 @@ pub fn watch<R: Read, W: Write, P: WatchProgress, G: Pages>(
     match found {
         Ok(watched) => {
             save_first(alloc, &watched, options.save, machine)?;
+            show_first(alloc, &watched, options, progress, machine)?;
             write_closing(alloc, &watched, to, &how)
         }
         Err(unfinished) => Err(stopped_by(unfinished.fault, &unfinished.found)),

@@ -1,4 +1,5 @@
--- the granules that were found are written, the lines of the first are put, and then what is said once all is watched is written
+-- the granules that were found are written, the lines of the first and its page are put, and then what is said once all is watched is
+-- written
 use Rattle.std.proofs.Common.{ℕ, ◌≤◌, Result, Err, IfSome, ap, subst}
 use Rattle.std.proofs.lemmas.Result.{IfOk-weaker}
 use Rattle.chi_watch_text.specs.declared.options.WatchOptions.{WatchOptions}
@@ -7,34 +8,42 @@ use Rattle.chi_check.specs.Check.{KeepsUnanswered}
 use Rattle.chi_check.specs.Watch.{WatchOutcome, stopped_by, watching}
 use Rattle.chi_check.specs.declared.fault.CheckFault.{CheckFault}
 use Rattle.chi_check.proofs.SavingLemmas.{saved, unsaved, unsaved_unanswered}
+use Rattle.chi_check.proofs.ShowingLemmas.{shown, spent_after, unshown, unshown_unanswered}
 use Rattle.chi_check.proofs.WatchLemmas.{closed, closed_unanswered, spent_at_six, stopped, unanswered, watched_status}
 use Rattle.chi_check.proofs.watch.watch.Goals as goal
 
-pub returns-in_ok-save_first-in-Ok-clause-outcome : goal.returns-in_ok-save_first-in-Ok-clause-outcome
-returns-in_ok-save_first-in-Ok-clause-outcome g c =
+pub returns-in_ok-show_first-in-Ok-clause-outcome : goal.returns-in_ok-show_first-in-Ok-clause-outcome
+returns-in_ok-show_first-in-Ok-clause-outcome g c =
     let old = g.W.Write.contents c.args.to.now in
     let new = g.W.Write.contents c.write_closing.new.to in
     subst (λ (how : WatchOptions). IfSome (g.R.Read.remaining c.args.from.now) (λ input. WatchOutcome how input old new c.write_closing.result)) c.watching-how.ensures
     (closed c.watching-how.result _ _ _ c.in-Ok.watched c.in-Ok.ensures.told (g.R.Read.remaining c.args.from.now) c.write_closing.result c.in-Ok.ensures.outcome c.write_closing.ensures)
 
-pub returns-in_ok-save_first-in-Ok-clause-unanswered : goal.returns-in_ok-save_first-in-Ok-clause-unanswered
-returns-in_ok-save_first-in-Ok-clause-unanswered g c = closed_unanswered c.watching-how.result _ _ _ c.in-Ok.watched c.in-Ok.ensures.told c.write_closing.result c.write_closing.ensures
+pub returns-in_ok-show_first-in-Ok-clause-unanswered : goal.returns-in_ok-show_first-in-Ok-clause-unanswered
+returns-in_ok-show_first-in-Ok-clause-unanswered g c = closed_unanswered c.watching-how.result _ _ _ c.in-Ok.watched c.in-Ok.ensures.told c.write_closing.result c.write_closing.ensures
 
-pub returns-in_ok-save_first-in-Ok-clause-status : goal.returns-in_ok-save_first-in-Ok-clause-status
-returns-in_ok-save_first-in-Ok-clause-status g c = watched_status c.watching-how.result _ _ c.in-Ok.watched c.write_closing.result c.write_closing.ensures
+pub returns-in_ok-show_first-in-Ok-clause-status : goal.returns-in_ok-show_first-in-Ok-clause-status
+returns-in_ok-show_first-in-Ok-clause-status g c = watched_status c.watching-how.result _ _ c.in-Ok.watched c.write_closing.result c.write_closing.ensures
 
-pub returns-in_ok-save_first-in-Ok-clause-spent : goal.returns-in_ok-save_first-in-Ok-clause-spent
-returns-in_ok-save_first-in-Ok-clause-spent g c =
+pub returns-in_ok-show_first-in-Ok-clause-spent : goal.returns-in_ok-show_first-in-Ok-clause-spent
+returns-in_ok-show_first-in-Ok-clause-spent g c =
     IfOk-weaker c.write_closing.result _ _
     (λ status spent six. let went = spent six in
-    (went.0, subst (λ (budget : ℕ). budget ≤ went.0) (ap (λ (how : WatchOptions). how.budget) c.watching-how.ensures) went.1, λ n known. c.clear.ensures _ (went.2 n known)))
+    spent_after g.P.Progress.looked c.args.progress.now _ _ c.args.options.now.budget
+    (went.0, subst (λ (budget : ℕ). budget ≤ went.0) (ap (λ (how : WatchOptions). how.budget) c.watching-how.ensures) went.1, λ n known. c.clear.ensures _ (went.2 n known))
+    c.in_ok-show_first-in-Ok.ensures.looked)
     (spent_at_six g.P.Progress.looked c.args.progress.now c.watched-found.new.progress c.watching-how.result _ _ c.in-Ok.watched c.write_closing.result
     c.write_closing.ensures c.in-Ok.ensures.undecided)
 
-pub returns-in_ok-save_first-in-Ok-clause-saved : goal.returns-in_ok-save_first-in-Ok-clause-saved
-returns-in_ok-save_first-in-Ok-clause-saved g c =
-    saved g.G.Pages.has_put c.args.options.now c.watching-how.result (g.R.Read.remaining c.args.from.now) _ _ _ c.in-Ok.watched _ _ c.write_closing.result c.watching-how.ensures
-    c.in-Ok.ensures.outcome c.in-Ok.ensures.keeps c.in-Ok.ensures.told c.write_closing.ensures c.in_ok-save_first-in-Ok.ensures.put
+pub returns-in_ok-show_first-in-Ok-clause-saved : goal.returns-in_ok-show_first-in-Ok-clause-saved
+returns-in_ok-show_first-in-Ok-clause-saved g c =
+    saved g.G.Pages.has_put c.args.options.now c.watching-how.result (g.R.Read.remaining c.args.from.now) _ _ _ c.in-Ok.watched _ _ _ c.write_closing.result c.watching-how.ensures
+    c.in-Ok.ensures.outcome c.in-Ok.ensures.keeps c.in-Ok.ensures.told c.write_closing.ensures c.in_ok-save_first-in-Ok.ensures.put c.in_ok-show_first-in-Ok.ensures.before
+
+pub returns-in_ok-show_first-in-Ok-clause-shown : goal.returns-in_ok-show_first-in-Ok-clause-shown
+returns-in_ok-show_first-in-Ok-clause-shown g c =
+    shown g.G.Pages.has_put c.args.options.now c.watching-how.result (g.R.Read.remaining c.args.from.now) _ _ _ c.in-Ok.watched _ _ _ c.write_closing.result c.watching-how.ensures
+    c.in-Ok.ensures.outcome c.in-Ok.ensures.keeps c.in-Ok.ensures.told c.write_closing.ensures c.in_ok-save_first-in-Ok.ensures.before c.in_ok-show_first-in-Ok.ensures.put
 
 pub returns-in_err-save_first-in-Ok-clause-outcome : goal.returns-in_err-save_first-in-Ok-clause-outcome
 returns-in_err-save_first-in-Ok-clause-outcome g c =
@@ -53,6 +62,26 @@ returns-in_err-save_first-in-Ok-clause-unanswered g c =
     let fault = c.in_err-save_first-in-Ok.field-0.0 in
     passed_on c.from_residual.result fault (λ (r : Result ℕ CheckFault). KeepsUnanswered old new r) c.from_residual.ensures.1
     (unsaved_unanswered c.watching-how.result old new c.in-Ok.watched c.in-Ok.ensures.told c.in-Ok.watched.kept fault c.in_err-save_first-in-Ok.ensures.fault)
+
+pub returns-in_err-show_first-in-Ok-clause-outcome : goal.returns-in_err-show_first-in-Ok-clause-outcome
+returns-in_err-show_first-in-Ok-clause-outcome g c =
+    let input = g.R.Read.remaining c.args.from.now in
+    let old = g.W.Write.contents c.args.to.now in
+    let new = g.W.Write.contents c.watched-found.new.to in
+    let fault = c.in_err-show_first-in-Ok.field-0.0 in
+    let passed = c.from_residual-in_err-show_first-in-Ok in
+    passed_on passed.result fault (λ (r : Result ℕ CheckFault). IfSome input (λ bytes. WatchOutcome (watching c.args.options.now) bytes old new r)) passed.ensures.1
+    (subst (λ (how : WatchOptions). IfSome input (λ bytes. WatchOutcome how bytes old new (Err fault))) c.watching-how.ensures
+    (unshown c.watching-how.result old new c.in-Ok.watched c.in-Ok.ensures.told input fault c.in-Ok.ensures.outcome c.in_err-show_first-in-Ok.ensures.fault))
+
+pub returns-in_err-show_first-in-Ok-clause-unanswered : goal.returns-in_err-show_first-in-Ok-clause-unanswered
+returns-in_err-show_first-in-Ok-clause-unanswered g c =
+    let old = g.W.Write.contents c.args.to.now in
+    let new = g.W.Write.contents c.watched-found.new.to in
+    let fault = c.in_err-show_first-in-Ok.field-0.0 in
+    let passed = c.from_residual-in_err-show_first-in-Ok in
+    passed_on passed.result fault (λ (r : Result ℕ CheckFault). KeepsUnanswered old new r) passed.ensures.1
+    (unshown_unanswered c.watching-how.result old new c.in-Ok.watched c.in-Ok.ensures.told fault c.in_err-show_first-in-Ok.ensures.fault)
 
 pub returns-in-Err-clause-outcome : goal.returns-in-Err-clause-outcome
 returns-in-Err-clause-outcome g c =
