@@ -8,6 +8,12 @@ from memory import execute
 # The reply is None where it was not seen. The number is that of the line that told the request.
 Operation = collections.namedtuple("Operation", "request start end reply number")
 MOST = 2**64 - 1
+# How many states are tried at most: some histories have more orders than memory has room.
+MOST_STATES = 100_000
+
+
+class TooMany(Exception):
+    """More states would have to be tried."""
 
 
 def can_come(operations, taken, it):
@@ -39,6 +45,8 @@ def states_met(word, operations, left_out=frozenset()):
         state = rest.pop()
         if state in met:
             continue
+        if len(met) == MOST_STATES:
+            raise TooMany
         met.add(state)
         yield state
         following = (taken_next(operations, *state, at) for at in range(len(operations)) if at not in left_out)

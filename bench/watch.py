@@ -21,7 +21,7 @@ os.chdir(f"{os.path.dirname(os.path.abspath(__file__))}/..")
 sys.dont_write_bytecode = True
 
 from histories import history, prefix
-from orders import MOST, is_end_of_order
+from orders import MOST, TooMany, is_end_of_order
 from telling import Told, Watched
 
 CHECKER = os.environ.get("CHICHECK", "crates/chi_check/out/chi_check")
@@ -228,7 +228,10 @@ def outcomes(events):
 def tried(number):
     """Tries a history. Returns what it was, and what the program disagrees on."""
     events, traits = CHOSEN(random.Random(f"{SEED}/{number}"))
-    return number, events, traits | outcomes(events), disagreements(events)
+    try:
+        return number, events, traits | outcomes(events), disagreements(events)
+    except TooMany:
+        return number, events, {"left out, since there are too many orders"}, []
 
 
 def show(number, events):

@@ -1,7 +1,7 @@
 //! The text of an excerpt, worked by hand.
 
 use crate::comparison::assert_same;
-use chi_excerpt::{add_excerpt, add_order_end};
+use chi_excerpt::{add_excerpt, add_order};
 use chi_judge::Stop;
 use chi_lanes::Reply;
 use chi_search::Words;
@@ -96,8 +96,13 @@ fn the_order_before_a_lost_addition(rt: HostRuntime) -> Result<(), Fail> {
         return Err(Fail::new("a request is refused"));
     };
     let mut text = Vec::new(alloc);
-    add_order_end(&mut text, "request", stop.time, &stop.order)?;
-    let wanted = "  up to 39 in an order that ends with requests 0 17\n";
+    add_order(
+        &mut text,
+        " in this order: requests",
+        stop.time,
+        &stop.order,
+    )?;
+    let wanted = "  up to 39 in this order: requests 0 17\n";
     assert_same(&rt, text.as_slice(), wanted.as_bytes());
     Ok(())
 }

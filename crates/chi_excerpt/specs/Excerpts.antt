@@ -41,11 +41,11 @@ suspects_line label suspects =
     then codes "  any one of these answers may be the wrong one: " ++ (label ++ (codes "s" ++ (flat_map number_text suspects ++ codes "\n")))
     else []
 
--- the last operations of an order that explains a granule's up to the time before, where there are some
-unfoldable pub order_end_line : List ℕ → ℕ → List Operation → List ℕ
-order_end_line label time last =
+-- the last operations of an order that explains a granule's up to the time before, after the words that say which these are
+unfoldable pub order_line : List ℕ → ℕ → List Operation → List ℕ
+order_line words time last =
     if nat_lt 0 (length last)
-    then codes "  up to " ++ (decimal (time - 1) ++ (codes " in an order that ends with " ++ (label ++ (codes "s" ++ (flat_map number_text last ++ codes "\n")))))
+    then codes "  up to " ++ (decimal (time - 1) ++ (words ++ (flat_map number_text last ++ codes "\n")))
     else []
 
 -- The rows of operations that ended before, of the one that is blamed, and of those that were still open, on a line of time from the

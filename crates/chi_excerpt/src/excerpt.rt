@@ -1,7 +1,7 @@
 //! The last operations of a granule where they stop being explained, as lines.
 
 ghost use Rattle.std.specs.Prelude.{◌≡◌, ◌++◌, ◌∷◌, false, IfOk, OnOk, flat_map};
-ghost use Rattle.chi_excerpt.specs.Excerpts.{all_rows, blamed_text, ended_after, excerpt_text, legal_line, line_of_time, number_text, order_end_line, suspects_line};
+ghost use Rattle.chi_excerpt.specs.Excerpts.{all_rows, blamed_text, ended_after, excerpt_text, legal_line, line_of_time, number_text, order_line, suspects_line};
 ghost use Rattle.chi_excerpt.specs.Texts.{row_text};
 
 use crate::columns::{Widths, first_start, widths_of};
@@ -168,21 +168,21 @@ pub fn add_excerpt(
 }
 
 /// Adds the line of the last operations of an order that explains a granule's up to the time before this one, where there are some.
-/// `label` is what the parts of the input are called.
+/// `words` stand before their numbers and say which of the order these are.
 ///
 /// ```
-/// add_order_end(&mut text, "line", 40, &stop.order)?; //   up to 39 in an order that ends with lines 1 3
+/// add_order(&mut text, " in this order: requests", 40, &stop.order)?; //   up to 39 in this order: requests 1 3
 /// ```
-#[tactic(auto, unfolding(crate::specs::Excerpts::order_end_line))]
-pub fn add_order_end(
+#[tactic(auto, unfolding(crate::specs::Excerpts::order_line))]
+pub fn add_order(
     to: &mut Vec<u8>,
-    label: &'static str,
+    words: &'static str,
     time: u64,
-    last: &[Operation],
+    ops: &[Operation],
 ) -> Result<(), AllocError>
-    ensures { OnOk result (to.new.items ≡ to.old.items ++ order_end_line label.now time last.now) }
+    ensures { OnOk result (to.new.items ≡ to.old.items ++ order_line words.now time ops.now) }
 {
-    if last.len() == 0 {
+    if ops.len() == 0 {
         return Ok(());
     }
     add_parts(
@@ -190,11 +190,9 @@ pub fn add_order_end(
         &[
             Part::Text("  up to "),
             Part::Number(time.saturating_sub(1)),
-            Part::Text(" in an order that ends with "),
-            Part::Text(label),
-            Part::Text("s"),
+            Part::Text(words),
         ],
     )?;
-    add_numbers(to, last)?;
+    add_numbers(to, ops)?;
     add_parts(to, &[Part::Text("\n")])
 }

@@ -1,26 +1,14 @@
 //! The text of where a trace stops being explained.
 
-ghost use Rattle.std.specs.Prelude.{◌≡◌, ◌<◌, ◌++◌, All, IfOk, OnOk, flat_map, length};
-ghost use Rattle.chi_excerpt.specs.Failures.{failure_text, number_at, order_in, order_line, order_words};
+ghost use Rattle.std.specs.Prelude.{◌≡◌, ◌<◌, ◌++◌, All, IfOk, OnOk, length};
+ghost use Rattle.chi_excerpt.specs.Failures.{failure_text, last_line, order_in, order_words};
 
-use crate::excerpt::add_excerpt;
+use crate::excerpt::{add_excerpt, add_order};
 use chi_answer::add_blame;
 use chi_reading::Recorded;
-use chi_text::{Part, add_parts};
+use chi_trace::operations_at;
 use chi_verdict::Blame;
 use std::alloc::{AllocError, Global};
-
-/// The numbers of the requests at these places.
-fn add_numbers_at(to: &mut Vec<u8>, recorded: &Recorded, places: &[usize]) -> Result<(), AllocError>
-    requires { All (λ place. place < length recorded.now.trace.operations) places.now }
-    ensures { OnOk result (to.new.items ≡ to.old.items ++ flat_map (number_at recorded.now) places.now) }
-{
-    let ops = recorded.trace().operations();
-    for place in places {
-        add_parts(to, &[Part::Text(" "), Part::Number(ops[*place].number)])?;
-    }
-    Ok(())
-}
 
 /// What an order of the whole trace has of a granule.
 ///
@@ -57,8 +45,8 @@ fn order_words(most: usize, count: usize) -> &'static str
 }
 
 /// The line of the last so many of an order that explains the granule's operations up to the time before.
-#[tactic(auto, unfolding(crate::specs::Failures::order_line))]
-fn add_order(
+fn add_last(
+    alloc: Global,
     to: &mut Vec<u8>,
     recorded: &Recorded,
     most: usize,
@@ -66,22 +54,11 @@ fn add_order(
     order: &[usize],
 ) -> Result<(), AllocError>
     requires { All (λ place. place < length recorded.now.trace.operations) order.now }
-    ensures { OnOk result (to.new.items ≡ to.old.items ++ order_line recorded.now most time order.now) }
+    ensures { OnOk result (to.new.items ≡ to.old.items ++ last_line recorded.now most time order.now) }
 {
     let last = &order[order.len().saturating_sub(most)..];
-    if last.is_empty() {
-        return Ok(());
-    }
-    add_parts(
-        to,
-        &[
-            Part::Text("  up to "),
-            Part::Number(time.saturating_sub(1)),
-            Part::Text(order_words(most, order.len())),
-        ],
-    )?;
-    add_numbers_at(to, recorded, last)?;
-    add_parts(to, &[Part::Text("\n")])
+    let ops = operations_at(alloc, recorded.trace().operations(), last)?;
+    add_order(to, order_words(most, order.len()), time, &ops)
 }
 
 /// The text of where a trace stops being explained: what is said of it, the operations of the granule around the one that is
@@ -102,6 +79,6 @@ pub fn failure_text(
     let mut text = Vec::new(alloc);
     add_blame(&mut text, blame)?;
     add_excerpt(alloc, &mut text, "request", &blame.stop)?;
-    add_order(&mut text, recorded, around, blame.stop.time, &order)?;
+    add_last(alloc, &mut text, recorded, around, blame.stop.time, &order)?;
     Ok(text)
 }

@@ -9,5 +9,5 @@ mod impossible;
 mod line;
 mod operand;
 
-pub use excerpt::{add_excerpt, add_order_end};
+pub use excerpt::{add_excerpt, add_order};
 pub use failure::{failure_text, order_in};

@@ -47,8 +47,8 @@ pub record EndAnOrder (trace : List Operation) (g w : ℕ) (ops : List Operation
 -- these are the words that they can leave, where they are known; before time 0 none are. The operation was answered then, and is
 -- one of those that were open. It is the first of those whose answer may be wrong, and where there is none no other that was
 -- answered then has an earlier request. The last so many of the others that had ended by then stand before it, and each of these
--- replies of it would have been right. The order's last operations are those of one that explains what had happened up to the time
--- before.
+-- replies of it would have been right. An order that explains what had happened up to the time before ends with the operations
+-- of `order`.
 pub record IsStop (trace : List Operation) (g w most : ℕ) (s : Stop) : Type 0 where
   pub after : IsExplained s.time trace g w → ⊥
   pub before_it : (time : ℕ) → time + 1 ≡ s.time → IsExplained time trace g w

@@ -17,7 +17,7 @@ use Rattle.chi_watch.specs.Undecided.{IsExplainedAsFar, IsExplainedTo, states_fo
 use Rattle.chi_watch.specs.Watches.{HasTaken, IsUnexplained, WatchValue, fault_of}
 use Rattle.chi_watch.specs.declared.ending.Ending.{Ending}
 use Rattle.chi_watch.specs.declared.undecided.UndecidedAtEnd.{UndecidedAtEnd}
-use Rattle.chi_watch_text.specs.FoundGranule.{is_found}
+use Rattle.chi_watch_text.specs.FoundGranule.{is_found, with_quiet}
 use Rattle.chi_watch_text.specs.Kept.{AreKept}
 use Rattle.chi_watch_text.specs.Lines.{AreTold, is_blank}
 use Rattle.chi_watch_text.specs.declared.fault.LinesFault.{LinesFault}
@@ -31,6 +31,12 @@ use Rattle.chi_watch_text.specs.declared.watched.Watched.{Watched}
 pub record TakesEvent (old : WatchValue) (event : Event) (new : WatchValue) (seen : Option ℕ) : Type 0 where
   pub taken : (events : List Event) → HasTaken events old → HasTaken (events ++ event ∷ []) new
   pub unexplained : IfSome seen (λ g. (events : List Event) → HasTaken events old → IsUnexplained (events ++ event ∷ []) g)
+
+-- the watch took the event of the line with this number, and a granule that became quiet by it is noted
+pub record TakesLine (old : WatchValue) (event : Event) (number : ℕ) (quiet : List Quiet) (new : WatchValue) (noted : List Quiet) : Type 0 where
+  pub seen : Option ℕ
+  pub takes : TakesEvent old event new seen
+  pub notes : noted ≡ with_quiet seen number quiet
 
 -- why the event of the line with this number is not taken
 abbrev pub IsEventFault : WatchValue → Event → ℕ → LinesFault → Type 0

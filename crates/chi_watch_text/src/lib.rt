@@ -12,6 +12,7 @@ mod reach_lines;
 mod recorded;
 mod required;
 mod saved;
+mod taking;
 mod telling;
 mod text;
 mod watched;

@@ -4,7 +4,7 @@ ghost use Rattle.std.specs.Prelude.{◌≡◌, ◌++◌, OnOk};
 ghost use Rattle.chi_watch_text.specs.ReachTexts.{reach_text, stop_lines};
 
 use chi_answer::{add_stop, add_words_at_end};
-use chi_excerpt::{add_excerpt, add_order_end};
+use chi_excerpt::{add_excerpt, add_order};
 use chi_judge::{Reach, Stop};
 use std::alloc::{AllocError, Global};
 
@@ -14,7 +14,12 @@ fn add_stop_lines(alloc: Global, to: &mut Vec<u8>, stop: &Stop) -> Result<(), Al
 {
     add_stop(to, stop, None)?;
     add_excerpt(alloc, to, "line", stop)?;
-    add_order_end(to, "line", stop.time, &stop.order)
+    add_order(
+        to,
+        " in an order that ends with lines",
+        stop.time,
+        &stop.order,
+    )
 }
 
 /// The lines of how far a granule's operations can be explained, of which this word was told at the end.

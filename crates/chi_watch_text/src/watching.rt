@@ -8,44 +8,22 @@ ghost use Rattle.chi_events.specs.declared.event.Event.{Event};
 ghost use Rattle.chi_search.specs.Looks.{LookedSome};
 ghost use Rattle.chi_watch.specs.Undecided.{IsExplainedAsFar, states_for};
 ghost use Rattle.chi_watch.specs.Watches.{HasTaken};
-ghost use Rattle.chi_watch_text.specs.Outcomes.{IsEventFault, IsFoundBy, IsOutcome, IsTold, IsUnreached, IsWatched, IsWatchingFault, ReachedBy, SaysAtEnd, TakesEvent, WentAsFar, WentBy};
+ghost use Rattle.chi_watch_text.specs.Outcomes.{IsFoundBy, IsOutcome, IsTold, IsUnreached, IsWatched, IsWatchingFault, ReachedBy, SaysAtEnd, WentAsFar, WentBy};
 ghost use Rattle.chi_watch_text.specs.Texts.{found_text};
 
 use crate::fault::LinesFault;
-use crate::kept::{keep_line, nothing_kept};
+use crate::kept::nothing_kept;
 use crate::lines::next_event;
 use crate::options::WatchOptions;
 use crate::progress::WatchProgress;
-use crate::quiet::{judge_quiet, note_quiet};
+use crate::quiet::judge_quiet;
+use crate::taking::take_line;
 use crate::watched::{FoundGranule, Unfinished, Watched};
 use chi_events::{Event, EventKind};
-use chi_watch::{Watch, WatchFault};
+use chi_watch::Watch;
 use std::alloc::{AllocError, Global};
 use std::io::{BufRead, Write};
 use std::mem;
-
-/// Has the watch take the event of the line with this number.
-fn take_event<P: WatchProgress>(
-    alloc: Global,
-    watch: &mut Watch,
-    event: &Event,
-    number: u64,
-    budget: u64,
-    progress: &mut P,
-) -> Result<Option<u64>, LinesFault>
-    ensures taken { IfOk result (TakesEvent watch.old event.now watch.new) }
-    ensures fault { IfErr result (IsEventFault watch.old event.now number) }
-    ensures looked { IfOk result (λ _. LookedSome P.looked progress.old progress.new) }
-{
-    match watch.take(alloc, event, budget, progress) {
-        Ok(seen) => {
-            progress.reached(watch.counts(), event.time);
-            Ok(seen)
-        }
-        Err(WatchFault::Memory) => Err(LinesFault::Memory),
-        Err(fault) => Err(LinesFault::Event { number, fault }),
-    }
-}
 
 /// Whether all events of this time are told: the next one is later, or there is none.
 fn is_past(time: u64, next: &Option<Event>) -> bool
@@ -181,9 +159,17 @@ fn watch_each<R: BufRead, W: Write, P: WatchProgress>(
                 progress,
             )?);
         };
-        let seen = take_event(alloc, &mut watch, &event, number, options.budget, progress)?;
-        note_quiet(alloc, &mut quiet, seen, number)?;
-        keep_line(&mut kept, &line)?;
+        take_line(
+            alloc,
+            &mut watch,
+            &mut quiet,
+            &mut kept,
+            &line,
+            &event,
+            number,
+            options.budget,
+            progress,
+        )?;
         time = event.time;
         is_ended = is_end(&event);
     }

@@ -58,21 +58,21 @@ loop-number-preserved g c =
     let line_read =
     subst (λ (o : Option Event). IfSome o (λ _. IfSome (g.R.Read.remaining c.loop-number.from) (λ text. c.next_event.new.line.items ≡ take_through 10 text))) c.in-Some.is c.in_ok-next.ensures.line in
     record {
-      taken = subst (λ (k : ℕ). HasTakenLines (g.R.Read.remaining c.args.from.now) k c.in-Some.event.time c.is_end-is_ended.result c.judge_quiet.new.found.items c.note_quiet.new.quiet.items c.take_event.new.watch (g.R.Read.remaining c.next_event.new.from)) (omega arith)
-          (subst (λ (b : Bool). HasTakenLines (g.R.Read.remaining c.args.from.now) c.loop-number.number c.in-Some.event.time b c.judge_quiet.new.found.items c.note_quiet.new.quiet.items c.take_event.new.watch (g.R.Read.remaining c.next_event.new.from)) (sym c.is_end-is_ended.ensures)
+      taken = subst (λ (k : ℕ). HasTakenLines (g.R.Read.remaining c.args.from.now) k c.in-Some.event.time c.is_end-is_ended.result c.judge_quiet.new.found.items c.take_line.new.quiet.items c.take_line.new.watch (g.R.Read.remaining c.next_event.new.from)) (omega arith)
+          (subst (λ (b : Bool). HasTakenLines (g.R.Read.remaining c.args.from.now) c.loop-number.number c.in-Some.event.time b c.judge_quiet.new.found.items c.take_line.new.quiet.items c.take_line.new.watch (g.R.Read.remaining c.next_event.new.from)) (sym c.is_end-is_ended.ensures)
           (event_taken (g.R.Read.remaining c.args.from.now) (g.R.Read.remaining c.loop-number.from) (g.R.Read.remaining c.next_event.new.from) (c.loop-number.number - 1) c.loop-number.number c.loop-number.time c.loop-number.is_ended c.judge_quiet.new.found.items c.judge_quiet.new.quiet.items
-          c.note_quiet.new.quiet.items c.loop-number.watch c.take_event.new.watch c.in-Some.event c.in_ok-seen.seen settled_now read c.in_ok-seen.ensures.taken (omega arith) c.in_ok-note_quiet.ensures));
+          c.take_line.new.quiet.items c.loop-number.watch c.take_line.new.watch c.in-Some.event c.in_ok-take_line.ensures.taken.seen settled_now read c.in_ok-take_line.ensures.taken.takes (omega arith) c.in_ok-take_line.ensures.taken.notes));
       once = c.in_ok-judge_quiet.ensures.once before.once;
-      told = (before.told.0 ++ c.in-Some.event ∷ [], c.in_ok-seen.ensures.taken.taken before.told.0 before.told.1);
-      unreached = unreached_all c.loop-number.watch g.P.Progress.looked c.args.progress.now c.loop-number.progress c.judge_quiet.new.progress c.take_event.new.progress c.args.options.now.budget
-          c.loop-number.found.items c.judge_quiet.new.found.items before.looked c.in_ok-judge_quiet.ensures.looked c.in_ok-seen.ensures.looked before.told.0 before.told.1 c.in_ok-judge_quiet.ensures.unreached before.unreached;
+      told = (before.told.0 ++ c.in-Some.event ∷ [], c.in_ok-take_line.ensures.taken.takes.taken before.told.0 before.told.1);
+      unreached = unreached_all c.loop-number.watch g.P.Progress.looked c.args.progress.now c.loop-number.progress c.judge_quiet.new.progress c.take_line.new.progress c.args.options.now.budget
+          c.loop-number.found.items c.judge_quiet.new.found.items before.looked c.in_ok-judge_quiet.ensures.looked c.in_ok-take_line.ensures.looked before.told.0 before.told.1 c.in_ok-judge_quiet.ensures.unreached before.unreached;
       written = told_more c.loop-number.found.items c.judge_quiet.new.found.items (g.W.Write.contents c.args.to.now) (g.W.Write.contents c.loop-number.to) (g.W.Write.contents c.judge_quiet.new.to) before.written c.in_ok-judge_quiet.ensures.told;
       first = first;
-      looked = some_after g.P.Progress.looked c.args.progress.now c.judge_quiet.new.progress c.take_event.new.progress some c.in_ok-seen.ensures.looked;
-      kept = line_kept (g.R.Read.remaining c.args.from.now) (g.R.Read.remaining c.loop-number.from) (g.R.Read.remaining c.next_event.new.from) c.loop-number.kept c.keep_line.new.kept c.next_event.new.line.items c.loop-number.number
+      looked = some_after g.P.Progress.looked c.args.progress.now c.judge_quiet.new.progress c.take_line.new.progress some c.in_ok-take_line.ensures.looked;
+      kept = line_kept (g.R.Read.remaining c.args.from.now) (g.R.Read.remaining c.loop-number.from) (g.R.Read.remaining c.next_event.new.from) c.loop-number.kept c.take_line.new.kept c.next_event.new.line.items c.loop-number.number
           c.in-Some.event before.kept
-          (subst (λ (l : List ℕ). KeepsLine c.loop-number.kept l c.keep_line.new.kept) c.deref-in-loop-number.ensures.value c.in_ok-keep_line.ensures) line_read read;
-      keeps = keeps_still c.loop-number.kept c.keep_line.new.kept _ c.in_ok-keep_line.ensures ∙ before.keeps;
+          (subst (λ (l : List ℕ). KeepsLine c.loop-number.kept l c.take_line.new.kept) c.deref-in-loop-number.ensures.value c.in_ok-take_line.ensures.kept) line_read read;
+      keeps = keeps_still c.loop-number.kept c.take_line.new.kept _ c.in_ok-take_line.ensures.kept ∙ before.keeps;
     }
 
 pub returns-then-stops-clause-watched : goal.returns-then-stops-clause-watched
@@ -147,18 +147,18 @@ returns-then-stops-clause-unreached g c =
     before.told.1 c.in_ok-judge_quiet.ensures.unreached before.unreached)
     (subst (λ (o : Option Ending). IfSome o (λ ending. All (λ (f : FoundAtEnd). IsUnreached looked old new budget f.reach) ending.unexplained.items)) (sym c.stopped.ensures.ending) tt)
 
-pub returns-in_err-seen-clause-fault : goal.returns-in_err-seen-clause-fault
-returns-in_err-seen-clause-fault g c =
+pub returns-in_err-take_line-clause-fault : goal.returns-in_err-take_line-clause-fault
+returns-in_err-take_line-clause-fault g c =
     let before = c.loop-number.invariant in
     let settled_now =
     settled (g.R.Read.remaining c.args.from.now) (g.R.Read.remaining c.loop-number.from) (g.R.Read.remaining c.next_event.new.from) (c.loop-number.number - 1) c.loop-number.number c.loop-number.time c.loop-number.is_ended c.loop-number.found.items
     c.judge_quiet.new.found.items c.loop-number.quiet.items c.judge_quiet.new.quiet.items c.loop-number.watch c.in_ok-next.next c.is_past-is_past.result before.taken (omega arith) c.in_ok-next.ensures.told c.is_past-is_past.ensures.past
     c.in_ok-judge_quiet.ensures.waits c.in_ok-judge_quiet.ensures.cleared c.in_ok-judge_quiet.ensures.each in
     let read = subst (λ (o : Option Event). IfSome (g.R.Read.remaining c.loop-number.from) (λ text. IsRead c.loop-number.number text o (g.R.Read.remaining c.next_event.new.from))) c.in-Some.is c.in_ok-next.ensures.told in
-    passed_on c.from_residual-in_err-seen.result c.in_err-seen.field-0.0 (λ (r : Result Watched LinesFault). IfSome (g.R.Read.remaining c.args.from.now) (λ text. IfErr r (IsWatchingFault text))) c.from_residual-in_err-seen.ensures.1
-    (but_write (g.R.Read.remaining c.args.from.now) c.in_err-seen.field-0.0 (where_not_taken (g.R.Read.remaining c.args.from.now) (g.R.Read.remaining c.loop-number.from) (g.R.Read.remaining c.next_event.new.from) (c.loop-number.number - 1) c.loop-number.number c.loop-number.watch c.in-Some.event c.in_err-seen.field-0.0
+    passed_on c.from_residual-in_err-take_line.result c.in_err-take_line.field-0.0 (λ (r : Result Watched LinesFault). IfSome (g.R.Read.remaining c.args.from.now) (λ text. IfErr r (IsWatchingFault text))) c.from_residual-in_err-take_line.ensures.1
+    (but_write (g.R.Read.remaining c.args.from.now) c.in_err-take_line.field-0.0 (where_not_taken (g.R.Read.remaining c.args.from.now) (g.R.Read.remaining c.loop-number.from) (g.R.Read.remaining c.next_event.new.from) (c.loop-number.number - 1) c.loop-number.number c.loop-number.watch c.in-Some.event c.in_err-take_line.field-0.0
     (took (g.R.Read.remaining c.args.from.now) (g.R.Read.remaining c.loop-number.from) (c.loop-number.number - 1) c.loop-number.time c.loop-number.is_ended c.judge_quiet.new.found.items c.judge_quiet.new.quiet.items c.loop-number.watch settled_now)
-    (omega arith) read c.in_err-seen.ensures.fault))
+    (omega arith) read c.in_err-take_line.ensures.fault))
 
 pub returns-in_err-judge_quiet-clause-found : goal.returns-in_err-judge_quiet-clause-found
 returns-in_err-judge_quiet-clause-found g c =
@@ -175,15 +175,8 @@ returns-in_err-ended-clause-found g c =
     c.judge_quiet.new.found.items c.loop-number.quiet.items c.loop-number.watch c.in_ok-next.next c.is_past-is_past.result c.loop-number.invariant.taken (omega arith) c.in_ok-next.ensures.told c.is_past-is_past.ensures.past
     (λ wait. (c.in_ok-judge_quiet.ensures.waits wait).0) c.in_ok-judge_quiet.ensures.each))
 
-pub returns-in_err-seen-clause-found : goal.returns-in_err-seen-clause-found
-returns-in_err-seen-clause-found g c =
-    kept_at_fault (g.R.Read.remaining c.args.from.now) (λ text. All (IsFoundBy text) c.judge_quiet.new.found.items) _
-    (found_so_far (g.R.Read.remaining c.args.from.now) (g.R.Read.remaining c.loop-number.from) (g.R.Read.remaining c.next_event.new.from) (c.loop-number.number - 1) c.loop-number.number c.loop-number.time c.loop-number.is_ended c.loop-number.found.items
-    c.judge_quiet.new.found.items c.loop-number.quiet.items c.loop-number.watch c.in_ok-next.next c.is_past-is_past.result c.loop-number.invariant.taken (omega arith) c.in_ok-next.ensures.told c.is_past-is_past.ensures.past
-    (λ wait. (c.in_ok-judge_quiet.ensures.waits wait).0) c.in_ok-judge_quiet.ensures.each)
-
-pub returns-in_err-note_quiet-clause-found : goal.returns-in_err-note_quiet-clause-found
-returns-in_err-note_quiet-clause-found g c =
+pub returns-in_err-take_line-clause-found : goal.returns-in_err-take_line-clause-found
+returns-in_err-take_line-clause-found g c =
     kept_at_fault (g.R.Read.remaining c.args.from.now) (λ text. All (IsFoundBy text) c.judge_quiet.new.found.items) _
     (found_so_far (g.R.Read.remaining c.args.from.now) (g.R.Read.remaining c.loop-number.from) (g.R.Read.remaining c.next_event.new.from) (c.loop-number.number - 1) c.loop-number.number c.loop-number.time c.loop-number.is_ended c.loop-number.found.items
     c.judge_quiet.new.found.items c.loop-number.quiet.items c.loop-number.watch c.in_ok-next.next c.is_past-is_past.result c.loop-number.invariant.taken (omega arith) c.in_ok-next.ensures.told c.is_past-is_past.ensures.past
@@ -220,39 +213,12 @@ returns-in_default-clause-told g c =
     subst (λ (l : List FoundGranule). Appends (g.W.Write.contents c.args.to.now) (g.W.Write.contents c.judge_quiet.new.to) (flat_map found_text l)) (sym c.in_ok-ended.ensures.told.found_is)
     (told_more c.loop-number.found.items c.judge_quiet.new.found.items (g.W.Write.contents c.args.to.now) (g.W.Write.contents c.loop-number.to) (g.W.Write.contents c.judge_quiet.new.to) c.loop-number.invariant.written c.in_ok-judge_quiet.ensures.told)
 
-pub returns-in_err-seen-clause-kept : goal.returns-in_err-seen-clause-kept
-returns-in_err-seen-clause-kept g c =
-    but_at_fault c.from_residual-in_err-seen.result (λ x. x ≡ fault.Write → ⊥) (Appends (g.W.Write.contents c.args.to.now) (g.W.Write.contents c.judge_quiet.new.to) (flat_map found_text c.judge_quiet.new.found.items))
+pub returns-in_err-take_line-clause-kept : goal.returns-in_err-take_line-clause-kept
+returns-in_err-take_line-clause-kept g c =
+    but_at_fault c.from_residual-in_err-take_line.result (λ x. x ≡ fault.Write → ⊥) (Appends (g.W.Write.contents c.args.to.now) (g.W.Write.contents c.judge_quiet.new.to) (flat_map found_text c.judge_quiet.new.found.items))
     (told_more c.loop-number.found.items c.judge_quiet.new.found.items (g.W.Write.contents c.args.to.now) (g.W.Write.contents c.loop-number.to) (g.W.Write.contents c.judge_quiet.new.to) c.loop-number.invariant.written c.in_ok-judge_quiet.ensures.told)
 
-pub returns-in_err-seen-clause-begun : goal.returns-in_err-seen-clause-begun
-returns-in_err-seen-clause-begun g c =
-    at_fault c.from_residual-in_err-seen.result (AppendsFront (g.W.Write.contents c.args.to.now) (g.W.Write.contents c.judge_quiet.new.to) (flat_map found_text c.judge_quiet.new.found.items))
-    (begun_more c.loop-number.found.items c.judge_quiet.new.found.items (g.W.Write.contents c.args.to.now) (g.W.Write.contents c.loop-number.to) (g.W.Write.contents c.judge_quiet.new.to) c.loop-number.invariant.written c.judge_quiet.ensures.begun)
-
-pub returns-in_err-note_quiet-clause-kept : goal.returns-in_err-note_quiet-clause-kept
-returns-in_err-note_quiet-clause-kept g c =
-    but_at_fault c.from_residual-in_err-note_quiet.result (λ x. x ≡ fault.Write → ⊥) (Appends (g.W.Write.contents c.args.to.now) (g.W.Write.contents c.judge_quiet.new.to) (flat_map found_text c.judge_quiet.new.found.items))
-    (told_more c.loop-number.found.items c.judge_quiet.new.found.items (g.W.Write.contents c.args.to.now) (g.W.Write.contents c.loop-number.to) (g.W.Write.contents c.judge_quiet.new.to) c.loop-number.invariant.written c.in_ok-judge_quiet.ensures.told)
-
-pub returns-in_err-note_quiet-clause-begun : goal.returns-in_err-note_quiet-clause-begun
-returns-in_err-note_quiet-clause-begun g c =
-    at_fault c.from_residual-in_err-note_quiet.result (AppendsFront (g.W.Write.contents c.args.to.now) (g.W.Write.contents c.judge_quiet.new.to) (flat_map found_text c.judge_quiet.new.found.items))
-    (begun_more c.loop-number.found.items c.judge_quiet.new.found.items (g.W.Write.contents c.args.to.now) (g.W.Write.contents c.loop-number.to) (g.W.Write.contents c.judge_quiet.new.to) c.loop-number.invariant.written c.judge_quiet.ensures.begun)
-
-pub returns-in_err-keep_line-clause-found : goal.returns-in_err-keep_line-clause-found
-returns-in_err-keep_line-clause-found g c =
-    kept_at_fault (g.R.Read.remaining c.args.from.now) (λ text. All (IsFoundBy text) c.judge_quiet.new.found.items) _
-    (found_so_far (g.R.Read.remaining c.args.from.now) (g.R.Read.remaining c.loop-number.from) (g.R.Read.remaining c.next_event.new.from) (c.loop-number.number - 1) c.loop-number.number c.loop-number.time c.loop-number.is_ended c.loop-number.found.items
-    c.judge_quiet.new.found.items c.loop-number.quiet.items c.loop-number.watch c.in_ok-next.next c.is_past-is_past.result c.loop-number.invariant.taken (omega arith) c.in_ok-next.ensures.told c.is_past-is_past.ensures.past
-    (λ wait. (c.in_ok-judge_quiet.ensures.waits wait).0) c.in_ok-judge_quiet.ensures.each)
-
-pub returns-in_err-keep_line-clause-kept : goal.returns-in_err-keep_line-clause-kept
-returns-in_err-keep_line-clause-kept g c =
-    but_at_fault c.from_residual-in_err-keep_line.result (λ x. x ≡ fault.Write → ⊥) (Appends (g.W.Write.contents c.args.to.now) (g.W.Write.contents c.judge_quiet.new.to) (flat_map found_text c.judge_quiet.new.found.items))
-    (told_more c.loop-number.found.items c.judge_quiet.new.found.items (g.W.Write.contents c.args.to.now) (g.W.Write.contents c.loop-number.to) (g.W.Write.contents c.judge_quiet.new.to) c.loop-number.invariant.written c.in_ok-judge_quiet.ensures.told)
-
-pub returns-in_err-keep_line-clause-begun : goal.returns-in_err-keep_line-clause-begun
-returns-in_err-keep_line-clause-begun g c =
-    at_fault c.from_residual-in_err-keep_line.result (AppendsFront (g.W.Write.contents c.args.to.now) (g.W.Write.contents c.judge_quiet.new.to) (flat_map found_text c.judge_quiet.new.found.items))
+pub returns-in_err-take_line-clause-begun : goal.returns-in_err-take_line-clause-begun
+returns-in_err-take_line-clause-begun g c =
+    at_fault c.from_residual-in_err-take_line.result (AppendsFront (g.W.Write.contents c.args.to.now) (g.W.Write.contents c.judge_quiet.new.to) (flat_map found_text c.judge_quiet.new.found.items))
     (begun_more c.loop-number.found.items c.judge_quiet.new.found.items (g.W.Write.contents c.args.to.now) (g.W.Write.contents c.loop-number.to) (g.W.Write.contents c.judge_quiet.new.to) c.loop-number.invariant.written c.judge_quiet.ensures.begun)
