@@ -52,7 +52,7 @@ class Home:
         self.shape(pace)
         self.mistake = chance.choice(MISTAKES) if chance.random() < 0.5 else None
         self.until_mistake = chance.randrange(self.left // 3 + 1)
-        self.closed = set()
+        self.closed, self.unknown, self.last = set(), set(), {}
         for granule in self.granules:
             self.tell_opening(granule)
 
@@ -175,6 +175,7 @@ class Home:
         """Ends a request whose data and reply were told."""
         if it.has_data and it.is_replied:
             self.open.remove(it)
+            self.last[granule_of(it.request)] = self.time
 
     def take_effect(self, it):
         """Executes a request, perhaps with the mistake of this history."""
@@ -215,8 +216,22 @@ class Home:
         self.traits.add("unknown")
         self.tell("unknown", addr=addr, length=length)
         for granule in self.granules:
-            if addr < granule + 8 and granule < addr + length and chance.random() < 0.5:
-                self.words[granule] = some_bytes(chance, 8)
+            if addr < granule + 8 and granule < addr + length:
+                self.unknown.add(granule)
+                if chance.random() < 0.5:
+                    self.words[granule] = some_bytes(chance, 8)
+
+    def know(self):
+        """Tells the word of a granule again, to which something that is not told may have written."""
+        usable = [it for it in self.unknown if it not in self.closed and self.is_quiet(it)]
+        if not usable:
+            return
+        granule = self.chance.choice(sorted(usable))
+        self.time = max(self.time, self.last.get(granule, 0) + 1)
+        self.unknown.remove(granule)
+        self.traits.add("word again")
+        self.tell("word", addr=granule, bytes=self.words[granule].hex())
+        self.last[granule] = self.time
 
     def is_quiet(self, granule):
         return all(granule_of(it.request) != granule for it in self.open)
@@ -264,6 +279,8 @@ class Home:
         while self.step():
             if forgets and chance.random() < 0.1:
                 self.forget()
+            if forgets and chance.random() < 0.2:
+                self.know()
             if chance.random() < 0.01:
                 self.close_one()
         for granule in self.granules:

@@ -1,8 +1,13 @@
 """What events tell of the granules, line for line, and what `chicheck watch` has to answer by it. The orders are tried by
 orders.py, and nothing is shared with the program."""
 
-from memory import READ, granule_of, name_of
+from memory import READ, WRITE, granule_of, name_of
 from orders import MOST, Operation, first_unexplained, is_explained, known_by, suspects_at, words_left
+
+
+def write_of(granule, word):
+    """The request of a write of a granule's word."""
+    return {"src": 0, "txn": 0, "op": WRITE, "size": 3, "addr": granule, "endian": 0, "be": 255 << granule % 16, "lanes": word.hex() * 2}
 
 
 def operation_line(it):
@@ -43,6 +48,7 @@ class Told:
         self.open, self.ended, self.line = {}, [], 0
         self.openings, self.finals = {}, {}
         self.granules, self.unknown = set(), {}
+        self.gaps, self.writes = {}, []
 
     def take(self, event):
         """Takes an event. Answers the granule whose last outstanding request went by it, if one's did."""
@@ -85,9 +91,18 @@ class Told:
         return [it["request"] for it in self.open.values()]
 
     def take_word(self, event):
-        words = self.finals if event.get("final") else self.openings
-        words[event["addr"]] = bytes.fromhex(event["bytes"])
-        self.granules.add(event["addr"])
+        """A word that is told again ends the time in which what is not told may have written to its granule, and stands for a write."""
+        addr, word = event["addr"], bytes.fromhex(event["bytes"])
+        self.granules.add(addr)
+        if event.get("final"):
+            self.finals[addr] = word
+        elif addr in self.unknown:
+            self.gaps.setdefault(addr, []).append((self.unknown.pop(addr), event["time"]))
+            self.writes.append(Operation(write_of(addr, word), event["time"], event["time"], "comp", self.line))
+            return addr
+        else:
+            self.openings[addr] = word
+        return None
 
     def take_unknown(self, event):
         """From this time on the granules may have been written by what is not told: the first such time counts."""
@@ -100,9 +115,15 @@ class Told:
         return self.ended + [Operation(it["request"], it["start"], MOST, None, it["line"]) for it in self.open.values() if it["has_data"]]
 
     def judged(self):
-        """The operations as far as they had happened before what is not told may have written to their granules."""
-        all_told = [(it, self.unknown.get(granule_of(it.request), MOST + 1)) for it in self.operations()]
+        """The operations, and the writes that stand for words, as far as they had happened before what is not told may have written to
+        their granules."""
+        all_told = [(it, self.unknown_at(granule_of(it.request), it.start)) for it in self.operations() + self.writes]
         return [it if it.end < time else it._replace(reply=None) for it, time in all_told if it.start < time]
+
+    def unknown_at(self, granule, start):
+        """From which time on what is not told may have written to a granule, for an operation that starts at a time."""
+        earlier = [since for since, until in self.gaps.get(granule, []) if start < until]
+        return earlier[0] if earlier else self.unknown.get(granule, MOST + 1)
 
     def of_granule(self, granule):
         """The granule's word at the opening, what is judged of its operations, and its word at the end, where one was told and is judged."""

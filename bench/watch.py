@@ -120,10 +120,11 @@ def lines_by_granule(answer):
 
 
 def is_told_there(row, events):
-    """Whether the line whose number a row has told its request."""
+    """Whether the line whose number a row has told its request, or the word for which its write stands."""
     line, _, _, start, src, txn = row.groups()
     event = events[int(line) - 1]
-    return event["event"] == "request" and (event["time"], event["src"], event["txn"]) == (int(start), int(src), int(txn))
+    told = (event["time"], event.get("src", 0), event.get("txn", 0))
+    return event["event"] in ("request", "word") and told == (int(start), int(src), int(txn))
 
 
 def stop_of(lines):

@@ -2,7 +2,7 @@
 
 use chi_fields::Refusal;
 use chi_lanes::Reply;
-use chi_trace::{GranuleWord, RequestFields};
+use chi_trace::RequestFields;
 
 /// A request that a home has taken. `id` is a number that no other outstanding request has. Its data have come with it, or are
 /// told by a later event; until then its byte enables and lanes are 0.
@@ -30,6 +30,15 @@ pub struct Completion {
     pub reply: Option<Reply>,
 }
 
+/// The word of a granule, as an event tells it. `granule` is the number of the granule: its address divided by 8. `number` says which
+/// part of the input told it, counted as the input counts.
+#[derive(Clone, Copy, Debug)]
+pub struct WordTold {
+    pub number: u64,
+    pub granule: u64,
+    pub word: u64,
+}
+
 /// What an event tells.
 ///
 /// - `Request`: a request was taken.
@@ -37,7 +46,7 @@ pub struct Completion {
 /// - `Reply`: its completion has left.
 /// - `Dropped`: the request with this number took no effect. It was retried, or its data were cancelled.
 /// - `Refused`: it took no effect, since the home refused it, for this reason where one is told.
-/// - `Word`: the word of a granule before its first request.
+/// - `Word`: the word of a granule before its first request, or once more after something that is not told may have written to it.
 /// - `Final`: the word of a granule after its last request.
 /// - `Unknown`: something that these events do not tell may have written the `length` bytes from `addr` on.
 /// - `End`: the monitor tells nothing more. It changes nothing of what is told.
@@ -48,8 +57,8 @@ pub enum EventKind {
     Reply(Completion),
     Dropped { id: u64 },
     Refused { id: u64, reason: Option<Refusal> },
-    Word(GranuleWord),
-    Final(GranuleWord),
+    Word(WordTold),
+    Final(WordTold),
     Unknown { addr: u64, length: u64 },
     End,
 }

@@ -9,6 +9,6 @@ mod fault;
 pub mod laws;
 mod outstanding;
 
-pub use event::{Completion, Event, EventKind, Packet, Requested};
+pub use event::{Completion, Event, EventKind, Packet, Requested, WordTold};
 pub use fault::EventFault;
 pub use outstanding::{Open, Outstanding};

@@ -106,13 +106,13 @@ abbrev pub final_by : Option Data → Result Bool (MemberFault Member)
 final_by None = Ok false
 final_by (Some d) = ok_or (as_bool d) (member_fault.BadMember name.Final)
 
--- a word, before the first request of its granule or after the last
-unfoldable pub word_of : Data → Result EventKind (MemberFault Member)
-word_of d = do
+-- the word of a granule that the line with a number tells, or the one after its last request
+unfoldable pub word_of : ℕ → Data → Result EventKind (MemberFault Member)
+word_of number d = do
   addr ← member_by member_name name.Addr start_of d
   word ← member_by member_name name.Bytes granule_word d
   is_final ← final_by (get (member_name name.Final) d)
-  Ok ((if is_final then kind.Final else kind.Word) (record { granule = addr / 8; word = word }))
+  Ok ((if is_final then kind.Final else kind.Word) (record { number = number; granule = addr / 8; word = word }))
 
 -- bytes of which nothing is known
 unfoldable pub unknown_of : Data → Result EventKind (MemberFault Member)
@@ -128,7 +128,7 @@ told_of number line.Data d = packet_of d >>= λ p. Ok (kind.Data p)
 told_of number line.Reply d = completion_of d >>= λ c. Ok (kind.Reply c)
 told_of number line.Dropped d = number_of member_name name.Id (2 ^ 64 - 1) d >>= λ id. Ok (kind.Dropped id)
 told_of number line.Refused d = refused_of d
-told_of number line.Word d = word_of d
+told_of number line.Word d = word_of number d
 told_of number line.Unknown d = unknown_of d
 told_of number line.End d = Ok kind.End
 

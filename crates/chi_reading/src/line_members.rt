@@ -12,10 +12,9 @@ use crate::member::Member;
 use crate::refused::refusal_named;
 use crate::stated::seen_reply;
 use crate::told::{granule_start, granule_word};
-use chi_events::{Completion, EventKind, Packet, Requested};
+use chi_events::{Completion, EventKind, Packet, Requested, WordTold};
 use chi_fields::{ADDRESSES, Refusal};
 use chi_json::{MemberFault, number, stated, stated_bytes};
-use chi_trace::GranuleWord;
 use serde_json::Value;
 
 /// The request that the line with this number tells, with its data where `be` and `lanes` are there.
@@ -97,17 +96,18 @@ fn is_final(object: &Value) -> Result<bool, MemberFault<Member>>
     value.as_bool().ok_or(MemberFault::BadMember(Member::Final))
 }
 
-/// The word of a granule, before its first request or after its last.
+/// The word of a granule that the line with this number tells, or its word after its last request.
 #[tactic(auto, unfolding(crate::specs::EventText::word_of))]
-fn word(object: &Value) -> Result<EventKind, MemberFault<Member>>
-    ensures { result ≡ word_of (view object.now) }
+fn word(number_of_line: u64, object: &Value) -> Result<EventKind, MemberFault<Member>>
+    ensures { result ≡ word_of number_of_line (view object.now) }
 {
     let value = stated(object, Member::Addr)?;
     let addr = granule_start(value).ok_or(MemberFault::BadMember(Member::Addr))?;
     let value = stated(object, Member::Bytes)?;
     let word = granule_word(value).ok_or(MemberFault::BadMember(Member::Bytes))?;
     let is_final = is_final(object)?;
-    let told = GranuleWord {
+    let told = WordTold {
+        number: number_of_line,
         granule: addr / 8,
         word,
     };
@@ -148,7 +148,7 @@ pub(crate) fn told(
             id: number(object, Member::Id, u64::MAX)?,
         }),
         LineKind::Refused => refused(object),
-        LineKind::Word => word(object),
+        LineKind::Word => word(number_of_line, object),
         LineKind::Unknown => unknown(object),
         LineKind::End => Ok(EventKind::End),
     }

@@ -1,9 +1,9 @@
 //! What a line tells, and its fault, beside what is wanted.
 
-use chi_events::EventKind;
+use chi_events::{EventKind, WordTold};
 use chi_json::{ObjectFault, ShownText, ShownValue};
 use chi_reading::{LineFault, Member, read_event};
-use chi_trace::{GranuleWord, RequestFields};
+use chi_trace::RequestFields;
 use std::process::Abort;
 
 fn same_asked(fields: &RequestFields, want: &RequestFields) -> bool {
@@ -18,8 +18,8 @@ fn same_asked(fields: &RequestFields, want: &RequestFields) -> bool {
         && fields.lanes == want.lanes
 }
 
-fn same_word(told: &GranuleWord, want: &GranuleWord) -> bool {
-    told.granule == want.granule && told.word == want.word
+fn same_word(told: &WordTold, want: &WordTold) -> bool {
+    told.number == want.number && told.granule == want.granule && told.word == want.word
 }
 
 fn same_kind(kind: &EventKind, want: &EventKind) -> bool {

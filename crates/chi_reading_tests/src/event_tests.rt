@@ -1,11 +1,10 @@
 //! Each kind of event but a request, and members that are ignored.
 
 use crate::event_comparison::assert_tells;
-use chi_events::{Completion, EventKind, Packet};
+use chi_events::{Completion, EventKind, Packet, WordTold};
 use chi_fields::Refusal;
 use chi_lanes::Reply;
 use chi_reading::read_event;
-use chi_trace::GranuleWord;
 use std::test::Fail;
 
 #[test]
@@ -79,7 +78,8 @@ fn refused_request(rt: HostRuntime) {
 // The bytes are in address order, so the first is the least of the word.
 #[test]
 fn words(rt: HostRuntime) {
-    let word = GranuleWord {
+    let word = WordTold {
+        number: 4,
         granule: 513,
         word: 0x0800_0000_0000_0201,
     };
@@ -104,7 +104,8 @@ fn words(rt: HostRuntime) {
 #[test]
 fn last_granule(rt: HostRuntime) {
     let line = r#"{"time":70,"event":"word","addr":4503599627370488,"bytes":"0000000000000000"}"#;
-    let word = GranuleWord {
+    let word = WordTold {
+        number: 4,
         granule: 562949953421311,
         word: 0,
     };

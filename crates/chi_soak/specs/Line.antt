@@ -6,11 +6,11 @@ use Rattle.chi_fields.specs.declared.refusal.Refusal.{Refusal}
 use Rattle.chi_lanes.specs.declared.reply.Reply.{Reply}
 use Rattle.chi_lanes.specs.declared.reply.Reply.TheVariants.{Comp, CompData}
 use Rattle.chi_text.specs.Part.{word_text}
-use Rattle.chi_trace.specs.declared.words.GranuleWord.{GranuleWord}
 use Rattle.chi_trace.specs.declared.request_fields.RequestFields.{RequestFields}
 use Rattle.chi_events.specs.declared.event.Completion.{Completion}
 use Rattle.chi_events.specs.declared.event.Event.{Event}
 use Rattle.chi_events.specs.declared.event.EventKind.{EventKind}
+use Rattle.chi_events.specs.declared.event.WordTold.{WordTold}
 use Rattle.chi_events.specs.declared.event.EventKind.TheVariants as kind
 use Rattle.chi_events.specs.declared.event.Packet.{Packet}
 use Rattle.chi_events.specs.declared.event.Requested.{Requested}
@@ -44,7 +44,7 @@ completion_text (Some Comp) = codes "\"comp\""
 completion_text (Some (CompData lanes)) = quoted_text lanes
 
 -- the word of a granule: the granule by its address, the bytes in address order, and what comes after them
-unfoldable pub granule_text : GranuleWord → List ℕ → List ℕ
+unfoldable pub granule_text : WordTold → List ℕ → List ℕ
 granule_text w end = codes "word\",\"addr\":" ++ decimal (w.granule * 8 % 2 ^ 64) ++ codes ",\"bytes\":\"" ++ word_text w.word ++ end
 
 -- a request, and its data

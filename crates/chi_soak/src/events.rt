@@ -2,11 +2,11 @@
 
 use crate::requests::BASE;
 use crate::times::Times;
-use chi_events::{Completion, Event, EventKind, Requested};
+use chi_events::{Completion, Event, EventKind, Requested, WordTold};
 use chi_fields::Request;
 use chi_history::Line;
 use chi_lanes::Reply;
-use chi_trace::{GranuleWord, RequestFields};
+use chi_trace::RequestFields;
 use std::alloc::AllocError;
 
 /// The events that are told, and the number of the next request.
@@ -88,7 +88,8 @@ impl Told {
     ) -> Result<(), AllocError> {
         let mut granule = BASE / 8;
         for word in words {
-            let told = GranuleWord {
+            let told = WordTold {
+                number: 0,
                 granule,
                 word: *word,
             };

@@ -3,11 +3,11 @@
 ghost use Rattle.std.specs.Prelude.{◌≡◌, ◌++◌, OnOk};
 ghost use Rattle.chi_soak.specs.Line.{byte_order, completion_text, data_text, dropped_text, event_line, fields_text, granule_text, kind_text, late_text, packet_text, quoted_text, reason_text, refused_text, reply_text, request_text, unknown_text};
 
-use chi_events::{Completion, Event, EventKind, Packet, Requested};
+use chi_events::{Completion, Event, EventKind, Packet, Requested, WordTold};
 use chi_fields::{Refusal, refusal_name};
 use chi_lanes::Reply;
 use chi_text::{Part, add_parts};
-use chi_trace::{GranuleWord, RequestFields};
+use chi_trace::RequestFields;
 use std::alloc::AllocError;
 
 /// The number of a byte order: 1 is big-endian.
@@ -156,7 +156,7 @@ fn add_refused(to: &mut Vec<u8>, id: u64, reason: Option<Refusal>) -> Result<(),
 }
 
 /// The word of a granule, and what comes after its bytes.
-fn add_word(to: &mut Vec<u8>, told: &GranuleWord, end: &'static str) -> Result<(), AllocError>
+fn add_word(to: &mut Vec<u8>, told: &WordTold, end: &'static str) -> Result<(), AllocError>
     ensures { OnOk result (to.new.items ≡ to.old.items ++ granule_text told.now end.now) }
 {
     add_parts(

@@ -1,52 +1,48 @@
 -- what is said of the events by the granules once all that is still open was told
-use Rattle.std.proofs.Common.{◌≡◌, ℕ, ◌-◌, ◌^◌, ◌++◌, ◌⊎◌, inl, inr, List, [], ◌∷◌, All, Option, Some, None, IfSome, filter, length, sym, ap, ap₂, subst, ◌∙◌, arith}
-use Rattle.std.specs.Prelude.{filter_map, map}
+use Rattle.std.proofs.Common.{◌≡◌, ℕ, ◌-◌, ◌^◌, ◌++◌, ◌⊎◌, inl, inr, List, [], ◌∷◌, All, Option, Some, None, IfSome, length, sym, ap, subst, ◌∙◌, arith}
+use Rattle.std.specs.Prelude.{IsPermutation, filter_map, flat_map, map}
 use Rattle.std.specs.List.{Contains}
-use Rattle.std.proofs.lemmas.List.Elements.{All-cons, All-head, All-nil, All-tail, filter-append}
+use Rattle.std.proofs.lemmas.List.Elements.{All-cons, All-head, All-nil, All-tail}
 use Rattle.chi_events.specs.EventLaws.{OperationsAreTold}
 use Rattle.chi_events.specs.Outstanding.{IsOpen, open_operation}
 use Rattle.chi_events.specs.declared.event.Event.{Event}
 use Rattle.chi_judge.specs.Reaches.{IfUndecided, IsExplained as IsExplainedUpTo, IsJudgeOf}
 use Rattle.chi_judge.specs.Judges.{Keeps}
 use Rattle.chi_judge.specs.Standings.{IsInexplicable as CanNotExplain}
-use Rattle.chi_judge.specs.Until.{until}
 use Rattle.chi_judge.proofs.Keeping.{keeps_later}
-use Rattle.chi_judge.proofs.UntilLists.{until-append}
-use Rattle.chi_trace.specs.AtPlaces.{GranulesStandAlone, is_in}
+use Rattle.chi_trace.specs.AtPlaces.{GranulesStandAlone}
 use Rattle.chi_trace.specs.Granules.{ExplainsGranule}
 use Rattle.chi_trace.specs.TraceLaws.{GranulesExplain, PartsExplain}
 use Rattle.chi_trace.specs.declared.operation.Operation.{Operation}
 use Rattle.chi_trace.specs.Words.{find_word, word_or_zero}
 use Rattle.chi_watch.specs.Endings.{AreToldTo, CanClose, IsExplainable, IsInexplicable, IsInexplicableAt, IsListed, judged_word}
-use Rattle.chi_watch.specs.Judged.{CanBeExplained, IsExplained, final_of, final_words, judged, openings, unknown_since}
+use Rattle.chi_watch.specs.Judged.{CanBeExplained, IsExplained, final_of, judged, judged_part, unknown_since}
+use Rattle.chi_watch.specs.WordsTold.{final_words, openings}
 use Rattle.chi_watch.specs.Reaching.{IsFoundAtEnd, IsFoundIn, IsOfSomeTrace, ReachesBy}
 use Rattle.chi_watch.specs.Undecided.{AreExplainedAsFar, AreExplainedTo, GoesOnAt, IsAsFarIn, IsExplainedAsFar, IsExplainedIn, IsExplainedTo}
-use Rattle.chi_watch.specs.Watches.{HasTaken, IsGranuleOf, Watches, WatchValue, granule}
+use Rattle.chi_watch.specs.Watches.{HasTaken, IsGranuleOf, Watches, WatchValue, granule, told_of, unknown_by}
 use Rattle.chi_watch.specs.declared.ending.FoundAtEnd.{FoundAtEnd}
 use Rattle.chi_watch.specs.declared.followed.Followed.{Followed}
 use Rattle.chi_watch.specs.declared.undecided.UndecidedAtEnd.{UndecidedAtEnd}
+use Rattle.chi_watch.proofs.MoreParts.{own_of, same_parts}
+use Rattle.chi_watch.proofs.MoreTold.{none_more, parts_moved}
 use Rattle.chi_watch.proofs.Opened.{all_can_close}
 use Rattle.chi_watch.proofs.ToldAtTheEnd.{own_open}
 use Rattle.chi_watch.proofs.Reached.{undecided_weaker}
-use Rattle.chi_watch.proofs.Verdicts.{can_without, explained, is_judge, not_explained, whole_not_explained, word_is}
+use Rattle.chi_watch.proofs.Verdicts.{can_without, explained, is_judge, not_explained, told_by, whole_not_explained, word_is}
 
 -- the operations of each granule that are open were told of it
 abbrev pub AreClosed : WatchValue → (ℕ → Option Followed) → Type 0
 AreClosed w new = (g : ℕ) → AreToldTo (own_open g w.outstanding.requests) (granule w g) (new g)
 
--- the operations of a granule, those that had ended and those that are open
-abbrev operations_of : List Operation → WatchValue → ℕ → List Operation
-operations_of ended w g = filter (is_in g) (ended ++ filter_map open_operation w.outstanding.requests)
-
 module _ (events : List Event) (ended : List Operation) (w : WatchValue) (new : ℕ → Option Followed) (is : Watches events ended w) (closed : AreClosed w new) where
-  parted : (g : ℕ) → filter (is_in g) ended ++ own_open g w.outstanding.requests ≡ operations_of ended w g
-  parted g = sym (filter-append (is_in g) ended (filter_map open_operation w.outstanding.requests))
-
-  -- Of a granule that is watched its judge was told what is judged of them.
+  -- Of a granule that is watched its judge was told what is judged of its operations, those that had ended and those that are open.
   record IsFollowed (g : ℕ) (f : Followed) : Type 0 where
     since : f.unknown_since ≡ unknown_since events g
     shown : f.judge.shown ≡ 16
-    keeps : Keeps (word_or_zero (openings events) g ∷ []) (until (unknown_since events g) (operations_of ended w g)) (2 ^ 64 - 1) f.judge
+    told : List Operation
+    are : IsPermutation (flat_map (judged_part events) (told_of events (told_by ended w.outstanding) g)) told
+    keeps : Keeps (word_or_zero (openings events) g ∷ []) told (2 ^ 64 - 1) f.judge
     final_word : f.final_word ≡ find_word (final_words events) g
 
   followed : (g : ℕ) (a : Option Followed) (f : Followed) → IsGranuleOf events ended w.outstanding g a → AreToldTo (own_open g w.outstanding.requests) a (Some f) → IsFollowed g f
@@ -54,11 +50,13 @@ module _ (events : List Event) (ended : List Operation) (w : WatchValue) (new : 
   followed g (Some before) f was more = record {
     since = more.since ∙ was.since;
     shown = more.shown ∙ was.shown;
+    told = was.told ++ flat_map (judged_part events) (own_open g w.outstanding.requests);
+    are = parts_moved events g ended (filter_map open_operation w.outstanding.requests) was.told was.told_is;
     keeps =
-        subst (λ l. Keeps (word_or_zero (openings events) g ∷ []) l (2 ^ 64 - 1) f.judge)
-        (sym (until-append before.unknown_since (filter (is_in g) ended) (own_open g w.outstanding.requests)) ∙ ap₂ until was.since (parted g))
-        (more.keeps (word_or_zero (openings events) g ∷ []) (until before.unknown_since (filter (is_in g) ended))
-        (keeps_later (word_or_zero (openings events) g ∷ []) (until before.unknown_since (filter (is_in g) ended)) w.outstanding.time before.judge was.keeps (2 ^ 64 - 1) (omega (arith, is.time))));
+        subst (λ l. Keeps (word_or_zero (openings events) g ∷ []) (was.told ++ l) (2 ^ 64 - 1) f.judge)
+        (same_parts events g (λ time. unknown_by before.gaps.items before.unknown_since time) was.gaps (own_open g w.outstanding.requests) (own_of g (filter_map open_operation w.outstanding.requests)))
+        (more.keeps (word_or_zero (openings events) g ∷ []) was.told
+        (keeps_later (word_or_zero (openings events) g ∷ []) was.told w.outstanding.time before.judge was.keeps (2 ^ 64 - 1) (omega (arith, is.time))));
     final_word = more.final_word ∙ was.final_word;
   }
 
@@ -66,13 +64,13 @@ module _ (events : List Event) (ended : List Operation) (w : WatchValue) (new : 
   followed_here g f more = followed g (granule w g) f (is.each g) more
 
   closed_judge : OperationsAreTold → (g : ℕ) (f : Followed) → IsFollowed g f → IsJudgeOf (judged events) g (word_or_zero (openings events) g) f.judge
-  closed_judge operations_law g f own = is_judge operations_law events ended w.outstanding g is.tells (2 ^ 64 - 1) f.judge own.keeps
+  closed_judge operations_law g f own = is_judge operations_law events ended w.outstanding g is.tells (2 ^ 64 - 1) f.judge own.told own.are own.keeps
 
   -- One that is not watched has none, and no word was told of it at the end.
   none_followed : (g : ℕ) (a : Option Followed) → IsGranuleOf events ended w.outstanding g a → AreToldTo (own_open g w.outstanding.requests) a None
-      → (operations_of ended w g ≡ []) × (find_word (final_words events) g ≡ None)
+      → (told_of events (told_by ended w.outstanding) g ≡ []) × (find_word (final_words events) g ≡ None)
   none_followed g (Some before) was more = absurd more
-  none_followed g None was more = (sym (parted g) ∙ (ap (λ l. l ++ own_open g w.outstanding.requests) was.none ∙ more), was.final_word)
+  none_followed g None was more = (none_more events g ended (filter_map open_operation w.outstanding.requests) was.none more, was.final_word)
 
   -- no order explains what its judge was told
   inexplicable : (g : ℕ) (f : Followed) → IsFollowed g f → IsInexplicable f → CanNotExplain f.judge (final_of events g)
@@ -88,8 +86,8 @@ module _ (events : List Event) (ended : List Operation) (w : WatchValue) (new : 
           let own = followed_here found.granule f more in
           let cannot = inexplicable found.granule f own none in
           record {
-            none = not_explained operations_law events ended w.outstanding found.granule is.tells (2 ^ 64 - 1) f.judge own.keeps cannot;
-            whole = λ can. whole_not_explained operations_law events ended w.outstanding found.granule is.tells (2 ^ 64 - 1) f.judge own.keeps parts_law cannot can.0 can.1;
+            none = not_explained operations_law events ended w.outstanding found.granule is.tells (2 ^ 64 - 1) f.judge own.told own.are own.keeps cannot;
+            whole = λ can. whole_not_explained operations_law events ended w.outstanding found.granule is.tells (2 ^ 64 - 1) f.judge own.told own.are own.keeps parts_law cannot can.0 can.1;
             final_word = final_word ∙ word_is events found.granule f own.since own.final_word;
             reach = reach own.shown (judged events) found.granule (word_or_zero (openings events) found.granule) (closed_judge operations_law found.granule f own);
           }

@@ -1,31 +1,35 @@
 -- what a watch knows once an operation has ended
-use Rattle.std.proofs.Common.{◌≡◌, ℕ, ◌/◌, ◌≤◌, ◌==◌, ◌⊎◌, Bool, true, false, List, [], ◌∷◌, ◌++◌, All, Option, Some, None, IfSome, IsTrue, is_some, filter, cond, inl, inr, refl, sym, ap, ap₂, subst, ◌∙◌, arith, append-nil, eqb-true, eq-eqb, true≢false}
-use Rattle.std.specs.Prelude.{option_to_list}
-use Rattle.std.proofs.lemmas.List.Elements.{All-contains, All-weaker, filter-append}
+use Rattle.std.proofs.Common.{◌≡◌, ℕ, ◌/◌, ◌≤◌, ◌==◌, ◌⊎◌, Bool, true, false, List, [], ◌∷◌, ◌++◌, All, Option, Some, None, IfSome, IsTrue, is_some, filter, flat_map, cond, inl, inr, refl, sym, ap, ap₂, subst, ◌∙◌, arith, append-nil, eqb-true, eq-eqb, true≢false}
+use Rattle.std.specs.Prelude.{IsPermutation, Vec, option_to_list}
+use Rattle.std.specs.declared.alloc.Global.{Global}
+use Rattle.std.proofs.lemmas.List.Elements.{All-cons, All-contains, All-nil, All-weaker, filter-append}
 use Rattle.chi_events.specs.declared.event.Event.{Event}
 use Rattle.chi_events.specs.declared.outstanding.Open.{Open}
 use Rattle.chi_events.specs.Outstanding.{IsEndOf, OutstandingValue, StaysOrStarts}
 use Rattle.chi_judge.specs.Judges.{Keeps}
 use Rattle.chi_judge.specs.Until.{until}
 use Rattle.chi_judge.proofs.Keeping.{keeps_later}
-use Rattle.chi_judge.proofs.UntilLists.{until-append}
 use Rattle.chi_trace.specs.AtPlaces.{is_in}
 use Rattle.chi_trace.specs.Granules.{granule_of}
 use Rattle.chi_trace.specs.declared.operation.Operation.{Operation}
 use Rattle.chi_trace.specs.Words.{word_or_zero}
 use Rattle.chi_watch.specs.declared.followed.Followed.{Followed}
 use Rattle.chi_watch.specs.Changes.{CanEnd, IsClosed, IsClosedBy, IsTold}
-use Rattle.chi_watch.specs.Judged.{openings}
+use Rattle.chi_watch.specs.declared.followed.Gap.{Gap}
+use Rattle.chi_watch.specs.Judged.{judged_part, unknown_at}
+use Rattle.chi_watch.specs.WordsTold.{openings, writes_told}
 use Rattle.chi_watch.specs.Requests.{StartsBy, granule_of_request}
-use Rattle.chi_watch.specs.Watches.{IsGranuleOf, IsWatched}
+use Rattle.chi_watch.specs.Watches.{IsGranuleOf, IsWatched, told_of, unknown_by}
+use Rattle.chi_watch.proofs.MoreTold.{all_started, parts_moved}
 
--- the operations of a granule, with one more of it, or of another
-own_more : (g : ℕ) (ended : List Operation) (op : Operation) → granule_of op ≡ g → filter (is_in g) (ended ++ op ∷ []) ≡ filter (is_in g) ended ++ op ∷ []
-own_more g ended op is = filter-append (is_in g) ended (op ∷ []) ∙ ap (λ (b : Bool). filter (is_in g) ended ++ cond b (op ∷ []) []) (eq-eqb (granule_of op) g is)
-
+-- the operations of a granule, with one more of another
 other_more : (g : ℕ) (ended : List Operation) (op : Operation) → (granule_of op == g) ≡ false → filter (is_in g) (ended ++ op ∷ []) ≡ filter (is_in g) ended
 other_more g ended op other =
     filter-append (is_in g) ended (op ∷ []) ∙ (ap (λ (b : Bool). filter (is_in g) ended ++ cond b (op ∷ []) []) other ∙ append-nil (filter (is_in g) ended))
+
+-- and with one more of it
+own_one : (g : ℕ) (op : Operation) → granule_of op ≡ g → filter (is_in g) (op ∷ []) ≡ op ∷ []
+own_one g op is = ap (λ (b : Bool). cond b (op ∷ []) []) (eq-eqb (granule_of op) g is)
 
 module _ (events : List Event) (ended : List Operation) (before after : OutstandingValue) (e : Event) (now : after.time ≡ e.time) (later : before.time ≤ e.time)
     (stay : All (StaysOrStarts before.requests e) after.requests) where
@@ -39,27 +43,38 @@ module _ (events : List Event) (ended : List Operation) (before after : Outstand
           let starts_by : horizon ≤ old.start = All-contains (λ (q : Open). granule_of_request q ≡ g → horizon ≤ q.start) before.requests old starts has (ap (λ a. a.addr / 8) (sym fields) ∙ is) in
           omega (arith, start, starts_by)
 
+  same_told : (g : ℕ) (more : List Operation) → filter (is_in g) more ≡ filter (is_in g) ended → told_of events more g ≡ told_of events ended g
+  same_told g more same =
+      filter-append (is_in g) more (writes_told events) ∙ (ap (λ l. l ++ filter (is_in g) (writes_told events)) same ∙ sym (filter-append (is_in g) ended (writes_told events)))
+
   -- where no operation of the granule ended
   watched_on : (g : ℕ) (f : Followed) (more : List Operation) → filter (is_in g) more ≡ filter (is_in g) ended → IsWatched events ended before g f → IsWatched events more after g f
   watched_on g f more same w = record {
     since = w.since;
-    keeps =
-        subst (λ (ops : List Operation). Keeps (word_or_zero (openings events) g ∷ []) (until f.unknown_since ops) after.time f.judge) (sym same)
-        (keeps_later (word_or_zero (openings events) g ∷ []) (until f.unknown_since (filter (is_in g) ended)) before.time f.judge w.keeps after.time (omega (arith, later, now)));
+    gaps = w.gaps;
+    gaps_by = w.gaps_by;
+    told = w.told;
+    told_is = subst (λ (ops : List Operation). IsPermutation (flat_map (judged_part events) ops) w.told) (sym told) w.told_is;
+    keeps = keeps_later (word_or_zero (openings events) g ∷ []) w.told before.time f.judge w.keeps after.time (omega (arith, later, now));
+    started = subst (All (λ (op : Operation). op.start ≤ f.last)) (sym told) w.started;
+    last_by = omega (arith, w.last_by, later, now);
     latest = omega (arith, w.latest, later, now);
     past = omega (arith, w.past, later, now);
     horizon = starts_on g f.judge.horizon w.past w.horizon;
     shown = w.shown;
     final_word = w.final_word;
   }
+    where
+      told : told_of events more g ≡ told_of events ended g
+      told = same_told g more same
 
   stays_on : (g : ℕ) (x : Option Followed) (more : List Operation) → filter (is_in g) more ≡ filter (is_in g) ended → IsGranuleOf events ended before g x → IsGranuleOf events more after g x
-  stays_on g None more same w = record { since = w.since; none = same ∙ w.none; opening = w.opening; final_word = w.final_word }
+  stays_on g None more same w = record { known = w.known; none = same_told g more same ∙ w.none; opening = w.opening; final_word = w.final_word }
   stays_on g (Some f) more same w = watched_on g f more same w
 
   -- where an operation of the granule ended
   module _ (op : Operation) (ends : IsEndOf before.requests e.time op) (horizon : ℕ) (early : horizon ≤ op.start) (g : ℕ) (is : granule_of op ≡ g) (earliest : StartsBy after.requests g horizon) where
-    can_end : (f : Followed) → IsWatched events ended before g f → CanEnd horizon f op
+    can_end : (f : Followed) → IsWatched events ended before g f → CanEnd horizon f.judge op
     can_end f w =
         let own : granule_of_request ends.request ≡ g = ap (λ n. n / 8) (sym ends.at) ∙ is in
         let starts : f.judge.horizon ≤ ends.request.start = All-contains (λ (q : Open). granule_of_request q ≡ g → f.judge.horizon ≤ q.start) before.requests ends.request w.horizon ends.is own in
@@ -74,13 +89,20 @@ module _ (events : List Event) (ended : List Operation) (before after : Outstand
     told_on : (old new : Followed) → IsTold op horizon old new → IsWatched events ended before g old → IsWatched events (ended ++ op ∷ []) after g new
     told_on old new t w = record {
       since = t.since ∙ w.since;
-      keeps =
-          subst (λ (ops : List Operation). Keeps words ops after.time new.judge) (sym (ap₂ until t.since (own_more g ended op is) ∙ until-append old.unknown_since (filter (is_in g) ended) (op ∷ [])))
-          (keeps_later words (told ++ until old.unknown_since (op ∷ [])) op.end new.judge kept after.time (omega (arith, ends.end, now)));
-      latest = omega (arith, t.latest, ends.end, now);
-      past = past old.judge.horizon new.judge.horizon w.past t.horizon_is;
-      horizon = starts old.judge.horizon new.judge.horizon w.past w.horizon t.horizon_is;
-      shown = t.shown ∙ w.shown;
+      gaps = λ time. ap₂ (λ (gaps : Vec Gap Global) (since : Option ℕ). unknown_by gaps.items since time) t.gaps t.since ∙ w.gaps time;
+      gaps_by = subst (λ (gaps : Vec Gap Global). All (λ (gap : Gap). gap.until ≤ new.last) gaps.items) (sym t.gaps)
+          (All-weaker (λ (gap : Gap). gap.until ≤ old.last) (λ (gap : Gap). gap.until ≤ new.last) (λ gap by. omega (arith, by, w.last_by, later, ends.end, t.last)) old.gaps.items w.gaps_by);
+      told = w.told ++ part;
+      told_is = subst (λ (l : List Operation). IsPermutation (flat_map (judged_part events) (told_of events (ended ++ op ∷ []) g)) (w.told ++ l)) one_part (parts_moved events g ended (op ∷ []) w.told w.told_is);
+      keeps = keeps_later words (w.told ++ part) op.end new.judge kept after.time (omega (arith, ends.end, now));
+      started = all_started events g ended (op ∷ []) old.last new.last (omega (arith, w.last_by, later, ends.end, t.last))
+          (subst (All (λ (o : Operation). o.start ≤ new.last)) (sym (own_one g op is))
+          (All-cons (λ (o : Operation). o.start ≤ new.last) op [] (omega (arith, ends.lasting, t.last)) (All-nil (λ (o : Operation). o.start ≤ new.last)))) w.started;
+      last_by = omega (arith, t.last, ends.end, now);
+      latest = omega (arith, t.heard.latest, ends.end, now);
+      past = past old.judge.horizon new.judge.horizon w.past t.heard.horizon_is;
+      horizon = starts old.judge.horizon new.judge.horizon w.past w.horizon t.heard.horizon_is;
+      shown = t.heard.shown ∙ w.shown;
       final_word = t.final_word ∙ w.final_word;
     }
       where
@@ -96,11 +118,17 @@ module _ (events : List Event) (ended : List Operation) (before after : Outstand
         words : List ℕ
         words = word_or_zero (openings events) g ∷ []
 
-        told : List Operation
-        told = until old.unknown_since (filter (is_in g) ended)
+        part : List Operation
+        part = until (unknown_by old.gaps.items old.unknown_since op.start) (op ∷ [])
 
-        kept : Keeps words (told ++ until old.unknown_since (op ∷ [])) op.end new.judge
-        kept = t.keeps words told (keeps_later words told before.time old.judge w.keeps op.end (omega (arith, later, ends.end)))
+        one_part : flat_map (judged_part events) (filter (is_in g) (op ∷ [])) ≡ part
+        one_part =
+            ap (flat_map (judged_part events)) (own_one g op is)
+            ∙ (append-nil (judged_part events op)
+            ∙ (ap (λ (h : ℕ). until (unknown_at events h op.start) (op ∷ [])) is ∙ ap (λ (u : Option ℕ). until u (op ∷ [])) (sym (w.gaps op.start))))
+
+        kept : Keeps words (w.told ++ part) op.end new.judge
+        kept = t.heard.keeps words w.told (keeps_later words w.told before.time old.judge w.keeps op.end (omega (arith, later, ends.end)))
 
     closed_on : (x y : Option Followed) → IsTrue (is_some x) → IsClosed op horizon x y → IsGranuleOf events ended before g x → IsGranuleOf events (ended ++ op ∷ []) after g y
     closed_on None y some t w = absurd (true≢false (sym some))

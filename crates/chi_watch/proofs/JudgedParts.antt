@@ -1,7 +1,7 @@
 -- operations as far as they had happened before something that is not told may have written to their granules
 use Rattle.std.specs.Prelude.{nat_lt, option_to_list, IsPermutation}
 use Rattle.std.proofs.Common.{◌≡◌, ℕ, zero, suc, ◌+◌, ◌^◌, ◌≤◌, ◌++◌, ◌⊎◌, inl, inr, Bool, true, false, cond, get_or, length, List, [], ◌∷◌, All, Option, Some, None}
-use Rattle.std.proofs.Common.{filter, flat_map, map, refl, sym, ap, ap₂, subst, ◌∙◌, arith, eqb-true}
+use Rattle.std.proofs.Common.{filter, flat_map, map, refl, sym, ap, ap₂, subst, ◌∙◌, arith}
 use Rattle.std.proofs.lemmas.List.Sorted.{IsPermutation-map}
 use Rattle.std.proofs.lemmas.List.Elements.{All-cons, All-head, All-nil, All-tail, filter-append}
 use Rattle.chi_fields.specs.Access.{Access, IsLawful}
@@ -9,13 +9,13 @@ use Rattle.chi_events.specs.declared.event.Event.{Event}
 use Rattle.chi_judge.specs.Until.{until}
 use Rattle.chi_judge.proofs.Cutting.{stays_known}
 use Rattle.chi_judge.proofs.Lists.{IsPermutation-filter}
-use Rattle.chi_judge.proofs.UntilLists.{until-append, until-filter}
+use Rattle.chi_judge.proofs.UntilLists.{until-filter}
 use Rattle.chi_trace.specs.AtPlaces.{is_in}
 use Rattle.chi_trace.specs.Cuts.{has_started, operation_at}
 use Rattle.chi_trace.specs.Explains.{IsOperation, IsTrace}
 use Rattle.chi_trace.specs.Granules.{granule_of}
 use Rattle.chi_trace.specs.declared.operation.Operation.{Operation}
-use Rattle.chi_watch.specs.Judged.{judged_part, unknown_since}
+use Rattle.chi_watch.specs.Judged.{judged_part, unknown_at}
 
 -- of no operations nothing had happened
 pub until-nil : (u : Option ℕ) → until u [] ≡ []
@@ -27,20 +27,21 @@ until-nil (Some (suc time)) = refl
 part_own : (u : Option ℕ) (g : ℕ) (op : Operation) → filter (is_in g) (until u (op ∷ [])) ≡ until u (cond (is_in g op) (op ∷ []) [])
 part_own u g op = until-filter u g (op ∷ [])
 
--- What is judged of a granule's operations is what had happened before something that is not told may have written to it.
-pub judged_own : (events : List Event) (g : ℕ) (ops : List Operation) → filter (is_in g) (flat_map (judged_part events) ops) ≡ until (unknown_since events g) (filter (is_in g) ops)
-judged_own events g [] = sym (until-nil (unknown_since events g))
+-- What is judged of a granule's operations is of the granule.
+pub judged_own : (events : List Event) (g : ℕ) (ops : List Operation) → filter (is_in g) (flat_map (judged_part events) ops) ≡ flat_map (judged_part events) (filter (is_in g) ops)
+judged_own events g [] = refl
 judged_own events g (op ∷ ops) =
     filter-append (is_in g) (judged_part events op) (flat_map (judged_part events) ops)
-    ∙ (ap (λ l. l ++ filter (is_in g) (flat_map (judged_part events) ops)) (part_own (unknown_since events (granule_of op)) g op)
-    ∙ by_test (is_in g op) refl (judged_own events g ops))
+    ∙ (ap (λ l. l ++ filter (is_in g) (flat_map (judged_part events) ops)) (part_own (unknown_at events (granule_of op) op.start) g op)
+    ∙ by_test (is_in g op) (judged_own events g ops))
   where
-    by_test : (b : Bool) → is_in g op ≡ b → filter (is_in g) (flat_map (judged_part events) ops) ≡ until (unknown_since events g) (filter (is_in g) ops)
-        → until (unknown_since events (granule_of op)) (cond b (op ∷ []) []) ++ filter (is_in g) (flat_map (judged_part events) ops) ≡ until (unknown_since events g) (cond b (op ∷ filter (is_in g) ops) (filter (is_in g) ops))
-    by_test true own rest =
-        ap₂ (λ (u : Option ℕ) l. until u (op ∷ []) ++ l) (ap (unknown_since events) (eqb-true (granule_of op) g own)) rest
-        ∙ sym (until-append (unknown_since events g) (op ∷ []) (filter (is_in g) ops))
-    by_test false other rest = ap (λ l. l ++ filter (is_in g) (flat_map (judged_part events) ops)) (until-nil (unknown_since events (granule_of op))) ∙ rest
+    since : Option ℕ
+    since = unknown_at events (granule_of op) op.start
+
+    by_test : (b : Bool) → filter (is_in g) (flat_map (judged_part events) ops) ≡ flat_map (judged_part events) (filter (is_in g) ops)
+        → until since (cond b (op ∷ []) []) ++ filter (is_in g) (flat_map (judged_part events) ops) ≡ flat_map (judged_part events) (cond b (op ∷ filter (is_in g) ops) (filter (is_in g) ops))
+    by_test true rest = ap (λ l. until since (op ∷ []) ++ l) rest
+    by_test false rest = ap (λ l. l ++ filter (is_in g) (flat_map (judged_part events) ops)) (until-nil since) ∙ rest
 
 -- an operation of which the reply may not have come
 pub record IsPartOf (op part : Operation) : Type 0 where
@@ -74,11 +75,18 @@ heard_is u op heard is = elim (is_part u op) [
     head_is : {x y : Operation} → x ∷ [] ≡ y ∷ [] → x ≡ y
     head_is {x} same = ap (λ l. get_or l 0 x) same
 
+-- what is so of it, is so of such a part
+pub part_all : (u : Option ℕ) (op : Operation) (P : Operation → Type 0) → ((part : Operation) → IsPartOf op part → P op → P part) → P op → All P (until u (op ∷ []))
+part_all u op P keeps of_op = elim (is_part u op) [
+  | inl none ↦ subst (All P) (sym none) (All-nil P)
+  | inr (part, one, is) ↦ subst (All P) (sym one) (All-cons P part [] (keeps part is of_op) (All-nil P))
+]
+
 -- so what is judged starts no earlier than a time before which none starts
 part_late : (events : List Event) (from : ℕ) (ops : List Operation) → All (λ op. from ≤ op.start) ops → All (λ op. from ≤ op.start) (flat_map (judged_part events) ops)
 part_late events from [] late = All-nil (λ (op : Operation). from ≤ op.start)
 part_late events from (op ∷ ops) late =
-    by_part (judged_part events op) (is_part (unknown_since events (granule_of op)) op) (part_late events from ops (All-tail (λ (o : Operation). from ≤ o.start) op ops late))
+    by_part (judged_part events op) (is_part (unknown_at events (granule_of op) op.start) op) (part_late events from ops (All-tail (λ (o : Operation). from ≤ o.start) op ops late))
   where
     rest : List Operation
     rest = flat_map (judged_part events) ops
@@ -101,7 +109,7 @@ pub judged_traced : (events : List Event) (ops : List Operation) → IsTrace ops
 unfolding IsTrace
 judged_traced events [] is = tt
 judged_traced events (op ∷ ops) is =
-    by_part (judged_part events op) (is_part (unknown_since events (granule_of op)) op) (part_late events op.start ops is.1) (judged_traced events ops is.2)
+    by_part (judged_part events op) (is_part (unknown_at events (granule_of op) op.start) op) (part_late events op.start ops is.1) (judged_traced events ops is.2)
   where
     rest : List Operation
     rest = flat_map (judged_part events) ops
@@ -146,4 +154,4 @@ judged_permutation events xs ys moved =
     f = judged_part events
 
     short : (op : Operation) → length (f op) ≤ 1
-    short op = part_short (unknown_since events (granule_of op)) op
+    short op = part_short (unknown_at events (granule_of op) op.start) op

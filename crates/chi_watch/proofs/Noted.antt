@@ -1,57 +1,46 @@
 -- what a watch knows once an event was noted
-use Rattle.std.proofs.Common.{◌≡◌, ℕ, ◌≤◌, ◌==◌, Bool, true, false, List, [], ◌∷◌, ◌++◌, Option, Some, None, is_some, filter, cond, refl, sym, ap, ap₂, subst, ◌∙◌, arith, eq-eqb, true≢false}
-use Rattle.std.specs.Prelude.{find, option_map}
-use Rattle.std.specs.Option.{option_or, unwrap_or}
-use Rattle.std.proofs.lemmas.List.Elements.{All-weaker, filter_map-append}
+use Rattle.std.proofs.Common.{◌≡◌, ℕ, ◌^◌, ◌-◌, ◌≤◌, ◌&&◌, ◌||◌, nat_le, Bool, true, false, List, [], ◌∷◌, ◌++◌, All, Option, Some, None, append-nil, filter, filter_map, flat_map, refl, sym, ap, ap₂, subst, ◌∙◌, arith}
+use Rattle.std.specs.Prelude.{IsPermutation}
+use Rattle.std.specs.List.{list_any}
+use Rattle.std.specs.Option.{unwrap_or}
+use Rattle.std.proofs.lemmas.List.Elements.{All-nil, All-weaker, filter-append, filter_map-append}
+use Rattle.std.proofs.lemmas.List.Sorted.{IsPermutation-refl}
 use Rattle.chi_events.specs.declared.event.Event.{Event}
 use Rattle.chi_events.specs.declared.outstanding.Open.{Open}
 use Rattle.chi_events.specs.Outstanding.{OutstandingValue}
 use Rattle.chi_judge.specs.Judges.{Keeps}
-use Rattle.chi_judge.specs.Until.{until}
 use Rattle.chi_judge.proofs.Keeping.{keeps_later}
 use Rattle.chi_trace.specs.AtPlaces.{is_in}
 use Rattle.chi_trace.specs.declared.operation.Operation.{Operation}
 use Rattle.chi_trace.specs.declared.words.GranuleWord.{GranuleWord}
 use Rattle.chi_trace.specs.Words.{find_word, word_or_zero}
 use Rattle.chi_watch.specs.declared.followed.Followed.{Followed}
+use Rattle.chi_watch.specs.declared.followed.Gap.{Gap}
 use Rattle.chi_watch.specs.Changes.{IsUntouched}
-use Rattle.chi_watch.specs.Judged.{covers, final_in, final_words, opening_in, openings, unknown_since}
+use Rattle.chi_watch.specs.Judged.{judged_part, tells_word, unknown_at}
 use Rattle.chi_watch.specs.Requests.{StartsBy, granule_of_request}
-use Rattle.chi_watch.specs.Watches.{IsGranuleOf, IsWatched}
-
--- what is told of a granule by two lists of words
-told_both : (xs ys : List GranuleWord) (g : ℕ) → find_word xs g ≡ None → find_word (xs ++ ys) g ≡ find_word ys g
-unfolding find_word
-told_both [] ys g none = refl
-told_both (w ∷ xs) ys g none = by_test (w.granule == g) none (told_both xs ys g)
-  where
-    by_test : (b : Bool) → cond b (Some w.word) (find_word xs g) ≡ None → (find_word xs g ≡ None → find_word (xs ++ ys) g ≡ find_word ys g) → cond b (Some w.word) (find_word (xs ++ ys) g) ≡ find_word ys g
-    by_test true some rest = absurd (true≢false (ap is_some some))
-    by_test false none rest = rest none
-
--- a word of another granule
-pub told_other : (xs : List GranuleWord) (w : GranuleWord) (g : ℕ) → (w.granule == g) ≡ false → find_word (xs ++ w ∷ []) g ≡ find_word xs g
-unfolding find_word
-told_other [] w g other = ap (λ (b : Bool). cond b (Some w.word) None) other
-told_other (x ∷ xs) w g other = ap (λ (o : Option ℕ). cond (x.granule == g) (Some x.word) o) (told_other xs w g other)
-
--- and of this one
-pub told_own : (xs : List GranuleWord) (w : GranuleWord) → find_word xs w.granule ≡ None → find_word (xs ++ w ∷ []) w.granule ≡ Some w.word
-unfolding find_word
-told_own xs w none = told_both xs (w ∷ []) w.granule none ∙ ap (λ (b : Bool). cond b (Some w.word) None) (eq-eqb w.granule w.granule refl)
+use Rattle.chi_watch.specs.Watches.{IsGranuleOf, IsUntold, IsWatched, told_of, unknown_by}
+use Rattle.chi_watch.specs.WordsTold.{covers, final_in, final_words, openings, writes_told}
+use Rattle.chi_watch.proofs.MoreParts.{own_of, parts_same}
+use Rattle.chi_watch.proofs.MoreWords.{same_opening, same_writes}
+use Rattle.chi_watch.proofs.UnknownTimes.{any_more, unknown_none, unknown_same}
 
 -- no request starts before time 0
 pub from_start : (o : OutstandingValue) (g horizon : ℕ) → horizon ≡ 0 → StartsBy o.requests g horizon
 from_start o g horizon none = All-weaker (λ (p : Open). Unit {0}) (λ (p : Open). granule_of_request p ≡ g → horizon ≤ p.start) (λ p all is. omega (arith, none)) o.requests (λ i d below. tt)
 
 -- a granule that is watched from now on
-pub begun : (events : List Event) (ended : List Operation) (o : OutstandingValue) (g word : ℕ) (f : Followed) → unknown_since events g ≡ None → filter (is_in g) ended ≡ [] → word_or_zero (openings events) g ≡ word
-    → find_word (final_words events) g ≡ None → IsUntouched word f → IsWatched events ended o g f
-begun events ended o g word f since none opening final_word u = record {
-  since = u.since ∙ sym since;
-  keeps =
-      subst (λ (w : ℕ). Keeps (w ∷ []) (until f.unknown_since (filter (is_in g) ended)) o.time f.judge) (sym opening)
-      (subst (λ (ops : List Operation). Keeps (word ∷ []) ops o.time f.judge) (sym (ap₂ until u.since none)) (keeps_later (word ∷ []) [] 0 f.judge u.keeps o.time (omega arith)));
+pub begun : (events : List Event) (ended : List Operation) (o : OutstandingValue) (g word : ℕ) (f : Followed) → list_any (λ (e : Event). covers g e.kind) events ≡ false → told_of events ended g ≡ []
+    → word_or_zero (openings events) g ≡ word → find_word (final_words events) g ≡ None → IsUntouched word f → IsWatched events ended o g f
+begun events ended o g word f known none opening final_word u = record {
+  since = u.since ∙ sym (unknown_none events g (2 ^ 64 - 1) known);
+  gaps = λ time. ap₂ (λ (gaps : List Gap) (since : Option ℕ). unknown_by gaps since time) u.gaps u.since ∙ sym (unknown_none events g time known);
+  gaps_by = subst (All (λ (gap : Gap). gap.until ≤ f.last)) (sym u.gaps) (All-nil (λ (gap : Gap). gap.until ≤ f.last));
+  told = [];
+  told_is = subst (λ (ops : List Operation). IsPermutation (flat_map (judged_part events) ops) []) (sym none) (IsPermutation-refl []);
+  keeps = subst (λ (w : ℕ). Keeps (w ∷ []) [] o.time f.judge) (sym opening) (keeps_later (word ∷ []) [] 0 f.judge u.keeps o.time (omega arith));
+  started = subst (All (λ (op : Operation). op.start ≤ f.last)) (sym none) (All-nil (λ (op : Operation). op.start ≤ f.last));
+  last_by = omega (arith, u.last);
   latest = omega (arith, u.latest);
   past = omega (arith, u.horizon);
   horizon = from_start o g f.judge.horizon u.horizon;
@@ -59,61 +48,82 @@ begun events ended o g word f since none opening final_word u = record {
   final_word = u.final_word ∙ sym final_word;
 }
 
--- what is found first in a list with one element more
-find-push : {X : Type 0} (p : X → Bool) (xs : List X) (y : X) → find p (xs ++ y ∷ []) ≡ option_or (find p xs) (cond (p y) (Some y) None)
-find-push p [] y = refl
-find-push {X} p (x ∷ xs) y = by_test (p x) (find-push p xs y)
-  where
-    by_test : (b : Bool) → find p (xs ++ y ∷ []) ≡ option_or (find p xs) (cond (p y) (Some y) None)
-        → cond b (Some x) (find p (xs ++ y ∷ [])) ≡ option_or (cond b (Some x) (find p xs)) (cond (p y) (Some y) None)
-    by_test true rest = refl
-    by_test false rest = rest
+one_none : {X Y : Type 0} (h : X → Option Y) (x : X) → h x ≡ None → filter_map h (x ∷ []) ≡ []
+one_none h x is = rw is refl
+
+one_some : {X Y : Type 0} (h : X → Option Y) (x : X) (y : Y) → h x ≡ Some y → filter_map h (x ∷ []) ≡ y ∷ []
+one_some h x y is = rw is refl
 
 module _ (events : List Event) (e : Event) where
-  pub openings_more : openings (events ++ e ∷ []) ≡ openings events ++ openings (e ∷ [])
-  openings_more = filter_map-append (λ (x : Event). opening_in x.kind) events (e ∷ [])
-
   pub finals_more : final_words (events ++ e ∷ []) ≡ final_words events ++ final_words (e ∷ [])
   finals_more = filter_map-append (λ (x : Event). final_in x.kind) events (e ∷ [])
 
-  -- the first event that covers the granule, with one event more
-  first_more : (g : ℕ) (b : Bool) → covers g e.kind ≡ b
-      → find (λ (x : Event). covers g x.kind) (events ++ e ∷ []) ≡ option_or (find (λ (x : Event). covers g x.kind) events) (cond b (Some e) None)
-  first_more g b is = find-push (λ (x : Event). covers g x.kind) events e ∙ ap (λ (c : Bool). option_or (find (λ (x : Event). covers g x.kind) events) (cond c (Some e) None)) is
+  -- an event that tells no word at the end, and one that does
+  pub no_final : final_in e.kind ≡ None → (g : ℕ) → find_word (final_words (events ++ e ∷ [])) g ≡ find_word (final_words events) g
+  no_final none g = ap (λ (words : List GranuleWord). find_word words g) (finals_more ∙ (ap (λ words. final_words events ++ words) (one_none (λ (x : Event). final_in x.kind) e none) ∙ append-nil (final_words events)))
 
-  pub since_same : (g : ℕ) → covers g e.kind ≡ false → unknown_since (events ++ e ∷ []) g ≡ unknown_since events g
-  since_same g is = ap (option_map (λ (x : Event). x.time)) (first_more g false is ∙ or_none (find (λ (x : Event). covers g x.kind) events))
-    where
-      or_none : (x : Option Event) → option_or x None ≡ x
-      or_none None = refl
-      or_none (Some x) = refl
+  pub one_final : (w : GranuleWord) → final_in e.kind ≡ Some w → final_words (events ++ e ∷ []) ≡ final_words events ++ w ∷ []
+  one_final w some = finals_more ∙ ap (λ words. final_words events ++ words) (one_some (λ (x : Event). final_in x.kind) e w some)
 
-  -- from its time on, where none did before
-  pub since_first : (g : ℕ) → covers g e.kind ≡ true → unknown_since events g ≡ None → unknown_since (events ++ e ∷ []) g ≡ Some e.time
-  since_first g is none = ap (option_map (λ (x : Event). x.time)) (first_more g true is) ∙ by_first (find (λ (x : Event). covers g x.kind) events) none
-    where
-      by_first : (x : Option Event) → option_map (λ (y : Event). y.time) x ≡ None → option_map (λ (y : Event). y.time) (option_or x (Some e)) ≡ Some e.time
-      by_first None so = refl
-      by_first (Some x) so = absurd (true≢false (ap is_some so))
+  module _ (ended : List Operation) (g : ℕ) where
+    -- where it does not tell the granule's word, the operations that are told of it stay the same
+    pub told_same : tells_word g e.kind ≡ false → told_of (events ++ e ∷ []) ended g ≡ told_of events ended g
+    told_same other =
+        filter-append (is_in g) ended (writes_told (events ++ e ∷ []))
+        ∙ (ap (λ l. filter (is_in g) ended ++ l) (same_writes events e g other) ∙ sym (filter-append (is_in g) ended (writes_told events)))
 
-  pub since_kept : (g time : ℕ) → covers g e.kind ≡ true → unknown_since events g ≡ Some time → unknown_since (events ++ e ∷ []) g ≡ unknown_since events g
-  since_kept g time is some = ap (option_map (λ (x : Event). x.time)) (first_more g true is) ∙ by_first (find (λ (x : Event). covers g x.kind) events) some
-    where
-      by_first : (x : Option Event) → option_map (λ (y : Event). y.time) x ≡ Some time → option_map (λ (y : Event). y.time) (option_or x (Some e)) ≡ option_map (λ (y : Event). y.time) x
-      by_first None so = absurd (true≢false (ap is_some (sym so)))
-      by_first (Some x) so = refl
+    -- nothing of the granule changes by the event
+    pub record IsRetold : Type 0 where
+      pub at : (time : ℕ) → unknown_at (events ++ e ∷ []) g time ≡ unknown_at events g time
+      pub opening : find_word (openings (events ++ e ∷ [])) g ≡ find_word (openings events) g
+      pub told : told_of (events ++ e ∷ []) ended g ≡ told_of events ended g
+      pub final_word : find_word (final_words (events ++ e ∷ [])) g ≡ find_word (final_words events) g
 
-  module _ (ended : List Operation) (o : OutstandingValue) where
-    -- where the event tells nothing of the granule
-    pub retold : (g : ℕ) (x : Option Followed) → unknown_since (events ++ e ∷ []) g ≡ unknown_since events g → find_word (openings (events ++ e ∷ [])) g ≡ find_word (openings events) g
-        → find_word (final_words (events ++ e ∷ [])) g ≡ find_word (final_words events) g → IsGranuleOf events ended o g x → IsGranuleOf (events ++ e ∷ []) ended o g x
-    retold g None since opening final_word w = record { since = since ∙ w.since; none = w.none; opening = opening ∙ w.opening; final_word = final_word ∙ w.final_word }
-    retold g (Some f) since opening final_word w = record {
-      since = w.since ∙ sym since;
-      keeps = subst (λ (word : Option ℕ). Keeps (unwrap_or word 0 ∷ []) (until f.unknown_since (filter (is_in g) ended)) o.time f.judge) (sym opening) w.keeps;
+    -- where it tells neither its word nor that something else may have written to it
+    pub is_retold : covers g e.kind ≡ false → tells_word g e.kind ≡ false → find_word (final_words (events ++ e ∷ [])) g ≡ find_word (final_words events) g → IsRetold
+    is_retold uncovered other final_word = record {
+      at = λ time. unknown_same events e g time (ap (λ b. b && nat_le e.time time) other) uncovered;
+      opening = same_opening events e g other;
+      told = told_same other;
+      final_word = final_word;
+    }
+
+    pub parts_retold : ((time : ℕ) → unknown_at (events ++ e ∷ []) g time ≡ unknown_at events g time) → told_of (events ++ e ∷ []) ended g ≡ told_of events ended g
+        → flat_map (judged_part (events ++ e ∷ [])) (told_of (events ++ e ∷ []) ended g) ≡ flat_map (judged_part events) (told_of events ended g)
+    parts_retold at told =
+        ap (flat_map (judged_part (events ++ e ∷ []))) told
+        ∙ parts_same events e g (told_of events ended g) (own_of g (ended ++ writes_told events)) (λ i d below. at _)
+
+    pub watched_retold : (o : OutstandingValue) (f : Followed) → IsRetold → IsWatched events ended o g f → IsWatched (events ++ e ∷ []) ended o g f
+    watched_retold o f same w = record {
+      since = w.since ∙ sym (same.at (2 ^ 64 - 1));
+      gaps = λ time. w.gaps time ∙ sym (same.at time);
+      gaps_by = w.gaps_by;
+      told = w.told;
+      told_is = subst (λ (l : List Operation). IsPermutation l w.told) (sym (parts_retold same.at same.told)) w.told_is;
+      keeps = subst (λ (word : Option ℕ). Keeps (unwrap_or word 0 ∷ []) w.told o.time f.judge) (sym same.opening) w.keeps;
+      started = subst (All (λ (op : Operation). op.start ≤ f.last)) (sym same.told) w.started;
+      last_by = w.last_by;
       latest = w.latest;
       past = w.past;
       horizon = w.horizon;
       shown = w.shown;
-      final_word = w.final_word ∙ sym final_word;
+      final_word = w.final_word ∙ sym same.final_word;
     }
+
+    pub untold_retold : covers g e.kind ≡ false → IsRetold → IsUntold events ended g → IsUntold (events ++ e ∷ []) ended g
+    untold_retold uncovered same w = record {
+      known = any_more (λ (x : Event). covers g x.kind) events e false uncovered ∙ or_none (list_any (λ (x : Event). covers g x.kind) events) w.known;
+      none = same.told ∙ w.none;
+      opening = same.opening ∙ w.opening;
+      final_word = same.final_word ∙ w.final_word;
+    }
+      where
+        or_none : (b : Bool) → b ≡ false → (b || false) ≡ false
+        or_none true so = so
+        or_none false so = refl
+
+    -- where the event tells nothing of the granule
+    pub retold : (o : OutstandingValue) (x : Option Followed) → covers g e.kind ≡ false → IsRetold → IsGranuleOf events ended o g x → IsGranuleOf (events ++ e ∷ []) ended o g x
+    retold o None uncovered same w = untold_retold uncovered same w
+    retold o (Some f) uncovered same w = watched_retold o f same w

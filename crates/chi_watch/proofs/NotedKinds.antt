@@ -1,48 +1,53 @@
 -- what a watch knows once an event was noted, by the kind of the event
-use Rattle.std.proofs.Common.{◌≡◌, ℕ, ◌/◌, ◌==◌, Bool, true, false, List, [], ◌∷◌, ◌++◌, Option, Some, None, is_some, filter, filter_map, refl, sym, ap, subst, ◌∙◌, arith, append-nil, ne_eqb, eqb-true, eq-eqb, true≢false}
-use Rattle.std.specs.Option.{unwrap_or}
+use Rattle.std.proofs.Common.{◌≡◌, ℕ, ◌/◌, ◌^◌, ◌-◌, ◌<◌, ◌≤◌, ◌==◌, ◌&&◌, ◌||◌, nat_le, nat_lt, Bool, true, false, cond, List, [], ◌∷◌, ◌++◌, All, Option, Some, None, is_some, filter, flat_map, refl, sym, ap, ap₂, subst, ◌∙◌, arith, ne_eqb, eqb-true, eq-eqb, true≢false}
+use Rattle.std.specs.Prelude.{IsPermutation, find, option_map}
+use Rattle.std.specs.Prelude.{Vec}
+use Rattle.std.specs.declared.alloc.Global.{Global}
+use Rattle.std.specs.List.{list_any}
+use Rattle.std.specs.Option.{option_or, unwrap_or}
 use Rattle.chi_events.specs.declared.event.Event.{Event}
 use Rattle.chi_events.specs.declared.event.EventKind.{EventKind}
 use Rattle.chi_events.specs.declared.event.EventKind.TheVariants.{Request, Data, Reply, Dropped, Refused, Word, Final, Unknown, End}
+use Rattle.chi_events.specs.declared.event.WordTold.{WordTold}
 use Rattle.chi_events.specs.Outstanding.{OutstandingValue}
 use Rattle.chi_judge.specs.Judges.{Keeps}
-use Rattle.chi_judge.specs.Until.{until}
+use Rattle.chi_judge.specs.Until.{cut_before}
+use Rattle.chi_judge.proofs.UntilLists.{until-permutation}
 use Rattle.chi_trace.specs.AtPlaces.{is_in}
 use Rattle.chi_trace.specs.declared.operation.Operation.{Operation}
 use Rattle.chi_trace.specs.declared.words.GranuleWord.{GranuleWord}
 use Rattle.chi_trace.specs.Words.{find_word, word_or_zero}
 use Rattle.chi_watch.specs.declared.followed.Followed.{Followed}
-use Rattle.chi_watch.specs.Changes.{BecomesUnknownWhere, BecomesUnknown, IsSameOrUntouched, IsTouched, IsTouchedAndMarked, IsUnknownSince, IsUpdated}
-use Rattle.chi_watch.specs.Judged.{covers, final_in, final_words, opening_in, openings}
+use Rattle.chi_watch.specs.declared.followed.Gap.{Gap}
+use Rattle.chi_watch.specs.Changes.{BecomesKnown, BecomesUnknownWhere, BecomesUnknown, GranuleBecomesKnown, IsKnownFrom, IsSameOrUntouched, IsTouched, IsTouchedAndMarked, IsUnknownSince, IsUntouched, IsUpdated}
+use Rattle.chi_watch.specs.Judged.{judged_part, tells_word, unknown_at}
 use Rattle.chi_watch.specs.Requests.{StartsBy}
-use Rattle.chi_watch.specs.Watches.{IsGranuleOf, IsUntold, IsWatched, has_final_word}
-use Rattle.chi_watch.proofs.Noted.{begun, finals_more, openings_more, retold, since_first, since_kept, since_same, told_other, told_own}
+use Rattle.chi_watch.specs.Watches.{IsGranuleOf, IsUntold, IsWatched, has_final_word, told_of, unknown_by}
+use Rattle.chi_watch.specs.WordsTold.{covers, final_in, final_words, granule_word, openings, writes_told}
+use Rattle.chi_watch.proofs.FoundWords.{told_other, told_own}
+use Rattle.chi_watch.proofs.MoreParts.{own_of, parts_cut}
+use Rattle.chi_watch.proofs.MoreWords.{opening_told, opening_writes, same_opening}
+use Rattle.chi_watch.proofs.Noted.{IsRetold, begun, is_retold, no_final, one_final, parts_retold, retold, told_same, untold_retold, watched_retold}
+use Rattle.chi_watch.proofs.UnknownTimes.{any_more, cover_tells, unknown_more, unknown_same, unknown_time}
+use Rattle.chi_watch.proofs.WordAgain.{known_again}
 
-one_none : {X Y : Type 0} (h : X → Option Y) (x : X) → h x ≡ None → filter_map h (x ∷ []) ≡ []
-one_none h x is = rw is refl
-
-one_some : {X Y : Type 0} (h : X → Option Y) (x : X) (y : Y) → h x ≡ Some y → filter_map h (x ∷ []) ≡ y ∷ []
-one_some h x y is = rw is refl
+-- a granule of which a word is told: nothing was told of it before, or something that is not told may have written to it, and its
+-- last operation had ended before this time
+abbrev pub TakesWord : ℕ → Option Followed → Type 0
+TakesWord time None = Unit {0}
+TakesWord time (Some f) = (is_some f.unknown_since ≡ true) × (f.last < time)
 
 -- what the granules must be for a word to be told
-abbrev pub Fits : EventKind → (ℕ → Option Followed) → Type 0
-Fits (Word told) old = old told.granule ≡ None
-Fits (Final told) old = has_final_word (old told.granule) ≡ false
-Fits _ old = Unit {0}
+abbrev pub Fits : ℕ → EventKind → (ℕ → Option Followed) → Type 0
+Fits time (Word told) old = TakesWord time (old told.granule)
+Fits time (Final told) old = has_final_word (old told.granule) ≡ false
+Fits time _ old = Unit {0}
 
-module _ (events : List Event) (e : Event) (ended : List Operation) (o : OutstandingValue) (at : o.time ≡ e.time) where
-  no_opening : opening_in e.kind ≡ None → (g : ℕ) → find_word (openings (events ++ e ∷ [])) g ≡ find_word (openings events) g
-  no_opening none g = ap (λ (words : List GranuleWord). find_word words g) (openings_more events e ∙ (ap (λ words. openings events ++ words) (one_none (λ (x : Event). opening_in x.kind) e none) ∙ append-nil (openings events)))
+-- it tells no granule's word but the one at the end, and none of something that is not told
+abbrev IsOfNone : EventKind → Type 0
+IsOfNone k = ((g : ℕ) → covers g k ≡ false) × ((g : ℕ) → tells_word g k ≡ false) × (final_in k ≡ None)
 
-  no_final : final_in e.kind ≡ None → (g : ℕ) → find_word (final_words (events ++ e ∷ [])) g ≡ find_word (final_words events) g
-  no_final none g = ap (λ (words : List GranuleWord). find_word words g) (finals_more events e ∙ (ap (λ words. final_words events ++ words) (one_none (λ (x : Event). final_in x.kind) e none) ∙ append-nil (final_words events)))
-
-  one_opening : (w : GranuleWord) → opening_in e.kind ≡ Some w → openings (events ++ e ∷ []) ≡ openings events ++ w ∷ []
-  one_opening w some = openings_more events e ∙ ap (λ words. openings events ++ words) (one_some (λ (x : Event). opening_in x.kind) e w some)
-
-  one_final : (w : GranuleWord) → final_in e.kind ≡ Some w → final_words (events ++ e ∷ []) ≡ final_words events ++ w ∷ []
-  one_final w some = finals_more events e ∙ ap (λ words. final_words events ++ words) (one_some (λ (x : Event). final_in x.kind) e w some)
-
+module _ (events : List Event) (e : Event) (ended : List Operation) (o : OutstandingValue) (at : o.time ≡ e.time) (times : All (λ (x : Event). x.time ≤ e.time) events) (bound : e.time < 2 ^ 64) where
   abbrev Is : ℕ → Option Followed → Type 0
   Is g x = IsGranuleOf events ended o g x
 
@@ -50,14 +55,19 @@ module _ (events : List Event) (e : Event) (ended : List Operation) (o : Outstan
   Will g x = IsGranuleOf (events ++ e ∷ []) ended o g x
 
   -- an event that tells no word
-  passes : opening_in e.kind ≡ None → final_in e.kind ≡ None → (g : ℕ) (x : Option Followed) → covers g e.kind ≡ false → Is g x → Will g x
-  passes none none_final g x other w = retold events e ended o g x (since_same events e g other) (no_opening none g) (no_final none_final g) w
+  module _ (none : IsOfNone e.kind) where
+    same : (g : ℕ) → IsRetold events e ended g
+    same g = is_retold events e ended g (none.0 g) (none.1 g) (no_final events e none.2 g)
 
-  -- a granule that is watched from its first request on
-  requested_own : opening_in e.kind ≡ None → final_in e.kind ≡ None → (g : ℕ) → covers g e.kind ≡ false → (x : Option Followed) (f : Followed) → IsSameOrUntouched 0 x f → Is g x → Will g (Some f)
-  requested_own none none_final g other None f was w =
-      begun (events ++ e ∷ []) ended o g 0 f (since_same events e g other ∙ w.since) w.none (ap (λ (word : Option ℕ). unwrap_or word 0) (no_opening none g ∙ w.opening)) (no_final none_final g ∙ w.final_word) was
-  requested_own none none_final g other (Some old) f was w = subst (λ (y : Followed). Will g (Some y)) (sym was) (passes none none_final g (Some old) other w)
+    passes : (g : ℕ) (x : Option Followed) → Is g x → Will g x
+    passes g x w = retold events e ended g o x (none.0 g) (same g) w
+
+    -- a granule that is watched from its first request on
+    requested_own : (g : ℕ) (x : Option Followed) (f : Followed) → IsSameOrUntouched 0 x f → Is g x → Will g (Some f)
+    requested_own g None f was w =
+        let now = untold_retold events e ended g (none.0 g) (same g) w in
+        begun (events ++ e ∷ []) ended o g 0 f now.known now.none (ap (λ (word : Option ℕ). unwrap_or word 0) now.opening) now.final_word was
+    requested_own g (Some old) f was w = subst (λ (y : Followed). Will g (Some y)) (sym was) (passes g (Some old) w)
 
   module _ (old new : ℕ → Option Followed) (each : (g : ℕ) → Is g (old g)) where
     moved : (g : ℕ) (x : Option Followed) → new g ≡ x → Will g x → Will g (new g)
@@ -67,101 +77,178 @@ module _ (events : List Event) (e : Event) (ended : List Operation) (o : Outstan
     by_other here others own g = by_test (g == here) refl
       where
         by_test : (b : Bool) → (g == here) ≡ b → Will g (new g)
-        by_test true same = subst (λ (n : ℕ). Will n (new n)) (sym (eqb-true g here same)) own
-        by_test false other = others g (λ same. absurd (true≢false (sym (eq-eqb g here same) ∙ other)))
+        by_test true so = subst (λ (n : ℕ). Will n (new n)) (sym (eqb-true g here so)) own
+        by_test false other = others g (λ so. absurd (true≢false (sym (eq-eqb g here so) ∙ other)))
 
-    touched : opening_in e.kind ≡ None → final_in e.kind ≡ None → ((g : ℕ) → covers g e.kind ≡ false) → (here : ℕ) → IsTouched old new here 0 → (g : ℕ) → Will g (new g)
-    touched none none_final uncovered here t = by_other here
-        (λ g other. moved g (old g) (t.others g other) (passes none none_final g (old g) (uncovered g) (each g)))
-        (moved here (Some t.followed) t.is (requested_own none none_final here (uncovered here) (old here) t.followed t.was (each here)))
+    touched : IsOfNone e.kind → (here : ℕ) → IsTouched old new here 0 → (g : ℕ) → Will g (new g)
+    touched none here t = by_other here
+        (λ g other. moved g (old g) (t.others g other) (passes none g (old g) (each g)))
+        (moved here (Some t.followed) t.is (requested_own none here (old here) t.followed t.was (each here)))
 
-    -- a word before the first request
-    worded : (w : GranuleWord) → e.kind ≡ Word w → old w.granule ≡ None → IsTouched old new w.granule w.word → (g : ℕ) → Will g (new g)
-    worded w is none t = by_other w.granule
-        (λ g other. moved g (old g) (t.others g other) (retold events e ended o g (old g) (since_same events e g (ap (covers g) is))
-        (ap (λ (words : List GranuleWord). find_word words g) (one_opening w (ap opening_in is)) ∙ told_other (openings events) w g (ne_eqb w.granule g (λ same. other (sym same))))
-        (no_final (ap final_in is) g) (each g)))
-        (moved w.granule (Some t.followed) t.is (begun (events ++ e ∷ []) ended o w.granule w.word t.followed (since_same events e w.granule (ap (covers w.granule) is) ∙ untold.since) untold.none
-        (ap (λ (word : Option ℕ). unwrap_or word 0) (ap (λ (words : List GranuleWord). find_word words w.granule) (one_opening w (ap opening_in is)) ∙ told_own (openings events) w untold.opening))
-        (no_final (ap final_in is) w.granule ∙ untold.final_word) (subst (λ (x : Option Followed). IsSameOrUntouched w.word x t.followed) none t.was)))
+    -- a word that is not the one at the end
+    worded : (w : WordTold) → e.kind ≡ Word w → TakesWord e.time (old w.granule) → GranuleBecomesKnown e.time w old new → (g : ℕ) → Will g (new g)
+    worded w is fits t = by_other w.granule
+        (λ g other. moved g (old g) (t.others g other) (retold events e ended g o (old g) (ap (covers g) is)
+        (is_retold events e ended g (ap (covers g) is) (ap (tells_word g) is ∙ ne_eqb w.granule g (λ so. other (sym so))) (no_final events e (ap final_in is) g)) (each g)))
+        (by_case (old w.granule) (new w.granule) fits t.known (each w.granule))
       where
-        untold : IsUntold events ended w.granule
-        untold = subst (Is w.granule) none (each w.granule)
+        final_same : find_word (final_words (events ++ e ∷ [])) w.granule ≡ find_word (final_words events) w.granule
+        final_same = no_final events e (ap final_in is) w.granule
+
+        first : (before f : Followed) → IsUntouched w.word before → IsKnownFrom before.unknown_since e.time w before f → IsUntold events ended w.granule → Will w.granule (Some f)
+        first before f u known untold =
+            subst (λ (y : Followed). Will w.granule (Some y)) (sym (subst (λ (since : Option ℕ). IsKnownFrom since e.time w before f) u.since known))
+            (begun (events ++ e ∷ []) ended o w.granule w.word before
+            (any_more (λ (x : Event). covers w.granule x.kind) events e false (ap (covers w.granule) is) ∙ or_none (list_any (λ (x : Event). covers w.granule x.kind) events) untold.known)
+            (ap (λ (l : List Operation). filter (is_in w.granule) (ended ++ l)) (opening_writes events e w is untold.known) ∙ untold.none)
+            (ap (λ (word : Option ℕ). unwrap_or word 0) (ap (λ (words : List GranuleWord). find_word words w.granule) (opening_told events e w is untold.known) ∙ told_own (openings events) (granule_word w) untold.opening))
+            (final_same ∙ untold.final_word) u)
+          where
+            or_none : (b : Bool) → b ≡ false → (b || false) ≡ false
+            or_none true so = so
+            or_none false so = refl
+
+        again : (before f : Followed) (since : Option ℕ) → before.unknown_since ≡ since → is_some since ≡ true → before.last < e.time → IsKnownFrom since e.time w before f → IsWatched events ended o w.granule before
+            → Will w.granule (Some f)
+        again before f None unknown some later known watched = absurd (true≢false (sym some))
+        again before f (Some from) unknown some later known watched = known_again events e w is bound ended o from before f at final_same unknown later known watched
+
+        by_case : (x y : Option Followed) → TakesWord e.time x → BecomesKnown e.time w x y → Is w.granule x → Will w.granule y
+        by_case x None takes becomes own = absurd becomes
+        by_case None (Some f) takes (before, was, known) own = first before f was known own
+        by_case (Some x) (Some f) takes (before, was, known) own =
+            again before f before.unknown_since refl (ap (λ (y : Followed). is_some y.unknown_since) was ∙ takes.0) (let later : x.last < e.time = takes.1 in subst (λ (y : Followed). y.last < e.time) (sym was) later) known
+            (subst (IsWatched events ended o w.granule) (sym was) own)
 
     -- a word after the last request
-    final_told : (w : GranuleWord) → e.kind ≡ Final w → (f : Followed) → IsWatched events ended o w.granule f → f.final_word ≡ None → Will w.granule (Some (record f { final_word = Some w.word }))
-    final_told w is f base none = record {
-      since = base.since ∙ sym (since_same events e w.granule (ap (covers w.granule) is));
-      keeps = subst (λ (word : Option ℕ). Keeps (unwrap_or word 0 ∷ []) (until f.unknown_since (filter (is_in w.granule) ended)) o.time f.judge) (sym (no_opening (ap opening_in is) w.granule)) base.keeps;
-      latest = base.latest;
-      past = base.past;
-      horizon = base.horizon;
-      shown = base.shown;
-      final_word = sym (ap (λ (words : List GranuleWord). find_word words w.granule) (one_final w (ap final_in is)) ∙ told_own (final_words events) w (sym base.final_word ∙ none));
-    }
+    module _ (w : WordTold) (is : e.kind ≡ Final w) where
+      final_told : (f : Followed) → IsWatched events ended o w.granule f → f.final_word ≡ None → Will w.granule (Some (record f { final_word = Some w.word }))
+      final_told f base none = record {
+        since = base.since ∙ sym (unchanged (2 ^ 64 - 1));
+        gaps = λ time. base.gaps time ∙ sym (unchanged time);
+        gaps_by = base.gaps_by;
+        told = base.told;
+        told_is = subst (λ (l : List Operation). IsPermutation l base.told) (sym (parts_retold events e ended w.granule unchanged told)) base.told_is;
+        keeps = subst (λ (word : Option ℕ). Keeps (unwrap_or word 0 ∷ []) base.told o.time f.judge) (sym (same_opening events e w.granule (ap (tells_word w.granule) is))) base.keeps;
+        started = subst (All (λ (op : Operation). op.start ≤ f.last)) (sym told) base.started;
+        last_by = base.last_by;
+        latest = base.latest;
+        past = base.past;
+        horizon = base.horizon;
+        shown = base.shown;
+        final_word = sym (ap (λ (words : List GranuleWord). find_word words w.granule) (one_final events e (granule_word w) (ap final_in is)) ∙ told_own (final_words events) (granule_word w) (sym base.final_word ∙ none));
+      }
+        where
+          told : told_of (events ++ e ∷ []) ended w.granule ≡ told_of events ended w.granule
+          told = told_same events e ended w.granule (ap (tells_word w.granule) is)
 
-    final_own : (w : GranuleWord) → e.kind ≡ Final w → (x : Option Followed) (f : Followed) → IsSameOrUntouched 0 x f → has_final_word x ≡ false → Is w.granule x
-        → Will w.granule (Some (record f { final_word = Some w.word }))
-    final_own w is None f u none untold =
-        final_told w is f (begun events ended o w.granule 0 f untold.since untold.none (ap (λ (word : Option ℕ). unwrap_or word 0) untold.opening) untold.final_word u) u.final_word
-    final_own w is (Some before) f same none watched =
-        final_told w is f (subst (IsWatched events ended o w.granule) (sym same) watched) (ap (λ (y : Followed). y.final_word) same ∙ no_final_word before.final_word none)
-      where
-        no_final_word : (x : Option ℕ) → is_some x ≡ false → x ≡ None
-        no_final_word None so = refl
-        no_final_word (Some v) so = absurd (true≢false so)
+          unchanged : (time : ℕ) → unknown_at (events ++ e ∷ []) w.granule time ≡ unknown_at events w.granule time
+          unchanged time = unknown_same events e w.granule time (ap (λ k. tells_word w.granule k && nat_le e.time time) is) (ap (covers w.granule) is)
 
-    ended_with : (w : GranuleWord) → e.kind ≡ Final w → has_final_word (old w.granule) ≡ false → IsTouchedAndMarked w.granule (λ f. record f { final_word = Some w.word }) old new → (g : ℕ) → Will g (new g)
-    ended_with w is none t = by_other w.granule
-        (λ g other. moved g (old g) (t.others g other) (retold events e ended o g (old g) (since_same events e g (ap (covers g) is)) (no_opening (ap opening_in is) g)
-        (ap (λ (words : List GranuleWord). find_word words g) (one_final w (ap final_in is)) ∙ told_other (final_words events) w g (ne_eqb w.granule g (λ same. other (sym same)))) (each g)))
-        (moved w.granule (Some (record t.followed { final_word = Some w.word })) t.is (final_own w is (old w.granule) t.followed t.was none (each w.granule)))
+      final_own : (x : Option Followed) (f : Followed) → IsSameOrUntouched 0 x f → has_final_word x ≡ false → Is w.granule x → Will w.granule (Some (record f { final_word = Some w.word }))
+      final_own None f u none untold =
+          final_told f (begun events ended o w.granule 0 f untold.known untold.none (ap (λ (word : Option ℕ). unwrap_or word 0) untold.opening) untold.final_word u) u.final_word
+      final_own (Some before) f so none watched =
+          final_told f (subst (IsWatched events ended o w.granule) (sym so) watched) (ap (λ (y : Followed). y.final_word) so ∙ no_final_word before.final_word none)
+        where
+          no_final_word : (x : Option ℕ) → is_some x ≡ false → x ≡ None
+          no_final_word None was = refl
+          no_final_word (Some v) was = absurd (true≢false was)
+
+      ended_with : has_final_word (old w.granule) ≡ false → IsTouchedAndMarked w.granule (λ f. record f { final_word = Some w.word }) old new → (g : ℕ) → Will g (new g)
+      ended_with none t = by_other w.granule
+          (λ g other. moved g (old g) (t.others g other) (retold events e ended g o (old g) (ap (covers g) is)
+          (is_retold events e ended g (ap (covers g) is) (ap (tells_word g) is)
+          (ap (λ (words : List GranuleWord). find_word words g) (one_final events e (granule_word w) (ap final_in is)) ∙ told_other (final_words events) (granule_word w) g (ne_eqb w.granule g (λ so. other (sym so))))) (each g)))
+          (moved w.granule (Some (record t.followed { final_word = Some w.word })) t.is (final_own (old w.granule) t.followed t.was none (each w.granule)))
 
     -- something that is not told
-    cut_before_it : opening_in e.kind ≡ None → final_in e.kind ≡ None → (g : ℕ) → covers g e.kind ≡ true → (before f : Followed) (u : Option ℕ) → before.unknown_since ≡ u
-        → IsUnknownSince u e.time before f → IsWatched events ended o g before → Will g (Some f)
-    cut_before_it none none_final g covered before f None known cut w = record {
-      since = cut.since ∙ sym (since_first events e g covered (sym w.since ∙ known));
-      keeps =
-          subst (λ (word : Option ℕ). Keeps (unwrap_or word 0 ∷ []) (until f.unknown_since (filter (is_in g) ended)) o.time f.judge) (sym (no_opening none g))
-          (subst (λ (u : Option ℕ). Keeps (word_or_zero (openings events) g ∷ []) (until u (filter (is_in g) ended)) o.time f.judge) (sym cut.since)
-          (cut.keeps (word_or_zero (openings events) g ∷ []) (filter (is_in g) ended) o.time (omega (arith, w.past, at))
-          (subst (λ (u : Option ℕ). Keeps (word_or_zero (openings events) g ∷ []) (until u (filter (is_in g) ended)) o.time before.judge) known w.keeps)));
-      latest = omega (arith, cut.latest, w.latest);
-      past = omega (arith, cut.horizon, w.past);
-      horizon = subst (StartsBy o.requests g) (sym cut.horizon) w.horizon;
-      shown = cut.shown ∙ w.shown;
-      final_word = cut.final_word ∙ (w.final_word ∙ sym (no_final none_final g));
-    }
-    cut_before_it none none_final g covered before f (Some earlier) unknown same w =
-        subst (λ (x : Followed). Will g (Some x)) (sym same)
-        (retold events e ended o g (Some before) (since_kept events e g earlier covered (sym w.since ∙ unknown)) (no_opening none g) (no_final none_final g) w)
+    module _ (none : final_in e.kind ≡ None) (g : ℕ) (covered : covers g e.kind ≡ true) where
+      wordless : tells_word g e.kind ≡ false
+      wordless = cover_tells g g e.kind covered
 
-    unknown : opening_in e.kind ≡ None → final_in e.kind ≡ None → (g : ℕ) → covers g e.kind ≡ true → (x y : Option Followed) → BecomesUnknown e.time x y → Is g x → Will g y
-    unknown none none_final g covered x None was w = absurd was
-    unknown none none_final g covered x (Some f) (before, was, since) w = cut_before_it none none_final g covered before f before.unknown_since refl since (watched x was w)
-      where
-        watched : (x : Option Followed) → IsSameOrUntouched 0 x before → Is g x → IsWatched events ended o g before
-        watched None untouched untold = begun events ended o g 0 before untold.since untold.none (ap (λ (word : Option ℕ). unwrap_or word 0) untold.opening) untold.final_word untouched
-        watched (Some old) same is = subst (IsWatched events ended o g) (sym same) is
+      more : (time : ℕ) → unknown_at (events ++ e ∷ []) g time ≡ option_or (unknown_at events g time) (Some e.time)
+      more time =
+          unknown_more g time e events (ap (λ b. b && nat_le e.time time) wordless)
+          ∙ ap (λ b. option_or (unknown_at events g time) (cond b (Some e.time) None)) covered
 
-    forgotten : opening_in e.kind ≡ None → final_in e.kind ≡ None → ((g : ℕ) → BecomesUnknownWhere (covers g e.kind) e.time (old g) (new g)) → (g : ℕ) → Will g (new g)
-    forgotten none none_final all g = by_test (covers g e.kind) refl
+      told : told_of (events ++ e ∷ []) ended g ≡ told_of events ended g
+      told = told_same events e ended g wordless
+
+      cut_before_it : (before f : Followed) (u : Option ℕ) → before.unknown_since ≡ u → IsUnknownSince u e.time before f → IsWatched events ended o g before → Will g (Some f)
+      cut_before_it before f None known cut w = record {
+        since = cut.since ∙ sym (more (2 ^ 64 - 1) ∙ ap (λ x. option_or x (Some e.time)) (sym w.since ∙ known));
+        gaps = λ time.
+            ap₂ (λ (gaps : Vec Gap Global) (since : Option ℕ). unknown_by gaps.items since time) cut.gaps cut.since
+            ∙ (from_then (find (λ (gap : Gap). nat_lt time gap.until) before.gaps.items)
+            ∙ (ap (λ x. option_or x (Some e.time)) (ap (λ (since : Option ℕ). unknown_by before.gaps.items since time) (sym known) ∙ w.gaps time) ∙ sym (more time)));
+        gaps_by = subst (λ (gaps : Vec Gap Global). All (λ (gap : Gap). gap.until ≤ f.last) gaps.items) (sym cut.gaps)
+            (subst (λ (n : ℕ). All (λ (gap : Gap). gap.until ≤ n) before.gaps.items) (sym cut.last) w.gaps_by);
+        told = cut_before e.time w.told;
+        told_is = subst (λ (l : List Operation). IsPermutation l (cut_before e.time w.told)) (sym parts)
+            (until-permutation (Some e.time) (flat_map (judged_part events) (told_of events ended g)) w.told w.told_is);
+        keeps = subst (λ (word : Option ℕ). Keeps (unwrap_or word 0 ∷ []) (cut_before e.time w.told) o.time f.judge) (sym (same_opening events e g wordless))
+            (cut.keeps (word_or_zero (openings events) g ∷ []) w.told o.time (omega (arith, w.past, at)) w.keeps);
+        started = subst (All (λ (op : Operation). op.start ≤ f.last)) (sym told) (subst (λ (n : ℕ). All (λ (op : Operation). op.start ≤ n) (told_of events ended g)) (sym cut.last) w.started);
+        last_by = omega (arith, cut.last, w.last_by);
+        latest = omega (arith, cut.latest, w.latest);
+        past = omega (arith, cut.horizon, w.past);
+        horizon = subst (StartsBy o.requests g) (sym cut.horizon) w.horizon;
+        shown = cut.shown ∙ w.shown;
+        final_word = cut.final_word ∙ (w.final_word ∙ sym (no_final events e none g));
+      }
+        where
+          from_then : (x : Option Gap) → option_or (option_map (λ (gap : Gap). gap.since) x) (Some e.time) ≡ option_or (option_or (option_map (λ (gap : Gap). gap.since) x) None) (Some e.time)
+          from_then None = refl
+          from_then (Some gap) = refl
+
+          parts : flat_map (judged_part (events ++ e ∷ [])) (told_of (events ++ e ∷ []) ended g) ≡ cut_before e.time (flat_map (judged_part events) (told_of events ended g))
+          parts =
+              ap (flat_map (judged_part (events ++ e ∷ []))) told
+              ∙ parts_cut events e g e.time more (λ time. unknown_time events g time e.time times) (told_of events ended g) (own_of g (ended ++ writes_told events))
+      cut_before_it before f (Some earlier) unknown so w =
+          subst (λ (x : Followed). Will g (Some x)) (sym so)
+          (watched_retold events e ended g o before (record {
+            at = λ time. more time ∙ some (unknown_at events g time) (option_map (λ (gap : Gap). gap.since) (find (λ (gap : Gap). nat_lt time gap.until) before.gaps.items)) (sym (w.gaps time) ∙ ap (λ (since : Option ℕ). unknown_by before.gaps.items since time) unknown);
+            opening = same_opening events e g wordless;
+            told = told;
+            final_word = no_final events e none g;
+          }) w)
+        where
+          some : (x y : Option ℕ) → x ≡ option_or y (Some earlier) → option_or x (Some e.time) ≡ x
+          some None None is = absurd (true≢false (ap is_some (sym is)))
+          some None (Some y) is = absurd (true≢false (ap is_some (sym is)))
+          some (Some x) y is = refl
+
+      unknown : (x y : Option Followed) → BecomesUnknown e.time x y → Is g x → Will g y
+      unknown x None was w = absurd was
+      unknown x (Some f) (before, was, since) w = cut_before_it before f before.unknown_since refl since (watched x was w)
+        where
+          watched : (x : Option Followed) → IsSameOrUntouched 0 x before → Is g x → IsWatched events ended o g before
+          watched None untouched untold = begun events ended o g 0 before untold.known untold.none (ap (λ (word : Option ℕ). unwrap_or word 0) untold.opening) untold.final_word untouched
+          watched (Some old) so is = subst (IsWatched events ended o g) (sym so) is
+
+    forgotten : final_in e.kind ≡ None → ((g : ℕ) → tells_word g e.kind ≡ false) → ((g : ℕ) → BecomesUnknownWhere (covers g e.kind) e.time (old g) (new g)) → (g : ℕ) → Will g (new g)
+    forgotten none wordless all g = by_test (covers g e.kind) refl
       where
         by_test : (b : Bool) → covers g e.kind ≡ b → Will g (new g)
-        by_test true covered = unknown none none_final g covered (old g) (new g) ((all g).unknown covered) (each g)
-        by_test false other = moved g (old g) ((all g).same other) (passes none none_final g (old g) other (each g))
+        by_test true covered = unknown none g covered (old g) (new g) ((all g).unknown covered) (each g)
+        by_test false other = moved g (old g) ((all g).same other) (retold events e ended g o (old g) other (is_retold events e ended g other (wordless g) (no_final events e none g)) (each g))
 
-    stays : opening_in e.kind ≡ None → final_in e.kind ≡ None → ((g : ℕ) → covers g e.kind ≡ false) → ((g : ℕ) → new g ≡ old g) → (g : ℕ) → Will g (new g)
-    stays none none_final uncovered same g = moved g (old g) (same g) (passes none none_final g (old g) (uncovered g) (each g))
+    stays : IsOfNone e.kind → ((g : ℕ) → new g ≡ old g) → (g : ℕ) → Will g (new g)
+    stays none so g = moved g (old g) (so g) (passes none g (old g) (each g))
 
-    pub noted : (k : EventKind) → e.kind ≡ k → Fits k old → IsUpdated e.time k old new → (g : ℕ) → Will g (new g)
-    noted (Request r) is fits t = touched (ap opening_in is) (ap final_in is) (λ g. ap (covers g) is) (r.fields.addr / 8) t
+    of_none : (k : EventKind) → e.kind ≡ k → IsOfNone k → IsOfNone e.kind
+    of_none k is none = (λ g. ap (covers g) is ∙ none.0 g, λ g. ap (tells_word g) is ∙ none.1 g, ap final_in is ∙ none.2)
+
+    pub noted : (k : EventKind) → e.kind ≡ k → Fits e.time k old → IsUpdated e.time k old new → (g : ℕ) → Will g (new g)
+    noted (Request r) is fits t = touched (of_none (Request r) is (λ g. refl, λ g. refl, refl)) (r.fields.addr / 8) t
     noted (Word w) is fits t = worded w is fits t
     noted (Final w) is fits t = ended_with w is fits t
-    noted (Unknown addr len) is fits t = forgotten (ap opening_in is) (ap final_in is) (λ g. subst (λ (k : EventKind). BecomesUnknownWhere (covers g k) e.time (old g) (new g)) (sym is) (t g))
-    noted (Data p) is fits t = stays (ap opening_in is) (ap final_in is) (λ g. ap (covers g) is) t
-    noted (Reply c) is fits t = stays (ap opening_in is) (ap final_in is) (λ g. ap (covers g) is) t
-    noted (Dropped id) is fits t = stays (ap opening_in is) (ap final_in is) (λ g. ap (covers g) is) t
-    noted (Refused id reason) is fits t = stays (ap opening_in is) (ap final_in is) (λ g. ap (covers g) is) t
-    noted End is fits t = stays (ap opening_in is) (ap final_in is) (λ g. ap (covers g) is) t
+    noted (Unknown addr len) is fits t =
+        forgotten (ap final_in is) (λ g. ap (tells_word g) is) (λ g. subst (λ (k : EventKind). BecomesUnknownWhere (covers g k) e.time (old g) (new g)) (sym is) (t g))
+    noted (Data p) is fits t = stays (of_none (Data p) is (λ g. refl, λ g. refl, refl)) t
+    noted (Reply c) is fits t = stays (of_none (Reply c) is (λ g. refl, λ g. refl, refl)) t
+    noted (Dropped id) is fits t = stays (of_none (Dropped id) is (λ g. refl, λ g. refl, refl)) t
+    noted (Refused id reason) is fits t = stays (of_none (Refused id reason) is (λ g. refl, λ g. refl, refl)) t
+    noted End is fits t = stays (of_none End is (λ g. refl, λ g. refl, refl)) t

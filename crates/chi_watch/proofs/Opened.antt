@@ -1,5 +1,5 @@
 -- operations that are open at the end, each told of its granule
-use Rattle.std.proofs.Common.{◌≡◌, ℕ, ◌+◌, ◌-◌, ◌/◌, ◌^◌, ◌<◌, ◌≤◌, ◌==◌, ◌⊎◌, Bool, true, false, cond, List, [], ◌∷◌, ◌++◌, All, Option, Some, None, IfSome, IsTrue, is_some, filter, inl, inr, refl, sym, ap, subst, ◌∙◌, arith, eqb-true, eq-eqb, true≢false}
+use Rattle.std.proofs.Common.{◌≡◌, ℕ, ◌+◌, ◌-◌, ◌/◌, ◌^◌, ◌<◌, ◌≤◌, ◌==◌, ◌⊎◌, Bool, true, false, cond, List, [], ◌∷◌, ◌++◌, All, Option, Some, None, IfSome, IsTrue, is_some, filter, inl, inr, refl, sym, ap, subst, ◌∙◌, arith, append-nil, eqb-true, eq-eqb, true≢false}
 use Rattle.std.proofs.lemmas.List.Elements.{All-contains, All-contains_itself, All-weaker}
 use Rattle.std.specs.List.{Contains}
 use Rattle.chi_fields.specs.Access.{Access}
@@ -14,7 +14,7 @@ use Rattle.chi_trace.specs.declared.operation.Operation.{Operation}
 use Rattle.chi_watch.specs.Changes.{CanEnd, HasOneMore, IsClosed}
 use Rattle.chi_watch.specs.Endings.{AreToldTo, CanClose, TakesOpen}
 use Rattle.chi_watch.specs.Requests.{granule_of_request}
-use Rattle.chi_watch.specs.Watches.{IsGranuleOf, WatchValue, Watches, granule}
+use Rattle.chi_watch.specs.Watches.{IsGranuleOf, WatchValue, Watches, granule, unknown_by}
 use Rattle.chi_watch.specs.declared.followed.Followed.{Followed}
 use Rattle.chi_watch.proofs.ToldAtTheEnd.{told_none}
 
@@ -38,20 +38,26 @@ opened granules p op can = by_access p.access can.at can.within
 
 -- what a granule takes that is told it
 module _ (op : Operation) (lasting : op.start ≤ op.end) (within : op.access.addr + op.access.len ≤ 2 ^ 52) (end : op.end ≡ 2 ^ 64 - 1) where
-  can_end : (f : Followed) → (f.judge.horizon ≤ op.start) × (f.judge.latest ≤ 2 ^ 64 - 1) → CanEnd 0 f op
+  can_end : (f : Followed) → (f.judge.horizon ≤ op.start) × (f.judge.latest ≤ 2 ^ 64 - 1) → CanEnd 0 f.judge op
   can_end f takes = record { past = takes.0; starts = omega arith; ends = subst (λ n. f.judge.latest ≤ n) (sym end) takes.1; lasting = lasting; within = within }
 
+  part : Followed → List Operation
+  part f = until (unknown_by f.gaps.items f.unknown_since op.start) (op ∷ [])
+
   told_to : (x y : Option Followed) → TakesOpen op.start x → IsClosed op 0 x y → AreToldTo (op ∷ []) x y
+  unfolding part
   told_to None y takes is = absurd takes
   told_to (Some f) None takes is = absurd is
   told_to (Some f) (Some h) takes is =
       let t = is.told (can_end f takes) in
       record {
         keeps = λ words told kept.
-            subst (λ n. Keeps words (told ++ until f.unknown_since (op ∷ [])) n h.judge) end (t.keeps words told (subst (λ n. Keeps words told n f.judge) (sym end) kept));
-        shown = t.shown;
+            subst (λ (l : List Operation). Keeps words (told ++ l) (2 ^ 64 - 1) h.judge) (sym (append-nil (part f)))
+            (subst (λ n. Keeps words (told ++ part f) n h.judge) end (t.heard.keeps words told (subst (λ n. Keeps words told n f.judge) (sym end) kept)));
+        shown = t.heard.shown;
         final_word = t.final_word;
         since = t.since;
+        gaps = t.gaps;
       }
 
   takes_on : (start : ℕ) (x y : Option Followed) → TakesOpen op.start x → IsClosed op 0 x y → TakesOpen start x → TakesOpen start y
@@ -59,8 +65,8 @@ module _ (op : Operation) (lasting : op.start ≤ op.end) (within : op.access.ad
   takes_on start (Some f) None takes is other = absurd is
   takes_on start (Some f) (Some h) takes is other =
       let t = is.told (can_end f takes) in (
-        horizon f.judge.horizon h.judge.horizon other.0 t.horizon_is,
-        subst (λ n. h.judge.latest ≤ n) end t.latest,
+        horizon f.judge.horizon h.judge.horizon other.0 t.heard.horizon_is,
+        subst (λ n. h.judge.latest ≤ n) end t.heard.latest,
       )
     where
       horizon : (from to : ℕ) → from ≤ start → (to ≤ 0) ⊎ (to ≡ from) → to ≤ start

@@ -14,12 +14,13 @@ use Rattle.chi_trace.specs.AtPlaces.{GranulesStandAlone}
 use Rattle.chi_trace.specs.declared.operation.Operation.{Operation}
 use Rattle.chi_trace.specs.Words.{word_or_zero}
 use Rattle.chi_watch.specs.Endings.{IsExplainable}
-use Rattle.chi_watch.specs.Judged.{judged, openings}
+use Rattle.chi_watch.specs.Judged.{judged}
+use Rattle.chi_watch.specs.WordsTold.{openings}
 use Rattle.chi_watch.specs.Reaching.{IsOfSomeTrace, IsUnreachedIn, ReachesBy}
 use Rattle.chi_watch.specs.Watches.{CanBeJudged, HasStopped, HasTaken, IsGranuleOf, IsUnexplained, WatchValue, granule}
 use Rattle.chi_watch.specs.declared.ending.FoundAtEnd.{FoundAtEnd}
 use Rattle.chi_watch.specs.declared.followed.Followed.{Followed}
-use Rattle.chi_watch.proofs.Found.{keeps_all, not_found_is}
+use Rattle.chi_watch.proofs.Found.{AreAllKept, keeps_all, not_found_is}
 use Rattle.chi_watch.proofs.Verdicts.{is_judge}
 
 -- what is said of the operations that are kept, whichever it is
@@ -37,9 +38,12 @@ undecided_weaker Undecided f is = f is
 
 -- the operations of a granule that can be judged count as told
 pub judged_here : OperationsAreTold → (events : List Event) (w : WatchValue) → All (IsOpen w.outstanding.time) w.outstanding.requests → HasTaken events w
-    → (g : ℕ) (f : Followed) → granule w g ≡ Some f → f.unknown_since ≡ None → CanBeJudged w g → IsJudgeOf (judged events) g (word_or_zero (openings events) g) f.judge
-judged_here law events w are_open (ended, is) g f here since can =
-    is_judge law events ended w.outstanding g is.tells (2 ^ 64 - 1) f.judge (keeps_all events ended w are_open is g f here since can)
+    → (g : ℕ) (f : Followed) → granule w g ≡ Some f → CanBeJudged w g → IsJudgeOf (judged events) g (word_or_zero (openings events) g) f.judge
+judged_here law events w are_open (ended, is) g f here can =
+    is_judge law events ended w.outstanding g is.tells (2 ^ 64 - 1) f.judge all.told all.are all.keeps
+  where
+    all : AreAllKept events ended w.outstanding g f
+    all = keeps_all events ended w are_open is g f here can
 
 -- so many are shown of one that is watched
 pub shown_here : (events : List Event) (w : WatchValue) → HasTaken events w → (g : ℕ) (f : Followed) → granule w g ≡ Some f → f.judge.shown ≡ 16

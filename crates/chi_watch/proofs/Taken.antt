@@ -1,25 +1,33 @@
 -- what a watch knows once it took an event
-use Rattle.std.specs.Prelude.{◌+◌, ◌-◌, if◌then◌else◌, length, min, option_and_then, option_to_list}
-use Rattle.std.proofs.Common.{◌≡◌, ℕ, ◌/◌, ◌^◌, ◌==◌, ◌<◌, ◌≤◌, Bool, true, false, List, [], ◌∷◌, ◌++◌, All, Option, Some, None, IfSome, IsTrue, is_some, inl, inr, refl, sym, ap, subst, ◌∙◌, eqb-true, eq-eqb, true≢false, arith, length-append}
+use Rattle.std.specs.Prelude.{◌+◌, ◌-◌, if◌then◌else◌, is_none, length, min, option_and_then, option_map, option_to_list}
+use Rattle.std.proofs.Common.{◌≡◌, ℕ, ◌/◌, ◌^◌, ◌==◌, ◌<◌, ◌≤◌, ◌||◌, nat_le, Bool, true, false, List, [], ◌∷◌, ◌++◌, All, Option, Some, None, IfSome, IsTrue, is_some, inl, inr, refl, sym, ap, subst, ◌∙◌, eqb-true, eq-eqb, true≢false, arith, length-append}
 use Rattle.std.specs.List.{list_any}
+use Rattle.std.proofs.lemmas.Bool.{leb-false, or_parts}
 use Rattle.std.proofs.lemmas.List.Elements.{All-contains, All-pop, All-weaker}
 use Rattle.chi_events.specs.declared.event.Event.{Event}
 use Rattle.chi_events.specs.declared.event.EventKind.{EventKind}
 use Rattle.chi_events.specs.declared.event.EventKind.TheVariants.{Request, Data, Reply, Dropped, Refused, Word, Final, Unknown, End}
 use Rattle.chi_events.specs.declared.event.Requested.{Requested}
 use Rattle.chi_events.specs.declared.outstanding.Open.{Open}
-use Rattle.chi_events.specs.Outstanding.{IsEndOf, IsEvent, OutstandingValue, StaysOrStarts, Tells}
+use Rattle.chi_events.specs.Outstanding.{IsEndOf, IsEndOfAbout, IsEvent, OutstandingValue, StaysOrStarts, Tells}
 use Rattle.chi_events.specs.RequestEvents.{requested}
 use Rattle.chi_trace.specs.Granules.{granule_of}
 use Rattle.chi_trace.specs.declared.operation.Operation.{Operation}
 use Rattle.chi_watch.specs.declared.followed.Followed.{Followed}
+use Rattle.chi_events.specs.declared.event.WordTold.{WordTold}
+use Rattle.chi_events.specs.Outstanding.{fault_of as outstanding_fault}
+use Rattle.std.specs.Option.{option_or}
+use Rattle.chi_watch.specs.Faults.{as_watch_fault}
+use Rattle.chi_watch.specs.declared.fault.WatchFault.{WatchFault}
 use Rattle.chi_watch.specs.declared.fault.WatchFault.TheVariants as fault
-use Rattle.chi_watch.specs.Changes.{IsClosed, IsClosedBy, BecomesUnknown, IsUpdated, OthersStay}
-use Rattle.chi_watch.specs.Judged.{covers, unknown_since}
+use Rattle.chi_watch.specs.Changes.{BecomesKnown, IsClosed, IsClosedBy, BecomesUnknown, IsUpdated, OthersStay}
+use Rattle.chi_watch.specs.Judged.{unknown_at, unknown_since}
+use Rattle.chi_watch.specs.WordsTold.{covers}
 use Rattle.chi_watch.specs.Requests.{granule_of_request}
-use Rattle.chi_watch.specs.Watches.{HasTaken, IsGranuleOf, Takes, WatchValue, Watches, granule, granule_fault, has_final_word}
+use Rattle.chi_watch.specs.Watches.{HasTaken, IsGranuleOf, Takes, WatchValue, Watches, granule, fault_of, granule_fault, has_final_word, unknown_by, unknown_in, word_fault}
 use Rattle.chi_watch.proofs.Closing.{closed}
-use Rattle.chi_watch.proofs.NotedKinds.{Fits, noted}
+use Rattle.chi_watch.proofs.NotedKinds.{Fits, TakesWord, noted}
+use Rattle.chi_watch.proofs.UnknownTimes.{unknown_covered, unknown_none}
 
 -- a granule is watched after an operation ended just where it was before, and its word at the end is told just where it was
 module _ (requests : List Open) (old new : ℕ → Option Followed) where
@@ -60,7 +68,15 @@ module _ (old new : ℕ → Option Followed) where
 
   noted_some : (time : ℕ) (k : EventKind) → IsUpdated time k old new → (g : ℕ) → IsTrue (is_some (old g)) → IsTrue (is_some (new g))
   noted_some time (Request r) t g some = others_some (r.fields.addr / 8) t.followed t.is t.others g some
-  noted_some time (Word w) t g some = others_some w.granule t.followed t.is t.others g some
+  noted_some time (Word w) t g some = by_granule (g == w.granule) refl
+    where
+      is_watched : (x y : Option Followed) → BecomesKnown time w x y → IsTrue (is_some y)
+      is_watched x None is = absurd is
+      is_watched x (Some f) is = refl
+
+      by_granule : (b : Bool) → (g == w.granule) ≡ b → IsTrue (is_some (new g))
+      by_granule true same = let at : g ≡ w.granule = eqb-true g w.granule same in rw at (is_watched (old w.granule) (new w.granule) t.known)
+      by_granule false other = ap is_some (t.others g (λ same. absurd (true≢false (sym (eq-eqb g w.granule same) ∙ other)))) ∙ some
   noted_some time (Final w) t g some = others_some w.granule (record t.followed { final_word = Some w.word }) t.is t.others g some
   noted_some time (Unknown addr len) t g some = by_test (covers g (Unknown addr len)) refl
     where
@@ -94,9 +110,16 @@ pub none_of : {F : Type 0} (b : Bool) (f : F) (rest : Option F) → (if b then S
 none_of true f rest is = absurd (true≢false (ap is_some is))
 none_of false f rest is = refl
 
-none_is : {X : Type 0} (x : Option X) → is_some x ≡ false → x ≡ None
-none_is None is = refl
-none_is (Some x) is = absurd (true≢false is)
+-- a word may be told of the granule
+takes_word : (time g : ℕ) (x : Option Followed) (is_open : Bool) → word_fault time x is_open ≡ None → TakesWord time x
+takes_word time g None is_open none = tt
+takes_word time g (Some f) is_open none = by_test (is_some f.final_word) f.unknown_since none
+  where
+    by_test : (b : Bool) (since : Option ℕ)
+        → (if b || is_none since then Some fault.WordLate else if is_open || nat_le time f.last then Some fault.WordEarly else None) ≡ None → (is_some since ≡ true) × (f.last < time)
+    by_test true since so = absurd (true≢false (ap is_some so))
+    by_test false None so = absurd (true≢false (ap is_some so))
+    by_test false (Some from) so = (refl, leb-false time f.last (or_parts is_open (nat_le time f.last) (none_of (is_open || nat_le time f.last) fault.WordEarly None so)).1)
 
 module _ (events : List Event) (ended : List Operation) (w : WatchValue) (e : Event) (o : OutstandingValue) (op : Option Operation) (mid : ℕ → Option Followed) (final_word : List (ℕ × Followed)) (count : ℕ) where
   abbrev now : WatchValue
@@ -106,31 +129,44 @@ module _ (events : List Event) (ended : List Operation) (w : WatchValue) (e : Ev
   counted : count ≡ min (w.ended + length (option_to_list op)) (2 ^ 64 - 1) → w.ended ≡ min (length ended) (2 ^ 64 - 1) → count ≡ min (length (ended ++ option_to_list op)) (2 ^ 64 - 1)
   counted more before = omega (arith, more, before, length-append ended (option_to_list op))
 
-  fits : IsClosedBy op o.requests (granule w) mid → (k : EventKind) → granule_fault w k ≡ None → Fits k mid
-  fits c (Word told) is = none_is (mid told.granule) (same_some o.requests (granule w) mid op c told.granule ∙ none_of (is_some (granule w told.granule)) fault.WordLate None is)
-  fits c (Final told) is =
+  -- no operation ends by a word that is told
+  fits : IsClosedBy op o.requests (granule w) mid → (k : EventKind) → IfSome op (IsEndOfAbout w.outstanding.requests k) → granule_fault w e.time k ≡ None → Fits e.time k mid
+  fits c (Word told) about is = same_takes op about c
+    where
+      same_takes : (x : Option Operation) → IfSome x (IsEndOfAbout w.outstanding.requests (Word told)) → IsClosedBy x o.requests (granule w) mid → TakesWord e.time (mid told.granule)
+      same_takes None ends closed_by =
+          subst (TakesWord e.time) (sym (closed_by told.granule))
+          (takes_word e.time told.granule (granule w told.granule) (list_any (λ p. granule_of_request p == told.granule) w.outstanding.requests) is)
+      same_takes (Some ended_op) ends closed_by = absurd (true≢false (ap is_some (sym ends.is)))
+  fits c (Final told) about is =
       same_final_word o.requests (granule w) mid op c told.granule
       ∙ none_of (has_final_word (granule w told.granule)) fault.FinalTwice (if list_any (λ p. granule_of_request p == told.granule) w.outstanding.requests then Some fault.FinalEarly else None) is
-  fits c (Request r) is = tt
-  fits c (Unknown addr len) is = tt
-  fits c (Data p) is = tt
-  fits c (Reply r) is = tt
-  fits c (Dropped id) is = tt
-  fits c (Refused id reason) is = tt
-  fits c End is = tt
+  fits c (Request r) about is = tt
+  fits c (Unknown addr len) about is = tt
+  fits c (Data p) about is = tt
+  fits c (Reply r) about is = tt
+  fits c (Dropped id) about is = tt
+  fits c (Refused id reason) about is = tt
+  fits c End about is = tt
 
-  pub taken : granule_fault w e.kind ≡ None → o.time ≡ e.time → w.outstanding.time ≤ e.time → All (StaysOrStarts w.outstanding.requests e) o.requests → IfSome op (IsEndOf w.outstanding.requests e.time)
+  pub taken : granule_fault w e.time e.kind ≡ None → o.time ≡ e.time → w.outstanding.time ≤ e.time → All (StaysOrStarts w.outstanding.requests e) o.requests → IfSome op (IsEndOf w.outstanding.requests e.time) → IfSome op (IsEndOfAbout w.outstanding.requests e.kind)
       → IsClosedBy op o.requests (granule w) mid → IsUpdated e.time e.kind mid (granule now) → Tells (events ++ e ∷ []) (ended ++ option_to_list op) o
       → count ≡ min (w.ended + length (option_to_list op)) (2 ^ 64 - 1) → Watches events ended w → Watches (events ++ e ∷ []) (ended ++ option_to_list op) now
-  taken none at later stay ends c t tells more is = record {
+  taken none at later stay ends about c t tells more is = record {
     tells = tells;
-    time = subst (λ n. n < 2 ^ 64) (sym at) (All-pop IsEvent (events ++ e ∷ []) events (Some e) refl tells.bounds).1.time;
-    each = noted events e (ended ++ option_to_list op) o at mid (granule now)
-        (λ g. closed events ended w.outstanding o e at later stay (granule w) mid op ends is.requested c g (is.each g)) e.kind refl (fits c e.kind none) t;
+    time = subst (λ n. n < 2 ^ 64) (sym at) last.time;
+    each = noted events e (ended ++ option_to_list op) o at (All-weaker (λ (x : Event). x.time ≤ o.time) (λ (x : Event). x.time ≤ e.time) (λ x by. omega (arith, by, at)) events earlier) last.time mid (granule now)
+        (λ g. closed events ended w.outstanding o e at later stay (granule w) mid op ends is.requested c g (is.each g)) e.kind refl (fits c e.kind about none) t;
     requested = All-weaker (StaysOrStarts w.outstanding.requests e) (λ (p : Open). IsTrue (is_some (granule now (granule_of_request p)))) each o.requests stay;
     count = counted more is.count;
   }
     where
+      last : IsEvent e
+      last = (All-pop IsEvent (events ++ e ∷ []) events (Some e) refl tells.bounds).1
+
+      earlier : All (λ (x : Event). x.time ≤ o.time) events
+      earlier = (All-pop (λ (x : Event). x.time ≤ o.time) (events ++ e ∷ []) events (Some e) refl tells.times).0
+
       each : (p : Open) → StaysOrStarts w.outstanding.requests e p → IsTrue (is_some (granule now (granule_of_request p)))
       each p (inl (start, (r, is_r, fields))) =
           subst (λ (n : ℕ). IsTrue (is_some (granule now n))) (ap (λ a. a.addr / 8) (sym fields)) (request_some mid (granule now) e.time e.kind r is_r t)
@@ -144,9 +180,38 @@ pub taken_more : (e : Event) (ended : Option Operation) (old new : WatchValue) �
 taken_more e ended old new takes events (past, is) = (past ++ option_to_list ended, takes events past is)
 
 -- what it knows of a granule is so of the events that it took
-pub since_told : (events : List Event) (w : WatchValue) (g : ℕ) (o : Option Followed) → HasTaken events w → o ≡ granule w g → option_and_then (λ (f : Followed). f.unknown_since) o ≡ unknown_since events g
-since_told events w g o (ended, is) here = by_case o (subst (IsGranuleOf events ended w.outstanding g) (sym here) (is.each g))
+module _ (events : List Event) (w : WatchValue) (g : ℕ) where
+  pub since_told : (o : Option Followed) → HasTaken events w → o ≡ granule w g → option_and_then (λ (f : Followed). f.unknown_since) o ≡ unknown_since events g
+  since_told o (ended, is) here = by_case o (subst (IsGranuleOf events ended w.outstanding g) (sym here) (is.each g))
+    where
+      by_case : (x : Option Followed) → IsGranuleOf events ended w.outstanding g x → option_and_then (λ (f : Followed). f.unknown_since) x ≡ unknown_since events g
+      by_case None untold = sym (unknown_none events g (2 ^ 64 - 1) untold.known)
+      by_case (Some f) watched = watched.since
+
+  pub at_told : (time : ℕ) (o : Option Followed) → HasTaken events w → o ≡ granule w g → option_and_then (λ (f : Followed). unknown_by f.gaps.items f.unknown_since time) o ≡ unknown_at events g time
+  at_told time o (ended, is) here = by_case o (subst (IsGranuleOf events ended w.outstanding g) (sym here) (is.each g))
+    where
+      by_case : (x : Option Followed) → IsGranuleOf events ended w.outstanding g x → option_and_then (λ (f : Followed). unknown_by f.gaps.items f.unknown_since time) x ≡ unknown_at events g time
+      by_case None untold = sym (unknown_none events g time untold.known)
+      by_case (Some f) watched = watched.gaps time
+
+-- the word of a granule is told again where something that is not told may have written to it
+pub covered_again : (events : List Event) (w : WatchValue) (e : Event) (told : WordTold) → HasTaken events w → fault_of w e ≡ None → e.kind ≡ Word told
+    → list_any (λ (x : Event). covers told.granule x.kind) events ≡ is_some (unknown_in w told.granule)
+covered_again events w e told (ended, has) none is = by_case (granule w told.granule) refl (has.each told.granule) fits
   where
-    by_case : (x : Option Followed) → IsGranuleOf events ended w.outstanding g x → option_and_then (λ (f : Followed). f.unknown_since) x ≡ unknown_since events g
-    by_case None untold = sym untold.since
-    by_case (Some f) watched = watched.since
+    no_fault : (x y : Option WatchFault) → option_or x y ≡ None → x ≡ None
+    no_fault None y so = refl
+    no_fault (Some fault) y so = so
+
+    fits : TakesWord e.time (granule w told.granule)
+    fits = takes_word e.time told.granule (granule w told.granule) (list_any (λ p. granule_of_request p == told.granule) w.outstanding.requests)
+        (subst (λ (k : EventKind). granule_fault w e.time k ≡ None) is (no_fault (granule_fault w e.time e.kind) (option_map as_watch_fault (outstanding_fault w.outstanding e)) none))
+
+    by_case : (x : Option Followed) → granule w told.granule ≡ x → IsGranuleOf events ended w.outstanding told.granule x → TakesWord e.time x
+        → list_any (λ (y : Event). covers told.granule y.kind) events ≡ is_some (unknown_in w told.granule)
+    by_case None here untold takes = untold.known ∙ sym (ap (λ (o : Option Followed). is_some (option_and_then (λ (f : Followed). f.unknown_since) o)) here)
+    by_case (Some f) here watched takes =
+        let some : is_some f.unknown_since ≡ true = takes.0 in
+        unknown_covered events told.granule (2 ^ 64 - 1) (ap is_some (sym watched.since) ∙ some)
+        ∙ sym (ap (λ (o : Option Followed). is_some (option_and_then (λ (g : Followed). g.unknown_since) o)) here ∙ some)

@@ -1,7 +1,9 @@
 -- operations that are told of granules one after the other
 use Rattle.std.proofs.Common.{◌≡◌, ℕ, ◌+◌, ◌-◌, ◌^◌, ◌<◌, ◌++◌, List, [], ◌∷◌, Option, Some, None, filter, get_or, length, take}
-use Rattle.std.proofs.Common.{refl, sym, ap, subst, ◌∙◌, append-nil, append_assoc}
-use Rattle.std.specs.Prelude.{filter_map}
+use Rattle.std.proofs.Common.{flat_map, refl, sym, ap, ap₂, subst, ◌∙◌, append-nil, append_assoc}
+use Rattle.std.specs.Prelude.{Vec, filter_map}
+use Rattle.std.specs.declared.alloc.Global.{Global}
+use Rattle.std.proofs.lemmas.List.Concat.{flat_map-append}
 use Rattle.std.specs.List.{cons_option}
 use Rattle.std.proofs.lemmas.List.{take_more}
 use Rattle.std.proofs.lemmas.List.Elements.{filter-append, filter_map-append}
@@ -9,21 +11,26 @@ use Rattle.chi_events.specs.Outstanding.{open_operation}
 use Rattle.chi_events.specs.declared.outstanding.Open.{Open}
 use Rattle.chi_judge.specs.Judges.{Keeps}
 use Rattle.chi_judge.specs.Until.{until}
-use Rattle.chi_judge.proofs.UntilLists.{until-append}
-use Rattle.chi_watch.proofs.JudgedParts.{until-nil}
 use Rattle.chi_trace.specs.AtPlaces.{is_in}
 use Rattle.chi_trace.specs.declared.operation.Operation.{Operation}
 use Rattle.chi_watch.specs.Endings.{AreToldTo}
+use Rattle.chi_watch.specs.Watches.{unknown_by}
 use Rattle.chi_watch.specs.declared.followed.Followed.{Followed}
+use Rattle.chi_watch.specs.declared.followed.Gap.{Gap}
+
+-- operations of a granule that is watched, as far as they had happened
+abbrev parts_in : Followed → List Operation → List Operation
+parts_in f ops = flat_map (λ op. until (unknown_by f.gaps.items f.unknown_since op.start) (op ∷ [])) ops
 
 -- where none is told nothing changes
 pub told_none : (x : Option Followed) → AreToldTo [] x x
 told_none None = refl
 told_none (Some f) = record {
-  keeps = λ words told kept. subst (λ l. Keeps words l (2 ^ 64 - 1) f.judge) (sym (ap (λ l. told ++ l) (until-nil f.unknown_since) ∙ append-nil told)) kept;
+  keeps = λ words told kept. subst (λ l. Keeps words l (2 ^ 64 - 1) f.judge) (sym (append-nil told)) kept;
   shown = refl;
   final_word = refl;
   since = refl;
+  gaps = refl;
 }
 
 pub told_more : (xs ys : List Operation) (a b c : Option Followed) → AreToldTo xs a b → AreToldTo ys b c → AreToldTo (xs ++ ys) a c
@@ -35,12 +42,14 @@ told_more xs ys (Some f) (Some g) None first second = second
 told_more xs ys (Some f) (Some g) (Some h) first second = record {
   keeps = λ words told kept.
       subst (λ l. Keeps words l (2 ^ 64 - 1) h.judge)
-      (ap (λ u. (told ++ until f.unknown_since xs) ++ until u ys) first.since
-      ∙ (append_assoc told (until f.unknown_since xs) (until f.unknown_since ys) ∙ ap (λ l. told ++ l) (sym (until-append f.unknown_since xs ys))))
-      (second.keeps words (told ++ until f.unknown_since xs) (first.keeps words told kept));
+      (ap₂ (λ (gaps : Vec Gap Global) (since : Option ℕ). (told ++ parts_in f xs) ++ flat_map (λ op. until (unknown_by gaps.items since op.start) (op ∷ [])) ys) first.gaps first.since
+      ∙ (append_assoc told (parts_in f xs) (parts_in f ys)
+      ∙ ap (λ l. told ++ l) (sym (flat_map-append (λ (op : Operation). until (unknown_by f.gaps.items f.unknown_since op.start) (op ∷ [])) xs ys))))
+      (second.keeps words (told ++ parts_in f xs) (first.keeps words told kept));
   shown = second.shown ∙ first.shown;
   final_word = second.final_word ∙ first.final_word;
   since = second.since ∙ first.since;
+  gaps = second.gaps ∙ first.gaps;
 }
 
 -- the operations of a granule that these requests are

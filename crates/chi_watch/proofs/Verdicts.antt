@@ -1,9 +1,10 @@
 -- what is said of events by what the operations of each granule lead to
 use Rattle.std.proofs.Common.{◌≡◌, ℕ, ◌/◌, ◌==◌, ◌<◌, ◌^◌, ◌++◌, Bool, true, false, cond, List, [], ◌∷◌, All, Option, Some, None, IfSome}
-use Rattle.std.proofs.Common.{filter, refl, sym, ap, ap₂, subst, ◌∙◌, arith, le-ltb, ne_eqb}
+use Rattle.std.proofs.Common.{filter, flat_map, map, refl, sym, ap, ap₂, subst, ◌∙◌, arith, le-ltb, ne_eqb}
 use Rattle.std.specs.Prelude.{IsPermutation, filter_map, is_none}
 use Rattle.std.specs.List.{cons_option}
-use Rattle.std.proofs.lemmas.List.Elements.{All-head, All-tail, All-weaker}
+use Rattle.std.proofs.lemmas.List.Elements.{All-append, All-cons, All-head, All-nil, All-tail}
+use Rattle.std.proofs.lemmas.List.Sorted.{IsPermutation-trans}
 use Rattle.chi_fields.specs.Access.{Access}
 use Rattle.chi_events.specs.EventLaws.{OperationsAreTold}
 use Rattle.chi_events.specs.Operations.{operations}
@@ -13,41 +14,65 @@ use Rattle.chi_events.specs.declared.event.EventKind.{EventKind}
 use Rattle.chi_events.specs.declared.event.EventKind.TheVariants.{Request, Data, Reply, Dropped, Refused, Word, Final, Unknown, End}
 use Rattle.chi_events.specs.declared.outstanding.Open.{Open}
 use Rattle.chi_judge.specs.Judges.{JudgeValue, Keeps}
-use Rattle.chi_judge.specs.Until.{until}
-use Rattle.chi_judge.proofs.UntilLists.{until-permutation}
 use Rattle.chi_judge.specs.Reaches.{IsJudgeOf}
 use Rattle.chi_judge.specs.Standings.{IsInexplicable}
 use Rattle.chi_trace.specs.AtPlaces.{GranulesStandAlone, is_in}
-use Rattle.chi_trace.specs.Explains.{IsInTime, times_in}
+use Rattle.chi_trace.specs.Explains.{IsInTime, IsTrace, times_in}
 use Rattle.chi_trace.specs.Granules.{ExplainsGranule, Play, is_of}
 use Rattle.chi_trace.specs.TraceLaws.{GranulesExplain, PartsExplain}
 use Rattle.chi_trace.specs.declared.operation.Operation.{Operation}
+use Rattle.chi_trace.specs.declared.words.GranuleWord.{GranuleWord}
 use Rattle.chi_trace.specs.Words.{AreWords, find_word, memory_of, word_or_zero}
 use Rattle.chi_trace.proofs.Memory.{IsMemory-memory_of, word_of-memory_of}
-use Rattle.chi_watch.specs.Judged.{CanBeExplained, IsExplained, IsExplainedBy, final_of, final_words, is_known, judged, opening_in, openings, unknown_since}
+use Rattle.chi_watch.specs.Judged.{CanBeExplained, IsExplained, IsExplainedBy, final_of, is_known, judged, judged_part, operations_and_writes, unknown_since}
+use Rattle.chi_watch.specs.Watches.{told_of}
+use Rattle.chi_watch.specs.WordsTold.{WordAt, final_words, granule_word, openings, word_after, word_at, words_told, writes_told}
+use Rattle.chi_watch.proofs.Among.{all_traced, judged_moved, writes_are}
 use Rattle.chi_watch.specs.Endings.{judged_word}
 use Rattle.chi_watch.specs.Requests.{IsQuiet, granule_of_request}
 use Rattle.chi_watch.specs.declared.followed.Followed.{Followed}
-use Rattle.chi_judge.proofs.Lists.{IsPermutation-filter}
-use Rattle.chi_watch.proofs.Lists.{All-filter_map}
-use Rattle.chi_watch.proofs.JudgedParts.{judged_own, judged_traced, until-nil}
+use Rattle.chi_watch.proofs.JudgedParts.{judged_traced}
 
--- the words that are told at the opening have eight bytes
-pub openings_are_words : (events : List Event) → All IsEvent events → AreWords (openings events)
-openings_are_words events are =
-    All-filter_map (λ (e : Event). opening_in e.kind) (λ w. w.word < 2 ^ 64) events
-    (All-weaker IsEvent (λ e. IfSome (opening_in e.kind) (λ w. w.word < 2 ^ 64)) (λ e is. by_kind e.kind is.word) events are)
+-- a word that is told has eight bytes
+abbrev Fits : WordAt → Type 0
+Fits w = w.told.word < 2 ^ 64
+
+words_fit : (events : List Event) → All IsEvent events → All Fits (words_told events)
+unfolding words_told
+words_fit [] are = All-nil Fits
+words_fit (e ∷ events) are =
+    All-append Fits (word_at e.time e.kind) (map (word_after e.kind) (words_told events)) (own e.kind (All-head IsEvent e events are).word)
+    (after (words_told events) (words_fit events (All-tail IsEvent e events are)))
   where
-    by_kind : (k : EventKind) → HasWord k → IfSome (opening_in k) (λ w. w.word < 2 ^ 64)
-    by_kind (Request r) is = tt
-    by_kind (Data p) is = tt
-    by_kind (Reply c) is = tt
-    by_kind (Dropped id) is = tt
-    by_kind (Refused id reason) is = tt
-    by_kind (Word w) is = is
-    by_kind (Final w) is = tt
-    by_kind (Unknown addr len) is = tt
-    by_kind End is = tt
+    own : (k : EventKind) → HasWord k → All Fits (word_at e.time k)
+    own (Request r) is = All-nil Fits
+    own (Data p) is = All-nil Fits
+    own (Reply c) is = All-nil Fits
+    own (Dropped id) is = All-nil Fits
+    own (Refused id reason) is = All-nil Fits
+    own (Word w) is = All-cons Fits (record { time = e.time; told = w; is_opening = true }) [] is (All-nil Fits)
+    own (Final w) is = All-nil Fits
+    own (Unknown addr len) is = All-nil Fits
+    own End is = All-nil Fits
+
+    after : (ws : List WordAt) → All Fits ws → All Fits (map (word_after e.kind) ws)
+    after [] all = All-nil Fits
+    after (w ∷ ws) all = All-cons Fits (word_after e.kind w) (map (word_after e.kind) ws) (All-head Fits w ws all) (after ws (All-tail Fits w ws all))
+
+-- so have those at the opening
+openings_fit : (ws : List WordAt) → All Fits ws → AreWords (map (λ (w : WordAt). granule_word w.told) (filter (λ (w : WordAt). w.is_opening) ws))
+openings_fit [] all = All-nil (λ (w : GranuleWord). w.word < 2 ^ 64)
+openings_fit (w ∷ ws) all = by_test w.is_opening (openings_fit ws (All-tail Fits w ws all))
+  where
+    rest : List WordAt
+    rest = filter (λ (x : WordAt). x.is_opening) ws
+
+    by_test : (b : Bool) → AreWords (map (λ (x : WordAt). granule_word x.told) rest) → AreWords (map (λ (x : WordAt). granule_word x.told) (cond b (w ∷ rest) rest))
+    by_test true fit = All-cons (λ (x : GranuleWord). x.word < 2 ^ 64) (granule_word w.told) (map (λ (x : WordAt). granule_word x.told) rest) (All-head Fits w ws all) fit
+    by_test false fit = fit
+
+pub openings_are_words : (events : List Event) → All IsEvent events → AreWords (openings events)
+openings_are_words events are = openings_fit (words_told events) (words_fit events are)
 
 -- some order explains a granule that has no operations
 pub explains_none : GranulesStandAlone → (trace : List Operation) (g w : ℕ) → IsPermutation (filter (is_in g) trace) [] → (order : List ℕ) × ExplainsGranule trace g w None order
@@ -56,22 +81,30 @@ explains_none law trace g w moved =
     (law trace [] g w None moved).1
     ([], record { done = λ i. rw (le-ltb i 0 (omega arith)) (omega arith); once = λ i. omega arith; times = tt; plays = tt; ending = tt })
 
--- the operations of a granule of which all is told, in another order
-pub all_told : OperationsAreTold → (events : List Event) (ended : List Operation) (o : OutstandingValue) (g : ℕ) → Tells events ended o
-    → IsPermutation (filter (is_in g) (operations events)) (filter (is_in g) (ended ++ filter_map open_operation o.requests))
-all_told law events ended o g tells = IsPermutation-filter (is_in g) _ _ (law events ended o tells).1
+-- the operations that had ended, and those that are open
+abbrev pub told_by : List Operation → OutstandingValue → List Operation
+told_by ended o = ended ++ filter_map open_operation o.requests
 
+-- what is judged of a granule, in another order
 pub all_judged : OperationsAreTold → (events : List Event) (ended : List Operation) (o : OutstandingValue) (g : ℕ) → Tells events ended o
-    → IsPermutation (filter (is_in g) (judged events)) (until (unknown_since events g) (filter (is_in g) (ended ++ filter_map open_operation o.requests)))
-all_judged law events ended o g tells =
-    subst (λ l. IsPermutation l (until (unknown_since events g) (filter (is_in g) (ended ++ filter_map open_operation o.requests)))) (sym (judged_own events g (operations events)))
-    (until-permutation (unknown_since events g) (filter (is_in g) (operations events)) (filter (is_in g) (ended ++ filter_map open_operation o.requests)) (all_told law events ended o g tells))
+    → IsPermutation (filter (is_in g) (judged events)) (flat_map (judged_part events) (told_of events (told_by ended o) g))
+all_judged law events ended o g tells = judged_moved events g (told_by ended o) (law events ended o tells).1
+
+-- it is a trace
+traced : OperationsAreTold → (events : List Event) (ended : List Operation) (o : OutstandingValue) → Tells events ended o → IsTrace (judged events)
+traced law events ended o tells = judged_traced events (operations_and_writes events) (all_traced (writes_told events) (operations events) (writes_are events) (law events ended o tells).0)
 
 -- what is judged of a granule's operations, of which a judge was told
-module _ (law : OperationsAreTold) (events : List Event) (ended : List Operation) (o : OutstandingValue) (g : ℕ) (tells : Tells events ended o) (now : ℕ) (r : JudgeValue)
-    (keeps : Keeps (word_or_zero (openings events) g ∷ []) (until (unknown_since events g) (filter (is_in g) (ended ++ filter_map open_operation o.requests))) now r) where
+module _ (law : OperationsAreTold) (events : List Event) (ended : List Operation) (o : OutstandingValue) (g : ℕ) (tells : Tells events ended o) (now : ℕ) (r : JudgeValue) (told : List Operation)
+    (told_is : IsPermutation (flat_map (judged_part events) (told_of events (told_by ended o) g)) told) (keeps : Keeps (word_or_zero (openings events) g ∷ []) told now r) where
   pub is_judge : IsJudgeOf (judged events) g (word_or_zero (openings events) g) r
-  is_judge = record { traced = judged_traced events (operations events) (law events ended o tells).0; told = _; now = now; moved = all_judged law events ended o g tells; keeps = keeps }
+  is_judge = record {
+    traced = traced law events ended o tells;
+    told = told;
+    now = now;
+    moved = IsPermutation-trans (filter (is_in g) (judged events)) (flat_map (judged_part events) (told_of events (told_by ended o) g)) told (all_judged law events ended o g tells) told_is;
+    keeps = keeps;
+  }
 
   -- where no order explains them the granule cannot be explained
   pub not_explained : IsInexplicable r (final_of events g) → CanBeExplained events g → ⊥
@@ -85,7 +118,7 @@ module _ (law : OperationsAreTold) (events : List Event) (ended : List Operation
         subst (λ (w : ℕ). ExplainsGranule (judged events) g w (final_of events g) (filter (is_of (judged events) g) order))
             (word_of-memory_of (openings events) g (openings_are_words events tells.bounds))
             (parts_law (memory_of (openings events)) (final_of events) (judged events) order (IsMemory-memory_of (openings events))
-            (judged_traced events (operations events) (law events ended o tells).0) explains g).0,
+            (traced law events ended o tells) explains g).0,
       )
 
 -- the word at the end that is judged of a granule that is watched, and of one of which none was told
@@ -104,17 +137,17 @@ no_word events g none = sym (ap (λ (w : Option ℕ). cond (is_known events g) w
 
 -- a granule of which no operation is told can be explained
 pub can_without : GranulesStandAlone → OperationsAreTold → (events : List Event) (ended : List Operation) (o : OutstandingValue) (g : ℕ) → Tells events ended o
-    → filter (is_in g) (ended ++ filter_map open_operation o.requests) ≡ [] → find_word (final_words events) g ≡ None → CanBeExplained events g
+    → told_of events (told_by ended o) g ≡ [] → find_word (final_words events) g ≡ None → CanBeExplained events g
 can_without granules_law operations_law events ended o g tells none no_final =
     subst (λ f. (order : List ℕ) × ExplainsGranule (judged events) g (word_or_zero (openings events) g) f order) (no_word events g no_final)
     (explains_none granules_law (judged events) g (word_or_zero (openings events) g)
-    (subst (IsPermutation (filter (is_in g) (judged events))) (ap (until (unknown_since events g)) none ∙ until-nil (unknown_since events g)) (all_judged operations_law events ended o g tells)))
+    (subst (IsPermutation (filter (is_in g) (judged events))) (ap (flat_map (judged_part events)) none) (all_judged operations_law events ended o g tells)))
 
 -- Where some order explains what is judged of each granule, one explains it all.
 pub explained : OperationsAreTold → GranulesExplain → (events : List Event) (ended : List Operation) (o : OutstandingValue) → Tells events ended o → ((g : ℕ) → CanBeExplained events g) → IsExplained events
 explained operations_law whole_law events ended o tells each =
     (whole_law (memory_of (openings events)) (final_of events) (judged events) (IsMemory-memory_of (openings events))
-    (judged_traced events (operations events) (operations_law events ended o tells).0)).0
+    (traced operations_law events ended o tells)).0
     (λ g. subst (λ (w : ℕ). (order : List ℕ) × ExplainsGranule (judged events) g w (final_of events g) order)
     (sym (word_of-memory_of (openings events) g (openings_are_words events tells.bounds))) (each g))
 

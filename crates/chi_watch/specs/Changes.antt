@@ -1,15 +1,17 @@
 -- changes of the granules that are watched
-use Rattle.std.specs.Prelude.{◌≡◌, ℕ, ◌+◌, ◌/◌, ◌^◌, ◌<◌, ◌≤◌, ◌⊎◌, Bool, true, List, [], ◌∷◌, ◌++◌, Option, Some, None, false}
+use Rattle.std.specs.Prelude.{◌≡◌, ℕ, ◌+◌, ◌/◌, ◌^◌, ◌<◌, ◌≤◌, ◌⊎◌, Bool, true, List, [], ◌∷◌, ◌++◌, Option, Some, None, false, option_to_list}
 use Rattle.chi_events.specs.declared.event.EventKind.{EventKind}
+use Rattle.chi_events.specs.declared.event.WordTold.{WordTold}
 use Rattle.chi_events.specs.declared.outstanding.Open.{Open}
 use Rattle.chi_events.specs.declared.event.EventKind.TheVariants.{Request, Word, Final, Unknown}
-use Rattle.chi_judge.specs.Judges.{Keeps}
+use Rattle.chi_judge.specs.Judges.{JudgeValue, Keeps}
 use Rattle.chi_judge.specs.Until.{cut_before, until}
 use Rattle.chi_trace.specs.Granules.{granule_of}
 use Rattle.chi_trace.specs.declared.operation.Operation.{Operation}
 use Rattle.chi_watch.specs.declared.followed.Followed.{Followed}
-use Rattle.chi_watch.specs.Judged.{covers}
+use Rattle.chi_watch.specs.WordsTold.{covers, write_at}
 use Rattle.chi_watch.specs.Requests.{StartsBy}
+use Rattle.chi_watch.specs.Watches.{unknown_by}
 
 -- the others stay as they were
 abbrev pub OthersStay : (ℕ → Option Followed) → (ℕ → Option Followed) → ℕ → Type 0
@@ -23,6 +25,8 @@ pub record IsUntouched (word : ℕ) (f : Followed) : Type 0 where
   pub shown : f.judge.shown ≡ 16
   pub final_word : f.final_word ≡ None
   pub since : f.unknown_since ≡ None
+  pub gaps : f.gaps.items ≡ []
+  pub last : f.last ≡ 0
 
 abbrev pub IsSameOrUntouched : ℕ → Option Followed → Followed → Type 0
 IsSameOrUntouched word None new = IsUntouched word new
@@ -35,26 +39,32 @@ pub record IsTouched (old new : ℕ → Option Followed) (g word : ℕ) : Type 0
   pub is : new g ≡ Some followed
   pub was : IsSameOrUntouched word (old g) followed
 
--- the operation can be told of its granule
-pub record CanEnd (horizon : ℕ) (f : Followed) (op : Operation) : Type 0 where
-  pub past : f.judge.horizon ≤ op.start
+-- the operation can be told to the judge of its granule
+pub record CanEnd (horizon : ℕ) (r : JudgeValue) (op : Operation) : Type 0 where
+  pub past : r.horizon ≤ op.start
   pub starts : horizon ≤ op.start
-  pub ends : f.judge.latest ≤ op.end
+  pub ends : r.latest ≤ op.end
   pub lasting : op.start ≤ op.end
   pub within : op.access.addr + op.access.len ≤ 2 ^ 52
 
+-- it was told to the judge as far as it had happened before a time
+pub record IsHeard (op : Operation) (since : Option ℕ) (horizon : ℕ) (old new : JudgeValue) : Type 0 where
+  pub keeps : (words : List ℕ) (told : List Operation) → Keeps words told op.end old → Keeps words (told ++ until since (op ∷ [])) op.end new
+  pub horizon_is : (new.horizon ≤ horizon) ⊎ (new.horizon ≡ old.horizon)
+  pub latest : new.latest ≤ op.end
+  pub shown : new.shown ≡ old.shown
+
 -- one operation more of the granule was told, as far as all that wrote to it is told
 pub record IsTold (op : Operation) (horizon : ℕ) (old new : Followed) : Type 0 where
-  pub keeps : (words : List ℕ) (told : List Operation) → Keeps words told op.end old.judge → Keeps words (told ++ until old.unknown_since (op ∷ [])) op.end new.judge
-  pub horizon_is : (new.judge.horizon ≤ horizon) ⊎ (new.judge.horizon ≡ old.judge.horizon)
-  pub latest : new.judge.latest ≤ op.end
-  pub shown : new.judge.shown ≡ old.judge.shown
+  pub heard : IsHeard op (unknown_by old.gaps.items old.unknown_since op.start) horizon old.judge new.judge
   pub final_word : new.final_word ≡ old.final_word
   pub since : new.unknown_since ≡ old.unknown_since
+  pub gaps : new.gaps ≡ old.gaps
+  pub last : new.last ≡ op.end
 
 -- the operation was told of its granule, where it can be
 pub record IsToldWherePossible (op : Operation) (horizon : ℕ) (old new : Followed) : Type 0 where
-  pub told : CanEnd horizon old op → IsTold op horizon old new
+  pub told : CanEnd horizon old.judge op → IsTold op horizon old new
   pub final_word : new.final_word ≡ old.final_word
 
 abbrev pub IsClosed : Operation → ℕ → Option Followed → Option Followed → Type 0
@@ -93,6 +103,8 @@ pub record IsCutBefore (time : ℕ) (old new : Followed) : Type 0 where
   pub shown : new.judge.shown ≡ old.judge.shown
   pub final_word : new.final_word ≡ old.final_word
   pub since : new.unknown_since ≡ Some time
+  pub gaps : new.gaps ≡ old.gaps
+  pub last : new.last ≡ old.last
 
 -- from this time on something that is not told may have written to it: as before, where that was so from an earlier time on
 abbrev pub IsUnknownSince : Option ℕ → ℕ → Followed → Followed → Type 0
@@ -103,6 +115,35 @@ IsUnknownSince (Some earlier) time old new = new ≡ old
 abbrev pub BecomesUnknown : ℕ → Option Followed → Option Followed → Type 0
 BecomesUnknown time old None = ⊥
 BecomesUnknown time old (Some new) = (before : Followed) × IsSameOrUntouched 0 old before × IsUnknownSince before.unknown_since time before new
+
+-- the write that stands for a word was told, where none that is told later starts before it
+pub record IsWritten (time : ℕ) (word : WordTold) (old new : JudgeValue) : Type 0 where
+  pub keeps : (words : List ℕ) (told : List Operation) (now : ℕ) → now ≤ time → old.latest ≤ time → old.horizon ≤ time → Keeps words told now old
+      → Keeps words (told ++ option_to_list (write_at time word)) time new
+  pub latest : old.latest ≤ time → old.horizon ≤ time → new.latest ≤ time
+  pub horizon : new.horizon ≡ old.horizon
+  pub shown : new.shown ≡ old.shown
+
+-- from this time on the granule holds this word, and all that writes to it is told; from an earlier time on it was not
+pub record IsToldWord (from time : ℕ) (word : WordTold) (old new : Followed) : Type 0 where
+  pub written : IsWritten time word old.judge new.judge
+  pub final_word : new.final_word ≡ old.final_word
+  pub since : new.unknown_since ≡ None
+  pub gaps : new.gaps.items ≡ old.gaps.items ++ record { since = from; until = time } ∷ []
+  pub last : new.last ≡ time
+
+abbrev pub IsKnownFrom : Option ℕ → ℕ → WordTold → Followed → Followed → Type 0
+IsKnownFrom None time word old new = new ≡ old
+IsKnownFrom (Some since) time word old new = IsToldWord since time word old new
+
+-- the same of a granule that is watched from this word on, where it was not before
+abbrev pub BecomesKnown : ℕ → WordTold → Option Followed → Option Followed → Type 0
+BecomesKnown time word old None = ⊥
+BecomesKnown time word old (Some new) = (before : Followed) × IsSameOrUntouched word.word old before × IsKnownFrom before.unknown_since time word before new
+
+pub record GranuleBecomesKnown (time : ℕ) (word : WordTold) (old new : ℕ → Option Followed) : Type 0 where
+  pub others : OthersStay old new word.granule
+  pub known : BecomesKnown time word (old word.granule) (new word.granule)
 
 -- one granule was changed so, and no other
 pub record GranuleBecomesUnknown (g time : ℕ) (old new : ℕ → Option Followed) : Type 0 where
@@ -116,7 +157,7 @@ pub record BecomesUnknownWhere (covered : Bool) (time : ℕ) (old new : Option F
 -- what is noted of the granules by an event of this time
 abbrev pub IsUpdated : ℕ → EventKind → (ℕ → Option Followed) → (ℕ → Option Followed) → Type 0
 IsUpdated time (Request r) old new = IsTouched old new (r.fields.addr / 8) 0
-IsUpdated time (Word told) old new = IsTouched old new told.granule told.word
+IsUpdated time (Word told) old new = GranuleBecomesKnown time told old new
 IsUpdated time (Final told) old new = IsTouchedAndMarked told.granule (λ f. record f { final_word = Some told.word }) old new
 IsUpdated time (Unknown addr len) old new = (g : ℕ) → BecomesUnknownWhere (covers g (Unknown addr len)) time (old g) (new g)
 IsUpdated time _ old new = (g : ℕ) → new g ≡ old g

@@ -1,5 +1,5 @@
 -- what is said where the events end
-use Rattle.std.specs.Prelude.{◌≡◌, ℕ, ◌+◌, ◌-◌, ◌^◌, ◌≤◌, ◌++◌, ◌⊎◌, if◌then◌else◌, List, [], Option, None, Some, is_none, IfSome}
+use Rattle.std.specs.Prelude.{◌≡◌, ℕ, ◌+◌, ◌-◌, ◌^◌, ◌≤◌, ◌++◌, ◌⊎◌, if◌then◌else◌, List, [], ◌∷◌, Option, None, Some, is_none, flat_map, IfSome}
 use Rattle.std.specs.List.{Contains}
 use Rattle.chi_events.specs.declared.outstanding.Open.{Open}
 use Rattle.chi_judge.specs.Judges.{Keeps}
@@ -7,6 +7,7 @@ use Rattle.chi_judge.specs.Until.{until}
 use Rattle.chi_judge.specs.Standings.{IsExplainable as CanExplain, IsInexplicable as CanNotExplain}
 use Rattle.chi_trace.specs.declared.operation.Operation.{Operation}
 use Rattle.chi_watch.specs.Requests.{granule_of_request}
+use Rattle.chi_watch.specs.Watches.{unknown_by}
 use Rattle.chi_watch.specs.declared.followed.Followed.{Followed}
 
 -- the granule is listed: as one that no order explains, or as one of which that is not decided
@@ -27,10 +28,12 @@ pub record CanClose (granules : ℕ → Option Followed) (p : Open) : Type 0 whe
 
 -- these operations more were told of the granule, as far as all that wrote to it is told
 pub record AreTold (ops : List Operation) (old new : Followed) : Type 0 where
-  pub keeps : (words : List ℕ) (told : List Operation) → Keeps words told (2 ^ 64 - 1) old.judge → Keeps words (told ++ until old.unknown_since ops) (2 ^ 64 - 1) new.judge
+  pub keeps : (words : List ℕ) (told : List Operation) → Keeps words told (2 ^ 64 - 1) old.judge
+      → Keeps words (told ++ flat_map (λ op. until (unknown_by old.gaps.items old.unknown_since op.start) (op ∷ [])) ops) (2 ^ 64 - 1) new.judge
   pub shown : new.judge.shown ≡ old.judge.shown
   pub final_word : new.final_word ≡ old.final_word
   pub since : new.unknown_since ≡ old.unknown_since
+  pub gaps : new.gaps ≡ old.gaps
 
 -- These operations more were told of a granule, where it is watched. There are none where it is not.
 abbrev pub AreToldTo : List Operation → Option Followed → Option Followed → Type 0

@@ -1,3 +1,4 @@
+pub mod WordsTold
 pub mod Judged
 pub mod Changes
 pub mod Counts

@@ -9,7 +9,8 @@ use Rattle.chi_judge.specs.declared.reach.Reach.TheVariants.{Whole, Stops, Undec
 use Rattle.chi_trace.specs.declared.operation.Operation.{Operation}
 use Rattle.chi_trace.specs.Words.{word_or_zero}
 use Rattle.chi_watch.specs.Endings.{judged_word}
-use Rattle.chi_watch.specs.Judged.{CanBeExplained, IsExplained, final_of, judged, openings}
+use Rattle.chi_watch.specs.Judged.{CanBeExplained, IsExplained, final_of, judged}
+use Rattle.chi_watch.specs.WordsTold.{openings}
 use Rattle.chi_watch.specs.declared.ending.FoundAtEnd.{FoundAtEnd}
 use Rattle.chi_watch.specs.declared.followed.Followed.{Followed}
 

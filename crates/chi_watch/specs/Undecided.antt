@@ -6,7 +6,8 @@ use Rattle.chi_judge.specs.Judges.{JudgeValue}
 use Rattle.chi_judge.specs.Reaches.{IsExplained, IsJudgeOf}
 use Rattle.chi_trace.specs.declared.operation.Operation.{Operation}
 use Rattle.chi_trace.specs.Words.{word_or_zero}
-use Rattle.chi_watch.specs.Judged.{judged, openings}
+use Rattle.chi_watch.specs.Judged.{judged}
+use Rattle.chi_watch.specs.WordsTold.{openings}
 use Rattle.chi_watch.specs.declared.followed.Followed.{Followed}
 use Rattle.chi_watch.specs.declared.undecided.UndecidedAtEnd.{UndecidedAtEnd}
 

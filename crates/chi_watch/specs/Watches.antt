@@ -1,5 +1,5 @@
 -- what a watch knows of the events that it took
-use Rattle.std.specs.Prelude.{◌≡◌, ℕ, ◌+◌, ◌-◌, ◌/◌, ◌^◌, ◌<◌, ◌≤◌, ◌==◌, ◌⊎◌, length, min, nat_le, nat_lt, Bool, true, false, ◌&&◌, if◌then◌else◌, List, [], ◌∷◌, ◌++◌, All, Option, Some, None, is_some, option_and_then, option_map, option_to_list, IsTrue, filter}
+use Rattle.std.specs.Prelude.{◌≡◌, ℕ, ◌+◌, ◌-◌, ◌/◌, ◌^◌, ◌<◌, ◌≤◌, ◌==◌, ◌⊎◌, length, min, nat_le, nat_lt, Bool, true, false, ◌&&◌, ◌||◌, if◌then◌else◌, List, [], ◌∷◌, ◌++◌, All, Option, Some, None, is_none, is_some, option_and_then, option_map, option_to_list, IsTrue, IsPermutation, filter, find, flat_map}
 use Rattle.std.specs.List.{list_any}
 use Rattle.std.specs.BTreeMap.{is_at}
 use Rattle.std.specs.Map.{lookup}
@@ -10,7 +10,6 @@ use Rattle.chi_events.specs.Outstanding.{OutstandingValue, Tells, fault_of as ou
 use Rattle.chi_events.specs.declared.event.EventKind.{EventKind}
 use Rattle.chi_events.specs.declared.event.EventKind.TheVariants.{Request, Word, Final, Unknown}
 use Rattle.chi_judge.specs.Judges.{Keeps}
-use Rattle.chi_judge.specs.Until.{until}
 use Rattle.chi_judge.specs.Standings.{IsInexplicable}
 use Rattle.chi_trace.specs.AtPlaces.{is_in}
 use Rattle.chi_trace.specs.declared.operation.Operation.{Operation}
@@ -20,7 +19,9 @@ use Rattle.chi_watch.specs.declared.fault.WatchFault.{WatchFault}
 use Rattle.chi_watch.specs.declared.fault.WatchFault.TheVariants as fault
 use Rattle.chi_watch.specs.Faults.{as_watch_fault}
 use Rattle.chi_watch.specs.Requests.{StartsBy, granule_of_request}
-use Rattle.chi_watch.specs.Judged.{CanBeExplained, IsExplainedBy, final_words, is_known, openings, unknown_since}
+use Rattle.chi_watch.specs.Judged.{CanBeExplained, IsExplainedBy, is_known, judged_part, unknown_at, unknown_since}
+use Rattle.chi_watch.specs.WordsTold.{covers, final_words, openings, writes_told}
+use Rattle.chi_watch.specs.declared.followed.Gap.{Gap}
 
 -- the requests that are outstanding, each granule of which something was told, and how many operations had ended: 2^64 - 1 stands
 -- for that many and more
@@ -37,11 +38,25 @@ granule w g = lookup (is_at (nat_cmp g)) w.granules
 abbrev pub unknown_in : WatchValue → ℕ → Option ℕ
 unknown_in w g = option_and_then (λ (f : Followed). f.unknown_since) (granule w g)
 
+-- from which time on that may be so, for an operation that starts at a time: from where the first gap begins that ends later, or now
+abbrev pub unknown_by : List Gap → Option ℕ → ℕ → Option ℕ
+unknown_by gaps since time = option_or (option_map (λ gap. gap.since) (find (λ gap. nat_lt time gap.until) gaps)) since
+
+-- the operations that had ended and the writes that stand for words, of a granule
+abbrev pub told_of : List Event → List Operation → ℕ → List Operation
+told_of events ended g = filter (is_in g) (ended ++ writes_told events)
+
 -- A granule that is watched: its judge was told its operations that had ended, from its word at the opening on, as far as all that
--- wrote to it is told.
+-- wrote to it is told, and the writes that stand for words. All these started by its last time.
 pub record IsWatched (events : List Event) (ended : List Operation) (o : OutstandingValue) (g : ℕ) (f : Followed) : Type 0 where
   pub since : f.unknown_since ≡ unknown_since events g
-  pub keeps : Keeps (word_or_zero (openings events) g ∷ []) (until f.unknown_since (filter (is_in g) ended)) o.time f.judge
+  pub gaps : (time : ℕ) → unknown_by f.gaps.items f.unknown_since time ≡ unknown_at events g time
+  pub gaps_by : All (λ gap. gap.until ≤ f.last) f.gaps.items
+  pub told : List Operation
+  pub told_is : IsPermutation (flat_map (judged_part events) (told_of events ended g)) told
+  pub keeps : Keeps (word_or_zero (openings events) g ∷ []) told o.time f.judge
+  pub started : All (λ op. op.start ≤ f.last) (told_of events ended g)
+  pub last_by : f.last ≤ o.time
   pub latest : f.judge.latest ≤ o.time
   pub past : f.judge.horizon ≤ o.time
   pub horizon : StartsBy o.requests g f.judge.horizon
@@ -50,8 +65,8 @@ pub record IsWatched (events : List Event) (ended : List Operation) (o : Outstan
 
 -- nothing was told of the granule
 pub record IsUntold (events : List Event) (ended : List Operation) (g : ℕ) : Type 0 where
-  pub since : unknown_since events g ≡ None
-  pub none : filter (is_in g) ended ≡ []
+  pub known : list_any (λ e. covers g e.kind) events ≡ false
+  pub none : told_of events ended g ≡ []
   pub opening : find_word (openings events) g ≡ None
   pub final_word : find_word (final_words events) g ≡ None
 
@@ -106,16 +121,28 @@ has_final_word (Some f) = is_some f.final_word
 abbrev pub final_fault : Bool → Bool → Option WatchFault
 final_fault find_word outstanding = if find_word then Some fault.FinalTwice else if outstanding then Some fault.FinalEarly else None
 
+-- Once something was told of a granule its word is told only where that is not known, and no request of it is outstanding or ended at
+-- that time.
+abbrev pub later_word_fault : ℕ → Followed → Bool → Option WatchFault
+later_word_fault time f outstanding =
+    if is_some f.final_word || is_none f.unknown_since then Some fault.WordLate
+    else if outstanding || nat_le time f.last then Some fault.WordEarly
+    else None
+
+abbrev pub word_fault : ℕ → Option Followed → Bool → Option WatchFault
+word_fault time None outstanding = None
+word_fault time (Some f) outstanding = later_word_fault time f outstanding
+
 abbrev pub length_fault : ℕ → ℕ → Option WatchFault
 length_fault addr len = if nat_lt 0 len && nat_le len 4096 && nat_le (addr + len) (2 ^ 52) then None else Some fault.TooLong
 
-abbrev pub granule_fault : WatchValue → EventKind → Option WatchFault
-granule_fault w (Request r) = if has_final_word (granule w (r.fields.addr / 8)) then Some fault.AfterFinal else None
-granule_fault w (Word told) = if is_some (granule w told.granule) then Some fault.WordLate else None
-granule_fault w (Final told) = final_fault (has_final_word (granule w told.granule)) (list_any (λ p. granule_of_request p == told.granule) w.outstanding.requests)
-granule_fault w (Unknown addr len) = length_fault addr len
-granule_fault w _ = None
+abbrev pub granule_fault : WatchValue → ℕ → EventKind → Option WatchFault
+granule_fault w time (Request r) = if has_final_word (granule w (r.fields.addr / 8)) then Some fault.AfterFinal else None
+granule_fault w time (Word told) = word_fault time (granule w told.granule) (list_any (λ p. granule_of_request p == told.granule) w.outstanding.requests)
+granule_fault w time (Final told) = final_fault (has_final_word (granule w told.granule)) (list_any (λ p. granule_of_request p == told.granule) w.outstanding.requests)
+granule_fault w time (Unknown addr len) = length_fault addr len
+granule_fault w time _ = None
 
 -- why an event cannot be taken, if it cannot
 abbrev pub fault_of : WatchValue → Event → Option WatchFault
-fault_of w e = option_or (granule_fault w e.kind) (option_map as_watch_fault (outstanding_fault w.outstanding e))
+fault_of w e = option_or (granule_fault w e.time e.kind) (option_map as_watch_fault (outstanding_fault w.outstanding e))

@@ -10,7 +10,9 @@ use thiserror::Error;
 /// Why an event cannot be taken. After a fault nothing more is said of the events.
 ///
 /// - `Event`: it cannot come next.
-/// - `WordLate`: the word of a granule of which something was told before.
+/// - `WordLate`: the word of a granule of which something was told before, and nothing that is not told may have written to it since; or
+///   whose word at the end was told.
+/// - `WordEarly`: the word of a granule once more while a request of it is outstanding, or no later than one ended.
 /// - `FinalTwice`: a second word at the end.
 /// - `FinalEarly`: the word of a granule of which a request is outstanding.
 /// - `AfterFinal`: a request of a granule whose word at the end was told.
@@ -25,6 +27,8 @@ pub enum WatchFault {
     Event(EventFault),
     #[error("tells a word after its granule was used")]
     WordLate,
+    #[error("tells a word once more while a request is outstanding or no later than one ended")]
+    WordEarly,
     #[error("tells a second word at the end")]
     FinalTwice,
     #[error("tells a word at the end while a request is outstanding")]

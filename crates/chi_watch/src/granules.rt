@@ -4,11 +4,12 @@ ghost use Rattle.std.specs.Prelude.{◌≡◌, ℕ, ◌+◌, ◌^◌, ◌≤◌,
 ghost use Rattle.std.specs.BTreeMap.{get};
 ghost use Rattle.std.specs.Ordering.{nat_cmp};
 ghost use Rattle.chi_trace.specs.Granules.{granule_of};
-ghost use Rattle.chi_watch.specs.Changes.{HasOneMore, GranuleBecomesUnknown, IsMarked, IsTouched, IsTouchedAndMarked};
+ghost use Rattle.chi_watch.specs.Changes.{HasOneMore, GranuleBecomesKnown, GranuleBecomesUnknown, IsMarked, IsTouched, IsTouchedAndMarked};
 ghost use Rattle.chi_search.specs.Looks.{LookedSome};
 ghost use Rattle.chi_watch.specs.declared.followed.Followed.{Followed};
 
-use crate::followed::{Followed, tell, tell_unknown, untouched};
+use crate::followed::{Followed, tell, tell_unknown, tell_word, untouched};
+use chi_events::WordTold;
 use chi_search::Progress;
 use chi_trace::Operation;
 use std::alloc::{AllocError, Global};
@@ -45,6 +46,22 @@ pub(crate) fn close<P: Progress>(
     let granule = op.granule();
     match granules.get_mut(&granule) {
         Some(followed) => tell(alloc, followed, op, horizon, progress),
+        None => Ok(()),
+    }
+}
+
+/// Tells the word that a granule holds from this time on: at the opening, or where something that is not told may have written to it.
+pub(crate) fn tell_word_at(
+    alloc: Global,
+    granules: &mut BTreeMap<u64, Followed>,
+    time: u64,
+    told: &WordTold,
+) -> Result<(), AllocError>
+    ensures { IfOk result (λ _. GranuleBecomesKnown time told.now (get nat_cmp granules.old) (get nat_cmp granules.new)) }
+{
+    touch(alloc, granules, told.granule, told.word)?;
+    match granules.get_mut(&told.granule) {
+        Some(followed) => tell_word(followed, time, told),
         None => Ok(()),
     }
 }

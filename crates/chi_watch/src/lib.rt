@@ -1,6 +1,7 @@
 //! Granules that are watched while events come. Source: profile.
 #![tactic(auto)]
 
+mod admitting;
 mod counts;
 mod ended;
 mod ending;
@@ -14,9 +15,11 @@ mod recording;
 mod undecided;
 mod update_granules;
 mod watch;
+mod words_told;
 
 pub use counts::Counts;
 pub use ending::{Ending, FoundAtEnd};
 pub use fault::WatchFault;
 pub use undecided::UndecidedAtEnd;
 pub use watch::Watch;
+pub use words_told::write_at;

@@ -2,10 +2,11 @@
 
 ghost use Rattle.std.specs.Prelude.{◌≡◌, ◌≢◌, List, None, Some, IfErr, IfOk};
 ghost use Rattle.chi_events.specs.declared.event.Event.{Event};
-ghost use Rattle.chi_watch.specs.Judged.{unknown_since};
+ghost use Rattle.chi_watch.specs.Judged.{unknown_at, unknown_since};
 ghost use Rattle.chi_watch.specs.Watches.{HasTaken, Takes, fault_of, unknown_in};
 
 use crate::fault::WatchFault;
+use crate::followed::unknown_by;
 use crate::watch::Watch;
 use chi_events::{Event, Outstanding};
 use chi_search::NoProgress;
@@ -38,6 +39,20 @@ impl Watch {
     {
         match self.granules.get(&granule) {
             Some(followed) => followed.unknown_since,
+            None => None,
+        }
+    }
+
+    /// The same for an operation of the granule that starts at this time: not where its word was told after that, and by the time.
+    ///
+    /// ```
+    /// let known = happened_until(&op, watch.unknown_at(op.granule(), op.start));
+    /// ```
+    pub fn unknown_at(&self, granule: u64, time: u64) -> Option<u64>
+        ensures { (events : List Event) → HasTaken events self.now → result ≡ unknown_at events granule time }
+    {
+        match self.granules.get(&granule) {
+            Some(followed) => unknown_by(followed, time),
             None => None,
         }
     }

@@ -5,10 +5,10 @@ ghost use Rattle.std.specs.BTreeMap.{get};
 ghost use Rattle.std.specs.Ordering.{nat_cmp};
 ghost use Rattle.chi_events.specs.declared.event.EventKind.{EventKind};
 ghost use Rattle.chi_watch.specs.Changes.{HasLength, BecomesUnknownWhere, IsUpdated};
-ghost use Rattle.chi_watch.specs.Judged.{covers};
+ghost use Rattle.chi_watch.specs.WordsTold.{covers};
 
 use crate::followed::Followed;
-use crate::granules::{tell_last, tell_unknown_at, touch};
+use crate::granules::{tell_last, tell_unknown_at, tell_word_at, touch};
 use chi_events::EventKind;
 use std::alloc::{AllocError, Global};
 use std::collections::BTreeMap;
@@ -43,7 +43,7 @@ pub(crate) fn update_granules(
 {
     match kind {
         EventKind::Request(request) => touch(alloc, granules, request.fields.addr / 8, 0),
-        EventKind::Word(told) => touch(alloc, granules, told.granule, told.word),
+        EventKind::Word(told) => tell_word_at(alloc, granules, time, told),
         EventKind::Final(told) => tell_last(alloc, granules, told.granule, told.word),
         EventKind::Unknown { addr, length } => {
             tell_each_unknown(alloc, granules, *addr, *length, time)

@@ -3,18 +3,17 @@
 ghost use Rattle.std.specs.Prelude.{◌≡◌, ◌≢◌, ◌==◌, ◌||◌, not, ◌⊎◌, ◌+◌, ◌-◌, ◌^◌, length, min, option_to_list, ℕ, [], ◌∷◌, ◌++◌, true, false, List, None, Some, IfErr, IfOk, IfSome, IsTrue};
 ghost use Rattle.std.specs.List.{list_any};
 ghost use Rattle.chi_events.specs.declared.event.Event.{Event};
-ghost use Rattle.chi_watch.specs.Changes.{HasLength};
 ghost use Rattle.chi_watch.specs.Endings.{IsExplainable};
 ghost use Rattle.chi_watch.specs.Judged.{CanBeExplained, is_known};
 ghost use Rattle.chi_search.specs.Looks.{LookedAtLeast, LookedSome};
 ghost use Rattle.chi_watch.specs.Quiet.{BecomesQuiet, granule_about};
 ghost use Rattle.chi_watch.specs.Requests.{granule_of_request};
-ghost use Rattle.chi_watch.specs.Watches.{CanBeJudged, HasTaken, IsFound, IsUnexplained, Takes, Watches, fault_of, granule as granule_of, granule_fault, has_final_word};
+ghost use Rattle.chi_watch.specs.Watches.{CanBeJudged, HasTaken, IsFound, IsUnexplained, Takes, Watches, fault_of, granule as granule_of};
 
 use crate::ended::close_ended;
 use crate::fault::WatchFault;
 use crate::followed::Followed;
-use crate::quiet::{has_length, is_open};
+use crate::quiet::is_open;
 use crate::update_granules::update_granules;
 use chi_events::laws::operations_are_told;
 use chi_events::{Event, EventKind, Outstanding};
@@ -77,16 +76,6 @@ impl Watch {
         }
     }
 
-    /// Whether the granule's word at the end was told.
-    fn has_final_word(&self, granule: u64) -> bool
-        ensures { result ≡ has_final_word (granule_of self.now granule) }
-    {
-        match self.granules.get(&granule) {
-            Some(followed) => followed.final_word.is_some(),
-            None => false,
-        }
-    }
-
     /// Whether a request of the granule is outstanding.
     pub(crate) fn is_open(&self, granule: u64) -> bool
         ensures { result ≡ list_any (λ p. granule_of_request p == granule) self.now.outstanding.requests }
@@ -101,48 +90,15 @@ impl Watch {
         !self.is_open(granule) || followed.judge.is_stopped()
     }
 
-    /// Whether the granules take an event of this kind, or why they do not.
-    fn admits(&self, kind: &EventKind) -> Result<(), WatchFault>
-        ensures fits { IfOk result (λ _. granule_fault self.now kind.now ≡ None) }
-        ensures fault { IfErr result (λ fault. granule_fault self.now kind.now ≡ Some fault) }
-        ensures length { IfOk result (λ _. HasLength kind.now) }
-    {
-        match kind {
-            EventKind::Request(request) => {
-                if self.has_final_word(request.fields.addr / 8) {
-                    return Err(WatchFault::AfterFinal);
-                }
-                Ok(())
-            }
-            EventKind::Word(told) => {
-                if self.granules.contains_key(&told.granule) {
-                    return Err(WatchFault::WordLate);
-                }
-                Ok(())
-            }
-            EventKind::Final(told) => {
-                if self.has_final_word(told.granule) {
-                    return Err(WatchFault::FinalTwice);
-                }
-                if self.is_open(told.granule) {
-                    return Err(WatchFault::FinalEarly);
-                }
-                Ok(())
-            }
-            EventKind::Unknown { addr, length } => {
-                if !has_length(*addr, *length) {
-                    return Err(WatchFault::TooLong);
-                }
-                Ok(())
-            }
-            _ => Ok(()),
-        }
-    }
-
-    /// The granule of the outstanding request that an event is about, where it is about one.
+    /// The granule of the outstanding request that an event is about, or of the word that it tells, where something that is not told
+    /// may have written to that before.
     fn granule_about(&self, event: &Event) -> Option<u64>
         ensures { result ≡ granule_about self.now event.now }
     {
+        if let EventKind::Word(told) = event.kind {
+            self.unknown_since(told.granule)?;
+            return Some(told.granule);
+        }
         let fields = self.outstanding.about(event)?;
         Some(fields.addr / 8)
     }
@@ -213,7 +169,7 @@ impl Watch {
         ensures fault { IfErr result (λ fault. fault ≢ WatchFault.Memory → fault_of self.old event.now ≡ Some fault) }
         ensures looked { IfOk result (λ _. LookedSome P.looked progress.old progress.new) }
     {
-        self.admits(&event.kind)?;
+        self.admits(event)?;
         let ended = self.outstanding.take(event)?;
         close_ended(
             alloc,

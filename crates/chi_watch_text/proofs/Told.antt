@@ -17,7 +17,8 @@ use Rattle.chi_judge.specs.declared.reach.Reach.{Reach}
 use Rattle.chi_trace.specs.Words.{word_or_zero}
 use Rattle.chi_judge.proofs.AsFar.{as_far_by}
 use Rattle.chi_watch.proofs.Reached.{undecided_weaker}
-use Rattle.chi_watch.specs.Judged.{judged, openings}
+use Rattle.chi_watch.specs.Judged.{judged}
+use Rattle.chi_watch.specs.WordsTold.{openings}
 use Rattle.chi_watch.specs.Reaching.{IsFoundAtEnd}
 use Rattle.chi_watch.specs.Undecided.{IsExplainedAsFar, IsExplainedTo, states_for}
 use Rattle.chi_watch.specs.Watches.{HasTaken, IsUnexplained, WatchValue}

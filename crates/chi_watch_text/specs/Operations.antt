@@ -38,6 +38,7 @@ abbrev pub Refuses : OutstandingValue → Event → WatchFault → Type 0
 Refuses o event (watch_fault.Event f) = fault_of o event ≡ Some f
 Refuses o event watch_fault.WordLate = ⊥
 Refuses o event watch_fault.FinalTwice = ⊥
+Refuses o event watch_fault.WordEarly = ⊥
 Refuses o event watch_fault.FinalEarly = ⊥
 Refuses o event watch_fault.AfterFinal = ⊥
 Refuses o event watch_fault.TooLong = ⊥

@@ -1,36 +1,37 @@
 //! Events that are read line by line as a trace.
 
-ghost use Rattle.std.specs.Prelude.{◌≡◌, [], ◌∷◌, ◌++◌, List, None, IfErr, IfOk, IfSome, OnOk, filter, flat_map, if◌then◌else◌, is_none, ℕ, option_to_list};
+ghost use Rattle.std.specs.Prelude.{◌≡◌, [], ◌∷◌, ◌++◌, List, None, IfErr, IfOk, IfSome, OnOk, filter, flat_map, if◌then◌else◌, is_none, ℕ, option_to_list, IsPermutation};
+ghost use Rattle.std.specs.List.Sorted.{IsNonDecreasingBy};
 ghost use Rattle.std.specs.BTreeMap.{get};
 ghost use Rattle.std.specs.Ordering.{nat_cmp};
 ghost use Rattle.chi_events.specs.declared.event.Event.{Event};
 ghost use Rattle.chi_trace.specs.declared.words.GranuleWord.{GranuleWord};
-ghost use Rattle.chi_trace.specs.Granules.{granule_of};
 ghost use Rattle.chi_trace.specs.Words.{find_word};
-ghost use Rattle.chi_watch.specs.Judged.{final_in, opening_in};
-ghost use Rattle.chi_judge.specs.Until.{until};
-ghost use Rattle.chi_watch.specs.Watches.{Takes, unknown_in};
+ghost use Rattle.chi_watch.specs.Judged.{judged_part};
+ghost use Rattle.chi_watch.specs.Watches.{HasTaken, Takes, fault_of, unknown_in};
+ghost use Rattle.chi_watch.specs.WordsTold.{final_in, granule_word};
 ghost use Rattle.chi_watch_text.specs.Outcomes.{IsEventFault, IsLinesFault};
-ghost use Rattle.chi_watch_text.specs.Recorded.{HasRecorded, HasWords, IsRecorded, IsToldTrace};
+ghost use Rattle.chi_watch_text.specs.Recorded.{HasRecorded, HasWords, IsRecorded, IsToldTrace, is_told_again, opening_told, write_told};
 
 use crate::fault::LinesFault;
 use crate::lines::next_event;
 use crate::operations::{add_some, in_order};
-use chi_events::{Event, EventKind};
+use chi_events::{Event, EventKind, WordTold};
 use chi_judge::happened_until;
 use chi_reading::Recorded;
 use chi_trace::{GranuleWord, GranuleWords, Operation, Trace};
-use chi_watch::{Watch, WatchFault};
+use chi_watch::{Watch, WatchFault, write_at};
 use std::alloc::{AllocError, Global};
 use std::collections::BTreeMap;
 use std::io::BufRead;
 
-/// What was told so far: to a watch that judges nothing, the operations that had ended, and the words of granules at the opening
-/// and at the end.
+/// What was told so far: to a watch that judges nothing, the operations that had ended, the writes that stand for words which were
+/// told again, and the words of granules at the opening and at the end.
 #[derive(Drop)]
 pub(crate) struct Recording {
     watch: Watch,
     ended: Vec<Operation>,
+    writes: Vec<Operation>,
     opening: BTreeMap<u64, u64>,
     final_words: BTreeMap<u64, u64>,
 }
@@ -43,6 +44,7 @@ fn record_event(
     number: u64,
 ) -> Result<Option<Operation>, LinesFault>
     ensures taken { IfOk result (λ ended. Takes event.now ended watch.old watch.new) }
+    ensures fits { IfOk result (λ _. fault_of watch.old event.now ≡ None) }
     ensures fault { IfErr result (IsEventFault watch.old event.now number) }
 {
     match watch.record(alloc, event) {
@@ -53,8 +55,8 @@ fn record_event(
 }
 
 /// Adds the word of a granule, where none was told of it before.
-fn add_word(words: &mut BTreeMap<u64, u64>, told: &GranuleWord) -> Result<(), AllocError>
-    ensures { IfOk result (λ _. (before : List GranuleWord) → HasWords before (get nat_cmp words.old) → HasWords (before ++ told.now ∷ []) (get nat_cmp words.new)) }
+fn add_word(words: &mut BTreeMap<u64, u64>, told: &WordTold) -> Result<(), AllocError>
+    ensures { IfOk result (λ _. (before : List GranuleWord) → HasWords before (get nat_cmp words.old) → HasWords (before ++ granule_word told.now ∷ []) (get nat_cmp words.new)) }
 {
     if words.contains_key(&told.granule) {
         return Ok(());
@@ -63,20 +65,50 @@ fn add_word(words: &mut BTreeMap<u64, u64>, told: &GranuleWord) -> Result<(), Al
     Ok(())
 }
 
-/// Adds the word that an event tells, if it tells one, to those at the opening or to those at the end.
+/// Whether an event tells the word of a granule to which something that is not told may have written before.
+fn is_told_again(watch: &Watch, kind: &EventKind) -> bool
+    ensures { result ≡ is_told_again watch.now kind.now }
+{
+    match kind {
+        EventKind::Word(told) => watch.unknown_since(told.granule).is_some(),
+        _ => false,
+    }
+}
+
+/// Adds the word that an event tells, if it tells one, to those at the opening or to those at the end; or the write that stands for
+/// one that is told again.
 fn add_words(
     opening: &mut BTreeMap<u64, u64>,
     final_words: &mut BTreeMap<u64, u64>,
-    kind: &EventKind,
+    writes: &mut Vec<Operation>,
+    event: &Event,
+    is_again: bool,
 ) -> Result<(), AllocError>
-    ensures opening { IfOk result (λ _. (before : List GranuleWord) → HasWords before (get nat_cmp opening.old) → HasWords (before ++ option_to_list (opening_in kind.now)) (get nat_cmp opening.new)) }
-    ensures final_words { IfOk result (λ _. (before : List GranuleWord) → HasWords before (get nat_cmp final_words.old) → HasWords (before ++ option_to_list (final_in kind.now)) (get nat_cmp final_words.new)) }
+    ensures opening { IfOk result (λ _. (before : List GranuleWord) → HasWords before (get nat_cmp opening.old) → HasWords (before ++ opening_told is_again event.now.kind) (get nat_cmp opening.new)) }
+    ensures final_words { IfOk result (λ _. (before : List GranuleWord) → HasWords before (get nat_cmp final_words.old) → HasWords (before ++ option_to_list (final_in event.now.kind)) (get nat_cmp final_words.new)) }
+    ensures writes { IfOk result (λ _. writes.new.items ≡ writes.old.items ++ write_told is_again event.now.time event.now.kind) }
 {
-    match kind {
-        EventKind::Word(told) => add_word(opening, told),
+    match &event.kind {
+        EventKind::Word(told) => {
+            if is_again {
+                add_some(writes, write_at(event.time, told))
+            } else {
+                add_word(opening, told)
+            }
+        }
         EventKind::Final(told) => add_word(final_words, told),
         _ => Ok(()),
     }
+}
+
+/// Operations and the writes that stand for words, in the order of their starts.
+fn with_writes(mut ops: Vec<Operation>, writes: &[Operation]) -> Result<Vec<Operation>, AllocError>
+    ensures same { IfOk result (λ all. IsPermutation (ops.items ++ writes.now) all.items) }
+    ensures in_order { IfOk result (λ all. IsNonDecreasingBy (λ op. op.start) all.items) }
+{
+    ops.extend_from_slice(writes)?;
+    ops.sort_by_key(|op| op.start)?;
+    Ok(ops)
 }
 
 /// What is judged of these operations: each as far as it had happened before something that is not told may have written to its
@@ -86,11 +118,11 @@ fn judged_operations(
     watch: &Watch,
     ops: &[Operation],
 ) -> Result<Vec<Operation>, AllocError>
-    ensures { IfOk result (λ judged. judged.items ≡ flat_map (λ op. until (unknown_in watch.now (granule_of op)) (op ∷ [])) ops.now) }
+    ensures { IfOk result (λ judged. (events : List Event) → HasTaken events watch.now → judged.items ≡ flat_map (judged_part events) ops.now) }
 {
     let mut judged = Vec::new(alloc);
     for op in ops {
-        let part = happened_until(op, watch.unknown_since(op.granule()));
+        let part = happened_until(op, watch.unknown_at(op.granule(), op.start));
         add_some(&mut judged, part)?;
     }
     Ok(judged)
@@ -134,6 +166,7 @@ impl Recording {
         Recording {
             watch: Watch::new(alloc),
             ended: Vec::new(alloc),
+            writes: Vec::new(alloc),
             opening: BTreeMap::new(alloc),
             final_words: BTreeMap::new(alloc),
         }
@@ -144,9 +177,16 @@ impl Recording {
         ensures recorded { OnOk result ((events : List Event) → HasRecorded events self.old → HasRecorded (events ++ event.now ∷ []) self.new) }
         ensures fault { IfErr result (IsEventFault self.old.watch event.now number) }
     {
+        let is_again = is_told_again(&self.watch, &event.kind);
         let ended = record_event(alloc, &mut self.watch, event, number)?;
         add_some(&mut self.ended, ended)?;
-        add_words(&mut self.opening, &mut self.final_words, &event.kind)?;
+        add_words(
+            &mut self.opening,
+            &mut self.final_words,
+            &mut self.writes,
+            event,
+            is_again,
+        )?;
         Ok(())
     }
 
@@ -156,6 +196,7 @@ impl Recording {
         ensures { IfOk result (λ recorded. (events : List Event) → HasRecorded events self → IsToldTrace events recorded) }
     {
         let ops = in_order(self.ended, self.watch.outstanding())?;
+        let ops = with_writes(ops, &self.writes)?;
         let judged = judged_operations(alloc, &self.watch, &ops)?;
         let opening = GranuleWords::of_map(alloc, &self.opening)?;
         let final_words = GranuleWords::of_map(alloc, &self.final_words)?;
@@ -169,7 +210,8 @@ impl Recording {
 
 /// Reads events line by line as a trace: of all addresses, with the operations that they tell, each with the number of the line that
 /// told its request; the words at the opening; and those that were told at the end. Of a granule to which something that is not told
-/// may have written it has what had happened before, and no word at the end. Requests that were refused are left out.
+/// may have written it has what had happened before, and no word at the end. Where its word is told again it has a write of it then,
+/// with the number of that line, and what happened after. Requests that were refused are left out.
 ///
 /// A line is refused where `watch_lines` refuses it, and for the same reason. The last line needs no line feed, and blank ones
 /// after it tell nothing.

@@ -4,7 +4,7 @@ ghost use Rattle.std.specs.Prelude.{◌≡◌, ◌++◌, ℕ, List, IfErr, IfOk,
 ghost use Rattle.std.specs.BTreeSet.{contains};
 ghost use Rattle.std.specs.Ordering.{nat_cmp};
 ghost use Rattle.chi_events.specs.declared.event.EventKind.{EventKind};
-ghost use Rattle.chi_watch.specs.Judged.{covers};
+ghost use Rattle.chi_watch.specs.WordsTold.{covers};
 ghost use Rattle.chi_watch_text.specs.Saved.{IsSaved, IsSavingFault, line_about, numbers_after, tells_of};
 
 use crate::fault::LinesFault;

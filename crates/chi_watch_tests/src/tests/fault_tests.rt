@@ -30,6 +30,10 @@ fn faults_and_their_texts(rt: HostRuntime) -> Result<(), Fail> {
         addr: 4096,
         length: 0,
     };
+    let forgotten = EventKind::Unknown {
+        addr: 4096,
+        length: 8,
+    };
     for (kinds, kind, fault, text) in &[
         (
             wrote.as_slice(),
@@ -42,6 +46,12 @@ fn faults_and_their_texts(rt: HostRuntime) -> Result<(), Fail> {
             told,
             WatchFault::WordLate,
             "tells a word after its granule was used",
+        ),
+        (
+            &[forgotten, write(1, 5)],
+            told,
+            WatchFault::WordEarly,
+            "tells a word once more while a request is outstanding or no later than one ended",
         ),
         (
             &[last],

@@ -1,10 +1,10 @@
 //! Events of a home, and a watch that takes them.
 
 use crate::tests::comparison::assert_same;
-use chi_events::{Completion, Event, EventKind, Packet, Requested};
+use chi_events::{Completion, Event, EventKind, Packet, Requested, WordTold};
 use chi_lanes::Reply;
 use chi_search::NoProgress;
-use chi_trace::{GranuleWord, RequestFields};
+use chi_trace::RequestFields;
 use chi_watch::{Ending, Watch, WatchFault};
 use std::alloc::Global;
 use std::process::Abort;
@@ -97,16 +97,18 @@ pub(crate) fn error(id: u64) -> EventKind {
 }
 
 /// The word of the granule at 4096.
-pub(crate) fn word(word: u64) -> GranuleWord {
-    GranuleWord {
+pub(crate) fn word(word: u64) -> WordTold {
+    WordTold {
+        number: 1,
         granule: GRANULE,
         word,
     }
 }
 
 /// The word of the next granule.
-pub(crate) fn next_word(word: u64) -> GranuleWord {
-    GranuleWord {
+pub(crate) fn next_word(word: u64) -> WordTold {
+    WordTold {
+        number: 1,
         granule: GRANULE + 1,
         word,
     }

@@ -120,6 +120,26 @@ fn something_unknown(rt: HostRuntime) -> Result<(), Fail> {
     Ok(())
 }
 
+// A word that is told after that is what the granule holds, and what starts then is judged.
+#[test]
+fn a_word_told_again(rt: HostRuntime) -> Result<(), Fail> {
+    for (value, is_found) in [(7, false), (0, true)] {
+        let kinds = [
+            write(1, 5),
+            done(1),
+            EventKind::Unknown {
+                addr: 4096,
+                length: 8,
+            },
+            EventKind::Word(word(7)),
+            read(2),
+            answer(2, value),
+        ];
+        assert_found(&rt, &kinds, granule_if(is_found))?;
+    }
+    Ok(())
+}
+
 // A hundred additions of 1, each of which starts before the one before it ends: what is found before the last one ends, and when
 // that answers this.
 fn never_quiet(alloc: Global, last: u8) -> Result<(bool, Option<u64>), WatchFault> {

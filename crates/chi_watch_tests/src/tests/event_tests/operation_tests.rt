@@ -5,10 +5,9 @@ use super::home::{
     load_without_data, read, reply, take, take_each,
 };
 use crate::tests::comparison::assert_same;
-use chi_events::{EventFault, EventKind};
+use chi_events::{EventFault, EventKind, WordTold};
 use chi_fields::Kind;
 use chi_lanes::Reply;
-use chi_trace::GranuleWord;
 use std::test::Fail;
 
 #[test]
@@ -117,7 +116,8 @@ fn one_of_three_ends(rt: HostRuntime) -> Result<(), Fail> {
 // What is told of memory, and that nothing more is told, is of no request, and may come at any time.
 #[test]
 fn events_of_no_request(rt: HostRuntime) -> Result<(), Fail> {
-    let word = GranuleWord {
+    let word = WordTold {
+        number: 1,
         granule: 513,
         word: 5,
     };

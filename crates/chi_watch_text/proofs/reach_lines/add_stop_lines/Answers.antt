@@ -1,5 +1,5 @@
 -- one line after the other
-use Rattle.std.proofs.Common.{◌≡◌, ◌++◌, List, None, ℕ, ap, append_assoc, codes, ◌∙◌}
+use Rattle.std.proofs.Common.{◌++◌, List, None, ℕ, ap, append_assoc, codes, ◌∙◌}
 use Rattle.std.proofs.lemmas.Result.{on_ok_weaker}
 use Rattle.chi_answer.specs.Stops.{stop_text}
 use Rattle.chi_excerpt.specs.Excerpts.{excerpt_text, order_line}

@@ -1,6 +1,6 @@
 -- What is kept of a granule that can be judged says how far its operations can be explained.
 use Rattle.std.specs.Prelude.{is_none}
-use Rattle.std.proofs.Common.{◌≡◌, ℕ, List, All, Option, Some, None, is_some, true, false, refl, sym, subst, ◌∙◌, true≢false}
+use Rattle.std.proofs.Common.{◌≡◌, ℕ, List, All, Option, Some, None, is_some, true, sym, subst, ◌∙◌, true≢false}
 use Rattle.std.proofs.lemmas.Result.{IfOk-weaker}
 use Rattle.chi_events.specs.Outstanding.{IsOpen}
 use Rattle.chi_events.specs.declared.event.Event.{Event}
@@ -8,17 +8,14 @@ use Rattle.chi_search.specs.Looks.{LookedAtLeast}
 use Rattle.chi_judge.specs.Reaches.{IfUndecided}
 use Rattle.chi_judge.specs.declared.reach.Reach.{Reach}
 use Rattle.chi_trace.specs.Words.{word_or_zero}
-use Rattle.chi_watch.specs.Judged.{judged, openings}
+use Rattle.chi_watch.specs.Judged.{judged}
+use Rattle.chi_watch.specs.WordsTold.{openings}
 use Rattle.chi_watch.specs.Reaching.{IsOfSomeTrace, IsReach, ReachesBy}
 use Rattle.chi_watch.specs.Watches.{CanBeJudged, HasTaken, IsUnexplained, WatchValue, granule}
 use Rattle.chi_watch.proofs.Found.{can_be, can_not}
 use Rattle.chi_watch.proofs.Reached.{judged_here, undecided_weaker, unexplained_known, untold_explained, shown_here}
 use Rattle.chi_watch.proofs.watch.Watch.reach.Goals as goal
 use Rattle.chi_watch.proofs.watch.Watch.reach.Goals.{then-is_some-via-then-is_some, then-is_some-via-else-is_some+then-not-can_be_judged}
-
-no_time : (u : Option ℕ) → is_some u ≡ false → u ≡ None
-no_time None is = refl
-no_time (Some time) is = absurd (true≢false is)
 
 some_time : (u : Option ℕ) → is_some u ≡ true → is_none u ≡ true → ⊥
 some_time None some none = true≢false (sym some)
@@ -51,7 +48,7 @@ returns-clause-right g c =
     let here : granule w n ≡ Some f = subst (λ (v : WatchValue). granule v n ≡ Some f) c.self.view_is (sym c.in-Some.ensures.value) in
     let can = can_be w n f here (sym c.can_be_judged.ensures ∙ c.if-not-can_be_judged.false) in
     IfOk-weaker c.reach_of.result (ReachesBy f.judge) (λ (reach : Reach). (events : List Event) → HasTaken events w → IsReach events n reach)
-    (λ reach by events has. by (shown_here events w has n f here) (judged events) n (word_or_zero (openings events) n) (judged_here c.operations_are_told.ensures events w are_open has n f here (no_time f.unknown_since (sym c.is_some.ensures ∙ c.if-is_some.false)) can))
+    (λ reach by events has. by (shown_here events w has n f here) (judged events) n (word_or_zero (openings events) n) (judged_here c.operations_are_told.ensures events w are_open has n f here can))
     c.reach_of.ensures.right
 
 pub returns-clause-undecided : goal.returns-clause-undecided
@@ -69,6 +66,6 @@ returns-clause-undecided g c =
       judged events,
       n,
       word_or_zero (openings events) n,
-      judged_here c.operations_are_told.ensures events w are_open has n f here (no_time f.unknown_since (sym c.is_some.ensures ∙ c.if-is_some.false)) can,
+      judged_here c.operations_are_told.ensures events w are_open has n f here can,
     )) is)
     c.reach_of.ensures.undecided
