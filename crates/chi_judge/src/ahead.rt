@@ -22,9 +22,6 @@ const BACK: [usize; 2] = [1, 2];
 /// How many of the last operations of an order a search does not go along, since what is told later decides how they stand.
 const LAST: usize = 24;
 
-/// How many times as many states it may look at from the start.
-const FROM_START: u64 = 16;
-
 /// The searches that are told more operations, one after the other: those that can be.
 pub(crate) fn each_told(
     alloc: Global,
@@ -54,12 +51,13 @@ fn settled_part<'a>(ops: &[Operation], order: &'a [usize], time: u64) -> &'a [us
 }
 
 /// The search along the most of an order of what had happened by a time, from where this one stands, where there is one within so
-/// many states.
+/// many states. It is told where they were too few to say so.
 pub(crate) fn next_along<P: Progress>(
     alloc: Global,
     from: &Frontier,
     time: u64,
     budget: u64,
+    is_undecided: &mut bool,
     progress: &mut P,
 ) -> Result<Option<Frontier>, AllocError>
     ensures along { IfOk result (λ next. IfSome next (λ f. (words : List ℕ) (told : List Operation) → GoesAlong words told from.now → GoesAlong words told f)) }
@@ -72,7 +70,10 @@ pub(crate) fn next_along<P: Progress>(
             from.after(alloc, part)
         }
         Found::Nothing => Ok(None),
-        Found::Undecided => Ok(None),
+        Found::Undecided => {
+            *is_undecided = true;
+            Ok(None)
+        }
     }
 }
 
@@ -90,18 +91,21 @@ fn first_along<P: Progress>(
     ensures looked { IfOk result (λ _. LookedSome P.looked progress.old progress.new) }
 {
     match told_after(alloc, before, kept)? {
-        Some(from) => next_along(alloc, &from, time, budget, progress),
+        Some(from) => next_along(alloc, &from, time, budget, &mut false, progress),
         None => Ok(None),
     }
 }
 
 // The search along an order from one of these, of which all were told all that is kept: from the last, or the one that stands before
-// it, within twice as many states. With it how many of these there are up to that one.
+// it, within twice as many states; where it may wait not from that one before it is clear that none goes on from the last. With it
+// how many of these there are up to the one that it goes on from. It is told where the states were too few.
 fn further_along<P: Progress>(
     alloc: Global,
     searches: &[Frontier],
     time: u64,
     budget: u64,
+    waits: bool,
+    is_undecided: &mut bool,
     progress: &mut P,
 ) -> Result<Option<(usize, Frontier)>, AllocError>
     ensures along { IfOk result (λ found. IfSome found (λ next. (words : List ℕ) (told : List Operation) → All (GoesAlong words told) searches.now → GoesAlong words told next.1)) }
@@ -110,13 +114,16 @@ fn further_along<P: Progress>(
 {
     let mut share = budget;
     for back in BACK {
+        if waits && *is_undecided {
+            break;
+        }
         let Some(place) = searches.len().checked_sub(back) else {
             break;
         };
         let Some(from) = searches.get(place) else {
             break;
         };
-        if let Some(next) = next_along(alloc, from, time, share, progress)? {
+        if let Some(next) = next_along(alloc, from, time, share, is_undecided, progress)? {
             return Ok(Some((place + 1, next)));
         }
         share = share.saturating_mul(2);
@@ -125,7 +132,8 @@ fn further_along<P: Progress>(
 }
 
 /// The search along an order of what had happened by a time: from one of these, which all were told all that is kept, or from the
-/// start. With it how many of these it goes on from.
+/// start. With it how many of these it goes on from. Where it may wait and an order may still go on from one of these it does not
+/// begin at the start.
 pub(crate) fn found_along<P: Progress>(
     alloc: Global,
     before: &Frontier,
@@ -133,17 +141,31 @@ pub(crate) fn found_along<P: Progress>(
     searches: &[Frontier],
     time: u64,
     budget: u64,
+    from_start: u64,
+    waits: &mut bool,
     progress: &mut P,
 ) -> Result<Option<(usize, Frontier)>, AllocError>
     ensures along { IfOk result (λ found. IfSome found (λ next. (words : List ℕ) (told : List Operation) → Follows words told before.now → All (GoesAlong words (told ++ kept.now)) searches.now → GoesAlong words (told ++ kept.now) next.1)) }
     ensures leads { IfOk result (λ found. IfSome found (λ next. (words : List ℕ) (told : List Operation) → AreLasting (told ++ kept.now) → Follows words told before.now → All (GoesAlong words (told ++ kept.now)) searches.now → LeadsBy time words (told ++ kept.now))) }
     ensures looked { IfOk result (λ _. LookedSome P.looked progress.old progress.new) }
 {
-    if let Some(found) = further_along(alloc, searches, time, budget, progress)? {
+    let mut is_undecided = false;
+    if let Some(found) = further_along(
+        alloc,
+        searches,
+        time,
+        budget,
+        *waits,
+        &mut is_undecided,
+        progress,
+    )? {
         return Ok(Some(found));
     }
-    let whole = budget.saturating_mul(FROM_START);
-    match first_along(alloc, before, kept, time, whole, progress)? {
+    *waits = *waits && is_undecided;
+    if *waits {
+        return Ok(None);
+    }
+    match first_along(alloc, before, kept, time, from_start, progress)? {
         Some(next) => Ok(Some((0, next))),
         None => Ok(None),
     }

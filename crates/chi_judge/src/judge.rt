@@ -35,6 +35,8 @@ pub struct Judge {
     pub(crate) ahead: Vec<Frontier>,
     pub(crate) seen: usize,
     pub(crate) next_look: usize,
+    pub(crate) is_behind: bool,
+    pub(crate) waits: bool,
     pub(crate) limit: usize,
 }
 
@@ -76,6 +78,8 @@ impl Judge {
             ahead: Vec::new(alloc),
             seen: 0,
             next_look: FEW,
+            is_behind: false,
+            waits: false,
             limit: FEW,
         })
     }

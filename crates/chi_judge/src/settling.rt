@@ -10,7 +10,7 @@ use crate::judge::{FEW, Judge};
 use chi_search::{Found, Progress};
 use std::alloc::{AllocError, Global};
 
-/// From how many operations more on it looks again, where an order goes on from the last one.
+/// From how many operations more on it looks again, where an order goes on from the last one, or may do so then.
 const MORE: usize = 64;
 
 /// With how many that are kept it is taken that some are always open.
@@ -27,6 +27,12 @@ const FEW_STATES: u64 = 4096;
 
 /// How many for each operation, where many are.
 const FEW_STATES_EACH: u64 = 8;
+
+/// How many times as many from the start.
+const FROM_START: u64 = 16;
+
+/// How many from the start at least once the granule was quiet: as many as a verdict may look at where no budget is given.
+const QUIET_STATES: u64 = 1_000_000;
 
 /// How many states may be looked at from where an order stands, where so many operations are kept.
 pub(crate) fn few_states_for(kept: usize) -> u64 {
@@ -62,11 +68,12 @@ impl Judge {
     }
 
     // Whether an order of what had happened before the horizon is found from where the last ones stand, or from the start. Where
-    // none is found they are left out, since no order goes on from them.
+    // none is found from there either they are left out, since no order goes on from them.
     fn goes_ahead<P: Progress>(
         &mut self,
         alloc: Global,
         horizon: u64,
+        from_start: u64,
         progress: &mut P,
     ) -> Result<bool, AllocError>
         requires goes_on { self.now.is_stopped ≡ false }
@@ -78,6 +85,7 @@ impl Judge {
     {
         self.tell_ahead(alloc)?;
         let budget = few_states_for(self.kept.len());
+        let mut waits = !self.is_behind;
         match found_along(
             alloc,
             &self.before,
@@ -85,6 +93,8 @@ impl Judge {
             &self.ahead,
             horizon - 1,
             budget,
+            from_start,
+            &mut waits,
             progress,
         )? {
             Some((count, next)) => {
@@ -92,7 +102,10 @@ impl Judge {
                 Ok(true)
             }
             None => {
-                self.ahead = Vec::new(alloc);
+                if !waits {
+                    self.ahead = Vec::new(alloc);
+                }
+                self.waits = waits;
                 Ok(false)
             }
         }
@@ -104,6 +117,7 @@ impl Judge {
         &mut self,
         alloc: Global,
         horizon: u64,
+        from_start: u64,
         progress: &mut P,
     ) -> Result<bool, AllocError>
         requires goes_on { self.now.is_stopped ≡ false }
@@ -116,8 +130,11 @@ impl Judge {
         ensures next { IfOk result (λ is. IsTrue is → self.new.is_stopped ≡ false → (words : List ℕ) (told : List Operation) (now : ℕ) → horizon ≤ now + 1 → Keeps words told now self.old → IsNextHorizon words told now self.new horizon) }
         ensures looked { IfOk result (λ _. LookedSome P.looked progress.old progress.new) }
     {
-        if self.goes_ahead(alloc, horizon, progress)? {
+        if self.goes_ahead(alloc, horizon, from_start, progress)? {
             return Ok(true);
+        }
+        if self.waits {
+            return Ok(false);
         }
         match self.order_before(alloc, horizon, progress)? {
             Found::Order(_) => Ok(true),
@@ -137,6 +154,7 @@ impl Judge {
         alloc: Global,
         horizon: u64,
         tries: bool,
+        from_start: u64,
         progress: &mut P,
     ) -> Result<bool, AllocError>
         requires goes_on { self.now.is_stopped ≡ false }
@@ -147,7 +165,7 @@ impl Judge {
         ensures shown { IfOk result (λ _. self.new.shown ≡ self.old.shown) }
         ensures looked { IfOk result (λ _. LookedSome P.looked progress.old progress.new) }
     {
-        let is_seen = self.look(alloc, horizon, progress)?;
+        let is_seen = self.look(alloc, horizon, from_start, progress)?;
         if tries && is_seen && !self.is_stopped && self.horizon < horizon {
             self.forget(alloc, horizon, progress)?;
         }
@@ -159,6 +177,10 @@ impl Judge {
         ensures same { self.new ≡ self.old }
     {
         let kept = self.kept.len();
+        if !is_seen && self.waits {
+            self.next_look = kept.saturating_add(MORE);
+            return;
+        }
         if tries {
             self.limit = limit_after(kept, kept < self.limit);
         }
@@ -170,13 +192,13 @@ impl Judge {
         self.next_look = if is_seen {
             kept.saturating_add(more).min(self.limit)
         } else {
-            kept.saturating_add(kept / 2)
+            kept.saturating_mul(2)
         };
     }
 
     /// Looks whether what was told can be explained up to the time before the horizon, where enough more is kept than when it last
-    /// looked: no operation that is told later starts before the horizon. Where twice as many are kept as were left, it keeps
-    /// fewer, if it can.
+    /// looked, or it saw nothing then and all that is kept ended before the horizon: no operation that is told later starts before
+    /// the horizon. Where twice as many are kept as were left, it keeps fewer, if it can.
     ///
     /// ```
     /// judge.settle(alloc, earliest_open_start, &mut NoProgress)?;
@@ -194,11 +216,18 @@ impl Judge {
         ensures looked { IfOk result (λ _. LookedSome P.looked progress.old progress.new) }
     {
         let kept = self.kept.len();
-        if self.is_stopped || kept < self.next_look || horizon <= self.horizon {
+        let was_quiet = self.is_behind && self.latest < horizon;
+        let is_due = was_quiet || kept >= self.next_look;
+        if self.is_stopped || !is_due || horizon <= self.horizon {
             return Ok(());
         }
         let tries = kept >= self.limit;
-        let is_seen = self.move_on(alloc, horizon, tries, progress)?;
+        let mut from_start = few_states_for(kept).saturating_mul(FROM_START);
+        if was_quiet {
+            from_start = from_start.max(QUIET_STATES);
+        }
+        let is_seen = self.move_on(alloc, horizon, tries, from_start, progress)?;
+        self.is_behind = !is_seen && !was_quiet;
         self.plan(tries, is_seen);
         Ok(())
     }
