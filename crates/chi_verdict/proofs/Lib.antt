@@ -1,5 +1,6 @@
 mod Added
 mod Ahead
+mod Apart
 mod Blamed
 mod Counting
 mod Filling

@@ -11,6 +11,7 @@ ghost use Rattle.chi_verdict.specs.Blames.{IfAt, IfNever, IfNotFound, IsBlame, L
 ghost use Rattle.chi_trace.specs.Traces.{IsLegal, trace_at};
 ghost use Rattle.chi_trace.specs.Words.{AreWords, word_or_zero};
 
+use crate::earlier::earliest;
 use crate::verdict::{Verdict, explain_operations};
 use chi_judge::{Judge, Reach, Stop};
 use chi_search::Progress;
@@ -41,9 +42,9 @@ pub enum First {
 
 /// A granule, and a time up to which no order explains its operations.
 #[derive(Clone, Copy)]
-struct Failing {
-    granule: u64,
-    time: u64,
+pub(crate) struct Failing {
+    pub granule: u64,
+    pub time: u64,
 }
 
 /// What one search back in time comes to: the answer, or that the trace is not explained up to the time before either.
@@ -64,7 +65,7 @@ fn latest_end(ops: &[Operation]) -> u64
 }
 
 /// Where a granule's operations stop being explained, which they are not up to a time. None where that was not found.
-fn stop_of<P: Progress>(
+pub(crate) fn stop_of<P: Progress>(
     alloc: Global,
     opening: &GranuleWords,
     ops: &[Operation],
@@ -163,7 +164,9 @@ fn first_before<P: Progress>(
     loop {
         match look_back(alloc, opening, ops, failing, shown, budget, progress)? {
             Back::Answer(first) => return Ok(first),
-            Back::Earlier(earlier) => failing = earlier,
+            Back::Earlier(earlier) => {
+                failing = earliest(alloc, opening, ops, earlier, budget, progress)?
+            }
         }
     }
 }

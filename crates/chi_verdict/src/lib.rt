@@ -3,6 +3,7 @@
 #![tactic(auto)]
 
 mod doubt;
+mod earlier;
 mod first;
 mod granule;
 mod grouping;

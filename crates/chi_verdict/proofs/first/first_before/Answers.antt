@@ -13,16 +13,23 @@ use Rattle.chi_verdict.proofs.first.first_before.Goals as goal
 pub loop-first-init : goal.loop-first-init
 loop-first-init g c = record { unexplained = c.requires.unexplained; looked = looked_none g.P.Progress.looked c.args.progress.now }
 
+pub earliest-requires-clause-unexplained : goal.earliest-requires-clause-unexplained
+earliest-requires-clause-unexplained g c =
+    subst (λ (b : Back). IfEarlier b (λ earlier. IsExplained earlier.time c.args.ops.now earlier.granule (word_or_zero c.args.opening.now earlier.granule) → ⊥))
+    c.in-Earlier.is c.in_ok-first.ensures.earlier
+
 pub loop-first-smaller : goal.loop-first-smaller
 loop-first-smaller g c =
     let later = subst (λ (b : Back). IfEarlier b (λ earlier. earlier.time + 1 ≤ c.loop-first.failing.time)) c.in-Earlier.is c.in_ok-first.ensures.later in
-    omega (arith, later)
+    let by = c.in_ok-failing-in-Earlier.ensures.by in
+    omega (arith, later, by)
 
 pub loop-first-preserved : goal.loop-first-preserved
 loop-first-preserved g c = record {
-  unexplained = subst (λ (b : Back). IfEarlier b (λ earlier. IsExplained earlier.time c.args.ops.now earlier.granule (word_or_zero c.args.opening.now earlier.granule) → ⊥))
-      c.in-Earlier.is c.in_ok-first.ensures.earlier;
-  looked = some_after g.P.Progress.looked c.args.progress.now c.loop-first.progress c.look_back.new.progress c.loop-first.invariant.looked c.in_ok-first.ensures.looked;
+  unexplained = c.in_ok-failing-in-Earlier.ensures.unexplained;
+  looked = some_after g.P.Progress.looked c.args.progress.now c.look_back.new.progress c.earliest.new.progress
+      (some_after g.P.Progress.looked c.args.progress.now c.loop-first.progress c.look_back.new.progress c.loop-first.invariant.looked c.in_ok-first.ensures.looked)
+      c.in_ok-failing-in-Earlier.ensures.looked;
 }
 
 pub returns-in-Answer-clause-spent : goal.returns-in-Answer-clause-spent
