@@ -8,7 +8,7 @@ use chi_judge::Standing;
 use chi_page::Drawn;
 use chi_reading::Recorded;
 use chi_search::{Found, Progress};
-use chi_verdict::explain_granule;
+use chi_verdict::Grouped;
 use std::alloc::{AllocError, Global};
 
 /// A granule of which no order was found.
@@ -21,6 +21,33 @@ fn unordered(alloc: Global, granule: u64, finding: Standing) -> Drawn
         granule,
         finding,
         order: Vec::new(alloc),
+    }
+}
+
+/// What is found of a granule of a trace whose operations are grouped.
+pub(crate) fn judged_in<P: Progress>(
+    alloc: Global,
+    recorded: &Recorded,
+    grouped: &Grouped<'_>,
+    granule: u64,
+    budget: &mut u64,
+    progress: &mut P,
+) -> Result<Drawn, AllocError>
+    requires { grouped.now ≡ recorded.now.trace }
+    ensures granule { IfOk result (λ drawn. drawn.granule ≡ granule) }
+    ensures judged { IfOk result (IsJudged recorded.now) }
+    ensures undecided { IfOk result (λ drawn. IfUndecided drawn (budget.new ≡ 0)) }
+    ensures spends { IfOk result (λ _. (budget.new ≤ budget.old) × LookedMore P.looked progress.old progress.new (budget.old - budget.new)) }
+{
+    let final_words = recorded.final_words();
+    match grouped.explain(alloc, final_words, granule, budget, progress)? {
+        Found::Order(order) => Ok(Drawn {
+            granule,
+            finding: Standing::Explained,
+            order,
+        }),
+        Found::Nothing => Ok(unordered(alloc, granule, Standing::Unexplained)),
+        Found::Undecided => Ok(unordered(alloc, granule, Standing::Undecided)),
     }
 }
 
@@ -42,15 +69,6 @@ pub fn judged_granule<P: Progress>(
     ensures undecided { IfOk result (λ drawn. IfUndecided drawn (budget.new ≡ 0)) }
     ensures spends { IfOk result (λ _. (budget.new ≤ budget.old) × LookedMore P.looked progress.old progress.new (budget.old - budget.new)) }
 {
-    let trace = recorded.trace();
-    let final_words = recorded.final_words();
-    match explain_granule(alloc, trace, final_words, granule, budget, progress)? {
-        Found::Order(order) => Ok(Drawn {
-            granule,
-            finding: Standing::Explained,
-            order,
-        }),
-        Found::Nothing => Ok(unordered(alloc, granule, Standing::Unexplained)),
-        Found::Undecided => Ok(unordered(alloc, granule, Standing::Undecided)),
-    }
+    let grouped = Grouped::of(alloc, recorded.trace())?;
+    judged_in(alloc, recorded, &grouped, granule, budget, progress)
 }

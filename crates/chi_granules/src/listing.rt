@@ -4,10 +4,11 @@ ghost use Rattle.std.specs.Prelude.{◌≡◌, All, IfOk, map};
 ghost use Rattle.chi_search.specs.Looks.{LookedAtLeast, LookedSome};
 ghost use Rattle.chi_granules.specs.Judged.{IfUndecided, IsJudged};
 
-use crate::judge::judged_granule;
+use crate::judge::judged_in;
 use chi_page::Drawn;
 use chi_reading::Recorded;
 use chi_search::Progress;
+use chi_verdict::Grouped;
 use std::alloc::{AllocError, Global};
 
 /// What is found of the granules of these numbers, in this order. No more than `budget` states are looked at of each.
@@ -27,10 +28,11 @@ pub fn judged_granules<P: Progress>(
     ensures undecided { IfOk result (λ drawn. All (λ d. IfUndecided d (LookedAtLeast P.looked progress.old progress.new budget)) drawn.items) }
     ensures looked { IfOk result (λ _. LookedSome P.looked progress.old progress.new) }
 {
+    let grouped = Grouped::of(alloc, recorded.trace())?;
     let mut drawn = Vec::with_capacity(alloc, granule_numbers.len())?;
     for number in granule_numbers {
         let mut left = budget;
-        let judged = judged_granule(alloc, recorded, *number, &mut left, progress)?;
+        let judged = judged_in(alloc, recorded, &grouped, *number, &mut left, progress)?;
         drawn.push(judged)?;
     }
     Ok(drawn)

@@ -12,8 +12,8 @@ loop-number-preserved g c =
     let looked = g.P.Progress.looked in
     let old = c.args.progress.now in
     let middle = c.loop-number.progress in
-    let new = c.judged_granule.new.progress in
-    let left = c.judged_granule.new.budget in
+    let new = c.judged_in.new.progress in
+    let left = c.judged_in.new.budget in
     let before = c.loop-number.drawn.items in
     let drawn = c.in_ok-judged.judged in
     record {
