@@ -24,6 +24,18 @@ fn first_of_two_granules(rt: HostRuntime) -> Result<(), Fail> {
 }
 
 #[test]
+fn first_of_four_granules(rt: HostRuntime) -> Result<(), Fail> {
+    let ops = [
+        read((1, 10), LOW, 0),
+        read((31, 40), LOW + 16, 1),
+        read((41, 50), HIGH, 1),
+        read((51, 60), NEXT, 1),
+        read((71, 80), LOW, 1),
+    ];
+    assert_blamed(&rt, &ops, Some((LOWER + 2, 40, 1)))
+}
+
+#[test]
 fn reply_that_came_later_is_not_known_before(rt: HostRuntime) -> Result<(), Fail> {
     let ops = [add((0, 100), LOW, 7), read((10, 20), LOW, 1)];
     assert_verdicts(&rt, &ops, &[(&[], Told::Unexplained(LOWER))])?;
