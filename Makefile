@@ -123,6 +123,7 @@ bench-c: lib
 bench-explain: checker
 	bench/verdict.sh $(SEED)
 	bench/chicheck.py $(SEED)
+	bench/growth.py
 	bench/watch.py 20000 $(or $(SEED),1)
 	bench/watch.py 20000 $(or $(SEED),1) prefixes
 
