@@ -1,6 +1,6 @@
 -- what a watch knows once an operation has ended
-use Rattle.std.proofs.Common.{◌≡◌, ℕ, ◌/◌, ◌≤◌, ◌==◌, ◌⊎◌, Bool, true, false, List, [], ◌∷◌, ◌++◌, All, Option, Some, None, IfSome, IsTrue, is_some, filter, flat_map, cond, inl, inr, refl, sym, ap, ap₂, subst, ◌∙◌, arith, append-nil, eqb-true, eq-eqb, true≢false}
-use Rattle.std.specs.Prelude.{IsPermutation, Vec, option_to_list}
+use Rattle.std.proofs.Common.{◌≡◌, ℕ, ◌/◌, ◌≤◌, ◌==◌, ◌⊎◌, Bool, true, false, List, [], ◌∷◌, ◌++◌, All, Option, Some, None, IfSome, IsTrue, is_some, filter, flat_map, map, cond, inl, inr, refl, sym, ap, ap₂, subst, ◌∙◌, arith, append-nil, eqb-true, eq-eqb, true≢false}
+use Rattle.std.specs.Prelude.{IsPermutation, Vec, max, option_to_list}
 use Rattle.std.specs.declared.alloc.Global.{Global}
 use Rattle.std.proofs.lemmas.List.Elements.{All-cons, All-contains, All-nil, All-weaker, filter-append}
 use Rattle.chi_events.specs.declared.event.Event.{Event}
@@ -17,15 +17,23 @@ use Rattle.chi_watch.specs.declared.followed.Followed.{Followed}
 use Rattle.chi_watch.specs.Changes.{CanEnd, IsClosed, IsClosedBy, IsTold}
 use Rattle.chi_watch.specs.declared.followed.Gap.{Gap}
 use Rattle.chi_watch.specs.Judged.{judged_part, unknown_at}
-use Rattle.chi_watch.specs.WordsTold.{openings, writes_told}
+use Rattle.chi_watch.specs.WordsTold.{openings, times_told, writes_told}
 use Rattle.chi_watch.specs.Requests.{StartsBy, granule_of_request}
-use Rattle.chi_watch.specs.Watches.{IsGranuleOf, IsWatched, told_of, unknown_by}
+use Rattle.chi_watch.specs.Watches.{IsGranuleOf, IsWatched, latest_of, told_of, unknown_by}
+use Rattle.std.proofs.lemmas.List.{map-append}
+use Rattle.chi_watch.proofs.LastTimes.{latest_first}
 use Rattle.chi_watch.proofs.MoreTold.{all_started, parts_moved}
 
 -- the operations of a granule, with one more of another
 other_more : (g : ℕ) (ended : List Operation) (op : Operation) → (granule_of op == g) ≡ false → filter (is_in g) (ended ++ op ∷ []) ≡ filter (is_in g) ended
 other_more g ended op other =
     filter-append (is_in g) ended (op ∷ []) ∙ (ap (λ (b : Bool). filter (is_in g) ended ++ cond b (op ∷ []) []) other ∙ append-nil (filter (is_in g) ended))
+
+-- when they ended, and with one more of it
+ends_more : (g : ℕ) (ended : List Operation) (op : Operation) → granule_of op ≡ g → map (λ o. o.end) (filter (is_in g) (ended ++ op ∷ [])) ≡ map (λ o. o.end) (filter (is_in g) ended) ++ op.end ∷ []
+ends_more g ended op is =
+    ap (map (λ (o : Operation). o.end)) (filter-append (is_in g) ended (op ∷ []) ∙ ap (λ (b : Bool). filter (is_in g) ended ++ cond b (op ∷ []) []) (eq-eqb (granule_of op) g is))
+    ∙ map-append (λ (o : Operation). o.end) (filter (is_in g) ended) (op ∷ [])
 
 -- and with one more of it
 own_one : (g : ℕ) (op : Operation) → granule_of op ≡ g → filter (is_in g) (op ∷ []) ≡ op ∷ []
@@ -57,6 +65,7 @@ module _ (events : List Event) (ended : List Operation) (before after : Outstand
     told_is = subst (λ (ops : List Operation). IsPermutation (flat_map (judged_part events) ops) w.told) (sym told) w.told_is;
     keeps = keeps_later (word_or_zero (openings events) g ∷ []) w.told before.time f.judge w.keeps after.time (omega (arith, later, now));
     started = subst (All (λ (op : Operation). op.start ≤ f.last)) (sym told) w.started;
+    last_is = w.last_is ∙ ap (λ (ops : List Operation). max (latest_of (map (λ (op : Operation). op.end) ops)) (latest_of (times_told events g))) (sym same);
     last_by = omega (arith, w.last_by, later, now);
     latest = omega (arith, w.latest, later, now);
     past = omega (arith, w.past, later, now);
@@ -69,7 +78,7 @@ module _ (events : List Event) (ended : List Operation) (before after : Outstand
       told = same_told g more same
 
   stays_on : (g : ℕ) (x : Option Followed) (more : List Operation) → filter (is_in g) more ≡ filter (is_in g) ended → IsGranuleOf events ended before g x → IsGranuleOf events more after g x
-  stays_on g None more same w = record { known = w.known; none = same_told g more same ∙ w.none; opening = w.opening; final_word = w.final_word }
+  stays_on g None more same w = record { known = w.known; none = same_told g more same ∙ w.none; times = w.times; opening = w.opening; final_word = w.final_word }
   stays_on g (Some f) more same w = watched_on g f more same w
 
   -- where an operation of the granule ended
@@ -98,6 +107,8 @@ module _ (events : List Event) (ended : List Operation) (before after : Outstand
       started = all_started events g ended (op ∷ []) old.last new.last (omega (arith, w.last_by, later, ends.end, t.last))
           (subst (All (λ (o : Operation). o.start ≤ new.last)) (sym (own_one g op is))
           (All-cons (λ (o : Operation). o.start ≤ new.last) op [] (omega (arith, ends.lasting, t.last)) (All-nil (λ (o : Operation). o.start ≤ new.last)))) w.started;
+      last_is = t.last ∙ sym (ap (λ (times : List ℕ). max (latest_of times) (latest_of (times_told events g))) (ends_more g ended op is)
+          ∙ latest_first (map (λ (o : Operation). o.end) (filter (is_in g) ended)) (times_told events g) op.end (omega (arith, w.last_is, w.last_by, later, ends.end)));
       last_by = omega (arith, t.last, ends.end, now);
       latest = omega (arith, t.heard.latest, ends.end, now);
       past = past old.judge.horizon new.judge.horizon w.past t.heard.horizon_is;

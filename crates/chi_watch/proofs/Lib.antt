@@ -7,6 +7,7 @@ pub mod Found
 pub mod FoundWords
 pub mod JudgedParts
 pub mod Judging
+pub mod LastTimes
 pub mod Lists
 pub mod Looked
 pub mod MoreParts

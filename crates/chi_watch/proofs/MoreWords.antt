@@ -1,5 +1,5 @@
 -- the words that are told, with one event more
-use Rattle.std.proofs.Common.{◌≡◌, ℕ, ◌==◌, Bool, true, false, not, ◌&&◌, ◌||◌, List, [], ◌∷◌, ◌++◌, Option, Some, None, IfSome, filter, filter_map, map, refl, sym, ap, ◌∙◌, append-nil, append_assoc}
+use Rattle.std.proofs.Common.{◌≡◌, ℕ, ◌==◌, Bool, true, false, not, ◌&&◌, ◌||◌, cond, List, [], ◌∷◌, ◌++◌, Option, Some, None, IfSome, filter, filter_map, map, refl, sym, ap, ◌∙◌, append-nil, append_assoc, eq-eqb}
 use Rattle.std.specs.Prelude.{option_to_list}
 use Rattle.std.specs.List.{cons_option, list_any}
 use Rattle.std.proofs.lemmas.List.Elements.{filter-append, filter_map-append}
@@ -13,7 +13,7 @@ use Rattle.chi_trace.specs.Words.{find_word}
 use Rattle.chi_trace.specs.declared.operation.Operation.{Operation}
 use Rattle.chi_trace.specs.declared.words.GranuleWord.{GranuleWord}
 use Rattle.chi_watch.specs.Judged.{tells_word}
-use Rattle.chi_watch.specs.WordsTold.{WordAt, covers, granule_word, openings, word_after, word_at, words_told, write_at, write_of, writes_told}
+use Rattle.chi_watch.specs.WordsTold.{WordAt, covers, granule_word, is_told_later, openings, times_told, word_after, word_at, words_told, write_at, write_of, writes_told}
 use Rattle.chi_watch.proofs.FoundWords.{told_other}
 use Rattle.chi_watch.proofs.Writes.{IsWriteOf, written}
 
@@ -71,6 +71,15 @@ module _ (events : List Event) (e : Event) where
   writes_more : writes_told (events ++ e ∷ []) ≡ writes_told events ++ filter_map write_of (map (since events) (word_at e.time e.kind))
   writes_more = ap (filter_map write_of) (words_more events e) ∙ filter_map-append write_of (words_told events) (map (since events) (word_at e.time e.kind))
 
+  abbrev times_of : ℕ → List WordAt → List ℕ
+  times_of g ws = map (λ w. w.time) (filter (is_told_later g) ws)
+
+  times_more : (g : ℕ) → times_told (events ++ e ∷ []) g ≡ times_told events g ++ times_of g (map (since events) (word_at e.time e.kind))
+  times_more g =
+      ap (times_of g) (words_more events e)
+      ∙ (ap (map (λ w. w.time)) (filter-append (is_told_later g) (words_told events) (map (since events) (word_at e.time e.kind)))
+      ∙ map-append (λ w. w.time) (filter (is_told_later g) (words_told events)) (filter (is_told_later g) (map (since events) (word_at e.time e.kind))))
+
   -- an event that tells no word
   pub openings_none : word_at e.time e.kind ≡ [] → openings (events ++ e ∷ []) ≡ openings events
   openings_none none = openings_more ∙ (ap (λ l. openings events ++ openings_of (map (since events) l)) none ∙ append-nil (openings events))
@@ -94,6 +103,18 @@ module _ (events : List Event) (e : Event) where
 
     pub opening_writes : covered ≡ false → writes_told (events ++ e ∷ []) ≡ writes_told events
     opening_writes so = writes_more ∙ (ap (λ l. writes_told events ++ filter_map write_of l) (own false so) ∙ append-nil (writes_told events))
+
+    pub opening_times : covered ≡ false → times_told (events ++ e ∷ []) w.granule ≡ times_told events w.granule
+    opening_times so =
+        times_more w.granule
+        ∙ (ap (λ l. times_told events w.granule ++ times_of w.granule l) (own false so)
+        ∙ (ap (λ b. times_told events w.granule ++ map (λ (x : WordAt). x.time) (cond (b && false) (record { time = e.time; told = w; is_opening = true } ∷ []) [])) (eq-eqb w.granule w.granule refl) ∙ append-nil (times_told events w.granule)))
+
+    pub later_times : covered ≡ true → times_told (events ++ e ∷ []) w.granule ≡ times_told events w.granule ++ e.time ∷ []
+    later_times so =
+        times_more w.granule
+        ∙ (ap (λ l. times_told events w.granule ++ times_of w.granule l) (own true so)
+        ∙ ap (λ b. times_told events w.granule ++ map (λ (x : WordAt). x.time) (cond (b && true) (record { time = e.time; told = w; is_opening = false } ∷ []) [])) (eq-eqb w.granule w.granule refl))
 
     pub later_openings : covered ≡ true → openings (events ++ e ∷ []) ≡ openings events
     later_openings so = openings_more ∙ (ap (λ l. openings events ++ openings_of l) (own true so) ∙ append-nil (openings events))
@@ -127,6 +148,20 @@ module _ (events : List Event) (e : Event) where
         by_kind (Final w) not_own = none_here (Final w) refl
         by_kind (Unknown addr len) not_own = none_here (Unknown addr len) refl
         by_kind End not_own = none_here End refl
+
+    pub same_times : tells_word g e.kind ≡ false → times_told (events ++ e ∷ []) g ≡ times_told events g
+    same_times other = times_more g ∙ by_kind e.kind other
+      where
+        by_kind : (k : EventKind) → tells_word g k ≡ false → times_told events g ++ times_of g (map (since events) (word_at e.time k)) ≡ times_told events g
+        by_kind (Word w) not_own = rw not_own (append-nil (times_told events g))
+        by_kind (Request r) not_own = append-nil (times_told events g)
+        by_kind (Data p) not_own = append-nil (times_told events g)
+        by_kind (Reply c) not_own = append-nil (times_told events g)
+        by_kind (Dropped id) not_own = append-nil (times_told events g)
+        by_kind (Refused id reason) not_own = append-nil (times_told events g)
+        by_kind (Final w) not_own = append-nil (times_told events g)
+        by_kind (Unknown addr len) not_own = append-nil (times_told events g)
+        by_kind End not_own = append-nil (times_told events g)
 
     -- the writes of the granule stay the same
     other_write : (w : WordTold) (b : Bool) → (w.granule == g) ≡ false → filter (is_in g) (filter_map write_of (record { time = e.time; told = w; is_opening = b } ∷ [])) ≡ []

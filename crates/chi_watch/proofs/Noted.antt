@@ -1,6 +1,6 @@
 -- what a watch knows once an event was noted
-use Rattle.std.proofs.Common.{◌≡◌, ℕ, ◌^◌, ◌-◌, ◌≤◌, ◌&&◌, ◌||◌, nat_le, Bool, true, false, List, [], ◌∷◌, ◌++◌, All, Option, Some, None, append-nil, filter, filter_map, flat_map, refl, sym, ap, ap₂, subst, ◌∙◌, arith}
-use Rattle.std.specs.Prelude.{IsPermutation}
+use Rattle.std.proofs.Common.{◌≡◌, ℕ, ◌^◌, ◌-◌, ◌≤◌, ◌&&◌, ◌||◌, nat_le, Bool, true, false, List, [], ◌∷◌, ◌++◌, All, Option, Some, None, append-nil, filter, filter_map, flat_map, length, map, refl, sym, ap, ap₂, subst, ◌∙◌, arith}
+use Rattle.std.specs.Prelude.{IsPermutation, max}
 use Rattle.std.specs.List.{list_any}
 use Rattle.std.specs.Option.{unwrap_or}
 use Rattle.std.proofs.lemmas.List.Elements.{All-nil, All-weaker, filter-append, filter_map-append}
@@ -19,20 +19,25 @@ use Rattle.chi_watch.specs.declared.followed.Gap.{Gap}
 use Rattle.chi_watch.specs.Changes.{IsUntouched}
 use Rattle.chi_watch.specs.Judged.{judged_part, tells_word, unknown_at}
 use Rattle.chi_watch.specs.Requests.{StartsBy, granule_of_request}
-use Rattle.chi_watch.specs.Watches.{IsGranuleOf, IsUntold, IsWatched, told_of, unknown_by}
-use Rattle.chi_watch.specs.WordsTold.{covers, final_in, final_words, openings, writes_told}
+use Rattle.chi_watch.specs.Watches.{IsGranuleOf, IsUntold, IsWatched, last_time, latest_of, told_of, unknown_by}
+use Rattle.chi_watch.specs.WordsTold.{covers, final_in, final_words, openings, times_told, writes_told}
 use Rattle.chi_watch.proofs.MoreParts.{own_of, parts_same}
-use Rattle.chi_watch.proofs.MoreWords.{same_opening, same_writes}
+use Rattle.chi_watch.proofs.MoreWords.{same_opening, same_times, same_writes}
 use Rattle.chi_watch.proofs.UnknownTimes.{any_more, unknown_none, unknown_same}
 
 -- no request starts before time 0
 pub from_start : (o : OutstandingValue) (g horizon : ℕ) → horizon ≡ 0 → StartsBy o.requests g horizon
 from_start o g horizon none = All-weaker (λ (p : Open). Unit {0}) (λ (p : Open). granule_of_request p ≡ g → horizon ≤ p.start) (λ p all is. omega (arith, none)) o.requests (λ i d below. tt)
 
+-- where there are none of two kinds there are none of the first
+none_of_both : (xs ys : List Operation) → xs ++ ys ≡ [] → xs ≡ []
+none_of_both [] ys none = refl
+none_of_both (x ∷ xs) ys none = absurd (omega (arith, ap length none))
+
 -- a granule that is watched from now on
-pub begun : (events : List Event) (ended : List Operation) (o : OutstandingValue) (g word : ℕ) (f : Followed) → list_any (λ (e : Event). covers g e.kind) events ≡ false → told_of events ended g ≡ []
+pub begun : (events : List Event) (ended : List Operation) (o : OutstandingValue) (g word : ℕ) (f : Followed) → list_any (λ (e : Event). covers g e.kind) events ≡ false → told_of events ended g ≡ [] → times_told events g ≡ []
     → word_or_zero (openings events) g ≡ word → find_word (final_words events) g ≡ None → IsUntouched word f → IsWatched events ended o g f
-begun events ended o g word f known none opening final_word u = record {
+begun events ended o g word f known none times opening final_word u = record {
   since = u.since ∙ sym (unknown_none events g (2 ^ 64 - 1) known);
   gaps = λ time. ap₂ (λ (gaps : List Gap) (since : Option ℕ). unknown_by gaps since time) u.gaps u.since ∙ sym (unknown_none events g time known);
   gaps_by = subst (All (λ (gap : Gap). gap.until ≤ f.last)) (sym u.gaps) (All-nil (λ (gap : Gap). gap.until ≤ f.last));
@@ -40,6 +45,7 @@ begun events ended o g word f known none opening final_word u = record {
   told_is = subst (λ (ops : List Operation). IsPermutation (flat_map (judged_part events) ops) []) (sym none) (IsPermutation-refl []);
   keeps = subst (λ (w : ℕ). Keeps (w ∷ []) [] o.time f.judge) (sym opening) (keeps_later (word ∷ []) [] 0 f.judge u.keeps o.time (omega arith));
   started = subst (All (λ (op : Operation). op.start ≤ f.last)) (sym none) (All-nil (λ (op : Operation). op.start ≤ f.last));
+  last_is = u.last ∙ sym (ap₂ (λ (ends : List ℕ) (later : List ℕ). max (latest_of ends) (latest_of later)) (ap (map (λ (op : Operation). op.end)) (none_of_both (filter (is_in g) ended) (filter (is_in g) (writes_told events)) (sym (filter-append (is_in g) ended (writes_told events)) ∙ none))) times);
   last_by = omega (arith, u.last);
   latest = omega (arith, u.latest);
   past = omega (arith, u.horizon);
@@ -77,6 +83,7 @@ module _ (events : List Event) (e : Event) where
       pub at : (time : ℕ) → unknown_at (events ++ e ∷ []) g time ≡ unknown_at events g time
       pub opening : find_word (openings (events ++ e ∷ [])) g ≡ find_word (openings events) g
       pub told : told_of (events ++ e ∷ []) ended g ≡ told_of events ended g
+      pub times : times_told (events ++ e ∷ []) g ≡ times_told events g
       pub final_word : find_word (final_words (events ++ e ∷ [])) g ≡ find_word (final_words events) g
 
     -- where it tells neither its word nor that something else may have written to it
@@ -85,6 +92,7 @@ module _ (events : List Event) (e : Event) where
       at = λ time. unknown_same events e g time (ap (λ b. b && nat_le e.time time) other) uncovered;
       opening = same_opening events e g other;
       told = told_same other;
+      times = same_times events e g other;
       final_word = final_word;
     }
 
@@ -93,6 +101,9 @@ module _ (events : List Event) (e : Event) where
     parts_retold at told =
         ap (flat_map (judged_part (events ++ e ∷ []))) told
         ∙ parts_same events e g (told_of events ended g) (own_of g (ended ++ writes_told events)) (λ i d below. at _)
+
+    pub last_same : times_told (events ++ e ∷ []) g ≡ times_told events g → last_time events ended g ≡ last_time (events ++ e ∷ []) ended g
+    last_same same = ap (λ (later : List ℕ). max (latest_of (map (λ (op : Operation). op.end) (filter (is_in g) ended))) (latest_of later)) (sym same)
 
     pub watched_retold : (o : OutstandingValue) (f : Followed) → IsRetold → IsWatched events ended o g f → IsWatched (events ++ e ∷ []) ended o g f
     watched_retold o f same w = record {
@@ -103,6 +114,7 @@ module _ (events : List Event) (e : Event) where
       told_is = subst (λ (l : List Operation). IsPermutation l w.told) (sym (parts_retold same.at same.told)) w.told_is;
       keeps = subst (λ (word : Option ℕ). Keeps (unwrap_or word 0 ∷ []) w.told o.time f.judge) (sym same.opening) w.keeps;
       started = subst (All (λ (op : Operation). op.start ≤ f.last)) (sym same.told) w.started;
+      last_is = w.last_is ∙ last_same same.times;
       last_by = w.last_by;
       latest = w.latest;
       past = w.past;
@@ -115,6 +127,7 @@ module _ (events : List Event) (e : Event) where
     untold_retold uncovered same w = record {
       known = any_more (λ (x : Event). covers g x.kind) events e false uncovered ∙ or_none (list_any (λ (x : Event). covers g x.kind) events) w.known;
       none = same.told ∙ w.none;
+      times = same.times ∙ w.times;
       opening = same.opening ∙ w.opening;
       final_word = same.final_word ∙ w.final_word;
     }

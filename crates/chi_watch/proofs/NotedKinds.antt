@@ -26,8 +26,8 @@ use Rattle.chi_watch.specs.Watches.{IsGranuleOf, IsUntold, IsWatched, has_final_
 use Rattle.chi_watch.specs.WordsTold.{covers, final_in, final_words, granule_word, openings, writes_told}
 use Rattle.chi_watch.proofs.FoundWords.{told_other, told_own}
 use Rattle.chi_watch.proofs.MoreParts.{own_of, parts_cut}
-use Rattle.chi_watch.proofs.MoreWords.{opening_told, opening_writes, same_opening}
-use Rattle.chi_watch.proofs.Noted.{IsRetold, begun, is_retold, no_final, one_final, parts_retold, retold, told_same, untold_retold, watched_retold}
+use Rattle.chi_watch.proofs.MoreWords.{opening_times, opening_told, opening_writes, same_opening, same_times}
+use Rattle.chi_watch.proofs.Noted.{IsRetold, begun, is_retold, last_same, no_final, one_final, parts_retold, retold, told_same, untold_retold, watched_retold}
 use Rattle.chi_watch.proofs.UnknownTimes.{any_more, cover_tells, unknown_more, unknown_same, unknown_time}
 use Rattle.chi_watch.proofs.WordAgain.{known_again}
 
@@ -66,7 +66,7 @@ module _ (events : List Event) (e : Event) (ended : List Operation) (o : Outstan
     requested_own : (g : ℕ) (x : Option Followed) (f : Followed) → IsSameOrUntouched 0 x f → Is g x → Will g (Some f)
     requested_own g None f was w =
         let now = untold_retold events e ended g (none.0 g) (same g) w in
-        begun (events ++ e ∷ []) ended o g 0 f now.known now.none (ap (λ (word : Option ℕ). unwrap_or word 0) now.opening) now.final_word was
+        begun (events ++ e ∷ []) ended o g 0 f now.known now.none now.times (ap (λ (word : Option ℕ). unwrap_or word 0) now.opening) now.final_word was
     requested_own g (Some old) f was w = subst (λ (y : Followed). Will g (Some y)) (sym was) (passes g (Some old) w)
 
   module _ (old new : ℕ → Option Followed) (each : (g : ℕ) → Is g (old g)) where
@@ -100,7 +100,7 @@ module _ (events : List Event) (e : Event) (ended : List Operation) (o : Outstan
             subst (λ (y : Followed). Will w.granule (Some y)) (sym (subst (λ (since : Option ℕ). IsKnownFrom since e.time w before f) u.since known))
             (begun (events ++ e ∷ []) ended o w.granule w.word before
             (any_more (λ (x : Event). covers w.granule x.kind) events e false (ap (covers w.granule) is) ∙ or_none (list_any (λ (x : Event). covers w.granule x.kind) events) untold.known)
-            (ap (λ (l : List Operation). filter (is_in w.granule) (ended ++ l)) (opening_writes events e w is untold.known) ∙ untold.none)
+            (ap (λ (l : List Operation). filter (is_in w.granule) (ended ++ l)) (opening_writes events e w is untold.known) ∙ untold.none) (opening_times events e w is untold.known ∙ untold.times)
             (ap (λ (word : Option ℕ). unwrap_or word 0) (ap (λ (words : List GranuleWord). find_word words w.granule) (opening_told events e w is untold.known) ∙ told_own (openings events) (granule_word w) untold.opening))
             (final_same ∙ untold.final_word) u)
           where
@@ -131,6 +131,7 @@ module _ (events : List Event) (e : Event) (ended : List Operation) (o : Outstan
         told_is = subst (λ (l : List Operation). IsPermutation l base.told) (sym (parts_retold events e ended w.granule unchanged told)) base.told_is;
         keeps = subst (λ (word : Option ℕ). Keeps (unwrap_or word 0 ∷ []) base.told o.time f.judge) (sym (same_opening events e w.granule (ap (tells_word w.granule) is))) base.keeps;
         started = subst (All (λ (op : Operation). op.start ≤ f.last)) (sym told) base.started;
+        last_is = base.last_is ∙ last_same events e ended w.granule (same_times events e w.granule (ap (tells_word w.granule) is));
         last_by = base.last_by;
         latest = base.latest;
         past = base.past;
@@ -147,7 +148,7 @@ module _ (events : List Event) (e : Event) (ended : List Operation) (o : Outstan
 
       final_own : (x : Option Followed) (f : Followed) → IsSameOrUntouched 0 x f → has_final_word x ≡ false → Is w.granule x → Will w.granule (Some (record f { final_word = Some w.word }))
       final_own None f u none untold =
-          final_told f (begun events ended o w.granule 0 f untold.known untold.none (ap (λ (word : Option ℕ). unwrap_or word 0) untold.opening) untold.final_word u) u.final_word
+          final_told f (begun events ended o w.granule 0 f untold.known untold.none untold.times (ap (λ (word : Option ℕ). unwrap_or word 0) untold.opening) untold.final_word u) u.final_word
       final_own (Some before) f so none watched =
           final_told f (subst (IsWatched events ended o w.granule) (sym so) watched) (ap (λ (y : Followed). y.final_word) so ∙ no_final_word before.final_word none)
         where
@@ -190,6 +191,7 @@ module _ (events : List Event) (e : Event) (ended : List Operation) (o : Outstan
         keeps = subst (λ (word : Option ℕ). Keeps (unwrap_or word 0 ∷ []) (cut_before e.time w.told) o.time f.judge) (sym (same_opening events e g wordless))
             (cut.keeps (word_or_zero (openings events) g ∷ []) w.told o.time (omega (arith, w.past, at)) w.keeps);
         started = subst (All (λ (op : Operation). op.start ≤ f.last)) (sym told) (subst (λ (n : ℕ). All (λ (op : Operation). op.start ≤ n) (told_of events ended g)) (sym cut.last) w.started);
+        last_is = cut.last ∙ (w.last_is ∙ last_same events e ended g (same_times events e g wordless));
         last_by = omega (arith, cut.last, w.last_by);
         latest = omega (arith, cut.latest, w.latest);
         past = omega (arith, cut.horizon, w.past);
@@ -212,6 +214,7 @@ module _ (events : List Event) (e : Event) (ended : List Operation) (o : Outstan
             at = λ time. more time ∙ some (unknown_at events g time) (option_map (λ (gap : Gap). gap.since) (find (λ (gap : Gap). nat_lt time gap.until) before.gaps.items)) (sym (w.gaps time) ∙ ap (λ (since : Option ℕ). unknown_by before.gaps.items since time) unknown);
             opening = same_opening events e g wordless;
             told = told;
+            times = same_times events e g wordless;
             final_word = no_final events e none g;
           }) w)
         where
@@ -225,7 +228,7 @@ module _ (events : List Event) (e : Event) (ended : List Operation) (o : Outstan
       unknown x (Some f) (before, was, since) w = cut_before_it before f before.unknown_since refl since (watched x was w)
         where
           watched : (x : Option Followed) → IsSameOrUntouched 0 x before → Is g x → IsWatched events ended o g before
-          watched None untouched untold = begun events ended o g 0 before untold.known untold.none (ap (λ (word : Option ℕ). unwrap_or word 0) untold.opening) untold.final_word untouched
+          watched None untouched untold = begun events ended o g 0 before untold.known untold.none untold.times (ap (λ (word : Option ℕ). unwrap_or word 0) untold.opening) untold.final_word untouched
           watched (Some old) so is = subst (IsWatched events ended o g) (sym so) is
 
     forgotten : final_in e.kind ≡ None → ((g : ℕ) → tells_word g e.kind ≡ false) → ((g : ℕ) → BecomesUnknownWhere (covers g e.kind) e.time (old g) (new g)) → (g : ℕ) → Will g (new g)

@@ -1,6 +1,6 @@
 -- what a watch knows of a granule once its word was told again
-use Rattle.std.proofs.Common.{◌≡◌, ℕ, ◌^◌, ◌-◌, ◌≤◌, ◌<◌, ◌&&◌, nat_le, nat_lt, Bool, true, false, cond, List, [], ◌∷◌, ◌++◌, All, Option, Some, None, IfSome, is_some, filter, flat_map, refl, sym, ap, ap₂, subst, ◌∙◌, append_assoc, arith, eq-eqb, le-leb}
-use Rattle.std.specs.Prelude.{IsPermutation, find, option_map, option_to_list}
+use Rattle.std.proofs.Common.{◌≡◌, ℕ, ◌^◌, ◌-◌, ◌≤◌, ◌<◌, ◌&&◌, nat_le, nat_lt, Bool, true, false, cond, List, [], ◌∷◌, ◌++◌, All, Option, Some, None, IfSome, is_some, filter, flat_map, map, refl, sym, ap, ap₂, subst, ◌∙◌, append_assoc, arith, eq-eqb, le-leb}
+use Rattle.std.specs.Prelude.{IsPermutation, find, max, option_map, option_to_list}
 use Rattle.std.specs.List.{list_any}
 use Rattle.std.specs.Option.{option_or, unwrap_or}
 use Rattle.std.proofs.lemmas.Bool.{le-ltb, lt-leb, ltb-false, ltb-true}
@@ -23,10 +23,11 @@ use Rattle.chi_watch.specs.declared.followed.Gap.{Gap}
 use Rattle.chi_watch.specs.Changes.{IsToldWord}
 use Rattle.chi_watch.specs.Judged.{is_word_by, judged_part, tells_word, unknown_at, unknown_since}
 use Rattle.chi_watch.specs.Requests.{StartsBy}
-use Rattle.chi_watch.specs.Watches.{IsWatched, told_of, unknown_by}
-use Rattle.chi_watch.specs.WordsTold.{covers, final_words, openings, write_at, writes_told}
+use Rattle.chi_watch.specs.Watches.{IsWatched, latest_of, told_of, unknown_by}
+use Rattle.chi_watch.proofs.LastTimes.{latest_second}
+use Rattle.chi_watch.specs.WordsTold.{covers, final_words, openings, times_told, write_at, writes_told}
 use Rattle.chi_watch.proofs.MoreParts.{own_of, parts_same}
-use Rattle.chi_watch.proofs.MoreWords.{later_openings, later_writes}
+use Rattle.chi_watch.proofs.MoreWords.{later_openings, later_times, later_writes}
 use Rattle.chi_watch.proofs.UnknownTimes.{unknown_covered, unknown_same, unknown_word}
 use Rattle.chi_watch.proofs.Writes.{IsWriteOf, written}
 
@@ -139,6 +140,8 @@ module _ (events : List Event) (e : Event) (w : WordTold) (is : e.kind ≡ Word 
           (All-append (λ (op : Operation). op.start ≤ new.last) (told_of events ended g) writes
           (All-weaker (λ (op : Operation). op.start ≤ old.last) (λ (op : Operation). op.start ≤ new.last) (λ op early. omega (arith, early, later, t.last)) (told_of events ended g) was.started)
           (write_started (write_at e.time w) (written e.time w)));
+      last_is = t.last ∙ sym (ap (λ (later : List ℕ). max (latest_of (map (λ (op : Operation). op.end) (filter (is_in g) ended))) (latest_of later)) (later_times events e w is (covered from some))
+          ∙ latest_second (map (λ (op : Operation). op.end) (filter (is_in g) ended)) (times_told events g) e.time (omega (arith, was.last_is, later)));
       last_by = omega (arith, t.last, at);
       latest = let by = t.written.latest (omega (arith, was.latest, at)) (omega (arith, was.past, at)) in omega (arith, by, at);
       past = omega (arith, t.written.horizon, was.past);

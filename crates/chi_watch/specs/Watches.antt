@@ -1,5 +1,5 @@
 -- what a watch knows of the events that it took
-use Rattle.std.specs.Prelude.{◌≡◌, ℕ, ◌+◌, ◌-◌, ◌/◌, ◌^◌, ◌<◌, ◌≤◌, ◌==◌, ◌⊎◌, length, min, nat_le, nat_lt, Bool, true, false, ◌&&◌, ◌||◌, if◌then◌else◌, List, [], ◌∷◌, ◌++◌, All, Option, Some, None, is_none, is_some, option_and_then, option_map, option_to_list, IsTrue, IsPermutation, filter, find, flat_map}
+use Rattle.std.specs.Prelude.{◌≡◌, ℕ, ◌+◌, ◌-◌, ◌/◌, ◌^◌, ◌<◌, ◌≤◌, ◌==◌, ◌⊎◌, length, max, min, nat_le, nat_lt, Bool, true, false, ◌&&◌, ◌||◌, if◌then◌else◌, List, [], ◌∷◌, ◌++◌, All, Option, Some, None, is_none, is_some, option_and_then, option_map, option_to_list, IsTrue, IsPermutation, filter, find, flat_map, map}
 use Rattle.std.specs.List.{list_any}
 use Rattle.std.specs.BTreeMap.{is_at}
 use Rattle.std.specs.Map.{lookup}
@@ -20,7 +20,7 @@ use Rattle.chi_watch.specs.declared.fault.WatchFault.TheVariants as fault
 use Rattle.chi_watch.specs.Faults.{as_watch_fault}
 use Rattle.chi_watch.specs.Requests.{StartsBy, granule_of_request}
 use Rattle.chi_watch.specs.Judged.{CanBeExplained, IsExplainedBy, is_known, judged_part, unknown_at, unknown_since}
-use Rattle.chi_watch.specs.WordsTold.{covers, final_words, openings, writes_told}
+use Rattle.chi_watch.specs.WordsTold.{covers, final_words, openings, times_told, writes_told}
 use Rattle.chi_watch.specs.declared.followed.Gap.{Gap}
 
 -- the requests that are outstanding, each granule of which something was told, and how many operations had ended: 2^64 - 1 stands
@@ -46,6 +46,15 @@ unknown_by gaps since time = option_or (option_map (λ gap. gap.since) (find (λ
 abbrev pub told_of : List Event → List Operation → ℕ → List Operation
 told_of events ended g = filter (is_in g) (ended ++ writes_told events)
 
+-- the latest of some times, and 0 where there is none
+abbrev pub latest_of : List ℕ → ℕ
+latest_of [] = 0
+latest_of (time ∷ times) = max time (latest_of times)
+
+-- when the last of a granule's operations had ended, or its word was told later
+abbrev pub last_time : List Event → List Operation → ℕ → ℕ
+last_time events ended g = max (latest_of (map (λ op. op.end) (filter (is_in g) ended))) (latest_of (times_told events g))
+
 -- A granule that is watched: its judge was told its operations that had ended, from its word at the opening on, as far as all that
 -- wrote to it is told, and the writes that stand for words. All these started by its last time.
 pub record IsWatched (events : List Event) (ended : List Operation) (o : OutstandingValue) (g : ℕ) (f : Followed) : Type 0 where
@@ -56,6 +65,7 @@ pub record IsWatched (events : List Event) (ended : List Operation) (o : Outstan
   pub told_is : IsPermutation (flat_map (judged_part events) (told_of events ended g)) told
   pub keeps : Keeps (word_or_zero (openings events) g ∷ []) told o.time f.judge
   pub started : All (λ op. op.start ≤ f.last) (told_of events ended g)
+  pub last_is : f.last ≡ last_time events ended g
   pub last_by : f.last ≤ o.time
   pub latest : f.judge.latest ≤ o.time
   pub past : f.judge.horizon ≤ o.time
@@ -67,6 +77,7 @@ pub record IsWatched (events : List Event) (ended : List Operation) (o : Outstan
 pub record IsUntold (events : List Event) (ended : List Operation) (g : ℕ) : Type 0 where
   pub known : list_any (λ e. covers g e.kind) events ≡ false
   pub none : told_of events ended g ≡ []
+  pub times : times_told events g ≡ []
   pub opening : find_word (openings events) g ≡ None
   pub final_word : find_word (final_words events) g ≡ None
 

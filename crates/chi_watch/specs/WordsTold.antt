@@ -72,6 +72,13 @@ write_of w = if w.is_opening then None else write_at w.time w.told
 abbrev pub writes_told : List Event → List Operation
 writes_told events = filter_map write_of (words_told events)
 
+-- the times at which the granule's word is told later
+abbrev pub is_told_later : ℕ → WordAt → Bool
+is_told_later g w = w.told.granule == g && not w.is_opening
+
+abbrev pub times_told : List Event → ℕ → List ℕ
+times_told events g = map (λ w. w.time) (filter (is_told_later g) (words_told events))
+
 -- and a word that is told after a granule's last request
 abbrev pub final_in : EventKind → Option GranuleWord
 final_in (Final w) = Some (granule_word w)

@@ -15,7 +15,7 @@ returns c = record {
   tells = c.new.ensures.tells;
   time = let none = c.new.ensures.none.1 in omega (arith, none);
   each = λ g. subst (λ (entries : List (ℕ × Followed)). IsGranuleOf [] [] c.new.result g (granule (record { outstanding = c.new.result; granules = entries; ended = 0 }) g)) (sym c.new-2.ensures.empty)
-      (record { known = refl; none = refl; opening = refl; final_word = refl });
+      (record { known = refl; none = refl; times = refl; opening = refl; final_word = refl });
   requested = subst (λ (requests : List Open). All (λ p. IsTrue (is_some (granule (record { outstanding = c.new.result; granules = c.new-2.result.entries; ended = 0 }) (granule_of_request p)))) requests) (sym c.new.ensures.none.0)
       (All-nil (λ (p : Open). IsTrue (is_some (granule (record { outstanding = c.new.result; granules = c.new-2.result.entries; ended = 0 }) (granule_of_request p)))));
   count = omega arith;
