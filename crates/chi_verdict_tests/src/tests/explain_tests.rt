@@ -2,12 +2,12 @@
 
 use crate::tests::comparison::assert_same;
 use crate::tests::traces::{
-    HIGH, LOW, LOWER, Told, UPPER, WRITE, add, assert_ordered, assert_verdicts, at, read, silent,
-    trace, write,
+    BUDGET, HIGH, LOW, LOWER, Told, UPPER, WRITE, add, assert_ordered, assert_verdicts, at, read,
+    silent, trace, write,
 };
-use chi_search::NoProgress;
+use chi_search::{Found, NoProgress};
 use chi_trace::{GranuleWord, GranuleWords};
-use chi_verdict::{Verdict, explain};
+use chi_verdict::{Grouped, Verdict, explain};
 use std::test::Fail;
 
 #[test]
@@ -86,5 +86,30 @@ fn undecided_where_the_budget_was_spent(rt: HostRuntime) -> Result<(), Fail> {
         _ => (0, 0),
     };
     assert_same(&rt, found, (LOWER, 2));
+    Ok(())
+}
+
+#[test]
+fn granules_one_after_the_other(rt: HostRuntime) -> Result<(), Fail> {
+    let ops = [
+        write((0, 10), HIGH, 5),
+        read((5, 15), LOW, 1),
+        read((11, 20), HIGH, 5),
+    ];
+    let trace = trace(rt.alloc(), &ops)?;
+    let none = GranuleWords::none(rt.alloc());
+    let grouped = Grouped::of(rt.alloc(), &trace)?;
+    let wanted: [(u64, Option<&[usize]>); 3] = [
+        (UPPER, Some(&[0, 2])),
+        (LOWER, None),
+        (LOWER + 1, Some(&[])),
+    ];
+    for (granule, order) in wanted {
+        let mut budget = BUDGET;
+        match grouped.explain(rt.alloc(), &none, granule, &mut budget, &mut NoProgress)? {
+            Found::Order(found) => assert_same(&rt, Some(found.as_slice()), order),
+            _ => assert_same(&rt, None, order),
+        }
+    }
     Ok(())
 }
