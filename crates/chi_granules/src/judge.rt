@@ -50,25 +50,3 @@ pub(crate) fn judged_in<P: Progress>(
         Found::Undecided => Ok(unordered(alloc, granule, Standing::Undecided)),
     }
 }
-
-/// What is found of a granule of a trace, by its number. `budget` is how many states may be looked at, and is left with how many
-/// more might have been.
-///
-/// ```
-/// let drawn = judged_granule(alloc, &recorded, 0x1008 / 8, &mut budget, &mut NoProgress)?;
-/// ```
-pub fn judged_granule<P: Progress>(
-    alloc: Global,
-    recorded: &Recorded,
-    granule: u64,
-    budget: &mut u64,
-    progress: &mut P,
-) -> Result<Drawn, AllocError>
-    ensures granule { IfOk result (λ drawn. drawn.granule ≡ granule) }
-    ensures judged { IfOk result (IsJudged recorded.now) }
-    ensures undecided { IfOk result (λ drawn. IfUndecided drawn (budget.new ≡ 0)) }
-    ensures spends { IfOk result (λ _. (budget.new ≤ budget.old) × LookedMore P.looked progress.old progress.new (budget.old - budget.new)) }
-{
-    let grouped = Grouped::of(alloc, recorded.trace())?;
-    judged_in(alloc, recorded, &grouped, granule, budget, progress)
-}

@@ -5,6 +5,5 @@ mod judge;
 mod listing;
 mod whole;
 
-pub use judge::judged_granule;
 pub use listing::judged_granules;
 pub use whole::{all_granules, granules_around};

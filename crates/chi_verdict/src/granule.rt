@@ -7,13 +7,12 @@ ghost use Rattle.chi_search.specs.Looks.{LookedMore};
 ghost use Rattle.chi_trace.specs.AtPlaces.{at_places};
 ghost use Rattle.chi_trace.specs.Explains.{IsTrace};
 ghost use Rattle.chi_trace.specs.Granules.{ExplainsGranule, is_of};
-ghost use Rattle.chi_trace.specs.Traces.{IsExplainedIn};
 ghost use Rattle.chi_verdict.specs.Groups.{AreInside, IsGrouped, places_of};
 
 use crate::grouping::{Placed, of_granule};
 use chi_search::{Found, Progress, Words, order_of, words_of};
+use chi_trace::Operation;
 use chi_trace::laws::places_explain;
-use chi_trace::{GranuleWords, Operation, Trace};
 use std::alloc::{AllocError, Global};
 
 /// The operations at these places.
@@ -87,36 +86,4 @@ pub(crate) fn words_left<P: Progress>(
     let own = at_places(alloc, ops, &run)?;
     places_explain();
     words_of(alloc, &own, &[word], budget, progress)
-}
-
-/// Whether the operations of one granule of a trace can be explained by themselves: an order of them, by their places in the trace,
-/// from the granule's word at the opening to the one at the end, where that is told. `granule` is its number, counted from address 0.
-/// `budget` is how many states may be looked at, and is left with how many more might have been.
-///
-/// ```
-/// match explain_granule(alloc, &trace, &final_words, 0x1000 / 8, &mut budget, &mut NoProgress)? {
-///     Found::Order(order) => show(&order),
-///     Found::Nothing => blame(),
-///     Found::Undecided => take_more_time(),
-/// }
-/// ```
-pub fn explain_granule<P: Progress>(
-    alloc: Global,
-    trace: &Trace,
-    final_words: &GranuleWords,
-    granule: u64,
-    budget: &mut u64,
-    progress: &mut P,
-) -> Result<Found, AllocError>
-    ensures order { IfOk result (λ found. IfOrder found (IsExplainedIn trace.now final_words.now granule)) }
-    ensures nothing { IfOk result (λ found. IfNothing found ((order : List ℕ) → IsExplainedIn trace.now final_words.now granule order → ⊥)) }
-    ensures undecided { IfOk result (λ found. IfUndecided found (budget.new ≡ 0)) }
-    ensures spends { IfOk result (λ found. (budget.new ≤ budget.old) × LookedMore P.looked progress.old progress.new (budget.old - budget.new)) }
-{
-    let ops = trace.operations();
-    let word = trace.opening().word(granule);
-    let final_word = final_words.get(granule);
-    let run = of_granule(alloc, ops, granule)?;
-    let group = Group { granule, run: &run };
-    search_granule(alloc, ops, &group, word, final_word, budget, progress)
 }

@@ -46,10 +46,16 @@ impl<'a> Grouped<'a> {
         Ok(Grouped { trace, places })
     }
 
-    /// Whether the operations of one granule can be explained by themselves, as `explain_granule` says it.
+    /// Whether the operations of one granule can be explained by themselves: an order of them, by their places in the trace, from
+    /// the granule's word at the opening to the one at the end, where that is told. `granule` is its number, counted from address
+    /// 0. `budget` is how many states may be looked at, and is left with how many more might have been.
     ///
     /// ```
-    /// let found = grouped.explain(alloc, &final_words, 0x1000 / 8, &mut budget, &mut NoProgress)?;
+    /// match grouped.explain(alloc, &final_words, 0x1000 / 8, &mut budget, &mut NoProgress)? {
+    ///     Found::Order(order) => show(&order),
+    ///     Found::Nothing => blame(),
+    ///     Found::Undecided => take_more_time(),
+    /// }
     /// ```
     pub fn explain<P: Progress>(
         &self,

@@ -16,7 +16,6 @@ mod verdict;
 
 pub use doubt::{Doubt, doubt_of};
 pub use first::{Blame, First, first_unexplained};
-pub use granule::explain_granule;
 pub use grouped::Grouped;
 pub use held::words_held;
 pub use verdict::{Verdict, explain};
