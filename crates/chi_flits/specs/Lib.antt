@@ -1,0 +1,6 @@
+pub mod Requests
+pub mod Answers
+pub mod History
+pub mod Told
+pub mod Faults
+pub mod Effects

@@ -1,0 +1,27 @@
+//! Flits at a home's port, and the events that they tell. Source: profile.
+#![tactic(auto)]
+
+mod effects;
+mod fault;
+mod flit;
+mod lanes;
+mod noting;
+mod opcode;
+mod open;
+mod port;
+mod read_faults;
+mod request;
+mod response_faults;
+mod taking;
+mod told_answers;
+mod told_data;
+mod told_requests;
+mod transaction;
+mod transfer;
+mod write_faults;
+
+pub use fault::FlitFault;
+pub use flit::{Chunk, DataFlit, Flit, FlitKind, RequestFlit, ResponseFlit};
+pub use port::Port;
+pub use transaction::Transaction;
+pub use transfer::Transfer;

@@ -1,0 +1,8 @@
+//! Flits whose events were worked by hand.
+
+mod answer_tests;
+mod comparison;
+mod data_tests;
+mod fault_tests;
+mod flits;
+mod request_tests;
