@@ -1,0 +1,2 @@
+pub mod MaskSoFar
+pub mod NumberSoFar

@@ -1,0 +1,17 @@
+//! Flits as objects of JSON, and how one is read. Source: profile.
+#![tactic(auto)]
+
+mod channel;
+mod digits;
+mod fault;
+mod flit_line;
+mod hex_member;
+mod kind;
+mod lanes;
+mod looked_at;
+mod member;
+mod numbers;
+
+pub use fault::FlitLineFault;
+pub use flit_line::read_flit;
+pub use member::FlitMember;

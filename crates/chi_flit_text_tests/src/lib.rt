@@ -1,0 +1,13 @@
+//! Tests of how flits are read.
+#![tactic(auto)]
+
+#[cfg(test)]
+mod comparison;
+#[cfg(test)]
+mod data_tests;
+#[cfg(test)]
+mod fault_tests;
+#[cfg(test)]
+mod request_tests;
+#[cfg(test)]
+mod response_tests;
