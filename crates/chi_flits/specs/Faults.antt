@@ -44,11 +44,16 @@ abbrev pub request_fault : RequestFlit → Option Transaction → Option FlitFau
 request_fault q None = None
 request_fault q (Some t) = fault_if (takes_txn q.opcode && is_told t.request && not (is_over t)) fault.TakesOpen
 
--- what is wrong with the DBID that is given to a request
+-- data are still to come by a DBID
+abbrev pub is_held : Transfer → Bool
+is_held w = is_told w.request && not (are_whole w.request w.chunks)
+
+-- what is wrong with a DBID that is given, and with one that is given to a request
+abbrev pub held_fault : Option Transfer → Option FlitFault
+held_fault held = fault_if (option_map_or is_held held false) fault.DbidTaken
+
 abbrev pub dbid_fault : Transaction → Option Transfer → Option FlitFault
-dbid_fault t held =
-    if t.has_dbid || not (needs_data t.request) then Some fault.SecondDbid
-    else fault_if (option_map_or (λ other. is_told other.request && not (are_whole other.request other.chunks)) held false) fault.DbidTaken
+dbid_fault t held = if t.has_dbid || not (needs_data t.request) then Some fault.SecondDbid else held_fault held
 
 abbrev pub comp_fault : ResponseFlit → Transaction → Option FlitFault
 comp_fault r t =
@@ -61,11 +66,12 @@ open_fault r t held =
     if is_retry r then fault_if (t.has_dbid || t.is_completed || has_answers t) fault.RetryLate
     else option_or (if gives_dbid r then dbid_fault t held else None) (if is_comp r then comp_fault r t else None)
 
--- of a response to what is known of its TxnID, by what is known of its DBID
+-- of a response to what is known of its TxnID, by what is known of its DBID; to a request that is not told of its DBID alone
 abbrev pub response_fault : ResponseFlit → Option Transaction → Option Transfer → Option FlitFault
 response_fault r None held = fault_if (is_response r) fault.NotOpen
 response_fault r (Some t) held =
-    if not (is_response r && is_told t.request) then None
+    if not (is_response r) then None
+    else if not (is_told t.request) then (if gives_dbid r then held_fault held else None)
     else if is_over t then Some fault.NotOpen
     else open_fault r t held
 

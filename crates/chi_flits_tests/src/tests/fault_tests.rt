@@ -108,6 +108,23 @@ fn dbid_that_is_still_held(rt: HostRuntime) -> Result<(), Fail> {
     assert_told(&rt, &kinds, &wanted)
 }
 
+/// WriteUniquePtl, which is not told, is given the DBID of a write of which no data came.
+#[test]
+fn dbid_that_a_request_that_is_not_told_takes_over(rt: HostRuntime) -> Result<(), Fail> {
+    let kinds = [
+        request(0, WRITE, 3, 0x1000),
+        response(0, DBID, 5),
+        request(1, 0x18, 3, 0x2008),
+        response(1, DBID, 5),
+    ];
+    let wanted = [
+        Told::Request(0, WRITE, 3, 0x1000),
+        Told::Unknown(0x2000),
+        Told::Fault(FlitFault::DbidTaken),
+    ];
+    assert_told(&rt, &kinds, &wanted)
+}
+
 #[test]
 fn second_completion(rt: HostRuntime) -> Result<(), Fail> {
     let kinds = [
