@@ -13,6 +13,7 @@ use Rattle.chi_flits.specs.declared.flit.FlitKind.{FlitKind}
 use Rattle.chi_flits.specs.declared.flit.FlitKind.TheVariants as kind
 use Rattle.chi_flits.specs.declared.flit.RequestFlit.{RequestFlit}
 use Rattle.chi_flits.specs.declared.flit.ResponseFlit.{ResponseFlit}
+use Rattle.chi_flits.specs.Opcodes.{gives_dbid, is_atomic, is_comp, is_read_data, is_response, is_write_data, takes_txn}
 use Rattle.chi_flit_text.specs.declared.fault.FlitLineFault.{FlitLineFault}
 use Rattle.chi_flit_text.specs.declared.fault.FlitLineFault.TheVariants as fault
 use Rattle.chi_flit_text.specs.declared.flit_line.FlitLine.{FlitLine}
@@ -24,7 +25,7 @@ use Rattle.chi_flit_text.specs.declared.numbers.ResponseNumbers.{ResponseNumbers
 use Rattle.chi_flit_text.specs.declared.numbers.Numbers.{Numbers}
 use Rattle.chi_flit_text.specs.declared.numbers.Numbers.TheVariants as numbers
 use Rattle.chi_flit_text.specs.Faults.{faultless, of_flit}
-use Rattle.chi_flit_text.specs.LookedAt.{completes, gives_dbid, has_excl, has_transaction, has_write_error, is_atomic, is_of_transaction, is_read_data, is_write_data, looked_at, may_write}
+use Rattle.chi_flit_text.specs.LookedAt.{has_addr, has_excl, has_write_error, looked_at}
 use Rattle.chi_flit_text.specs.Member.{member_name, members_of}
 use Rattle.chi_flit_text.specs.Stated.{channel_of, stated_of, validity_by}
 
@@ -33,10 +34,10 @@ use Rattle.chi_flit_text.specs.Stated.{channel_of, stated_of, validity_by}
 unfoldable pub request_flit : ℕ → RequestNumbers → Result RequestFlit FlitLineFault
 request_flit number n = do
   opcode ← looked_at true member.Opcode 0 n.opcode
-  src ← looked_at (has_transaction opcode) member.Src 0 n.src
-  txn ← looked_at (has_transaction opcode) member.Txn 0 n.txn
-  size ← looked_at (may_write opcode) member.Size 0 n.size
-  addr ← looked_at (may_write opcode) member.Addr 0 n.addr
+  src ← looked_at (takes_txn opcode) member.Src 0 n.src
+  txn ← looked_at (takes_txn opcode) member.Txn 0 n.txn
+  size ← looked_at (has_addr opcode) member.Size 0 n.size
+  addr ← looked_at (has_addr opcode) member.Addr 0 n.addr
   endian ← looked_at (is_atomic opcode) member.Endian 0 n.endian
   excl ← looked_at (has_excl opcode) member.Excl 0 n.excl
   Ok (record { number = number; src = src; txn = txn; opcode = opcode; size = size; addr = addr; endian = endian == 1; excl = excl == 1 })
@@ -44,9 +45,9 @@ request_flit number n = do
 unfoldable pub response_flit : ResponseNumbers → Result ResponseFlit FlitLineFault
 response_flit n = do
   opcode ← looked_at true member.Opcode 0 n.opcode
-  tgt ← looked_at (is_of_transaction opcode) member.Tgt 0 n.tgt
-  txn ← looked_at (is_of_transaction opcode) member.Txn 0 n.txn
-  resp_err ← looked_at (completes opcode) member.RespErr 0 n.resp_err
+  tgt ← looked_at (is_response opcode) member.Tgt 0 n.tgt
+  txn ← looked_at (is_response opcode) member.Txn 0 n.txn
+  resp_err ← looked_at (is_comp opcode) member.RespErr 0 n.resp_err
   dbid ← looked_at (gives_dbid opcode) member.Dbid 0 n.dbid
   Ok (record { tgt = tgt; txn = txn; opcode = opcode; resp_err = resp_err; dbid = dbid })
 

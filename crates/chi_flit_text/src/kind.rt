@@ -4,13 +4,13 @@ ghost use Rattle.std.specs.Prelude.{◌≡◌, ◌<◌};
 ghost use Rattle.chi_flit_text.specs.FlitText.{is_data_id, kind_of, placed, quarter_of, quarters_of, read_flit, request_flit, response_flit, write_flit};
 
 use crate::fault::FlitLineFault;
-use crate::looked_at::{
-    completes, gives_dbid, has_excl, has_transaction, has_write_error, is_atomic,
-    is_of_transaction, is_read_data, is_write_data, looked_at, may_write,
-};
+use crate::looked_at::{has_addr, has_excl, has_write_error, looked_at};
 use crate::member::FlitMember;
 use crate::numbers::{DataNumbers, Numbers, RequestNumbers, ResponseNumbers};
-use chi_flits::{Chunk, DataFlit, FlitKind, RequestFlit, ResponseFlit};
+use chi_flits::{
+    Chunk, DataFlit, FlitKind, RequestFlit, ResponseFlit, gives_dbid, is_atomic, is_comp,
+    is_read_data, is_response, is_write_data, takes_txn,
+};
 
 /// The request of this number.
 #[tactic(auto, unfolding(crate::specs::FlitText::request_flit))]
@@ -18,10 +18,10 @@ fn request(number: u64, numbers: RequestNumbers) -> Result<RequestFlit, FlitLine
     ensures { result ≡ request_flit number numbers }
 {
     let opcode = looked_at(true, FlitMember::Opcode, 0, numbers.opcode)?;
-    let src = looked_at(has_transaction(opcode), FlitMember::Src, 0, numbers.src)?;
-    let txn = looked_at(has_transaction(opcode), FlitMember::Txn, 0, numbers.txn)?;
-    let size = looked_at(may_write(opcode), FlitMember::Size, 0, numbers.size)?;
-    let addr = looked_at(may_write(opcode), FlitMember::Addr, 0, numbers.addr)?;
+    let src = looked_at(takes_txn(opcode), FlitMember::Src, 0, numbers.src)?;
+    let txn = looked_at(takes_txn(opcode), FlitMember::Txn, 0, numbers.txn)?;
+    let size = looked_at(has_addr(opcode), FlitMember::Size, 0, numbers.size)?;
+    let addr = looked_at(has_addr(opcode), FlitMember::Addr, 0, numbers.addr)?;
     let endian = looked_at(is_atomic(opcode), FlitMember::Endian, 0, numbers.endian)?;
     let excl = looked_at(has_excl(opcode), FlitMember::Excl, 0, numbers.excl)?;
     Ok(RequestFlit {
@@ -42,10 +42,10 @@ fn response(numbers: ResponseNumbers) -> Result<ResponseFlit, FlitLineFault>
     ensures { result ≡ response_flit numbers }
 {
     let opcode = looked_at(true, FlitMember::Opcode, 0, numbers.opcode)?;
-    let is_looked_at = is_of_transaction(opcode);
+    let is_looked_at = is_response(opcode);
     let tgt = looked_at(is_looked_at, FlitMember::Tgt, 0, numbers.tgt)?;
     let txn = looked_at(is_looked_at, FlitMember::Txn, 0, numbers.txn)?;
-    let resp_err = looked_at(completes(opcode), FlitMember::RespErr, 0, numbers.resp_err)?;
+    let resp_err = looked_at(is_comp(opcode), FlitMember::RespErr, 0, numbers.resp_err)?;
     let dbid = looked_at(gives_dbid(opcode), FlitMember::Dbid, 0, numbers.dbid)?;
     Ok(ResponseFlit {
         tgt,

@@ -1,85 +1,33 @@
-//! What of a flit is looked at, by its channel and its opcode.
-//!
-//! Source: Arm IHI 0050 Issue B, encodings of the opcodes.
+//! What of a flit is looked at, by its opcode.
 
 ghost use Rattle.std.specs.Prelude.{◌≡◌};
-ghost use Rattle.chi_flit_text.specs.LookedAt.{completes, gives_dbid, has_excl, has_transaction, has_write_error, is_atomic, is_of_transaction, is_read_data, is_write_data, looked_at, may_write};
+ghost use Rattle.chi_flit_text.specs.LookedAt.{has_addr, has_excl, has_write_error, looked_at};
 
 use crate::fault::FlitLineFault;
 use crate::member::FlitMember;
+use chi_flits::{
+    is_atomic, is_cancel, is_read, is_write, is_write_data, takes_txn, writes_nothing,
+};
 
-/// Whether a request has a TxnID.
-pub(crate) fn has_transaction(opcode: u8) -> bool
-    ensures { result ≡ has_transaction opcode }
+/// Whether the size and the address of a request are looked at.
+pub(crate) fn has_addr(opcode: u8) -> bool
+    ensures { result ≡ has_addr opcode }
 {
-    !matches!(opcode, 0x00 | 0x05 | 0x3a)
-}
-
-/// Whether a request may write, so that its size and its address are looked at.
-pub(crate) fn may_write(opcode: u8) -> bool
-    ensures { result ≡ may_write opcode }
-{
-    has_transaction(opcode)
-        && !matches!(
-            opcode,
-            0x01 | 0x02 | 0x03 | 0x0d | 0x14 | 0x22 | 0x23 | 0x24 | 0x26
-        )
-}
-
-/// Whether a request is an atomic, so that its byte order is looked at.
-pub(crate) fn is_atomic(opcode: u8) -> bool
-    ensures { result ≡ is_atomic opcode }
-{
-    (0x28..=0x39).contains(&opcode)
+    takes_txn(opcode) && !writes_nothing(opcode)
 }
 
 /// Whether the `excl` of a request is looked at.
 pub(crate) fn has_excl(opcode: u8) -> bool
     ensures { result ≡ has_excl opcode }
 {
-    is_atomic(opcode) || matches!(opcode, 0x04 | 0x1c | 0x1d)
+    is_read(opcode) || is_write(opcode) || is_atomic(opcode)
 }
 
-/// Whether a response is of a transaction of a requester.
-pub(crate) fn is_of_transaction(opcode: u8) -> bool
-    ensures { result ≡ is_of_transaction opcode }
-{
-    matches!(opcode, 3 | 4 | 5 | 6)
-}
-
-/// Whether a response completes a transaction, so that its error is looked at.
-pub(crate) fn completes(opcode: u8) -> bool
-    ensures { result ≡ completes opcode }
-{
-    matches!(opcode, 4 | 5)
-}
-
-/// Whether a response gives a DBID.
-pub(crate) fn gives_dbid(opcode: u8) -> bool
-    ensures { result ≡ gives_dbid opcode }
-{
-    matches!(opcode, 5 | 6)
-}
-
-/// Whether data to a requester are looked at.
-pub(crate) fn is_read_data(opcode: u8) -> bool
-    ensures { result ≡ is_read_data opcode }
-{
-    opcode == 4
-}
-
-/// Whether data from a requester are looked at.
-pub(crate) fn is_write_data(opcode: u8) -> bool
-    ensures { result ≡ is_write_data opcode }
-{
-    matches!(opcode, 3 | 7)
-}
-
-/// Whether the error of data from a requester is looked at.
+/// Whether the error of data to the home is looked at.
 pub(crate) fn has_write_error(opcode: u8) -> bool
     ensures { result ≡ has_write_error opcode }
 {
-    opcode == 3
+    is_write_data(opcode) && !is_cancel(opcode)
 }
 
 /// The value of a member. One that is not known is a fault where the member is looked at, and else `zero`.

@@ -9,12 +9,12 @@ use Rattle.chi_flits.specs.declared.flit.RequestFlit.{RequestFlit}
 use Rattle.chi_flits.specs.declared.flit.ResponseFlit.{ResponseFlit}
 use Rattle.chi_flits.specs.declared.transaction.Transaction.{Transaction}
 use Rattle.chi_flits.specs.declared.transfer.Transfer.{Transfer}
-use Rattle.chi_flits.specs.Answers.{drops, gives_dbid, is_read_data, is_response, is_write_data, key}
+use Rattle.chi_flits.specs.Answers.{drops, key}
 use Rattle.chi_flits.specs.Effects.{HasSeen, Knows, PortValue, begun, dropped_by, transaction_after, transaction_in, transfer_after, transfer_in}
 use Rattle.chi_flits.specs.Faults.{fault_with, read_fault, request_fault, response_fault, write_fault}
+use Rattle.chi_flits.specs.Opcodes.{gives_dbid, is_read_data, is_response, is_write_data, takes_txn}
 use Rattle.chi_flits.specs.Told.{told_of_read, told_of_response, told_of_write, told_with}
 use Rattle.chi_flits.specs.History.{Taken, answers, given, is_dropped, sent, taken, transaction, transfer}
-use Rattle.chi_flits.specs.Requests.{takes_txn}
 
 -- a flit of a kind before others
 abbrev after : ℕ → FlitKind → List Flit → List Flit
@@ -36,27 +36,27 @@ module _ (time : ℕ) (older : List Flit) where
 
     by_response : (r : ResponseFlit) → Steps (kind.Response r)
     unfolding taken answers is_dropped
-    by_response r = by_test (is_response r && key r.tgt r.txn == k) (taken k older) refl refl
+    by_response r = by_test (is_response r.opcode && key r.tgt r.txn == k) (taken k older) refl refl
       where
-        by_test : (b : Bool) (t : Option Taken) → (is_response r && key r.tgt r.txn == k) ≡ b → taken k older ≡ t → Steps (kind.Response r)
+        by_test : (b : Bool) (t : Option Taken) → (is_response r.opcode && key r.tgt r.txn == k) ≡ b → taken k older ≡ t → Steps (kind.Response r)
         by_test true None is held = rw (is, held) refl
         by_test true (Some t) is held = rw (is, held) refl
         by_test false t is held = rw is refl
 
     by_read : (d : DataFlit) → Steps (kind.ReadData d)
     unfolding taken answers is_dropped
-    by_read d = by_test (is_read_data d && key d.node d.txn == k) (taken k older) refl refl
+    by_read d = by_test (is_read_data d.opcode && key d.node d.txn == k) (taken k older) refl refl
       where
-        by_test : (b : Bool) (t : Option Taken) → (is_read_data d && key d.node d.txn == k) ≡ b → taken k older ≡ t → Steps (kind.ReadData d)
+        by_test : (b : Bool) (t : Option Taken) → (is_read_data d.opcode && key d.node d.txn == k) ≡ b → taken k older ≡ t → Steps (kind.ReadData d)
         by_test true None is held = rw (is, held) refl
         by_test true (Some t) is held = rw (is, held) refl
         by_test false t is held = rw is refl
 
     by_write : (w : DataFlit) → Steps (kind.WriteData w)
     unfolding taken answers is_dropped
-    by_write w = by_test (is_write_data w) (drops w) (taken k older) (given (key w.node w.txn) older) refl refl refl refl
+    by_write w = by_test (is_write_data w.opcode) (drops w) (taken k older) (given (key w.node w.txn) older) refl refl refl refl
       where
-        by_test : (b c : Bool) (t g : Option Taken) → is_write_data w ≡ b → drops w ≡ c → taken k older ≡ t → given (key w.node w.txn) older ≡ g → Steps (kind.WriteData w)
+        by_test : (b c : Bool) (t g : Option Taken) → is_write_data w.opcode ≡ b → drops w ≡ c → taken k older ≡ t → given (key w.node w.txn) older ≡ g → Steps (kind.WriteData w)
         by_test true true None g is drop held had = rw (is, drop, held) refl
         by_test true true (Some t) None is drop held had = rw (is, drop, held, had) refl
         by_test true true (Some t) (Some g) is drop held had = rw (is, drop, held, had) refl
@@ -76,18 +76,18 @@ module _ (time : ℕ) (older : List Flit) where
 
     is_given : (r : ResponseFlit) → Moves (kind.Response r)
     unfolding given sent
-    is_given r = by_test (gives_dbid r && key r.tgt r.dbid == d) (taken (key r.tgt r.txn) older) refl refl
+    is_given r = by_test (gives_dbid r.opcode && key r.tgt r.dbid == d) (taken (key r.tgt r.txn) older) refl refl
       where
-        by_test : (b : Bool) (t : Option Taken) → (gives_dbid r && key r.tgt r.dbid == d) ≡ b → taken (key r.tgt r.txn) older ≡ t → Moves (kind.Response r)
+        by_test : (b : Bool) (t : Option Taken) → (gives_dbid r.opcode && key r.tgt r.dbid == d) ≡ b → taken (key r.tgt r.txn) older ≡ t → Moves (kind.Response r)
         by_test true None is held = rw (is, held) refl
         by_test true (Some t) is held = rw (is, held) refl
         by_test false t is held = rw is refl
 
     is_sent : (w : DataFlit) → Moves (kind.WriteData w)
     unfolding given sent
-    is_sent w = by_test (is_write_data w && key w.node w.txn == d) (given d older) refl refl
+    is_sent w = by_test (is_write_data w.opcode && key w.node w.txn == d) (given d older) refl refl
       where
-        by_test : (b : Bool) (g : Option Taken) → (is_write_data w && key w.node w.txn == d) ≡ b → given d older ≡ g → Moves (kind.WriteData w)
+        by_test : (b : Bool) (g : Option Taken) → (is_write_data w.opcode && key w.node w.txn == d) ≡ b → given d older ≡ g → Moves (kind.WriteData w)
         by_test true None is had = rw (is, had) refl
         by_test true (Some g) is had = rw (is, had) refl
         by_test false g is had = rw is refl
@@ -106,13 +106,13 @@ transaction_by (kind.Request q) count k transfers others before same = refl
 transaction_by (kind.Response r) count k transfers others before same = refl
 transaction_by (kind.ReadData d) count k transfers others before same = refl
 transaction_by (kind.WriteData w) count k transfers others before same =
-    ap (λ sent. if is_write_data w && drops w then option_map (dropped_by k sent) before else before) (same (key w.node w.txn))
+    ap (λ sent. if is_write_data w.opcode && drops w then option_map (dropped_by k sent) before else before) (same (key w.node w.txn))
 
 pub transfer_by : (f : FlitKind) (d : ℕ) (transactions others : ℕ → Option Transaction) (before : Option Transfer) → ((k : ℕ) → transactions k ≡ others k)
     → transfer_after f transactions d before ≡ transfer_after f others d before
 transfer_by (kind.Request q) d transactions others before same = refl
 transfer_by (kind.Response r) d transactions others before same =
-    ap (λ t. if gives_dbid r && key r.tgt r.dbid == d then option_map begun t else before) (same (key r.tgt r.txn))
+    ap (λ t. if gives_dbid r.opcode && key r.tgt r.dbid == d then option_map begun t else before) (same (key r.tgt r.txn))
 transfer_by (kind.ReadData w) d transactions others before same = refl
 transfer_by (kind.WriteData w) d transactions others before same = refl
 

@@ -1,5 +1,5 @@
 -- what a flit changes of what is known of a TxnID or a DBID
-use Rattle.std.specs.Prelude.{◌≡◌, ℕ, ◌==◌, Bool, false, ◌&&◌, ◌||◌, if◌then◌else◌, List, Option, None, Some, option_map, length}
+use Rattle.std.specs.Prelude.{◌≡◌, ℕ, ◌==◌, Bool, false, not, ◌&&◌, ◌||◌, if◌then◌else◌, List, Option, None, Some, option_map, length}
 use Rattle.std.specs.BTreeMap.{is_at}
 use Rattle.std.specs.Map.{lookup}
 use Rattle.std.specs.Ordering.{nat_cmp}
@@ -12,10 +12,10 @@ use Rattle.chi_flits.specs.declared.flit.RequestFlit.{RequestFlit}
 use Rattle.chi_flits.specs.declared.flit.ResponseFlit.{ResponseFlit}
 use Rattle.chi_flits.specs.declared.transaction.Transaction.{Transaction}
 use Rattle.chi_flits.specs.declared.transfer.Transfer.{Transfer}
-use Rattle.chi_flits.specs.Answers.{drops, gives_dbid, is_cancel, is_comp, is_read_data, is_response, is_retry, is_write_data, key, quarters}
+use Rattle.chi_flits.specs.Answers.{drops, key, quarters}
 use Rattle.chi_flits.specs.Faults.{fault_with, is_answered, last_time}
 use Rattle.chi_flits.specs.History.{has_quarter, has_response, transaction, transfer}
-use Rattle.chi_flits.specs.Requests.{takes_txn}
+use Rattle.chi_flits.specs.Opcodes.{gives_dbid, is_cancel, is_comp, is_read_data, is_response, is_retry, is_write_data, takes_txn}
 use Rattle.chi_flits.specs.Told.{told_with, with_chunks}
 
 -- a request that took its TxnID, to which nothing was answered
@@ -47,8 +47,8 @@ with_answer k t = record t {
 abbrev pub with_write : DataFlit → Transfer → Transfer
 with_write d t = record t {
   chunks = with_chunks d t.chunks;
-  has_cancel = is_cancel d || t.has_cancel;
-  has_data = (d.opcode == 3) || t.has_data;
+  has_cancel = is_cancel d.opcode || t.has_cancel;
+  has_data = not (is_cancel d.opcode) || t.has_data;
   is_dropped = drops d || t.is_dropped;
 }
 
@@ -64,23 +64,23 @@ dropped_by k sent t = record t { is_dropped = is_of k t sent || t.is_dropped }
 abbrev pub transaction_after : FlitKind → ℕ → (ℕ → Option Transfer) → ℕ → Option Transaction → Option Transaction
 transaction_after (kind.Request q) place transfers k before = if takes_txn q.opcode && key q.src q.txn == k then Some (opened place q) else before
 transaction_after (kind.Response r) place transfers k before =
-    if is_response r && key r.tgt r.txn == k then option_map (with_answer (kind.Response r)) before else before
+    if is_response r.opcode && key r.tgt r.txn == k then option_map (with_answer (kind.Response r)) before else before
 transaction_after (kind.ReadData d) place transfers k before =
-    if is_read_data d && key d.node d.txn == k then option_map (with_answer (kind.ReadData d)) before else before
+    if is_read_data d.opcode && key d.node d.txn == k then option_map (with_answer (kind.ReadData d)) before else before
 transaction_after (kind.WriteData w) place transfers k before =
-    if is_write_data w && drops w then option_map (dropped_by k (transfers (key w.node w.txn))) before else before
+    if is_write_data w.opcode && drops w then option_map (dropped_by k (transfers (key w.node w.txn))) before else before
 
 -- what is known of a DBID after a response to a request
 abbrev pub given_after : ResponseFlit → Transaction → ℕ → Option Transfer → Option Transfer
-given_after r t d before = if gives_dbid r && key r.tgt r.dbid == d then Some (begun t) else before
+given_after r t d before = if gives_dbid r.opcode && key r.tgt r.dbid == d then Some (begun t) else before
 
 -- what is known of a DBID after a flit of a kind, where the TxnIDs are known
 abbrev pub transfer_after : FlitKind → (ℕ → Option Transaction) → ℕ → Option Transfer → Option Transfer
 transfer_after (kind.Request q) transactions d before = before
 transfer_after (kind.Response r) transactions d before =
-    if gives_dbid r && key r.tgt r.dbid == d then option_map begun (transactions (key r.tgt r.txn)) else before
+    if gives_dbid r.opcode && key r.tgt r.dbid == d then option_map begun (transactions (key r.tgt r.txn)) else before
 transfer_after (kind.ReadData w) transactions d before = before
-transfer_after (kind.WriteData w) transactions d before = if is_write_data w && key w.node w.txn == d then option_map (with_write w) before else before
+transfer_after (kind.WriteData w) transactions d before = if is_write_data w.opcode && key w.node w.txn == d then option_map (with_write w) before else before
 
 -- what a port knows: of each TxnID and each DBID that was seen, how many flits it took, and the time of the last
 pub record PortValue : Type 0 where

@@ -1,5 +1,5 @@
 -- what flits say of a TxnID and of a DBID; of a list of flits the newest stands first
-use Rattle.std.specs.Prelude.{ℕ, ◌==◌, length, Bool, false, ◌&&◌, ◌||◌, if◌then◌else◌, List, [], ◌∷◌, ◌++◌, Option, None, Some, is_some, option_map}
+use Rattle.std.specs.Prelude.{ℕ, ◌==◌, length, Bool, false, not, ◌&&◌, ◌||◌, if◌then◌else◌, List, [], ◌∷◌, ◌++◌, Option, None, Some, is_some, option_map}
 use Rattle.std.specs.List.{list_any}
 use Rattle.std.specs.Option.{option_or}
 use Rattle.chi_flits.specs.declared.flit.Chunk.{Chunk}
@@ -8,11 +8,10 @@ use Rattle.chi_flits.specs.declared.flit.Flit.{Flit}
 use Rattle.chi_flits.specs.declared.flit.FlitKind.{FlitKind}
 use Rattle.chi_flits.specs.declared.flit.FlitKind.TheVariants as kind
 use Rattle.chi_flits.specs.declared.flit.RequestFlit.{RequestFlit}
-use Rattle.chi_flits.specs.declared.flit.ResponseFlit.{ResponseFlit}
 use Rattle.chi_flits.specs.declared.transaction.Transaction.{Transaction}
 use Rattle.chi_flits.specs.declared.transfer.Transfer.{Transfer}
-use Rattle.chi_flits.specs.Answers.{chunk_at, drops, gives_dbid, is_cancel, is_comp, is_read_data, is_response, is_retry, is_write_data, key, quarters}
-use Rattle.chi_flits.specs.Requests.{takes_txn}
+use Rattle.chi_flits.specs.Answers.{chunk_at, drops, key, quarters}
+use Rattle.chi_flits.specs.Opcodes.{gives_dbid, is_cancel, is_comp, is_read_data, is_response, is_retry, is_write_data, takes_txn}
 
 -- a request, and how many flits came before it
 pub record Taken : Type 0 where
@@ -31,8 +30,8 @@ taken k (f ∷ older) = option_or (option_map (λ q. record { request = q; place
 
 -- what the home answered to that one
 abbrev pub is_answer : ℕ → FlitKind → Bool
-is_answer k (kind.Response r) = is_response r && key r.tgt r.txn == k
-is_answer k (kind.ReadData d) = is_read_data d && key d.node d.txn == k
+is_answer k (kind.Response r) = is_response r.opcode && key r.tgt r.txn == k
+is_answer k (kind.ReadData d) = is_read_data d.opcode && key d.node d.txn == k
 is_answer k _ = false
 
 unfoldable pub answers : ℕ → List Flit → List FlitKind
@@ -41,7 +40,7 @@ answers k (f ∷ older) = if is_some (taken_by k f.kind) then [] else if is_answ
 
 -- the TxnID whose request is given a DBID
 abbrev pub gives : ℕ → FlitKind → Option ℕ
-gives d (kind.Response r) = if gives_dbid r && key r.tgt r.dbid == d then Some (key r.tgt r.txn) else None
+gives d (kind.Response r) = if gives_dbid r.opcode && key r.tgt r.dbid == d then Some (key r.tgt r.txn) else None
 gives d _ = None
 
 -- the request to which a DBID was given last
@@ -55,7 +54,7 @@ given d (f ∷ older) = given_or (given d older) (λ k. taken k older) (gives d 
 
 -- the data that came to it since
 abbrev pub sent_by : ℕ → FlitKind → List DataFlit
-sent_by d (kind.WriteData w) = if is_write_data w && key w.node w.txn == d then w ∷ [] else []
+sent_by d (kind.WriteData w) = if is_write_data w.opcode && key w.node w.txn == d then w ∷ [] else []
 sent_by d _ = []
 
 unfoldable pub sent : ℕ → List Flit → List DataFlit
@@ -70,7 +69,7 @@ is_same k (Some t) (Some g) = key g.request.src g.request.txn == k && g.place ==
 
 -- write data that write nothing came for the one that took it last
 abbrev pub drops_of : ℕ → List Flit → FlitKind → Bool
-drops_of k older (kind.WriteData w) = is_write_data w && drops w && is_same k (taken k older) (given (key w.node w.txn) older)
+drops_of k older (kind.WriteData w) = is_write_data w.opcode && drops w && is_same k (taken k older) (given (key w.node w.txn) older)
 drops_of k older _ = false
 
 unfoldable pub is_dropped : ℕ → List Flit → Bool
@@ -78,8 +77,8 @@ is_dropped k [] = false
 is_dropped k (f ∷ older) = if is_some (taken_by k f.kind) then false else drops_of k older f.kind || is_dropped k older
 
 -- tests of an answer
-abbrev pub has_response : (ResponseFlit → Bool) → FlitKind → Bool
-has_response test (kind.Response r) = test r
+abbrev pub has_response : (ℕ → Bool) → FlitKind → Bool
+has_response test (kind.Response r) = test r.opcode
 has_response test _ = false
 
 abbrev pub has_quarter : ℕ → FlitKind → Bool
@@ -109,7 +108,7 @@ transfer d flits = option_map (λ t. record {
   request = t.request;
   place = t.place;
   chunks = quarters (λ c. last_chunk c (sent d flits));
-  has_cancel = list_any is_cancel (sent d flits);
-  has_data = list_any (λ w. w.opcode == 3) (sent d flits);
+  has_cancel = list_any (λ w. is_cancel w.opcode) (sent d flits);
+  has_data = list_any (λ w. not (is_cancel w.opcode)) (sent d flits);
   is_dropped = list_any drops (sent d flits);
 }) (given d flits)

@@ -1,3 +1,4 @@
+pub mod Opcodes
 pub mod Requests
 pub mod Answers
 pub mod History

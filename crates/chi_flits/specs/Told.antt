@@ -17,9 +17,10 @@ use Rattle.chi_flits.specs.declared.flit.RequestFlit.{RequestFlit}
 use Rattle.chi_flits.specs.declared.flit.ResponseFlit.{ResponseFlit}
 use Rattle.chi_flits.specs.declared.transaction.Transaction.{Transaction}
 use Rattle.chi_flits.specs.declared.transfer.Transfer.{Transfer}
-use Rattle.chi_flits.specs.Answers.{chunk_at, is_cancel, is_comp, is_error, is_read_data, is_response, is_retry, is_write_data, key, quarters}
+use Rattle.chi_flits.specs.Answers.{chunk_at, is_error, key, quarters}
 use Rattle.chi_flits.specs.History.{transaction, transfer}
-use Rattle.chi_flits.specs.Requests.{address, fields_at, is_told, is_write, lanes_at, may_write, places_of, quarter_at}
+use Rattle.chi_flits.specs.Opcodes.{is_cancel, is_comp, is_read_data, is_response, is_retry, is_write, is_write_data}
+use Rattle.chi_flits.specs.Requests.{address, fields_at, is_told, lanes_at, may_write, places_of, quarter_at}
 
 -- The number of one of a request's operations. Each of 2^61 flits has eight numbers of its own.
 abbrev pub number_of : ℕ → ℕ → ℕ
@@ -58,7 +59,7 @@ completed r t = if t.is_dropped then [] else replied t.request t.place (reply_wi
 abbrev pub told_of_response : ResponseFlit → Option Transaction → List EventKind
 told_of_response r None = []
 told_of_response r (Some t) =
-    if is_told t.request && is_response r then (if is_retry r then dropped t.request t.place else if is_comp r then completed r t else []) else []
+    if is_told t.request && is_response r.opcode then (if is_retry r.opcode then dropped t.request t.place else if is_comp r.opcode then completed r t else []) else []
 
 -- bytes of the lanes whose bit is 1, and 0 in all others
 abbrev pub kept : ℕ → List ℕ → ℕ → ℕ
@@ -80,11 +81,11 @@ answered d q place = filter_map (answered_at d q place) (places_of q)
 
 abbrev pub told_of_read : DataFlit → Option Transaction → List EventKind
 told_of_read d None = []
-told_of_read d (Some t) = if is_told t.request && is_read_data d && not t.is_dropped then answered d t.request t.place else []
+told_of_read d (Some t) = if is_told t.request && is_read_data d.opcode && not t.is_dropped then answered d t.request t.place else []
 
 -- the byte enables that an operation has of those of its quarter: of a write the ones of its own bytes
 abbrev pub enables_at : RequestFlit → ℕ → ℕ → ℕ
-enables_at q i be = if is_write q then bit_and be (lanes_at q i) else be
+enables_at q i be = if is_write q.opcode then bit_and be (lanes_at q i) else be
 
 -- its data
 abbrev pub sent_at : RequestFlit → ℕ → List (Option Chunk) → ℕ → Option EventKind
@@ -105,14 +106,14 @@ are_whole q chunks = list_all (λ i. is_some (chunk_at chunks (quarter_at q i)))
 -- Data that write nothing drop the request; those in error may have written something. The others are told once all have come.
 abbrev pub told_of_data : DataFlit → Transfer → List EventKind
 told_of_data d t =
-    if is_cancel d then dropped t.request t.place
+    if is_cancel d.opcode then dropped t.request t.place
     else if is_error d.resp_err then unknown_line t.request ∷ dropped t.request t.place
     else if are_whole t.request (with_chunks d t.chunks) then all_sent t.request t.place (with_chunks d t.chunks)
     else []
 
 abbrev pub told_of_write : DataFlit → Option Transfer → List EventKind
 told_of_write d None = []
-told_of_write d (Some t) = if is_told t.request && is_write_data d && not t.is_dropped then told_of_data d t else []
+told_of_write d (Some t) = if is_told t.request && is_write_data d.opcode && not t.is_dropped then told_of_data d t else []
 
 -- what a flit tells, where so many came before it, by what is known of TxnIDs and of DBIDs
 abbrev pub told_with : ℕ → (ℕ → Option Transaction) → (ℕ → Option Transfer) → FlitKind → List EventKind

@@ -7,6 +7,7 @@ ghost use Rattle.chi_flits.specs.Answers.{key};
 
 use crate::flit::{DataFlit, RequestFlit, ResponseFlit};
 use crate::lanes::with_chunks;
+use crate::opcode::{gives_dbid, is_cancel, is_comp, is_retry};
 use crate::transaction::Transaction;
 use crate::transfer::Transfer;
 
@@ -44,9 +45,9 @@ pub(crate) fn with_response(transaction: &Transaction, response: &ResponseFlit) 
     ensures { result ≡ with_answer (FlitKind.Response response.now) transaction.now }
 {
     Transaction {
-        is_retried: response.is_retry() || transaction.is_retried,
-        has_dbid: response.gives_dbid() || transaction.has_dbid,
-        is_completed: response.is_comp() || transaction.is_completed,
+        is_retried: is_retry(response.opcode) || transaction.is_retried,
+        has_dbid: gives_dbid(response.opcode) || transaction.has_dbid,
+        is_completed: is_comp(response.opcode) || transaction.is_completed,
         ..*transaction
     }
 }
@@ -72,8 +73,8 @@ pub(crate) fn with_write(transfer: &Transfer, flit: &DataFlit) -> Transfer
 {
     Transfer {
         chunks: with_chunks(flit, &transfer.chunks),
-        has_cancel: flit.is_cancel() || transfer.has_cancel,
-        has_data: flit.opcode == 3 || transfer.has_data,
+        has_cancel: is_cancel(flit.opcode) || transfer.has_cancel,
+        has_data: !is_cancel(flit.opcode) || transfer.has_data,
         is_dropped: flit.drops() || transfer.is_dropped,
         ..*transfer
     }

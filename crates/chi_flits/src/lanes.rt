@@ -5,6 +5,7 @@ ghost use Rattle.chi_flits.specs.Answers.{chunk_at};
 ghost use Rattle.chi_flits.specs.Told.{are_whole, enables_at, kept, only, with_chunks};
 
 use crate::flit::{Chunk, DataFlit, RequestFlit};
+use crate::opcode::is_write;
 
 /// The byte of a lane whose bit is 1, and else 0.
 fn kept(bits: u16, lanes: &[u8; 16], lane: usize) -> u8
@@ -52,7 +53,7 @@ pub(crate) fn chunk_at(chunks: &[Option<Chunk>; 4], quarter: usize) -> Option<Ch
 pub(crate) fn enables_at(request: &RequestFlit, operation: u8, be: u16) -> u16
     ensures { result ≡ enables_at request.now operation be }
 {
-    if request.is_write() {
+    if is_write(request.opcode) {
         be & request.lanes_at(operation)
     } else {
         be

@@ -1,6 +1,7 @@
 //! Flits at a home's port, and the events that they tell. Source: profile.
 #![tactic(auto)]
 
+mod answer;
 mod effects;
 mod fault;
 mod flit;
@@ -22,6 +23,10 @@ mod write_faults;
 
 pub use fault::FlitFault;
 pub use flit::{Chunk, DataFlit, Flit, FlitKind, RequestFlit, ResponseFlit};
+pub use opcode::{
+    gives_dbid, is_atomic, is_cancel, is_comp, is_read, is_read_data, is_response, is_write,
+    is_write_data, takes_txn, writes_nothing,
+};
 pub use port::Port;
 pub use transaction::Transaction;
 pub use transfer::Transfer;

@@ -4,10 +4,11 @@ ghost use Rattle.std.specs.Prelude.{◌≡◌};
 ghost use Rattle.chi_flits.specs.Faults.{answer_fault, answered_fault, has_part, lane_unknown, lanes_fault, read_fault, wrong_answer};
 ghost use Rattle.chi_flits.specs.History.{transaction};
 
+use crate::answer::is_error;
 use crate::fault::{FlitFault, fault_if};
 use crate::flit::{Chunk, DataFlit, RequestFlit};
 use crate::lanes::chunk_at;
-use crate::opcode::is_error;
+use crate::opcode::is_read_data;
 use crate::transaction::Transaction;
 
 /// Whether a flit has data of a request.
@@ -85,9 +86,9 @@ pub(crate) fn read_fault(flit: &DataFlit, transaction: &Option<Transaction>) -> 
     ensures { result ≡ read_fault flit.now transaction.now }
 {
     let Some(transaction) = transaction else {
-        return fault_if(flit.is_read_data(), FlitFault::NotOpen);
+        return fault_if(is_read_data(flit.opcode), FlitFault::NotOpen);
     };
-    if !flit.is_read_data() || !transaction.request.is_told() {
+    if !is_read_data(flit.opcode) || !transaction.request.is_told() {
         return None;
     }
     if transaction.is_over() {

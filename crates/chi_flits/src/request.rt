@@ -1,70 +1,25 @@
 //! What a request at the port asks for.
 
 ghost use Rattle.std.specs.Prelude.{◌≡◌, ◌^◌, min};
-ghost use Rattle.chi_flits.specs.Requests.{addr_at, address, answers_data, bytes_of, count_of, fields_at, first_addr, has_told_size, is_atomic, is_compare, is_read, is_told, is_write, lane_at, lanes_at, len_of, may_write, needs_data, operand_len, quarter_at, takes_txn, writes_nothing};
+ghost use Rattle.chi_flits.specs.Requests.{addr_at, address, answers_data, bytes_of, count_of, fields_at, first_addr, has_told_size, is_told, lane_at, lanes_at, len_of, may_write, needs_data, operand_len, quarter_at};
 
 use crate::flit::RequestFlit;
+use crate::opcode::{is_atomic, is_compare, is_read, is_write, takes_txn, writes_nothing};
 use chi_trace::RequestFields;
 
 const ADDRESSES: u64 = 1 << 52;
 
-/// Whether a request with this opcode takes a TxnID.
-pub(crate) fn takes_txn(opcode: u8) -> bool
-    ensures { result ≡ takes_txn opcode }
-{
-    !(opcode == 0x00 || opcode == 0x05 || opcode == 0x3a)
-}
-
-/// Whether a request with this opcode writes nothing.
-fn writes_nothing(opcode: u8) -> bool
-    ensures { result ≡ writes_nothing opcode }
-{
-    opcode == 0x01
-        || opcode == 0x02
-        || opcode == 0x03
-        || opcode == 0x0d
-        || opcode == 0x14
-        || opcode == 0x22
-        || opcode == 0x23
-        || opcode == 0x24
-        || opcode == 0x26
-}
-
 impl RequestFlit {
-    fn is_read(&self) -> bool
-        ensures { result ≡ is_read self.now }
-    {
-        self.opcode == 0x04
-    }
-
-    pub(crate) fn is_write(&self) -> bool
-        ensures { result ≡ is_write self.now }
-    {
-        self.opcode == 0x1c || self.opcode == 0x1d
-    }
-
-    fn is_atomic(&self) -> bool
-        ensures { result ≡ is_atomic self.now }
-    {
-        0x28 <= self.opcode && self.opcode <= 0x39
-    }
-
-    fn is_compare(&self) -> bool
-        ensures { result ≡ is_compare self.now }
-    {
-        self.opcode == 0x39
-    }
-
     pub(crate) fn needs_data(&self) -> bool
         ensures { result ≡ needs_data self.now }
     {
-        !self.is_read()
+        !is_read(self.opcode)
     }
 
     pub(crate) fn answers_data(&self) -> bool
         ensures { result ≡ answers_data self.now }
     {
-        self.is_read() || 0x30 <= self.opcode
+        is_read(self.opcode) || 0x30 <= self.opcode
     }
 
     /// How many bytes its size stands for.
@@ -78,7 +33,7 @@ impl RequestFlit {
     fn operand_len(&self) -> u64
         ensures { result ≡ operand_len self.now }
     {
-        if self.is_compare() {
+        if is_compare(self.opcode) {
             self.bytes() / 2
         } else {
             self.bytes()
@@ -94,14 +49,14 @@ impl RequestFlit {
     fn has_told_size(&self) -> bool
         ensures { result ≡ has_told_size self.now }
     {
-        if self.is_read() || self.opcode == 0x1c {
+        if is_read(self.opcode) || self.opcode == 0x1c {
             self.size <= 6
         } else if self.opcode == 0x1d {
             self.size == 6
-        } else if self.is_compare() {
+        } else if is_compare(self.opcode) {
             1 <= self.size && self.size <= 4
         } else {
-            self.is_atomic() && self.size <= 3
+            is_atomic(self.opcode) && self.size <= 3
         }
     }
 
@@ -111,21 +66,24 @@ impl RequestFlit {
     {
         !self.excl
             && self.has_told_size()
-            && (self.is_write() || self.address() % self.operand_len() == 0)
+            && (is_write(self.opcode) || self.address() % self.operand_len() == 0)
     }
 
     /// Whether it is not told, and may write.
     pub(crate) fn may_write(&self) -> bool
         ensures { result ≡ may_write self.now }
     {
-        takes_txn(self.opcode) && !self.is_told() && !self.is_read() && !writes_nothing(self.opcode)
+        takes_txn(self.opcode)
+            && !self.is_told()
+            && !is_read(self.opcode)
+            && !writes_nothing(self.opcode)
     }
 
     /// How many granules it has.
     pub(crate) fn count(&self) -> u8
         ensures { result ≡ count_of self.now }
     {
-        if self.is_atomic() || self.size <= 3 {
+        if is_atomic(self.opcode) || self.size <= 3 {
             1
         } else {
             (self.bytes() / 8) as u8
@@ -135,7 +93,7 @@ impl RequestFlit {
     fn first_addr(&self) -> u64
         ensures { result ≡ first_addr self.now }
     {
-        if self.is_write() {
+        if is_write(self.opcode) {
             self.address() / self.bytes() * self.bytes()
         } else {
             self.address()
@@ -189,7 +147,7 @@ impl RequestFlit {
     fn event_size(&self) -> u8
         ensures { result ≡ (fields_at self.now 0).size }
     {
-        if self.is_atomic() {
+        if is_atomic(self.opcode) {
             self.size
         } else {
             self.size.min(3)
@@ -207,7 +165,7 @@ impl RequestFlit {
             opcode: self.event_opcode(),
             size: self.event_size(),
             addr: self.addr_at(place),
-            endian: self.is_atomic() && self.endian,
+            endian: is_atomic(self.opcode) && self.endian,
             be: 0,
             lanes: [0; 16],
         }

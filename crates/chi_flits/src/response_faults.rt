@@ -4,11 +4,11 @@ ghost use Rattle.std.specs.Prelude.{◌≡◌};
 ghost use Rattle.chi_flits.specs.Faults.{comp_fault, dbid_fault, held_fault, is_held, open_fault, request_fault, response_fault};
 ghost use Rattle.chi_flits.specs.History.{transaction};
 
+use crate::answer::is_error;
 use crate::fault::{FlitFault, fault_if};
 use crate::flit::{RequestFlit, ResponseFlit};
 use crate::lanes::are_whole;
-use crate::opcode::is_error;
-use crate::request::takes_txn;
+use crate::opcode::{gives_dbid, is_comp, is_response, is_retry, takes_txn};
 use crate::transaction::Transaction;
 use crate::transfer::Transfer;
 
@@ -72,16 +72,16 @@ fn open_fault(
 ) -> Option<FlitFault>
     ensures { result ≡ open_fault response.now transaction.now held.now }
 {
-    if response.is_retry() {
+    if is_retry(response.opcode) {
         let is_late = transaction.has_dbid || transaction.is_completed || transaction.has_answers();
         return fault_if(is_late, FlitFault::RetryLate);
     }
-    if response.gives_dbid() {
+    if gives_dbid(response.opcode) {
         if let Some(fault) = dbid_fault(transaction, held) {
             return Some(fault);
         }
     }
-    if response.is_comp() {
+    if is_comp(response.opcode) {
         comp_fault(response, transaction)
     } else {
         None
@@ -97,13 +97,13 @@ pub(crate) fn response_fault(
     ensures { result ≡ response_fault response.now transaction.now held.now }
 {
     let Some(transaction) = transaction else {
-        return fault_if(response.is_response(), FlitFault::NotOpen);
+        return fault_if(is_response(response.opcode), FlitFault::NotOpen);
     };
-    if !response.is_response() {
+    if !is_response(response.opcode) {
         return None;
     }
     if !transaction.request.is_told() {
-        return if response.gives_dbid() {
+        return if gives_dbid(response.opcode) {
             held_fault(held)
         } else {
             None

@@ -8,9 +8,9 @@ ghost use Rattle.chi_flits.specs.Answers.{key as key_of};
 ghost use Rattle.chi_flits.specs.declared.flit.FlitKind.{FlitKind};
 ghost use Rattle.chi_flits.specs.declared.fault.FlitFault.{FlitFault};
 
+use crate::answer::key;
 use crate::fault::FlitFault;
 use crate::flit::{DataFlit, FlitKind, RequestFlit, ResponseFlit};
-use crate::opcode::key;
 use crate::port::Port;
 use crate::read_faults::read_fault;
 use crate::response_faults::{request_fault, response_fault};

@@ -4,9 +4,10 @@ ghost use Rattle.std.specs.Prelude.{◌≡◌, Some, IfOk};
 ghost use Rattle.chi_flits.specs.History.{transaction};
 ghost use Rattle.chi_flits.specs.Told.{answered, answered_at, completed, data_reply, replied, reply_without, told_of_read, told_of_response};
 
+use crate::answer::is_error;
 use crate::flit::{Chunk, DataFlit, RequestFlit, ResponseFlit};
 use crate::lanes::{chunk_at, only};
-use crate::opcode::is_error;
+use crate::opcode::{is_comp, is_read_data, is_response, is_retry};
 use crate::told_requests::{dropped, number_of};
 use crate::transaction::Transaction;
 use chi_events::{Completion, EventKind};
@@ -66,12 +67,12 @@ pub(crate) fn told_of_response(
 ) -> Result<Vec<EventKind>, AllocError>
     ensures { IfOk result (λ kinds. kinds.items ≡ told_of_response response.now (Some transaction.now)) }
 {
-    if !transaction.request.is_told() || !response.is_response() {
+    if !transaction.request.is_told() || !is_response(response.opcode) {
         return Ok(Vec::new(alloc));
     }
-    if response.is_retry() {
+    if is_retry(response.opcode) {
         dropped(alloc, &transaction.request, transaction.place)
-    } else if response.is_comp() {
+    } else if is_comp(response.opcode) {
         completed(alloc, response, transaction)
     } else {
         Ok(Vec::new(alloc))
@@ -126,7 +127,7 @@ pub(crate) fn told_of_read(
 ) -> Result<Vec<EventKind>, AllocError>
     ensures { IfOk result (λ kinds. kinds.items ≡ told_of_read flit.now (Some transaction.now)) }
 {
-    if !transaction.request.is_told() || !flit.is_read_data() || transaction.is_dropped {
+    if !transaction.request.is_told() || !is_read_data(flit.opcode) || transaction.is_dropped {
         return Ok(Vec::new(alloc));
     }
     answered(alloc, flit, &transaction.request, transaction.place)

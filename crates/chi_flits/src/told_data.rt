@@ -4,9 +4,10 @@ ghost use Rattle.std.specs.Prelude.{◌≡◌, ◌∷◌, Some, IfOk};
 ghost use Rattle.chi_flits.specs.History.{transfer};
 ghost use Rattle.chi_flits.specs.Told.{all_sent, dropped, sent_at, told_of_data, told_of_write, unknown_line};
 
+use crate::answer::is_error;
 use crate::flit::{Chunk, DataFlit, RequestFlit};
 use crate::lanes::{are_whole, chunk_at, enables_at, only, with_chunks};
-use crate::opcode::is_error;
+use crate::opcode::{is_cancel, is_write_data};
 use crate::told_requests::{dropped, number_of, unknown_line};
 use crate::transfer::Transfer;
 use chi_events::{EventKind, Packet};
@@ -62,7 +63,7 @@ fn told_of_data(
     ensures { IfOk result (λ kinds. kinds.items ≡ told_of_data flit.now transfer.now) }
 {
     let request = &transfer.request;
-    if flit.is_cancel() {
+    if is_cancel(flit.opcode) {
         return dropped(alloc, request, transfer.place);
     }
     if is_error(flit.resp_err) {
@@ -84,7 +85,7 @@ pub(crate) fn told_of_write(
 ) -> Result<Vec<EventKind>, AllocError>
     ensures { IfOk result (λ kinds. kinds.items ≡ told_of_write flit.now (Some transfer.now)) }
 {
-    if !transfer.request.is_told() || !flit.is_write_data() || transfer.is_dropped {
+    if !transfer.request.is_told() || !is_write_data(flit.opcode) || transfer.is_dropped {
         return Ok(Vec::new(alloc));
     }
     told_of_data(alloc, flit, transfer)

@@ -7,6 +7,7 @@ ghost use Rattle.chi_flits.specs.History.{transfer};
 use crate::fault::{FlitFault, fault_if};
 use crate::flit::{Chunk, DataFlit, RequestFlit};
 use crate::lanes::{are_whole, chunk_at, enables_at};
+use crate::opcode::{is_cancel, is_write_data};
 use crate::read_faults::has_part;
 use crate::transfer::Transfer;
 
@@ -89,10 +90,10 @@ fn parts_fault(flit: &DataFlit, transfer: &Transfer) -> Option<FlitFault>
 fn cancel_fault(flit: &DataFlit, transfer: &Transfer) -> Option<FlitFault>
     ensures { result ≡ cancel_fault flit.now transfer.now }
 {
-    if flit.is_cancel() && transfer.request.opcode != 0x1c {
+    if is_cancel(flit.opcode) && transfer.request.opcode != 0x1c {
         return Some(FlitFault::CancelsOther);
     }
-    let is_mixed = if flit.is_cancel() {
+    let is_mixed = if is_cancel(flit.opcode) {
         transfer.has_data
     } else {
         transfer.has_cancel
@@ -118,9 +119,9 @@ pub(crate) fn write_fault(flit: &DataFlit, transfer: &Option<Transfer>) -> Optio
     ensures { result ≡ write_fault flit.now transfer.now }
 {
     let Some(transfer) = transfer else {
-        return fault_if(flit.is_write_data(), FlitFault::NotGiven);
+        return fault_if(is_write_data(flit.opcode), FlitFault::NotGiven);
     };
-    if !flit.is_write_data() || !transfer.request.is_told() {
+    if !is_write_data(flit.opcode) || !transfer.request.is_told() {
         return None;
     }
     if are_whole(&transfer.request, &transfer.chunks) {
