@@ -28,5 +28,3 @@ pub use opcode::{
     is_write_data, takes_txn, writes_nothing,
 };
 pub use port::Port;
-pub use transaction::Transaction;
-pub use transfer::Transfer;

@@ -6,7 +6,7 @@ use crate::flit::{Chunk, RequestFlit};
 /// line, and whether there were some that were cancelled, some that were not, and some that write nothing, since they were cancelled
 /// or in error.
 #[derive(Clone, Copy, Debug)]
-pub struct Transfer {
+pub(crate) struct Transfer {
     pub request: RequestFlit,
     pub place: u64,
     pub chunks: [Option<Chunk>; 4],
