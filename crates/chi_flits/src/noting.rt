@@ -2,7 +2,6 @@
 
 ghost use Rattle.std.specs.Prelude.{ℕ, ◌≡◌, Some, IfErr, IfOk, option_map};
 ghost use Rattle.chi_flits.specs.Effects.{Knows, dropped_by, given_after, transaction_after, transaction_in, transfer_after, transfer_in};
-ghost use Rattle.chi_flits.specs.History.{transaction, transfer};
 ghost use Rattle.chi_flits.specs.Answers.{key as key_of};
 ghost use Rattle.chi_flits.specs.declared.flit.FlitKind.{FlitKind};
 

@@ -2,7 +2,6 @@
 
 ghost use Rattle.std.specs.Prelude.{◌≡◌};
 ghost use Rattle.chi_flits.specs.Faults.{answer_fault, answered_fault, has_part, lane_unknown, lanes_fault, read_fault, wrong_answer};
-ghost use Rattle.chi_flits.specs.History.{transaction};
 
 use crate::answer::is_error;
 use crate::fault::{FlitFault, fault_if};

@@ -2,7 +2,6 @@
 
 ghost use Rattle.std.specs.Prelude.{◌≡◌};
 ghost use Rattle.chi_flits.specs.Faults.{comp_fault, dbid_fault, held_fault, is_held, open_fault, request_fault, response_fault};
-ghost use Rattle.chi_flits.specs.History.{transaction};
 
 use crate::answer::is_error;
 use crate::fault::{FlitFault, fault_if};
@@ -19,9 +18,7 @@ pub(crate) fn request_fault(
 ) -> Option<FlitFault>
     ensures { result ≡ request_fault request.now transaction.now }
 {
-    let Some(held) = transaction else {
-        return None;
-    };
+    let held = transaction.as_ref()?;
     let is_taken = takes_txn(request.opcode) && held.request.is_told() && !held.is_over();
     fault_if(is_taken, FlitFault::TakesOpen)
 }
@@ -37,9 +34,7 @@ fn is_held(transfer: &Transfer) -> bool
 fn held_fault(held: &Option<Transfer>) -> Option<FlitFault>
     ensures { result ≡ held_fault held.now }
 {
-    let Some(transfer) = held else {
-        return None;
-    };
+    let transfer = held.as_ref()?;
     fault_if(is_held(transfer), FlitFault::DbidTaken)
 }
 

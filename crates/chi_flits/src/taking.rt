@@ -3,7 +3,6 @@
 ghost use Rattle.std.specs.Prelude.{◌≡◌, ◌≢◌, Some, IfErr, IfOk};
 ghost use Rattle.chi_flits.specs.Effects.{IsTaken, transaction_in, transfer_in};
 ghost use Rattle.chi_flits.specs.Faults.{fault_with};
-ghost use Rattle.chi_flits.specs.History.{taken};
 ghost use Rattle.chi_flits.specs.Answers.{key as key_of};
 ghost use Rattle.chi_flits.specs.declared.flit.FlitKind.{FlitKind};
 ghost use Rattle.chi_flits.specs.declared.fault.FlitFault.{FlitFault};

@@ -1,7 +1,6 @@
 //! The events that an answer of the home tells, by what is known of its TxnID.
 
 ghost use Rattle.std.specs.Prelude.{◌≡◌, Some, IfOk};
-ghost use Rattle.chi_flits.specs.History.{transaction};
 ghost use Rattle.chi_flits.specs.Told.{answered, answered_at, completed, data_reply, replied, reply_without, told_of_read, told_of_response};
 
 use crate::answer::is_error;

@@ -1,7 +1,6 @@
 //! The events that data to the home tell, by what is known of their DBID.
 
 ghost use Rattle.std.specs.Prelude.{◌≡◌, ◌∷◌, Some, IfOk};
-ghost use Rattle.chi_flits.specs.History.{transfer};
 ghost use Rattle.chi_flits.specs.Told.{all_sent, dropped, sent_at, told_of_data, told_of_write, unknown_line};
 
 use crate::answer::is_error;

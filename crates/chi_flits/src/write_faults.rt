@@ -2,7 +2,6 @@
 
 ghost use Rattle.std.specs.Prelude.{◌≡◌};
 ghost use Rattle.chi_flits.specs.Faults.{cancel_fault, chunk_fault, data_fault, enable_unknown, enabled_fault, is_part, parts_fault, sent_fault, sent_unknown, write_fault, wrong_sent};
-ghost use Rattle.chi_flits.specs.History.{transfer};
 
 use crate::fault::{FlitFault, fault_if};
 use crate::flit::{Chunk, DataFlit, RequestFlit};
