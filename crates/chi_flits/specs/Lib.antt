@@ -5,3 +5,4 @@ pub mod History
 pub mod Told
 pub mod Faults
 pub mod Effects
+pub mod Outstanding

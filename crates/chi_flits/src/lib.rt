@@ -9,6 +9,7 @@ mod lanes;
 mod noting;
 mod opcode;
 mod open;
+mod outstanding;
 mod port;
 mod read_faults;
 mod request;

@@ -1,7 +1,7 @@
 //! What a request at the port asks for.
 
 ghost use Rattle.std.specs.Prelude.{◌≡◌, ◌^◌, min};
-ghost use Rattle.chi_flits.specs.Requests.{addr_at, address, answers_data, bytes_of, count_of, fields_at, first_addr, has_told_size, is_told, lane_at, lanes_at, len_of, may_write, needs_data, operand_len, quarter_at};
+ghost use Rattle.chi_flits.specs.Requests.{addr_at, address, answers_data, bytes_of, count_of, fields_at, first_addr, has_told_size, is_of_granule, is_told, lane_at, lanes_at, len_of, lies_at, may_write, needs_data, operand_len, quarter_at};
 
 use crate::flit::RequestFlit;
 use crate::opcode::{is_atomic, is_compare, is_read, is_write, takes_txn, writes_nothing};
@@ -105,6 +105,20 @@ impl RequestFlit {
         ensures { result ≡ addr_at self.now place }
     {
         self.first_addr() + 8 * u64::from(place)
+    }
+
+    /// Whether one of its operations is at a granule.
+    pub(crate) fn lies_at(&self, granule: u64, place: u8) -> bool
+        ensures { result ≡ lies_at granule self.now place }
+    {
+        self.addr_at(place) / 8 == granule
+    }
+
+    /// Whether it has an operation at a granule.
+    pub(crate) fn is_of_granule(&self, granule: u64) -> bool
+        ensures { result ≡ is_of_granule granule self.now }
+    {
+        (0..self.count()).any(|place| self.lies_at(granule, place))
     }
 
     /// The quarter of its line of 64 bytes.

@@ -24,7 +24,7 @@ pub(crate) fn request_fault(
 }
 
 /// Whether data are still to come by a DBID.
-fn is_held(transfer: &Transfer) -> bool
+pub(crate) fn is_held(transfer: &Transfer) -> bool
     ensures { result ≡ is_held transfer.now }
 {
     transfer.request.is_told() && !are_whole(&transfer.request, &transfer.chunks)

@@ -5,4 +5,5 @@ mod comparison;
 mod data_tests;
 mod fault_tests;
 mod flits;
+mod outstanding_tests;
 mod request_tests;

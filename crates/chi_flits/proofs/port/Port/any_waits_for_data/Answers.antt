@@ -1,0 +1,7 @@
+-- a map's look-up finds each entry
+use Rattle.std.proofs.lemmas.Cmp.{nat_cmp_total}
+use Rattle.std.proofs.lemmas.Map.Views.{All-found}
+use Rattle.chi_flits.proofs.port.Port.any_waits_for_data.Goals as goal
+
+pub returns-clause-found : goal.returns-clause-found
+returns-clause-found c = rw (← c.self.view_is) (All-found nat_cmp_total c.self.inside.transfers c.values.ensures.ordered)
