@@ -18,5 +18,6 @@ mod told;
 
 pub use event_line::read_event;
 pub use fault::{LineFault, MOST_OPERATIONS, RequestFault, TraceFault};
+pub use mark::line_value;
 pub use member::Member;
 pub use recorded::{Recorded, read_trace};

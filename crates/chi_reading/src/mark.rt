@@ -30,8 +30,13 @@ pub(crate) fn text_value(alloc: Global, text: &[u8]) -> Result<Option<Value>, Al
     }
 }
 
-/// The value of the line with this number: only the first can have a mark.
-pub(crate) fn line_value(
+/// The value of a line of JSON, by its number, which is counted from 1, or none where it is not JSON. Only the first line can begin
+/// with the mark that says that a text is UTF-8.
+///
+/// ```
+/// let value = line_value(alloc, 1, b"\xef\xbb\xbf{\"time\":70}")?; // an object
+/// ```
+pub fn line_value(
     alloc: Global,
     number_of_line: u64,
     line: &[u8],
