@@ -1,7 +1,6 @@
--- one line more of events that are read as a trace
-use Rattle.std.proofs.Common.{◌≡◌, ℕ, ◌+◌, ◌<◌, List, [], ◌∷◌, ◌++◌, Option, None, Some, IfSome, Ok, Err, append_assoc, filter_map, get_or, length, option_to_list, take, refl, sym, ap, subst, ◌∙◌}
+-- one event more of those that are read as a trace
+use Rattle.std.proofs.Common.{◌≡◌, ℕ, ◌+◌, ◌<◌, List, [], ◌∷◌, ◌++◌, Option, None, Some, IfSome, append_assoc, filter_map, get_or, length, option_to_list, take, refl, sym, ap, subst, ◌∙◌}
 use Rattle.std.specs.List.{cons_option}
-use Rattle.std.specs.Io.BufRead.{drop_through, take_through}
 use Rattle.std.specs.List.Sorted.{IsNonDecreasingBy, IsPermutation}
 use Rattle.std.proofs.lemmas.List.{get_or_default, take_more}
 use Rattle.std.proofs.lemmas.List.Elements.{filter_map-append}
@@ -16,98 +15,101 @@ use Rattle.chi_events.specs.Operations.{operations, refusals_told}
 use Rattle.chi_events.specs.Outstanding.{OutstandingValue, Tells, open_operation}
 use Rattle.chi_events.specs.RequestEvents.{each_request}
 use Rattle.chi_events.specs.declared.outstanding.Open.{Open}
-use Rattle.chi_reading.specs.EventText.{event_text}
-use Rattle.chi_watch_text.specs.Lines.{AreEvents, AreLines, AreTold}
-use Rattle.chi_watch_text.specs.Operations.{AreInOrder, AreOperations, AreRefusals, IsOperationsFault, IsTakingFault}
-use Rattle.chi_watch_text.specs.Reading.{IsRead, IsRefused}
+use Rattle.chi_watch_text.specs.Lines.{AreTold}
+use Rattle.chi_watch_text.specs.Operations.{AreInOrder, AreOperations, AreRefusals, IsNotNext, IsOperationsFault, IsTakingFault}
+use Rattle.chi_watch_text.specs.Reading.{FailsNext, GivesNext, HasGiven, HasGivenOf}
 use Rattle.chi_watch_text.specs.declared.fault.LinesFault.{LinesFault}
 use Rattle.chi_watch_text.specs.declared.fault.LinesFault.TheVariants as fault
-use Rattle.chi_watch_text.proofs.Told.{told_more}
+use Rattle.chi_watch_text.specs.declared.reading.Reading.{Reading}
 
--- the first lines of the text, so many of them, tell events by which these operations had ended and requests were refused for
--- these reasons, and the rest follows
-pub record AreRead (text : List ℕ) (count : ℕ) (ended : List Operation) (refusals : List Refusal) (o : OutstandingValue) (rest : List ℕ) : Type 0 where
+-- by the events that the reading has given these operations had ended and requests were refused for these reasons, and the rest follows
+pub record AreRead (text : List ℕ) (ended : List Operation) (refusals : List Refusal) (o : OutstandingValue) (r : Reading) (rest : List ℕ) : Type 0 where
   pub events : List Event
-  pub told : AreTold text count events rest
+  pub given : HasGiven text events r rest
   pub tells : Tells events ended o
   pub refused : IsPermutation (refusals_told events) refusals
 
 -- the same of a text that may not be known
-abbrev pub HasRead : Option (List ℕ) → ℕ → List Operation → List Refusal → OutstandingValue → Option (List ℕ) → Type 0
-HasRead None count ended refusals o rest = Unit {0}
-HasRead (Some text) count ended refusals o None = ⊥
-HasRead (Some text) count ended refusals o (Some rest) = AreRead text count ended refusals o rest
+abbrev pub HasRead : Option (List ℕ) → List Operation → List Refusal → OutstandingValue → Reading → Option (List ℕ) → Type 0
+HasRead None ended refusals o r rest = Unit {0}
+HasRead (Some text) ended refusals o r None = ⊥
+HasRead (Some text) ended refusals o r (Some rest) = AreRead text ended refusals o r rest
 
 -- nothing was read
-pub none_read : (start : Option (List ℕ)) (o : OutstandingValue) (ended : List Operation) (refusals : List Refusal) → Tells [] [] o → ended ≡ [] → refusals ≡ []
-    → HasRead start 0 ended refusals o start
-unfolding AreEvents AreLines each_request
-none_read None o ended refusals tells none no_refusals = tt
-none_read (Some text) o ended refusals tells none no_refusals = record {
+pub none_read : (start : Option (List ℕ)) (o : OutstandingValue) (r : Reading) (ended : List Operation) (refusals : List Refusal) → Tells [] [] o → HasGivenOf start [] r start → ended ≡ []
+    → refusals ≡ [] → HasRead start ended refusals o r start
+unfolding each_request
+none_read None o r ended refusals tells given none no_refusals = tt
+none_read (Some text) o r ended refusals tells given none no_refusals = record {
   events = [];
-  told = record { lines = []; count_is = refl; are_lines = refl; are_events = tt };
+  given = given;
   tells = subst (λ (l : List Operation). Tells [] l o) (sym none) tells;
   refused = subst (λ (l : List Refusal). IsPermutation [] l) (sym no_refusals) (IsPermutation-refl []);
 }
 
 -- one event more
-pub read_more : (start now later : Option (List ℕ)) (count line : ℕ) (before after : List Operation) (refused refused_now : List Refusal) (old new : OutstandingValue) (e : Event)
-    (ended : Option Operation) (reason : Option Refusal) → HasRead start count before refused old now → IfSome now (λ text. IsRead line text (Some e) later)
+pub read_more : (start now later : Option (List ℕ)) (before after : List Operation) (refused refused_now : List Refusal) (old new : OutstandingValue) (r s : Reading) (e : Event)
+    (ended : Option Operation) (reason : Option Refusal) → HasRead start before refused old r now → GivesNext start r now (Some e) s later
     → ((events : List Event) (past : List Operation) → Tells events past old → Tells (events ++ e ∷ []) (past ++ option_to_list ended) new)
     → ((events : List Event) (past : List Operation) → Tells events past old
     → IsPermutation (refusals_told (events ++ e ∷ [])) (refusals_told events ++ option_to_list reason))
-    → line ≡ count + 1 → after ≡ before ++ option_to_list ended → refused_now ≡ refused ++ option_to_list reason → HasRead start line after refused_now new later
-read_more None now later count line before after refused refused_now old new e ended reason has next takes refuses here is are = tt
-read_more (Some text) None later count line before after refused refused_now old new e ended reason has next takes refuses here is are = absurd has
-read_more (Some text) (Some rest) later count line before after refused refused_now old new e ended reason has (some, tells, left) takes refuses here is are =
-    subst (HasRead (Some text) line after refused_now new) (sym left) (record {
+    → after ≡ before ++ option_to_list ended → refused_now ≡ refused ++ option_to_list reason → HasRead start after refused_now new s later
+read_more None now later before after refused refused_now old new r s e ended reason has gives takes refuses is are = tt
+read_more (Some text) None later before after refused refused_now old new r s e ended reason has gives takes refuses is are = absurd has
+read_more (Some text) (Some rest) later before after refused refused_now old new r s e ended reason has gives takes refuses is are = by_rest later (gives has.events has.given)
+  where
+    by_rest : (left : Option (List ℕ)) → HasGivenOf (Some text) (has.events ++ e ∷ []) s left → HasRead (Some text) after refused_now new s left
+    by_rest None given = absurd given
+    by_rest (Some left) given = record {
       events = has.events ++ e ∷ [];
-      told = subst (λ (n : ℕ). AreTold text n (has.events ++ e ∷ []) (drop_through 10 rest)) (sym here) (told_more text count has.events rest e has.told some (subst (λ n. event_text n (take_through 10 rest) ≡ Ok e) here tells));
+      given = given;
       tells = subst (λ (l : List Operation). Tells (has.events ++ e ∷ []) l new) (sym is) (takes has.events before has.tells);
       refused = subst (IsPermutation (refusals_told (has.events ++ e ∷ []))) (sym are)
           (IsPermutation-trans (refusals_told (has.events ++ e ∷ [])) (refusals_told has.events ++ option_to_list reason) (refused ++ option_to_list reason)
           (refuses has.events before has.tells) (IsPermutation-append_left (option_to_list reason) (refusals_told has.events) refused has.refused));
-    })
+    }
 
 -- the text is at its end
-pub all_read : (start now later : Option (List ℕ)) (count number : ℕ) (ended ops : List Operation) (refusals : List Refusal) (o : OutstandingValue) → HasRead start count ended refusals o now
-    → IfSome now (λ text. IsRead number text None later) → ((events : List Event) → Tells events ended o → AreInOrder events ops) → IfSome start (λ text. AreOperations text ops)
-all_read None now later count number ended ops refusals o has end order = tt
-all_read (Some text) None later count number ended ops refusals o has end order = absurd has
-all_read (Some text) (Some rest) later count number ended ops refusals o has end order =
-    (has.events, count, (rest, has.told, end), order has.events has.tells)
+pub all_read : (start now later : Option (List ℕ)) (ended ops : List Operation) (refusals : List Refusal) (o : OutstandingValue) (r s : Reading) → HasRead start ended refusals o r now
+    → GivesNext start r now None s later → ((events : List Event) → Tells events ended o → AreInOrder events ops) → IfSome start (λ text. AreOperations r.format text ops)
+all_read None now later ended ops refusals o r s has gives order = tt
+all_read (Some text) None later ended ops refusals o r s has gives order = absurd has
+all_read (Some text) (Some rest) later ended ops refusals o r s has gives order = (has.events, gives has.events has.given, order has.events has.tells)
 
-pub all_refused : (start now later : Option (List ℕ)) (count number : ℕ) (ended : List Operation) (refusals : List Refusal) (o : OutstandingValue) → HasRead start count ended refusals o now
-    → IfSome now (λ text. IsRead number text None later) → IfSome start (λ text. AreRefusals text refusals)
-all_refused None now later count number ended refusals o has end = tt
-all_refused (Some text) None later count number ended refusals o has end = absurd has
-all_refused (Some text) (Some rest) later count number ended refusals o has end = (has.events, count, (rest, has.told, end), has.refused)
+pub all_refused : (start now later : Option (List ℕ)) (ended : List Operation) (refusals : List Refusal) (o : OutstandingValue) (r s : Reading) → HasRead start ended refusals o r now
+    → GivesNext start r now None s later → IfSome start (λ text. AreRefusals r.format text refusals)
+all_refused None now later ended refusals o r s has gives = tt
+all_refused (Some text) None later ended refusals o r s has gives = absurd has
+all_refused (Some text) (Some rest) later ended refusals o r s has gives = (has.events, gives has.events has.given, has.refused)
 
--- a line tells no event
-pub line_refused : (start now : Option (List ℕ)) (count number : ℕ) (ended : List Operation) (refusals : List Refusal) (o : OutstandingValue) (f : LinesFault) → HasRead start count ended refusals o now
-    → number ≡ count + 1 → IfSome now (λ text. IsRefused (take_through 10 text) number f) → IfSome start (λ text. IsOperationsFault text f)
-line_refused None now count number ended refusals o f has here is = tt
-line_refused (Some text) None count number ended refusals o f has here is = absurd has
-line_refused (Some text) (Some rest) count number ended refusals o fault.Read has here is = tt
-line_refused (Some text) (Some rest) count number ended refusals o (fault.Line n f) has here (same, refused) = (has.events, count, rest, has.told, sym (same ∙ here), subst (λ n. event_text n (take_through 10 rest) ≡ Err f) (sym same) refused)
-line_refused (Some text) (Some rest) count number ended refusals o (fault.Event n f) has here is = absurd is
-line_refused (Some text) (Some rest) count number ended refusals o fault.TooManyLines has here is = absurd is
-line_refused (Some text) (Some rest) count number ended refusals o fault.Write has here is = absurd is
-line_refused (Some text) (Some rest) count number ended refusals o fault.Memory has here is = tt
+-- a line tells nothing
+pub line_refused : (start now : Option (List ℕ)) (ended : List Operation) (refusals : List Refusal) (o : OutstandingValue) (r : Reading) (f : LinesFault) → HasRead start ended refusals o r now
+    → FailsNext start r now f → IfSome start (λ text. IsOperationsFault r.format text f)
+line_refused None now ended refusals o r f has fails = tt
+line_refused (Some text) None ended refusals o r f has fails = absurd has
+line_refused (Some text) (Some rest) ended refusals o r fault.Read has fails = tt
+line_refused (Some text) (Some rest) ended refusals o r (fault.Line n f) has fails = (has.events, fails has.events has.given)
+line_refused (Some text) (Some rest) ended refusals o r (fault.Event n f) has fails = absurd (fails has.events has.given)
+line_refused (Some text) (Some rest) ended refusals o r fault.TooManyLines has fails = tt
+line_refused (Some text) (Some rest) ended refusals o r fault.Write has fails = absurd (fails has.events has.given)
+line_refused (Some text) (Some rest) ended refusals o r fault.Memory has fails = tt
 
--- or one whose event cannot come next
-pub event_refused : (start now later : Option (List ℕ)) (count number : ℕ) (ended : List Operation) (refusals : List Refusal) (o : OutstandingValue) (e : Event) (f : LinesFault)
-    → HasRead start count ended refusals o now → number ≡ count + 1 → IfSome now (λ text. IsRead number text (Some e) later) → IsTakingFault o e number f
-    → IfSome start (λ text. IsOperationsFault text f)
-event_refused None now later count number ended refusals o e f has here read is = tt
-event_refused (Some text) None later count number ended refusals o e f has here read is = absurd has
-event_refused (Some text) (Some rest) later count number ended refusals o e fault.Read has here read is = absurd is
-event_refused (Some text) (Some rest) later count number ended refusals o e (fault.Line n f) has here read is = absurd is
-event_refused (Some text) (Some rest) later count number ended refusals o e (fault.Event n f) has here read (same, refused) =
-    (has.events, count, rest, has.told, sym (same ∙ here), (e, subst (λ n. event_text n (take_through 10 rest) ≡ Ok e) (sym same) read.1, (ended, o, has.tells, refused)))
-event_refused (Some text) (Some rest) later count number ended refusals o e fault.TooManyLines has here read is = absurd is
-event_refused (Some text) (Some rest) later count number ended refusals o e fault.Write has here read is = absurd is
-event_refused (Some text) (Some rest) later count number ended refusals o e fault.Memory has here read is = tt
+-- or an event cannot come next
+pub event_refused : (start now later : Option (List ℕ)) (ended : List Operation) (refusals : List Refusal) (o : OutstandingValue) (r s : Reading) (e : Event) (f : LinesFault)
+    → HasRead start ended refusals o r now → GivesNext start r now (Some e) s later → IsTakingFault o e s.number f → IfSome start (λ text. IsOperationsFault s.format text f)
+event_refused None now later ended refusals o r s e f has gives is = tt
+event_refused (Some text) None later ended refusals o r s e f has gives is = absurd has
+event_refused (Some text) (Some rest) later ended refusals o r s e fault.Read has gives is = absurd is
+event_refused (Some text) (Some rest) later ended refusals o r s e (fault.Line n f) has gives is = absurd is
+event_refused (Some text) (Some rest) later ended refusals o r s e (fault.Event n f) has gives (same, refused) = by_rest later (gives has.events has.given)
+  where
+    by_rest : (left : Option (List ℕ)) → HasGivenOf (Some text) (has.events ++ e ∷ []) s left → IsNotNext s.format text n f
+    by_rest None given = absurd given
+    by_rest (Some left) given =
+        (has.events, e, s.pending.items, left, subst (λ (k : ℕ). AreTold s.format text k (has.events ++ e ∷ []) s.pending.items left) (sym same) given.told, (ended, o, has.tells, refused))
+event_refused (Some text) (Some rest) later ended refusals o r s e fault.TooManyLines has gives is = absurd is
+event_refused (Some text) (Some rest) later ended refusals o r s e fault.Write has gives is = absurd is
+event_refused (Some text) (Some rest) later ended refusals o r s e fault.Memory has gives is = tt
 
 -- operations of a trace are one in every order of their starts
 sorted_trace : (each_request ops : List Operation) → IsTrace each_request → IsPermutation each_request ops → IsNonDecreasingBy (λ (op : Operation). op.start) ops → IsTrace ops

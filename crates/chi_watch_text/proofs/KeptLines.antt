@@ -3,13 +3,12 @@ use Rattle.std.proofs.Common.{◌≡◌, ◌∙◌, ℕ, ◌==◌, ◌<◌, Bool
 use Rattle.std.specs.Io.BufRead.{drop_through, take_through}
 use Rattle.std.specs.declared.alloc.Global.{Global}
 use Rattle.std.proofs.lemmas.List.{append_cancel_right, nil_from_length}
-use Rattle.chi_events.specs.declared.event.Event.{Event}
 use Rattle.chi_watch_text.specs.Kept.{AreKept, AreKeptOf, KeepsLine}
 use Rattle.chi_watch_text.specs.Lines.{AreLines}
-use Rattle.chi_watch_text.specs.Reading.{IsRead}
+use Rattle.chi_watch_text.specs.Reading.{BeginsWith}
 
 -- a line and what follows it are the text
-line_then_rest : (text : List ℕ) → take_through 10 text ++ drop_through 10 text ≡ text
+pub line_then_rest : (text : List ℕ) → take_through 10 text ++ drop_through 10 text ≡ text
 line_then_rest [] = refl
 line_then_rest (b ∷ text) = by_test (b == 10) (line_then_rest text)
   where
@@ -31,20 +30,19 @@ none_kept None kept none = tt
 none_kept (Some text) None none = tt
 none_kept (Some text) (Some k) none = ap (λ l. l ++ text) (sym none)
 
--- or one more
-line_added : (text rest : List ℕ) (old new : Option (Vec ℕ Global)) → AreKept text old rest → KeepsLine old (take_through 10 rest) new → AreKept text new (drop_through 10 rest)
-line_added text rest None new are keeps = subst (λ (o : Option (Vec ℕ Global)). AreKept text o (drop_through 10 rest)) (sym keeps) tt
-line_added text rest (Some old) None are keeps = absurd keeps
-line_added text rest (Some old) (Some new) are keeps =
-    are ∙ (ap (λ l. old.items ++ l) (sym (line_then_rest rest)) ∙ (sym (append_assoc old.items (take_through 10 rest) (drop_through 10 rest))
-    ∙ ap (λ l. l ++ drop_through 10 rest) (sym keeps)))
+-- or some more
+lines_added : (text lines now later : List ℕ) (old new : Option (Vec ℕ Global)) → AreKept text old now → KeepsLine old lines new → now ≡ lines ++ later → AreKept text new later
+lines_added text lines now later None new are keeps is = subst (λ (o : Option (Vec ℕ Global)). AreKept text o later) (sym keeps) tt
+lines_added text lines now later (Some old) None are keeps is = absurd keeps
+lines_added text lines now later (Some old) (Some new) are keeps is =
+    are ∙ (ap (λ l. old.items ++ l) is ∙ (sym (append_assoc old.items lines later) ∙ ap (λ l. l ++ later) (sym keeps)))
 
-pub line_kept : (start now later : Option (List ℕ)) (old new : Option (Vec ℕ Global)) (line : List ℕ) (number : ℕ) (e : Event) → AreKeptOf start old now → KeepsLine old line new
-    → IfSome now (λ text. line ≡ take_through 10 text) → IfSome now (λ text. IsRead number text (Some e) later) → AreKeptOf start new later
-line_kept None now later old new line number e are keeps is read = tt
-line_kept (Some text) None later old new line number e are keeps is read = absurd are
-line_kept (Some text) (Some rest) later old new line number e are keeps is (some, tells, left) =
-    subst (AreKeptOf (Some text) new) (sym left) (line_added text rest old new are (subst (λ (l : List ℕ). KeepsLine old l new) is keeps))
+pub lines_kept_more : (start now later : Option (List ℕ)) (old new : Option (Vec ℕ Global)) (lines : List ℕ) → AreKeptOf start old now → KeepsLine old lines new → BeginsWith now lines later
+    → AreKeptOf start new later
+lines_kept_more None now later old new lines are keeps begins = tt
+lines_kept_more (Some text) None later old new lines are keeps begins = absurd are
+lines_kept_more (Some text) (Some rest) None old new lines are keeps begins = absurd begins
+lines_kept_more (Some text) (Some rest) (Some left) old new lines are keeps begins = lines_added text lines rest left old new are keeps begins
 
 -- lines are kept as before
 pub keeps_still : (old new : Option (Vec ℕ Global)) (line : List ℕ) → KeepsLine old line new → is_some new ≡ is_some old

@@ -1,7 +1,9 @@
 pub mod AllRead
 pub mod Blank
+pub mod EachEvent
 pub mod KeptLines
 pub mod KnownWords
+pub mod Readings
 pub mod Recordings
 pub mod Refused
 pub mod SavedLines

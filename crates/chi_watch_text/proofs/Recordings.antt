@@ -1,15 +1,13 @@
 -- events that are recorded, one after another
-use Rattle.std.proofs.Common.{◌≡◌, ℕ, ◌+◌, ◌==◌, Bool, true, false, cond, All, flat_map, is_none, List, [], ◌∷◌, ◌++◌, Option, Some, None, IfSome, is_some, Ok, option_to_list, refl, sym, ap, ap₂, subst, ◌∙◌, eqb-true, eq-eqb, true≢false, append-nil, IsPermutation}
+use Rattle.std.proofs.Common.{◌≡◌, ℕ, ◌==◌, Bool, true, false, cond, All, flat_map, is_none, List, [], ◌∷◌, ◌++◌, Option, Some, None, IfSome, is_some, option_to_list, refl, sym, ap, ap₂, subst, ◌∙◌, eqb-true, eq-eqb, true≢false, append-nil, IsPermutation}
 use Rattle.std.specs.List.{list_any}
 use Rattle.std.specs.List.Sorted.{IsNonDecreasingBy}
 use Rattle.std.proofs.lemmas.List.Sorted.{IsPermutation-append, IsPermutation-append_comm, IsPermutation-refl, IsPermutation-trans}
 use Rattle.std.specs.BTreeMap.{get}
-use Rattle.std.specs.Io.BufRead.{drop_through, take_through}
 use Rattle.std.specs.Ordering.{nat_cmp}
 use Rattle.chi_events.specs.declared.event.Event.{Event}
 use Rattle.chi_events.specs.declared.event.EventKind.{EventKind}
 use Rattle.chi_events.specs.declared.event.EventKind.TheVariants.{Request, Data, Reply, Dropped, Refused, Word, Final, Unknown, End}
-use Rattle.chi_reading.specs.EventText.{event_text}
 use Rattle.chi_reading.specs.TraceText.{RecordedValue}
 use Rattle.chi_trace.specs.declared.operation.Operation.{Operation}
 use Rattle.chi_trace.specs.declared.words.GranuleWord.{GranuleWord}
@@ -29,13 +27,12 @@ use Rattle.chi_watch.proofs.MoreWords.{later_openings, later_writes, opening_tol
 use Rattle.chi_watch.proofs.Noted.{finals_more}
 use Rattle.chi_watch.proofs.Taken.{covered_again, since_told}
 use Rattle.chi_watch_text.specs.Operations.{AreInOrder}
-use Rattle.chi_watch_text.specs.Lines.{AreEvents, AreLines, AreTold}
-use Rattle.chi_watch_text.specs.Reading.{IsRead}
+use Rattle.chi_watch_text.specs.Reading.{GivesNext, HasGiven, HasGivenOf}
 use Rattle.chi_watch_text.specs.Recorded.{HasRecorded, HasWords, IsRecorded, IsToldTrace, is_told_again, opening_told, write_told}
+use Rattle.chi_watch_text.specs.declared.reading.Reading.{Reading}
 use Rattle.chi_watch_text.specs.declared.recorded.Recording.{Recording}
 use Rattle.chi_watch_text.proofs.KnownWords.{told_again}
 use Rattle.chi_watch_text.proofs.Refused.{TookLines}
-use Rattle.chi_watch_text.proofs.Told.{told_more}
 
 -- a word that is told of a granule of which none was noted, and of one of which one was
 pub word_noted : (before : List GranuleWord) (w : GranuleWord) (old new : ℕ → Option ℕ) → is_some (old w.granule) ≡ false → new w.granule ≡ Some w.word → ((g : ℕ) → (g ≡ w.granule → ⊥) → new g ≡ old g)
@@ -134,39 +131,37 @@ recorded_more e ended old new takes fits is writes opening final events has =
       final_words = subst (λ (words : List GranuleWord). HasWords words (get nat_cmp new.final_words)) (sym (final_more events e)) (final (final_words events) has.final_words);
     }
 
--- the events of so many lines of a text, which may not be known, were recorded, and the rest follows
-abbrev pub HasRecordedLines : Option (List ℕ) → ℕ → Recording → Option (List ℕ) → Type 0
-HasRecordedLines None count r rest = Unit {0}
-HasRecordedLines (Some text) count r None = ⊥
-HasRecordedLines (Some text) count r (Some rest) = (events : List Event) × AreTold text count events rest × HasRecorded events r
+-- the events that a reading of a text has given, which may not be known, were recorded, and the rest follows
+abbrev pub HasRecordedLines : Option (List ℕ) → Recording → Reading → Option (List ℕ) → Type 0
+HasRecordedLines None r reading rest = Unit {0}
+HasRecordedLines (Some text) r reading None = ⊥
+HasRecordedLines (Some text) r reading (Some rest) = (events : List Event) × HasGiven text events reading rest × HasRecorded events r
 
-pub none_recorded : (start : Option (List ℕ)) (r : Recording) → HasRecorded [] r → HasRecordedLines start 0 r start
-unfolding AreEvents AreLines
-none_recorded None r has = tt
-none_recorded (Some text) r has = ([], record { lines = []; count_is = refl; are_lines = refl; are_events = tt }, has)
+pub none_recorded : (start : Option (List ℕ)) (r : Recording) (reading : Reading) → HasRecorded [] r → HasGivenOf start [] reading start → HasRecordedLines start r reading start
+none_recorded None r reading has given = tt
+none_recorded (Some text) r reading has given = ([], given, has)
 
-pub line_recorded : (start now later : Option (List ℕ)) (count line : ℕ) (old new : Recording) (e : Event) → HasRecordedLines start count old now → IfSome now (λ text. IsRead line text (Some e) later)
-    → ((events : List Event) → HasRecorded events old → HasRecorded (events ++ e ∷ []) new) → line ≡ count + 1 → HasRecordedLines start line new later
-line_recorded None now later count line old new e has next more here = tt
-line_recorded (Some text) None later count line old new e has next more here = absurd has
-line_recorded (Some text) (Some rest) later count line old new e (events, told, has) (some, tells, left) more here =
-    subst (HasRecordedLines (Some text) line new) (sym left) (
-      events ++ e ∷ [],
-      subst (λ (n : ℕ). AreTold text n (events ++ e ∷ []) (drop_through 10 rest)) (sym here) (told_more text count events rest e told some (subst (λ n. event_text n (take_through 10 rest) ≡ Ok e) here tells)),
-      more events has,
-    )
+pub event_recorded : (start now later : Option (List ℕ)) (old new : Recording) (r s : Reading) (e : Event) → HasRecordedLines start old r now → GivesNext start r now (Some e) s later
+    → ((events : List Event) → HasRecorded events old → HasRecorded (events ++ e ∷ []) new) → HasRecordedLines start new s later
+event_recorded None now later old new r s e has gives more = tt
+event_recorded (Some text) None later old new r s e has gives more = absurd has
+event_recorded (Some text) (Some rest) later old new r s e (events, given, has) gives more = by_rest later (gives events given)
+  where
+    by_rest : (left : Option (List ℕ)) → HasGivenOf (Some text) (events ++ e ∷ []) s left → HasRecordedLines (Some text) new s left
+    by_rest None now_given = absurd now_given
+    by_rest (Some left) now_given = (events ++ e ∷ [], now_given, more events has)
 
-pub all_recorded : (start now later : Option (List ℕ)) (count line : ℕ) (recording : Recording) (r : RecordedValue) → HasRecordedLines start count recording now → IfSome now (λ text. IsRead line text None later)
-    → ((events : List Event) → HasRecorded events recording → IsToldTrace events r) → IfSome start (λ text. IsRecorded text r)
-all_recorded None now later count line recording r has end is = tt
-all_recorded (Some text) None later count line recording r has end is = absurd has
-all_recorded (Some text) (Some rest) later count line recording r (events, told, has) end is = (events, count, (rest, told, end), is events has)
+pub all_recorded : (start now later : Option (List ℕ)) (recording : Recording) (r s : Reading) (value : RecordedValue) → HasRecordedLines start recording r now → GivesNext start r now None s later
+    → ((events : List Event) → HasRecorded events recording → IsToldTrace events value) → IfSome start (λ text. IsRecorded r.format text value)
+all_recorded None now later recording r s value has gives is = tt
+all_recorded (Some text) None later recording r s value has gives is = absurd has
+all_recorded (Some text) (Some rest) later recording r s value (events, given, has) gives is = (events, gives events given, is events has)
 
 -- a watch took them
-pub taken_lines : (start now : Option (List ℕ)) (count : ℕ) (r : Recording) → HasRecordedLines start count r now → TookLines start count r.watch now
-taken_lines None now count r has = tt
-taken_lines (Some text) None count r has = absurd has
-taken_lines (Some text) (Some rest) count r (events, told, has) = (events, told, (r.ended.items, has.watches))
+pub taken_lines : (start now : Option (List ℕ)) (recording : Recording) (r : Reading) → HasRecordedLines start recording r now → TookLines start recording.watch r now
+taken_lines None now recording r has = tt
+taken_lines (Some text) None recording r has = absurd has
+taken_lines (Some text) (Some rest) recording r (events, given, has) = (events, given, (recording.ended.items, has.watches))
 
 -- the operations and the writes that stand for words, in the order of their starts
 pub record AreAllInOrder (events : List Event) (ops : List Operation) : Type 0 where

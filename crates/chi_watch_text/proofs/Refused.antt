@@ -1,53 +1,56 @@
--- a line that tells no event, or one that is not taken
-use Rattle.std.proofs.Common.{◌≡◌, ℕ, ◌+◌, ◌⊎◌, List, Option, None, Some, IfSome, Ok, Err, inl, inr, sym, subst, ◌∙◌}
-use Rattle.std.specs.Io.BufRead.{take_through}
-use Rattle.chi_reading.specs.EventText.{event_text}
+-- a line that tells nothing, or an event that is not taken
+use Rattle.std.proofs.Common.{◌≡◌, ℕ, ◌⊎◌, List, [], ◌∷◌, ◌++◌, Option, None, Some, IfSome, inl, inr, sym, subst}
 use Rattle.chi_events.specs.declared.event.Event.{Event}
 use Rattle.chi_watch.specs.Watches.{HasTaken, WatchValue}
 use Rattle.chi_watch_text.specs.Lines.{AreTold}
-use Rattle.chi_watch_text.specs.Outcomes.{IsEventFault, IsLinesFault, IsWatchingFault}
-use Rattle.chi_watch_text.specs.Reading.{IsRead, IsRefused}
+use Rattle.chi_watch_text.specs.Outcomes.{IsEventFault, IsLinesFault, IsNotTaken, IsWatchingFault}
+use Rattle.chi_watch_text.specs.Reading.{FailsNext, GivesNext, HasGiven, HasGivenOf}
 use Rattle.chi_watch_text.specs.declared.fault.LinesFault.{LinesFault}
 use Rattle.chi_watch_text.specs.declared.fault.LinesFault.TheVariants as fault
+use Rattle.chi_watch_text.specs.declared.line_format.LineFormat.{LineFormat}
+use Rattle.chi_watch_text.specs.declared.reading.Reading.{Reading}
 
--- a watch took the events of so many lines of a text, which may not be known, and the rest follows
-abbrev pub TookLines : Option (List ℕ) → ℕ → WatchValue → Option (List ℕ) → Type 0
-TookLines None count w rest = Unit {0}
-TookLines (Some text) count w None = ⊥
-TookLines (Some text) count w (Some rest) = (events : List Event) × AreTold text count events rest × HasTaken events w
+-- a watch took the events that a reading of a text has given, which may not be known, and the rest follows
+abbrev pub TookLines : Option (List ℕ) → WatchValue → Reading → Option (List ℕ) → Type 0
+TookLines None w r rest = Unit {0}
+TookLines (Some text) w r None = ⊥
+TookLines (Some text) w r (Some rest) = (events : List Event) × HasGiven text events r rest × HasTaken events w
 
--- what is said of the text where a line tells no event
-pub where_refused : (start now : Option (List ℕ)) (count number : ℕ) (w : WatchValue) (f : LinesFault) → TookLines start count w now → number ≡ count + 1
-    → IfSome now (λ text. IsRefused (take_through 10 text) number f) → IfSome start (λ text. IsLinesFault text f)
-where_refused None now count number w f has here is = tt
-where_refused (Some text) None count number w f has here is = absurd has
-where_refused (Some text) (Some rest) count number w fault.Read has here is = tt
-where_refused (Some text) (Some rest) count number w (fault.Line n f) (events, told, has) here (same, refused) = (events, count, rest, told, sym (same ∙ here), subst (λ n. event_text n (take_through 10 rest) ≡ Err f) (sym same) refused)
-where_refused (Some text) (Some rest) count number w (fault.Event n f) has here is = absurd is
-where_refused (Some text) (Some rest) count number w fault.TooManyLines has here is = absurd is
-where_refused (Some text) (Some rest) count number w fault.Write has here is = absurd is
-where_refused (Some text) (Some rest) count number w fault.Memory has here is = tt
+-- what is said of the text where a line tells nothing
+pub where_refused : (start now : Option (List ℕ)) (w : WatchValue) (r : Reading) (f : LinesFault) → TookLines start w r now → FailsNext start r now f → IfSome start (λ text. IsLinesFault r.format text f)
+where_refused None now w r f has fails = tt
+where_refused (Some text) None w r f has fails = absurd has
+where_refused (Some text) (Some rest) w r fault.Read has fails = tt
+where_refused (Some text) (Some rest) w r (fault.Line n f) (events, given, has) fails = (events, fails events given)
+where_refused (Some text) (Some rest) w r (fault.Event n f) (events, given, has) fails = absurd (fails events given)
+where_refused (Some text) (Some rest) w r fault.TooManyLines has fails = tt
+where_refused (Some text) (Some rest) w r fault.Write (events, given, has) fails = absurd (fails events given)
+where_refused (Some text) (Some rest) w r fault.Memory has fails = tt
 
--- or one whose event is not taken
-pub where_not_taken : (start now later : Option (List ℕ)) (count number : ℕ) (w : WatchValue) (e : Event) (f : LinesFault) → TookLines start count w now → number ≡ count + 1
-    → IfSome now (λ text. IsRead number text (Some e) later) → IsEventFault w e number f → IfSome start (λ text. IsLinesFault text f)
-where_not_taken None now later count number w e f has here read is = tt
-where_not_taken (Some text) None later count number w e f has here read is = absurd has
-where_not_taken (Some text) (Some rest) later count number w e fault.Read has here read is = absurd is
-where_not_taken (Some text) (Some rest) later count number w e (fault.Line n f) has here read is = absurd is
-where_not_taken (Some text) (Some rest) later count number w e (fault.Event n f) (events, told, has) here read (same, refused) =
-    (events, count, rest, told, sym (same ∙ here), (e, subst (λ n. event_text n (take_through 10 rest) ≡ Ok e) (sym same) read.1, (w, has, refused)))
-where_not_taken (Some text) (Some rest) later count number w e fault.TooManyLines has here read is = absurd is
-where_not_taken (Some text) (Some rest) later count number w e fault.Write has here read is = absurd is
-where_not_taken (Some text) (Some rest) later count number w e fault.Memory has here read is = tt
+-- or an event is not taken
+pub where_not_taken : (start now later : Option (List ℕ)) (w : WatchValue) (r s : Reading) (e : Event) (f : LinesFault) → TookLines start w r now → GivesNext start r now (Some e) s later
+    → IsEventFault w e s.number f → IfSome start (λ text. IsLinesFault s.format text f)
+where_not_taken None now later w r s e f has gives is = tt
+where_not_taken (Some text) None later w r s e f has gives is = absurd has
+where_not_taken (Some text) (Some rest) later w r s e fault.Read has gives is = absurd is
+where_not_taken (Some text) (Some rest) later w r s e (fault.Line n f) has gives is = absurd is
+where_not_taken (Some text) (Some rest) later w r s e (fault.Event n f) (events, given, has) gives (same, refused) = by_rest later (gives events given)
+  where
+    by_rest : (left : Option (List ℕ)) → HasGivenOf (Some text) (events ++ e ∷ []) s left → IsNotTaken s.format text n f
+    by_rest None now_given = absurd now_given
+    by_rest (Some left) now_given =
+        (events, e, s.pending.items, left, subst (λ (k : ℕ). AreTold s.format text k (events ++ e ∷ []) s.pending.items left) (sym same) now_given.told, (w, has, refused))
+where_not_taken (Some text) (Some rest) later w r s e fault.TooManyLines has gives is = absurd is
+where_not_taken (Some text) (Some rest) later w r s e fault.Write has gives is = absurd is
+where_not_taken (Some text) (Some rest) later w r s e fault.Memory has gives is = tt
 
 -- where it is not that a granule could not be told
-pub but_write : (start : Option (List ℕ)) (f : LinesFault) → IfSome start (λ text. IsLinesFault text f) → IfSome start (λ text. IsWatchingFault text f)
-but_write None f is = tt
-but_write (Some text) f is = λ not_write. is
+pub but_write : (format : LineFormat) (start : Option (List ℕ)) (f : LinesFault) → IfSome start (λ text. IsLinesFault format text f) → IfSome start (λ text. IsWatchingFault format text f)
+but_write format None f is = tt
+but_write format (Some text) f is = λ not_write. is
 
 -- no memory, or a granule that could not be told
-pub held_up : (start : Option (List ℕ)) (f : LinesFault) → (f ≡ fault.Memory) ⊎ (f ≡ fault.Write) → IfSome start (λ text. IsWatchingFault text f)
-held_up None f is = tt
-held_up (Some text) f (inl memory) = λ not_write. subst (IsLinesFault text) (sym memory) tt
-held_up (Some text) f (inr write) = λ not_write. absurd (not_write write)
+pub held_up : (format : LineFormat) (start : Option (List ℕ)) (f : LinesFault) → (f ≡ fault.Memory) ⊎ (f ≡ fault.Write) → IfSome start (λ text. IsWatchingFault format text f)
+held_up format None f is = tt
+held_up format (Some text) f (inl memory) = λ not_write. subst (IsLinesFault format text) (sym memory) tt
+held_up format (Some text) f (inr write) = λ not_write. absurd (not_write write)

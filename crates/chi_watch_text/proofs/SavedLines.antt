@@ -5,9 +5,10 @@ use Rattle.chi_events.specs.declared.event.Event.{Event}
 use Rattle.chi_events.specs.declared.event.EventKind.{EventKind}
 use Rattle.chi_events.specs.declared.event.EventKind.TheVariants as kind
 use Rattle.chi_reading.specs.EventText.{event_text}
-use Rattle.chi_watch_text.specs.Lines.{AreEvents, AreLines}
-use Rattle.chi_watch_text.specs.Reading.{IsRefused}
-use Rattle.chi_watch_text.specs.Saved.{AreWhole, IsOfNoLine, line_about, lines_about, no_number, numbers_after, tells_of}
+use Rattle.chi_watch_text.specs.Lines.{AreLines}
+use Rattle.chi_watch_text.specs.LineTold.{event_told}
+use Rattle.chi_watch_text.specs.Reading.{IsLineFault}
+use Rattle.chi_watch_text.specs.Saved.{AreOf, AreWhole, IsOfNoLine, line_about, lines_about, no_number, numbers_after, tells_of}
 use Rattle.chi_watch_text.specs.declared.fault.LinesFault.{LinesFault}
 use Rattle.chi_watch_text.specs.declared.fault.LinesFault.TheVariants as fault
 
@@ -48,7 +49,7 @@ pub record IsLeft (g : ℕ) (numbers : ℕ → Bool) (number : ℕ) (rest saved 
   pub lines : List (List ℕ)
   pub events : List Event
   pub are_lines : AreLines rest lines []
-  pub are_events : AreEvents number lines events
+  pub are_events : AreOf number lines events
   pub all_is : all ≡ saved ++ lines_about g numbers lines events
 
 -- all are left at the start
@@ -76,10 +77,10 @@ none_left g numbers number rest saved all empty left = by_lines left.lines left.
 pub line_saved : (g : ℕ) (numbers after : ℕ → Bool) (number : ℕ) (rest saved new all : List ℕ) (e : Event) → 0 < length rest → event_text number (take_through 10 rest) ≡ Ok e
     → new ≡ saved ++ line_about g numbers (take_through 10 rest) e.kind → ((id : ℕ) → after id ≡ numbers_after g numbers e.kind id) → IsLeft g numbers number rest saved all
     → IsLeft g after (number + 1) (drop_through 10 rest) new all
-unfolding AreEvents AreLines lines_about
+unfolding AreOf AreLines lines_about
 line_saved g numbers after number rest saved new all e some tells is noted left = by_lines left.lines left.events left.are_lines left.are_events left.all_is
   where
-    by_lines : (lines : List (List ℕ)) (events : List Event) → AreLines rest lines [] → AreEvents number lines events → all ≡ saved ++ lines_about g numbers lines events
+    by_lines : (lines : List (List ℕ)) (events : List Event) → AreLines rest lines [] → AreOf number lines events → all ≡ saved ++ lines_about g numbers lines events
         → IsLeft g after (number + 1) (drop_through 10 rest) new all
     by_lines [] events none are all_is = absurd (let empty = ap length none in omega (arith, some, empty))
     by_lines (line ∷ lines) [] more are all_is = absurd are
@@ -99,17 +100,17 @@ line_saved g numbers after number rest saved new all e some tells is noted left 
         }
 
 -- and no line is at fault
-pub none_refused : (g : ℕ) (numbers : ℕ → Bool) (number : ℕ) (rest saved all : List ℕ) (f : LinesFault) → 0 < length rest → IsRefused (take_through 10 rest) number f
+pub none_refused : (g : ℕ) (numbers : ℕ → Bool) (number : ℕ) (rest saved all : List ℕ) (f : LinesFault) → 0 < length rest → IsLineFault (event_told [] (event_text number (take_through 10 rest))) number f
     → IsLeft g numbers number rest saved all → IsOfNoLine f
-unfolding AreEvents AreLines
+unfolding AreOf AreLines
 none_refused g numbers number rest saved all fault.Read some refused left = tt
 none_refused g numbers number rest saved all (fault.Line n f) some refused left = by_lines left.lines left.events left.are_lines left.are_events
   where
-    by_lines : (lines : List (List ℕ)) (events : List Event) → AreLines rest lines [] → AreEvents number lines events → ⊥
+    by_lines : (lines : List (List ℕ)) (events : List Event) → AreLines rest lines [] → AreOf number lines events → ⊥
     by_lines [] events none are = absurd (let empty = ap length none in omega (arith, some, empty))
     by_lines (line ∷ lines) [] more are = are
     by_lines (line ∷ lines) (d ∷ events) (more, line_is, are_lines) (told, are_events) =
-        let both : Ok d ≡ Err f = sym told ∙ (ap (event_text number) line_is ∙ refused.1) in cc
+        let both : event_told [] (Ok d) ≡ Err f = ap (event_told []) (sym told ∙ ap (event_text number) line_is) ∙ refused.1 in cc
 none_refused g numbers number rest saved all (fault.Event n f) some refused left = refused
 none_refused g numbers number rest saved all fault.TooManyLines some refused left = tt
 none_refused g numbers number rest saved all fault.Write some refused left = refused

@@ -1,13 +1,11 @@
 -- one line more
-use Rattle.std.proofs.Common.{◌≡◌, ◌≢◌, ℕ, ◌≤◌, filter, get_or, not, ◌==◌, ◌||◌, ◌⊎◌, ◌+◌, ◌<◌, List, [], ◌∷◌, ◌++◌, All, Option, None, Some, IfErr, IfSome, inl, inr, Ok, Err, Result, IsErrAnd, Bool, Vec, true, false, true≢false, eq-eqb, length, length-append, refl, sym, ap, subst, ◌∙◌, arith}
+use Rattle.std.proofs.Common.{◌≡◌, ◌≢◌, ℕ, ◌≤◌, filter, get_or, not, ◌==◌, ◌||◌, ◌⊎◌, ◌<◌, List, [], ◌∷◌, ◌++◌, All, Option, None, Some, IfErr, IfSome, inl, inr, Ok, Err, Result, IsErrAnd, Bool, Vec, true, false, true≢false, eq-eqb, length, length-append, refl, sym, ap, subst, ◌∙◌, arith}
 use Rattle.std.specs.List.{AllPairs, Contains, last_or}
 use Rattle.std.specs.Option.{option_map_or}
 use Rattle.std.specs.declared.alloc.Global.{Global}
 use Rattle.std.proofs.lemmas.List.Elements.{All-cons, All-contains, All-contains_itself, All-filter, All-nil, All-push, All-weaker, Contains-get_or}
 use Rattle.std.proofs.lemmas.List.{get_or_push}
 use Rattle.std.proofs.lemmas.List.Quantifiers.{all_pairs_push}
-use Rattle.std.specs.Io.BufRead.{drop_through, take_through}
-use Rattle.chi_reading.specs.EventText.{event_text}
 use Rattle.chi_events.specs.Ended.{are_ended, is_end}
 use Rattle.chi_events.specs.declared.event.Event.{Event}
 use Rattle.chi_watch.specs.declared.ending.Ending.{Ending}
@@ -23,40 +21,16 @@ use Rattle.chi_watch.specs.Reaching.{IsFoundAtEnd}
 use Rattle.chi_watch.specs.Undecided.{IsExplainedAsFar, IsExplainedTo, states_for}
 use Rattle.chi_watch.specs.Watches.{HasTaken, IsUnexplained, WatchValue}
 use Rattle.chi_watch_text.specs.FoundGranule.{is_found, with_quiet}
-use Rattle.chi_watch_text.specs.Lines.{AreEvents, AreLines, AreTold}
+use Rattle.chi_watch_text.specs.Lines.{AreTold}
 use Rattle.chi_watch_text.specs.declared.quiet.Quiet.{Quiet}
 use Rattle.chi_watch_text.specs.declared.watched.FoundGranule.{FoundGranule}
 use Rattle.chi_watch_text.specs.declared.watched.Watched.{Watched}
 use Rattle.chi_watch_text.specs.Kept.{AreKept, AreKeptOf}
 use Rattle.chi_watch_text.specs.Outcomes.{AreAsFar, AreTaken, AreUnreached, EndsAt, HasTakenLines, IsFoundBy, IsPast, IsQuietBy, IsSeenBy, IsSettled, IsStillFound, IsTold, IsUnreached, IsWatched, ReachedBy, SaysAtEnd, SaysOf, TakesEvent, WentBy}
-use Rattle.chi_watch_text.specs.Reading.{IsRead}
+use Rattle.chi_watch_text.specs.Reading.{GivesNext, HasGiven, HasGivenOf}
+use Rattle.chi_watch_text.specs.declared.line_format.LineFormat.{LineFormat}
+use Rattle.chi_watch_text.specs.declared.reading.Reading.{Reading}
 use Rattle.chi_watch_text.proofs.Refused.{TookLines}
-
-lines_more : (text : List ℕ) (lines : List (List ℕ)) (rest : List ℕ) → AreLines text lines rest → 0 < length rest → AreLines text (lines ++ take_through 10 rest ∷ []) (drop_through 10 rest)
-unfolding AreLines
-lines_more text [] rest is some = rw is (some, refl, refl)
-lines_more text (line ∷ lines) rest (more, is, are) some = (more, is, lines_more (drop_through 10 text) lines rest are some)
-
-events_more : (number : ℕ) (lines : List (List ℕ)) (events : List Event) (line : List ℕ) (e : Event) → AreEvents number lines events
-    → event_text (number + length lines) line ≡ Ok e → AreEvents number (lines ++ line ∷ []) (events ++ e ∷ [])
-unfolding AreEvents
-events_more number [] [] line e are is = let first : number + 0 ≡ number = omega arith in (subst (λ n. event_text n line ≡ Ok e) first is, tt)
-events_more number [] (d ∷ events) line e are is = absurd are
-events_more number (l ∷ lines) [] line e are is = absurd are
-events_more number (l ∷ lines) (d ∷ events) line e (here, are) is =
-    let later : number + length (l ∷ lines) ≡ number + 1 + length lines = omega arith in
-    (here, events_more (number + 1) lines events line e are (subst (λ n. event_text n line ≡ Ok e) later is))
-
-pub told_more : (text : List ℕ) (count : ℕ) (events : List Event) (rest : List ℕ) (e : Event) → AreTold text count events rest → 0 < length rest → event_text (count + 1) (take_through 10 rest) ≡ Ok e
-    → AreTold text (count + 1) (events ++ e ∷ []) (drop_through 10 rest)
-told_more text count events rest e told some is = record {
-  lines = told.lines ++ take_through 10 rest ∷ [];
-  count_is = omega (arith, told.count_is, length-append told.lines (take_through 10 rest ∷ []));
-  are_lines = lines_more text told.lines rest told.are_lines some;
-  are_events =
-      let next : count + 1 ≡ 1 + length told.lines = omega (arith, told.count_is) in
-      events_more 1 told.lines events (take_through 10 rest) e told.are_events (subst (λ n. event_text n (take_through 10 rest) ≡ Ok e) next is);
-}
 
 -- of some events the last tells the end or does not
 last_more : (o : Option Event) (events : List Event) (e : Event) → last_or o (events ++ e ∷ []) ≡ Some e
@@ -67,17 +41,17 @@ ended_more : (events : List Event) (e : Event) → are_ended (events ++ e ∷ []
 ended_more events e = ap (λ (o : Option Event). option_map_or is_end o false) (last_more None events e)
 
 -- nothing was read
-pub none_taken : (start : Option (List ℕ)) (w : WatchValue) (found : List FoundGranule) (quiet : List Quiet) → HasTaken [] w → found ≡ [] → quiet ≡ [] → HasTakenLines start 0 0 false found quiet w start
-unfolding AreEvents AreLines
-none_taken None w found quiet has none calm = tt
-none_taken (Some text) w found quiet has none calm = record {
+pub none_taken : (start : Option (List ℕ)) (w : WatchValue) (r : Reading) (found : List FoundGranule) (quiet : List Quiet) → HasTaken [] w → HasGivenOf start [] r start → found ≡ [] → quiet ≡ []
+    → HasTakenLines start 0 false found quiet w r start
+none_taken None w r found quiet has given none calm = tt
+none_taken (Some text) w r found quiet has given none calm = record {
   events = [];
-  told = record { lines = []; count_is = refl; are_lines = refl; are_events = tt };
+  given = given;
   taken = has;
   times = All-nil (λ e. e.time ≤ 0);
   ended_is = refl;
-  found_by = subst (All (IsFoundBy text)) (sym none) (All-nil (IsFoundBy text));
-  quiet_by = subst (All (IsQuietBy text)) (sym calm) (All-nil (IsQuietBy text));
+  found_by = subst (All (IsFoundBy r.format text)) (sym none) (All-nil (IsFoundBy r.format text));
+  quiet_by = subst (All (IsQuietBy r.format text)) (sym calm) (All-nil (IsQuietBy r.format text));
 }
 
 -- the last of some events is none earlier than the others
@@ -159,89 +133,95 @@ quiet_noted P (Some g) line quiet all one =
     All-push P (filter (λ q. not (q.granule == g)) quiet) (record { granule = g; line = line }) (All-filter (λ q. not (q.granule == g)) P quiet all) one
 
 -- one event more was taken
-pub event_taken : (start now later : Option (List ℕ)) (count line time : ℕ) (ended : Bool) (found : List FoundGranule) (quiet after : List Quiet) (old new : WatchValue) (e : Event) (seen : Option ℕ)
-    → HasTakenLines start count time ended found quiet old now → IfSome now (λ text. IsRead line text (Some e) later) → TakesEvent old e new seen → line ≡ count + 1 → after ≡ with_quiet seen line quiet
-    → HasTakenLines start line e.time (is_end e) found after new later
-event_taken None now later count line time ended found quiet after old new e seen has next takes here is = tt
-event_taken (Some text) None later count line time ended found quiet after old new e seen has next takes here is = absurd has
-event_taken (Some text) (Some rest) later count line time ended found quiet after old new e seen has (some, tells, left) takes here is =
-    subst (HasTakenLines (Some text) line e.time (is_end e) found after new) (sym left) (record {
-      events = has.events ++ e ∷ [];
-      told = more;
-      taken = taken;
-      times = latest has.events e new taken;
-      ended_is = sym (ended_more has.events e);
-      found_by = has.found_by;
-      quiet_by = subst (All (IsQuietBy text)) (sym is) (quiet_noted (IsQuietBy text) seen line quiet has.quiet_by (by_seen seen takes.unexplained));
-    })
+pub event_taken : (start now later : Option (List ℕ)) (time : ℕ) (ended : Bool) (found : List FoundGranule) (quiet after : List Quiet) (old new : WatchValue) (r s : Reading) (e : Event) (seen : Option ℕ)
+    → HasTakenLines start time ended found quiet old r now → GivesNext start r now (Some e) s later → s.format ≡ r.format → TakesEvent old e new seen → after ≡ with_quiet seen s.number quiet
+    → HasTakenLines start e.time (is_end e) found after new s later
+event_taken None now later time ended found quiet after old new r s e seen has gives format takes is = tt
+event_taken (Some text) None later time ended found quiet after old new r s e seen has gives format takes is = absurd has
+event_taken (Some text) (Some rest) later time ended found quiet after old new r s e seen has gives format takes is = by_rest later (gives has.events has.given)
   where
-    more : AreTold text line (has.events ++ e ∷ []) (drop_through 10 rest)
-    more = subst (λ (n : ℕ). AreTold text n (has.events ++ e ∷ []) (drop_through 10 rest)) (sym here) (told_more text count has.events rest e has.told some (subst (λ n. event_text n (take_through 10 rest) ≡ Ok e) here tells))
-
     taken : HasTaken (has.events ++ e ∷ []) new
     taken = takes.taken has.events has.taken
 
-    by_seen : (o : Option ℕ) → IfSome o (λ g. (events : List Event) → HasTaken events old → IsUnexplained (events ++ e ∷ []) g) → IfSome o (λ g. IsSeenBy text g line)
-    by_seen None none = tt
-    by_seen (Some g) none = record { events = has.events ++ e ∷ []; rest = drop_through 10 rest; told = more; unexplained = none has.events has.taken }
+    by_rest : (left : Option (List ℕ)) → HasGivenOf (Some text) (has.events ++ e ∷ []) s left → HasTakenLines (Some text) e.time (is_end e) found after new s left
+    by_rest None given = absurd given
+    by_rest (Some left) given = record {
+      events = has.events ++ e ∷ [];
+      given = given;
+      taken = taken;
+      times = latest has.events e new taken;
+      ended_is = sym (ended_more has.events e);
+      found_by = subst (λ (f : LineFormat). All (IsFoundBy f text) found) (sym format) has.found_by;
+      quiet_by = subst (All (IsQuietBy s.format text)) (sym is)
+          (quiet_noted (IsQuietBy s.format text) seen s.number quiet (subst (λ (f : LineFormat). All (IsQuietBy f text) quiet) (sym format) has.quiet_by) (by_seen seen takes.unexplained));
+    }
+      where
+        by_seen : (o : Option ℕ) → IfSome o (λ g. (events : List Event) → HasTaken events old → IsUnexplained (events ++ e ∷ []) g) → IfSome o (λ g. IsSeenBy s.format text g s.number)
+        by_seen None none = tt
+        by_seen (Some g) none = record { events = has.events ++ e ∷ []; more = s.pending.items; rest = left; told = given.told; unexplained = none has.events has.taken }
 
 -- all events of a time are told
-past : (count number : ℕ) (events : List Event) (time : ℕ) (rest : List ℕ) (next : Option Event) (later : Option (List ℕ)) → number ≡ count + 1 → All (λ d. d.time ≤ time) events
-    → IsRead number rest next later → IfSome next (λ e. time < e.time) → IsPast count events rest
-past count number events time rest None later here times read after = inl read
-past count number events time rest (Some e) later here times (some, tells, left) after =
-    inr (e, subst (λ n. event_text n (take_through 10 rest) ≡ Ok e) here tells, All-weaker (λ d. d.time ≤ time) (λ d. d.time < e.time) (λ d le. omega (arith, le, after)) events times)
+past : (text rest : List ℕ) (events : List Event) (time : ℕ) (r s : Reading) (next : Option Event) (later : Option (List ℕ)) → HasGiven text events r rest → All (λ d. d.time ≤ time) events
+    → GivesNext (Some text) r (Some rest) next s later → s.format ≡ r.format → IfSome next (λ e. time < e.time) → IsPast r.format text events
+past text rest events time r s None later has times gives format after = inl (gives events has)
+past text rest events time r s (Some e) later has times gives format after = by_rest later (gives events has)
+  where
+    by_rest : (left : Option (List ℕ)) → HasGivenOf (Some text) (events ++ e ∷ []) s left → IsPast r.format text events
+    by_rest None given = absurd given
+    by_rest (Some left) given = inr (
+      e,
+      (s.number, s.pending.items, left, subst (λ (f : LineFormat). AreTold f text s.number (events ++ e ∷ []) s.pending.items left) format given.told),
+      All-weaker (λ d. d.time ≤ time) (λ d. d.time < e.time) (λ d le. omega (arith, le, after)) events times,
+    )
 
 -- those of a time that is past are found
-found_more : (text : List ℕ) (count number time : ℕ) (ended : Bool) (found found_after : List FoundGranule) (quiet : List Quiet) (w : WatchValue) (rest : List ℕ) (next : Option Event) (later : Option (List ℕ))
-    (is_past : Bool) → AreTaken text count time ended found quiet w rest → number ≡ count + 1 → IsRead number rest next later → (is_past ≡ true → IfSome next (λ e. time < e.time))
-    → (is_past ≡ false → found_after ≡ found) → (is_past ≡ true → All (IsStillFound w quiet found) found_after) → All (IsFoundBy text) found_after
-found_more text count number time ended found found_after quiet w rest next later false has here read after waits each = subst (All (IsFoundBy text)) (sym (waits refl)) has.found_by
-found_more text count number time ended found found_after quiet w rest next later true has here read after waits each =
-    All-weaker (IsStillFound w quiet found) (IsFoundBy text) is_found_by found_after (each refl)
+found_more : (text rest : List ℕ) (time : ℕ) (ended : Bool) (found found_after : List FoundGranule) (quiet : List Quiet) (w : WatchValue) (r s : Reading) (next : Option Event) (later : Option (List ℕ))
+    (is_past : Bool) → AreTaken text time ended found quiet w r rest → GivesNext (Some text) r (Some rest) next s later → s.format ≡ r.format → (is_past ≡ true → IfSome next (λ e. time < e.time))
+    → (is_past ≡ false → found_after ≡ found) → (is_past ≡ true → All (IsStillFound w quiet found) found_after) → All (IsFoundBy r.format text) found_after
+found_more text rest time ended found found_after quiet w r s next later false has gives format after waits each = subst (All (IsFoundBy r.format text)) (sym (waits refl)) has.found_by
+found_more text rest time ended found found_after quiet w r s next later true has gives format after waits each =
+    All-weaker (IsStillFound w quiet found) (IsFoundBy r.format text) is_found_by found_after (each refl)
   where
-    is_found_by : (f : FoundGranule) → IsStillFound w quiet found f → IsFoundBy text f
-    is_found_by f (inl before) = All-contains (IsFoundBy text) found f has.found_by before
+    is_found_by : (f : FoundGranule) → IsStillFound w quiet found f → IsFoundBy r.format text f
+    is_found_by f (inl before) = All-contains (IsFoundBy r.format text) found f has.found_by before
     is_found_by f (inr (q, calm, noted)) = record {
-      seen = subst (λ g. IsSeenBy text g f.line) (sym noted.granule) (subst (IsSeenBy text q.granule) (sym noted.line) (All-contains (IsQuietBy text) quiet q has.quiet_by calm));
+      seen = subst (λ g. IsSeenBy r.format text g f.line) (sym noted.granule)
+          (subst (IsSeenBy r.format text q.granule) (sym noted.line) (All-contains (IsQuietBy r.format text) quiet q has.quiet_by calm));
       events = has.events;
-      count = count;
-      rest = rest;
-      told = has.told;
-      past = past count number has.events time rest next later here has.times read (after refl);
+      past = past text rest has.events time r s next later has.given has.times gives format (after refl);
       unexplained = noted.unexplained has.events has.taken;
       reach = noted.reach has.events has.taken;
     }
 
 -- also where the judging of them fails
-pub found_so_far : (start now later : Option (List ℕ)) (count number time : ℕ) (ended : Bool) (found found_after : List FoundGranule) (quiet : List Quiet) (w : WatchValue) (next : Option Event) (is_past : Bool)
-    → HasTakenLines start count time ended found quiet w now → number ≡ count + 1 → IfSome now (λ text. IsRead number text next later) → (is_past ≡ true → IfSome next (λ e. time < e.time))
-    → (is_past ≡ false → found_after ≡ found) → (is_past ≡ true → All (IsStillFound w quiet found) found_after) → IfSome start (λ text. All (IsFoundBy text) found_after)
-found_so_far None now later count number time ended found found_after quiet w next is_past has here read after waits each = tt
-found_so_far (Some text) None later count number time ended found found_after quiet w next is_past has here read after waits each = absurd has
-found_so_far (Some text) (Some rest) later count number time ended found found_after quiet w next is_past has here read after waits each =
-    found_more text count number time ended found found_after quiet w rest next later is_past has here read after waits each
+pub found_so_far : (start now later : Option (List ℕ)) (time : ℕ) (ended : Bool) (found found_after : List FoundGranule) (quiet : List Quiet) (w : WatchValue) (r s : Reading) (next : Option Event) (is_past : Bool)
+    → HasTakenLines start time ended found quiet w r now → GivesNext start r now next s later → s.format ≡ r.format → (is_past ≡ true → IfSome next (λ e. time < e.time))
+    → (is_past ≡ false → found_after ≡ found) → (is_past ≡ true → All (IsStillFound w quiet found) found_after) → IfSome start (λ text. All (IsFoundBy r.format text) found_after)
+found_so_far None now later time ended found found_after quiet w r s next is_past has gives format after waits each = tt
+found_so_far (Some text) None later time ended found found_after quiet w r s next is_past has gives format after waits each = absurd has
+found_so_far (Some text) (Some rest) later time ended found found_after quiet w r s next is_past has gives format after waits each =
+    found_more text rest time ended found found_after quiet w r s next later is_past has gives format after waits each
 
 -- those of a time that is past are found, and no other is left that became quiet
-pub settled : (start now later : Option (List ℕ)) (count number time : ℕ) (ended : Bool) (found found_after : List FoundGranule) (quiet quiet_after : List Quiet) (w : WatchValue) (next : Option Event) (is_past : Bool)
-    → HasTakenLines start count time ended found quiet w now → number ≡ count + 1 → IfSome now (λ text. IsRead number text next later) → (is_past ≡ true → IfSome next (λ e. time < e.time))
+pub settled : (start now later : Option (List ℕ)) (time : ℕ) (ended : Bool) (found found_after : List FoundGranule) (quiet quiet_after : List Quiet) (w : WatchValue) (r s : Reading) (next : Option Event) (is_past : Bool)
+    → HasTakenLines start time ended found quiet w r now → GivesNext start r now next s later → s.format ≡ r.format → (is_past ≡ true → IfSome next (λ e. time < e.time))
     → (is_past ≡ false → (found_after ≡ found) × (quiet_after ≡ quiet)) → (is_past ≡ true → quiet_after ≡ []) → (is_past ≡ true → All (IsStillFound w quiet found) found_after)
-    → HasTakenLines start count time ended found_after quiet_after w now
-settled None now later count number time ended found found_after quiet quiet_after w next is_past has here read after waits cleared each = tt
-settled (Some text) None later count number time ended found found_after quiet quiet_after w next is_past has here read after waits cleared each = absurd has
-settled (Some text) (Some rest) later count number time ended found found_after quiet quiet_after w next is_past has here read after waits cleared each = record {
+    → HasTakenLines start time ended found_after quiet_after w r now
+settled None now later time ended found found_after quiet quiet_after w r s next is_past has gives format after waits cleared each = tt
+settled (Some text) None later time ended found found_after quiet quiet_after w r s next is_past has gives format after waits cleared each = absurd has
+settled (Some text) (Some rest) later time ended found found_after quiet quiet_after w r s next is_past has gives format after waits cleared each = record {
   events = has.events;
-  told = has.told;
+  given = has.given;
   taken = has.taken;
   times = has.times;
   ended_is = has.ended_is;
-  found_by = found_more text count number time ended found found_after quiet w rest next later is_past has here read after (λ wait. (waits wait).0) each;
+  found_by = found_more text rest time ended found found_after quiet w r s next later is_past has gives format after (λ wait. (waits wait).0) each;
   quiet_by = by_test is_past waits cleared;
 }
   where
-    by_test : (b : Bool) → (b ≡ false → (found_after ≡ found) × (quiet_after ≡ quiet)) → (b ≡ true → quiet_after ≡ []) → All (IsQuietBy text) quiet_after
-    by_test false waits cleared = subst (All (IsQuietBy text)) (sym (waits refl).1) has.quiet_by
-    by_test true waits cleared = subst (All (IsQuietBy text)) (sym (cleared refl)) (All-nil (IsQuietBy text))
+    by_test : (b : Bool) → (b ≡ false → (found_after ≡ found) × (quiet_after ≡ quiet)) → (b ≡ true → quiet_after ≡ []) → All (IsQuietBy r.format text) quiet_after
+    by_test false waits cleared = subst (All (IsQuietBy r.format text)) (sym (waits refl).1) has.quiet_by
+    by_test true waits cleared = subst (All (IsQuietBy r.format text)) (sym (cleared refl)) (All-nil (IsQuietBy r.format text))
 
 -- where it does not keep going none is found before it stops
 pub none_found : (is_past stop going : Bool) (found after : List FoundGranule) → (going ≡ false → found ≡ []) → (is_past ≡ false → after ≡ found) → stop ≡ false
@@ -259,19 +239,19 @@ says_of w events has ending says = record {
 }
 
 -- what is said of the text where it ends at its end
-pub at_end : (start now later : Option (List ℕ)) (count number time : ℕ) (ended : Bool) (found : List FoundGranule) (quiet : List Quiet) (going : Bool) (w : WatchValue) (kept : Option (Vec ℕ Global)) (watched : Watched) → HasTakenLines start count time ended found quiet w now
-    → IfSome now (λ text. IsRead number text None later) → AllPairs (λ a b. a.granule ≢ b.granule) found → (going ≡ false → found ≡ []) → IsTold w found ended kept watched → watched.ending ≢ None
-    → IfSome watched.ending (SaysAtEnd w) → AreKeptOf start kept now → IfSome start (λ text. IsWatched text going watched)
-at_end None now later count number time ended found quiet going w kept watched has read once first told some says are_kept = tt
-at_end (Some text) None later count number time ended found quiet going w kept watched has read once first told some says are_kept = absurd has
-at_end (Some text) (Some rest) later count number time ended found quiet going w kept watched has read once first told some says are_kept = record {
+pub at_end : (start now later : Option (List ℕ)) (time : ℕ) (ended : Bool) (found : List FoundGranule) (quiet : List Quiet) (going : Bool) (w : WatchValue) (r s : Reading) (kept : Option (Vec ℕ Global)) (watched : Watched)
+    → HasTakenLines start time ended found quiet w r now → GivesNext start r now None s later → r.pending.items ≡ [] → AllPairs (λ a b. a.granule ≢ b.granule) found → (going ≡ false → found ≡ [])
+    → IsTold w found ended kept watched → watched.ending ≢ None → IfSome watched.ending (SaysAtEnd w) → AreKeptOf start kept now → IfSome start (λ text. IsWatched r.format text going watched)
+at_end None now later time ended found quiet going w r s kept watched has gives whole once first told some says are_kept = tt
+at_end (Some text) None later time ended found quiet going w r s kept watched has gives whole once first told some says are_kept = absurd has
+at_end (Some text) (Some rest) later time ended found quiet going w r s kept watched has gives whole once first told some says are_kept = record {
   events = has.events;
-  count = count;
+  count = r.number;
   rest = rest;
-  told = has.told;
-  found = subst (All (IsFoundBy text)) (sym told.found_is) has.found_by;
+  told = subst (λ (l : List Event). AreTold r.format text r.number has.events l rest) whole has.given.told;
+  found = subst (All (IsFoundBy r.format text)) (sym told.found_is) has.found_by;
   once = subst (AllPairs (λ (x y : FoundGranule). x.granule ≢ y.granule)) (sym told.found_is) once;
-  ends = subst (λ l. EndsAt going count rest has.events l watched.ending) (sym told.found_is) (by_ending watched.ending some says);
+  ends = subst (λ l. EndsAt r.format text going has.events l watched.ending) (sym told.found_is) (by_ending watched.ending some says);
   counted = told.counted has.events has.taken;
   watch = w;
   taken = has.taken;
@@ -281,26 +261,26 @@ at_end (Some text) (Some rest) later count number time ended found quiet going w
   kept = subst (λ (o : Option (Vec ℕ Global)). AreKept text o rest) (sym told.kept_is) are_kept;
 }
   where
-    by_ending : (o : Option Ending) → o ≢ None → IfSome o (SaysAtEnd w) → EndsAt going count rest has.events found o
+    by_ending : (o : Option Ending) → o ≢ None → IfSome o (SaysAtEnd w) → EndsAt r.format text going has.events found o
     by_ending None is_some said = absurd (is_some refl)
-    by_ending (Some ending) is_some said = (read, says_of w has.events has.taken ending said, first)
+    by_ending (Some ending) is_some said = (gives has.events has.given, says_of w has.events has.taken ending said, first)
 
 -- what is said of the text where it stops
-pub at_stop : (start now later : Option (List ℕ)) (count number time : ℕ) (ended : Bool) (found : List FoundGranule) (quiet : List Quiet) (going is_past : Bool) (w : WatchValue) (next : Option Event) (kept : Option (Vec ℕ Global)) (watched : Watched)
-    → HasTakenLines start count time ended found quiet w now → number ≡ count + 1 → IfSome now (λ text. IsRead number text next later) → (is_past ≡ true → IfSome next (λ e. time < e.time))
+pub at_stop : (start now later : Option (List ℕ)) (time : ℕ) (ended : Bool) (found : List FoundGranule) (quiet : List Quiet) (going is_past : Bool) (w : WatchValue) (r s : Reading) (next : Option Event) (kept : Option (Vec ℕ Global)) (watched : Watched)
+    → HasTakenLines start time ended found quiet w r now → GivesNext start r now next s later → s.format ≡ r.format → (is_past ≡ true → IfSome next (λ e. time < e.time)) → (is_past ≡ true → r.pending.items ≡ [])
     → AllPairs (λ a b. a.granule ≢ b.granule) found → (is_past ≡ true) × (going ≡ false) × (0 < length found) → IsTold w found ended kept watched → watched.ending ≡ None
-    → AreKeptOf start kept now → IfSome start (λ text. IsWatched text going watched)
-at_stop None now later count number time ended found quiet going is_past w next kept watched has here read after once stops told none are_kept = tt
-at_stop (Some text) None later count number time ended found quiet going is_past w next kept watched has here read after once stops told none are_kept = absurd has
-at_stop (Some text) (Some rest) later count number time ended found quiet going is_past w next kept watched has here read after once stops told none are_kept = record {
+    → AreKeptOf start kept now → IfSome start (λ text. IsWatched r.format text going watched)
+at_stop None now later time ended found quiet going is_past w r s next kept watched has gives format after whole once stops told none are_kept = tt
+at_stop (Some text) None later time ended found quiet going is_past w r s next kept watched has gives format after whole once stops told none are_kept = absurd has
+at_stop (Some text) (Some rest) later time ended found quiet going is_past w r s next kept watched has gives format after whole once stops told none are_kept = record {
   events = has.events;
-  count = count;
+  count = r.number;
   rest = rest;
-  told = has.told;
-  found = subst (All (IsFoundBy text)) (sym told.found_is) has.found_by;
+  told = subst (λ (l : List Event). AreTold r.format text r.number has.events l rest) (whole stops.0) has.given.told;
+  found = subst (All (IsFoundBy r.format text)) (sym told.found_is) has.found_by;
   once = subst (AllPairs (λ (x y : FoundGranule). x.granule ≢ y.granule)) (sym told.found_is) once;
-  ends = subst (EndsAt going count rest has.events watched.found.items) (sym none)
-      (stops.1, subst (λ l. 0 < length l) (sym told.found_is) stops.2, past count number has.events time rest next later here has.times read (after stops.0));
+  ends = subst (EndsAt r.format text going has.events watched.found.items) (sym none)
+      (stops.1, subst (λ l. 0 < length l) (sym told.found_is) stops.2, past text rest has.events time r s next later has.given has.times gives format (after stops.0));
   counted = told.counted has.events has.taken;
   watch = w;
   taken = has.taken;
@@ -333,22 +313,19 @@ undecided_after looked old middle new budget watched some went = by_ending watch
 
 -- each of these is explained as far as was found, of the events of the lines
 pub far_at_end : {P : Type 0} (looked : P → ℕ → Type 0) (old middle new : P) (budget : ℕ) → LookedSome looked old middle
-    → (start now later : Option (List ℕ)) (count number time : ℕ) (ended : Bool) (found : List FoundGranule) (quiet : List Quiet) (w : WatchValue) (o : Option Ending)
-    → HasTakenLines start count time ended found quiet w now → IfSome now (λ text. IsRead number text None later)
+    → (start now later : Option (List ℕ)) (time : ℕ) (ended : Bool) (found : List FoundGranule) (quiet : List Quiet) (w : WatchValue) (r s : Reading) (o : Option Ending)
+    → HasTakenLines start time ended found quiet w r now → GivesNext start r now None s later
     → IfSome o (λ ending. All (λ u. (events : List Event) → HasTaken events w → IsExplainedAsFar looked middle new (states_for budget ending.undecided.items) events u) ending.undecided.items)
-    → IfSome start (λ text. IfSome o (λ ending. AreAsFar looked old new budget text ending.undecided.items))
-far_at_end looked old middle new budget some None now later count number time ended found quiet w o has read far = tt
-far_at_end looked old middle new budget some (Some text) None later count number time ended found quiet w o has read far = absurd has
-far_at_end looked old middle new budget some (Some text) (Some rest) later count number time ended found quiet w None has read far = tt
-far_at_end looked old middle new budget some (Some text) (Some rest) later count number time ended found quiet w (Some ending) has read far =
+    → IfSome start (λ text. IfSome o (λ ending. AreAsFar looked old new budget r.format text ending.undecided.items))
+far_at_end looked old middle new budget some None now later time ended found quiet w r s o has gives far = tt
+far_at_end looked old middle new budget some (Some text) None later time ended found quiet w r s o has gives far = absurd has
+far_at_end looked old middle new budget some (Some text) (Some rest) later time ended found quiet w r s None has gives far = tt
+far_at_end looked old middle new budget some (Some text) (Some rest) later time ended found quiet w r s (Some ending) has gives far =
     let undecided = ending.undecided.items in
     let states = states_for budget undecided in
     record {
       events = has.events;
-      count = count;
-      rest = rest;
-      told = has.told;
-      ended = read;
+      told = gives has.events has.given;
       far = All-weaker (λ u. (events : List Event) → HasTaken events w → IsExplainedAsFar looked middle new states events u) (IsExplainedAsFar looked old new states has.events)
           (λ u is. as_far_by looked middle new old new states states (λ whole. at_least_after looked old middle new states some whole) (judged has.events) u.granule (word_or_zero (openings has.events) u.granule) u.explained
           (is has.events has.taken)) undecided far;
@@ -373,7 +350,15 @@ unreached_at_end looked old middle new budget w some events has (Some ending) al
     (λ f is. undecided_weaker f.reach (λ whole. at_least_after looked old middle new budget some whole) (is events has)) ending.unexplained.items all
 
 -- the events of those lines were taken
-pub took : (start now : Option (List ℕ)) (count time : ℕ) (ended : Bool) (found : List FoundGranule) (quiet : List Quiet) (w : WatchValue) → HasTakenLines start count time ended found quiet w now → TookLines start count w now
-took None now count time ended found quiet w has = tt
-took (Some text) None count time ended found quiet w has = absurd has
-took (Some text) (Some rest) count time ended found quiet w has = (has.events, has.told, has.taken)
+pub took : (start now : Option (List ℕ)) (time : ℕ) (ended : Bool) (found : List FoundGranule) (quiet : List Quiet) (w : WatchValue) (r : Reading) → HasTakenLines start time ended found quiet w r now
+    → TookLines start w r now
+took None now time ended found quiet w r has = tt
+took (Some text) None time ended found quiet w r has = absurd has
+took (Some text) (Some rest) time ended found quiet w r has = (has.events, has.given, has.taken)
+
+-- those were found
+pub found_of : (start now : Option (List ℕ)) (time : ℕ) (ended : Bool) (found : List FoundGranule) (quiet : List Quiet) (w : WatchValue) (r : Reading) → HasTakenLines start time ended found quiet w r now
+    → IfSome start (λ text. All (IsFoundBy r.format text) found)
+found_of None now time ended found quiet w r has = tt
+found_of (Some text) None time ended found quiet w r has = absurd has
+found_of (Some text) (Some rest) time ended found quiet w r has = has.found_by

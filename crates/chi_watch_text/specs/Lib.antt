@@ -1,5 +1,7 @@
 pub mod FoundGranule
+pub mod Illegal
 pub mod Kept
+pub mod LineTold
 pub mod Lines
 pub mod Operations
 pub mod Outcomes

@@ -1,9 +1,11 @@
 -- lines of a text, and the events that they tell
-use Rattle.std.specs.Prelude.{◌≡◌, ℕ, ◌+◌, ◌<◌, ◌==◌, ◌||◌, Bool, true, List, [], ◌∷◌, length, Ok}
+use Rattle.std.specs.Prelude.{◌≡◌, ℕ, ◌+◌, ◌<◌, ◌==◌, ◌||◌, Bool, true, List, [], ◌∷◌, ◌++◌, length, Ok}
 use Rattle.std.specs.List.{list_all}
 use Rattle.std.specs.Io.BufRead.{drop_through, take_through}
 use Rattle.chi_events.specs.declared.event.Event.{Event}
-use Rattle.chi_reading.specs.EventText.{event_text}
+use Rattle.chi_flits.specs.declared.flit.Flit.{Flit}
+use Rattle.chi_watch_text.specs.LineTold.{Told, line_told}
+use Rattle.chi_watch_text.specs.declared.line_format.LineFormat.{LineFormat}
 
 -- The text begins with these lines, each up to its line feed, and the rest follows. The last line of a text may have no line feed.
 unfoldable pub AreLines : List ℕ → List (List ℕ) → List ℕ → Type 0
@@ -18,19 +20,27 @@ is_space b = b == 32 || b == 9 || b == 10 || b == 13
 abbrev pub is_blank : List ℕ → Bool
 is_blank bytes = list_all is_space bytes
 
--- each line tells its event, where the first has this number
-unfoldable pub AreEvents : ℕ → List (List ℕ) → List Event → Type 0
-AreEvents number [] [] = Unit {0}
-AreEvents number (line ∷ lines) (e ∷ events) = (event_text number line ≡ Ok e) × AreEvents (number + 1) lines events
-AreEvents number lines events = ⊥
+-- Lines tell these events, and the last of them more, where the first has this number and comes after some flits; these flits were
+-- seen by then.
+unfoldable pub AreEvents : LineFormat → ℕ → List Flit → List (List ℕ) → List Event → List Event → List Flit → Type 0
+AreEvents format number flits [] events more seen = (events ≡ []) × (more ≡ []) × (seen ≡ flits)
+AreEvents format number flits (line ∷ []) events more seen = line_told format flits number line ≡ Ok (record { events = events ++ more; flits = seen })
+AreEvents format number flits (line ∷ next ∷ lines) events more seen =
+    (told : Told) × (line_told format flits number line ≡ Ok told)
+    × ((later : List Event) × (events ≡ told.events ++ later) × AreEvents format (number + 1) told.flits (next ∷ lines) later more seen)
 
--- the first lines of the text, so many of them, counted from 1, tell these events, and the rest follows
-pub record AreTold (text : List ℕ) (count : ℕ) (events : List Event) (rest : List ℕ) : Type 0 where
+-- the first lines of the text, so many of them, counted from 1, tell these events, and the last of them more; the rest follows
+pub record AreTold (format : LineFormat) (text : List ℕ) (count : ℕ) (events more : List Event) (rest : List ℕ) : Type 0 where
   pub lines : List (List ℕ)
+  pub seen : List Flit
   pub count_is : length lines ≡ count
   pub are_lines : AreLines text lines rest
-  pub are_events : AreEvents 1 lines events
+  pub are_events : AreEvents format 1 [] lines events more seen
 
 -- all lines of the text do, and no others follow but blank ones
-abbrev pub AreToldAll : List ℕ → ℕ → List Event → Type 0
-AreToldAll text count events = (rest : List ℕ) × AreTold text count events rest × (is_blank rest ≡ true)
+abbrev pub AreToldAll : LineFormat → List ℕ → List Event → Type 0
+AreToldAll format text events = (count : ℕ) × (rest : List ℕ) × AreTold format text count events [] rest × (is_blank rest ≡ true)
+
+-- they do, and then tell this one next
+abbrev pub IsNext : LineFormat → List ℕ → List Event → Event → Type 0
+IsNext format text events e = (count : ℕ) × (more : List Event) × (rest : List ℕ) × AreTold format text count (events ++ e ∷ []) more rest

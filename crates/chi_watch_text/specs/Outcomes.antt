@@ -1,9 +1,7 @@
 -- what comes of events that are read line by line
-use Rattle.std.specs.Prelude.{◌≡◌, ◌≢◌, ℕ, ◌+◌, ◌<◌, ◌≤◌, ◌⊎◌, Bool, true, false, List, [], ◌∷◌, ◌++◌, All, length, Option, None, Some, IfSome, Result, Ok, Err, Vec}
+use Rattle.std.specs.Prelude.{◌≡◌, ◌≢◌, ℕ, ◌<◌, ◌≤◌, ◌⊎◌, Bool, false, List, [], ◌∷◌, ◌++◌, All, length, Option, None, Some, IfSome, Result, Ok, Err, Vec}
 use Rattle.std.specs.List.{AllPairs, Contains}
 use Rattle.std.specs.declared.alloc.Global.{Global}
-use Rattle.std.specs.Io.BufRead.{take_through}
-use Rattle.chi_reading.specs.EventText.{event_text}
 use Rattle.chi_events.specs.Ended.{are_ended}
 use Rattle.chi_events.specs.declared.event.Event.{Event}
 use Rattle.chi_search.specs.Looks.{LookedAtLeast}
@@ -16,13 +14,17 @@ use Rattle.chi_watch.specs.Reaching.{IsFoundAtEnd, IsReach, granules_of}
 use Rattle.chi_watch.specs.Undecided.{IsExplainedAsFar, IsExplainedTo, states_for, undecided_of}
 use Rattle.chi_watch.specs.Watches.{HasTaken, IsUnexplained, WatchValue, fault_of}
 use Rattle.chi_watch.specs.declared.ending.Ending.{Ending}
+use Rattle.chi_watch.specs.declared.fault.WatchFault.{WatchFault}
 use Rattle.chi_watch.specs.declared.undecided.UndecidedAtEnd.{UndecidedAtEnd}
 use Rattle.chi_watch_text.specs.FoundGranule.{is_found, with_quiet}
 use Rattle.chi_watch_text.specs.Kept.{AreKept}
-use Rattle.chi_watch_text.specs.Lines.{AreTold, is_blank}
+use Rattle.chi_watch_text.specs.Lines.{AreTold, AreToldAll, IsNext}
+use Rattle.chi_watch_text.specs.Reading.{HasGiven, IsFirstRefused}
 use Rattle.chi_watch_text.specs.declared.fault.LinesFault.{LinesFault}
 use Rattle.chi_watch_text.specs.declared.fault.LinesFault.TheVariants as fault
+use Rattle.chi_watch_text.specs.declared.line_format.LineFormat.{LineFormat}
 use Rattle.chi_watch_text.specs.declared.quiet.Quiet.{Quiet}
+use Rattle.chi_watch_text.specs.declared.reading.Reading.{Reading}
 use Rattle.chi_watch_text.specs.declared.watched.FoundGranule.{FoundGranule}
 use Rattle.chi_watch_text.specs.declared.watched.Unfinished.{Unfinished}
 use Rattle.chi_watch_text.specs.declared.watched.Watched.{Watched}
@@ -47,30 +49,28 @@ IsEventFault watch event number fault.TooManyLines = ⊥
 IsEventFault watch event number fault.Write = ⊥
 IsEventFault watch event number fault.Memory = Unit {0}
 
--- by the lines up to this one no order explains the granule
-pub record IsSeenBy (text : List ℕ) (g line : ℕ) : Type 0 where
+-- by the lines up to this one, or the first events of the last of them, no order explains the granule
+pub record IsSeenBy (format : LineFormat) (text : List ℕ) (g line : ℕ) : Type 0 where
   pub events : List Event
+  pub more : List Event
   pub rest : List ℕ
-  pub told : AreTold text line events rest
+  pub told : AreTold format text line events more rest
   pub unexplained : IsUnexplained events g
 
 -- that is so of one that became quiet by its line
-abbrev pub IsQuietBy : List ℕ → Quiet → Type 0
-IsQuietBy text q = IsSeenBy text q.granule q.line
+abbrev pub IsQuietBy : LineFormat → List ℕ → Quiet → Type 0
+IsQuietBy format text q = IsSeenBy format text q.granule q.line
 
--- all events of the last time are told by so many lines: no other follows, or the next line tells one of a later time
-abbrev pub IsPast : ℕ → List Event → List ℕ → Type 0
-IsPast count events rest = (is_blank rest ≡ true) ⊎ ((e : Event) × (event_text (count + 1) (take_through 10 rest) ≡ Ok e) × All (λ d. d.time < e.time) events)
+-- all events of the last time are told: the text tells no other, or the next is of a later time
+abbrev pub IsPast : LineFormat → List ℕ → List Event → Type 0
+IsPast format text events = AreToldAll format text events ⊎ ((e : Event) × IsNext format text events e × All (λ d. d.time < e.time) events)
 
 -- No order explains the granule by the lines up to the one that is named, and none does once all events of that time are told. By
 -- these its operations can be explained so far.
-pub record IsFoundBy (text : List ℕ) (f : FoundGranule) : Type 0 where
-  pub seen : IsSeenBy text f.granule f.line
+pub record IsFoundBy (format : LineFormat) (text : List ℕ) (f : FoundGranule) : Type 0 where
+  pub seen : IsSeenBy format text f.granule f.line
   pub events : List Event
-  pub count : ℕ
-  pub rest : List ℕ
-  pub told : AreTold text count events rest
-  pub past : IsPast count events rest
+  pub past : IsPast format text events
   pub unexplained : IsUnexplained events f.granule
   pub reach : IsReach events f.granule f.reach
 
@@ -107,21 +107,21 @@ pub record SaysOf (events : List Event) (ending : Ending) : Type 0 where
   pub unexplained : All (IsFoundAtEnd events) ending.unexplained.items
   pub undecided : All (IsExplainedTo events) ending.undecided.items
 
--- where the reading ends after so many lines: at the end of the text, or, where it does not keep going, once all events are told of
--- a time at which a granule was found
-abbrev pub EndsAt : Bool → ℕ → List ℕ → List Event → List FoundGranule → Option Ending → Type 0
-EndsAt going count rest events found (Some ending) = (is_blank rest ≡ true) × SaysOf events ending × (going ≡ false → found ≡ [])
-EndsAt going count rest events found None = (going ≡ false) × (0 < length found) × IsPast count events rest
+-- where the reading ends once these events are told: at the end of the text, or, where it does not keep going, once all events are
+-- told of a time at which a granule was found
+abbrev pub EndsAt : LineFormat → List ℕ → Bool → List Event → List FoundGranule → Option Ending → Type 0
+EndsAt format text going events found (Some ending) = AreToldAll format text events × SaysOf events ending × (going ≡ false → found ≡ [])
+EndsAt format text going events found None = (going ≡ false) × (0 < length found) × IsPast format text events
 
 -- What is found of a text: of so many lines, which tell events that a watch takes. Where lines are kept, these are.
-pub record IsWatched (text : List ℕ) (going : Bool) (w : Watched) : Type 0 where
+pub record IsWatched (format : LineFormat) (text : List ℕ) (going : Bool) (w : Watched) : Type 0 where
   pub events : List Event
   pub count : ℕ
   pub rest : List ℕ
-  pub told : AreTold text count events rest
-  pub found : All (IsFoundBy text) w.found.items
+  pub told : AreTold format text count events [] rest
+  pub found : All (IsFoundBy format text) w.found.items
   pub once : AllPairs (λ a b. a.granule ≢ b.granule) w.found.items
-  pub ends : EndsAt going count rest events w.found.items w.ending
+  pub ends : EndsAt format text going events w.found.items w.ending
   pub counted : AreCounted events w.counts
   pub watch : WatchValue
   pub taken : HasTaken events watch
@@ -130,25 +130,29 @@ pub record IsWatched (text : List ℕ) (going : Bool) (w : Watched) : Type 0 whe
   pub ended_is : w.is_ended ≡ are_ended events
   pub kept : AreKept text w.kept rest
 
+-- the line with this number tells the first event that a watch does not take, for this reason
+abbrev pub IsNotTaken : LineFormat → List ℕ → ℕ → WatchFault → Type 0
+IsNotTaken format text number f =
+    (events : List Event) × (e : Event) × (more : List Event) × (rest : List ℕ) × AreTold format text number (events ++ e ∷ []) more rest
+    × ((w : WatchValue) × HasTaken events w × (fault_of w e ≡ Some f))
+
 -- why a text is watched no further: the first line that is not taken
-abbrev pub IsLinesFault : List ℕ → LinesFault → Type 0
-IsLinesFault text fault.Read = Unit {0}
-IsLinesFault text (fault.Line number f) =
-    (events : List Event) × (before : ℕ) × (rest : List ℕ) × AreTold text before events rest × (before + 1 ≡ number) × (event_text number (take_through 10 rest) ≡ Err f)
-IsLinesFault text (fault.Event number f) =
-    (events : List Event) × (before : ℕ) × (rest : List ℕ) × AreTold text before events rest × (before + 1 ≡ number) × ((e : Event) × (event_text number (take_through 10 rest) ≡ Ok e) × ((w : WatchValue) × HasTaken events w × (fault_of w e ≡ Some f)))
-IsLinesFault text fault.TooManyLines = Unit {0}
-IsLinesFault text fault.Write = ⊥
-IsLinesFault text fault.Memory = Unit {0}
+abbrev pub IsLinesFault : LineFormat → List ℕ → LinesFault → Type 0
+IsLinesFault format text fault.Read = Unit {0}
+IsLinesFault format text (fault.Line number f) = (events : List Event) × IsFirstRefused format text events number f
+IsLinesFault format text (fault.Event number f) = IsNotTaken format text number f
+IsLinesFault format text fault.TooManyLines = Unit {0}
+IsLinesFault format text fault.Write = ⊥
+IsLinesFault format text fault.Memory = Unit {0}
 
 -- the same, or that a granule that was found could not be told
-abbrev pub IsWatchingFault : List ℕ → LinesFault → Type 0
-IsWatchingFault text f = f ≢ fault.Write → IsLinesFault text f
+abbrev pub IsWatchingFault : LineFormat → List ℕ → LinesFault → Type 0
+IsWatchingFault format text f = f ≢ fault.Write → IsLinesFault format text f
 
 -- what comes of a text: what is found of it, or why it is watched no further, and the granules that were found by then
-abbrev pub IsOutcome : List ℕ → Bool → Result Watched Unfinished → Type 0
-IsOutcome text going (Ok watched) = IsWatched text going watched
-IsOutcome text going (Err unfinished) = IsWatchingFault text unfinished.fault × All (IsFoundBy text) unfinished.found.items
+abbrev pub IsOutcome : LineFormat → List ℕ → Bool → Result Watched Unfinished → Type 0
+IsOutcome format text going (Ok watched) = IsWatched format text going watched
+IsOutcome format text going (Err unfinished) = IsWatchingFault format text unfinished.fault × All (IsFoundBy format text) unfinished.found.items
 
 -- what a watch says once its events have ended, or where it stops
 pub record IsTold (w : WatchValue) (found : List FoundGranule) (ended : Bool) (kept : Option (Vec ℕ Global)) (watched : Watched) : Type 0 where
@@ -166,39 +170,36 @@ pub record SaysAtEnd (w : WatchValue) (ending : Ending) : Type 0 where
   pub unexplained : All (λ f. (events : List Event) → HasTaken events w → IsFoundAtEnd events f) ending.unexplained.items
   pub undecided : All (λ u. (events : List Event) → HasTaken events w → IsExplainedTo events u) ending.undecided.items
 
--- After so many lines a watch took their events, of which none is later than this time, and the last tells the end or does not. These
+-- A watch took the events that the reading has given, of which none is later than this time, and the last is the end or is not. These
 -- granules were found by them, and these others became quiet at this time. The rest follows.
-pub record AreTaken (text : List ℕ) (count time : ℕ) (ended : Bool) (found : List FoundGranule) (quiet : List Quiet) (watch : WatchValue) (rest : List ℕ) : Type 0 where
+pub record AreTaken (text : List ℕ) (time : ℕ) (ended : Bool) (found : List FoundGranule) (quiet : List Quiet) (watch : WatchValue) (r : Reading) (rest : List ℕ) : Type 0 where
   pub events : List Event
-  pub told : AreTold text count events rest
+  pub given : HasGiven text events r rest
   pub taken : HasTaken events watch
   pub times : All (λ e. e.time ≤ time) events
   pub ended_is : ended ≡ are_ended events
-  pub found_by : All (IsFoundBy text) found
-  pub quiet_by : All (IsQuietBy text) quiet
+  pub found_by : All (IsFoundBy r.format text) found
+  pub quiet_by : All (IsQuietBy r.format text) quiet
 
 -- the same of a text that may not be known
-abbrev pub HasTakenLines : Option (List ℕ) → ℕ → ℕ → Bool → List FoundGranule → List Quiet → WatchValue → Option (List ℕ) → Type 0
-HasTakenLines None count time ended found quiet watch rest = Unit {0}
-HasTakenLines (Some text) count time ended found quiet watch None = ⊥
-HasTakenLines (Some text) count time ended found quiet watch (Some rest) = AreTaken text count time ended found quiet watch rest
+abbrev pub HasTakenLines : Option (List ℕ) → ℕ → Bool → List FoundGranule → List Quiet → WatchValue → Reading → Option (List ℕ) → Type 0
+HasTakenLines None time ended found quiet watch r rest = Unit {0}
+HasTakenLines (Some text) time ended found quiet watch r None = ⊥
+HasTakenLines (Some text) time ended found quiet watch r (Some rest) = AreTaken text time ended found quiet watch r rest
 
 -- for each granule that is not decided at least as many states as the budget were looked at
 abbrev pub WentBy : {P : Type 0} → (P → ℕ → Type 0) → P → P → ℕ → Watched → Type 0
 WentBy looked old new budget watched = IfSome watched.ending (λ ending. All (λ _. LookedAtLeast looked old new budget) ending.undecided.items)
 
--- each of these is explained as far as was found of the events that the lines tell, to the end of the text
-pub record AreAsFar {P : Type 0} (looked : P → ℕ → Type 0) (old new : P) (budget : ℕ) (text : List ℕ) (undecided : List UndecidedAtEnd) : Type 0 where
+-- each of these is explained as far as was found of the events that the text tells
+pub record AreAsFar {P : Type 0} (looked : P → ℕ → Type 0) (old new : P) (budget : ℕ) (format : LineFormat) (text : List ℕ) (undecided : List UndecidedAtEnd) : Type 0 where
   pub events : List Event
-  pub count : ℕ
-  pub rest : List ℕ
-  pub told : AreTold text count events rest
-  pub ended : is_blank rest ≡ true
+  pub told : AreToldAll format text events
   pub far : All (IsExplainedAsFar looked old new (states_for budget undecided) events) undecided
 
 -- so of those that are listed at the end
-abbrev pub WentAsFar : {P : Type 0} → (P → ℕ → Type 0) → P → P → ℕ → List ℕ → Watched → Type 0
-WentAsFar looked old new budget text watched = IfSome watched.ending (λ ending. AreAsFar looked old new budget text ending.undecided.items)
+abbrev pub WentAsFar : {P : Type 0} → (P → ℕ → Type 0) → P → P → ℕ → LineFormat → List ℕ → Watched → Type 0
+WentAsFar looked old new budget format text watched = IfSome watched.ending (λ ending. AreAsFar looked old new budget format text ending.undecided.items)
 
 -- and for each of which it is not known how far it can be explained
 pub record ReachedBy {P : Type 0} (looked : P → ℕ → Type 0) (old new : P) (budget : ℕ) (watched : Watched) : Type 0 where

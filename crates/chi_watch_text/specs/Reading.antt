@@ -1,22 +1,70 @@
--- what the next line of a text tells
-use Rattle.std.specs.Prelude.{◌≡◌, ℕ, ◌<◌, true, List, length, Option, None, Some, Ok, Err}
-use Rattle.std.specs.Io.BufRead.{drop_through, take_through}
-use Rattle.chi_reading.specs.EventText.{event_text}
+-- what a reading of lines has given, and why it gives no more
+use Rattle.std.specs.Prelude.{◌≡◌, ℕ, ◌+◌, List, [], ◌∷◌, ◌++◌, Option, None, Some, IfSome, Result, Ok, Err}
+use Rattle.std.specs.Io.BufRead.{take_through}
 use Rattle.chi_events.specs.declared.event.Event.{Event}
-use Rattle.chi_watch_text.specs.Lines.{is_blank}
+use Rattle.chi_flits.specs.Effects.{HasSeen, PortValue}
+use Rattle.chi_flits.specs.declared.flit.Flit.{Flit}
+use Rattle.chi_watch_text.specs.LineTold.{Told, line_told}
+use Rattle.chi_watch_text.specs.Lines.{AreTold, AreToldAll}
 use Rattle.chi_watch_text.specs.declared.fault.LinesFault.{LinesFault}
 use Rattle.chi_watch_text.specs.declared.fault.LinesFault.TheVariants as fault
+use Rattle.chi_watch_text.specs.declared.fault.TellingFault.{TellingFault}
+use Rattle.chi_watch_text.specs.declared.line_format.LineFormat.{LineFormat}
+use Rattle.chi_watch_text.specs.declared.reading.Reading.{Reading}
 
--- nothing but white space is left of the text, or its next line, which has this number, tells this event, and the rest follows
-abbrev pub IsRead : ℕ → List ℕ → Option Event → Option (List ℕ) → Type 0
-IsRead number text None rest = is_blank text ≡ true
-IsRead number text (Some e) rest = (0 < length text) × (event_text number (take_through 10 text) ≡ Ok e) × (rest ≡ Some (drop_through 10 text))
+-- at a port that saw some flits, what is told after them is these events, and it has seen those that are told then
+abbrev pub TellsBy : (List Flit → Result Told TellingFault) → PortValue → List Event → PortValue → Type 0
+TellsBy told old events new = (flits : List Flit) → HasSeen flits old → (after : List Flit) × (told flits ≡ Ok (record { events = events; flits = after })) × HasSeen after new
 
--- why the line with this number tells no event, or was not read
-abbrev pub IsRefused : List ℕ → ℕ → LinesFault → Type 0
-IsRefused line number fault.Read = Unit {0}
-IsRefused line number (fault.Line n f) = (n ≡ number) × (event_text number line ≡ Err f)
-IsRefused line number (fault.Event n f) = ⊥
-IsRefused line number fault.TooManyLines = ⊥
-IsRefused line number fault.Write = ⊥
-IsRefused line number fault.Memory = Unit {0}
+-- why the line with this number tells nothing, if memory does not end
+abbrev pub IsLineFault : Result Told TellingFault → ℕ → LinesFault → Type 0
+IsLineFault told number fault.Read = ⊥
+IsLineFault told number (fault.Line n f) = (n ≡ number) × (told ≡ Err f)
+IsLineFault told number (fault.Event n f) = ⊥
+IsLineFault told number fault.TooManyLines = ⊥
+IsLineFault told number fault.Write = ⊥
+IsLineFault told number fault.Memory = Unit {0}
+
+abbrev pub RefusesBy : (List Flit → Result Told TellingFault) → PortValue → ℕ → LinesFault → Type 0
+RefusesBy told old number f = (flits : List Flit) → HasSeen flits old → IsLineFault (told flits) number f
+
+-- The reading has given these events of the lines that it read, and the rest of the text follows.
+pub record HasGiven (text : List ℕ) (events : List Event) (r : Reading) (rest : List ℕ) : Type 0 where
+  pub told : AreTold r.format text r.number events r.pending.items rest
+  pub seen : HasSeen told.seen r.port
+
+-- the same of a text that may not be known
+abbrev pub HasGivenOf : Option (List ℕ) → List Event → Reading → Option (List ℕ) → Type 0
+HasGivenOf None events r rest = Unit {0}
+HasGivenOf (Some text) events r None = ⊥
+HasGivenOf (Some text) events r (Some rest) = HasGiven text events r rest
+
+-- a text that may not be known begins with these bytes, and the rest follows
+abbrev pub BeginsWith : Option (List ℕ) → List ℕ → Option (List ℕ) → Type 0
+BeginsWith None bytes rest = Unit {0}
+BeginsWith (Some text) bytes None = ⊥
+BeginsWith (Some text) bytes (Some rest) = text ≡ bytes ++ rest
+
+-- the line with this number is the first that tells nothing, for this reason
+abbrev pub IsFirstRefused : LineFormat → List ℕ → List Event → ℕ → TellingFault → Type 0
+IsFirstRefused format text events number f =
+    (before : ℕ) × (rest : List ℕ) × (told : AreTold format text before events [] rest) × (before + 1 ≡ number)
+    × (line_told format told.seen number (take_through 10 rest) ≡ Err f)
+
+-- why a text of which these events are given tells no more
+abbrev pub IsReadingFault : LineFormat → List ℕ → List Event → LinesFault → Type 0
+IsReadingFault format text events fault.Read = Unit {0}
+IsReadingFault format text events (fault.Line number f) = IsFirstRefused format text events number f
+IsReadingFault format text events (fault.Event number f) = ⊥
+IsReadingFault format text events fault.TooManyLines = Unit {0}
+IsReadingFault format text events fault.Write = ⊥
+IsReadingFault format text events fault.Memory = Unit {0}
+
+-- After the events that were given this one is given next, or the text tells no more.
+abbrev pub GivesNext : Option (List ℕ) → Reading → Option (List ℕ) → Option Event → Reading → Option (List ℕ) → Type 0
+GivesNext start old now None new later = (events : List Event) → HasGivenOf start events old now → IfSome start (λ text. AreToldAll old.format text events)
+GivesNext start old now (Some e) new later = (events : List Event) → HasGivenOf start events old now → HasGivenOf start (events ++ e ∷ []) new later
+
+-- or none is for this reason
+abbrev pub FailsNext : Option (List ℕ) → Reading → Option (List ℕ) → LinesFault → Type 0
+FailsNext start old now f = (events : List Event) → HasGivenOf start events old now → IfSome start (λ text. IsReadingFault old.format text events f)

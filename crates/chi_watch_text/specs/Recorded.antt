@@ -13,6 +13,7 @@ use Rattle.chi_watch.specs.Judged.{final_of, judged}
 use Rattle.chi_watch.specs.Watches.{WatchValue, Watches, unknown_in}
 use Rattle.chi_watch.specs.WordsTold.{final_words, granule_word, openings, write_at, writes_told}
 use Rattle.chi_watch_text.specs.Lines.{AreToldAll}
+use Rattle.chi_watch_text.specs.declared.line_format.LineFormat.{LineFormat}
 use Rattle.chi_watch_text.specs.declared.recorded.Recording.{Recording}
 
 -- This is the trace that events tell: of all addresses, with what is judged of the operations, by their starts, the words at the
@@ -25,8 +26,8 @@ pub record IsToldTrace (events : List Event) (r : RecordedValue) : Type 0 where
   pub refusals : r.refusals ≡ []
 
 -- all lines of the text tell events that a watch takes, and this is their trace
-abbrev pub IsRecorded : List ℕ → RecordedValue → Type 0
-IsRecorded text r = (events : List Event) × (count : ℕ) × AreToldAll text count events × IsToldTrace events r
+abbrev pub IsRecorded : LineFormat → List ℕ → RecordedValue → Type 0
+IsRecorded format text r = (events : List Event) × AreToldAll format text events × IsToldTrace events r
 
 -- the words that are noted are the first that are told of each granule
 abbrev pub HasWords : List GranuleWord → (ℕ → Option ℕ) → Type 0

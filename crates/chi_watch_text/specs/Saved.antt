@@ -1,10 +1,11 @@
 -- the lines of events that tell of one granule
-use Rattle.std.specs.Prelude.{◌≡◌, ℕ, ◌/◌, ◌==◌, Bool, true, false, if◌then◌else◌, List, [], ◌∷◌, ◌++◌}
+use Rattle.std.specs.Prelude.{◌≡◌, ℕ, ◌+◌, ◌/◌, ◌==◌, Bool, true, false, if◌then◌else◌, List, [], ◌∷◌, ◌++◌, Ok}
 use Rattle.chi_events.specs.declared.event.Event.{Event}
 use Rattle.chi_events.specs.declared.event.EventKind.{EventKind}
 use Rattle.chi_events.specs.declared.event.EventKind.TheVariants.{Request, Data, Reply, Dropped, Refused, Word, Final, Unknown, End}
 use Rattle.chi_watch.specs.WordsTold.{covers}
-use Rattle.chi_watch_text.specs.Lines.{AreEvents, AreLines}
+use Rattle.chi_reading.specs.EventText.{event_text}
+use Rattle.chi_watch_text.specs.Lines.{AreLines}
 use Rattle.chi_watch_text.specs.declared.fault.LinesFault.{LinesFault}
 use Rattle.chi_watch_text.specs.declared.fault.LinesFault.TheVariants as fault
 
@@ -40,10 +41,16 @@ lines_about g numbers [] events = []
 lines_about g numbers (line ∷ lines) [] = []
 lines_about g numbers (line ∷ lines) (e ∷ events) = line_about g numbers line e.kind ++ lines_about g (numbers_after g numbers e.kind) lines events
 
+-- each line tells its event, where the first has this number
+unfoldable pub AreOf : ℕ → List (List ℕ) → List Event → Type 0
+AreOf number [] [] = Unit {0}
+AreOf number (line ∷ lines) (e ∷ events) = (event_text number line ≡ Ok e) × AreOf (number + 1) lines events
+AreOf number lines events = ⊥
+
 -- the text is these lines, and each tells its event
 pub record AreWhole (text : List ℕ) (lines : List (List ℕ)) (events : List Event) : Type 0 where
   pub are_lines : AreLines text lines []
-  pub are_events : AreEvents 1 lines events
+  pub are_events : AreOf 1 lines events
 
 -- of the lines that the text is, those that tell of the granule
 abbrev pub IsSaved : List ℕ → ℕ → List ℕ → Type 0

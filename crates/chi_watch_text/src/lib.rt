@@ -1,14 +1,18 @@
-//! Events that are read line by line: the operations that they tell, or the text of what a watch of them finds. Source: profile.
+//! Lines of events or of flits that are read: the operations that they tell, or the text of what a watch of them finds. Source:
+//! profile.
 #![tactic(auto)]
 
 mod fault;
 mod kept;
+mod line_format;
+mod line_told;
 mod lines;
 mod operations;
 mod options;
 mod progress;
 mod quiet;
 mod reach_lines;
+mod reading;
 mod recorded;
 mod required;
 mod saved;
@@ -18,7 +22,8 @@ mod text;
 mod watched;
 mod watching;
 
-pub use fault::LinesFault;
+pub use fault::{LinesFault, TellingFault};
+pub use line_format::LineFormat;
 pub use operations::{OperationsTold, read_operations};
 pub use options::WatchOptions;
 pub use progress::WatchProgress;

@@ -1,15 +1,10 @@
-//! Lines, and the events that they tell.
+//! Lines, one after the other.
 
-ghost use Rattle.std.specs.Prelude.{◌≡◌, ◌⊎◌, true, Ok, Some, IfErr, IfOk, IfSome, IsTrue};
+ghost use Rattle.std.specs.Prelude.{◌≡◌, ◌⊎◌, true, Some, IfErr, IfOk, IfSome, IsTrue};
 ghost use Rattle.std.specs.Io.BufRead.{drop_through, take_through};
-ghost use Rattle.chi_reading.specs.EventText.{event_text};
 ghost use Rattle.chi_watch_text.specs.Lines.{is_blank};
-ghost use Rattle.chi_watch_text.specs.Reading.{IsRead, IsRefused};
 
 use crate::fault::LinesFault;
-use chi_events::Event;
-use chi_reading::{LineFault, read_event};
-use std::alloc::Global;
 use std::io::{BufRead, ErrorKind};
 
 /// Reads the next line. At the end it is empty.
@@ -28,7 +23,7 @@ pub(crate) fn next_line<R: BufRead>(from: &mut R, line: &mut Vec<u8>) -> Result<
 }
 
 /// Whether nothing but white space stands there.
-fn is_blank(line: &[u8]) -> bool
+pub(crate) fn is_blank(line: &[u8]) -> bool
     ensures { result ≡ is_blank line.now }
 {
     line.iter()
@@ -36,7 +31,7 @@ fn is_blank(line: &[u8]) -> bool
 }
 
 /// Whether nothing but white space is left. Reads as far as that is so.
-fn is_at_end<R: BufRead>(from: &mut R, line: &mut Vec<u8>) -> Result<bool, LinesFault>
+pub(crate) fn is_at_end<R: BufRead>(from: &mut R, line: &mut Vec<u8>) -> Result<bool, LinesFault>
     ensures blank { IfOk result (λ is. IsTrue is → IfSome (R.remaining from.old) (λ text. is_blank text ≡ true)) }
     ensures fault { IfErr result (λ fault. (fault ≡ LinesFault.Read) ⊎ (fault ≡ LinesFault.Memory)) }
 {
@@ -50,41 +45,4 @@ fn is_at_end<R: BufRead>(from: &mut R, line: &mut Vec<u8>) -> Result<bool, Lines
         }
     }
     Ok(false)
-}
-
-/// The event that the line with this number tells.
-pub(crate) fn event_told(alloc: Global, line: &[u8], number: u64) -> Result<Event, LinesFault>
-    ensures told { IfOk result (λ event. event_text number line.now ≡ Ok event) }
-    ensures fault { IfErr result (IsRefused line.now number) }
-{
-    match read_event(alloc, number, line) {
-        Ok(event) => Ok(event),
-        Err(LineFault::Memory) => Err(LinesFault::Memory),
-        Err(fault) => Err(LinesFault::Line { number, fault }),
-    }
-}
-
-/// Reads the event of the next line, which has this number. There is none at the end, nor where only blank lines follow.
-pub(crate) fn next_event<R: BufRead>(
-    alloc: Global,
-    from: &mut R,
-    line: &mut Vec<u8>,
-    number: u64,
-) -> Result<Option<Event>, LinesFault>
-    ensures told { IfOk result (λ event. IfSome (R.remaining from.old) (λ text. IsRead number text event (R.remaining from.new))) }
-    ensures line { IfOk result (λ event. IfSome event (λ _. IfSome (R.remaining from.old) (λ text. line.new.items ≡ take_through 10 text))) }
-    ensures fault { IfErr result (λ fault. IfSome (R.remaining from.old) (λ text. IsRefused (take_through 10 text) number fault)) }
-{
-    next_line(from, line)?;
-    if line.is_empty() {
-        return Ok(None);
-    }
-    let fault = match event_told(alloc, line, number) {
-        Ok(event) => return Ok(Some(event)),
-        Err(fault) => fault,
-    };
-    if is_blank(line) && is_at_end(from, line)? {
-        return Ok(None);
-    }
-    Err(fault)
 }

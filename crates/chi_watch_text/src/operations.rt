@@ -1,4 +1,4 @@
-//! Events that are read line by line, and the operations and the refusals that they tell.
+//! Lines that are read one by one, and the operations and the refusals that they tell.
 
 ghost use Rattle.std.specs.Prelude.{◌≡◌, [], ◌∷◌, ◌++◌, List, Some, IfErr, IfOk, IfSome, IsPermutation, OnOk, filter_map, option_to_list};
 ghost use Rattle.chi_trace.specs.declared.operation.Operation.{Operation};
@@ -8,7 +8,8 @@ ghost use Rattle.chi_events.specs.Outstanding.{Tells, open_operation, refusal_by
 ghost use Rattle.chi_watch_text.specs.Operations.{AreInOrder, AreOperations, AreRefusals, IsOperationsFault, IsTakingFault};
 
 use crate::fault::LinesFault;
-use crate::lines::next_event;
+use crate::line_format::LineFormat;
+use crate::reading::Reading;
 use chi_events::laws::operations_are_told;
 use chi_events::{Event, EventFault, Open, Outstanding};
 use chi_fields::Refusal;
@@ -77,38 +78,40 @@ pub(crate) fn in_order(
     Ok(ops)
 }
 
-/// Reads events line by line: the operations that they tell, in the order of their starts, and why requests were refused: for
-/// the reason that is told, or else for the one that a home of all addresses has, if it has one. A request that was dropped or
+/// Reads lines of a format, one by one: the operations that they tell, in the order of their starts, and why requests were refused:
+/// for the reason that is told, or else for the one that a home of all addresses has, if it has one. A request that was dropped or
 /// refused, or whose data never came, is no operation; one that was outstanding at the end is open, unless a home of all
-/// addresses refuses it. Words are read, and nothing is said of them.
+/// addresses refuses it. Words are read, and nothing is said of them. Each operation has the number of the line that told its
+/// request.
 ///
 /// The last line needs no line feed, and blank ones after it tell nothing. Operations that start at the same time stand in some
 /// order.
 ///
 /// ```
-/// let ops = read_operations(alloc, &mut reader)?.operations;
+/// let ops = read_operations(alloc, &mut reader, LineFormat::Events)?.operations;
 /// ```
 pub fn read_operations<R: BufRead>(
     alloc: Global,
     from: &mut R,
+    format: LineFormat,
 ) -> Result<OperationsTold, LinesFault>
-    ensures told { IfSome (R.remaining from.old) (λ text. IfOk result (λ told. AreOperations text told.operations.items)) }
-    ensures refusals { IfSome (R.remaining from.old) (λ text. IfOk result (λ told. AreRefusals text told.refusals.items)) }
-    ensures fault { IfSome (R.remaining from.old) (λ text. IfErr result (IsOperationsFault text)) }
+    ensures told { IfSome (R.remaining from.old) (λ text. IfOk result (λ told. AreOperations format text told.operations.items)) }
+    ensures refusals { IfSome (R.remaining from.old) (λ text. IfOk result (λ told. AreRefusals format text told.refusals.items)) }
+    ensures fault { IfSome (R.remaining from.old) (λ text. IfErr result (IsOperationsFault format text)) }
 {
     let mut outstanding = Outstanding::new(alloc);
     let mut ops = Vec::new(alloc);
     let mut refusals = Vec::new(alloc);
-    let mut line = Vec::new(alloc);
-    for number in 1..u64::MAX {
-        let Some(event) = next_event(alloc, from, &mut line, number)? else {
+    let mut reading = Reading::new(alloc, format);
+    for _ in 0..u64::MAX {
+        let Some(event) = reading.next_event(alloc, from)? else {
             return Ok(OperationsTold {
                 operations: in_order(ops, &outstanding)?,
                 refusals,
             });
         };
         let refusal = outstanding.refusal(&event);
-        let ended = take_event(&mut outstanding, &event, number)?;
+        let ended = take_event(&mut outstanding, &event, reading.number)?;
         add_some(&mut ops, ended)?;
         add_some(&mut refusals, refusal)?;
     }

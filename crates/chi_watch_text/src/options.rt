@@ -1,11 +1,14 @@
-//! How events are watched.
+//! How lines are watched.
 
+use crate::line_format::LineFormat;
 use crate::required::Required;
 
-/// How events are watched. `budget` is how many states are looked at for an answer. With `keep_going` a granule that no order
-/// explains does not end it. With `keep_lines` the lines that are taken are kept. `required` changes nothing of what is found.
+/// How lines are watched. `format` is what they tell. `budget` is how many states are looked at for an answer. With `keep_going` a
+/// granule that no order explains does not end it. With `keep_lines` the lines that are taken are kept. `required` changes nothing
+/// of what is found.
 #[derive(Clone, Copy, Debug, PartialEq, Eq)]
 pub struct WatchOptions {
+    pub format: LineFormat,
     pub budget: u64,
     pub keep_going: bool,
     pub keep_lines: bool,

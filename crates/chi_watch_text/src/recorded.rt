@@ -1,4 +1,4 @@
-//! Events that are read line by line as a trace.
+//! Lines that are read one by one as a trace.
 
 ghost use Rattle.std.specs.Prelude.{◌≡◌, [], ◌∷◌, ◌++◌, List, None, IfErr, IfOk, IfSome, OnOk, filter, flat_map, if◌then◌else◌, is_none, ℕ, option_to_list, IsPermutation};
 ghost use Rattle.std.specs.List.Sorted.{IsNonDecreasingBy};
@@ -14,8 +14,9 @@ ghost use Rattle.chi_watch_text.specs.Outcomes.{IsEventFault, IsLinesFault};
 ghost use Rattle.chi_watch_text.specs.Recorded.{HasRecorded, HasWords, IsRecorded, IsToldTrace, is_told_again, opening_told, write_told};
 
 use crate::fault::LinesFault;
-use crate::lines::next_event;
+use crate::line_format::LineFormat;
 use crate::operations::{add_some, in_order};
+use crate::reading::Reading;
 use chi_events::{Event, EventKind, WordTold};
 use chi_judge::happened_until;
 use chi_reading::Recorded;
@@ -208,28 +209,32 @@ impl Recording {
     }
 }
 
-/// Reads events line by line as a trace: of all addresses, with the operations that they tell, each with the number of the line that
-/// told its request; the words at the opening; and those that were told at the end. Of a granule to which something that is not told
-/// may have written it has what had happened before, and no word at the end. Where its word is told again it has a write of it then,
-/// with the number of that line, and what happened after. Requests that were refused are left out.
+/// Reads lines of a format, one by one, as a trace: of all addresses, with the operations that they tell, each with the number of
+/// the line that told its request; the words at the opening; and those that were told at the end. Of a granule to which something
+/// that is not told may have written it has what had happened before, and no word at the end. Where its word is told again it has a
+/// write of it then, with the number of that line, and what happened after. Requests that were refused are left out.
 ///
 /// A line is refused where `watch_lines` refuses it, and for the same reason. The last line needs no line feed, and blank ones
 /// after it tell nothing.
 ///
 /// ```
-/// let recorded = read_events(alloc, &mut reader)?;
+/// let recorded = read_events(alloc, &mut reader, LineFormat::Events)?;
 /// ```
-pub fn read_events<R: BufRead>(alloc: Global, from: &mut R) -> Result<Recorded, LinesFault>
-    ensures recorded { IfSome (R.remaining from.old) (λ text. IfOk result (IsRecorded text)) }
-    ensures fault { IfSome (R.remaining from.old) (λ text. IfErr result (IsLinesFault text)) }
+pub fn read_events<R: BufRead>(
+    alloc: Global,
+    from: &mut R,
+    format: LineFormat,
+) -> Result<Recorded, LinesFault>
+    ensures recorded { IfSome (R.remaining from.old) (λ text. IfOk result (IsRecorded format text)) }
+    ensures fault { IfSome (R.remaining from.old) (λ text. IfErr result (IsLinesFault format text)) }
 {
     let mut recording = Recording::new(alloc);
-    let mut line = Vec::new(alloc);
-    for number in 1..u64::MAX {
-        let Some(event) = next_event(alloc, from, &mut line, number)? else {
+    let mut reading = Reading::new(alloc, format);
+    for _ in 0..u64::MAX {
+        let Some(event) = reading.next_event(alloc, from)? else {
             return Ok(recording.trace(alloc)?);
         };
-        recording.record(alloc, &event, number)?;
+        recording.record(alloc, &event, reading.number)?;
     }
     Err(LinesFault::TooManyLines)
 }

@@ -8,7 +8,8 @@ ghost use Rattle.chi_watch.specs.WordsTold.{covers};
 ghost use Rattle.chi_watch_text.specs.Saved.{IsSaved, IsSavingFault, line_about, numbers_after, tells_of};
 
 use crate::fault::LinesFault;
-use crate::lines::{event_told, next_line};
+use crate::line_told::event_told;
+use crate::lines::next_line;
 use chi_events::EventKind;
 use std::alloc::{AllocError, Global};
 use std::collections::BTreeSet;

@@ -1,4 +1,4 @@
-//! A line that tells an event: the watch takes it, and what it told is noted.
+//! An event of a line: the watch takes it, and what was found by it is noted.
 
 ghost use Rattle.std.specs.Prelude.{IfErr, IfOk};
 ghost use Rattle.chi_search.specs.Looks.{LookedSome};
@@ -36,26 +36,26 @@ fn take_event<P: WatchProgress>(
     }
 }
 
-/// Takes the line with this number, which tells an event. A granule that became quiet by it is noted, and the line is kept where
-/// lines are.
+/// Takes an event of the line with this number. A granule that became quiet by it is noted, and the lines that were read for it are
+/// kept, where lines are.
 pub(crate) fn take_line<P: WatchProgress>(
     alloc: Global,
     watch: &mut Watch,
     quiet: &mut Vec<Quiet>,
     kept: &mut Option<Vec<u8>>,
-    line: &[u8],
+    lines: &[u8],
     event: &Event,
     number: u64,
     budget: u64,
     progress: &mut P,
 ) -> Result<(), LinesFault>
     ensures taken { IfOk result (λ _. TakesLine watch.old event.now number quiet.old.items watch.new quiet.new.items) }
-    ensures kept { IfOk result (λ _. KeepsLine kept.old line.now kept.new) }
+    ensures kept { IfOk result (λ _. KeepsLine kept.old lines.now kept.new) }
     ensures fault { IfErr result (IsEventFault watch.old event.now number) }
     ensures looked { IfOk result (λ _. LookedSome P.looked progress.old progress.new) }
 {
     let seen = take_event(alloc, watch, event, number, budget, progress)?;
     note_quiet(alloc, quiet, seen, number)?;
-    keep_line(kept, line)?;
+    keep_line(kept, lines)?;
     Ok(())
 }

@@ -1,4 +1,4 @@
-//! Events that are read line by line and watched.
+//! Lines that are read one by one and watched.
 
 ghost use Rattle.std.specs.Prelude.{◌≡◌, ◌≢◌, ◌<◌, ◌≤◌, ◌⊎◌, ℕ, [], List, All, None, true, false, IfErr, IfOk, IfSome, IsSomeAnd, flat_map, is_some, length};
 ghost use Rattle.std.specs.Io.KnownBytes.{Appends};
@@ -13,10 +13,10 @@ ghost use Rattle.chi_watch_text.specs.Texts.{found_text};
 
 use crate::fault::LinesFault;
 use crate::kept::nothing_kept;
-use crate::lines::next_event;
 use crate::options::WatchOptions;
 use crate::progress::WatchProgress;
 use crate::quiet::judge_quiet;
+use crate::reading::Reading;
 use crate::taking::take_line;
 use crate::watched::{FoundGranule, Unfinished, Watched};
 use chi_events::{Event, EventKind};
@@ -25,14 +25,15 @@ use std::alloc::{AllocError, Global};
 use std::io::{BufRead, Write};
 use std::mem;
 
-/// Whether all events of this time are told: the next one is later, or there is none.
-fn is_past(time: u64, next: &Option<Event>) -> bool
+/// Whether all events of this time are told: those of its last line are, and the next one is later, or there is none.
+fn is_past(is_whole: bool, time: u64, next: &Option<Event>) -> bool
     ensures past { result ≡ true → IfSome next.now (λ e. time < e.time) }
-    ensures waits { result ≡ false → IsSomeAnd next.now (λ e. e.time ≤ time) }
+    ensures whole { result ≡ true → is_whole ≡ true }
+    ensures waits { result ≡ false → is_whole ≡ true → IsSomeAnd next.now (λ e. e.time ≤ time) }
 {
     match next {
-        Some(event) => time < event.time,
-        None => true,
+        Some(event) => is_whole && time < event.time,
+        None => is_whole,
     }
 }
 
@@ -104,8 +105,8 @@ fn ended<P: WatchProgress>(
     })
 }
 
-/// Reads events line by line, and watches the granules that they tell of. Those that no order explains are told, and are in `found`
-/// until it ends.
+/// Reads lines of a format, one by one, and watches the granules that they tell of. Those that no order explains are told, and are
+/// in `found` until it ends.
 fn watch_each<R: BufRead, W: Write, P: WatchProgress>(
     alloc: Global,
     from: &mut R,
@@ -115,26 +116,27 @@ fn watch_each<R: BufRead, W: Write, P: WatchProgress>(
     progress: &mut P,
 ) -> Result<Watched, LinesFault>
     requires { found.old.items ≡ [] }
-    ensures watched { IfSome (R.remaining from.old) (λ text. IfOk result (IsWatched text options.now.keep_going)) }
-    ensures fault { IfSome (R.remaining from.old) (λ text. IfErr result (IsWatchingFault text)) }
+    ensures watched { IfSome (R.remaining from.old) (λ text. IfOk result (IsWatched options.now.format text options.now.keep_going)) }
+    ensures fault { IfSome (R.remaining from.old) (λ text. IfErr result (IsWatchingFault options.now.format text)) }
     ensures told { IfOk result (λ watched. Appends (W.contents to.old) (W.contents to.new) (flat_map found_text watched.found.items)) }
     ensures kept { IfErr result (λ fault. fault ≢ LinesFault.Write → Appends (W.contents to.old) (W.contents to.new) (flat_map found_text found.new.items)) }
     ensures begun { IfErr result (λ _. AppendsFront (W.contents to.old) (W.contents to.new) (flat_map found_text found.new.items)) }
-    ensures found { IfSome (R.remaining from.old) (λ text. IfErr result (λ _. All (IsFoundBy text) found.new.items)) }
+    ensures found { IfSome (R.remaining from.old) (λ text. IfErr result (λ _. All (IsFoundBy options.now.format text) found.new.items)) }
     ensures keeps { IfOk result (λ watched. is_some watched.kept ≡ options.now.keep_lines) }
     ensures undecided { IfOk result (WentBy P.looked progress.old progress.new options.now.budget) }
-    ensures far { IfSome (R.remaining from.old) (λ text. IfOk result (WentAsFar P.looked progress.old progress.new options.now.budget text)) }
+    ensures far { IfSome (R.remaining from.old) (λ text. IfOk result (WentAsFar P.looked progress.old progress.new options.now.budget options.now.format text)) }
     ensures unreached { IfOk result (ReachedBy P.looked progress.old progress.new options.now.budget) }
 {
     let mut watch = Watch::new(alloc);
     let mut quiet = Vec::new(alloc);
     let mut kept = nothing_kept(alloc, options.keep_lines);
-    let mut line = Vec::new(alloc);
+    let mut reading = Reading::new(alloc, options.format);
     let mut time = 0;
     let mut is_ended = false;
-    for number in 1..u64::MAX {
-        let next = next_event(alloc, from, &mut line, number)?;
-        let is_past = is_past(time, &next);
+    for _ in 0..u64::MAX {
+        let is_whole = reading.is_whole();
+        let next = reading.next_event(alloc, from)?;
+        let is_past = is_past(is_whole, time, &next);
         judge_quiet(
             alloc,
             &watch,
@@ -164,9 +166,9 @@ fn watch_each<R: BufRead, W: Write, P: WatchProgress>(
             &mut watch,
             &mut quiet,
             &mut kept,
-            &line,
+            &reading.lines,
             &event,
-            number,
+            reading.number,
             options.budget,
             progress,
         )?;
@@ -176,7 +178,7 @@ fn watch_each<R: BufRead, W: Write, P: WatchProgress>(
     Err(LinesFault::TooManyLines)
 }
 
-/// Reads events line by line, and watches the granules that they tell of, until it is seen that no order explains the
+/// Reads lines of a format, one by one, and watches the granules that they tell of, until it is seen that no order explains the
 /// operations of one; or, with `keep_going`, to the end. `progress` is told how far it is.
 ///
 /// A granule is judged when its last outstanding request has gone, and looked at now and then where it is never quiet. As another
@@ -196,13 +198,13 @@ pub fn watch_lines<R: BufRead, W: Write, P: WatchProgress>(
     options: &WatchOptions,
     progress: &mut P,
 ) -> Result<Watched, Unfinished>
-    ensures outcome { IfSome (R.remaining from.old) (λ text. IsOutcome text options.now.keep_going result) }
+    ensures outcome { IfSome (R.remaining from.old) (λ text. IsOutcome options.now.format text options.now.keep_going result) }
     ensures told { IfOk result (λ watched. Appends (W.contents to.old) (W.contents to.new) (flat_map found_text watched.found.items)) }
     ensures kept { IfErr result (λ unfinished. unfinished.fault ≢ LinesFault.Write → Appends (W.contents to.old) (W.contents to.new) (flat_map found_text unfinished.found.items)) }
     ensures keeps { IfOk result (λ watched. is_some watched.kept ≡ options.now.keep_lines) }
     ensures begun { IfErr result (λ unfinished. AppendsFront (W.contents to.old) (W.contents to.new) (flat_map found_text unfinished.found.items)) }
     ensures undecided { IfOk result (WentBy P.looked progress.old progress.new options.now.budget) }
-    ensures far { IfSome (R.remaining from.old) (λ text. IfOk result (WentAsFar P.looked progress.old progress.new options.now.budget text)) }
+    ensures far { IfSome (R.remaining from.old) (λ text. IfOk result (WentAsFar P.looked progress.old progress.new options.now.budget options.now.format text)) }
     ensures unreached { IfOk result (ReachedBy P.looked progress.old progress.new options.now.budget) }
 {
     let mut found = Vec::new(alloc);

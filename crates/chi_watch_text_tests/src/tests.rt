@@ -2,6 +2,9 @@
 
 mod comparison;
 mod events;
+mod flit_fault_tests;
+mod flit_tests;
+mod flits;
 mod keep_going_tests;
 mod line_tests;
 mod operation_tests;

@@ -2,7 +2,7 @@
 
 use chi_search::NoProgress;
 use chi_watch_text::{
-    LinesFault, Required, Unfinished, WatchOptions, Watched, closing_text, watch_lines,
+    LineFormat, LinesFault, Required, Unfinished, WatchOptions, Watched, closing_text, watch_lines,
 };
 use std::alloc::{AllocError, Global};
 use std::test::Fail;
@@ -124,6 +124,7 @@ pub(crate) const ALL: Required = Required {
 
 /// It stops at the first line by which a granule is found, or it keeps going.
 pub(crate) const STOPPING: WatchOptions = WatchOptions {
+    format: LineFormat::Events,
     budget: 1_000_000,
     keep_going: false,
     keep_lines: false,
@@ -131,6 +132,7 @@ pub(crate) const STOPPING: WatchOptions = WatchOptions {
 };
 
 pub(crate) const GOING: WatchOptions = WatchOptions {
+    format: LineFormat::Events,
     budget: 1_000_000,
     keep_going: true,
     keep_lines: false,

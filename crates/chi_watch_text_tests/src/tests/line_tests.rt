@@ -9,7 +9,7 @@ use chi_json::ObjectFault;
 use chi_judge::Standing;
 use chi_reading::{LineFault, Member};
 use chi_watch::WatchFault;
-use chi_watch_text::LinesFault;
+use chi_watch_text::{LinesFault, TellingFault};
 use std::test::Fail;
 
 #[test]
@@ -69,7 +69,7 @@ fn faults_and_their_texts(rt: HostRuntime) -> Result<(), Fail> {
             [WRITE, "{\n"],
             LinesFault::Line {
                 number: 3,
-                fault: LineFault::Object(ObjectFault::NotJson),
+                fault: TellingFault::Event(LineFault::Object(ObjectFault::NotJson)),
             },
             "line 3 is not JSON",
         ),
@@ -77,7 +77,7 @@ fn faults_and_their_texts(rt: HostRuntime) -> Result<(), Fail> {
             [WRITE, "{\"time\":3,\"event\":\"dropped\"}"],
             LinesFault::Line {
                 number: 3,
-                fault: LineFault::Object(ObjectFault::Missing(Member::Id)),
+                fault: TellingFault::Event(LineFault::Object(ObjectFault::Missing(Member::Id))),
             },
             "line 3 member id is missing",
         ),
@@ -85,7 +85,7 @@ fn faults_and_their_texts(rt: HostRuntime) -> Result<(), Fail> {
             ["{\"requests\":[]}\n", READ],
             LinesFault::Line {
                 number: 1,
-                fault: LineFault::OfTrace,
+                fault: TellingFault::Event(LineFault::OfTrace),
             },
             "line 1 is of a trace, which chicheck explain reads",
         ),
@@ -93,7 +93,7 @@ fn faults_and_their_texts(rt: HostRuntime) -> Result<(), Fail> {
             ["{\n", "\"requests\": []}\n"],
             LinesFault::Line {
                 number: 1,
-                fault: LineFault::NotWhole,
+                fault: TellingFault::Event(LineFault::NotWhole),
             },
             "line 1 is not one whole JSON object, as an event is; chicheck explain reads a trace",
         ),

@@ -7,7 +7,7 @@ use chi_fields::Refusal;
 use chi_json::ObjectFault;
 use chi_reading::LineFault;
 use chi_watch::WatchFault;
-use chi_watch_text::{LinesFault, OperationsTold, read_operations};
+use chi_watch_text::{LineFormat, LinesFault, OperationsTold, TellingFault, read_operations};
 use std::alloc::Global;
 use std::test::Fail;
 
@@ -48,7 +48,7 @@ const MISALIGNED: &str =
 fn operations(alloc: Global, texts: &[&str]) -> Result<OperationsTold, LinesFault> {
     let all = joined(alloc, texts)?;
     let mut from = all.as_slice();
-    read_operations(alloc, &mut from)
+    read_operations(alloc, &mut from, LineFormat::Events)
 }
 
 // They stand by their starts, though the write ends first. Of what is told of words nothing is an operation.
@@ -89,7 +89,7 @@ fn lines_that_tell_no_operations(rt: HostRuntime) -> Result<(), Fail> {
             &[WRITE, "no event\n"],
             Err(LinesFault::Line {
                 number: 3,
-                fault: LineFault::Object(ObjectFault::NotJson),
+                fault: TellingFault::Event(LineFault::Object(ObjectFault::NotJson)),
             }),
         ),
         (

@@ -5,7 +5,7 @@ use crate::tests::events::{FIVE, LAST, READ, UNKNOWN, WRITE, joined};
 use chi_json::ObjectFault;
 use chi_reading::{LineFault, Recorded};
 use chi_watch::WatchFault;
-use chi_watch_text::{LinesFault, read_events};
+use chi_watch_text::{LineFormat, LinesFault, TellingFault, read_events};
 use std::alloc::Global;
 use std::test::Fail;
 
@@ -18,7 +18,7 @@ const READ_OF_UNKNOWN: &str =
 fn recorded(alloc: Global, texts: &[&str]) -> Result<Recorded, LinesFault> {
     let all = joined(alloc, texts)?;
     let mut from = all.as_slice();
-    read_events(alloc, &mut from)
+    read_events(alloc, &mut from, LineFormat::Events)
 }
 
 // Each operation has the number of the line of its request. One that is open when something that is not told may have written there
@@ -53,7 +53,7 @@ fn lines_that_tell_no_trace(rt: HostRuntime) -> Result<(), Fail> {
             &[WRITE, "no event\n"],
             Err(LinesFault::Line {
                 number: 3,
-                fault: LineFault::Object(ObjectFault::NotJson),
+                fault: TellingFault::Event(LineFault::Object(ObjectFault::NotJson)),
             }),
         ),
         (

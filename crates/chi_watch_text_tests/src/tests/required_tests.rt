@@ -2,13 +2,14 @@
 
 use crate::tests::comparison::assert_same;
 use crate::tests::events::{ALL, END, FIVE, NOTHING, READ, UNKNOWN, WRITE, watched};
-use chi_watch_text::{Required, WatchOptions};
+use chi_watch_text::{LineFormat, Required, WatchOptions};
 use std::test::Fail;
 
 // Two operations ended where the read of 5 did. Unknown bytes leave a granule that is not judged. A line after the end is the last.
 #[test]
 fn what_is_missing(rt: HostRuntime) -> Result<(), Fail> {
     let options = WatchOptions {
+        format: LineFormat::Events,
         budget: 1_000_000,
         keep_going: false,
         keep_lines: false,

@@ -6,7 +6,7 @@ use crate::tests::events::{
 };
 use chi_json::ObjectFault;
 use chi_reading::LineFault;
-use chi_watch_text::{LinesFault, WatchOptions, lines_of_granule};
+use chi_watch_text::{LinesFault, TellingFault, WatchOptions, lines_of_granule};
 use std::alloc::Global;
 use std::process::Abort;
 use std::test::Fail;
@@ -154,7 +154,7 @@ fn a_line_that_tells_no_event(rt: HostRuntime) -> Result<(), Fail> {
     let text = joined(rt.alloc(), &[ONE_LOW, "\n", REPLY_ONE])?;
     let wanted = LinesFault::Line {
         number: 2,
-        fault: LineFault::Object(ObjectFault::NotJson),
+        fault: TellingFault::Event(LineFault::Object(ObjectFault::NotJson)),
     };
     assert_same(
         &rt,

@@ -6,7 +6,7 @@ use crate::tests::events::{
 };
 use chi_judge::Reach;
 use chi_watch::{Counts, Ending, FoundAtEnd, UndecidedAtEnd};
-use chi_watch_text::{FoundGranule, Required, WatchOptions, Watched, closing_text};
+use chi_watch_text::{FoundGranule, LineFormat, Required, WatchOptions, Watched, closing_text};
 use std::process::Abort;
 use std::test::Fail;
 
@@ -89,6 +89,7 @@ at the end: 0800000000000000
 #[test]
 fn no_budget(rt: HostRuntime) -> Result<(), Fail> {
     let options = WatchOptions {
+        format: LineFormat::Events,
         budget: 0,
         keep_going: true,
         keep_lines: false,
@@ -145,6 +146,7 @@ fn all_there_is_to_tell(rt: HostRuntime) -> Result<(), Fail> {
         kept: None,
     };
     let options = WatchOptions {
+        format: LineFormat::Events,
         budget: 70,
         keep_going: true,
         keep_lines: false,

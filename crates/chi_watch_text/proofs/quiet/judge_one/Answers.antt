@@ -1,11 +1,13 @@
 -- it is noted where no order explains it, with how far it can be explained
-use Rattle.std.proofs.Common.{◌⊎◌, All, inl, inr, refl, sym, subst, ◌∙◌}
+use Rattle.std.proofs.Common.{◌⊎◌, All, List, inl, inr, refl, sym, subst, ◌∙◌}
 use Rattle.std.specs.List.{Contains}
 use Rattle.std.proofs.lemmas.List.Elements.{All-contains_itself, All-push, All-weaker}
 use Rattle.chi_search.proofs.Looking.{at_least_after, some_after}
 use Rattle.chi_watch.proofs.Reached.{undecided_weaker}
 use Rattle.chi_watch_text.specs.Outcomes.{IsUnreached}
+use Rattle.chi_watch_text.specs.Telling.{AreAllTold}
 use Rattle.chi_watch_text.specs.declared.watched.FoundGranule.{FoundGranule}
+use Rattle.chi_watch_text.proofs.ToldTexts.{all_some, none_told}
 use Rattle.chi_watch_text.proofs.quiet.judge_one.Goals as goal
 
 pub returns-in_err-tell-clause-noted : goal.returns-in_err-tell-clause-noted
@@ -46,3 +48,10 @@ pub returns-in_ok-tell-clause-looked : goal.returns-in_ok-tell-clause-looked
 returns-in_ok-tell-clause-looked g c =
     let some = some_after g.P.Progress.looked c.args.progress.now c.is_unexplained.new.progress c.reach.new.progress c.in_ok-is_unexplained.ensures.looked c.in_ok-reach.ensures.looked in
     (some.0, λ n known. c.tell.ensures.looked _ (some.1 n known))
+
+pub returns-in_err-add-clause-begun : goal.returns-in_err-add-clause-begun
+returns-in_err-add-clause-begun g c =
+    let written = g.W.Write.contents c.args.to.now in
+    let found = c.args.found.now.items in
+    all_some found c.add.new.found.items written written
+    (subst (λ (l : List FoundGranule). AreAllTold found l written written) (sym c.in_err-add.ensures.kept) (none_told found written))

@@ -1,6 +1,5 @@
 -- line after line is taken
-use Rattle.std.proofs.Common.{◌≡◌, ℕ, Bool, ◌-◌, ◌++◌, ◌∷◌, [], All, IfErr, IfSome, ◌∙◌, flat_map, List, Option, Result, length, ap, subst, sym, arith}
-use Rattle.std.specs.Io.BufRead.{take_through}
+use Rattle.std.proofs.Common.{◌≡◌, ℕ, Bool, ◌++◌, ◌∷◌, [], All, IfErr, IfSome, ◌∙◌, flat_map, List, Option, Err, Result, length, ap, subst, sym, arith}
 use Rattle.std.specs.Io.KnownBytes.{Appends}
 use Rattle.std.proofs.lemmas.List.Elements.{All-nil}
 use Rattle.chi_script.specs.WriterBytes.{AppendsFront}
@@ -10,22 +9,25 @@ use Rattle.chi_events.specs.declared.event.Event.{Event}
 use Rattle.chi_watch.specs.declared.ending.Ending.{Ending}
 use Rattle.chi_watch.specs.declared.ending.FoundAtEnd.{FoundAtEnd}
 use Rattle.chi_watch_text.specs.Kept.{KeepsLine}
-use Rattle.chi_watch_text.specs.Outcomes.{HasTakenLines, IsFoundBy, IsUnreached, IsWatchingFault}
-use Rattle.chi_watch_text.specs.Reading.{IsRead}
+use Rattle.chi_watch_text.specs.Outcomes.{AreAsFar, HasTakenLines, IsFoundBy, IsLinesFault, IsUnreached, IsWatched, IsWatchingFault}
+use Rattle.chi_watch_text.specs.Reading.{BeginsWith, GivesNext}
 use Rattle.chi_watch_text.specs.Texts.{found_text}
 use Rattle.chi_watch_text.specs.declared.fault.LinesFault.{LinesFault}
 use Rattle.chi_watch_text.specs.declared.fault.LinesFault.TheVariants as fault
+use Rattle.chi_watch_text.specs.declared.line_format.LineFormat.{LineFormat}
 use Rattle.chi_watch_text.specs.declared.watched.FoundGranule.{FoundGranule}
 use Rattle.chi_watch_text.specs.declared.watched.Watched.{Watched}
-use Rattle.chi_watch_text.proofs.KeptLines.{keeps_still, line_kept, none_kept}
+use Rattle.chi_watch_text.proofs.KeptLines.{keeps_still, lines_kept_more, none_kept}
+use Rattle.chi_watch_text.proofs.Readings.{none_pending}
 use Rattle.chi_watch_text.proofs.ToldTexts.{at_fault, begun_more, but_at_fault, told_more, whole_front}
-use Rattle.chi_watch_text.proofs.Told.{at_end, at_stop, event_taken, far_at_end, found_so_far, kept_at_fault, none_found, none_taken, passed_on, reached_by_found, settled, took, undecided_after, unreached_all, unreached_at_end}
+use Rattle.chi_watch_text.proofs.Told.{at_end, at_stop, event_taken, far_at_end, found_of, found_so_far, kept_at_fault, none_found, none_taken, passed_on, reached_by_found, settled, took, undecided_after, unreached_all, unreached_at_end}
 use Rattle.chi_watch_text.proofs.Refused.{but_write, held_up, where_not_taken, where_refused}
 use Rattle.chi_watch_text.proofs.watching.watch_each.Goals as goal
 
-pub loop-number-init : goal.loop-number-init
-loop-number-init g c = record {
-  taken = none_taken (g.R.Read.remaining c.args.from.now) c.new-watch.result c.args.found.now.items c.new-quiet.result.items ([], c.new-watch.ensures) c.requires c.new-quiet.ensures.items;
+pub loop-init : goal.loop-init
+loop-init g c = record {
+  taken = none_taken (g.R.Read.remaining c.args.from.now) c.new-watch.result c.new-reading.result c.args.found.now.items c.new-quiet.result.items ([], c.new-watch.ensures) (c.new-reading.ensures.given (g.R.Read.remaining c.args.from.now))
+      c.requires c.new-quiet.ensures.items;
   once = λ i j d before below. absurd (let none = ap length c.requires in omega (arith, before, below, none));
   told = ([], ([], c.new-watch.ensures));
   unreached = subst (All (λ (f : FoundGranule). IsUnreached g.P.Progress.looked c.args.progress.now c.args.progress.now c.args.options.now.budget f.reach)) (sym c.requires)
@@ -35,102 +37,117 @@ loop-number-init g c = record {
   looked = looked_none g.P.Progress.looked c.args.progress.now;
   kept = none_kept (g.R.Read.remaining c.args.from.now) c.nothing_kept-kept.result c.nothing_kept-kept.ensures.empty;
   keeps = c.nothing_kept-kept.ensures.keeps;
+  format = c.new-reading.ensures.format;
 }
 
 pub returns-in_err-next-clause-fault : goal.returns-in_err-next-clause-fault
 returns-in_err-next-clause-fault g c =
-    passed_on c.from_residual.result c.in_err-next.field-0.0 (λ (r : Result Watched LinesFault). IfSome (g.R.Read.remaining c.args.from.now) (λ text. IfErr r (IsWatchingFault text))) c.from_residual.ensures.1
-    (but_write (g.R.Read.remaining c.args.from.now) c.in_err-next.field-0.0 (where_refused (g.R.Read.remaining c.args.from.now) (g.R.Read.remaining c.loop-number.from) (c.loop-number.number - 1) c.loop-number.number c.loop-number.watch c.in_err-next.field-0.0
-    (took (g.R.Read.remaining c.args.from.now) (g.R.Read.remaining c.loop-number.from) (c.loop-number.number - 1) c.loop-number.time c.loop-number.is_ended c.loop-number.found.items c.loop-number.quiet.items c.loop-number.watch c.loop-number.invariant.taken)
-    (omega arith) c.in_err-next.ensures.fault))
+    let start = g.R.Read.remaining c.args.from.now in
+    let now = g.R.Read.remaining c.loop.from in
+    let f = c.in_err-next.field-0.0 in
+    let before = c.loop.invariant in
+    let took_now = took start now c.loop.time c.loop.is_ended c.loop.found.items c.loop.quiet.items c.loop.watch c.loop.reading before.taken in
+    passed_on c.from_residual.result f (λ (r : Result Watched LinesFault). IfSome start (λ text. IfErr r (IsWatchingFault c.args.options.now.format text))) c.from_residual.ensures.1
+    (but_write c.args.options.now.format start f (subst (λ (k : LineFormat). IfSome start (λ text. IsLinesFault k text f)) before.format
+    (where_refused start now c.loop.watch c.loop.reading f took_now (c.in_err-next.ensures.fault start))))
 
-pub loop-number-preserved : goal.loop-number-preserved
-loop-number-preserved g c =
-    let before = c.loop-number.invariant in
+pub loop-preserved : goal.loop-preserved
+loop-preserved g c =
+    let before = c.loop.invariant in
     let settled_now =
-    settled (g.R.Read.remaining c.args.from.now) (g.R.Read.remaining c.loop-number.from) (g.R.Read.remaining c.next_event.new.from) (c.loop-number.number - 1) c.loop-number.number c.loop-number.time c.loop-number.is_ended c.loop-number.found.items
-    c.judge_quiet.new.found.items c.loop-number.quiet.items c.judge_quiet.new.quiet.items c.loop-number.watch c.in_ok-next.next c.is_past-is_past.result before.taken (omega arith) c.in_ok-next.ensures.told c.is_past-is_past.ensures.past
+    settled (g.R.Read.remaining c.args.from.now) (g.R.Read.remaining c.loop.from) (g.R.Read.remaining c.next_event.new.from) c.loop.time c.loop.is_ended c.loop.found.items
+    c.judge_quiet.new.found.items c.loop.quiet.items c.judge_quiet.new.quiet.items c.loop.watch c.loop.reading c.next_event.new.self c.in_ok-next.next c.is_past-is_past.result before.taken (c.in_ok-next.ensures.gives (g.R.Read.remaining c.args.from.now)) c.next_event.ensures.format c.is_past-is_past.ensures.past
     c.in_ok-judge_quiet.ensures.waits c.in_ok-judge_quiet.ensures.cleared c.in_ok-judge_quiet.ensures.each in
-    let first = none_found c.is_past-is_past.result c.stops.result c.args.options.now.keep_going c.loop-number.found.items c.judge_quiet.new.found.items before.first
+    let first = none_found c.is_past-is_past.result c.stops.result c.args.options.now.keep_going c.loop.found.items c.judge_quiet.new.found.items before.first
     (λ waits. (c.in_ok-judge_quiet.ensures.waits waits).0) c.if-stops.false (rw c.deref.ensures.value at c.stops.ensures.goes_on) in
-    let some = some_after g.P.Progress.looked c.args.progress.now c.loop-number.progress c.judge_quiet.new.progress before.looked c.in_ok-judge_quiet.ensures.looked in
-    let read = subst (λ (o : Option Event). IfSome (g.R.Read.remaining c.loop-number.from) (λ text. IsRead c.loop-number.number text o (g.R.Read.remaining c.next_event.new.from))) c.in-Some.is c.in_ok-next.ensures.told in
-    let line_read =
-    subst (λ (o : Option Event). IfSome o (λ _. IfSome (g.R.Read.remaining c.loop-number.from) (λ text. c.next_event.new.line.items ≡ take_through 10 text))) c.in-Some.is c.in_ok-next.ensures.line in
+    let some = some_after g.P.Progress.looked c.args.progress.now c.loop.progress c.judge_quiet.new.progress before.looked c.in_ok-judge_quiet.ensures.looked in
+    let gives = subst (λ (o : Option Event). GivesNext (g.R.Read.remaining c.args.from.now) c.loop.reading (g.R.Read.remaining c.loop.from) o c.next_event.new.self (g.R.Read.remaining c.next_event.new.from)) c.in-Some.is (c.in_ok-next.ensures.gives (g.R.Read.remaining c.args.from.now)) in
+    let begins =
+    subst (λ (o : Option Event). IfSome o (λ _. BeginsWith (g.R.Read.remaining c.loop.from) c.next_event.new.self.lines.items (g.R.Read.remaining c.next_event.new.from))) c.in-Some.is c.in_ok-next.ensures.lines in
     record {
-      taken = subst (λ (k : ℕ). HasTakenLines (g.R.Read.remaining c.args.from.now) k c.in-Some.event.time c.is_end-is_ended.result c.judge_quiet.new.found.items c.take_line.new.quiet.items c.take_line.new.watch (g.R.Read.remaining c.next_event.new.from)) (omega arith)
-          (subst (λ (b : Bool). HasTakenLines (g.R.Read.remaining c.args.from.now) c.loop-number.number c.in-Some.event.time b c.judge_quiet.new.found.items c.take_line.new.quiet.items c.take_line.new.watch (g.R.Read.remaining c.next_event.new.from)) (sym c.is_end-is_ended.ensures)
-          (event_taken (g.R.Read.remaining c.args.from.now) (g.R.Read.remaining c.loop-number.from) (g.R.Read.remaining c.next_event.new.from) (c.loop-number.number - 1) c.loop-number.number c.loop-number.time c.loop-number.is_ended c.judge_quiet.new.found.items c.judge_quiet.new.quiet.items
-          c.take_line.new.quiet.items c.loop-number.watch c.take_line.new.watch c.in-Some.event c.in_ok-take_line.ensures.taken.seen settled_now read c.in_ok-take_line.ensures.taken.takes (omega arith) c.in_ok-take_line.ensures.taken.notes));
+      taken = subst (λ (b : Bool). HasTakenLines (g.R.Read.remaining c.args.from.now) c.in-Some.event.time b c.judge_quiet.new.found.items c.take_line.new.quiet.items c.take_line.new.watch c.next_event.new.self (g.R.Read.remaining c.next_event.new.from)) (sym c.is_end-is_ended.ensures)
+          (event_taken (g.R.Read.remaining c.args.from.now) (g.R.Read.remaining c.loop.from) (g.R.Read.remaining c.next_event.new.from) c.loop.time c.loop.is_ended c.judge_quiet.new.found.items c.judge_quiet.new.quiet.items
+          c.take_line.new.quiet.items c.loop.watch c.take_line.new.watch c.loop.reading c.next_event.new.self c.in-Some.event c.in_ok-take_line.ensures.taken.seen settled_now gives c.next_event.ensures.format
+          c.in_ok-take_line.ensures.taken.takes c.in_ok-take_line.ensures.taken.notes);
       once = c.in_ok-judge_quiet.ensures.once before.once;
       told = (before.told.0 ++ c.in-Some.event ∷ [], c.in_ok-take_line.ensures.taken.takes.taken before.told.0 before.told.1);
-      unreached = unreached_all c.loop-number.watch g.P.Progress.looked c.args.progress.now c.loop-number.progress c.judge_quiet.new.progress c.take_line.new.progress c.args.options.now.budget
-          c.loop-number.found.items c.judge_quiet.new.found.items before.looked c.in_ok-judge_quiet.ensures.looked c.in_ok-take_line.ensures.looked before.told.0 before.told.1 c.in_ok-judge_quiet.ensures.unreached before.unreached;
-      written = told_more c.loop-number.found.items c.judge_quiet.new.found.items (g.W.Write.contents c.args.to.now) (g.W.Write.contents c.loop-number.to) (g.W.Write.contents c.judge_quiet.new.to) before.written c.in_ok-judge_quiet.ensures.told;
+      unreached = unreached_all c.loop.watch g.P.Progress.looked c.args.progress.now c.loop.progress c.judge_quiet.new.progress c.take_line.new.progress c.args.options.now.budget
+          c.loop.found.items c.judge_quiet.new.found.items before.looked c.in_ok-judge_quiet.ensures.looked c.in_ok-take_line.ensures.looked before.told.0 before.told.1 c.in_ok-judge_quiet.ensures.unreached before.unreached;
+      written = told_more c.loop.found.items c.judge_quiet.new.found.items (g.W.Write.contents c.args.to.now) (g.W.Write.contents c.loop.to) (g.W.Write.contents c.judge_quiet.new.to) before.written c.in_ok-judge_quiet.ensures.told;
       first = first;
       looked = some_after g.P.Progress.looked c.args.progress.now c.judge_quiet.new.progress c.take_line.new.progress some c.in_ok-take_line.ensures.looked;
-      kept = line_kept (g.R.Read.remaining c.args.from.now) (g.R.Read.remaining c.loop-number.from) (g.R.Read.remaining c.next_event.new.from) c.loop-number.kept c.take_line.new.kept c.next_event.new.line.items c.loop-number.number
-          c.in-Some.event before.kept
-          (subst (λ (l : List ℕ). KeepsLine c.loop-number.kept l c.take_line.new.kept) c.deref-in-loop-number.ensures.value c.in_ok-take_line.ensures.kept) line_read read;
-      keeps = keeps_still c.loop-number.kept c.take_line.new.kept _ c.in_ok-take_line.ensures.kept ∙ before.keeps;
+      kept = lines_kept_more (g.R.Read.remaining c.args.from.now) (g.R.Read.remaining c.loop.from) (g.R.Read.remaining c.next_event.new.from) c.loop.kept c.take_line.new.kept c.next_event.new.self.lines.items before.kept
+          (subst (λ (l : List ℕ). KeepsLine c.loop.kept l c.take_line.new.kept) c.deref-in-loop.ensures.value c.in_ok-take_line.ensures.kept) begins;
+      keeps = keeps_still c.loop.kept c.take_line.new.kept _ c.in_ok-take_line.ensures.kept ∙ before.keeps;
+      format = c.next_event.ensures.format ∙ before.format;
     }
 
 pub returns-then-stops-clause-watched : goal.returns-then-stops-clause-watched
 returns-then-stops-clause-watched g c =
-    let before = c.loop-number.invariant in
+    let before = c.loop.invariant in
     let settled_now =
-    settled (g.R.Read.remaining c.args.from.now) (g.R.Read.remaining c.loop-number.from) (g.R.Read.remaining c.next_event.new.from) (c.loop-number.number - 1) c.loop-number.number c.loop-number.time c.loop-number.is_ended c.loop-number.found.items
-    c.judge_quiet.new.found.items c.loop-number.quiet.items c.judge_quiet.new.quiet.items c.loop-number.watch c.in_ok-next.next c.is_past-is_past.result before.taken (omega arith) c.in_ok-next.ensures.told c.is_past-is_past.ensures.past
+    settled (g.R.Read.remaining c.args.from.now) (g.R.Read.remaining c.loop.from) (g.R.Read.remaining c.next_event.new.from) c.loop.time c.loop.is_ended c.loop.found.items
+    c.judge_quiet.new.found.items c.loop.quiet.items c.judge_quiet.new.quiet.items c.loop.watch c.loop.reading c.next_event.new.self c.in_ok-next.next c.is_past-is_past.result before.taken (c.in_ok-next.ensures.gives (g.R.Read.remaining c.args.from.now)) c.next_event.ensures.format c.is_past-is_past.ensures.past
     c.in_ok-judge_quiet.ensures.waits c.in_ok-judge_quiet.ensures.cleared c.in_ok-judge_quiet.ensures.each in
-    at_stop (g.R.Read.remaining c.args.from.now) (g.R.Read.remaining c.loop-number.from) (g.R.Read.remaining c.next_event.new.from) (c.loop-number.number - 1) c.loop-number.number c.loop-number.time c.loop-number.is_ended c.judge_quiet.new.found.items c.judge_quiet.new.quiet.items
-    c.args.options.now.keep_going c.is_past-is_past.result c.loop-number.watch c.in_ok-next.next c.loop-number.kept c.stopped.result settled_now (omega arith) c.in_ok-next.ensures.told c.is_past-is_past.ensures.past (c.in_ok-judge_quiet.ensures.once before.once)
-    ((rw c.deref.ensures.value at c.stops.ensures.stops) c.if-stops.true) c.stopped.ensures.told c.stopped.ensures.ending before.kept
+    let start = g.R.Read.remaining c.args.from.now in
+    subst (λ (k : LineFormat). IfSome start (λ text. IsWatched k text c.args.options.now.keep_going c.stopped.result)) before.format
+    (at_stop start (g.R.Read.remaining c.loop.from) (g.R.Read.remaining c.next_event.new.from) c.loop.time c.loop.is_ended c.judge_quiet.new.found.items c.judge_quiet.new.quiet.items
+    c.args.options.now.keep_going c.is_past-is_past.result c.loop.watch c.loop.reading c.next_event.new.self c.in_ok-next.next c.loop.kept c.stopped.result settled_now (c.in_ok-next.ensures.gives start) c.next_event.ensures.format
+    c.is_past-is_past.ensures.past (λ is. none_pending c.loop.reading c.is_whole-is_whole.result c.is_whole-is_whole.ensures (c.is_past-is_past.ensures.whole is)) (c.in_ok-judge_quiet.ensures.once before.once)
+    ((rw c.deref.ensures.value at c.stops.ensures.stops) c.if-stops.true) c.stopped.ensures.told c.stopped.ensures.ending before.kept)
 
 pub returns-in_default-clause-watched : goal.returns-in_default-clause-watched
 returns-in_default-clause-watched g c =
-    let before = c.loop-number.invariant in
+    let before = c.loop.invariant in
     let settled_now =
-    settled (g.R.Read.remaining c.args.from.now) (g.R.Read.remaining c.loop-number.from) (g.R.Read.remaining c.next_event.new.from) (c.loop-number.number - 1) c.loop-number.number c.loop-number.time c.loop-number.is_ended c.loop-number.found.items
-    c.judge_quiet.new.found.items c.loop-number.quiet.items c.judge_quiet.new.quiet.items c.loop-number.watch c.in_ok-next.next c.is_past-is_past.result before.taken (omega arith) c.in_ok-next.ensures.told c.is_past-is_past.ensures.past
+    settled (g.R.Read.remaining c.args.from.now) (g.R.Read.remaining c.loop.from) (g.R.Read.remaining c.next_event.new.from) c.loop.time c.loop.is_ended c.loop.found.items
+    c.judge_quiet.new.found.items c.loop.quiet.items c.judge_quiet.new.quiet.items c.loop.watch c.loop.reading c.next_event.new.self c.in_ok-next.next c.is_past-is_past.result before.taken (c.in_ok-next.ensures.gives (g.R.Read.remaining c.args.from.now)) c.next_event.ensures.format c.is_past-is_past.ensures.past
     c.in_ok-judge_quiet.ensures.waits c.in_ok-judge_quiet.ensures.cleared c.in_ok-judge_quiet.ensures.each in
-    let first = none_found c.is_past-is_past.result c.stops.result c.args.options.now.keep_going c.loop-number.found.items c.judge_quiet.new.found.items before.first
+    let first = none_found c.is_past-is_past.result c.stops.result c.args.options.now.keep_going c.loop.found.items c.judge_quiet.new.found.items before.first
     (λ waits. (c.in_ok-judge_quiet.ensures.waits waits).0) c.if-stops.false (rw c.deref.ensures.value at c.stops.ensures.goes_on) in
-    let read = subst (λ (o : Option Event). IfSome (g.R.Read.remaining c.loop-number.from) (λ text. IsRead c.loop-number.number text o (g.R.Read.remaining c.next_event.new.from))) c.in_default.is c.in_ok-next.ensures.told in
+    let gives = subst (λ (o : Option Event). GivesNext (g.R.Read.remaining c.args.from.now) c.loop.reading (g.R.Read.remaining c.loop.from) o c.next_event.new.self (g.R.Read.remaining c.next_event.new.from)) c.in_default.is (c.in_ok-next.ensures.gives (g.R.Read.remaining c.args.from.now)) in
     let ended = c.in_ok-ended.ensures in
-    at_end (g.R.Read.remaining c.args.from.now) (g.R.Read.remaining c.loop-number.from) (g.R.Read.remaining c.next_event.new.from) (c.loop-number.number - 1) c.loop-number.number c.loop-number.time c.loop-number.is_ended c.judge_quiet.new.found.items c.judge_quiet.new.quiet.items
-    c.args.options.now.keep_going c.loop-number.watch c.loop-number.kept c.in_ok-ended.field-0 settled_now read (c.in_ok-judge_quiet.ensures.once before.once) first ended.told ended.ending ended.says before.kept
+    let start = g.R.Read.remaining c.args.from.now in
+    subst (λ (k : LineFormat). IfSome start (λ text. IsWatched k text c.args.options.now.keep_going c.in_ok-ended.field-0)) before.format
+    (at_end start (g.R.Read.remaining c.loop.from) (g.R.Read.remaining c.next_event.new.from) c.loop.time c.loop.is_ended c.judge_quiet.new.found.items c.judge_quiet.new.quiet.items
+    c.args.options.now.keep_going c.loop.watch c.loop.reading c.next_event.new.self c.loop.kept c.in_ok-ended.field-0 settled_now gives (c.in_ok-next.ensures.whole c.in_default.is) (c.in_ok-judge_quiet.ensures.once before.once) first
+    ended.told ended.ending ended.says before.kept)
 
 pub returns-in_default-clause-undecided : goal.returns-in_default-clause-undecided
 returns-in_default-clause-undecided g c =
-    let some = some_after g.P.Progress.looked c.args.progress.now c.loop-number.progress c.judge_quiet.new.progress c.loop-number.invariant.looked c.in_ok-judge_quiet.ensures.looked in
+    let some = some_after g.P.Progress.looked c.args.progress.now c.loop.progress c.judge_quiet.new.progress c.loop.invariant.looked c.in_ok-judge_quiet.ensures.looked in
     undecided_after g.P.Progress.looked c.args.progress.now c.judge_quiet.new.progress c.ended.new.progress c.args.options.now.budget c.in_ok-ended.field-0 some c.in_ok-ended.ensures.undecided
 
 pub returns-in_default-clause-far : goal.returns-in_default-clause-far
 returns-in_default-clause-far g c =
-    let before = c.loop-number.invariant in
+    let before = c.loop.invariant in
     let settled_now =
-    settled (g.R.Read.remaining c.args.from.now) (g.R.Read.remaining c.loop-number.from) (g.R.Read.remaining c.next_event.new.from) (c.loop-number.number - 1) c.loop-number.number c.loop-number.time c.loop-number.is_ended c.loop-number.found.items
-    c.judge_quiet.new.found.items c.loop-number.quiet.items c.judge_quiet.new.quiet.items c.loop-number.watch c.in_ok-next.next c.is_past-is_past.result before.taken (omega arith) c.in_ok-next.ensures.told c.is_past-is_past.ensures.past
+    settled (g.R.Read.remaining c.args.from.now) (g.R.Read.remaining c.loop.from) (g.R.Read.remaining c.next_event.new.from) c.loop.time c.loop.is_ended c.loop.found.items
+    c.judge_quiet.new.found.items c.loop.quiet.items c.judge_quiet.new.quiet.items c.loop.watch c.loop.reading c.next_event.new.self c.in_ok-next.next c.is_past-is_past.result before.taken (c.in_ok-next.ensures.gives (g.R.Read.remaining c.args.from.now)) c.next_event.ensures.format c.is_past-is_past.ensures.past
     c.in_ok-judge_quiet.ensures.waits c.in_ok-judge_quiet.ensures.cleared c.in_ok-judge_quiet.ensures.each in
-    let read = subst (λ (o : Option Event). IfSome (g.R.Read.remaining c.loop-number.from) (λ text. IsRead c.loop-number.number text o (g.R.Read.remaining c.next_event.new.from))) c.in_default.is c.in_ok-next.ensures.told in
-    let some = some_after g.P.Progress.looked c.args.progress.now c.loop-number.progress c.judge_quiet.new.progress before.looked c.in_ok-judge_quiet.ensures.looked in
-    far_at_end g.P.Progress.looked c.args.progress.now c.judge_quiet.new.progress c.ended.new.progress c.args.options.now.budget some
-    (g.R.Read.remaining c.args.from.now) (g.R.Read.remaining c.loop-number.from) (g.R.Read.remaining c.next_event.new.from) (c.loop-number.number - 1) c.loop-number.number c.loop-number.time c.loop-number.is_ended
-    c.judge_quiet.new.found.items c.judge_quiet.new.quiet.items c.loop-number.watch c.in_ok-ended.field-0.ending settled_now read c.in_ok-ended.ensures.far
+    let gives = subst (λ (o : Option Event). GivesNext (g.R.Read.remaining c.args.from.now) c.loop.reading (g.R.Read.remaining c.loop.from) o c.next_event.new.self (g.R.Read.remaining c.next_event.new.from)) c.in_default.is (c.in_ok-next.ensures.gives (g.R.Read.remaining c.args.from.now)) in
+    let some = some_after g.P.Progress.looked c.args.progress.now c.loop.progress c.judge_quiet.new.progress before.looked c.in_ok-judge_quiet.ensures.looked in
+    let start = g.R.Read.remaining c.args.from.now in
+    let budget = c.args.options.now.budget in
+    let ending = c.in_ok-ended.field-0.ending in
+    subst (λ (k : LineFormat). IfSome start (λ text. IfSome ending (λ e. AreAsFar g.P.Progress.looked c.args.progress.now c.ended.new.progress budget k text e.undecided.items))) before.format
+    (far_at_end g.P.Progress.looked c.args.progress.now c.judge_quiet.new.progress c.ended.new.progress budget some
+    start (g.R.Read.remaining c.loop.from) (g.R.Read.remaining c.next_event.new.from) c.loop.time c.loop.is_ended
+    c.judge_quiet.new.found.items c.judge_quiet.new.quiet.items c.loop.watch c.loop.reading c.next_event.new.self ending settled_now gives c.in_ok-ended.ensures.far)
 
 pub returns-in_default-clause-unreached : goal.returns-in_default-clause-unreached
 returns-in_default-clause-unreached g c =
     let looked = g.P.Progress.looked in
     let old = c.args.progress.now in
-    let middle = c.loop-number.progress in
+    let middle = c.loop.progress in
     let new = c.judge_quiet.new.progress in
     let last = c.ended.new.progress in
     let budget = c.args.options.now.budget in
-    let w = c.loop-number.watch in
-    let before = c.loop-number.invariant in
+    let w = c.loop.watch in
+    let before = c.loop.invariant in
     let some = some_after looked old middle new before.looked c.in_ok-judge_quiet.ensures.looked in
     reached_by_found looked old last budget c.judge_quiet.new.found.items c.in_ok-ended.field-0 c.in_ok-ended.ensures.told.found_is
-    (unreached_all w looked old middle new last budget c.loop-number.found.items c.judge_quiet.new.found.items before.looked c.in_ok-judge_quiet.ensures.looked c.in_ok-ended.ensures.looked before.told.0 before.told.1
+    (unreached_all w looked old middle new last budget c.loop.found.items c.judge_quiet.new.found.items before.looked c.in_ok-judge_quiet.ensures.looked c.in_ok-ended.ensures.looked before.told.0 before.told.1
     c.in_ok-judge_quiet.ensures.unreached before.unreached)
     (unreached_at_end looked old new last budget w some before.told.0 before.told.1 c.in_ok-ended.field-0.ending c.in_ok-ended.ensures.unreached)
 
@@ -138,87 +155,116 @@ pub returns-then-stops-clause-unreached : goal.returns-then-stops-clause-unreach
 returns-then-stops-clause-unreached g c =
     let looked = g.P.Progress.looked in
     let old = c.args.progress.now in
-    let middle = c.loop-number.progress in
+    let middle = c.loop.progress in
     let new = c.judge_quiet.new.progress in
     let budget = c.args.options.now.budget in
-    let before = c.loop-number.invariant in
+    let before = c.loop.invariant in
     reached_by_found looked old new budget c.judge_quiet.new.found.items c.stopped.result c.stopped.ensures.told.found_is
-    (unreached_all c.loop-number.watch looked old middle new new budget c.loop-number.found.items c.judge_quiet.new.found.items before.looked c.in_ok-judge_quiet.ensures.looked (looked_none looked new) before.told.0
+    (unreached_all c.loop.watch looked old middle new new budget c.loop.found.items c.judge_quiet.new.found.items before.looked c.in_ok-judge_quiet.ensures.looked (looked_none looked new) before.told.0
     before.told.1 c.in_ok-judge_quiet.ensures.unreached before.unreached)
     (subst (λ (o : Option Ending). IfSome o (λ ending. All (λ (f : FoundAtEnd). IsUnreached looked old new budget f.reach) ending.unexplained.items)) (sym c.stopped.ensures.ending) tt)
 
 pub returns-in_err-take_line-clause-fault : goal.returns-in_err-take_line-clause-fault
 returns-in_err-take_line-clause-fault g c =
-    let before = c.loop-number.invariant in
+    let before = c.loop.invariant in
     let settled_now =
-    settled (g.R.Read.remaining c.args.from.now) (g.R.Read.remaining c.loop-number.from) (g.R.Read.remaining c.next_event.new.from) (c.loop-number.number - 1) c.loop-number.number c.loop-number.time c.loop-number.is_ended c.loop-number.found.items
-    c.judge_quiet.new.found.items c.loop-number.quiet.items c.judge_quiet.new.quiet.items c.loop-number.watch c.in_ok-next.next c.is_past-is_past.result before.taken (omega arith) c.in_ok-next.ensures.told c.is_past-is_past.ensures.past
+    settled (g.R.Read.remaining c.args.from.now) (g.R.Read.remaining c.loop.from) (g.R.Read.remaining c.next_event.new.from) c.loop.time c.loop.is_ended c.loop.found.items
+    c.judge_quiet.new.found.items c.loop.quiet.items c.judge_quiet.new.quiet.items c.loop.watch c.loop.reading c.next_event.new.self c.in_ok-next.next c.is_past-is_past.result before.taken (c.in_ok-next.ensures.gives (g.R.Read.remaining c.args.from.now)) c.next_event.ensures.format c.is_past-is_past.ensures.past
     c.in_ok-judge_quiet.ensures.waits c.in_ok-judge_quiet.ensures.cleared c.in_ok-judge_quiet.ensures.each in
-    let read = subst (λ (o : Option Event). IfSome (g.R.Read.remaining c.loop-number.from) (λ text. IsRead c.loop-number.number text o (g.R.Read.remaining c.next_event.new.from))) c.in-Some.is c.in_ok-next.ensures.told in
-    passed_on c.from_residual-in_err-take_line.result c.in_err-take_line.field-0.0 (λ (r : Result Watched LinesFault). IfSome (g.R.Read.remaining c.args.from.now) (λ text. IfErr r (IsWatchingFault text))) c.from_residual-in_err-take_line.ensures.1
-    (but_write (g.R.Read.remaining c.args.from.now) c.in_err-take_line.field-0.0 (where_not_taken (g.R.Read.remaining c.args.from.now) (g.R.Read.remaining c.loop-number.from) (g.R.Read.remaining c.next_event.new.from) (c.loop-number.number - 1) c.loop-number.number c.loop-number.watch c.in-Some.event c.in_err-take_line.field-0.0
-    (took (g.R.Read.remaining c.args.from.now) (g.R.Read.remaining c.loop-number.from) (c.loop-number.number - 1) c.loop-number.time c.loop-number.is_ended c.judge_quiet.new.found.items c.judge_quiet.new.quiet.items c.loop-number.watch settled_now)
-    (omega arith) read c.in_err-take_line.ensures.fault))
+    let gives = subst (λ (o : Option Event). GivesNext (g.R.Read.remaining c.args.from.now) c.loop.reading (g.R.Read.remaining c.loop.from) o c.next_event.new.self (g.R.Read.remaining c.next_event.new.from)) c.in-Some.is (c.in_ok-next.ensures.gives (g.R.Read.remaining c.args.from.now)) in
+    let start = g.R.Read.remaining c.args.from.now in
+    let now = g.R.Read.remaining c.loop.from in
+    let f = c.in_err-take_line.field-0.0 in
+    let took_now = took start now c.loop.time c.loop.is_ended c.judge_quiet.new.found.items c.judge_quiet.new.quiet.items c.loop.watch c.loop.reading settled_now in
+    passed_on c.from_residual-in_err-take_line.result f (λ (r : Result Watched LinesFault). IfSome start (λ text. IfErr r (IsWatchingFault c.args.options.now.format text))) c.from_residual-in_err-take_line.ensures.1
+    (but_write c.args.options.now.format start f (subst (λ (k : LineFormat). IfSome start (λ text. IsLinesFault k text f)) (c.next_event.ensures.format ∙ before.format)
+    (where_not_taken start now (g.R.Read.remaining c.next_event.new.from) c.loop.watch c.loop.reading c.next_event.new.self c.in-Some.event f took_now gives c.in_err-take_line.ensures.fault)))
 
 pub returns-in_err-judge_quiet-clause-found : goal.returns-in_err-judge_quiet-clause-found
 returns-in_err-judge_quiet-clause-found g c =
-    kept_at_fault (g.R.Read.remaining c.args.from.now) (λ text. All (IsFoundBy text) c.judge_quiet.new.found.items) _
-    (found_so_far (g.R.Read.remaining c.args.from.now) (g.R.Read.remaining c.loop-number.from) (g.R.Read.remaining c.next_event.new.from) (c.loop-number.number - 1) c.loop-number.number c.loop-number.time c.loop-number.is_ended c.loop-number.found.items
-    c.judge_quiet.new.found.items c.loop-number.quiet.items c.loop-number.watch c.in_ok-next.next c.is_past-is_past.result c.loop-number.invariant.taken (omega arith) c.in_ok-next.ensures.told c.is_past-is_past.ensures.past
-    (λ wait. (c.judge_quiet.ensures.waits wait).0) c.judge_quiet.ensures.each)
+    kept_at_fault (g.R.Read.remaining c.args.from.now) (λ text. All (IsFoundBy c.args.options.now.format text) c.judge_quiet.new.found.items) _
+    (subst (λ (k : LineFormat). IfSome (g.R.Read.remaining c.args.from.now) (λ text. All (IsFoundBy k text) c.judge_quiet.new.found.items)) c.loop.invariant.format
+    (found_so_far (g.R.Read.remaining c.args.from.now) (g.R.Read.remaining c.loop.from) (g.R.Read.remaining c.next_event.new.from) c.loop.time c.loop.is_ended c.loop.found.items
+    c.judge_quiet.new.found.items c.loop.quiet.items c.loop.watch c.loop.reading c.next_event.new.self c.in_ok-next.next c.is_past-is_past.result c.loop.invariant.taken (c.in_ok-next.ensures.gives (g.R.Read.remaining c.args.from.now)) c.next_event.ensures.format c.is_past-is_past.ensures.past
+    (λ wait. (c.judge_quiet.ensures.waits wait).0) c.judge_quiet.ensures.each))
 
 pub returns-in_err-ended-clause-found : goal.returns-in_err-ended-clause-found
 returns-in_err-ended-clause-found g c =
-    kept_at_fault (g.R.Read.remaining c.args.from.now) (λ text. All (IsFoundBy text) c.ended.new.found.items) _
-    (subst (λ (l : List FoundGranule). IfSome (g.R.Read.remaining c.args.from.now) (λ text. All (IsFoundBy text) l)) (sym c.in_err-ended.ensures.kept)
-    (found_so_far (g.R.Read.remaining c.args.from.now) (g.R.Read.remaining c.loop-number.from) (g.R.Read.remaining c.next_event.new.from) (c.loop-number.number - 1) c.loop-number.number c.loop-number.time c.loop-number.is_ended c.loop-number.found.items
-    c.judge_quiet.new.found.items c.loop-number.quiet.items c.loop-number.watch c.in_ok-next.next c.is_past-is_past.result c.loop-number.invariant.taken (omega arith) c.in_ok-next.ensures.told c.is_past-is_past.ensures.past
-    (λ wait. (c.in_ok-judge_quiet.ensures.waits wait).0) c.in_ok-judge_quiet.ensures.each))
+    kept_at_fault (g.R.Read.remaining c.args.from.now) (λ text. All (IsFoundBy c.args.options.now.format text) c.ended.new.found.items) _
+    (subst (λ (l : List FoundGranule). IfSome (g.R.Read.remaining c.args.from.now) (λ text. All (IsFoundBy c.args.options.now.format text) l)) (sym c.in_err-ended.ensures.kept)
+    (subst (λ (k : LineFormat). IfSome (g.R.Read.remaining c.args.from.now) (λ text. All (IsFoundBy k text) c.judge_quiet.new.found.items)) c.loop.invariant.format
+    (found_so_far (g.R.Read.remaining c.args.from.now) (g.R.Read.remaining c.loop.from) (g.R.Read.remaining c.next_event.new.from) c.loop.time c.loop.is_ended c.loop.found.items
+    c.judge_quiet.new.found.items c.loop.quiet.items c.loop.watch c.loop.reading c.next_event.new.self c.in_ok-next.next c.is_past-is_past.result c.loop.invariant.taken (c.in_ok-next.ensures.gives (g.R.Read.remaining c.args.from.now)) c.next_event.ensures.format c.is_past-is_past.ensures.past
+    (λ wait. (c.in_ok-judge_quiet.ensures.waits wait).0) c.in_ok-judge_quiet.ensures.each)))
 
 pub returns-in_err-take_line-clause-found : goal.returns-in_err-take_line-clause-found
 returns-in_err-take_line-clause-found g c =
-    kept_at_fault (g.R.Read.remaining c.args.from.now) (λ text. All (IsFoundBy text) c.judge_quiet.new.found.items) _
-    (found_so_far (g.R.Read.remaining c.args.from.now) (g.R.Read.remaining c.loop-number.from) (g.R.Read.remaining c.next_event.new.from) (c.loop-number.number - 1) c.loop-number.number c.loop-number.time c.loop-number.is_ended c.loop-number.found.items
-    c.judge_quiet.new.found.items c.loop-number.quiet.items c.loop-number.watch c.in_ok-next.next c.is_past-is_past.result c.loop-number.invariant.taken (omega arith) c.in_ok-next.ensures.told c.is_past-is_past.ensures.past
-    (λ wait. (c.in_ok-judge_quiet.ensures.waits wait).0) c.in_ok-judge_quiet.ensures.each)
+    kept_at_fault (g.R.Read.remaining c.args.from.now) (λ text. All (IsFoundBy c.args.options.now.format text) c.judge_quiet.new.found.items) _
+    (subst (λ (k : LineFormat). IfSome (g.R.Read.remaining c.args.from.now) (λ text. All (IsFoundBy k text) c.judge_quiet.new.found.items)) c.loop.invariant.format
+    (found_so_far (g.R.Read.remaining c.args.from.now) (g.R.Read.remaining c.loop.from) (g.R.Read.remaining c.next_event.new.from) c.loop.time c.loop.is_ended c.loop.found.items
+    c.judge_quiet.new.found.items c.loop.quiet.items c.loop.watch c.loop.reading c.next_event.new.self c.in_ok-next.next c.is_past-is_past.result c.loop.invariant.taken (c.in_ok-next.ensures.gives (g.R.Read.remaining c.args.from.now)) c.next_event.ensures.format c.is_past-is_past.ensures.past
+    (λ wait. (c.in_ok-judge_quiet.ensures.waits wait).0) c.in_ok-judge_quiet.ensures.each))
 
 pub returns-in_err-next-clause-begun : goal.returns-in_err-next-clause-begun
 returns-in_err-next-clause-begun g c =
-    at_fault c.from_residual.result (AppendsFront (g.W.Write.contents c.args.to.now) (g.W.Write.contents c.loop-number.to) (flat_map found_text c.loop-number.found.items))
-    (whole_front (g.W.Write.contents c.args.to.now) (g.W.Write.contents c.loop-number.to) (flat_map found_text c.loop-number.found.items) c.loop-number.invariant.written)
+    at_fault c.from_residual.result (AppendsFront (g.W.Write.contents c.args.to.now) (g.W.Write.contents c.loop.to) (flat_map found_text c.loop.found.items))
+    (whole_front (g.W.Write.contents c.args.to.now) (g.W.Write.contents c.loop.to) (flat_map found_text c.loop.found.items) c.loop.invariant.written)
 
 pub returns-in_err-judge_quiet-clause-fault : goal.returns-in_err-judge_quiet-clause-fault
 returns-in_err-judge_quiet-clause-fault g c =
-    passed_on c.from_residual-in_err-judge_quiet.result c.in_err-judge_quiet.field-0.0 (λ (r : Result Watched LinesFault). IfSome (g.R.Read.remaining c.args.from.now) (λ text. IfErr r (IsWatchingFault text)))
-    c.from_residual-in_err-judge_quiet.ensures.1 (held_up (g.R.Read.remaining c.args.from.now) c.in_err-judge_quiet.field-0.0 c.in_err-judge_quiet.ensures.fault)
+    passed_on c.from_residual-in_err-judge_quiet.result c.in_err-judge_quiet.field-0.0 (λ (r : Result Watched LinesFault). IfSome (g.R.Read.remaining c.args.from.now) (λ text. IfErr r (IsWatchingFault c.args.options.now.format text)))
+    c.from_residual-in_err-judge_quiet.ensures.1 (held_up c.args.options.now.format (g.R.Read.remaining c.args.from.now) c.in_err-judge_quiet.field-0.0 c.in_err-judge_quiet.ensures.fault)
 
 pub returns-in_err-judge_quiet-clause-kept : goal.returns-in_err-judge_quiet-clause-kept
 returns-in_err-judge_quiet-clause-kept g c =
     passed_on c.from_residual-in_err-judge_quiet.result c.in_err-judge_quiet.field-0.0 (λ (r : Result Watched LinesFault). IfErr r (λ x. (x ≡ fault.Write → ⊥) → Appends (g.W.Write.contents c.args.to.now) (g.W.Write.contents c.judge_quiet.new.to) (flat_map found_text c.judge_quiet.new.found.items)))
-    c.from_residual-in_err-judge_quiet.ensures.1 (λ not. told_more c.loop-number.found.items c.judge_quiet.new.found.items (g.W.Write.contents c.args.to.now) (g.W.Write.contents c.loop-number.to) (g.W.Write.contents c.judge_quiet.new.to) c.loop-number.invariant.written (c.in_err-judge_quiet.ensures.kept not))
+    c.from_residual-in_err-judge_quiet.ensures.1 (λ not. told_more c.loop.found.items c.judge_quiet.new.found.items (g.W.Write.contents c.args.to.now) (g.W.Write.contents c.loop.to) (g.W.Write.contents c.judge_quiet.new.to) c.loop.invariant.written (c.in_err-judge_quiet.ensures.kept not))
 
 pub returns-in_err-judge_quiet-clause-begun : goal.returns-in_err-judge_quiet-clause-begun
 returns-in_err-judge_quiet-clause-begun g c =
     at_fault c.from_residual-in_err-judge_quiet.result (AppendsFront (g.W.Write.contents c.args.to.now) (g.W.Write.contents c.judge_quiet.new.to) (flat_map found_text c.judge_quiet.new.found.items))
-    (begun_more c.loop-number.found.items c.judge_quiet.new.found.items (g.W.Write.contents c.args.to.now) (g.W.Write.contents c.loop-number.to) (g.W.Write.contents c.judge_quiet.new.to) c.loop-number.invariant.written c.judge_quiet.ensures.begun)
+    (begun_more c.loop.found.items c.judge_quiet.new.found.items (g.W.Write.contents c.args.to.now) (g.W.Write.contents c.loop.to) (g.W.Write.contents c.judge_quiet.new.to) c.loop.invariant.written c.judge_quiet.ensures.begun)
 
 pub returns-in_err-ended-clause-begun : goal.returns-in_err-ended-clause-begun
 returns-in_err-ended-clause-begun g c =
     at_fault c.from_residual-in_err-ended.result (AppendsFront (g.W.Write.contents c.args.to.now) (g.W.Write.contents c.judge_quiet.new.to) (flat_map found_text c.ended.new.found.items))
     (subst (λ (l : List FoundGranule). AppendsFront (g.W.Write.contents c.args.to.now) (g.W.Write.contents c.judge_quiet.new.to) (flat_map found_text l)) (sym c.in_err-ended.ensures.kept)
-    (begun_more c.loop-number.found.items c.judge_quiet.new.found.items (g.W.Write.contents c.args.to.now) (g.W.Write.contents c.loop-number.to) (g.W.Write.contents c.judge_quiet.new.to) c.loop-number.invariant.written c.judge_quiet.ensures.begun))
+    (begun_more c.loop.found.items c.judge_quiet.new.found.items (g.W.Write.contents c.args.to.now) (g.W.Write.contents c.loop.to) (g.W.Write.contents c.judge_quiet.new.to) c.loop.invariant.written c.judge_quiet.ensures.begun))
 
 pub returns-in_default-clause-told : goal.returns-in_default-clause-told
 returns-in_default-clause-told g c =
     subst (λ (l : List FoundGranule). Appends (g.W.Write.contents c.args.to.now) (g.W.Write.contents c.judge_quiet.new.to) (flat_map found_text l)) (sym c.in_ok-ended.ensures.told.found_is)
-    (told_more c.loop-number.found.items c.judge_quiet.new.found.items (g.W.Write.contents c.args.to.now) (g.W.Write.contents c.loop-number.to) (g.W.Write.contents c.judge_quiet.new.to) c.loop-number.invariant.written c.in_ok-judge_quiet.ensures.told)
+    (told_more c.loop.found.items c.judge_quiet.new.found.items (g.W.Write.contents c.args.to.now) (g.W.Write.contents c.loop.to) (g.W.Write.contents c.judge_quiet.new.to) c.loop.invariant.written c.in_ok-judge_quiet.ensures.told)
 
 pub returns-in_err-take_line-clause-kept : goal.returns-in_err-take_line-clause-kept
 returns-in_err-take_line-clause-kept g c =
     but_at_fault c.from_residual-in_err-take_line.result (λ x. x ≡ fault.Write → ⊥) (Appends (g.W.Write.contents c.args.to.now) (g.W.Write.contents c.judge_quiet.new.to) (flat_map found_text c.judge_quiet.new.found.items))
-    (told_more c.loop-number.found.items c.judge_quiet.new.found.items (g.W.Write.contents c.args.to.now) (g.W.Write.contents c.loop-number.to) (g.W.Write.contents c.judge_quiet.new.to) c.loop-number.invariant.written c.in_ok-judge_quiet.ensures.told)
+    (told_more c.loop.found.items c.judge_quiet.new.found.items (g.W.Write.contents c.args.to.now) (g.W.Write.contents c.loop.to) (g.W.Write.contents c.judge_quiet.new.to) c.loop.invariant.written c.in_ok-judge_quiet.ensures.told)
 
 pub returns-in_err-take_line-clause-begun : goal.returns-in_err-take_line-clause-begun
 returns-in_err-take_line-clause-begun g c =
     at_fault c.from_residual-in_err-take_line.result (AppendsFront (g.W.Write.contents c.args.to.now) (g.W.Write.contents c.judge_quiet.new.to) (flat_map found_text c.judge_quiet.new.found.items))
-    (begun_more c.loop-number.found.items c.judge_quiet.new.found.items (g.W.Write.contents c.args.to.now) (g.W.Write.contents c.loop-number.to) (g.W.Write.contents c.judge_quiet.new.to) c.loop-number.invariant.written c.judge_quiet.ensures.begun)
+    (begun_more c.loop.found.items c.judge_quiet.new.found.items (g.W.Write.contents c.args.to.now) (g.W.Write.contents c.loop.to) (g.W.Write.contents c.judge_quiet.new.to) c.loop.invariant.written c.judge_quiet.ensures.begun)
+
+pub returns-in_err-next-clause-found : goal.returns-in_err-next-clause-found
+returns-in_err-next-clause-found g c =
+    let start = g.R.Read.remaining c.args.from.now in
+    let before = c.loop.invariant in
+    kept_at_fault start (λ text. All (IsFoundBy c.args.options.now.format text) c.loop.found.items) _
+    (subst (λ (k : LineFormat). IfSome start (λ text. All (IsFoundBy k text) c.loop.found.items)) before.format
+    (found_of start (g.R.Read.remaining c.loop.from) c.loop.time c.loop.is_ended c.loop.found.items c.loop.quiet.items c.loop.watch c.loop.reading before.taken))
+
+pub returns-clause-found : goal.returns-clause-found
+returns-clause-found g c =
+    let start = g.R.Read.remaining c.args.from.now in
+    let before = c.loop.invariant in
+    let ended : Result Watched LinesFault = Err fault.TooManyLines in
+    kept_at_fault start (λ text. All (IsFoundBy c.args.options.now.format text) c.loop.found.items) ended
+    (subst (λ (k : LineFormat). IfSome start (λ text. All (IsFoundBy k text) c.loop.found.items)) before.format
+    (found_of start (g.R.Read.remaining c.loop.from) c.loop.time c.loop.is_ended c.loop.found.items c.loop.quiet.items c.loop.watch c.loop.reading before.taken))
+
+pub returns-in_err-ended-clause-kept : goal.returns-in_err-ended-clause-kept
+returns-in_err-ended-clause-kept g c =
+    but_at_fault c.from_residual-in_err-ended.result (λ x. x ≡ fault.Write → ⊥) (Appends (g.W.Write.contents c.args.to.now) (g.W.Write.contents c.judge_quiet.new.to) (flat_map found_text c.ended.new.found.items))
+    (subst (λ (l : List FoundGranule). Appends (g.W.Write.contents c.args.to.now) (g.W.Write.contents c.judge_quiet.new.to) (flat_map found_text l)) (sym c.in_err-ended.ensures.kept)
+    (told_more c.loop.found.items c.judge_quiet.new.found.items (g.W.Write.contents c.args.to.now) (g.W.Write.contents c.loop.to) (g.W.Write.contents c.judge_quiet.new.to) c.loop.invariant.written c.in_ok-judge_quiet.ensures.told))

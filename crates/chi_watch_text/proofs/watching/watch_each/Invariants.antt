@@ -1,6 +1,6 @@
--- the lines before this one were taken, and what is found is found once, and not at all where it does not keep going; how far it can be
+-- the events that were given were taken, and what is found is found once, and not at all where it does not keep going; how far it can be
 -- explained is known, or so many states were looked at; the lines are kept where they are to be
-use Rattle.std.proofs.Common.{◌≡◌, ◌≢◌, ◌-◌, List, [], All, false, flat_map, is_some}
+use Rattle.std.proofs.Common.{◌≡◌, ◌≢◌, List, [], All, false, flat_map, is_some}
 use Rattle.std.specs.List.{AllPairs}
 use Rattle.std.specs.Io.KnownBytes.{Appends}
 use Rattle.chi_events.specs.declared.event.Event.{Event}
@@ -12,9 +12,9 @@ use Rattle.chi_watch_text.specs.Texts.{found_text}
 use Rattle.chi_watch_text.specs.declared.watched.FoundGranule.{FoundGranule}
 use Rattle.chi_watch_text.proofs.watching.watch_each.Given as goal
 
-abbrev pub invariant-loop-number : goal.invariant-loop-number
-invariant-loop-number g l = record {
-  taken : HasTakenLines (g.R.Read.remaining l.initial.from) (l.number - 1) l.time l.is_ended l.found.items l.quiet.items l.watch (g.R.Read.remaining l.from);
+abbrev pub invariant-loop : goal.invariant-loop
+invariant-loop g l = record {
+  taken : HasTakenLines (g.R.Read.remaining l.initial.from) l.time l.is_ended l.found.items l.quiet.items l.watch l.reading (g.R.Read.remaining l.from);
   once : AllPairs (λ a b. a.granule ≢ b.granule) l.found.items;
   told : (events : List Event) × HasTaken events l.watch;
   unreached : All (λ (f : FoundGranule). IsUnreached g.P.Progress.looked l.initial.progress l.progress l.options.budget f.reach) l.found.items;
@@ -23,4 +23,5 @@ invariant-loop-number g l = record {
   looked : LookedSome g.P.Progress.looked l.initial.progress l.progress;
   kept : AreKeptOf (g.R.Read.remaining l.initial.from) l.kept (g.R.Read.remaining l.from);
   keeps : is_some l.kept ≡ l.options.keep_lines;
+  format : l.reading.format ≡ l.options.format;
 }

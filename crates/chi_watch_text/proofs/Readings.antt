@@ -1,0 +1,208 @@
+-- one line more is read, and one event more is given
+use Rattle.std.proofs.Common.{◌≡◌, ℕ, ◌+◌, ◌<◌, ◌==◌, Bool, eqb-true, false, suc, zero, true≢false, List, [], ◌∷◌, ◌++◌, Option, None, Some, IfSome, Ok, Err, append_assoc, append-nil, length, length-append, refl, sym, ap, subst, ◌∙◌, true, arith}
+use Rattle.std.proofs.lemmas.List.{nil_from_length}
+use Rattle.std.specs.Io.BufRead.{drop_through, take_through}
+use Rattle.chi_events.specs.declared.event.Event.{Event}
+use Rattle.chi_flits.specs.Effects.{HasSeen, PortValue}
+use Rattle.chi_flits.specs.declared.flit.Flit.{Flit}
+use Rattle.chi_watch_text.specs.LineTold.{line_told}
+use Rattle.chi_watch_text.specs.Lines.{AreEvents, AreLines, AreTold, AreToldAll, is_blank}
+use Rattle.chi_watch_text.specs.Reading.{BeginsWith, HasGiven, HasGivenOf, IsLineFault, IsReadingFault, RefusesBy, TellsBy}
+use Rattle.chi_watch_text.specs.declared.fault.LinesFault.{LinesFault}
+use Rattle.chi_watch_text.specs.declared.fault.LinesFault.TheVariants as fault
+use Rattle.chi_watch_text.specs.declared.line_format.LineFormat.{LineFormat}
+use Rattle.chi_watch_text.specs.declared.reading.Reading.{Reading}
+use Rattle.chi_watch_text.proofs.KeptLines.{line_then_rest}
+
+lines_more : (text : List ℕ) (lines : List (List ℕ)) (rest : List ℕ) → AreLines text lines rest → 0 < length rest → AreLines text (lines ++ take_through 10 rest ∷ []) (drop_through 10 rest)
+unfolding AreLines
+lines_more text [] rest is some = rw is (some, refl, refl)
+lines_more text (line ∷ lines) rest (more, is, are) some = (more, is, lines_more (drop_through 10 text) lines rest are some)
+
+module _ (format : LineFormat) where
+  -- a line more, whose events are not given yet
+  events_read : (number : ℕ) (flits : List Flit) (lines : List (List ℕ)) (line : List ℕ) (events told : List Event) (seen after : List Flit) → AreEvents format number flits lines events [] seen
+      → line_told format seen (number + length lines) line ≡ Ok (record { events = told; flits = after }) → AreEvents format number flits (lines ++ line ∷ []) events told after
+  unfolding AreEvents
+  events_read number flits [] line events told seen after (none, nothing, same) is =
+      let here : number + 0 ≡ number = omega arith in
+      rw none (subst (λ n. line_told format flits n line ≡ Ok (record { events = told; flits = after })) here (subst (λ (l : List Flit). line_told format l (number + 0) line ≡ Ok (record { events = told; flits = after })) same is))
+  events_read number flits (first ∷ []) line events told seen after are is =
+      (record { events = events ++ []; flits = seen }, are, ([], sym (append-nil events) ∙ sym (append-nil (events ++ [])), is))
+  events_read number flits (first ∷ next ∷ lines) line events told seen after (here, tells, (later, whole, are)) is =
+      let at : number + length (first ∷ next ∷ lines) ≡ number + 1 + length (next ∷ lines) = omega arith in (
+        here,
+        tells,
+        (
+          later,
+          whole,
+          events_read (number + 1) here.flits (next ∷ lines) line later told seen after are
+              (subst (λ n. line_told format seen n line ≡ Ok (record { events = told; flits = after })) at is),
+        ),
+      )
+
+  -- an event more of the last line is given
+  event_given : (number : ℕ) (flits : List Flit) (lines : List (List ℕ)) (events : List Event) (e : Event) (more : List Event) (seen : List Flit) → AreEvents format number flits lines events (e ∷ more) seen
+      → AreEvents format number flits lines (events ++ e ∷ []) more seen
+  unfolding AreEvents
+  event_given number flits [] events e more seen (none, some, same) = absurd (let no = ap length some in omega (arith, no))
+  event_given number flits (line ∷ []) events e more seen are =
+      subst (λ (l : List Event). line_told format flits number line ≡ Ok (record { events = l; flits = seen })) (sym (append_assoc events (e ∷ []) more)) are
+  event_given number flits (line ∷ next ∷ lines) events e more seen (here, tells, (later, whole, are)) =
+      (here, tells, (later ++ e ∷ [], ap (λ l. l ++ e ∷ []) whole ∙ append_assoc here.events later (e ∷ []), event_given (number + 1) here.flits (next ∷ lines) later e more seen are))
+
+-- The reading read one line more.
+line_read : (text rest : List ℕ) (events : List Event) (old new : Reading) → HasGiven text events old rest → 0 < length rest → old.pending.items ≡ []
+    → TellsBy (λ flits. line_told old.format flits (old.number + 1) (take_through 10 rest)) old.port new.pending.items new.port
+    → new.number ≡ old.number + 1 → new.format ≡ old.format → HasGiven text events new (drop_through 10 rest)
+line_read text rest events old new has some none tells number format =
+    let t = has.told in
+    let (after, is, seen) = tells t.seen has.seen in
+    let next : old.number + 1 ≡ 1 + length t.lines = omega (arith, t.count_is) in
+    let was = subst (λ (l : List Event). AreEvents old.format 1 [] t.lines events l t.seen) none t.are_events in
+    let all =
+    events_read old.format 1 [] t.lines (take_through 10 rest) events new.pending.items t.seen after was
+    (subst (λ n. line_told old.format t.seen n (take_through 10 rest) ≡ Ok (record { events = new.pending.items; flits = after })) next is) in
+    record {
+      told = record {
+        lines = t.lines ++ take_through 10 rest ∷ [];
+        seen = after;
+        count_is = omega (arith, number, t.count_is, length-append t.lines (take_through 10 rest ∷ []));
+        are_lines = lines_more text t.lines rest t.are_lines some;
+        are_events = subst (λ (f : LineFormat). AreEvents f 1 [] (t.lines ++ take_through 10 rest ∷ []) events new.pending.items after) (sym format) all;
+      };
+      seen = seen;
+    }
+
+-- or gave one event more
+one_given : (text rest : List ℕ) (events : List Event) (old new : Reading) (e : Event) → HasGiven text events old rest → old.pending.items ≡ e ∷ new.pending.items
+    → new.format ≡ old.format → new.port ≡ old.port → new.number ≡ old.number → HasGiven text (events ++ e ∷ []) new rest
+one_given text rest events old new e has is format port number =
+    let t = has.told in
+    let was = subst (λ (l : List Event). AreEvents old.format 1 [] t.lines events l t.seen) is t.are_events in
+    record {
+      told = record {
+        lines = t.lines;
+        seen = t.seen;
+        count_is = t.count_is ∙ sym number;
+        are_lines = t.are_lines;
+        are_events = subst (λ (f : LineFormat). AreEvents f 1 [] t.lines (events ++ e ∷ []) new.pending.items t.seen) (sym format)
+            (event_given old.format 1 [] t.lines events e new.pending.items t.seen was);
+      };
+      seen = subst (λ (p : PortValue). HasSeen t.seen p) (sym port) has.seen;
+    }
+
+-- the same of a text that may not be known
+pub line_read_of : (start now later : Option (List ℕ)) (events : List Event) (line : List ℕ) (old new : Reading) → HasGivenOf start events old now
+    → IfSome now (λ text. (line ≡ take_through 10 text) × (later ≡ Some (drop_through 10 text))) → 0 < length line → old.pending.items ≡ []
+    → TellsBy (λ flits. line_told old.format flits (old.number + 1) line) old.port new.pending.items new.port
+    → new.number ≡ old.number + 1 → new.format ≡ old.format → HasGivenOf start events new later
+line_read_of None now later events line old new has read some none tells number format = tt
+line_read_of (Some text) None later events line old new has read some none tells number format = absurd has
+line_read_of (Some text) (Some rest) later events line old new has (is, left) some none tells number format =
+    subst (HasGivenOf (Some text) events new) (sym left)
+    (line_read text rest events old new has (some_of rest (subst (λ (l : List ℕ). 0 < length l) is some)) none
+    (subst (λ (l : List ℕ). TellsBy (λ flits. line_told old.format flits (old.number + 1) l) old.port new.pending.items new.port) is tells) number format)
+  where
+    some_of : (rest : List ℕ) → 0 < length (take_through 10 rest) → 0 < length rest
+    some_of [] some = some
+    some_of (b ∷ rest) some = omega arith
+
+pub one_given_of : (start now : Option (List ℕ)) (events : List Event) (old new : Reading) (e : Event) → HasGivenOf start events old now → old.pending.items ≡ e ∷ new.pending.items
+    → new.format ≡ old.format → new.port ≡ old.port → new.number ≡ old.number → HasGivenOf start (events ++ e ∷ []) new now
+one_given_of None now events old new e has is format port number = tt
+one_given_of (Some text) None events old new e has is format port number = absurd has
+one_given_of (Some text) (Some rest) events old new e has is format port number = one_given text rest events old new e has is format port number
+
+-- nothing was read
+pub none_given : (r : Reading) → HasSeen [] r.port → r.number ≡ 0 → r.pending.items ≡ [] → (start : Option (List ℕ)) → HasGivenOf start [] r start
+unfolding AreEvents AreLines
+none_given r seen first none None = tt
+none_given r seen first none (Some text) = record {
+  told = record { lines = []; seen = []; count_is = sym first; are_lines = refl; are_events = (refl, none, refl) };
+  seen = seen;
+}
+
+-- all is told
+pub all_given : (start now : Option (List ℕ)) (events : List Event) (r : Reading) → HasGivenOf start events r now → r.pending.items ≡ [] → IfSome now (λ text. is_blank text ≡ true)
+    → IfSome start (λ text. AreToldAll r.format text events)
+all_given None now events r has none blank = tt
+all_given (Some text) None events r has none blank = absurd has
+all_given (Some text) (Some rest) events r has none blank = (r.number, rest, subst (λ (l : List Event). AreTold r.format text r.number events l rest) none has.told, blank)
+
+-- or a line tells nothing
+pub line_refused : (start now : Option (List ℕ)) (events : List Event) (line : List ℕ) (r : Reading) (f : LinesFault) → HasGivenOf start events r now → r.pending.items ≡ []
+    → IfSome now (λ text. line ≡ take_through 10 text) → RefusesBy (λ flits. line_told r.format flits (r.number + 1) line) r.port (r.number + 1) f
+    → IfSome start (λ text. IsReadingFault r.format text events f)
+line_refused None now events line r f has none is refuses = tt
+line_refused (Some text) None events line r f has none is refuses = absurd has
+line_refused (Some text) (Some rest) events line r f has none is refuses = by_fault f (refuses has.told.seen has.seen)
+  where
+    by_fault : (f : LinesFault) → IsLineFault (line_told r.format has.told.seen (r.number + 1) line) (r.number + 1) f → IsReadingFault r.format text events f
+    by_fault fault.Read why = absurd why
+    by_fault (fault.Line n why) (same, told) =
+        let t = has.told in
+        let here : line_told r.format t.seen n (take_through 10 rest) ≡ Err why =
+        subst (λ (l : List ℕ). line_told r.format t.seen n l ≡ Err why) is (subst (λ (k : ℕ). line_told r.format t.seen k line ≡ Err why) (sym same) told) in (
+          r.number,
+          rest,
+          record {
+            lines = t.lines;
+            seen = t.seen;
+            count_is = t.count_is;
+            are_lines = t.are_lines;
+            are_events = subst (λ (l : List Event). AreEvents r.format 1 [] t.lines events l t.seen) none t.are_events;
+          },
+          sym same,
+          here,
+        )
+    by_fault (fault.Event n why) told = absurd told
+    by_fault fault.TooManyLines why = absurd why
+    by_fault fault.Write why = absurd why
+    by_fault fault.Memory why = tt
+
+-- bytes that were read, and a line more
+pub line_after : (begin now later : Option (List ℕ)) (bytes line all : List ℕ) → BeginsWith begin bytes now → IfSome now (λ text. (line ≡ take_through 10 text) × (later ≡ Some (drop_through 10 text)))
+    → all ≡ bytes ++ line → BeginsWith begin all later
+line_after None now later bytes line all begins read is = tt
+line_after (Some text) None later bytes line all begins read is = absurd begins
+line_after (Some text) (Some rest) later bytes line all begins (same, left) is =
+    subst (BeginsWith (Some text) all) (sym left)
+    (begins ∙ (ap (λ l. bytes ++ l) (sym (line_then_rest rest)) ∙ (sym (append_assoc bytes (take_through 10 rest) (drop_through 10 rest))
+    ∙ ap (λ l. l ++ drop_through 10 rest) (ap (λ l. bytes ++ l) (sym same) ∙ sym is))))
+
+pub nothing_read : (begin : Option (List ℕ)) (bytes : List ℕ) → bytes ≡ [] → BeginsWith begin bytes begin
+nothing_read None bytes none = tt
+nothing_read (Some text) bytes none = ap (λ l. l ++ text) (sym none)
+
+-- no event of a reading is left
+pub none_pending : (r : Reading) (is_whole : Bool) → is_whole ≡ (length r.pending.items == 0) → is_whole ≡ true → r.pending.items ≡ []
+none_pending r is_whole is whole = nil_from_length r.pending.items (eqb-true (length r.pending.items) 0 (sym is ∙ whole))
+
+-- what only forgets its lines has given the same
+pub same_given : (start now : Option (List ℕ)) (events : List Event) (old new : Reading) → new.format ≡ old.format → new.number ≡ old.number → new.pending.items ≡ old.pending.items → new.port ≡ old.port
+    → HasGivenOf start events old now → HasGivenOf start events new now
+same_given None now events old new format number pending port has = tt
+same_given (Some text) None events old new format number pending port has = absurd has
+same_given (Some text) (Some rest) events old new format number pending port has =
+    let t = has.told in
+    record {
+      told = record {
+        lines = t.lines;
+        seen = t.seen;
+        count_is = t.count_is ∙ sym number;
+        are_lines = t.are_lines;
+        are_events = subst (λ (f : LineFormat). AreEvents f 1 [] t.lines events new.pending.items t.seen) (sym format)
+            (subst (λ (l : List Event). AreEvents old.format 1 [] t.lines events l t.seen) (sym pending) t.are_events);
+      };
+      seen = subst (λ (p : PortValue). HasSeen t.seen p) (sym port) has.seen;
+    }
+
+-- the line that was read
+pub line_of : (now later : Option (List ℕ)) (line : List ℕ) → IfSome now (λ text. (line ≡ take_through 10 text) × (later ≡ Some (drop_through 10 text))) → IfSome now (λ text. line ≡ take_through 10 text)
+line_of None later line read = tt
+line_of (Some text) later line read = read.0
+
+pub some_read : (n : ℕ) (is_empty : Bool) → is_empty ≡ (n == 0) → is_empty ≡ false → 0 < n
+some_read zero is_empty is not = absurd (true≢false (sym is ∙ not))
+some_read (suc n) is_empty is not = omega arith
