@@ -20,13 +20,13 @@ use Rattle.chi_check.specs.declared.fault.SourceFault.TheVariants as source_faul
 use Rattle.chi_check.specs.declared.options.CheckOptions.{CheckOptions}
 
 -- the answer that stands behind a report
-answers : (options : CheckOptions) (input : List ℕ) (r : RecordedValue) (status : ℕ) (text page : List ℕ) → length input ≤ most_bytes → HasTrace options.events input r
+answers : (options : CheckOptions) (input : List ℕ) (r : RecordedValue) (status : ℕ) (text page : List ℕ) → length input ≤ most_bytes → HasTrace options.lines input r
     → (a : IsReported options (judged options r) status text page) → Answers options input a.0 text
 answers options input r status text page within has a = record { within = within; recorded = r; has_trace = has; right = a.1 }
 
 -- the whole text was written
 pub written : (options : CheckOptions) (remaining old new : Option (List ℕ)) (input : List ℕ) (r : RecordedValue) (status : ℕ) (text page : List ℕ)
-    → IfSome remaining (λ bytes. input ≡ bytes) → length input ≤ most_bytes → HasTrace options.events input r → IsReported options (judged options r) status text page → Appends old new text
+    → IfSome remaining (λ bytes. input ≡ bytes) → length input ≤ most_bytes → HasTrace options.lines input r → IsReported options (judged options r) status text page → Appends old new text
     → IfSome remaining (λ bytes. Outcome options bytes old new (Ok status))
 written options None old new input r status text page same within read a appends = tt
 written options (Some bytes) old new input r status text page same within read a appends =
@@ -34,19 +34,19 @@ written options (Some bytes) old new input r status text page same within read a
 
 -- the writer failed
 pub cut : (options : CheckOptions) (remaining old new : Option (List ℕ)) (input : List ℕ) (r : RecordedValue) (status : ℕ) (text page : List ℕ) (fault : WriteFault)
-    → IfSome remaining (λ bytes. input ≡ bytes) → length input ≤ most_bytes → HasTrace options.events input r → IsReported options (judged options r) status text page → AppendsFront old new text
+    → IfSome remaining (λ bytes. input ≡ bytes) → length input ≤ most_bytes → HasTrace options.lines input r → IsReported options (judged options r) status text page → AppendsFront old new text
     → IfSome remaining (λ bytes. Outcome options bytes old new (Err (Write fault)))
 cut options None old new input r status text page fault same within read a front = tt
 cut options (Some bytes) old new input r status text page fault same within read a front =
     subst (λ (l : List ℕ). Outcome options l old new (Err (Write fault))) same (a.0, text, answers options input r status text page within read a, front)
 
 -- the input has no trace
-pub no_trace : (options : CheckOptions) (remaining old new : Option (List ℕ)) (input : List ℕ) (fault : SourceFault) → IfSome remaining (λ bytes. input ≡ bytes) → HasNoTrace options.events input fault
+pub no_trace : (options : CheckOptions) (remaining old new : Option (List ℕ)) (input : List ℕ) (fault : SourceFault) → IfSome remaining (λ bytes. input ≡ bytes) → HasNoTrace options.lines input fault
     → IfSome remaining (λ bytes. Outcome options bytes old new (Err (Input fault)))
 no_trace options None old new input fault same is = tt
 no_trace options (Some bytes) old new input fault same is = subst (λ (l : List ℕ). Outcome options l old new (Err (Input fault))) same (by_fault fault is)
   where
-    by_fault : (f : SourceFault) → HasNoTrace options.events input f → Outcome options input old new (Err (Input f))
+    by_fault : (f : SourceFault) → HasNoTrace options.lines input f → Outcome options input old new (Err (Input f))
     by_fault source_fault.Read is = tt
     by_fault source_fault.TooLong is = absurd is
     by_fault source_fault.Memory is = tt
@@ -61,7 +61,7 @@ both_some A B C (Some x) a b both = both x a b
 -- the page of the answer was put
 module _ {P : Type 0} (has_put : P → List ℕ → List ℕ → Type 0) where
   pub put : (options : CheckOptions) (remaining old new : Option (List ℕ)) (input : List ℕ) (r : RecordedValue) (status : ℕ) (text page : List ℕ) (pages : P)
-      → IfSome remaining (λ bytes. input ≡ bytes) → length input ≤ most_bytes → HasTrace options.events input r → IsReported options (judged options r) status text page → Appends old new text
+      → IfSome remaining (λ bytes. input ≡ bytes) → length input ≤ most_bytes → HasTrace options.lines input r → IsReported options (judged options r) status text page → Appends old new text
       → IfSome options.html (λ path. has_put pages path.now page) → IfSome remaining (λ bytes. IsPut has_put options bytes old new status pages)
   unfolding answers
   put options None old new input r status text page pages same within read a appends was_put = tt

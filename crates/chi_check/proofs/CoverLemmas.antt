@@ -1,5 +1,5 @@
 -- counts of inputs, one after the other, and what is written of them
-use Rattle.std.proofs.Common.{◌≡◌, ℕ, ◌+◌, ◌<◌, ◌≤◌, Bool, List, [], ◌∷◌, ◌++◌, get_or, length, map, min, take, Option, None, Some, Ok, Err, IfSome, ap, refl, sym, subst, ◌∙◌, arith}
+use Rattle.std.proofs.Common.{◌≡◌, ℕ, ◌+◌, ◌<◌, ◌≤◌, List, [], ◌∷◌, ◌++◌, get_or, length, map, min, take, Option, None, Some, Ok, Err, IfSome, ap, refl, sym, subst, ◌∙◌, arith}
 use Rattle.std.specs.Borrow.{Bor}
 use Rattle.std.specs.Option.{option_map}
 use Rattle.std.specs.Prelude.{sum_by}
@@ -13,6 +13,7 @@ use Rattle.chi_fields.specs.declared.refusal.Refusal.{Refusal}
 use Rattle.chi_cover.specs.declared.bin.Bin.{Bin}
 use Rattle.chi_cover.specs.Counts.{count_in, count_of, most, percent_of}
 use Rattle.chi_cover.specs.Refusals.{refused_in, refused_times}
+use Rattle.chi_watch_text.specs.declared.line_format.LineFormat.{LineFormat}
 use Rattle.chi_check.specs.Check.{most_bytes}
 use Rattle.chi_check.specs.Cover.{Adds, AddsFile, AreCounted, AreFilesFault, AreHeld, AreInputs, AreInputsFault, AreOf, AreOfEach, AreOfFiles, CoverOutcome, HasCounts, Told, cover_text, IsFileFault, IsInputFault, paths_of}
 use Rattle.chi_check.specs.declared.inputs.Counted.{Counted}
@@ -27,30 +28,30 @@ pub record AreNone (counted : Counted) : Type 0 where
   pub refused : (reason : Refusal) → refused_in counted.refusals reason ≡ 0
 
 -- no input was counted
-none_counted : (events : Bool) (counted : Counted) → AreNone counted → AreCounted events [] counted
+none_counted : (lines : Option LineFormat) (counted : Counted) → AreNone counted → AreCounted lines [] counted
 unfolding AreOfEach
-none_counted events counted none = record { told = []; of = tt; are = λ bin is. none.covered bin ∙ refl; refused = λ reason. none.refused reason ∙ refl }
+none_counted lines counted none = record { told = []; of = tt; are = λ bin is. none.covered bin ∙ refl; refused = λ reason. none.refused reason ∙ refl }
 
-of_more : (events : Bool) (inputs : List (List ℕ)) (told : List Told) (input : List ℕ) (one : Told) → AreOfEach events inputs told → length input ≤ most_bytes
-    → AreOf events input one.operations one.refusals → AreOfEach events (inputs ++ input ∷ []) (told ++ one ∷ [])
+of_more : (lines : Option LineFormat) (inputs : List (List ℕ)) (told : List Told) (input : List ℕ) (one : Told) → AreOfEach lines inputs told → length input ≤ most_bytes
+    → AreOf lines input one.operations one.refusals → AreOfEach lines (inputs ++ input ∷ []) (told ++ one ∷ [])
 unfolding AreOfEach
-of_more events [] [] input one of within is = (within, is, tt)
-of_more events [] (t ∷ told) input one of within is = absurd of
-of_more events (i ∷ inputs) [] input one of within is = absurd of
-of_more events (i ∷ inputs) (t ∷ told) input one (short, here, of) within is = (short, here, of_more events inputs told input one of within is)
+of_more lines [] [] input one of within is = (within, is, tt)
+of_more lines [] (t ∷ told) input one of within is = absurd of
+of_more lines (i ∷ inputs) [] input one of within is = absurd of
+of_more lines (i ∷ inputs) (t ∷ told) input one (short, here, of) within is = (short, here, of_more lines inputs told input one of within is)
 
 -- what one sum and another leave
 two_sums : (b c x y top : ℕ) → b ≡ min x top → c ≡ min (b + y) top → c ≡ min (x + y) top
 two_sums b c x y top first next = omega arith
 
 -- one input more
-counted_more : (events : Bool) (inputs : List (List ℕ)) (input : List ℕ) (old new : Counted) → length input ≤ most_bytes → AreCounted events inputs old → Adds events input old new
-    → AreCounted events (inputs ++ input ∷ []) new
-counted_more events inputs input old new within counted (ops, refusals, is, added, refused) =
+counted_more : (lines : Option LineFormat) (inputs : List (List ℕ)) (input : List ℕ) (old new : Counted) → length input ≤ most_bytes → AreCounted lines inputs old → Adds lines input old new
+    → AreCounted lines (inputs ++ input ∷ []) new
+counted_more lines inputs input old new within counted (ops, refusals, is, added, refused) =
     let one : Told = record { operations = ops; refusals = refusals } in
     record {
       told = counted.told ++ one ∷ [];
-      of = of_more events inputs counted.told input one counted.of within is;
+      of = of_more lines inputs counted.told input one counted.of within is;
       are = λ bin here.
           let sum = λ (t : Told). count_of t.operations bin in
           two_sums (count_in old.covered bin) (count_in new.covered bin) (sum_by sum counted.told) (count_of ops bin) most (counted.are bin here) (added bin here)
@@ -62,11 +63,11 @@ counted_more events inputs input old new within counted (ops, refusals, is, adde
     }
 
 -- where nothing was counted before, it is what the input tells
-pub one_counted : (events : Bool) (input : List ℕ) (old new : Counted) → AreNone old → length input ≤ most_bytes → Adds events input old new
-    → AreCounted events (input ∷ []) new
-one_counted events input old new none within adds = counted_more events [] input old new within (none_counted events old none) adds
+pub one_counted : (lines : Option LineFormat) (input : List ℕ) (old new : Counted) → AreNone old → length input ≤ most_bytes → Adds lines input old new
+    → AreCounted lines (input ∷ []) new
+one_counted lines input old new none within adds = counted_more lines [] input old new within (none_counted lines old none) adds
 
-module _ (holds : List ℕ → List ℕ → Type 0) (events : Bool) where
+module _ (holds : List ℕ → List ℕ → Type 0) (lines : Option LineFormat) where
   held_more : (paths inputs : List (List ℕ)) (path input : List ℕ) → AreHeld holds paths inputs → holds path input → AreHeld holds (paths ++ path ∷ []) (inputs ++ input ∷ [])
   unfolding AreHeld
   held_more [] [] path input held is = (is, tt)
@@ -75,61 +76,61 @@ module _ (holds : List ℕ → List ℕ → Type 0) (events : Bool) where
   held_more (p ∷ paths) (i ∷ inputs) path input (here, held) is = (here, held_more paths inputs path input held is)
 
   -- no file was counted
-  pub no_file : (counted : Counted) → AreNone counted → AreOfFiles holds events [] counted
+  pub no_file : (counted : Counted) → AreNone counted → AreOfFiles holds lines [] counted
   unfolding AreHeld
-  no_file counted none = ([], tt, none_counted events counted none)
+  no_file counted none = ([], tt, none_counted lines counted none)
 
   -- one file more
-  pub file_more : (paths : List (List ℕ)) (path : List ℕ) (old new : Counted) → AreOfFiles holds events paths old → AddsFile holds events path old new
-      → AreOfFiles holds events (paths ++ path ∷ []) new
+  pub file_more : (paths : List (List ℕ)) (path : List ℕ) (old new : Counted) → AreOfFiles holds lines paths old → AddsFile holds lines path old new
+      → AreOfFiles holds lines (paths ++ path ∷ []) new
   file_more paths path old new (inputs, held, counted) (input, is, within, adds) =
-      (inputs ++ input ∷ [], held_more paths inputs path input held is, counted_more events inputs input old new within counted adds)
+      (inputs ++ input ∷ [], held_more paths inputs path input held is, counted_more lines inputs input old new within counted adds)
 
   pub next_file : (files : List (Bor (List ℕ))) (n : ℕ) (d : Bor (List ℕ)) (old new : Counted) → n < length files
-      → AreOfFiles holds events (map (λ path. path.now) (take n files)) old → AddsFile holds events (get_or files n d).now old new
-      → AreOfFiles holds events (map (λ path. path.now) (take (n + 1) files)) new
+      → AreOfFiles holds lines (map (λ path. path.now) (take n files)) old → AddsFile holds lines (get_or files n d).now old new
+      → AreOfFiles holds lines (map (λ path. path.now) (take (n + 1) files)) new
   next_file files n d old new below are adds =
       let text = λ (path : Bor (List ℕ)). path.now in
-      subst (λ (l : List (List ℕ)). AreOfFiles holds events l new) (sym (ap (map text) (take_more files n d below) ∙ map_push text (take n files) (get_or files n d)))
+      subst (λ (l : List (List ℕ)). AreOfFiles holds lines l new) (sym (ap (map text) (take_more files n d below) ∙ map_push text (take n files) (get_or files n d)))
       (file_more (map text (take n files)) (get_or files n d).now old new are adds)
 
   -- a file was not counted
-  pub file_refused : (files : List (Bor (List ℕ))) (n : ℕ) (d : Bor (List ℕ)) (fault : SourceFault) → n < length files → IsFileFault holds events (get_or files n d).now fault
-      → AreFilesFault holds events (map (λ path. path.now) files) (File n fault)
+  pub file_refused : (files : List (Bor (List ℕ))) (n : ℕ) (d : Bor (List ℕ)) (fault : SourceFault) → n < length files → IsFileFault holds lines (get_or files n d).now fault
+      → AreFilesFault holds lines (map (λ path. path.now) files) (File n fault)
   file_refused files n d fault below is =
       let text = λ (path : Bor (List ℕ)). path.now in
       ((get_or files n d).now, slice_get-map text files n ∙ ap (option_map text) (slice_get-get_or files n d below), is)
 
   -- where no file is named it is the standard input that is counted
-  pub of_input : (paths : List (List ℕ)) (remaining : Option (List ℕ)) (counts : Counted) → paths ≡ [] → IfSome remaining (λ input. AreCounted events (input ∷ []) counts)
-      → IfSome remaining (λ input. (inputs : List (List ℕ)) × AreInputs holds paths input inputs × AreCounted events inputs counts)
+  pub of_input : (paths : List (List ℕ)) (remaining : Option (List ℕ)) (counts : Counted) → paths ≡ [] → IfSome remaining (λ input. AreCounted lines (input ∷ []) counts)
+      → IfSome remaining (λ input. (inputs : List (List ℕ)) × AreInputs holds paths input inputs × AreCounted lines inputs counts)
   of_input paths None counts none counted = tt
   of_input paths (Some input) counts none counted =
-      subst (λ (l : List (List ℕ)). (inputs : List (List ℕ)) × AreInputs holds l input inputs × AreCounted events inputs counts) (sym none) (input ∷ [], refl, counted)
+      subst (λ (l : List (List ℕ)). (inputs : List (List ℕ)) × AreInputs holds l input inputs × AreCounted lines inputs counts) (sym none) (input ∷ [], refl, counted)
 
-  pub input_refused : (paths : List (List ℕ)) (remaining : Option (List ℕ)) (fault : CheckFault) → paths ≡ [] → IfSome remaining (λ input. IsInputFault events input fault)
-      → IfSome remaining (λ input. AreInputsFault holds events paths input fault)
+  pub input_refused : (paths : List (List ℕ)) (remaining : Option (List ℕ)) (fault : CheckFault) → paths ≡ [] → IfSome remaining (λ input. IsInputFault lines input fault)
+      → IfSome remaining (λ input. AreInputsFault holds lines paths input fault)
   input_refused paths None fault none is = tt
-  input_refused paths (Some input) fault none is = subst (λ (l : List (List ℕ)). AreInputsFault holds events l input fault) (sym none) is
+  input_refused paths (Some input) fault none is = subst (λ (l : List (List ℕ)). AreInputsFault holds lines l input fault) (sym none) is
 
   -- and where some are named it is they
-  pub of_files : (paths : List (List ℕ)) (remaining : Option (List ℕ)) (counts : Counted) → (paths ≡ [] → ⊥) → AreOfFiles holds events paths counts
-      → IfSome remaining (λ input. (inputs : List (List ℕ)) × AreInputs holds paths input inputs × AreCounted events inputs counts)
+  pub of_files : (paths : List (List ℕ)) (remaining : Option (List ℕ)) (counts : Counted) → (paths ≡ [] → ⊥) → AreOfFiles holds lines paths counts
+      → IfSome remaining (λ input. (inputs : List (List ℕ)) × AreInputs holds paths input inputs × AreCounted lines inputs counts)
   of_files paths None counts some are = tt
   of_files [] (Some input) counts some are = absurd (some refl)
   of_files (p ∷ paths) (Some input) counts some (inputs, held, counted) = (inputs, held, counted)
 
-  pub files_refused : (paths : List (List ℕ)) (remaining : Option (List ℕ)) (fault : CheckFault) → (paths ≡ [] → ⊥) → AreFilesFault holds events paths fault
-      → IfSome remaining (λ input. AreInputsFault holds events paths input fault)
+  pub files_refused : (paths : List (List ℕ)) (remaining : Option (List ℕ)) (fault : CheckFault) → (paths ≡ [] → ⊥) → AreFilesFault holds lines paths fault
+      → IfSome remaining (λ input. AreInputsFault holds lines paths input fault)
   files_refused paths None fault some is = tt
   files_refused [] (Some input) fault some is = absurd (some refl)
   files_refused (p ∷ paths) (Some input) fault some is = is
 
 -- the counts are those of the input
-pub input_counted : (events : Bool) (remaining : Option (List ℕ)) (input : List ℕ) (counts : Counted) → IfSome remaining (λ bytes. input ≡ bytes) → AreCounted events (input ∷ []) counts
-    → IfSome remaining (λ bytes. AreCounted events (bytes ∷ []) counts)
-input_counted events None input counts same is = tt
-input_counted events (Some bytes) input counts same is = subst (λ (l : List ℕ). AreCounted events (l ∷ []) counts) same is
+pub input_counted : (lines : Option LineFormat) (remaining : Option (List ℕ)) (input : List ℕ) (counts : Counted) → IfSome remaining (λ bytes. input ≡ bytes) → AreCounted lines (input ∷ []) counts
+    → IfSome remaining (λ bytes. AreCounted lines (bytes ∷ []) counts)
+input_counted lines None input counts same is = tt
+input_counted lines (Some bytes) input counts same is = subst (λ (l : List ℕ). AreCounted lines (l ∷ []) counts) same is
 
 module _ (holds : List ℕ → List ℕ → Type 0) (options : CoverOptions) where
   -- the whole table was written
@@ -148,15 +149,15 @@ module _ (holds : List ℕ → List ℕ → Type 0) (options : CoverOptions) whe
 
   -- an input was not counted
   uncounted_by : (paths : List (List ℕ)) → paths_of options ≡ paths → (input : List ℕ) (old new : Option (List ℕ)) (fault : CheckFault)
-      → AreInputsFault holds options.events paths input fault → CoverOutcome holds options input old new (Err fault)
+      → AreInputsFault holds options.lines paths input fault → CoverOutcome holds options input old new (Err fault)
   uncounted_by [] is input old new Page refused = tt
   uncounted_by [] is input old new (Write fault) refused = absurd refused
-  uncounted_by [] is input old new fault refused = subst (λ (l : List (List ℕ)). AreInputsFault holds options.events l input fault) (sym is) refused
+  uncounted_by [] is input old new fault refused = subst (λ (l : List (List ℕ)). AreInputsFault holds options.lines l input fault) (sym is) refused
   uncounted_by (p ∷ paths) is input old new Page refused = tt
   uncounted_by (p ∷ paths) is input old new (Write fault) refused = absurd refused
-  uncounted_by (p ∷ paths) is input old new fault refused = subst (λ (l : List (List ℕ)). AreInputsFault holds options.events l input fault) (sym is) refused
+  uncounted_by (p ∷ paths) is input old new fault refused = subst (λ (l : List (List ℕ)). AreInputsFault holds options.lines l input fault) (sym is) refused
 
-  pub uncounted : (remaining old new : Option (List ℕ)) (fault : CheckFault) → IfSome remaining (λ input. AreInputsFault holds options.events (paths_of options) input fault)
+  pub uncounted : (remaining old new : Option (List ℕ)) (fault : CheckFault) → IfSome remaining (λ input. AreInputsFault holds options.lines (paths_of options) input fault)
       → IfSome remaining (λ input. CoverOutcome holds options input old new (Err fault))
   uncounted None old new fault refused = tt
   uncounted (Some input) old new fault refused = uncounted_by (paths_of options) refl input old new fault refused

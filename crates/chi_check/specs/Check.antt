@@ -1,5 +1,5 @@
 -- what a check does: the answer of the trace that its input is
-use Rattle.std.specs.Prelude.{◌≡◌, ◌≢◌, ℕ, ◌/◌, ◌<◌, ◌≤◌, Bool, true, false, List, length, Option, None, Some, IfSome, Result, Ok, Err}
+use Rattle.std.specs.Prelude.{◌≡◌, ◌≢◌, ℕ, ◌/◌, ◌<◌, ◌≤◌, List, length, Option, None, Some, IfSome, IsSomeAnd, Result, Ok, Err}
 use Rattle.std.specs.Io.KnownBytes.{Appends, Keeps}
 use Rattle.chi_script.specs.WriterBytes.{AppendsFront}
 use Rattle.chi_search.specs.Looks.{LookedMore}
@@ -7,6 +7,7 @@ use Rattle.chi_reading.specs.declared.fault.TraceFault.TheVariants as trace_faul
 use Rattle.chi_reading.specs.TraceText.{IsOf, RecordedValue, TextValue, alone, cut_at, trace_text}
 use Rattle.chi_watch_text.specs.Outcomes.{IsLinesFault}
 use Rattle.chi_watch_text.specs.Recorded.{IsRecorded}
+use Rattle.chi_watch_text.specs.declared.line_format.LineFormat.{LineFormat}
 use Rattle.chi_answer.specs.declared.answer.Answer.{Answer}
 use Rattle.chi_answer.specs.declared.answer.Answer.TheVariants.{Explained, Blamed, Unexplained, Undecided}
 use Rattle.chi_answer.specs.Answers.{IfUndecided, IsAnswer}
@@ -25,17 +26,17 @@ abbrev pub most_bytes : ℕ
 most_bytes = 536870912
 
 -- the input has this trace: it is its text, or its lines tell the events of it
-abbrev pub HasTrace : Bool → List ℕ → RecordedValue → Type 0
-HasTrace false input r = (value : TextValue) × (trace_text input ≡ Ok value) × IsOf value r
-HasTrace true input r = IsRecorded input r
+abbrev pub HasTrace : Option LineFormat → List ℕ → RecordedValue → Type 0
+HasTrace None input r = (value : TextValue) × (trace_text input ≡ Ok value) × IsOf value r
+HasTrace (Some format) input r = IsRecorded format input r
 
 -- why it has none
-abbrev pub HasNoTrace : Bool → List ℕ → SourceFault → Type 0
-HasNoTrace events input source_fault.Read = ⊥
-HasNoTrace events input source_fault.TooLong = ⊥
-HasNoTrace events input source_fault.Memory = Unit {0}
-HasNoTrace events input (source_fault.Trace fault) = (events ≡ false) × (fault ≢ trace_fault.Memory → trace_text input ≡ Err fault)
-HasNoTrace events input (source_fault.Events fault) = (events ≡ true) × IsLinesFault input fault
+abbrev pub HasNoTrace : Option LineFormat → List ℕ → SourceFault → Type 0
+HasNoTrace lines input source_fault.Read = ⊥
+HasNoTrace lines input source_fault.TooLong = ⊥
+HasNoTrace lines input source_fault.Memory = Unit {0}
+HasNoTrace lines input (source_fault.Trace fault) = (lines ≡ None) × (fault ≢ trace_fault.Memory → trace_text input ≡ Err fault)
+HasNoTrace lines input (source_fault.Events fault) = IsSomeAnd lines (λ format. IsLinesFault format input fault)
 
 -- of a trace all granules, or the one at an address
 abbrev pub asked : Option ℕ → RecordedValue → RecordedValue
@@ -69,7 +70,7 @@ pub record IsRight (options : CheckOptions) (r : RecordedValue) (answer : Answer
 pub record Answers (options : CheckOptions) (input : List ℕ) (answer : Answer) (text : List ℕ) : Type 0 where
   pub within : length input ≤ most_bytes
   pub recorded : RecordedValue
-  pub has_trace : HasTrace options.events input recorded
+  pub has_trace : HasTrace options.lines input recorded
   pub right : IsRight options (judged options recorded) answer text
 
 -- After Ok the text of a right answer of the input's trace was written, and this is its status. What each fault means,
@@ -79,8 +80,8 @@ Outcome options input old new (Ok status) = (answer : Answer) × (text : List �
 Outcome options input old new (Err (Input source_fault.Read)) = Unit {0}
 Outcome options input old new (Err (Input source_fault.TooLong)) = most_bytes < length input
 Outcome options input old new (Err (Input source_fault.Memory)) = Unit {0}
-Outcome options input old new (Err (Input (source_fault.Trace fault))) = HasNoTrace options.events input (source_fault.Trace fault)
-Outcome options input old new (Err (Input (source_fault.Events fault))) = HasNoTrace options.events input (source_fault.Events fault)
+Outcome options input old new (Err (Input (source_fault.Trace fault))) = HasNoTrace options.lines input (source_fault.Trace fault)
+Outcome options input old new (Err (Input (source_fault.Events fault))) = HasNoTrace options.lines input (source_fault.Events fault)
 Outcome options input old new (Err (File place fault)) = ⊥
 Outcome options input old new (Err Page) = Unit {0}
 Outcome options input old new (Err (Unfinished fault)) = ⊥

@@ -1,9 +1,10 @@
 -- the statuses of answers and faults
-use Rattle.std.specs.Prelude.{◌≡◌, ℕ, ◌⊎◌, ◌≤◌}
+use Rattle.std.specs.Prelude.{◌≡◌, ℕ, ◌⊎◌, ◌≤◌, if◌then◌else◌}
 use Rattle.chi_answer.specs.declared.answer.Answer.{Answer}
 use Rattle.chi_answer.specs.declared.answer.Answer.TheVariants.{Explained, Blamed, Unexplained, Undecided}
 use Rattle.chi_reading.specs.declared.fault.TraceFault.{TraceFault}
 use Rattle.chi_reading.specs.declared.fault.TraceFault.TheVariants as trace_fault
+use Rattle.chi_watch_text.specs.Illegal.{is_illegal}
 use Rattle.chi_watch_text.specs.declared.fault.LinesFault.{LinesFault}
 use Rattle.chi_watch_text.specs.declared.fault.LinesFault.TheVariants as lines_fault
 use Rattle.chi_check.specs.declared.fault.CheckFault.{CheckFault}
@@ -16,12 +17,12 @@ abbrev pub trace_status : TraceFault → ℕ
 trace_status trace_fault.Memory = 4
 trace_status _ = 3
 
--- a line of events that is refused, or out of memory, or a read or a write that failed
+-- a line whose flit is not legal at the port, or one that is refused, or out of memory, or a read or a write that failed
 abbrev pub lines_status : LinesFault → ℕ
 lines_status lines_fault.Read = 5
 lines_status lines_fault.Memory = 4
 lines_status lines_fault.Write = 5
-lines_status _ = 3
+lines_status fault = if is_illegal fault then 1 else 3
 
 -- an input of which there is nothing to write
 abbrev pub source_status : SourceFault → ℕ

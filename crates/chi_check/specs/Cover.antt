@@ -1,5 +1,5 @@
 -- what a count does: the table of what the operations covered that its inputs tell, and how many requests were refused
-use Rattle.std.specs.Prelude.{◌≡◌, ◌≢◌, ℕ, ◌<◌, ◌≤◌, Bool, true, false, List, [], ◌∷◌, ◌++◌, Contains, length, map, min, slice_get, sum_by, Option, Some, IfSome, Result, Ok, Err}
+use Rattle.std.specs.Prelude.{◌≡◌, ◌≢◌, ℕ, ◌<◌, ◌≤◌, List, [], ◌∷◌, ◌++◌, Contains, length, map, min, slice_get, sum_by, Option, None, Some, IfSome, IsSomeAnd, Result, Ok, Err}
 use Rattle.std.specs.Io.KnownBytes.{Appends}
 use Rattle.chi_script.specs.WriterBytes.{AppendsFront}
 use Rattle.chi_fields.specs.declared.refusal.Refusal.{Refusal}
@@ -8,6 +8,7 @@ use Rattle.chi_trace.specs.Explains.{IsTrace}
 use Rattle.chi_reading.specs.declared.fault.TraceFault.TheVariants as trace_fault
 use Rattle.chi_reading.specs.TraceText.{IsOf, RecordedValue, TextValue, trace_text}
 use Rattle.chi_watch_text.specs.Operations.{AreOperations, AreRefusals, IsOperationsFault}
+use Rattle.chi_watch_text.specs.declared.line_format.LineFormat.{LineFormat}
 use Rattle.chi_cover.specs.declared.bin.Bin.{Bin}
 use Rattle.chi_cover.specs.Bins.{all_bins}
 use Rattle.chi_cover.specs.Counts.{IsAdded, count_in, count_of, most, percent_of}
@@ -48,9 +49,9 @@ pub record IsTraceOf (input : List ℕ) (ops : List Operation) (refusals : List 
   pub refused : recorded.refusals ≡ refusals
 
 -- the operations of an input, and why its other requests were refused: those of the trace that it is, or those that its events tell
-abbrev pub AreOf : Bool → List ℕ → List Operation → List Refusal → Type 0
-AreOf true input ops refusals = AreOperations input ops × AreRefusals input refusals
-AreOf false input ops refusals = IsTraceOf input ops refusals
+abbrev pub AreOf : Option LineFormat → List ℕ → List Operation → List Refusal → Type 0
+AreOf (Some format) input ops refusals = AreOperations format input ops × AreRefusals format input refusals
+AreOf None input ops refusals = IsTraceOf input ops refusals
 
 -- what one input tells
 pub record Told : Type 0 where
@@ -58,10 +59,10 @@ pub record Told : Type 0 where
   pub refusals : List Refusal
 
 -- this is what each input tells
-unfoldable pub AreOfEach : Bool → List (List ℕ) → List Told → Type 0
-AreOfEach events [] [] = Unit {0}
-AreOfEach events (input ∷ inputs) (told ∷ others) = (length input ≤ most_bytes) × AreOf events input told.operations told.refusals × AreOfEach events inputs others
-AreOfEach events inputs others = ⊥
+unfoldable pub AreOfEach : Option LineFormat → List (List ℕ) → List Told → Type 0
+AreOfEach lines [] [] = Unit {0}
+AreOfEach lines (input ∷ inputs) (told ∷ others) = (length input ≤ most_bytes) × AreOf lines input told.operations told.refusals × AreOfEach lines inputs others
+AreOfEach lines inputs others = ⊥
 
 -- each bin's count is how many operations of these inputs it counts, and the greatest count stands for that many and more
 abbrev pub AreCounts : List Told → List ℕ → Type 0
@@ -72,9 +73,9 @@ abbrev pub AreRefusalCounts : List Told → List ℕ → Type 0
 AreRefusalCounts told counts = (reason : Refusal) → refused_in counts reason ≡ min (sum_by (λ t. refused_times t.refusals reason) told) most
 
 -- these are the counts of what these inputs tell
-pub record AreCounted (events : Bool) (inputs : List (List ℕ)) (counted : Counted) : Type 0 where
+pub record AreCounted (lines : Option LineFormat) (inputs : List (List ℕ)) (counted : Counted) : Type 0 where
   pub told : List Told
-  pub of : AreOfEach events inputs told
+  pub of : AreOfEach lines inputs told
   pub are : AreCounts told counted.covered
   pub refused : AreRefusalCounts told counted.refusals
 
@@ -87,63 +88,63 @@ pub record IsCoverStatus (require percent status : ℕ) : Type 0 where
   pub below : percent < require → status ≡ 1
   pub reached : require ≤ percent → status ≡ 0
 
--- why an input, which is a trace or tells events, has no operations
-abbrev pub IsTraceFault : Bool → List ℕ → SourceFault → Type 0
-IsTraceFault events input source_fault.Read = ⊥
-IsTraceFault events input source_fault.TooLong = ⊥
-IsTraceFault events input source_fault.Memory = Unit {0}
-IsTraceFault events input (source_fault.Trace fault) = (events ≡ false) × (fault ≢ trace_fault.Memory → trace_text input ≡ Err fault)
-IsTraceFault events input (source_fault.Events fault) = (events ≡ true) × IsOperationsFault input fault
+-- why an input, which is a trace or tells lines, has no operations
+abbrev pub IsTraceFault : Option LineFormat → List ℕ → SourceFault → Type 0
+IsTraceFault lines input source_fault.Read = ⊥
+IsTraceFault lines input source_fault.TooLong = ⊥
+IsTraceFault lines input source_fault.Memory = Unit {0}
+IsTraceFault lines input (source_fault.Trace fault) = (lines ≡ None) × (fault ≢ trace_fault.Memory → trace_text input ≡ Err fault)
+IsTraceFault lines input (source_fault.Events fault) = IsSomeAnd lines (λ format. IsOperationsFault format input fault)
 
 -- why a file was not counted: it was not read, or what it holds has no operations
-abbrev pub IsFileFault : (List ℕ → List ℕ → Type 0) → Bool → List ℕ → SourceFault → Type 0
-IsFileFault holds events path source_fault.Read = Unit {0}
-IsFileFault holds events path source_fault.TooLong = Unit {0}
-IsFileFault holds events path source_fault.Memory = Unit {0}
-IsFileFault holds events path fault = (input : List ℕ) × holds path input × IsTraceFault events input fault
+abbrev pub IsFileFault : (List ℕ → List ℕ → Type 0) → Option LineFormat → List ℕ → SourceFault → Type 0
+IsFileFault holds lines path source_fault.Read = Unit {0}
+IsFileFault holds lines path source_fault.TooLong = Unit {0}
+IsFileFault holds lines path source_fault.Memory = Unit {0}
+IsFileFault holds lines path fault = (input : List ℕ) × holds path input × IsTraceFault lines input fault
 
 -- the new counts have counted what an input tells more
-abbrev pub Adds : Bool → List ℕ → Counted → Counted → Type 0
-Adds events input old new =
-    (ops : List Operation) × (refusals : List Refusal) × AreOf events input ops refusals × IsAdded ops old.covered new.covered × AreRefused refusals old.refusals new.refusals
+abbrev pub Adds : Option LineFormat → List ℕ → Counted → Counted → Type 0
+Adds lines input old new =
+    (ops : List Operation) × (refusals : List Refusal) × AreOf lines input ops refusals × IsAdded ops old.covered new.covered × AreRefused refusals old.refusals new.refusals
 
 -- the same of what the file of a path holds
-abbrev pub AddsFile : (List ℕ → List ℕ → Type 0) → Bool → List ℕ → Counted → Counted → Type 0
-AddsFile holds events path old new = (input : List ℕ) × holds path input × (length input ≤ most_bytes) × Adds events input old new
+abbrev pub AddsFile : (List ℕ → List ℕ → Type 0) → Option LineFormat → List ℕ → Counted → Counted → Type 0
+AddsFile holds lines path old new = (input : List ℕ) × holds path input × (length input ≤ most_bytes) × Adds lines input old new
 
 -- these are the counts of what these files hold
-abbrev pub AreOfFiles : (List ℕ → List ℕ → Type 0) → Bool → List (List ℕ) → Counted → Type 0
-AreOfFiles holds events paths counted = (inputs : List (List ℕ)) × AreHeld holds paths inputs × AreCounted events inputs counted
+abbrev pub AreOfFiles : (List ℕ → List ℕ → Type 0) → Option LineFormat → List (List ℕ) → Counted → Type 0
+AreOfFiles holds lines paths counted = (inputs : List (List ℕ)) × AreHeld holds paths inputs × AreCounted lines inputs counted
 
 -- the inputs have these counts
 abbrev pub HasCounts : (List ℕ → List ℕ → Type 0) → CoverOptions → List ℕ → Counted → Type 0
 HasCounts holds options input counted =
-    (inputs : List (List ℕ)) × AreInputs holds (paths_of options) input inputs × AreCounted options.events inputs counted
+    (inputs : List (List ℕ)) × AreInputs holds (paths_of options) input inputs × AreCounted options.lines inputs counted
 
 -- why the standard input was not counted
-abbrev pub IsInputFault : Bool → List ℕ → CheckFault → Type 0
-IsInputFault events input (Input source_fault.Read) = Unit {0}
-IsInputFault events input (Input source_fault.TooLong) = most_bytes < length input
-IsInputFault events input (Input source_fault.Memory) = Unit {0}
-IsInputFault events input (Input (source_fault.Trace fault)) = IsTraceFault events input (source_fault.Trace fault)
-IsInputFault events input (Input (source_fault.Events fault)) = IsTraceFault events input (source_fault.Events fault)
-IsInputFault events input (File place fault) = ⊥
-IsInputFault events input Page = ⊥
-IsInputFault events input (Unfinished fault) = ⊥
-IsInputFault events input Unsaved = ⊥
-IsInputFault events input Unshown = ⊥
-IsInputFault events input (Write fault) = ⊥
+abbrev pub IsInputFault : Option LineFormat → List ℕ → CheckFault → Type 0
+IsInputFault lines input (Input source_fault.Read) = Unit {0}
+IsInputFault lines input (Input source_fault.TooLong) = most_bytes < length input
+IsInputFault lines input (Input source_fault.Memory) = Unit {0}
+IsInputFault lines input (Input (source_fault.Trace fault)) = IsTraceFault lines input (source_fault.Trace fault)
+IsInputFault lines input (Input (source_fault.Events fault)) = IsTraceFault lines input (source_fault.Events fault)
+IsInputFault lines input (File place fault) = ⊥
+IsInputFault lines input Page = ⊥
+IsInputFault lines input (Unfinished fault) = ⊥
+IsInputFault lines input Unsaved = ⊥
+IsInputFault lines input Unshown = ⊥
+IsInputFault lines input (Write fault) = ⊥
 
 -- why the files were not counted
-abbrev pub AreFilesFault : (List ℕ → List ℕ → Type 0) → Bool → List (List ℕ) → CheckFault → Type 0
-AreFilesFault holds events paths (Input source_fault.Memory) = Unit {0}
-AreFilesFault holds events paths (File place fault) = (path : List ℕ) × (slice_get paths place ≡ Some path) × IsFileFault holds events path fault
-AreFilesFault holds events paths fault = ⊥
+abbrev pub AreFilesFault : (List ℕ → List ℕ → Type 0) → Option LineFormat → List (List ℕ) → CheckFault → Type 0
+AreFilesFault holds lines paths (Input source_fault.Memory) = Unit {0}
+AreFilesFault holds lines paths (File place fault) = (path : List ℕ) × (slice_get paths place ≡ Some path) × IsFileFault holds lines path fault
+AreFilesFault holds lines paths fault = ⊥
 
 -- why the inputs were not counted: the standard input, or the files where some are named
-abbrev pub AreInputsFault : (List ℕ → List ℕ → Type 0) → Bool → List (List ℕ) → List ℕ → CheckFault → Type 0
-AreInputsFault holds events [] input fault = IsInputFault events input fault
-AreInputsFault holds events (path ∷ paths) input fault = AreFilesFault holds events (path ∷ paths) fault
+abbrev pub AreInputsFault : (List ℕ → List ℕ → Type 0) → Option LineFormat → List (List ℕ) → List ℕ → CheckFault → Type 0
+AreInputsFault holds lines [] input fault = IsInputFault lines input fault
+AreInputsFault holds lines (path ∷ paths) input fault = AreFilesFault holds lines (path ∷ paths) fault
 
 -- After Ok the text of the counts was written, and the status is 1 where fewer of a hundred bins have counted an operation than have
 -- to. What each fault means, and what was written then: nothing but where the writer failed.
@@ -152,7 +153,7 @@ CoverOutcome holds options input old new (Ok status) =
     (counted : Counted) × HasCounts holds options input counted × IsCoverStatus options.require (percent_of (count_in counted.covered)) status × Appends old new (cover_text counted)
 CoverOutcome holds options input old new (Err Page) = Unit {0}
 CoverOutcome holds options input old new (Err (Write fault)) = (counted : Counted) × HasCounts holds options input counted × AppendsFront old new (cover_text counted)
-CoverOutcome holds options input old new (Err fault) = AreInputsFault holds options.events (paths_of options) input fault
+CoverOutcome holds options input old new (Err fault) = AreInputsFault holds options.lines (paths_of options) input fault
 
 -- the page of counts
 abbrev pub IsCoverPage : List ℕ → List ℕ → Type 0

@@ -1,5 +1,5 @@
 -- which task the arguments name, and with which options
-use Rattle.std.specs.Prelude.{◌≡◌, true, false, [], List, unwrap_or, Option, Some, codes}
+use Rattle.std.specs.Prelude.{◌≡◌, true, false, if◌then◌else◌, [], List, unwrap_or, Option, None, Some, codes}
 use Rattle.std.specs.Option.{option_map}
 use Rattle.std.specs.Str.{bytes_eq}
 use Rattle.std.specs.Borrow.{Bor}
@@ -7,6 +7,8 @@ use Rattle.clap.specs.Walk.{Row, Text, all_of, first_of, one_of}
 use Rattle.clap.specs.Simple.{subcommand_of}
 use Rattle.chi_check.specs.declared.command.Task.{Task}
 use Rattle.chi_check.specs.declared.command.Task.TheVariants.{Explain, Watch, Cover}
+use Rattle.chi_watch_text.specs.declared.line_format.LineFormat.{LineFormat}
+use Rattle.chi_watch_text.specs.declared.line_format.LineFormat.TheVariants.{Events, Flits}
 use Rattle.chi_watch_text.specs.declared.required.Required.{Required}
 use Rattle.chi_check.specs.CommandLine.{program_app}
 use Rattle.chi_check.specs.Cover.{paths_of}
@@ -25,9 +27,20 @@ IsNamed name (Explain options file) = (bytes_eq name (codes "watch") ≡ false) 
 IsNamed name (Watch options file) = bytes_eq name (codes "watch") ≡ true
 IsNamed name (Cover options) = bytes_eq name (codes "cover") ≡ true
 
+-- what each line of an input tells: flits or events, where that was asked for, and else it is a trace
+abbrev pub lines_asked : List Row → Option LineFormat
+lines_asked found =
+    if has_word found (codes "flits") (codes "true") then Some Flits
+    else if has_word found (codes "events") (codes "true") then Some Events
+    else None
+
+-- of a watch: flits where that was asked for, and else events
+abbrev pub format_asked : List Row → LineFormat
+format_asked found = if has_word found (codes "flits") (codes "true") then Flits else Events
+
 -- the options of `explain` are those that were found
 pub record HasExplainOptions (found : List Row) (options : CheckOptions) : Type 0 where
-  pub events : options.events ≡ has_word found (codes "events") (codes "true")
+  pub lines : options.lines ≡ lines_asked found
   pub witness : options.witness ≡ has_word found (codes "witness") (codes "true")
   pub budget : IsNumberOr 1000000 (one_of (codes "budget") found) options.budget
   pub seconds : IsNumberOrNone (one_of (codes "seconds") found) options.seconds
@@ -46,6 +59,7 @@ pub record HasRequired (found : List Row) (required : Required) : Type 0 where
 
 -- and its other options
 pub record HasWatchOptions (found : List Row) (options : WatchingOptions) : Type 0 where
+  pub format : options.format ≡ format_asked found
   pub keep_going : options.keep_going ≡ has_word found (codes "keep-going") (codes "true")
   pub budget : IsNumberOr 1000000 (one_of (codes "budget") found) options.budget
   pub required : HasRequired found options.required
@@ -55,7 +69,7 @@ pub record HasWatchOptions (found : List Row) (options : WatchingOptions) : Type
 -- and those of `cover`
 pub record HasCoverOptions (found : List Row) (options : CoverOptions) : Type 0 where
   pub require : IsNumberOr 0 (one_of (codes "require") found) options.require
-  pub events : options.events ≡ has_word found (codes "events") (codes "true")
+  pub lines : options.lines ≡ lines_asked found
   pub html : option_map (λ s. s.now) options.html ≡ first_of (codes "html") found
   pub files : paths_of options ≡ unwrap_or (all_of (codes "file") found) []
 

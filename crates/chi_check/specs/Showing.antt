@@ -1,5 +1,5 @@
 -- the page that a watch makes: that of the granule that is listed first
-use Rattle.std.specs.Prelude.{◌≡◌, ℕ, ◌*◌, ◌%◌, ◌^◌, ◌⊎◌, ◌++◌, true, false, List, Option, None, Some, IfSome}
+use Rattle.std.specs.Prelude.{◌≡◌, ℕ, ◌*◌, ◌%◌, ◌^◌, ◌⊎◌, ◌++◌, false, List, Option, None, Some, IfSome}
 use Rattle.std.specs.Io.KnownBytes.{Appends}
 use Rattle.chi_reading.specs.TraceText.{RecordedValue}
 use Rattle.chi_answer.specs.declared.answer.Answer.{Answer}
@@ -16,10 +16,10 @@ use Rattle.chi_check.specs.declared.fault.CheckFault.TheVariants as check_fault
 use Rattle.chi_check.specs.declared.options.CheckOptions.{CheckOptions}
 use Rattle.chi_check.specs.declared.options.WatchingOptions.{WatchingOptions}
 
--- how the page of a granule is made: as a check of events makes it that is asked for the granule at this address alone
+-- how the page of a granule is made: as a check of the lines makes it that is asked for the granule at this address alone
 abbrev pub page_options : WatchingOptions → ℕ → CheckOptions
 page_options options g = record {
-  events = true;
+  lines = Some options.format;
   witness = false;
   budget = options.budget;
   seconds = None;
@@ -34,7 +34,7 @@ page_options options g = record {
 -- and the page is the one of the answer.
 pub record IsPageOf (options : CheckOptions) (lines page : List ℕ) : Type 0 where
   pub recorded : RecordedValue
-  pub has_trace : HasTrace options.events lines recorded
+  pub has_trace : HasTrace options.lines lines recorded
   pub answer : Answer
   pub text : List ℕ
   pub right : IsRight options (judged options recorded) answer text
@@ -58,5 +58,5 @@ IsUnshown w fault = (fault ≡ check_fault.Unshown) ⊎ (fault ≡ stopped_by li
 -- at the path, before what is said once all is watched was written; where no granule is listed nothing was put.
 abbrev pub ShowsFirst : {P : Type 0} → (P → List ℕ → List ℕ → Type 0) → WatchingOptions → List ℕ → Option (List ℕ) → Option (List ℕ) → ℕ → P → P → Type 0
 ShowsFirst has_put options input old new status before after =
-    IfSome options.html (λ path. (watched : Watched) × (is : IsWatched input options.keep_going watched) × (status ≡ watch_status (watching options) watched)
+    IfSome options.html (λ path. (watched : Watched) × (is : IsWatched options.format input options.keep_going watched) × (status ≡ watch_status (watching options) watched)
     × Appends old new (watched_text (watching options) watched) × IsPutOf has_put (first_listed watched) (IsPageOfRead options input is.rest) path.now before after)

@@ -204,7 +204,7 @@ pub(crate) fn put_page<G: Pages>(pages: &mut G, path: Option<&str>, page: &[u8])
     }
 }
 
-/// Reads a trace, or events with the option for them, and writes whether what was observed can be explained. The answer is a
+/// Reads a trace, or lines with the option for them, and writes whether what was observed can be explained. The answer is a
 /// status: 0 where it can, 1 where it cannot, 6 where that is undecided within the budget.
 ///
 /// Nothing is written unless the whole trace was read and its answer found. After a fault of the writer a prefix of the
@@ -230,7 +230,7 @@ pub fn check<R: Read, W: Write, P: WatchProgress, G: Pages + Meter>(
     ensures page { IfOk result (λ status. IfSome (R.remaining from.old) (λ input. IsPut G.has_put options.now input (W.contents to.old) (W.contents to.new) status machine.new)) }
 {
     let input = read_bytes(alloc, from)?;
-    let recorded = match trace_told(alloc, &input, options.events) {
+    let recorded = match trace_told(alloc, &input, options.lines) {
         Ok(recorded) => recorded,
         Err(fault) => return Err(CheckFault::Input(fault)),
     };

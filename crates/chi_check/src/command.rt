@@ -46,14 +46,15 @@ reply is null its answer was not seen. The answer on standard output is `explain
   explained
 
 Events in FILE or on standard input are one JSON object a line: requests, their data and their
-replies, as a monitor tells them. `watch` reads them as they come (docs/EVENTS.md).
+replies, as a monitor tells them. `watch` reads them as they come (docs/EVENTS.md). With `--flits`
+the lines are the flits at a home's port (docs/FLITS.md).
 
 `cover` writes a table of how many operations each bin counted, of a trace or of events on standard
 input, or of all the files that are named (docs/COVERAGE.md).
 
-Statuses: 0 explained, or covered, and all that is required; 1 not explained, or less than is
-required; 2 command line refused; 3 trace or event refused; 4 no memory; 5 a read or a write
-failed; 6 undecided.";
+Statuses: 0 explained, or covered, and all that is required; 1 not explained, less than is
+required, or a flit that is not legal at the port; 2 command line refused; 3 trace, event or flit
+refused; 4 no memory; 5 a read or a write failed; 6 undecided.";
 
 fn whole_command<'a>(alloc: Global) -> Result<Command<'a>, Error>
     ensures app { IfOk result (λ command. app_of command ≡ program_app) }

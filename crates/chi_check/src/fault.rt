@@ -15,7 +15,7 @@ use thiserror::Error;
 /// - `TooLong`: the input has more than 536,870,912 bytes.
 /// - `Memory`: no memory for the input, for the search or for the answer.
 /// - `Trace`: the trace was refused.
-/// - `Events`: a line of events was refused, or not read.
+/// - `Events`: a line of events or flits was refused, or not read.
 #[derive(Debug, Drop, Error)]
 pub enum SourceFault {
     #[error("input could not be read")]
@@ -35,7 +35,7 @@ pub enum SourceFault {
 /// - `Input`: there is nothing to write of the input, or of what the inputs hold together.
 /// - `File`: the file at this place among those that were named, counted from 0, was not counted. Up to here nothing is written.
 /// - `Page`: the page was not written whole. Up to here nothing else is written.
-/// - `Unfinished`: a line of events was refused, or not read. The granules that were found by then are written.
+/// - `Unfinished`: a line of events or flits was refused, or not read. The granules that were found by then are written.
 /// - `Unsaved`: the lines of a granule were not saved whole. The granules that were found by lines are written.
 /// - `Unshown`: the page of a granule was not written whole. The granules that were found by lines are written.
 /// - `Write`: the answer was not written whole.
@@ -57,13 +57,14 @@ pub enum CheckFault {
     Write(WriteFault),
 }
 
-// The status of a fault of events.
+// The status of a fault of lines.
 fn lines_status(fault: &LinesFault) -> u8
     ensures { result ≡ lines_status fault.now }
 {
     match fault {
         LinesFault::Read | LinesFault::Write => 5,
         LinesFault::Memory => 4,
+        fault if fault.is_illegal() => 1,
         _ => 3,
     }
 }

@@ -1,6 +1,6 @@
-//! From traces or events to what their operations covered, and how many requests were refused.
+//! From traces or lines to what their operations covered, and how many requests were refused.
 
-ghost use Rattle.std.specs.Prelude.{◌≡◌, ◌<◌, ◌≤◌, [], ◌∷◌, false, true, IfErr, IfOk, IfSome, OnOk};
+ghost use Rattle.std.specs.Prelude.{◌≡◌, ◌<◌, ◌≤◌, [], ◌∷◌, None, Some, IfErr, IfOk, IfSome, OnOk};
 ghost use Rattle.chi_cover.specs.declared.bin.Bin.{Bin};
 ghost use Rattle.chi_cover.specs.Counts.{count_in};
 ghost use Rattle.chi_cover.specs.Refusals.{refused_in};
@@ -14,7 +14,7 @@ use crate::sources::Sources;
 use chi_cover::{Covered, Refusals};
 use chi_json::InputFault;
 use chi_reading::read_trace;
-use chi_watch_text::read_operations;
+use chi_watch_text::{LineFormat, read_operations};
 use std::alloc::{AllocError, Global};
 use std::io::Read;
 
@@ -40,8 +40,8 @@ impl Counted {
 
 // Adds the operations and the refusals of a trace.
 fn add_trace(alloc: Global, counted: &mut Counted, input: &[u8]) -> Result<(), SourceFault>
-    ensures added { OnOk result (Adds false input.now counted.old counted.new) }
-    ensures fault { IfErr result (IsTraceFault false input.now) }
+    ensures added { OnOk result (Adds None input.now counted.old counted.new) }
+    ensures fault { IfErr result (IsTraceFault None input.now) }
 {
     let recorded = match read_trace(alloc, input) {
         Ok(recorded) => recorded,
@@ -56,13 +56,18 @@ fn add_trace(alloc: Global, counted: &mut Counted, input: &[u8]) -> Result<(), S
     }
 }
 
-// Adds the operations and the refusals that events tell.
-fn add_events(alloc: Global, counted: &mut Counted, input: &[u8]) -> Result<(), SourceFault>
-    ensures added { OnOk result (Adds true input.now counted.old counted.new) }
-    ensures fault { IfErr result (IsTraceFault true input.now) }
+// Adds the operations and the refusals that lines tell.
+fn add_lines(
+    alloc: Global,
+    counted: &mut Counted,
+    input: &[u8],
+    format: LineFormat,
+) -> Result<(), SourceFault>
+    ensures added { OnOk result (Adds (Some format) input.now counted.old counted.new) }
+    ensures fault { IfErr result (IsTraceFault (Some format) input.now) }
 {
     let mut lines = input;
-    let told = match read_operations(alloc, &mut lines) {
+    let told = match read_operations(alloc, &mut lines, format) {
         Ok(told) => told,
         Err(fault) => return Err(SourceFault::Events(fault)),
     };
@@ -80,15 +85,14 @@ fn add_input(
     alloc: Global,
     counted: &mut Counted,
     input: &[u8],
-    events: bool,
+    lines: Option<LineFormat>,
 ) -> Result<(), SourceFault>
-    ensures added { OnOk result (Adds events input.now counted.old counted.new) }
-    ensures fault { IfErr result (IsTraceFault events input.now) }
+    ensures added { OnOk result (Adds lines input.now counted.old counted.new) }
+    ensures fault { IfErr result (IsTraceFault lines input.now) }
 {
-    if events {
-        add_events(alloc, counted, input)
-    } else {
-        add_trace(alloc, counted, input)
+    match lines {
+        Some(format) => add_lines(alloc, counted, input, format),
+        None => add_trace(alloc, counted, input),
     }
 }
 
@@ -97,11 +101,11 @@ fn add_file<S: Sources>(
     alloc: Global,
     counted: &mut Counted,
     path: &str,
-    events: bool,
+    lines: Option<LineFormat>,
     sources: &S,
 ) -> Result<(), SourceFault>
-    ensures added { OnOk result (AddsFile (S.holds sources.now) events path.now counted.old counted.new) }
-    ensures fault { IfErr result (IsFileFault (S.holds sources.now) events path.now) }
+    ensures added { OnOk result (AddsFile (S.holds sources.now) lines path.now counted.old counted.new) }
+    ensures fault { IfErr result (IsFileFault (S.holds sources.now) lines path.now) }
 {
     let input = match sources.read_file(alloc, path) {
         Ok(input) => input,
@@ -109,7 +113,7 @@ fn add_file<S: Sources>(
         Err(InputFault::TooLong) => return Err(SourceFault::TooLong),
         Err(InputFault::Memory) => return Err(SourceFault::Memory),
     };
-    add_input(alloc, counted, &input, events)
+    add_input(alloc, counted, &input, lines)
 }
 
 // What these files tell, counted.
@@ -118,14 +122,14 @@ fn files_counted<S: Sources>(
     options: &CoverOptions<'_>,
     sources: &S,
 ) -> Result<Counted, CheckFault>
-    ensures counts { IfOk result (λ counted. AreOfFiles (S.holds sources.now) options.now.events (paths_of options.now) counted) }
-    ensures fault { IfErr result (AreFilesFault (S.holds sources.now) options.now.events (paths_of options.now)) }
+    ensures counts { IfOk result (λ counted. AreOfFiles (S.holds sources.now) options.now.lines (paths_of options.now) counted) }
+    ensures fault { IfErr result (AreFilesFault (S.holds sources.now) options.now.lines (paths_of options.now)) }
 {
     let Ok(mut counted) = Counted::none(alloc) else {
         return Err(CheckFault::Input(SourceFault::Memory));
     };
     for (place, path) in options.files.iter().enumerate() {
-        match add_file(alloc, &mut counted, path, options.events, sources) {
+        match add_file(alloc, &mut counted, path, options.lines, sources) {
             Ok(()) => {}
             Err(fault) => return Err(CheckFault::File { place, fault }),
         }
@@ -134,15 +138,19 @@ fn files_counted<S: Sources>(
 }
 
 // What the standard input tells, counted.
-fn input_counted<R: Read>(alloc: Global, from: &mut R, events: bool) -> Result<Counted, CheckFault>
-    ensures counts { IfOk result (λ counted. IfSome (R.remaining from.old) (λ input. AreCounted events (input ∷ []) counted)) }
-    ensures fault { IfErr result (λ fault. IfSome (R.remaining from.old) (λ input. IsInputFault events input fault)) }
+fn input_counted<R: Read>(
+    alloc: Global,
+    from: &mut R,
+    lines: Option<LineFormat>,
+) -> Result<Counted, CheckFault>
+    ensures counts { IfOk result (λ counted. IfSome (R.remaining from.old) (λ input. AreCounted lines (input ∷ []) counted)) }
+    ensures fault { IfErr result (λ fault. IfSome (R.remaining from.old) (λ input. IsInputFault lines input fault)) }
 {
     let input = read_bytes(alloc, from)?;
     let Ok(mut counted) = Counted::none(alloc) else {
         return Err(CheckFault::Input(SourceFault::Memory));
     };
-    match add_input(alloc, &mut counted, &input, events) {
+    match add_input(alloc, &mut counted, &input, lines) {
         Ok(()) => Ok(counted),
         Err(fault) => Err(CheckFault::Input(fault)),
     }
@@ -156,10 +164,10 @@ pub(crate) fn inputs_counted<R: Read, S: Sources>(
     sources: &S,
 ) -> Result<Counted, CheckFault>
     ensures counts { IfOk result (λ counted. IfSome (R.remaining from.old) (λ input. HasCounts (S.holds sources.now) options.now input counted)) }
-    ensures fault { IfErr result (λ fault. IfSome (R.remaining from.old) (λ input. AreInputsFault (S.holds sources.now) options.now.events (paths_of options.now) input fault)) }
+    ensures fault { IfErr result (λ fault. IfSome (R.remaining from.old) (λ input. AreInputsFault (S.holds sources.now) options.now.lines (paths_of options.now) input fault)) }
 {
     if options.files.is_empty() {
-        input_counted(alloc, from, options.events)
+        input_counted(alloc, from, options.lines)
     } else {
         files_counted(alloc, options, sources)
     }

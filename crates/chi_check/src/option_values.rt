@@ -4,12 +4,12 @@ ghost use Rattle.std.specs.Prelude.{◌≡◌, [], codes, map, unwrap_or, IfOk};
 ghost use Rattle.std.specs.Option.{option_map};
 ghost use Rattle.clap.specs.Matches.{found_of};
 ghost use Rattle.clap.specs.Walk.{all_of, first_of, one_of, rows_of};
-ghost use Rattle.chi_check.specs.OptionValues.{HasCoverOptions, HasRequired, HasWatchOptions};
+ghost use Rattle.chi_check.specs.OptionValues.{HasCoverOptions, HasRequired, HasWatchOptions, format_asked, lines_asked};
 ghost use Rattle.chi_program.specs.OptionValues.{IsNumberOr, IsNumberOrNone, has_word};
 
 use crate::options::{CheckOptions, CoverOptions, WatchingOptions};
 use chi_program::{is_switched, number_given, number_or, text_given};
-use chi_watch_text::Required;
+use chi_watch_text::{LineFormat, Required};
 use clap::ArgMatches;
 use std::alloc::{AllocError, Global};
 
@@ -39,16 +39,33 @@ pub(crate) fn file_given<'a>(matches: &ArgMatches<'a>) -> Option<&'a str>
     text_given(matches, "file")
 }
 
-// Whether events are read in place of traces.
-fn has_events(matches: &ArgMatches<'_>) -> bool
-    ensures { result ≡ has_word (rows_of (found_of matches.now)) (codes "events") (codes "true") }
+// What each line of an input tells, where it is no trace.
+fn lines_asked(matches: &ArgMatches<'_>) -> Option<LineFormat>
+    ensures { result ≡ lines_asked (rows_of (found_of matches.now)) }
 {
-    is_switched(matches, "events")
+    if is_switched(matches, "flits") {
+        Some(LineFormat::Flits)
+    } else if is_switched(matches, "events") {
+        Some(LineFormat::Events)
+    } else {
+        None
+    }
+}
+
+// What each line that is watched tells.
+fn format_asked(matches: &ArgMatches<'_>) -> LineFormat
+    ensures { result ≡ format_asked (rows_of (found_of matches.now)) }
+{
+    if is_switched(matches, "flits") {
+        LineFormat::Flits
+    } else {
+        LineFormat::Events
+    }
 }
 
 /// The options that `explain` was given, or that stand in for them.
 pub(crate) fn explain_options<'a>(matches: &ArgMatches<'a>) -> CheckOptions<'a>
-    ensures events { result.events ≡ has_word (rows_of (found_of matches.now)) (codes "events") (codes "true") }
+    ensures lines { result.lines ≡ lines_asked (rows_of (found_of matches.now)) }
     ensures witness { result.witness ≡ has_word (rows_of (found_of matches.now)) (codes "witness") (codes "true") }
     ensures budget { IsNumberOr 1000000 (one_of (codes "budget") (rows_of (found_of matches.now))) result.budget }
     ensures seconds { IsNumberOrNone (one_of (codes "seconds") (rows_of (found_of matches.now))) result.seconds }
@@ -59,7 +76,7 @@ pub(crate) fn explain_options<'a>(matches: &ArgMatches<'a>) -> CheckOptions<'a>
     ensures html { option_map (λ s. s.now) result.html ≡ first_of (codes "html") (rows_of (found_of matches.now)) }
 {
     CheckOptions {
-        events: has_events(matches),
+        lines: lines_asked(matches),
         witness: is_switched(matches, "witness"),
         budget: number_or(matches, "budget", BUDGET),
         seconds: number_given(matches, "seconds"),
@@ -88,6 +105,7 @@ pub(crate) fn watch_options<'a>(matches: &ArgMatches<'a>) -> WatchingOptions<'a>
     ensures { HasWatchOptions (rows_of (found_of matches.now)) result }
 {
     WatchingOptions {
+        format: format_asked(matches),
         budget: number_or(matches, "budget", BUDGET),
         keep_going: is_switched(matches, "keep-going"),
         required: required(matches),
@@ -115,7 +133,7 @@ pub(crate) fn cover_options<'a>(
 {
     Ok(CoverOptions {
         require: number_or(matches, "require", REQUIRE),
-        events: has_events(matches),
+        lines: lines_asked(matches),
         html: html_file(matches),
         files: files_given(alloc, matches)?,
     })

@@ -1,8 +1,8 @@
 //! What a check, a watch and a count may be told.
 
-use chi_watch_text::Required;
+use chi_watch_text::{LineFormat, Required};
 
-/// How a trace is checked. With `events` the input tells events, a line each, and is no trace. With `witness` the operations of a
+/// How a trace is checked. With `lines` the input is lines that tell this, and no trace. With `witness` the operations of a
 /// trace that is explained are written in the order found. `budget` is how many states of each granule are looked at for an
 /// answer. With `seconds` or `memory` fewer are: no larger search begins that may take the time or the bytes beyond these. With
 /// `granule` the granule at this address alone is judged, and with `until` what had happened by that time. `around` is how many
@@ -10,7 +10,7 @@ use chi_watch_text::Required;
 /// trace.
 #[derive(Clone, Copy)]
 pub struct CheckOptions<'a> {
-    pub events: bool,
+    pub lines: Option<LineFormat>,
     pub witness: bool,
     pub budget: u64,
     pub seconds: Option<u64>,
@@ -21,11 +21,12 @@ pub struct CheckOptions<'a> {
     pub html: Option<&'a str>,
 }
 
-/// How events are watched. `budget` is how many states are looked at for an answer. With `keep_going` a granule that no order explains
+/// How lines are watched. `format` is what they tell. `budget` is how many states are looked at for an answer. With `keep_going` a granule that no order explains
 /// does not end it. `required` changes nothing of what is found. `save` is the path of a file that is to be the lines that tell of
-/// the granule that is listed first, where one is listed that no order explains, and `html` that of one that is to be its page.
+/// the granule that is listed first, where one is listed that no order explains, or all flits up to there, and `html` that of one that is to be its page.
 #[derive(Clone, Copy)]
 pub struct WatchingOptions<'a> {
+    pub format: LineFormat,
     pub budget: u64,
     pub keep_going: bool,
     pub required: Required,
@@ -33,13 +34,13 @@ pub struct WatchingOptions<'a> {
     pub html: Option<&'a str>,
 }
 
-/// What is counted, and how. `require` is how many of a hundred bins have to have counted an operation. With `events` the inputs
-/// tell events, and are no traces. `files` are the paths of the inputs; where there is none it is the standard input. `html` is the path
+/// What is counted, and how. `require` is how many of a hundred bins have to have counted an operation. With `lines` the inputs
+/// are lines that tell this, and no traces. `files` are the paths of the inputs; where there is none it is the standard input. `html` is the path
 /// of a file that is to be the page of the counts.
 #[derive(Drop)]
 pub struct CoverOptions<'a> {
     pub require: u64,
-    pub events: bool,
+    pub lines: Option<LineFormat>,
     pub html: Option<&'a str>,
     pub files: Vec<&'a str>,
 }

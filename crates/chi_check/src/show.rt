@@ -16,12 +16,12 @@ use crate::watch::stopped_by;
 use chi_watch_text::{LinesFault, WatchProgress, Watched, read_events};
 use std::alloc::Global;
 
-// How the page of a granule is made: as a check of events makes it that is asked for this granule alone.
+// How the page of a granule is made: as a check of the lines makes it that is asked for this granule alone.
 fn page_options<'a>(options: &WatchingOptions<'a>, granule: u64) -> CheckOptions<'a>
     ensures { result ≡ page_options options.now granule }
 {
     CheckOptions {
-        events: true,
+        lines: Some(options.format),
         witness: false,
         budget: options.budget,
         seconds: None,
@@ -49,7 +49,7 @@ fn page_of<P: WatchProgress, M: Meter>(
 {
     let mut reader = lines;
     // A watch took these lines, so they are refused for want of memory alone.
-    let Ok(recorded) = read_events(alloc, &mut reader) else {
+    let Ok(recorded) = read_events(alloc, &mut reader, options.format) else {
         return Err(stopped_by(LinesFault::Memory, &watched.found));
     };
     let how = page_options(options, granule);

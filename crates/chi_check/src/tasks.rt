@@ -9,6 +9,13 @@ const BUDGET: NamedOption<'static> = NamedOption {
     help: "States of each granule that are looked at for an answer",
 };
 
+// That the lines state flits.
+const FLITS: NamedOption<'static> = NamedOption {
+    name: "flits",
+    takes: Takes::Nothing,
+    help: "Follows the flits at a home's port, a line each",
+};
+
 // The file that is read.
 const FILE: NamedOption<'static> = NamedOption {
     name: "file",
@@ -17,12 +24,13 @@ const FILE: NamedOption<'static> = NamedOption {
 };
 
 // The options of `explain`, and its file.
-const EXPLAIN: [NamedOption<'static>; 10] = [
+const EXPLAIN: [NamedOption<'static>; 11] = [
     NamedOption {
         name: "events",
         takes: Takes::Nothing,
         help: "Judges what events tell, a line each, and no trace",
     },
+    FLITS,
     NamedOption {
         name: "witness",
         takes: Takes::Nothing,
@@ -63,7 +71,8 @@ const EXPLAIN: [NamedOption<'static>; 10] = [
 ];
 
 // The options of `watch`, and its file.
-const WATCH: [NamedOption<'static>; 9] = [
+const WATCH: [NamedOption<'static>; 10] = [
+    FLITS,
     BUDGET,
     NamedOption {
         name: "save",
@@ -104,7 +113,7 @@ const WATCH: [NamedOption<'static>; 9] = [
 ];
 
 // The options of `cover`, and the files that are counted.
-const COVER: [NamedOption<'static>; 4] = [
+const COVER: [NamedOption<'static>; 5] = [
     NamedOption {
         name: "require",
         takes: Takes::NumberOr("PERCENT", "0"),
@@ -115,6 +124,7 @@ const COVER: [NamedOption<'static>; 4] = [
         takes: Takes::Nothing,
         help: "Counts what events tell, a line each, and not traces",
     },
+    FLITS,
     NamedOption {
         name: "html",
         takes: Takes::Text("FILE"),

@@ -1,4 +1,4 @@
-//! From the lines of events to an answer's bytes.
+//! From lines that tell events to an answer's bytes.
 
 ghost use Rattle.std.specs.Prelude.{◌≡◌, ◌≢◌, IfErr, IfOk, IfSome, flat_map, is_some};
 ghost use Rattle.std.specs.Io.KnownBytes.{Appends};
@@ -28,11 +28,12 @@ use chi_watch_text::{
 use std::alloc::Global;
 use std::io::{BufReader, Read, Write};
 
-// How the events are watched: their lines are kept where some are to be saved, or a page is to be made of them.
+// How the lines are watched: they are kept where some are to be saved, or a page is to be made of them.
 fn watching(options: &WatchingOptions<'_>) -> WatchOptions
     ensures { result ≡ watching options.now }
 {
     WatchOptions {
+        format: options.format,
         budget: options.budget,
         keep_going: options.keep_going,
         keep_lines: options.save.is_some() || options.html.is_some(),
@@ -80,7 +81,7 @@ pub(crate) fn stopped_by(fault: LinesFault, found: &[FoundGranule]) -> CheckFaul
     }
 }
 
-// What is found of the events that a reader gives. Each granule is told when it is found.
+// What is found of the lines that a reader gives. Each granule is told when it is found.
 fn watched<R: Read, W: Write, P: WatchProgress>(
     alloc: Global,
     from: &mut R,
@@ -88,7 +89,7 @@ fn watched<R: Read, W: Write, P: WatchProgress>(
     options: &WatchOptions,
     progress: &mut P,
 ) -> Result<Watched, Unfinished>
-    ensures outcome { IfSome (R.remaining from.old) (λ input. IsOutcome input options.now.keep_going result) }
+    ensures outcome { IfSome (R.remaining from.old) (λ input. IsOutcome options.now.format input options.now.keep_going result) }
     ensures told { IfOk result (λ watched. Appends (W.contents to.old) (W.contents to.new) (flat_map found_text watched.found.items)) }
     ensures kept { IfErr result (λ unfinished. unfinished.fault ≢ LinesFault.Write → Appends (W.contents to.old) (W.contents to.new) (flat_map found_text unfinished.found.items)) }
     ensures begun { IfErr result (λ unfinished. AppendsFront (W.contents to.old) (W.contents to.new) (flat_map found_text unfinished.found.items)) }
@@ -125,13 +126,13 @@ fn write_closing<W: Write>(
     }
 }
 
-/// Reads events, a line of JSON each, as they come, and writes whether what they tell can be explained. The answer is a
+/// Reads events or flits, a line of JSON each, as they come, and writes whether what they tell can be explained. The answer is a
 /// status: 0 where it can, and all is there that is required; 1 where it cannot, or something is missing; 6 where it is
 /// undecided within the budget.
 ///
 /// It ends at the first line by which it is seen that no order explains the operations of a granule, unless it keeps going. Each such
 /// granule is written as soon as it is found, and nothing else before the end, or a line that is refused. Where lines are to be saved,
-/// those that were read and tell of the granule that is listed first are put before what is said at the end is written, and then its
+/// those that were read and tell of the granule that is listed first, or all flits that were read, are put before what is said at the end is written, and then its
 /// page is, where one is asked for. After a fault of the writer a prefix of the text has been written. `progress` is told how far it
 /// is, and cleared before anything is written. `machine` puts the lines and the page.
 ///
@@ -158,7 +159,7 @@ pub fn watch<R: Read, W: Write, P: WatchProgress, G: Pages + Meter>(
     progress.clear();
     match found {
         Ok(watched) => {
-            save_first(alloc, &watched, options.save, machine)?;
+            save_first(alloc, &watched, options, machine)?;
             show_first(alloc, &watched, options, progress, machine)?;
             write_closing(alloc, &watched, to, &how)
         }

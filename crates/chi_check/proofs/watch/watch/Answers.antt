@@ -1,10 +1,12 @@
 -- the granules that were found are written, the lines of the first and its page are put, and then what is said once all is watched is
 -- written
-use Rattle.std.proofs.Common.{ℕ, ◌≤◌, Result, Err, IfSome, ap, subst}
+use Rattle.std.proofs.Common.{ℕ, ◌≤◌, Result, Err, IfSome, IsSomeAnd, ap, subst, sym}
 use Rattle.std.proofs.lemmas.Result.{IfOk-weaker}
+use Rattle.chi_watch_text.specs.declared.line_format.LineFormat.{LineFormat}
 use Rattle.chi_watch_text.specs.declared.options.WatchOptions.{WatchOptions}
 use Rattle.chi_watch_text.proofs.Told.{passed_on}
 use Rattle.chi_check.specs.Check.{KeepsUnanswered}
+use Rattle.chi_check.specs.Saving.{IsUnsaved}
 use Rattle.chi_check.specs.Watch.{WatchOutcome, stopped_by, watching}
 use Rattle.chi_check.specs.declared.fault.CheckFault.{CheckFault}
 use Rattle.chi_check.proofs.SavingLemmas.{saved, unsaved, unsaved_unanswered}
@@ -51,17 +53,23 @@ returns-in_err-save_first-in-Ok-clause-outcome g c =
     let old = g.W.Write.contents c.args.to.now in
     let new = g.W.Write.contents c.watched-found.new.to in
     let fault = c.in_err-save_first-in-Ok.field-0.0 in
+    let why =
+    subst (λ (f : LineFormat). IsSomeAnd c.in-Ok.watched.kept (λ k. IsUnsaved f c.in-Ok.watched k.items fault)) (sym (ap (λ (how : WatchOptions). how.format) c.watching-how.ensures))
+    c.in_err-save_first-in-Ok.ensures.fault in
     passed_on c.from_residual.result fault (λ (r : Result ℕ CheckFault). IfSome input (λ bytes. WatchOutcome (watching c.args.options.now) bytes old new r)) c.from_residual.ensures.1
     (subst (λ (how : WatchOptions). IfSome input (λ bytes. WatchOutcome how bytes old new (Err fault))) c.watching-how.ensures
-    (unsaved c.watching-how.result old new c.in-Ok.watched c.in-Ok.ensures.told input fault c.in-Ok.ensures.outcome c.in_err-save_first-in-Ok.ensures.fault))
+    (unsaved c.watching-how.result old new c.in-Ok.watched c.in-Ok.ensures.told input fault c.in-Ok.ensures.outcome why))
 
 pub returns-in_err-save_first-in-Ok-clause-unanswered : goal.returns-in_err-save_first-in-Ok-clause-unanswered
 returns-in_err-save_first-in-Ok-clause-unanswered g c =
     let old = g.W.Write.contents c.args.to.now in
     let new = g.W.Write.contents c.watched-found.new.to in
     let fault = c.in_err-save_first-in-Ok.field-0.0 in
+    let why =
+    subst (λ (f : LineFormat). IsSomeAnd c.in-Ok.watched.kept (λ k. IsUnsaved f c.in-Ok.watched k.items fault)) (sym (ap (λ (how : WatchOptions). how.format) c.watching-how.ensures))
+    c.in_err-save_first-in-Ok.ensures.fault in
     passed_on c.from_residual.result fault (λ (r : Result ℕ CheckFault). KeepsUnanswered old new r) c.from_residual.ensures.1
-    (unsaved_unanswered c.watching-how.result old new c.in-Ok.watched c.in-Ok.ensures.told c.in-Ok.watched.kept fault c.in_err-save_first-in-Ok.ensures.fault)
+    (unsaved_unanswered c.watching-how.result old new c.in-Ok.watched c.in-Ok.ensures.told c.in-Ok.watched.kept fault why)
 
 pub returns-in_err-show_first-in-Ok-clause-outcome : goal.returns-in_err-show_first-in-Ok-clause-outcome
 returns-in_err-show_first-in-Ok-clause-outcome g c =
