@@ -12,8 +12,8 @@ places=${PLACES:-8}
 folder=out/dv_events_$places
 mkdir -p "$folder"
 timeout -k 5 600 verilator --binary -Wall -Wno-DECLFILENAME -Wno-UNUSEDSIGNAL --timing --top-module chi_channels_tb --Mdir "$folder" \
-  "-GPlaces=$places" dv/chi_stimulus.sv dv/chi_home_node.sv dv/chi_monitor.sv dv/chi_channels_tb.sv > "$folder.log" 2>&1 || {
+  "-GPlaces=$places" dv/chi_stimulus.sv dv/chi_home_node.sv dv/chi_monitor.sv dv/chi_flits.sv dv/chi_channels_tb.sv > "$folder.log" 2>&1 || {
   tail -n 30 "$folder.log" >&2
   exit 1
 }
-"$folder/Vchi_channels_tb" "+events=$1" +requests=100000 "${@:2}"
+"$folder/Vchi_channels_tb" "+events=$1" +flits=/dev/null +requests=100000 "${@:2}"

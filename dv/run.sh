@@ -1,8 +1,9 @@
 #!/usr/bin/env bash
 # Runs the benches in Verilator. The one with the reference has to agree, and to find each of three planted mistakes. Those with
 # the monitor tell events: of flits by hand just those that were worked, and of a home node by chance events that chicheck watch
-# explains while they come, or that stop it and with it the simulation, where a mistake is planted; and 100,000 requests of it cover
-# all traffic that they can. dv/run.sh [SEEDS [REQUESTS]]
+# explains while they come, or that stop it and with it the simulation, where a mistake is planted; chicheck watch --flits does so by
+# its flits; and 100,000 requests of it cover all traffic that they can. Flits with an x are those of a bench in Icarus Verilog.
+# dv/run.sh [SEEDS [REQUESTS]]
 set -eu
 cd "$(dirname "$0")/.."
 seeds=${1:-16} requests=${2:-2000}
@@ -54,46 +55,98 @@ checker=crates/chi_check/out/chi_check
 pipe=$(mktemp -u)
 mkfifo "$pipe"
 trap 'rm -f "$pipe"' EXIT
-watch() { # the build, and plusargs: sets the statuses of both programs and the first line of the answer
-  timeout -k 5 120 $checker watch --require-end --require-quiet < "$pipe" > out/dv_answer &
-  simulated=0
+declare -A simulated watched answer found stopped
+watch() { # events or flits, the build, and plusargs: sets the statuses of both programs and the first line of the answer
+  local told=$1 other=flits flags="" fault="chi_monitor: cycle [0-9]*: an event cannot be written"
+  [ "$told" = events ] || other=events flags=--flits fault="chi_flits: time [0-9]*: no line can be written"
+  timeout -k 5 120 $checker watch $flags --require-end --require-quiet < "$pipe" > "out/dv_answer_$told" 2>&1 &
+  simulated[$told]=0 watched[$told]=0
   # Where chicheck has stopped the monitor sees that it cannot write, and ends the simulation by $fatal.
-  (trap '' PIPE; $limited "out/dv_channels_$1/Vchi_channels_tb" "+events=$pipe" "+requests=$requests" "${@:2}" > out/dv_said 2>&1) || simulated=$?
-  [ $simulated = 0 ] || grep -q '^.*chi_monitor: cycle [0-9]*: an event cannot be written (Broken pipe)' out/dv_said \
-    || fail "$*: the simulation ends with $simulated: $(cat out/dv_said)"
-  watched=0
-  wait $! || watched=$?
-  answer=$(head -n 1 out/dv_answer)
+  { (trap '' PIPE; $limited "out/dv_channels_$2/Vchi_channels_tb" "+$told=$pipe" "+$other=/dev/null" "+requests=$requests" "${@:3}") \
+    > "out/dv_said_$told" 2>&1; } 2> /dev/null || simulated[$told]=$?
+  [ ${simulated[$told]} = 0 ] || grep -q "$fault (Broken pipe)" "out/dv_said_$told" \
+    || fail "$*: the simulation ends with ${simulated[$told]}: $(cat "out/dv_said_$told")"
+  wait $! || watched[$told]=$?
+  answer[$told]=$(head -n 1 "out/dv_answer_$told")
+}
+# Events and flits of one run have to agree on the status of chicheck, and where it is 0 on the whole answer.
+watch_all() { # the build, and plusargs: as watch, by all that the build tells
+  for told in $tellings; do watch "$told" "$@"; done
+  [ "$tellings" != events ] || return 0
+  [ ${watched[events]} = ${watched[flits]} ] && { [ ${watched[events]} != 0 ] || cmp -s out/dv_answer_events out/dv_answer_flits; } \
+    || fail "$*: by events chicheck ends with ${watched[events]}: $(cat out/dv_answer_events)" \
+      "by flits it ends with ${watched[flits]}: $(cat out/dv_answer_flits)"
 }
 mistakes=("" "a lost update" "a stale read" "byte enables ignored" "a compare that writes on a mismatch" "the wrong half of the window"
   "no sign in SMAX" "a retried request that took effect" "a response for another TxnID")
 for kind in 128 256 512 point; do
-  if [ $kind = point ]; then flags="-GSeesPoint=1'b1"; else flags="-GDataWidth=$kind"; fi
-  build out/dv_channels_$kind chi_channels_tb $flags dv/chi_stimulus.sv dv/chi_home_node.sv dv/chi_monitor.sv dv/chi_channels_tb.sv
+  flags="-GDataWidth=$kind" tellings="events flits"
+  [ $kind != point ] || flags="-GSeesPoint=1'b1" tellings=events # flits have no points
+  build out/dv_channels_$kind chi_channels_tb $flags \
+    dv/chi_stimulus.sv dv/chi_home_node.sv dv/chi_monitor.sv dv/chi_flits.sv dv/chi_channels_tb.sv
   for seed in $(seq "$seeds"); do
     for more in "" +errors; do
-      watch $kind "+seed=$seed" $more
-      [ "$simulated $watched" = "0 0" ] || fail "$kind, seed $seed $more: the home node ends with $simulated, and chicheck with $watched: $(cat out/dv_answer out/dv_said)"
+      watch_all $kind "+seed=$seed" $more
+      for told in $tellings; do
+        [ "${simulated[$told]} ${watched[$told]}" = "0 0" ] || fail "$kind, seed $seed $more: by $told the home node ends with" \
+          "${simulated[$told]}, and chicheck with ${watched[$told]}: $(cat out/dv_answer_$told out/dv_said_$told)"
+      done
     done
   done
-  echo "$kind: $seeds seeds are explained, also with errors; of the last $(grep '^chi_monitor: [0-9]' out/dv_said)"
+  echo "$kind, by ${tellings/ / and }: $seeds seeds are explained, also with errors; of the last $(grep '^chi_monitor: [0-9]' out/dv_said_events)"
   for mistake in 1 2 3 4 5 6 7 8; do
-    found=0 stopped=0
+    for told in $tellings; do found[$told]=0 stopped[$told]=0; done
     for seed in $(seq "$seeds"); do
-      watch $kind "+seed=$seed" "+mistake=$mistake"
-      [ $watched = 0 ] || [ $watched = 1 ] || fail "$kind, seed $seed, mistake $mistake: chicheck ends with $watched"
-      [[ $answer != "not explained: "* ]] || found=$((found + 1))
-      [ $simulated = 0 ] || stopped=$((stopped + 1))
+      watch_all $kind "+seed=$seed" "+mistake=$mistake"
+      for told in $tellings; do
+        [ ${watched[$told]} = 0 ] || [ ${watched[$told]} = 1 ] \
+          || fail "$kind, seed $seed, mistake $mistake: by $told chicheck ends with ${watched[$told]}: $(cat out/dv_answer_$told)"
+        [[ ! ${answer[$told]} =~ ^(not explained|chicheck: not legal at the port): ]] || found[$told]=$((${found[$told]} + 1))
+        [ ${simulated[$told]} = 0 ] || stopped[$told]=$((${stopped[$told]} + 1))
+      done
     done
-    [ $((16 * found)) -ge $((15 * seeds)) ] || fail "$kind: ${mistakes[mistake]} is found with $found of $seeds seeds"
-    [ $stopped -gt 0 ] || fail "$kind: ${mistakes[mistake]} stops no simulation"
-    echo "$kind: ${mistakes[mistake]} is found with $found of $seeds seeds, and stops the simulation with $stopped; with the last: $answer"
+    for told in $tellings; do
+      [ $((16 * ${found[$told]})) -ge $((15 * seeds)) ] && [ ${found[$told]} -ge ${found[events]} ] \
+        || fail "$kind: ${mistakes[mistake]} is found with ${found[$told]} of $seeds seeds by $told, and with ${found[events]} by events"
+      [ ${stopped[$told]} -gt 0 ] || fail "$kind: ${mistakes[mistake]} stops no simulation by $told"
+      echo "$kind, by $told: ${mistakes[mistake]} is found with ${found[$told]} of $seeds seeds, and stops the simulation with" \
+        "${stopped[$told]}; with the last: ${answer[$told]}"
+    done
   done
-  watch $kind +seed=1 +mistake=9
-  [ "$watched $answer $(grep '^required: ' out/dv_answer | cut -d , -f 1)" = "1 explained required: no request is outstanding" ] \
-    && grep -q ' is open,' out/dv_said || fail "$kind: a request without an answer: $(cat out/dv_answer out/dv_said)"
-  echo "$kind: where a request is not answered the events are $answer, and $(tail -n 1 out/dv_answer); the first that is open: $(grep -m 1 ' is open,' out/dv_said)"
+  watch_all $kind +seed=1 +mistake=9
+  for told in $tellings; do
+    [ "${watched[$told]} ${answer[$told]} $(grep '^required: ' out/dv_answer_$told | cut -d , -f 1)" \
+      = "1 explained required: no request is outstanding" ] && grep -q ' is open,' out/dv_said_$told \
+      || fail "$kind, by $told: a request without an answer: $(cat out/dv_answer_$told out/dv_said_$told)"
+    echo "$kind, by $told: where a request is not answered all is ${answer[$told]}, and $(tail -n 1 out/dv_answer_$told); the first" \
+      "that is open: $(grep -m 1 ' is open,' out/dv_said_$told)"
+  done
 done
+
+# Flits with an x, which Verilator does not have. Their lines are counted from 1, that of the granule's word.
+if command -v iverilog > /dev/null; then
+  mkdir -p out/dv_x
+  timeout -k 5 60 iverilog -g2012 -s x_bench -o out/dv_x/bench dv/chi_flits.sv dv/x_bench.sv > out/dv_x/built.log 2>&1 \
+    || fail "Icarus Verilog does not take the bench with an x: $(cat out/dv_x/built.log)"
+  explained="explained
+  operations that ended: 2
+  requests outstanding: 0
+  granules: 1
+  granules not judged: 0"
+  cases=("0 $explained" "3 chicheck: line 4 has an x in an enabled lane" "3 chicheck: line 7 has an x in a lane of its operand"
+    "3 chicheck: line 7 has a valid that is not known" "3 chicheck: line 6 has a valid that is not known"
+    "3 chicheck: line 4 has an x in its byte enables")
+  for case in "${!cases[@]}"; do
+    $limited vvp -n out/dv_x/bench "+case=$case" +flits=out/dv_x/flits.jsonl > out/dv_x/said.log 2>&1 \
+      || fail "case $case with an x ends with a fault: $(cat out/dv_x/said.log)"
+    status=0
+    said=$($checker watch --flits --require-end --require-quiet < out/dv_x/flits.jsonl 2>&1) || status=$?
+    [ "$status $said" = "${cases[case]}" ] || fail "case $case with an x: chicheck ends with $status $said, and not with ${cases[case]}"
+  done
+  echo "${#cases[@]} cases with an x, in Icarus Verilog: as they were worked by hand"
+else
+  echo "flits with an x are left out: no iverilog on the path (apt-get install iverilog)"
+fi
 
 # What the traffic of the bench covers: every bin but the one that a home of eight places cannot have.
 dv/events.sh out/dv_events.jsonl > out/dv_said 2>&1 || fail "the bench that writes events ends with a fault: $(cat out/dv_said)"
