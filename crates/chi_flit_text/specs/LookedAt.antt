@@ -1,6 +1,6 @@
 -- what of a flit is looked at, by its opcode
 use Rattle.std.specs.Prelude.{ℕ, ◌&&◌, ◌||◌, not, Bool, true, false, Option, None, Some, Result, Ok, Err}
-use Rattle.chi_flits.specs.Opcodes.{is_atomic, is_cancel, is_read, is_write, is_write_data, takes_txn, writes_nothing}
+use Rattle.chi_flits.specs.Opcodes.{is_cancel, is_read, is_write, is_write_data, takes_txn, writes_nothing}
 use Rattle.chi_flit_text.specs.declared.fault.FlitLineFault.{FlitLineFault}
 use Rattle.chi_flit_text.specs.declared.fault.FlitLineFault.TheVariants.{UnknownDigit}
 use Rattle.chi_flit_text.specs.declared.member.FlitMember.{FlitMember}
@@ -9,9 +9,9 @@ use Rattle.chi_flit_text.specs.declared.member.FlitMember.{FlitMember}
 abbrev pub has_addr : ℕ → Bool
 has_addr opcode = takes_txn opcode && not (writes_nothing opcode)
 
--- `excl` of a request
+-- `excl` of a request; no atomic is exclusive
 abbrev pub has_excl : ℕ → Bool
-has_excl opcode = is_read opcode || is_write opcode || is_atomic opcode
+has_excl opcode = is_read opcode || is_write opcode
 
 -- `resp_err` of data to the home
 abbrev pub has_write_error : ℕ → Bool

@@ -102,7 +102,7 @@ fn flit_line(object: &Value) -> Result<FlitLine, MemberFault<FlitMember>>
 /// looked at, and of the others, by opcode:
 ///
 /// - `REQ`: none of 00, 05 and 3a. `src` and `txn` of all others; `size` and `addr` of these, but not of 01, 02, 03, 0d, 14, 22,
-///   23, 24 and 26; `excl` of 04, 1c, 1d and 28 to 39; `endian` of 28 to 39.
+///   23, 24 and 26; `excl` of 04, 1c and 1d; `endian` of 28 to 39.
 /// - `RSP`: `tgt` and `txn` of 3 to 6, `resp_err` of 4 and 5, `dbid` of 5 and 6.
 /// - `RDAT`: all of 4. The chunks of others are `None`.
 /// - `WDAT`: `src`, `txn` and `data_id` of 3 and 7, `resp_err` of 3. The chunks of others are `None`.

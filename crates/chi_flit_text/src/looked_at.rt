@@ -5,9 +5,7 @@ ghost use Rattle.chi_flit_text.specs.LookedAt.{has_addr, has_excl, has_write_err
 
 use crate::fault::FlitLineFault;
 use crate::member::FlitMember;
-use chi_flits::{
-    is_atomic, is_cancel, is_read, is_write, is_write_data, takes_txn, writes_nothing,
-};
+use chi_flits::{is_cancel, is_read, is_write, is_write_data, takes_txn, writes_nothing};
 
 /// Whether the size and the address of a request are looked at.
 pub(crate) fn has_addr(opcode: u8) -> bool
@@ -16,11 +14,11 @@ pub(crate) fn has_addr(opcode: u8) -> bool
     takes_txn(opcode) && !writes_nothing(opcode)
 }
 
-/// Whether the `excl` of a request is looked at.
+/// Whether the `excl` of a request is looked at. No atomic is exclusive.
 pub(crate) fn has_excl(opcode: u8) -> bool
     ensures { result ≡ has_excl opcode }
 {
-    is_read(opcode) || is_write(opcode) || is_atomic(opcode)
+    is_read(opcode) || is_write(opcode)
 }
 
 /// Whether the error of data to the home is looked at.

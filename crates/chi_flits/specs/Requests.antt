@@ -30,10 +30,14 @@ has_told_size q =
     else if is_compare q.opcode then nat_le 1 q.size && nat_le q.size 4
     else is_atomic q.opcode && nat_le q.size 3
 
+-- an exclusive read or write; no atomic is one
+abbrev pub is_exclusive : RequestFlit → Bool
+is_exclusive q = q.excl && not (is_atomic q.opcode)
+
 -- It is told: a read or an atomic of a size of its own at a multiple of its operand's length, or a write of up to 64 bytes, none of
 -- them exclusive.
 abbrev pub is_told : RequestFlit → Bool
-is_told q = not q.excl && has_told_size q && (is_write q.opcode || address q % operand_len q == 0)
+is_told q = not (is_exclusive q) && has_told_size q && (is_write q.opcode || address q % operand_len q == 0)
 
 -- it is not told, and may write to the 64 bytes that hold its address
 abbrev pub may_write : RequestFlit → Bool

@@ -1,7 +1,7 @@
 //! Flits at a home's port, as a monitor prints them.
 
 /// A request to the home. `number` says which part of the input told it, counted as the input counts. `endian` is looked at of an
-/// atomic alone.
+/// atomic alone, and `excl` of reads and writes.
 ///
 /// Source: Arm IHI 0050 Issue B, request fields.
 #[derive(Clone, Copy, Debug)]

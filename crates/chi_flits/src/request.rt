@@ -1,7 +1,7 @@
 //! What a request at the port asks for.
 
 ghost use Rattle.std.specs.Prelude.{◌≡◌, ◌^◌, min};
-ghost use Rattle.chi_flits.specs.Requests.{addr_at, address, answers_data, bytes_of, count_of, fields_at, first_addr, has_told_size, is_of_granule, is_told, lane_at, lanes_at, len_of, lies_at, may_write, needs_data, operand_len, quarter_at};
+ghost use Rattle.chi_flits.specs.Requests.{addr_at, address, answers_data, bytes_of, count_of, fields_at, first_addr, has_told_size, is_exclusive, is_of_granule, is_told, lane_at, lanes_at, len_of, lies_at, may_write, needs_data, operand_len, quarter_at};
 
 use crate::flit::RequestFlit;
 use crate::opcode::{is_atomic, is_compare, is_read, is_write, takes_txn, writes_nothing};
@@ -60,11 +60,18 @@ impl RequestFlit {
         }
     }
 
+    /// Whether it is an exclusive read or write.
+    fn is_exclusive(&self) -> bool
+        ensures { result ≡ is_exclusive self.now }
+    {
+        self.excl && !is_atomic(self.opcode)
+    }
+
     /// Whether its operations are told.
     pub(crate) fn is_told(&self) -> bool
         ensures { result ≡ is_told self.now }
     {
-        !self.excl
+        !self.is_exclusive()
             && self.has_told_size()
             && (is_write(self.opcode) || self.address() % self.operand_len() == 0)
     }

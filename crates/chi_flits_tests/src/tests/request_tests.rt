@@ -45,6 +45,12 @@ fn sizes_of_atomics(rt: HostRuntime) -> Result<(), Fail> {
 }
 
 #[test]
+fn an_atomic_is_never_exclusive(rt: HostRuntime) -> Result<(), Fail> {
+    let kinds = [exclusive(0, LOAD_ADD, 3, 0x1008)];
+    assert_told(&rt, &kinds, &[Told::Request(0, LOAD_ADD, 3, 0x1008)])
+}
+
+#[test]
 fn requests_that_are_not_told(rt: HostRuntime) -> Result<(), Fail> {
     let kinds = [
         exclusive(0, READ, 3, 0x1000),
