@@ -83,16 +83,16 @@ all_refused (Some text) None later ended refusals o r s has gives = absurd has
 all_refused (Some text) (Some rest) later ended refusals o r s has gives = (has.events, gives has.events has.given, has.refused)
 
 -- a line tells nothing
-pub line_refused : (start now : Option (List ℕ)) (ended : List Operation) (refusals : List Refusal) (o : OutstandingValue) (r : Reading) (f : LinesFault) → HasRead start ended refusals o r now
-    → FailsNext start r now f → IfSome start (λ text. IsOperationsFault r.format text f)
-line_refused None now ended refusals o r f has fails = tt
-line_refused (Some text) None ended refusals o r f has fails = absurd has
-line_refused (Some text) (Some rest) ended refusals o r fault.Read has fails = tt
-line_refused (Some text) (Some rest) ended refusals o r (fault.Line n f) has fails = (has.events, fails has.events has.given)
-line_refused (Some text) (Some rest) ended refusals o r (fault.Event n f) has fails = absurd (fails has.events has.given)
-line_refused (Some text) (Some rest) ended refusals o r fault.TooManyLines has fails = tt
-line_refused (Some text) (Some rest) ended refusals o r fault.Write has fails = absurd (fails has.events has.given)
-line_refused (Some text) (Some rest) ended refusals o r fault.Memory has fails = tt
+pub line_refused : (start now : Option (List ℕ)) (ended : List Operation) (refusals : List Refusal) (o : OutstandingValue) (r s : Reading) (f : LinesFault) → HasRead start ended refusals o r now
+    → FailsNext start r now s f → IfSome start (λ text. IsOperationsFault r.format text f)
+line_refused None now ended refusals o r s f has fails = tt
+line_refused (Some text) None ended refusals o r s f has fails = absurd has
+line_refused (Some text) (Some rest) ended refusals o r s fault.Read has fails = tt
+line_refused (Some text) (Some rest) ended refusals o r s (fault.Line n f) has fails = (has.events, (fails has.events has.given).0)
+line_refused (Some text) (Some rest) ended refusals o r s (fault.Event n f) has fails = absurd (fails has.events has.given).0
+line_refused (Some text) (Some rest) ended refusals o r s fault.TooManyLines has fails = tt
+line_refused (Some text) (Some rest) ended refusals o r s fault.Write has fails = absurd (fails has.events has.given).0
+line_refused (Some text) (Some rest) ended refusals o r s fault.Memory has fails = tt
 
 -- or an event cannot come next
 pub event_refused : (start now later : Option (List ℕ)) (ended : List Operation) (refusals : List Refusal) (o : OutstandingValue) (r s : Reading) (e : Event) (f : LinesFault)

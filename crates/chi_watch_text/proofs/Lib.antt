@@ -6,6 +6,7 @@ pub mod KnownWords
 pub mod Readings
 pub mod Recordings
 pub mod Refused
+pub mod RefusedLater
 pub mod SavedLines
 pub mod Told
 pub mod ToldTexts

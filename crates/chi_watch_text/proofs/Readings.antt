@@ -7,7 +7,7 @@ use Rattle.chi_flits.specs.Effects.{HasSeen, PortValue}
 use Rattle.chi_flits.specs.declared.flit.Flit.{Flit}
 use Rattle.chi_watch_text.specs.LineTold.{line_told}
 use Rattle.chi_watch_text.specs.Lines.{AreEvents, AreLines, AreTold, AreToldAll, is_blank}
-use Rattle.chi_watch_text.specs.Reading.{BeginsWith, HasGiven, HasGivenOf, IsLineFault, IsReadingFault, RefusesBy, TellsBy}
+use Rattle.chi_watch_text.specs.Reading.{BeginsWith, HasGiven, HasGivenOf, IsAtRefused, IsLineFault, IsReadingFault, RefusesBy, TellsBy}
 use Rattle.chi_watch_text.specs.declared.fault.LinesFault.{LinesFault}
 use Rattle.chi_watch_text.specs.declared.fault.LinesFault.TheVariants as fault
 use Rattle.chi_watch_text.specs.declared.line_format.LineFormat.{LineFormat}
@@ -131,35 +131,37 @@ all_given (Some text) None events r has none blank = absurd has
 all_given (Some text) (Some rest) events r has none blank = (r.number, rest, subst (λ (l : List Event). AreTold r.format text r.number events l rest) none has.told, blank)
 
 -- or a line tells nothing
-pub line_refused : (start now : Option (List ℕ)) (events : List Event) (line : List ℕ) (r : Reading) (f : LinesFault) → HasGivenOf start events r now → r.pending.items ≡ []
+pub line_refused : (start now : Option (List ℕ)) (events : List Event) (line : List ℕ) (r s : Reading) (f : LinesFault) → HasGivenOf start events r now → r.pending.items ≡ []
     → IfSome now (λ text. line ≡ take_through 10 text) → RefusesBy (λ flits. line_told r.format flits (r.number + 1) line) r.port (r.number + 1) f
-    → IfSome start (λ text. IsReadingFault r.format text events f)
-line_refused None now events line r f has none is refuses = tt
-line_refused (Some text) None events line r f has none is refuses = absurd has
-line_refused (Some text) (Some rest) events line r f has none is refuses = by_fault f (refuses has.told.seen has.seen)
+    → s.format ≡ r.format → ((f ≡ fault.Memory → ⊥) → s.number ≡ r.number) → s.line.items ≡ line
+    → IfSome start (λ text. IsReadingFault r.format text events f × IsAtRefused text events s f)
+line_refused None now events line r s f has none is refuses format number last = tt
+line_refused (Some text) None events line r s f has none is refuses format number last = absurd has
+line_refused (Some text) (Some rest) events line r s f has none is refuses format number last = by_fault f (refuses has.told.seen has.seen) number
   where
-    by_fault : (f : LinesFault) → IsLineFault (line_told r.format has.told.seen (r.number + 1) line) (r.number + 1) f → IsReadingFault r.format text events f
-    by_fault fault.Read why = absurd why
-    by_fault (fault.Line n why) (same, told) =
-        let t = has.told in
-        let here : line_told r.format t.seen n (take_through 10 rest) ≡ Err why =
-        subst (λ (l : List ℕ). line_told r.format t.seen n l ≡ Err why) is (subst (λ (k : ℕ). line_told r.format t.seen k line ≡ Err why) (sym same) told) in (
-          r.number,
-          rest,
-          record {
-            lines = t.lines;
-            seen = t.seen;
-            count_is = t.count_is;
-            are_lines = t.are_lines;
-            are_events = subst (λ (l : List Event). AreEvents r.format 1 [] t.lines events l t.seen) none t.are_events;
-          },
-          sym same,
-          here,
+    told_whole : AreTold r.format text r.number events [] rest
+    told_whole = record {
+      lines = has.told.lines;
+      seen = has.told.seen;
+      count_is = has.told.count_is;
+      are_lines = has.told.are_lines;
+      are_events = subst (λ (l : List Event). AreEvents r.format 1 [] has.told.lines events l has.told.seen) none has.told.are_events;
+    }
+
+    by_fault : (f : LinesFault) → IsLineFault (line_told r.format has.told.seen (r.number + 1) line) (r.number + 1) f → ((f ≡ fault.Memory → ⊥) → s.number ≡ r.number)
+        → IsReadingFault r.format text events f × IsAtRefused text events s f
+    by_fault fault.Read why count = absurd why
+    by_fault (fault.Line n why) (same, told) count =
+        let here : line_told r.format has.told.seen n (take_through 10 rest) ≡ Err why =
+        subst (λ (l : List ℕ). line_told r.format has.told.seen n l ≡ Err why) is (subst (λ (k : ℕ). line_told r.format has.told.seen k line ≡ Err why) (sym same) told) in
+        let still : s.number ≡ r.number = count (λ memory. cc) in (
+          (r.number, rest, told_whole, sym same, here),
+          (rest, subst (λ (k : LineFormat). AreTold k text s.number events [] rest) (sym format) (subst (λ (k : ℕ). AreTold r.format text k events [] rest) (sym still) told_whole), last ∙ is),
         )
-    by_fault (fault.Event n why) told = absurd told
-    by_fault fault.TooManyLines why = absurd why
-    by_fault fault.Write why = absurd why
-    by_fault fault.Memory why = tt
+    by_fault (fault.Event n why) told count = absurd told
+    by_fault fault.TooManyLines why count = absurd why
+    by_fault fault.Write why count = absurd why
+    by_fault fault.Memory why count = (tt, tt)
 
 -- bytes that were read, and a line more
 pub line_after : (begin now later : Option (List ℕ)) (bytes line all : List ℕ) → BeginsWith begin bytes now → IfSome now (λ text. (line ≡ take_through 10 text) × (later ≡ Some (drop_through 10 text)))

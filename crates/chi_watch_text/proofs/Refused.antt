@@ -17,15 +17,15 @@ TookLines (Some text) w r None = ⊥
 TookLines (Some text) w r (Some rest) = (events : List Event) × HasGiven text events r rest × HasTaken events w
 
 -- what is said of the text where a line tells nothing
-pub where_refused : (start now : Option (List ℕ)) (w : WatchValue) (r : Reading) (f : LinesFault) → TookLines start w r now → FailsNext start r now f → IfSome start (λ text. IsLinesFault r.format text f)
-where_refused None now w r f has fails = tt
-where_refused (Some text) None w r f has fails = absurd has
-where_refused (Some text) (Some rest) w r fault.Read has fails = tt
-where_refused (Some text) (Some rest) w r (fault.Line n f) (events, given, has) fails = (events, fails events given)
-where_refused (Some text) (Some rest) w r (fault.Event n f) (events, given, has) fails = absurd (fails events given)
-where_refused (Some text) (Some rest) w r fault.TooManyLines has fails = tt
-where_refused (Some text) (Some rest) w r fault.Write (events, given, has) fails = absurd (fails events given)
-where_refused (Some text) (Some rest) w r fault.Memory has fails = tt
+pub where_refused : (start now : Option (List ℕ)) (w : WatchValue) (r s : Reading) (f : LinesFault) → TookLines start w r now → FailsNext start r now s f → IfSome start (λ text. IsLinesFault r.format text f)
+where_refused None now w r s f has fails = tt
+where_refused (Some text) None w r s f has fails = absurd has
+where_refused (Some text) (Some rest) w r s fault.Read has fails = tt
+where_refused (Some text) (Some rest) w r s (fault.Line n f) (events, given, has) fails = (events, (fails events given).0)
+where_refused (Some text) (Some rest) w r s (fault.Event n f) (events, given, has) fails = absurd (fails events given).0
+where_refused (Some text) (Some rest) w r s fault.TooManyLines has fails = tt
+where_refused (Some text) (Some rest) w r s fault.Write (events, given, has) fails = absurd (fails events given).0
+where_refused (Some text) (Some rest) w r s fault.Memory has fails = tt
 
 -- or an event is not taken
 pub where_not_taken : (start now later : Option (List ℕ)) (w : WatchValue) (r s : Reading) (e : Event) (f : LinesFault) → TookLines start w r now → GivesNext start r now (Some e) s later

@@ -168,19 +168,16 @@ past text rest events time r s (Some e) later has times gives format after = by_
   where
     by_rest : (left : Option (List ℕ)) → HasGivenOf (Some text) (events ++ e ∷ []) s left → IsPast r.format text events
     by_rest None given = absurd given
-    by_rest (Some left) given = inr (
+    by_rest (Some left) given = inr (inl (
       e,
       (s.number, s.pending.items, left, subst (λ (f : LineFormat). AreTold f text s.number (events ++ e ∷ []) s.pending.items left) format given.told),
       All-weaker (λ d. d.time ≤ time) (λ d. d.time < e.time) (λ d le. omega (arith, le, after)) events times,
-    )
+    ))
 
--- those of a time that is past are found
-found_more : (text rest : List ℕ) (time : ℕ) (ended : Bool) (found found_after : List FoundGranule) (quiet : List Quiet) (w : WatchValue) (r s : Reading) (next : Option Event) (later : Option (List ℕ))
-    (is_past : Bool) → AreTaken text time ended found quiet w r rest → GivesNext (Some text) r (Some rest) next s later → s.format ≡ r.format → (is_past ≡ true → IfSome next (λ e. time < e.time))
-    → (is_past ≡ false → found_after ≡ found) → (is_past ≡ true → All (IsStillFound w quiet found) found_after) → All (IsFoundBy r.format text) found_after
-found_more text rest time ended found found_after quiet w r s next later false has gives format after waits each = subst (All (IsFoundBy r.format text)) (sym (waits refl)) has.found_by
-found_more text rest time ended found found_after quiet w r s next later true has gives format after waits each =
-    All-weaker (IsStillFound w quiet found) (IsFoundBy r.format text) is_found_by found_after (each refl)
+-- those that are still unexplained once all events of a time are told are found
+pub found_past : (text rest : List ℕ) (time : ℕ) (ended : Bool) (found found_after : List FoundGranule) (quiet : List Quiet) (w : WatchValue) (r : Reading) → (has : AreTaken text time ended found quiet w r rest)
+    → IsPast r.format text has.events → All (IsStillFound w quiet found) found_after → All (IsFoundBy r.format text) found_after
+found_past text rest time ended found found_after quiet w r has past each = All-weaker (IsStillFound w quiet found) (IsFoundBy r.format text) is_found_by found_after each
   where
     is_found_by : (f : FoundGranule) → IsStillFound w quiet found f → IsFoundBy r.format text f
     is_found_by f (inl before) = All-contains (IsFoundBy r.format text) found f has.found_by before
@@ -188,10 +185,18 @@ found_more text rest time ended found found_after quiet w r s next later true ha
       seen = subst (λ g. IsSeenBy r.format text g f.line) (sym noted.granule)
           (subst (IsSeenBy r.format text q.granule) (sym noted.line) (All-contains (IsQuietBy r.format text) quiet q has.quiet_by calm));
       events = has.events;
-      past = past text rest has.events time r s next later has.given has.times gives format (after refl);
+      past = past;
       unexplained = noted.unexplained has.events has.taken;
       reach = noted.reach has.events has.taken;
     }
+
+-- so those of a time that is past
+found_more : (text rest : List ℕ) (time : ℕ) (ended : Bool) (found found_after : List FoundGranule) (quiet : List Quiet) (w : WatchValue) (r s : Reading) (next : Option Event) (later : Option (List ℕ))
+    (is_past : Bool) → AreTaken text time ended found quiet w r rest → GivesNext (Some text) r (Some rest) next s later → s.format ≡ r.format → (is_past ≡ true → IfSome next (λ e. time < e.time))
+    → (is_past ≡ false → found_after ≡ found) → (is_past ≡ true → All (IsStillFound w quiet found) found_after) → All (IsFoundBy r.format text) found_after
+found_more text rest time ended found found_after quiet w r s next later false has gives format after waits each = subst (All (IsFoundBy r.format text)) (sym (waits refl)) has.found_by
+found_more text rest time ended found found_after quiet w r s next later true has gives format after waits each =
+    found_past text rest time ended found found_after quiet w r has (past text rest has.events time r s next later has.given has.times gives format (after refl)) (each refl)
 
 -- also where the judging of them fails
 pub found_so_far : (start now later : Option (List ℕ)) (time : ℕ) (ended : Bool) (found found_after : List FoundGranule) (quiet : List Quiet) (w : WatchValue) (r s : Reading) (next : Option Event) (is_past : Bool)

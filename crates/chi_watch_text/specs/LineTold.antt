@@ -86,3 +86,13 @@ told_among flits number text (Some stated) = flit_told flits stated
 unfoldable pub line_told : LineFormat → List Flit → ℕ → List ℕ → Result Told TellingFault
 line_told Events flits number text = event_told flits (event_text number text)
 line_told Flits flits number text = told_among flits number text (stated_flit number text)
+
+-- the time of the flit that a line with a number states, if it states one
+abbrev pub time_of : Option (Result Flit FlitLineFault) → Option ℕ
+time_of None = None
+time_of (Some (Ok f)) = Some f.time
+time_of (Some (Err why)) = None
+
+abbrev pub time_stated : LineFormat → ℕ → List ℕ → Option ℕ
+time_stated Events number text = None
+time_stated Flits number text = time_of (stated_flit number text)

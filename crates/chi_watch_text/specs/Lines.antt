@@ -1,10 +1,10 @@
 -- lines of a text, and the events that they tell
-use Rattle.std.specs.Prelude.{◌≡◌, ℕ, ◌+◌, ◌<◌, ◌==◌, ◌||◌, Bool, true, List, [], ◌∷◌, ◌++◌, length, Ok}
+use Rattle.std.specs.Prelude.{◌≡◌, ℕ, ◌+◌, ◌<◌, ◌==◌, ◌||◌, Bool, true, List, [], ◌∷◌, ◌++◌, All, IsSomeAnd, length, Ok}
 use Rattle.std.specs.List.{list_all}
 use Rattle.std.specs.Io.BufRead.{drop_through, take_through}
 use Rattle.chi_events.specs.declared.event.Event.{Event}
 use Rattle.chi_flits.specs.declared.flit.Flit.{Flit}
-use Rattle.chi_watch_text.specs.LineTold.{Told, line_told}
+use Rattle.chi_watch_text.specs.LineTold.{Told, line_told, time_stated}
 use Rattle.chi_watch_text.specs.declared.line_format.LineFormat.{LineFormat}
 
 -- The text begins with these lines, each up to its line feed, and the rest follows. The last line of a text may have no line feed.
@@ -40,6 +40,11 @@ pub record AreTold (format : LineFormat) (text : List ℕ) (count : ℕ) (events
 -- all lines of the text do, and no others follow but blank ones
 abbrev pub AreToldAll : LineFormat → List ℕ → List Event → Type 0
 AreToldAll format text events = (count : ℕ) × (rest : List ℕ) × AreTold format text count events [] rest × (is_blank rest ≡ true)
+
+-- they do, and then a line states a flit of a later time
+abbrev pub StatesLater : LineFormat → List ℕ → List Event → Type 0
+StatesLater format text events =
+    (count : ℕ) × (rest : List ℕ) × AreTold format text count events [] rest × IsSomeAnd (time_stated format (count + 1) (take_through 10 rest)) (λ t. All (λ d. d.time < t) events)
 
 -- they do, and then tell this one next
 abbrev pub IsNext : LineFormat → List ℕ → List Event → Event → Type 0

@@ -18,7 +18,7 @@ use Rattle.chi_watch.specs.declared.fault.WatchFault.{WatchFault}
 use Rattle.chi_watch.specs.declared.undecided.UndecidedAtEnd.{UndecidedAtEnd}
 use Rattle.chi_watch_text.specs.FoundGranule.{is_found, with_quiet}
 use Rattle.chi_watch_text.specs.Kept.{AreKept}
-use Rattle.chi_watch_text.specs.Lines.{AreTold, AreToldAll, IsNext}
+use Rattle.chi_watch_text.specs.Lines.{AreTold, AreToldAll, IsNext, StatesLater}
 use Rattle.chi_watch_text.specs.Reading.{HasGiven, IsFirstRefused}
 use Rattle.chi_watch_text.specs.declared.fault.LinesFault.{LinesFault}
 use Rattle.chi_watch_text.specs.declared.fault.LinesFault.TheVariants as fault
@@ -61,9 +61,10 @@ pub record IsSeenBy (format : LineFormat) (text : List ℕ) (g line : ℕ) : Typ
 abbrev pub IsQuietBy : LineFormat → List ℕ → Quiet → Type 0
 IsQuietBy format text q = IsSeenBy format text q.granule q.line
 
--- all events of the last time are told: the text tells no other, or the next is of a later time
+-- all events of the last time are told: the text tells no other, or the next is of a later time, or a flit is
 abbrev pub IsPast : LineFormat → List ℕ → List Event → Type 0
-IsPast format text events = AreToldAll format text events ⊎ ((e : Event) × IsNext format text events e × All (λ d. d.time < e.time) events)
+IsPast format text events =
+    AreToldAll format text events ⊎ (((e : Event) × IsNext format text events e × All (λ d. d.time < e.time) events) ⊎ StatesLater format text events)
 
 -- No order explains the granule by the lines up to the one that is named, and none does once all events of that time are told. By
 -- these its operations can be explained so far.

@@ -1,10 +1,10 @@
 -- what a reading of lines has given, and why it gives no more
-use Rattle.std.specs.Prelude.{◌≡◌, ℕ, ◌+◌, List, [], ◌∷◌, ◌++◌, Option, None, Some, IfSome, Result, Ok, Err}
+use Rattle.std.specs.Prelude.{◌≡◌, ℕ, ◌+◌, ◌<◌, List, [], ◌∷◌, ◌++◌, Option, None, Some, IfSome, IsSomeAnd, Result, Ok, Err}
 use Rattle.std.specs.Io.BufRead.{take_through}
 use Rattle.chi_events.specs.declared.event.Event.{Event}
 use Rattle.chi_flits.specs.Effects.{HasSeen, PortValue}
 use Rattle.chi_flits.specs.declared.flit.Flit.{Flit}
-use Rattle.chi_watch_text.specs.LineTold.{Told, line_told}
+use Rattle.chi_watch_text.specs.LineTold.{Told, line_told, time_stated}
 use Rattle.chi_watch_text.specs.Lines.{AreTold, AreToldAll}
 use Rattle.chi_watch_text.specs.declared.fault.LinesFault.{LinesFault}
 use Rattle.chi_watch_text.specs.declared.fault.LinesFault.TheVariants as fault
@@ -65,6 +65,24 @@ abbrev pub GivesNext : Option (List ℕ) → Reading → Option (List ℕ) → O
 GivesNext start old now None new later = (events : List Event) → HasGivenOf start events old now → IfSome start (λ text. AreToldAll old.format text events)
 GivesNext start old now (Some e) new later = (events : List Event) → HasGivenOf start events old now → HasGivenOf start (events ++ e ∷ []) new later
 
+-- where a line is refused it is the one that was read last
+abbrev pub IsAtRefused : List ℕ → List Event → Reading → LinesFault → Type 0
+IsAtRefused text events r fault.Read = Unit {0}
+IsAtRefused text events r (fault.Line number f) = (rest : List ℕ) × AreTold r.format text r.number events [] rest × (r.line.items ≡ take_through 10 rest)
+IsAtRefused text events r (fault.Event number f) = Unit {0}
+IsAtRefused text events r fault.TooManyLines = Unit {0}
+IsAtRefused text events r fault.Write = Unit {0}
+IsAtRefused text events r fault.Memory = Unit {0}
+
 -- or none is for this reason
-abbrev pub FailsNext : Option (List ℕ) → Reading → Option (List ℕ) → LinesFault → Type 0
-FailsNext start old now f = (events : List Event) → HasGivenOf start events old now → IfSome start (λ text. IsReadingFault old.format text events f)
+abbrev pub FailsNext : Option (List ℕ) → Reading → Option (List ℕ) → Reading → LinesFault → Type 0
+FailsNext start old now new f = (events : List Event) → HasGivenOf start events old now → IfSome start (λ text. IsReadingFault old.format text events f × IsAtRefused text events new f)
+
+-- the line that is refused states a flit of a later time
+abbrev pub IsRefusedLater : Reading → LinesFault → ℕ → Type 0
+IsRefusedLater r fault.Read time = ⊥
+IsRefusedLater r (fault.Line number f) time = IsSomeAnd (time_stated r.format (r.number + 1) r.line.items) (λ t. time < t)
+IsRefusedLater r (fault.Event number f) time = ⊥
+IsRefusedLater r fault.TooManyLines time = ⊥
+IsRefusedLater r fault.Write time = ⊥
+IsRefusedLater r fault.Memory time = ⊥

@@ -6,7 +6,7 @@ ghost use Rattle.serde_json.specs.View.{view};
 ghost use Rattle.chi_reading.specs.EventText.{event_text};
 ghost use Rattle.chi_flits.specs.Effects.{HasSeen};
 ghost use Rattle.chi_flits.specs.declared.flit.Flit.{Flit};
-ghost use Rattle.chi_watch_text.specs.LineTold.{event_told, events_of_other, flit_told, is_early, is_of_request, line_told, names_channel, other_told, stated_by, stated_flit, told_among};
+ghost use Rattle.chi_watch_text.specs.LineTold.{event_told, events_of_other, flit_told, is_early, is_of_request, line_told, names_channel, other_told, stated_by, stated_flit, time_stated, told_among};
 ghost use Rattle.chi_watch_text.specs.Reading.{IsLineFault, RefusesBy, TellsBy};
 
 use crate::fault::{LinesFault, TellingFault};
@@ -157,6 +157,24 @@ fn stated_flit(
     match line_value(alloc, number, line)? {
         Some(object) => Ok(stated_by(number, &object)),
         None => Ok(None),
+    }
+}
+
+/// The time of the flit that the line with this number states, if it states one.
+pub(crate) fn time_stated(
+    alloc: Global,
+    format: LineFormat,
+    line: &[u8],
+    number: u64,
+) -> Result<Option<u64>, AllocError>
+    ensures { IfOk result (λ time. time ≡ time_stated format number line.now) }
+{
+    match format {
+        LineFormat::Events => Ok(None),
+        LineFormat::Flits => match stated_flit(alloc, line, number)? {
+            Some(Ok(flit)) => Ok(Some(flit.time)),
+            _ => Ok(None),
+        },
     }
 }
 

@@ -1,18 +1,18 @@
 //! A reading of lines, which gives the events that they tell, one after the other.
 
-ghost use Rattle.std.specs.Prelude.{◌≡◌, ◌==◌, ◌∷◌, ◌++◌, [], List, Option, false, true, None, IfErr, IfOk, IfSome, IsTrue, OnOk, length, ℕ};
+ghost use Rattle.std.specs.Prelude.{◌≡◌, ◌≢◌, ◌+◌, Some, ◌==◌, ◌∷◌, ◌++◌, [], List, Option, false, true, None, IfErr, IfOk, IfSome, IsTrue, OnOk, length, ℕ};
 ghost use Rattle.chi_events.specs.declared.event.Event.{Event};
-ghost use Rattle.chi_watch_text.specs.LineTold.{line_told};
+ghost use Rattle.chi_watch_text.specs.LineTold.{line_told, time_stated};
 ghost use Rattle.chi_watch_text.specs.Lines.{is_blank};
 ghost use Rattle.chi_watch_text.specs.Reading.{BeginsWith, FailsNext, GivesNext, HasGivenOf, RefusesBy, TellsBy};
 
 use crate::fault::LinesFault;
 use crate::line_format::LineFormat;
-use crate::line_told::line_told;
+use crate::line_told::{line_told, time_stated};
 use crate::lines::{is_at_end, is_blank, next_line};
 use chi_events::Event;
 use chi_flits::Port;
-use std::alloc::Global;
+use std::alloc::{AllocError, Global};
 use std::io::BufRead;
 
 /// A reading of lines: what it follows of the flits that they state; the last line, and how many lines were read; the events of the
@@ -71,6 +71,7 @@ impl Reading {
         ensures number { IfOk result (λ _. self.new.number ≡ number) }
         ensures lines { IfOk result (λ _. self.new.lines.items ≡ self.old.lines.items ++ self.old.line.items) }
         ensures line { self.new.line.items ≡ self.old.line.items }
+        ensures refused { IfErr result (λ fault. fault ≢ LinesFault.Memory → self.new.number ≡ self.old.number) }
         ensures format { self.new.format ≡ self.old.format }
     {
         self.pending = line_told(alloc, self.format, &mut self.port, &self.line, number)?;
@@ -79,13 +80,23 @@ impl Reading {
         Ok(())
     }
 
+    /// The time of the flit that the line states which was read last and refused, if it states one.
+    pub(crate) fn refused_time(&self, alloc: Global) -> Result<Option<u64>, AllocError>
+        ensures { IfOk result (λ time. IfSome time (λ t. time_stated self.now.format (self.now.number + 1) self.now.line.items ≡ Some t)) }
+    {
+        match self.number.checked_add(1) {
+            Some(number) => time_stated(alloc, self.format, &self.line, number),
+            None => Ok(None),
+        }
+    }
+
     /// Reads the next line, whose events are given next. There is none at the end, nor where only blank lines follow.
     fn read_line<R: BufRead>(&mut self, alloc: Global, from: &mut R) -> Result<bool, LinesFault>
         requires { self.old.pending.items ≡ [] }
         ensures read { IfOk result (λ more. IsTrue more → (start : Option (List ℕ)) (events : List Event) → HasGivenOf start events self.old (R.remaining from.old) → HasGivenOf start events self.new (R.remaining from.new)) }
         ensures lines { IfOk result (λ more. IsTrue more → (begin : Option (List ℕ)) → BeginsWith begin self.old.lines.items (R.remaining from.old) → BeginsWith begin self.new.lines.items (R.remaining from.new)) }
         ensures ended { IfOk result (λ more. more ≡ false → IfSome (R.remaining from.old) (λ text. is_blank text ≡ true)) }
-        ensures fault { IfErr result (λ fault. (start : Option (List ℕ)) → FailsNext start self.old (R.remaining from.old) fault) }
+        ensures fault { IfErr result (λ fault. (start : Option (List ℕ)) → FailsNext start self.old (R.remaining from.old) self.new fault) }
         ensures format { self.new.format ≡ self.old.format }
     {
         let Some(number) = self.number.checked_add(1) else {
@@ -102,7 +113,7 @@ impl Reading {
         if !is_blank(&self.line) {
             return Err(fault);
         }
-        if is_at_end(from, &mut self.line)? {
+        if is_at_end(from, &mut self.lines)? {
             return Ok(false);
         }
         Err(fault)
@@ -117,7 +128,7 @@ impl Reading {
         ensures gives { IfOk result (λ next. (start : Option (List ℕ)) → GivesNext start self.old (R.remaining from.old) next self.new (R.remaining from.new)) }
         ensures lines { IfOk result (λ next. IfSome next (λ e. BeginsWith (R.remaining from.old) self.new.lines.items (R.remaining from.new))) }
         ensures whole { IfOk result (λ next. next ≡ None → self.old.pending.items ≡ []) }
-        ensures fault { IfErr result (λ fault. (start : Option (List ℕ)) → FailsNext start self.old (R.remaining from.old) fault) }
+        ensures fault { IfErr result (λ fault. (start : Option (List ℕ)) → FailsNext start self.old (R.remaining from.old) self.new fault) }
         ensures format { self.new.format ≡ self.old.format }
     {
         self.lines.clear();

@@ -8,14 +8,16 @@ ghost use Rattle.chi_events.specs.declared.event.Event.{Event};
 ghost use Rattle.chi_search.specs.Looks.{LookedSome};
 ghost use Rattle.chi_watch.specs.Undecided.{IsExplainedAsFar, states_for};
 ghost use Rattle.chi_watch.specs.Watches.{HasTaken};
-ghost use Rattle.chi_watch_text.specs.Outcomes.{IsFoundBy, IsOutcome, IsTold, IsUnreached, IsWatched, IsWatchingFault, ReachedBy, SaysAtEnd, WentAsFar, WentBy};
+ghost use Rattle.chi_watch_text.specs.Outcomes.{IsFoundBy, IsOutcome, IsStillFound, IsTold, IsUnreached, IsWatched, IsWatchingFault, ReachedBy, SaysAtEnd, WentAsFar, WentBy};
+ghost use Rattle.chi_watch_text.specs.Reading.{IsRefusedLater};
+ghost use Rattle.chi_watch_text.specs.Telling.{AreAllTold, AreSomeTold};
 ghost use Rattle.chi_watch_text.specs.Texts.{found_text};
 
 use crate::fault::LinesFault;
 use crate::kept::nothing_kept;
 use crate::options::WatchOptions;
 use crate::progress::WatchProgress;
-use crate::quiet::judge_quiet;
+use crate::quiet::{Quiet, judge_quiet};
 use crate::reading::Reading;
 use crate::taking::take_line;
 use crate::watched::{FoundGranule, Unfinished, Watched};
@@ -45,11 +47,63 @@ fn stops(is_past: bool, found: &[FoundGranule], keep_going: bool) -> bool
     is_past && !keep_going && found.len() > 0
 }
 
+/// Whether a line that is refused states a flit of a later time, where all events of the lines before it are given.
+fn is_refused_later(
+    alloc: Global,
+    reading: &Reading,
+    fault: LinesFault,
+    is_whole: bool,
+    time: u64,
+) -> bool
+    ensures { result ≡ true → IsRefusedLater reading.now fault time }
+{
+    if !is_whole {
+        return false;
+    }
+    match fault {
+        LinesFault::Line {
+            number: _,
+            fault: _,
+        } => match reading.refused_time(alloc) {
+            Ok(Some(later)) => time < later,
+            _ => false,
+        },
+        _ => false,
+    }
+}
+
 /// Whether an event tells the end.
 fn is_end(event: &Event) -> bool
     ensures { result ≡ is_end event.now }
 {
     matches!(event.kind, EventKind::End)
+}
+
+/// Why it is watched no further: where the line that is refused states a flit of a later time than all events, the granules that are
+/// found by then are told first.
+fn refused<W: Write, P: WatchProgress>(
+    alloc: Global,
+    watch: &Watch,
+    reading: &Reading,
+    fault: LinesFault,
+    is_whole: bool,
+    time: u64,
+    quiet: &mut Vec<Quiet>,
+    found: &mut Vec<FoundGranule>,
+    to: &mut W,
+    budget: u64,
+    progress: &mut P,
+) -> LinesFault
+    ensures fault { (result ≡ fault) ⊎ ((result ≡ LinesFault.Memory) ⊎ (result ≡ LinesFault.Write)) }
+    ensures kept { result ≢ LinesFault.Write → AreAllTold found.old.items found.new.items (W.contents to.old) (W.contents to.new) }
+    ensures begun { AreSomeTold found.old.items found.new.items (W.contents to.old) (W.contents to.new) }
+    ensures found { (found.new.items ≡ found.old.items) ⊎ (IsRefusedLater reading.now fault time × All (IsStillFound watch.now quiet.old.items found.old.items) found.new.items) }
+{
+    let is_past = is_refused_later(alloc, reading, fault, is_whole, time);
+    match judge_quiet(alloc, watch, is_past, quiet, found, to, budget, progress) {
+        Ok(()) => fault,
+        Err(fault) => fault,
+    }
 }
 
 /// What is said where it stops.
@@ -135,7 +189,24 @@ fn watch_each<R: BufRead, W: Write, P: WatchProgress>(
     let mut is_ended = false;
     for _ in 0..u64::MAX {
         let is_whole = reading.is_whole();
-        let next = reading.next_event(alloc, from)?;
+        let next = match reading.next_event(alloc, from) {
+            Ok(next) => next,
+            Err(fault) => {
+                return Err(refused(
+                    alloc,
+                    &watch,
+                    &reading,
+                    fault,
+                    is_whole,
+                    time,
+                    &mut quiet,
+                    found,
+                    to,
+                    options.budget,
+                    progress,
+                ));
+            }
+        };
         let is_past = is_past(is_whole, time, &next);
         judge_quiet(
             alloc,
@@ -185,8 +256,8 @@ fn watch_each<R: BufRead, W: Write, P: WatchProgress>(
 /// request may be told of the same time, it is found once the next event is later, or the text has ended. A line is read when it
 /// is there. The last line needs no line feed, and blank ones after it tell nothing.
 ///
-/// Each granule is told to `to` as soon as it is found, and in place of how far the watch is. After a fault nothing else is said of
-/// the events. Where lines are kept, all that are taken are, so they take as much memory as the input has by then.
+/// Each granule is told to `to` as soon as it is found, and in place of how far the watch is. Where a line is refused that states a
+/// flit of a later time, the granules that are found by then are told first; after a fault nothing else is said of the events. Where lines are kept, all that are taken are, so they take as much memory as the input has by then.
 ///
 /// ```
 /// let watched = watch_lines(alloc, &mut reader, &mut out, &options, &mut NoProgress)?;

@@ -58,7 +58,7 @@ returns-in_err-event-clause-fault g c =
     let f = c.in_err-event.field-0.0 in
     passed_on c.from_residual.result f (λ (r : Result OperationsTold LinesFault). IfSome start (λ text. IfErr r (IsOperationsFault c.args.format text))) c.from_residual.ensures.1
     (subst (λ (k : LineFormat). IfSome start (λ text. IsOperationsFault k text f)) c.loop.invariant.format
-    (line_refused start (g.R.Read.remaining c.loop.from) c.loop.ops.items c.loop.refusals.items c.loop.outstanding c.loop.reading f c.loop.invariant.read (c.in_err-event.ensures.fault start)))
+    (line_refused start (g.R.Read.remaining c.loop.from) c.loop.ops.items c.loop.refusals.items c.loop.outstanding c.loop.reading c.next_event.new.self f c.loop.invariant.read (c.in_err-event.ensures.fault start)))
 
 pub returns-in_err-ended-clause-fault : goal.returns-in_err-ended-clause-fault
 returns-in_err-ended-clause-fault g c =

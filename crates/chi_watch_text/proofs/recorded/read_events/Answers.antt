@@ -53,7 +53,7 @@ returns-in_err-event-clause-fault g c =
     let f = c.in_err-event.field-0.0 in
     passed_on c.from_residual.result f (λ (r : Result Recorded LinesFault). IfSome start (λ text. IfErr r (IsLinesFault c.args.format text))) c.from_residual.ensures.1
     (subst (λ (k : LineFormat). IfSome start (λ text. IsLinesFault k text f)) c.loop.invariant.format
-    (where_refused start now c.loop.recording.watch c.loop.reading f (taken_lines start now c.loop.recording c.loop.reading c.loop.invariant.lines) (c.in_err-event.ensures.fault start)))
+    (where_refused start now c.loop.recording.watch c.loop.reading c.next_event.new.self f (taken_lines start now c.loop.recording c.loop.reading c.loop.invariant.lines) (c.in_err-event.ensures.fault start)))
 
 pub returns-in_err-record-clause-fault : goal.returns-in_err-record-clause-fault
 returns-in_err-record-clause-fault g c =

@@ -19,6 +19,7 @@ use Rattle.chi_watch_text.specs.declared.watched.FoundGranule.{FoundGranule}
 use Rattle.chi_watch_text.specs.declared.watched.Watched.{Watched}
 use Rattle.chi_watch_text.proofs.KeptLines.{keeps_still, lines_kept_more, none_kept}
 use Rattle.chi_watch_text.proofs.Readings.{none_pending}
+use Rattle.chi_watch_text.proofs.RefusedLater.{found_refused, refused_fault}
 use Rattle.chi_watch_text.proofs.ToldTexts.{at_fault, begun_more, but_at_fault, told_more, whole_front}
 use Rattle.chi_watch_text.proofs.Told.{at_end, at_stop, event_taken, far_at_end, found_of, found_so_far, kept_at_fault, none_found, none_taken, passed_on, reached_by_found, settled, took, undecided_after, unreached_all, unreached_at_end}
 use Rattle.chi_watch_text.proofs.Refused.{but_write, held_up, where_not_taken, where_refused}
@@ -40,30 +41,32 @@ loop-init g c = record {
   format = c.new-reading.ensures.format;
 }
 
-pub returns-in_err-next-clause-fault : goal.returns-in_err-next-clause-fault
-returns-in_err-next-clause-fault g c =
+pub returns-in-Err-clause-fault : goal.returns-in-Err-clause-fault
+returns-in-Err-clause-fault g c =
     let start = g.R.Read.remaining c.args.from.now in
     let now = g.R.Read.remaining c.loop.from in
-    let f = c.in_err-next.field-0.0 in
+    let f = c.in-Err.fault in
+    let format = c.args.options.now.format in
     let before = c.loop.invariant in
     let took_now = took start now c.loop.time c.loop.is_ended c.loop.found.items c.loop.quiet.items c.loop.watch c.loop.reading before.taken in
-    passed_on c.from_residual.result f (λ (r : Result Watched LinesFault). IfSome start (λ text. IfErr r (IsWatchingFault c.args.options.now.format text))) c.from_residual.ensures.1
-    (but_write c.args.options.now.format start f (subst (λ (k : LineFormat). IfSome start (λ text. IsLinesFault k text f)) before.format
-    (where_refused start now c.loop.watch c.loop.reading f took_now (c.in_err-next.ensures.fault start))))
+    refused_fault format start f c.refused.result
+    (subst (λ (k : LineFormat). IfSome start (λ text. IsLinesFault k text f)) before.format
+    (where_refused start now c.loop.watch c.loop.reading c.next_event.new.self f took_now (c.in-Err.ensures.fault start)))
+    c.refused.ensures.fault
 
 pub loop-preserved : goal.loop-preserved
 loop-preserved g c =
     let before = c.loop.invariant in
     let settled_now =
     settled (g.R.Read.remaining c.args.from.now) (g.R.Read.remaining c.loop.from) (g.R.Read.remaining c.next_event.new.from) c.loop.time c.loop.is_ended c.loop.found.items
-    c.judge_quiet.new.found.items c.loop.quiet.items c.judge_quiet.new.quiet.items c.loop.watch c.loop.reading c.next_event.new.self c.in_ok-next.next c.is_past-is_past.result before.taken (c.in_ok-next.ensures.gives (g.R.Read.remaining c.args.from.now)) c.next_event.ensures.format c.is_past-is_past.ensures.past
+    c.judge_quiet.new.found.items c.loop.quiet.items c.judge_quiet.new.quiet.items c.loop.watch c.loop.reading c.next_event.new.self c.in-Ok.next c.is_past-is_past.result before.taken (c.in-Ok.ensures.gives (g.R.Read.remaining c.args.from.now)) c.next_event.ensures.format c.is_past-is_past.ensures.past
     c.in_ok-judge_quiet.ensures.waits c.in_ok-judge_quiet.ensures.cleared c.in_ok-judge_quiet.ensures.each in
     let first = none_found c.is_past-is_past.result c.stops.result c.args.options.now.keep_going c.loop.found.items c.judge_quiet.new.found.items before.first
     (λ waits. (c.in_ok-judge_quiet.ensures.waits waits).0) c.if-stops.false (rw c.deref.ensures.value at c.stops.ensures.goes_on) in
     let some = some_after g.P.Progress.looked c.args.progress.now c.loop.progress c.judge_quiet.new.progress before.looked c.in_ok-judge_quiet.ensures.looked in
-    let gives = subst (λ (o : Option Event). GivesNext (g.R.Read.remaining c.args.from.now) c.loop.reading (g.R.Read.remaining c.loop.from) o c.next_event.new.self (g.R.Read.remaining c.next_event.new.from)) c.in-Some.is (c.in_ok-next.ensures.gives (g.R.Read.remaining c.args.from.now)) in
+    let gives = subst (λ (o : Option Event). GivesNext (g.R.Read.remaining c.args.from.now) c.loop.reading (g.R.Read.remaining c.loop.from) o c.next_event.new.self (g.R.Read.remaining c.next_event.new.from)) c.in-Some.is (c.in-Ok.ensures.gives (g.R.Read.remaining c.args.from.now)) in
     let begins =
-    subst (λ (o : Option Event). IfSome o (λ _. BeginsWith (g.R.Read.remaining c.loop.from) c.next_event.new.self.lines.items (g.R.Read.remaining c.next_event.new.from))) c.in-Some.is c.in_ok-next.ensures.lines in
+    subst (λ (o : Option Event). IfSome o (λ _. BeginsWith (g.R.Read.remaining c.loop.from) c.next_event.new.self.lines.items (g.R.Read.remaining c.next_event.new.from))) c.in-Some.is c.in-Ok.ensures.lines in
     record {
       taken = subst (λ (b : Bool). HasTakenLines (g.R.Read.remaining c.args.from.now) c.in-Some.event.time b c.judge_quiet.new.found.items c.take_line.new.quiet.items c.take_line.new.watch c.next_event.new.self (g.R.Read.remaining c.next_event.new.from)) (sym c.is_end-is_ended.ensures)
           (event_taken (g.R.Read.remaining c.args.from.now) (g.R.Read.remaining c.loop.from) (g.R.Read.remaining c.next_event.new.from) c.loop.time c.loop.is_ended c.judge_quiet.new.found.items c.judge_quiet.new.quiet.items
@@ -87,12 +90,12 @@ returns-then-stops-clause-watched g c =
     let before = c.loop.invariant in
     let settled_now =
     settled (g.R.Read.remaining c.args.from.now) (g.R.Read.remaining c.loop.from) (g.R.Read.remaining c.next_event.new.from) c.loop.time c.loop.is_ended c.loop.found.items
-    c.judge_quiet.new.found.items c.loop.quiet.items c.judge_quiet.new.quiet.items c.loop.watch c.loop.reading c.next_event.new.self c.in_ok-next.next c.is_past-is_past.result before.taken (c.in_ok-next.ensures.gives (g.R.Read.remaining c.args.from.now)) c.next_event.ensures.format c.is_past-is_past.ensures.past
+    c.judge_quiet.new.found.items c.loop.quiet.items c.judge_quiet.new.quiet.items c.loop.watch c.loop.reading c.next_event.new.self c.in-Ok.next c.is_past-is_past.result before.taken (c.in-Ok.ensures.gives (g.R.Read.remaining c.args.from.now)) c.next_event.ensures.format c.is_past-is_past.ensures.past
     c.in_ok-judge_quiet.ensures.waits c.in_ok-judge_quiet.ensures.cleared c.in_ok-judge_quiet.ensures.each in
     let start = g.R.Read.remaining c.args.from.now in
     subst (λ (k : LineFormat). IfSome start (λ text. IsWatched k text c.args.options.now.keep_going c.stopped.result)) before.format
     (at_stop start (g.R.Read.remaining c.loop.from) (g.R.Read.remaining c.next_event.new.from) c.loop.time c.loop.is_ended c.judge_quiet.new.found.items c.judge_quiet.new.quiet.items
-    c.args.options.now.keep_going c.is_past-is_past.result c.loop.watch c.loop.reading c.next_event.new.self c.in_ok-next.next c.loop.kept c.stopped.result settled_now (c.in_ok-next.ensures.gives start) c.next_event.ensures.format
+    c.args.options.now.keep_going c.is_past-is_past.result c.loop.watch c.loop.reading c.next_event.new.self c.in-Ok.next c.loop.kept c.stopped.result settled_now (c.in-Ok.ensures.gives start) c.next_event.ensures.format
     c.is_past-is_past.ensures.past (λ is. none_pending c.loop.reading c.is_whole-is_whole.result c.is_whole-is_whole.ensures (c.is_past-is_past.ensures.whole is)) (c.in_ok-judge_quiet.ensures.once before.once)
     ((rw c.deref.ensures.value at c.stops.ensures.stops) c.if-stops.true) c.stopped.ensures.told c.stopped.ensures.ending before.kept)
 
@@ -101,16 +104,16 @@ returns-in_default-clause-watched g c =
     let before = c.loop.invariant in
     let settled_now =
     settled (g.R.Read.remaining c.args.from.now) (g.R.Read.remaining c.loop.from) (g.R.Read.remaining c.next_event.new.from) c.loop.time c.loop.is_ended c.loop.found.items
-    c.judge_quiet.new.found.items c.loop.quiet.items c.judge_quiet.new.quiet.items c.loop.watch c.loop.reading c.next_event.new.self c.in_ok-next.next c.is_past-is_past.result before.taken (c.in_ok-next.ensures.gives (g.R.Read.remaining c.args.from.now)) c.next_event.ensures.format c.is_past-is_past.ensures.past
+    c.judge_quiet.new.found.items c.loop.quiet.items c.judge_quiet.new.quiet.items c.loop.watch c.loop.reading c.next_event.new.self c.in-Ok.next c.is_past-is_past.result before.taken (c.in-Ok.ensures.gives (g.R.Read.remaining c.args.from.now)) c.next_event.ensures.format c.is_past-is_past.ensures.past
     c.in_ok-judge_quiet.ensures.waits c.in_ok-judge_quiet.ensures.cleared c.in_ok-judge_quiet.ensures.each in
     let first = none_found c.is_past-is_past.result c.stops.result c.args.options.now.keep_going c.loop.found.items c.judge_quiet.new.found.items before.first
     (λ waits. (c.in_ok-judge_quiet.ensures.waits waits).0) c.if-stops.false (rw c.deref.ensures.value at c.stops.ensures.goes_on) in
-    let gives = subst (λ (o : Option Event). GivesNext (g.R.Read.remaining c.args.from.now) c.loop.reading (g.R.Read.remaining c.loop.from) o c.next_event.new.self (g.R.Read.remaining c.next_event.new.from)) c.in_default.is (c.in_ok-next.ensures.gives (g.R.Read.remaining c.args.from.now)) in
+    let gives = subst (λ (o : Option Event). GivesNext (g.R.Read.remaining c.args.from.now) c.loop.reading (g.R.Read.remaining c.loop.from) o c.next_event.new.self (g.R.Read.remaining c.next_event.new.from)) c.in_default.is (c.in-Ok.ensures.gives (g.R.Read.remaining c.args.from.now)) in
     let ended = c.in_ok-ended.ensures in
     let start = g.R.Read.remaining c.args.from.now in
     subst (λ (k : LineFormat). IfSome start (λ text. IsWatched k text c.args.options.now.keep_going c.in_ok-ended.field-0)) before.format
     (at_end start (g.R.Read.remaining c.loop.from) (g.R.Read.remaining c.next_event.new.from) c.loop.time c.loop.is_ended c.judge_quiet.new.found.items c.judge_quiet.new.quiet.items
-    c.args.options.now.keep_going c.loop.watch c.loop.reading c.next_event.new.self c.loop.kept c.in_ok-ended.field-0 settled_now gives (c.in_ok-next.ensures.whole c.in_default.is) (c.in_ok-judge_quiet.ensures.once before.once) first
+    c.args.options.now.keep_going c.loop.watch c.loop.reading c.next_event.new.self c.loop.kept c.in_ok-ended.field-0 settled_now gives (c.in-Ok.ensures.whole c.in_default.is) (c.in_ok-judge_quiet.ensures.once before.once) first
     ended.told ended.ending ended.says before.kept)
 
 pub returns-in_default-clause-undecided : goal.returns-in_default-clause-undecided
@@ -123,9 +126,9 @@ returns-in_default-clause-far g c =
     let before = c.loop.invariant in
     let settled_now =
     settled (g.R.Read.remaining c.args.from.now) (g.R.Read.remaining c.loop.from) (g.R.Read.remaining c.next_event.new.from) c.loop.time c.loop.is_ended c.loop.found.items
-    c.judge_quiet.new.found.items c.loop.quiet.items c.judge_quiet.new.quiet.items c.loop.watch c.loop.reading c.next_event.new.self c.in_ok-next.next c.is_past-is_past.result before.taken (c.in_ok-next.ensures.gives (g.R.Read.remaining c.args.from.now)) c.next_event.ensures.format c.is_past-is_past.ensures.past
+    c.judge_quiet.new.found.items c.loop.quiet.items c.judge_quiet.new.quiet.items c.loop.watch c.loop.reading c.next_event.new.self c.in-Ok.next c.is_past-is_past.result before.taken (c.in-Ok.ensures.gives (g.R.Read.remaining c.args.from.now)) c.next_event.ensures.format c.is_past-is_past.ensures.past
     c.in_ok-judge_quiet.ensures.waits c.in_ok-judge_quiet.ensures.cleared c.in_ok-judge_quiet.ensures.each in
-    let gives = subst (λ (o : Option Event). GivesNext (g.R.Read.remaining c.args.from.now) c.loop.reading (g.R.Read.remaining c.loop.from) o c.next_event.new.self (g.R.Read.remaining c.next_event.new.from)) c.in_default.is (c.in_ok-next.ensures.gives (g.R.Read.remaining c.args.from.now)) in
+    let gives = subst (λ (o : Option Event). GivesNext (g.R.Read.remaining c.args.from.now) c.loop.reading (g.R.Read.remaining c.loop.from) o c.next_event.new.self (g.R.Read.remaining c.next_event.new.from)) c.in_default.is (c.in-Ok.ensures.gives (g.R.Read.remaining c.args.from.now)) in
     let some = some_after g.P.Progress.looked c.args.progress.now c.loop.progress c.judge_quiet.new.progress before.looked c.in_ok-judge_quiet.ensures.looked in
     let start = g.R.Read.remaining c.args.from.now in
     let budget = c.args.options.now.budget in
@@ -169,9 +172,9 @@ returns-in_err-take_line-clause-fault g c =
     let before = c.loop.invariant in
     let settled_now =
     settled (g.R.Read.remaining c.args.from.now) (g.R.Read.remaining c.loop.from) (g.R.Read.remaining c.next_event.new.from) c.loop.time c.loop.is_ended c.loop.found.items
-    c.judge_quiet.new.found.items c.loop.quiet.items c.judge_quiet.new.quiet.items c.loop.watch c.loop.reading c.next_event.new.self c.in_ok-next.next c.is_past-is_past.result before.taken (c.in_ok-next.ensures.gives (g.R.Read.remaining c.args.from.now)) c.next_event.ensures.format c.is_past-is_past.ensures.past
+    c.judge_quiet.new.found.items c.loop.quiet.items c.judge_quiet.new.quiet.items c.loop.watch c.loop.reading c.next_event.new.self c.in-Ok.next c.is_past-is_past.result before.taken (c.in-Ok.ensures.gives (g.R.Read.remaining c.args.from.now)) c.next_event.ensures.format c.is_past-is_past.ensures.past
     c.in_ok-judge_quiet.ensures.waits c.in_ok-judge_quiet.ensures.cleared c.in_ok-judge_quiet.ensures.each in
-    let gives = subst (λ (o : Option Event). GivesNext (g.R.Read.remaining c.args.from.now) c.loop.reading (g.R.Read.remaining c.loop.from) o c.next_event.new.self (g.R.Read.remaining c.next_event.new.from)) c.in-Some.is (c.in_ok-next.ensures.gives (g.R.Read.remaining c.args.from.now)) in
+    let gives = subst (λ (o : Option Event). GivesNext (g.R.Read.remaining c.args.from.now) c.loop.reading (g.R.Read.remaining c.loop.from) o c.next_event.new.self (g.R.Read.remaining c.next_event.new.from)) c.in-Some.is (c.in-Ok.ensures.gives (g.R.Read.remaining c.args.from.now)) in
     let start = g.R.Read.remaining c.args.from.now in
     let now = g.R.Read.remaining c.loop.from in
     let f = c.in_err-take_line.field-0.0 in
@@ -185,7 +188,7 @@ returns-in_err-judge_quiet-clause-found g c =
     kept_at_fault (g.R.Read.remaining c.args.from.now) (λ text. All (IsFoundBy c.args.options.now.format text) c.judge_quiet.new.found.items) _
     (subst (λ (k : LineFormat). IfSome (g.R.Read.remaining c.args.from.now) (λ text. All (IsFoundBy k text) c.judge_quiet.new.found.items)) c.loop.invariant.format
     (found_so_far (g.R.Read.remaining c.args.from.now) (g.R.Read.remaining c.loop.from) (g.R.Read.remaining c.next_event.new.from) c.loop.time c.loop.is_ended c.loop.found.items
-    c.judge_quiet.new.found.items c.loop.quiet.items c.loop.watch c.loop.reading c.next_event.new.self c.in_ok-next.next c.is_past-is_past.result c.loop.invariant.taken (c.in_ok-next.ensures.gives (g.R.Read.remaining c.args.from.now)) c.next_event.ensures.format c.is_past-is_past.ensures.past
+    c.judge_quiet.new.found.items c.loop.quiet.items c.loop.watch c.loop.reading c.next_event.new.self c.in-Ok.next c.is_past-is_past.result c.loop.invariant.taken (c.in-Ok.ensures.gives (g.R.Read.remaining c.args.from.now)) c.next_event.ensures.format c.is_past-is_past.ensures.past
     (λ wait. (c.judge_quiet.ensures.waits wait).0) c.judge_quiet.ensures.each))
 
 pub returns-in_err-ended-clause-found : goal.returns-in_err-ended-clause-found
@@ -194,7 +197,7 @@ returns-in_err-ended-clause-found g c =
     (subst (λ (l : List FoundGranule). IfSome (g.R.Read.remaining c.args.from.now) (λ text. All (IsFoundBy c.args.options.now.format text) l)) (sym c.in_err-ended.ensures.kept)
     (subst (λ (k : LineFormat). IfSome (g.R.Read.remaining c.args.from.now) (λ text. All (IsFoundBy k text) c.judge_quiet.new.found.items)) c.loop.invariant.format
     (found_so_far (g.R.Read.remaining c.args.from.now) (g.R.Read.remaining c.loop.from) (g.R.Read.remaining c.next_event.new.from) c.loop.time c.loop.is_ended c.loop.found.items
-    c.judge_quiet.new.found.items c.loop.quiet.items c.loop.watch c.loop.reading c.next_event.new.self c.in_ok-next.next c.is_past-is_past.result c.loop.invariant.taken (c.in_ok-next.ensures.gives (g.R.Read.remaining c.args.from.now)) c.next_event.ensures.format c.is_past-is_past.ensures.past
+    c.judge_quiet.new.found.items c.loop.quiet.items c.loop.watch c.loop.reading c.next_event.new.self c.in-Ok.next c.is_past-is_past.result c.loop.invariant.taken (c.in-Ok.ensures.gives (g.R.Read.remaining c.args.from.now)) c.next_event.ensures.format c.is_past-is_past.ensures.past
     (λ wait. (c.in_ok-judge_quiet.ensures.waits wait).0) c.in_ok-judge_quiet.ensures.each)))
 
 pub returns-in_err-take_line-clause-found : goal.returns-in_err-take_line-clause-found
@@ -202,27 +205,26 @@ returns-in_err-take_line-clause-found g c =
     kept_at_fault (g.R.Read.remaining c.args.from.now) (λ text. All (IsFoundBy c.args.options.now.format text) c.judge_quiet.new.found.items) _
     (subst (λ (k : LineFormat). IfSome (g.R.Read.remaining c.args.from.now) (λ text. All (IsFoundBy k text) c.judge_quiet.new.found.items)) c.loop.invariant.format
     (found_so_far (g.R.Read.remaining c.args.from.now) (g.R.Read.remaining c.loop.from) (g.R.Read.remaining c.next_event.new.from) c.loop.time c.loop.is_ended c.loop.found.items
-    c.judge_quiet.new.found.items c.loop.quiet.items c.loop.watch c.loop.reading c.next_event.new.self c.in_ok-next.next c.is_past-is_past.result c.loop.invariant.taken (c.in_ok-next.ensures.gives (g.R.Read.remaining c.args.from.now)) c.next_event.ensures.format c.is_past-is_past.ensures.past
+    c.judge_quiet.new.found.items c.loop.quiet.items c.loop.watch c.loop.reading c.next_event.new.self c.in-Ok.next c.is_past-is_past.result c.loop.invariant.taken (c.in-Ok.ensures.gives (g.R.Read.remaining c.args.from.now)) c.next_event.ensures.format c.is_past-is_past.ensures.past
     (λ wait. (c.in_ok-judge_quiet.ensures.waits wait).0) c.in_ok-judge_quiet.ensures.each))
 
-pub returns-in_err-next-clause-begun : goal.returns-in_err-next-clause-begun
-returns-in_err-next-clause-begun g c =
-    at_fault c.from_residual.result (AppendsFront (g.W.Write.contents c.args.to.now) (g.W.Write.contents c.loop.to) (flat_map found_text c.loop.found.items))
-    (whole_front (g.W.Write.contents c.args.to.now) (g.W.Write.contents c.loop.to) (flat_map found_text c.loop.found.items) c.loop.invariant.written)
+pub returns-in-Err-clause-begun : goal.returns-in-Err-clause-begun
+returns-in-Err-clause-begun g c =
+    begun_more c.loop.found.items c.refused.new.found.items (g.W.Write.contents c.args.to.now) (g.W.Write.contents c.loop.to) (g.W.Write.contents c.refused.new.to) c.loop.invariant.written c.refused.ensures.begun
 
 pub returns-in_err-judge_quiet-clause-fault : goal.returns-in_err-judge_quiet-clause-fault
 returns-in_err-judge_quiet-clause-fault g c =
-    passed_on c.from_residual-in_err-judge_quiet.result c.in_err-judge_quiet.field-0.0 (λ (r : Result Watched LinesFault). IfSome (g.R.Read.remaining c.args.from.now) (λ text. IfErr r (IsWatchingFault c.args.options.now.format text)))
-    c.from_residual-in_err-judge_quiet.ensures.1 (held_up c.args.options.now.format (g.R.Read.remaining c.args.from.now) c.in_err-judge_quiet.field-0.0 c.in_err-judge_quiet.ensures.fault)
+    passed_on c.from_residual.result c.in_err-judge_quiet.field-0.0 (λ (r : Result Watched LinesFault). IfSome (g.R.Read.remaining c.args.from.now) (λ text. IfErr r (IsWatchingFault c.args.options.now.format text)))
+    c.from_residual.ensures.1 (held_up c.args.options.now.format (g.R.Read.remaining c.args.from.now) c.in_err-judge_quiet.field-0.0 c.in_err-judge_quiet.ensures.fault)
 
 pub returns-in_err-judge_quiet-clause-kept : goal.returns-in_err-judge_quiet-clause-kept
 returns-in_err-judge_quiet-clause-kept g c =
-    passed_on c.from_residual-in_err-judge_quiet.result c.in_err-judge_quiet.field-0.0 (λ (r : Result Watched LinesFault). IfErr r (λ x. (x ≡ fault.Write → ⊥) → Appends (g.W.Write.contents c.args.to.now) (g.W.Write.contents c.judge_quiet.new.to) (flat_map found_text c.judge_quiet.new.found.items)))
-    c.from_residual-in_err-judge_quiet.ensures.1 (λ not. told_more c.loop.found.items c.judge_quiet.new.found.items (g.W.Write.contents c.args.to.now) (g.W.Write.contents c.loop.to) (g.W.Write.contents c.judge_quiet.new.to) c.loop.invariant.written (c.in_err-judge_quiet.ensures.kept not))
+    passed_on c.from_residual.result c.in_err-judge_quiet.field-0.0 (λ (r : Result Watched LinesFault). IfErr r (λ x. (x ≡ fault.Write → ⊥) → Appends (g.W.Write.contents c.args.to.now) (g.W.Write.contents c.judge_quiet.new.to) (flat_map found_text c.judge_quiet.new.found.items)))
+    c.from_residual.ensures.1 (λ not. told_more c.loop.found.items c.judge_quiet.new.found.items (g.W.Write.contents c.args.to.now) (g.W.Write.contents c.loop.to) (g.W.Write.contents c.judge_quiet.new.to) c.loop.invariant.written (c.in_err-judge_quiet.ensures.kept not))
 
 pub returns-in_err-judge_quiet-clause-begun : goal.returns-in_err-judge_quiet-clause-begun
 returns-in_err-judge_quiet-clause-begun g c =
-    at_fault c.from_residual-in_err-judge_quiet.result (AppendsFront (g.W.Write.contents c.args.to.now) (g.W.Write.contents c.judge_quiet.new.to) (flat_map found_text c.judge_quiet.new.found.items))
+    at_fault c.from_residual.result (AppendsFront (g.W.Write.contents c.args.to.now) (g.W.Write.contents c.judge_quiet.new.to) (flat_map found_text c.judge_quiet.new.found.items))
     (begun_more c.loop.found.items c.judge_quiet.new.found.items (g.W.Write.contents c.args.to.now) (g.W.Write.contents c.loop.to) (g.W.Write.contents c.judge_quiet.new.to) c.loop.invariant.written c.judge_quiet.ensures.begun)
 
 pub returns-in_err-ended-clause-begun : goal.returns-in_err-ended-clause-begun
@@ -246,13 +248,18 @@ returns-in_err-take_line-clause-begun g c =
     at_fault c.from_residual-in_err-take_line.result (AppendsFront (g.W.Write.contents c.args.to.now) (g.W.Write.contents c.judge_quiet.new.to) (flat_map found_text c.judge_quiet.new.found.items))
     (begun_more c.loop.found.items c.judge_quiet.new.found.items (g.W.Write.contents c.args.to.now) (g.W.Write.contents c.loop.to) (g.W.Write.contents c.judge_quiet.new.to) c.loop.invariant.written c.judge_quiet.ensures.begun)
 
-pub returns-in_err-next-clause-found : goal.returns-in_err-next-clause-found
-returns-in_err-next-clause-found g c =
+pub returns-in-Err-clause-found : goal.returns-in-Err-clause-found
+returns-in-Err-clause-found g c =
     let start = g.R.Read.remaining c.args.from.now in
     let before = c.loop.invariant in
-    kept_at_fault start (λ text. All (IsFoundBy c.args.options.now.format text) c.loop.found.items) _
-    (subst (λ (k : LineFormat). IfSome start (λ text. All (IsFoundBy k text) c.loop.found.items)) before.format
-    (found_of start (g.R.Read.remaining c.loop.from) c.loop.time c.loop.is_ended c.loop.found.items c.loop.quiet.items c.loop.watch c.loop.reading before.taken))
+    subst (λ (k : LineFormat). IfSome start (λ text. All (IsFoundBy k text) c.refused.new.found.items)) before.format
+    (found_refused start (g.R.Read.remaining c.loop.from) c.loop.time c.loop.is_ended c.loop.found.items c.refused.new.found.items c.loop.quiet.items c.loop.watch c.loop.reading c.next_event.new.self
+    c.in-Err.fault before.taken (c.in-Err.ensures.fault start) c.next_event.ensures.format c.refused.ensures.found)
+
+pub returns-in-Err-clause-kept : goal.returns-in-Err-clause-kept
+returns-in-Err-clause-kept g c = λ not_write.
+    told_more c.loop.found.items c.refused.new.found.items (g.W.Write.contents c.args.to.now) (g.W.Write.contents c.loop.to) (g.W.Write.contents c.refused.new.to) c.loop.invariant.written
+    (c.refused.ensures.kept not_write)
 
 pub returns-clause-found : goal.returns-clause-found
 returns-clause-found g c =

@@ -2,7 +2,7 @@
 use Rattle.std.proofs.Common.{◌∙◌, ap, IfErr, IfSome, List, ℕ, Option, Result, inl, refl, subst, sym}
 use Rattle.chi_events.specs.declared.event.Event.{Event}
 use Rattle.chi_watch_text.specs.Lines.{AreToldAll}
-use Rattle.chi_watch_text.specs.Reading.{FailsNext, HasGivenOf, IsReadingFault}
+use Rattle.chi_watch_text.specs.Reading.{FailsNext, HasGivenOf, IsAtRefused, IsReadingFault}
 use Rattle.chi_watch_text.specs.declared.fault.LinesFault.{LinesFault}
 use Rattle.chi_watch_text.specs.declared.line_format.LineFormat.{LineFormat}
 use Rattle.chi_watch_text.specs.declared.reading.Reading.{Reading}
@@ -29,8 +29,8 @@ returns-in_err-read_line-clause-fault g c =
     let f = c.in_err-read_line.field-0.0 in
     let now = g.R.Read.remaining c.loop.from in
     let same = c.give.ensures.unchanged c.in_default.is in
-    passed_on c.from_residual.result f (λ (r : Result (Option Event) LinesFault). IfErr r (λ x. (start : Option (List ℕ)) → FailsNext start old (g.R.Read.remaining c.args.from.now) x)) c.from_residual.ensures.1
-    (λ start events has. subst (λ (k : LineFormat). IfSome start (λ text. IsReadingFault k text events f)) (c.give.ensures.others.0 ∙ c.loop.invariant.format)
+    passed_on c.from_residual.result f (λ (r : Result (Option Event) LinesFault). IfErr r (λ x. (start : Option (List ℕ)) → FailsNext start old (g.R.Read.remaining c.args.from.now) c.read_line.new.self x)) c.from_residual.ensures.1
+    (λ start events has. subst (λ (k : LineFormat). IfSome start (λ text. IsReadingFault k text events f × IsAtRefused text events c.read_line.new.self f)) (c.give.ensures.others.0 ∙ c.loop.invariant.format)
     (c.in_err-read_line.ensures.fault start events (subst (λ (r : Reading). HasGivenOf start events r now) (sym same) (c.loop.invariant.given start events has))))
 
 pub returns-then-not-branch-clause-gives : goal.returns-then-not-branch-clause-gives

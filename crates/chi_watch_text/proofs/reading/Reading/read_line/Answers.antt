@@ -35,8 +35,8 @@ returns-then-not-is_blank-clause-fault g c = λ start events has.
     let line = c.next_line.new.line.items in
     let now = g.R.Read.remaining c.args.from.now in
     let number : c.in-Some.number ≡ old.number + 1 = c.in-Some.ensures.1 in
-    line_refused start now events line old c.in-Err.fault has c.requires (line_of now (g.R.Read.remaining c.next_line.new.from) line c.in_ok-next_line.ensures.line)
-    (subst (λ (n : ℕ). RefusesBy (λ flits. line_told old.format flits n line) old.port n c.in-Err.fault) number c.in-Err.ensures.fault)
+    line_refused start now events line old c.take_line.new.self c.in-Err.fault has c.requires (line_of now (g.R.Read.remaining c.next_line.new.from) line c.in_ok-next_line.ensures.line)
+    (subst (λ (n : ℕ). RefusesBy (λ flits. line_told old.format flits n line) old.port n c.in-Err.fault) number c.in-Err.ensures.fault) c.take_line.ensures.format c.in-Err.ensures.refused c.take_line.ensures.line
 
 pub returns-then-branch-clause-ended : goal.returns-then-branch-clause-ended
 returns-then-branch-clause-ended g c = λ _.
@@ -50,5 +50,5 @@ returns-clause-fault g c = λ start events has.
     let line = c.next_line.new.line.items in
     let now = g.R.Read.remaining c.args.from.now in
     let number : c.in-Some.number ≡ old.number + 1 = c.in-Some.ensures.1 in
-    line_refused start now events line old c.in-Err.fault has c.requires (line_of now (g.R.Read.remaining c.next_line.new.from) line c.in_ok-next_line.ensures.line)
-    (subst (λ (n : ℕ). RefusesBy (λ flits. line_told old.format flits n line) old.port n c.in-Err.fault) number c.in-Err.ensures.fault)
+    line_refused start now events line old (record c.take_line.new.self { lines = c.is_at_end.new.line }) c.in-Err.fault has c.requires (line_of now (g.R.Read.remaining c.next_line.new.from) line c.in_ok-next_line.ensures.line)
+    (subst (λ (n : ℕ). RefusesBy (λ flits. line_told old.format flits n line) old.port n c.in-Err.fault) number c.in-Err.ensures.fault) c.take_line.ensures.format c.in-Err.ensures.refused c.take_line.ensures.line
