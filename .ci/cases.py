@@ -1,4 +1,4 @@
-"""What checker, watching, flits, traces, refusals and faults share: runs of a program with a time limit, on a terminal and with
+"""What checker, watching, flits, waves, traces, refusals and faults share: runs of a program with a time limit, on a terminal and with
 faults (.ci/faults.c), and the count of their cases. CHICHECK names another chicheck than the one that make builds."""
 
 import json

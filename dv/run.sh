@@ -2,12 +2,13 @@
 # Runs the benches in Verilator. The one with the reference has to agree, and to find each of three planted mistakes. Those with
 # the monitor tell events: of flits by hand just those that were worked, and of a home node by chance events that chicheck watch
 # explains while they come, or that stop it and with it the simulation, where a mistake is planted; chicheck watch --flits does so by
-# its flits; and 100,000 requests of it cover all traffic that they can. Flits with an x are those of a bench in Icarus Verilog.
+# its flits; and 100,000 requests of it cover all traffic that they can. Flits with an x are those of a bench in Icarus Verilog. Of
+# the waves of both benches chi-waves tells the lines that the monitor of flits wrote.
 # dv/run.sh [SEEDS [REQUESTS]]
 set -eu
 cd "$(dirname "$0")/.."
 seeds=${1:-16} requests=${2:-2000}
-.ci/need verilator:verilator c++:g++ || exit 1
+.ci/need verilator:verilator c++:g++ python3:python3 || exit 1
 version=$(verilator --version | sed 's/^Verilator \([0-9]*\).*/\1/')
 if [ "$version" -lt 5 ]; then
   echo "dv: Verilator $version is too old for the benches, which want 5 or later" >&2
@@ -123,6 +124,20 @@ for kind in 128 256 512 point; do
   done
 done
 
+same_by_waves() { # the folder of a run with flits.jsonl, and waves.vcd of the same run
+  PYTHONPATH=python $limited python3 -B -m chi_waves dv/waves.json "$1/waves.vcd" > "$1/by_waves.jsonl" \
+    || fail "chi-waves ends with a fault for $1/waves.vcd"
+  cmp "$1/flits.jsonl" "$1/by_waves.jsonl" || fail "the waves of $1 have other flits than the monitor wrote"
+}
+build out/dv_waves chi_channels_tb --trace -GDataWidth=256 \
+  dv/chi_stimulus.sv dv/chi_home_node.sv dv/chi_monitor.sv dv/chi_flits.sv dv/chi_channels_tb.sv
+for more in "" +errors; do
+  $limited out/dv_waves/Vchi_channels_tb +events=/dev/null +flits=out/dv_waves/flits.jsonl +waves=out/dv_waves/waves.vcd \
+    +requests=2000 $more > out/dv_waves/said.log 2>&1 || fail "the bench with waves ends with a fault: $(cat out/dv_waves/said.log)"
+  same_by_waves out/dv_waves
+done
+echo "256, by waves: with errors and without the same flits, the last time $(wc -l < out/dv_waves/by_waves.jsonl) lines"
+
 # Flits with an x, which Verilator does not have. Their lines are counted from 1, that of the granule's word.
 if command -v iverilog > /dev/null; then
   mkdir -p out/dv_x
@@ -137,13 +152,14 @@ if command -v iverilog > /dev/null; then
     "3 chicheck: line 7 has a valid that is not known" "3 chicheck: line 6 has a valid that is not known"
     "3 chicheck: line 4 has an x in its byte enables")
   for case in "${!cases[@]}"; do
-    $limited vvp -n out/dv_x/bench "+case=$case" +flits=out/dv_x/flits.jsonl > out/dv_x/said.log 2>&1 \
+    $limited vvp -n out/dv_x/bench "+case=$case" +flits=out/dv_x/flits.jsonl +waves=out/dv_x/waves.vcd > out/dv_x/said.log 2>&1 \
       || fail "case $case with an x ends with a fault: $(cat out/dv_x/said.log)"
     status=0
     said=$($checker watch --flits --require-end --require-quiet < out/dv_x/flits.jsonl 2>&1) || status=$?
     [ "$status $said" = "${cases[case]}" ] || fail "case $case with an x: chicheck ends with $status $said, and not with ${cases[case]}"
+    same_by_waves out/dv_x
   done
-  echo "${#cases[@]} cases with an x, in Icarus Verilog: as they were worked by hand"
+  echo "${#cases[@]} cases with an x, in Icarus Verilog: as they were worked by hand, and the same by waves"
 else
   echo "flits with an x are left out: no iverilog on the path (apt-get install iverilog)"
 fi
