@@ -17,7 +17,7 @@ use Rattle.chi_events.specs.RequestEvents.{each_request}
 use Rattle.chi_events.specs.declared.outstanding.Open.{Open}
 use Rattle.chi_watch_text.specs.Lines.{AreTold}
 use Rattle.chi_watch_text.specs.Operations.{AreInOrder, AreOperations, AreRefusals, IsNotNext, IsOperationsFault, IsTakingFault}
-use Rattle.chi_watch_text.specs.Reading.{FailsNext, GivesNext, HasGiven, HasGivenOf}
+use Rattle.chi_watch_text.specs.Reading.{FailsNext, GivesNext, HasGiven, HasGivenOf, IsOfLast}
 use Rattle.chi_watch_text.specs.declared.fault.LinesFault.{LinesFault}
 use Rattle.chi_watch_text.specs.declared.fault.LinesFault.TheVariants as fault
 use Rattle.chi_watch_text.specs.declared.reading.Reading.{Reading}
@@ -56,7 +56,7 @@ pub read_more : (start now later : Option (List ℕ)) (before after : List Opera
     → after ≡ before ++ option_to_list ended → refused_now ≡ refused ++ option_to_list reason → HasRead start after refused_now new s later
 read_more None now later before after refused refused_now old new r s e ended reason has gives takes refuses is are = tt
 read_more (Some text) None later before after refused refused_now old new r s e ended reason has gives takes refuses is are = absurd has
-read_more (Some text) (Some rest) later before after refused refused_now old new r s e ended reason has gives takes refuses is are = by_rest later (gives has.events has.given)
+read_more (Some text) (Some rest) later before after refused refused_now old new r s e ended reason has gives takes refuses is are = by_rest later (gives has.events has.given).0
   where
     by_rest : (left : Option (List ℕ)) → HasGivenOf (Some text) (has.events ++ e ∷ []) s left → HasRead (Some text) after refused_now new s left
     by_rest None given = absurd given
@@ -101,12 +101,12 @@ event_refused None now later ended refusals o r s e f has gives is = tt
 event_refused (Some text) None later ended refusals o r s e f has gives is = absurd has
 event_refused (Some text) (Some rest) later ended refusals o r s e fault.Read has gives is = absurd is
 event_refused (Some text) (Some rest) later ended refusals o r s e (fault.Line n f) has gives is = absurd is
-event_refused (Some text) (Some rest) later ended refusals o r s e (fault.Event n f) has gives (same, refused) = by_rest later (gives has.events has.given)
+event_refused (Some text) (Some rest) later ended refusals o r s e (fault.Event n f) has gives (same, refused) = by_rest later (gives has.events has.given).1
   where
-    by_rest : (left : Option (List ℕ)) → HasGivenOf (Some text) (has.events ++ e ∷ []) s left → IsNotNext s.format text n f
-    by_rest None given = absurd given
-    by_rest (Some left) given =
-        (has.events, e, s.pending.items, left, subst (λ (k : ℕ). AreTold s.format text k (has.events ++ e ∷ []) s.pending.items left) (sym same) given.told, (ended, o, has.tells, refused))
+    by_rest : (left : Option (List ℕ)) → IsOfLast (Some text) has.events e s left → IsNotNext s.format text n f
+    by_rest None last = absurd last
+    by_rest (Some left) last =
+        (has.events, e, s.pending.items, left, subst (λ (k : ℕ). AreTold s.format text k has.events (e ∷ s.pending.items) left) (sym same) last, (ended, o, has.tells, refused))
 event_refused (Some text) (Some rest) later ended refusals o r s e fault.TooManyLines has gives is = absurd is
 event_refused (Some text) (Some rest) later ended refusals o r s e fault.Write has gives is = absurd is
 event_refused (Some text) (Some rest) later ended refusals o r s e fault.Memory has gives is = tt

@@ -7,7 +7,7 @@ use Rattle.chi_flits.specs.Effects.{HasSeen, PortValue}
 use Rattle.chi_flits.specs.declared.flit.Flit.{Flit}
 use Rattle.chi_watch_text.specs.LineTold.{line_told}
 use Rattle.chi_watch_text.specs.Lines.{AreEvents, AreLines, AreTold, AreToldAll, is_blank}
-use Rattle.chi_watch_text.specs.Reading.{BeginsWith, HasGiven, HasGivenOf, IsAtRefused, IsLineFault, IsReadingFault, RefusesBy, TellsBy}
+use Rattle.chi_watch_text.specs.Reading.{BeginsWith, HasGiven, HasGivenOf, IsAtRefused, IsLineFault, IsOfLast, IsReadingFault, RefusesBy, TellsBy}
 use Rattle.chi_watch_text.specs.declared.fault.LinesFault.{LinesFault}
 use Rattle.chi_watch_text.specs.declared.fault.LinesFault.TheVariants as fault
 use Rattle.chi_watch_text.specs.declared.line_format.LineFormat.{LineFormat}
@@ -109,10 +109,16 @@ line_read_of (Some text) (Some rest) later events line old new has (is, left) so
     some_of (b ∷ rest) some = omega arith
 
 pub one_given_of : (start now : Option (List ℕ)) (events : List Event) (old new : Reading) (e : Event) → HasGivenOf start events old now → old.pending.items ≡ e ∷ new.pending.items
-    → new.format ≡ old.format → new.port ≡ old.port → new.number ≡ old.number → HasGivenOf start (events ++ e ∷ []) new now
-one_given_of None now events old new e has is format port number = tt
+    → new.format ≡ old.format → new.port ≡ old.port → new.number ≡ old.number → HasGivenOf start (events ++ e ∷ []) new now × IsOfLast start events e new now
+one_given_of None now events old new e has is format port number = (tt, tt)
 one_given_of (Some text) None events old new e has is format port number = absurd has
-one_given_of (Some text) (Some rest) events old new e has is format port number = one_given text rest events old new e has is format port number
+one_given_of (Some text) (Some rest) events old new e has is format port number = (one_given text rest events old new e has is format port number, of_last)
+  where
+    of_last : AreTold new.format text new.number events (e ∷ new.pending.items) rest
+    of_last =
+        subst (λ (f : LineFormat). AreTold f text new.number events (e ∷ new.pending.items) rest) (sym format)
+        (subst (λ (n : ℕ). AreTold old.format text n events (e ∷ new.pending.items) rest) (sym number)
+        (subst (λ (l : List Event). AreTold old.format text old.number events l rest) is has.told))
 
 -- nothing was read
 pub none_given : (r : Reading) → HasSeen [] r.port → r.number ≡ 0 → r.pending.items ≡ [] → (start : Option (List ℕ)) → HasGivenOf start [] r start

@@ -145,7 +145,7 @@ pub event_recorded : (start now later : Option (List ℕ)) (old new : Recording)
     → ((events : List Event) → HasRecorded events old → HasRecorded (events ++ e ∷ []) new) → HasRecordedLines start new s later
 event_recorded None now later old new r s e has gives more = tt
 event_recorded (Some text) None later old new r s e has gives more = absurd has
-event_recorded (Some text) (Some rest) later old new r s e (events, given, has) gives more = by_rest later (gives events given)
+event_recorded (Some text) (Some rest) later old new r s e (events, given, has) gives more = by_rest later (gives events given).0
   where
     by_rest : (left : Option (List ℕ)) → HasGivenOf (Some text) (events ++ e ∷ []) s left → HasRecordedLines (Some text) new s left
     by_rest None now_given = absurd now_given

@@ -1,10 +1,10 @@
--- a line that tells nothing, or an event that is not taken
+-- a line that is refused, or an event that is not taken
 use Rattle.std.proofs.Common.{◌≡◌, ℕ, ◌⊎◌, List, [], ◌∷◌, ◌++◌, Option, None, Some, IfSome, inl, inr, sym, subst}
 use Rattle.chi_events.specs.declared.event.Event.{Event}
 use Rattle.chi_watch.specs.Watches.{HasTaken, WatchValue}
 use Rattle.chi_watch_text.specs.Lines.{AreTold}
 use Rattle.chi_watch_text.specs.Outcomes.{IsEventFault, IsLinesFault, IsNotTaken, IsWatchingFault}
-use Rattle.chi_watch_text.specs.Reading.{FailsNext, GivesNext, HasGiven, HasGivenOf}
+use Rattle.chi_watch_text.specs.Reading.{FailsNext, GivesNext, HasGiven, IsOfLast}
 use Rattle.chi_watch_text.specs.declared.fault.LinesFault.{LinesFault}
 use Rattle.chi_watch_text.specs.declared.fault.LinesFault.TheVariants as fault
 use Rattle.chi_watch_text.specs.declared.line_format.LineFormat.{LineFormat}
@@ -16,7 +16,7 @@ TookLines None w r rest = Unit {0}
 TookLines (Some text) w r None = ⊥
 TookLines (Some text) w r (Some rest) = (events : List Event) × HasGiven text events r rest × HasTaken events w
 
--- what is said of the text where a line tells nothing
+-- what is said of the text where a line is refused
 pub where_refused : (start now : Option (List ℕ)) (w : WatchValue) (r s : Reading) (f : LinesFault) → TookLines start w r now → FailsNext start r now s f → IfSome start (λ text. IsLinesFault r.format text f)
 where_refused None now w r s f has fails = tt
 where_refused (Some text) None w r s f has fails = absurd has
@@ -34,12 +34,12 @@ where_not_taken None now later w r s e f has gives is = tt
 where_not_taken (Some text) None later w r s e f has gives is = absurd has
 where_not_taken (Some text) (Some rest) later w r s e fault.Read has gives is = absurd is
 where_not_taken (Some text) (Some rest) later w r s e (fault.Line n f) has gives is = absurd is
-where_not_taken (Some text) (Some rest) later w r s e (fault.Event n f) (events, given, has) gives (same, refused) = by_rest later (gives events given)
+where_not_taken (Some text) (Some rest) later w r s e (fault.Event n f) (events, given, has) gives (same, refused) = by_rest later (gives events given).1
   where
-    by_rest : (left : Option (List ℕ)) → HasGivenOf (Some text) (events ++ e ∷ []) s left → IsNotTaken s.format text n f
-    by_rest None now_given = absurd now_given
-    by_rest (Some left) now_given =
-        (events, e, s.pending.items, left, subst (λ (k : ℕ). AreTold s.format text k (events ++ e ∷ []) s.pending.items left) (sym same) now_given.told, (w, has, refused))
+    by_rest : (left : Option (List ℕ)) → IsOfLast (Some text) events e s left → IsNotTaken s.format text n f
+    by_rest None last = absurd last
+    by_rest (Some left) last =
+        (events, e, s.pending.items, left, subst (λ (k : ℕ). AreTold s.format text k events (e ∷ s.pending.items) left) (sym same) last, (w, has, refused))
 where_not_taken (Some text) (Some rest) later w r s e fault.TooManyLines has gives is = absurd is
 where_not_taken (Some text) (Some rest) later w r s e fault.Write has gives is = absurd is
 where_not_taken (Some text) (Some rest) later w r s e fault.Memory has gives is = tt

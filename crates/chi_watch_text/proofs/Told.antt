@@ -27,7 +27,7 @@ use Rattle.chi_watch_text.specs.declared.watched.FoundGranule.{FoundGranule}
 use Rattle.chi_watch_text.specs.declared.watched.Watched.{Watched}
 use Rattle.chi_watch_text.specs.Kept.{AreKept, AreKeptOf}
 use Rattle.chi_watch_text.specs.Outcomes.{AreAsFar, AreTaken, AreUnreached, EndsAt, HasTakenLines, IsFoundBy, IsPast, IsQuietBy, IsSeenBy, IsSettled, IsStillFound, IsTold, IsUnreached, IsWatched, ReachedBy, SaysAtEnd, SaysOf, TakesEvent, WentBy}
-use Rattle.chi_watch_text.specs.Reading.{GivesNext, HasGiven, HasGivenOf}
+use Rattle.chi_watch_text.specs.Reading.{GivesNext, HasGiven, HasGivenOf, IsOfLast}
 use Rattle.chi_watch_text.specs.declared.line_format.LineFormat.{LineFormat}
 use Rattle.chi_watch_text.specs.declared.reading.Reading.{Reading}
 use Rattle.chi_watch_text.proofs.Refused.{TookLines}
@@ -138,14 +138,14 @@ pub event_taken : (start now later : Option (List ℕ)) (time : ℕ) (ended : Bo
     → HasTakenLines start e.time (is_end e) found after new s later
 event_taken None now later time ended found quiet after old new r s e seen has gives format takes is = tt
 event_taken (Some text) None later time ended found quiet after old new r s e seen has gives format takes is = absurd has
-event_taken (Some text) (Some rest) later time ended found quiet after old new r s e seen has gives format takes is = by_rest later (gives has.events has.given)
+event_taken (Some text) (Some rest) later time ended found quiet after old new r s e seen has gives format takes is = by_rest later (gives has.events has.given).0 (gives has.events has.given).1
   where
     taken : HasTaken (has.events ++ e ∷ []) new
     taken = takes.taken has.events has.taken
 
-    by_rest : (left : Option (List ℕ)) → HasGivenOf (Some text) (has.events ++ e ∷ []) s left → HasTakenLines (Some text) e.time (is_end e) found after new s left
-    by_rest None given = absurd given
-    by_rest (Some left) given = record {
+    by_rest : (left : Option (List ℕ)) → HasGivenOf (Some text) (has.events ++ e ∷ []) s left → IsOfLast (Some text) has.events e s left → HasTakenLines (Some text) e.time (is_end e) found after new s left
+    by_rest None given last = absurd given
+    by_rest (Some left) given last = record {
       events = has.events ++ e ∷ [];
       given = given;
       taken = taken;
@@ -158,13 +158,13 @@ event_taken (Some text) (Some rest) later time ended found quiet after old new r
       where
         by_seen : (o : Option ℕ) → IfSome o (λ g. (events : List Event) → HasTaken events old → IsUnexplained (events ++ e ∷ []) g) → IfSome o (λ g. IsSeenBy s.format text g s.number)
         by_seen None none = tt
-        by_seen (Some g) none = record { events = has.events ++ e ∷ []; more = s.pending.items; rest = left; told = given.told; unexplained = none has.events has.taken }
+        by_seen (Some g) none = record { events = has.events; event = e; more = s.pending.items; rest = left; told = last; unexplained = none has.events has.taken }
 
 -- all events of a time are told
 past : (text rest : List ℕ) (events : List Event) (time : ℕ) (r s : Reading) (next : Option Event) (later : Option (List ℕ)) → HasGiven text events r rest → All (λ d. d.time ≤ time) events
     → GivesNext (Some text) r (Some rest) next s later → s.format ≡ r.format → IfSome next (λ e. time < e.time) → IsPast r.format text events
 past text rest events time r s None later has times gives format after = inl (gives events has)
-past text rest events time r s (Some e) later has times gives format after = by_rest later (gives events has)
+past text rest events time r s (Some e) later has times gives format after = by_rest later (gives events has).0
   where
     by_rest : (left : Option (List ℕ)) → HasGivenOf (Some text) (events ++ e ∷ []) s left → IsPast r.format text events
     by_rest None given = absurd given

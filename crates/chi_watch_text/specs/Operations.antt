@@ -50,7 +50,7 @@ IsTakingFault o event number fault.Memory = Unit {0}
 -- the line with this number tells the first event that cannot come next, for this reason
 abbrev pub IsNotNext : LineFormat → List ℕ → ℕ → WatchFault → Type 0
 IsNotNext format text number f =
-    (events : List Event) × (e : Event) × (more : List Event) × (rest : List ℕ) × AreTold format text number (events ++ e ∷ []) more rest
+    (events : List Event) × (e : Event) × (more : List Event) × (rest : List ℕ) × AreTold format text number events (e ∷ more) rest
     × ((ended : List Operation) × (o : OutstandingValue) × Tells events ended o × Refuses o e f)
 
 -- why a text tells no operations

@@ -49,13 +49,14 @@ IsEventFault watch event number fault.TooManyLines = ⊥
 IsEventFault watch event number fault.Write = ⊥
 IsEventFault watch event number fault.Memory = Unit {0}
 
--- by the lines up to this one, or the first events of the last of them, no order explains the granule
+-- by the events up to one that the line with this number tells no order explains the granule
 pub record IsSeenBy (format : LineFormat) (text : List ℕ) (g line : ℕ) : Type 0 where
   pub events : List Event
+  pub event : Event
   pub more : List Event
   pub rest : List ℕ
-  pub told : AreTold format text line events more rest
-  pub unexplained : IsUnexplained events g
+  pub told : AreTold format text line events (event ∷ more) rest
+  pub unexplained : IsUnexplained (events ++ event ∷ []) g
 
 -- that is so of one that became quiet by its line
 abbrev pub IsQuietBy : LineFormat → List ℕ → Quiet → Type 0
@@ -134,7 +135,7 @@ pub record IsWatched (format : LineFormat) (text : List ℕ) (going : Bool) (w :
 -- the line with this number tells the first event that a watch does not take, for this reason
 abbrev pub IsNotTaken : LineFormat → List ℕ → ℕ → WatchFault → Type 0
 IsNotTaken format text number f =
-    (events : List Event) × (e : Event) × (more : List Event) × (rest : List ℕ) × AreTold format text number (events ++ e ∷ []) more rest
+    (events : List Event) × (e : Event) × (more : List Event) × (rest : List ℕ) × AreTold format text number events (e ∷ more) rest
     × ((w : WatchValue) × HasTaken events w × (fault_of w e ≡ Some f))
 
 -- why a text is watched no further: the first line that is not taken

@@ -16,7 +16,7 @@ use Rattle.chi_watch_text.specs.declared.reading.Reading.{Reading}
 abbrev pub TellsBy : (List Flit → Result Told TellingFault) → PortValue → List Event → PortValue → Type 0
 TellsBy told old events new = (flits : List Flit) → HasSeen flits old → (after : List Flit) × (told flits ≡ Ok (record { events = events; flits = after })) × HasSeen after new
 
--- why the line with this number tells nothing, if memory does not end
+-- why the line with this number is refused, if memory does not end
 abbrev pub IsLineFault : Result Told TellingFault → ℕ → LinesFault → Type 0
 IsLineFault told number fault.Read = ⊥
 IsLineFault told number (fault.Line n f) = (n ≡ number) × (told ≡ Err f)
@@ -45,7 +45,7 @@ BeginsWith None bytes rest = Unit {0}
 BeginsWith (Some text) bytes None = ⊥
 BeginsWith (Some text) bytes (Some rest) = text ≡ bytes ++ rest
 
--- the line with this number is the first that tells nothing, for this reason
+-- the line with this number is the first that is refused for what it states
 abbrev pub IsFirstRefused : LineFormat → List ℕ → List Event → ℕ → TellingFault → Type 0
 IsFirstRefused format text events number f =
     (before : ℕ) × (rest : List ℕ) × (told : AreTold format text before events [] rest) × (before + 1 ≡ number)
@@ -60,10 +60,17 @@ IsReadingFault format text events fault.TooManyLines = Unit {0}
 IsReadingFault format text events fault.Write = ⊥
 IsReadingFault format text events fault.Memory = Unit {0}
 
+-- after the events that were given the line that was read last tells this one, and then those that are pending
+abbrev pub IsOfLast : Option (List ℕ) → List Event → Event → Reading → Option (List ℕ) → Type 0
+IsOfLast None events e r rest = Unit {0}
+IsOfLast (Some text) events e r None = ⊥
+IsOfLast (Some text) events e r (Some rest) = AreTold r.format text r.number events (e ∷ r.pending.items) rest
+
 -- After the events that were given this one is given next, or the text tells no more.
 abbrev pub GivesNext : Option (List ℕ) → Reading → Option (List ℕ) → Option Event → Reading → Option (List ℕ) → Type 0
 GivesNext start old now None new later = (events : List Event) → HasGivenOf start events old now → IfSome start (λ text. AreToldAll old.format text events)
-GivesNext start old now (Some e) new later = (events : List Event) → HasGivenOf start events old now → HasGivenOf start (events ++ e ∷ []) new later
+GivesNext start old now (Some e) new later =
+    (events : List Event) → HasGivenOf start events old now → HasGivenOf start (events ++ e ∷ []) new later × IsOfLast start events e new later
 
 -- where a line is refused it is the one that was read last
 abbrev pub IsAtRefused : List ℕ → List Event → Reading → LinesFault → Type 0
