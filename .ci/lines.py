@@ -109,6 +109,11 @@ def wdat(time, src, dbid, data, addr=LOW, **more):
     return flit("WDAT", time, **{"src": src, "txn": dbid, "opcode": 3, "data_id": addr // 16 % 4, "be": enables, "data": data, **more})
 
 
-def counts(ended, outstanding=0, granules=1, unjudged=0):
-    text = f"  operations that ended: {ended}\n  requests outstanding: {outstanding}\n"
+def waits(number, since, what, request=f"1 2 30 AtomicLoad.ADD 3 {HIGH:016x}"):
+    """The line of a request that is outstanding at the end."""
+    return f"    line {number} since {since}: {request} waits for its {what}\n"
+
+
+def counts(ended, outstanding=0, granules=1, unjudged=0, waiting=""):
+    text = f"  operations that ended: {ended}\n  requests outstanding: {outstanding}\n{waiting}"
     return f"{text}  granules: {granules}\n  granules not judged: {unjudged}\n"

@@ -10,11 +10,19 @@ def write_of(granule, word):
     return {"src": 0, "txn": 0, "op": WRITE, "size": 3, "addr": granule, "endian": 0, "be": 255 << granule % 16, "lanes": word.hex() * 2}
 
 
+def request_line(request):
+    name = f"{request['op']:02x} {name_of(request['op'])}"
+    return f"{request['src']} {request['txn']} {name} {request['size']} {request['addr']:016x}"
+
+
 def operation_line(it):
     """An operation and whether it was answered."""
-    request, reply = it.request, "no reply" if it.reply is None else "answered"
-    name = f"{request['op']:02x} {name_of(request['op'])}"
-    return f"{request['src']} {request['txn']} {name} {request['size']} {request['addr']:016x} {reply}"
+    return f"{request_line(it.request)} {'no reply' if it.reply is None else 'answered'}"
+
+
+def waiting_line(it):
+    """A request that is outstanding, and what it waits for."""
+    return f"    line {it['line']} since {it['start']}: {request_line(it['request'])} waits for its {'reply' if it['has_data'] else 'data'}"
 
 
 def word_lines(words):
@@ -148,10 +156,12 @@ class Told:
         time = first_unexplained(word, operations)
         return MOST if time is None else time
 
-    def counts(self):
+    def counts(self, is_whole):
+        """How much was told, and where the events end which requests are outstanding: the first 16."""
         return [
             f"  operations that ended: {len(self.ended)}",
             f"  requests outstanding: {len(self.open)}",
+            *(waiting_line(it) for it in list(self.open.values())[: 16 if is_whole else 0]),
             f"  granules: {len(self.granules)}",
             f"  granules not judged: {len(self.unknown)}",
         ]
@@ -180,7 +190,7 @@ class Watched:
 
     def __init__(self, events, keeps_going, busy):
         self.told, self.places, self.stops, self.traces, self.before, self.quiet, self.busy = Told(), {}, {}, {}, {}, {}, busy
-        time = 0
+        self.is_whole, time = False, 0
         for line, event in enumerate(events, 1):
             if event["time"] > time:
                 self.settle()
@@ -195,6 +205,7 @@ class Watched:
         self.settle()
         if self.places and not keeps_going:
             return
+        self.is_whole = True
         left = [it for it in sorted(self.told.granules) if it not in self.places and not self.told.is_explained(it)]
         for granule in sorted(left, key=self.told.stop_time):
             self.find(granule, None)
@@ -223,4 +234,4 @@ class Watched:
         for granule, line in self.places.items():
             lines += [f"not explained: granule {granule:016x}", *self.stops[granule], f"  at line {line}" if line else "  at the end"]
         lines = lines or ["explained"]
-        return int(bool(self.places)), "".join(f"{it}\n" for it in lines + self.told.counts())
+        return int(bool(self.places)), "".join(f"{it}\n" for it in lines + self.told.counts(self.is_whole))

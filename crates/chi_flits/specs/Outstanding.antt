@@ -1,5 +1,5 @@
--- the operations of requests that are outstanding at a granule
-use Rattle.std.specs.Prelude.{ℕ, Bool, false, not, ◌&&◌, ◌||◌, List}
+-- the operations of requests that are outstanding at a granule, and what holds one up
+use Rattle.std.specs.Prelude.{ℕ, ◌/◌, ◌==◌, Bool, false, not, ◌&&◌, ◌||◌, List}
 use Rattle.std.specs.List.{list_any}
 use Rattle.std.specs.Option.{option_map_or}
 use Rattle.chi_flits.specs.declared.flit.Flit.{Flit}
@@ -45,3 +45,11 @@ given_waits g flits _ = false
 -- was dropped.
 unfoldable pub has_outstanding : ℕ → List Flit → Bool
 has_outstanding g flits = list_any (λ f. taken_waits g flits f.kind) flits || list_any (λ f. given_waits g flits f.kind) flits
+
+-- The operation with this number is of this request, which is to be given a DBID for its data, and was given none.
+abbrev pub lacks_dbid : ℕ → Transaction → Bool
+lacks_dbid number t = t.place == number / 8 && needs_data t.request && not t.has_dbid
+
+-- It is of the request that took a TxnID last, of which this is so.
+abbrev pub waits_for_dbid : ℕ → ℕ → List Flit → Bool
+waits_for_dbid k number flits = option_map_or (lacks_dbid number) (transaction k flits) false

@@ -1,12 +1,14 @@
-//! The operations of requests that are outstanding at a granule.
+//! The operations of requests that are outstanding at a granule, and what holds one up.
 
 ghost use Rattle.std.specs.Prelude.{◌≡◌, List, All, Some};
 ghost use Rattle.std.specs.List.{list_any};
 ghost use Rattle.std.specs.Map.{values_of};
+ghost use Rattle.chi_flits.specs.Answers.{key};
 ghost use Rattle.chi_flits.specs.Effects.{HasSeen, transaction_in, transfer_in};
-ghost use Rattle.chi_flits.specs.Outstanding.{has_outstanding, has_unanswered, is_unanswered, is_unanswered_at, waits_for_answer, waits_for_data};
+ghost use Rattle.chi_flits.specs.Outstanding.{has_outstanding, has_unanswered, is_unanswered, is_unanswered_at, lacks_dbid, waits_for_answer, waits_for_data, waits_for_dbid};
 ghost use Rattle.chi_flits.specs.declared.flit.Flit.{Flit};
 
+use crate::answer::key;
 use crate::port::Port;
 use crate::response_faults::is_held;
 use crate::transaction::Transaction;
@@ -31,6 +33,13 @@ impl Transaction {
         ensures { result ≡ has_unanswered granule self.now }
     {
         (0..self.request.count()).any(|operation| self.is_unanswered_at(granule, operation))
+    }
+
+    /// Whether the operation with this number is of it, and it is still to be given a DBID for its data.
+    fn lacks_dbid(&self, number: u64) -> bool
+        ensures { result ≡ lacks_dbid number self.now }
+    {
+        self.place == number / 8 && self.request.needs_data() && !self.has_dbid
     }
 
     /// Whether the home is still to answer an operation of it at a granule.
@@ -88,5 +97,21 @@ impl Port {
         ensures { (flits : List Flit) → HasSeen flits self.now → result ≡ has_outstanding granule flits }
     {
         self.any_waits_for_answer(granule) || self.any_waits_for_data(granule)
+    }
+
+    /// Whether an operation waits for its home: its request is of this node, took this TxnID last, and is still to be given a DBID
+    /// for its data. `number` is that of the operation, as its events have it. Ask of one whose data are still to come, to say
+    /// whether the home or the requester holds it up.
+    ///
+    /// ```
+    /// let waits_for = if port.waits_for_dbid(src, txn, open.id) { "its DBID" } else { "its data" };
+    /// ```
+    pub fn waits_for_dbid(&self, src: u16, txn: u16, number: u64) -> bool
+        ensures { (flits : List Flit) → HasSeen flits self.now → result ≡ waits_for_dbid (key src txn) number flits }
+    {
+        match self.transactions.get(&key(src, txn)) {
+            Some(held) => held.lacks_dbid(number),
+            None => false,
+        }
     }
 }

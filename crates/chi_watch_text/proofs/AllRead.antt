@@ -18,6 +18,7 @@ use Rattle.chi_events.specs.declared.outstanding.Open.{Open}
 use Rattle.chi_watch_text.specs.Lines.{AreTold}
 use Rattle.chi_watch_text.specs.Operations.{AreInOrder, AreOperations, AreRefusals, IsNotNext, IsOperationsFault, IsTakingFault}
 use Rattle.chi_watch_text.specs.Reading.{FailsNext, GivesNext, HasGiven, HasGivenOf, IsOfLast}
+use Rattle.chi_watch_text.proofs.Readings.{all_told}
 use Rattle.chi_watch_text.specs.declared.fault.LinesFault.{LinesFault}
 use Rattle.chi_watch_text.specs.declared.fault.LinesFault.TheVariants as fault
 use Rattle.chi_watch_text.specs.declared.reading.Reading.{Reading}
@@ -74,13 +75,13 @@ pub all_read : (start now later : Option (List ℕ)) (ended ops : List Operation
     → GivesNext start r now None s later → ((events : List Event) → Tells events ended o → AreInOrder events ops) → IfSome start (λ text. AreOperations r.format text ops)
 all_read None now later ended ops refusals o r s has gives order = tt
 all_read (Some text) None later ended ops refusals o r s has gives order = absurd has
-all_read (Some text) (Some rest) later ended ops refusals o r s has gives order = (has.events, gives has.events has.given, order has.events has.tells)
+all_read (Some text) (Some rest) later ended ops refusals o r s has gives order = (has.events, all_told r.format text has.events s (gives has.events has.given), order has.events has.tells)
 
 pub all_refused : (start now later : Option (List ℕ)) (ended : List Operation) (refusals : List Refusal) (o : OutstandingValue) (r s : Reading) → HasRead start ended refusals o r now
     → GivesNext start r now None s later → IfSome start (λ text. AreRefusals r.format text refusals)
 all_refused None now later ended refusals o r s has gives = tt
 all_refused (Some text) None later ended refusals o r s has gives = absurd has
-all_refused (Some text) (Some rest) later ended refusals o r s has gives = (has.events, gives has.events has.given, has.refused)
+all_refused (Some text) (Some rest) later ended refusals o r s has gives = (has.events, all_told r.format text has.events s (gives has.events has.given), has.refused)
 
 -- a line tells nothing
 pub line_refused : (start now : Option (List ℕ)) (ended : List Operation) (refusals : List Refusal) (o : OutstandingValue) (r s : Reading) (f : LinesFault) → HasRead start ended refusals o r now

@@ -7,7 +7,7 @@ use Rattle.chi_flits.specs.Effects.{HasSeen, PortValue}
 use Rattle.chi_flits.specs.declared.flit.Flit.{Flit}
 use Rattle.chi_watch_text.specs.LineTold.{line_told}
 use Rattle.chi_watch_text.specs.Lines.{AreEvents, AreLines, AreTold, AreToldAll, is_blank}
-use Rattle.chi_watch_text.specs.Reading.{BeginsWith, HasGiven, HasGivenOf, IsAtRefused, IsLineFault, IsOfLast, IsReadingFault, RefusesBy, TellsBy}
+use Rattle.chi_watch_text.specs.Reading.{BeginsWith, HasGiven, HasGivenAll, HasGivenOf, IsAtRefused, IsLineFault, IsOfLast, IsReadingFault, RefusesBy, TellsBy}
 use Rattle.chi_watch_text.specs.declared.fault.LinesFault.{LinesFault}
 use Rattle.chi_watch_text.specs.declared.fault.LinesFault.TheVariants as fault
 use Rattle.chi_watch_text.specs.declared.line_format.LineFormat.{LineFormat}
@@ -129,12 +129,27 @@ none_given r seen first none (Some text) = record {
   seen = seen;
 }
 
+-- The reading has given all events, and what it read since are blank lines.
+pub all_given : (start now : Option (List ℕ)) (events : List Event) (r s : Reading) → HasGivenOf start events r now → r.pending.items ≡ [] → IfSome now (λ text. is_blank text ≡ true)
+    → (s.port ≡ r.port) × (s.number ≡ r.number) → IfSome start (λ text. HasGivenAll r.format text events s)
+all_given None now events r s has none blank same = tt
+all_given (Some text) None events r s has none blank same = absurd has
+all_given (Some text) (Some rest) events r s has none blank (port, number) = record {
+  rest = rest;
+  told = record {
+    lines = has.told.lines;
+    seen = has.told.seen;
+    count_is = has.told.count_is ∙ sym number;
+    are_lines = has.told.are_lines;
+    are_events = subst (λ (l : List Event). AreEvents r.format 1 [] has.told.lines events l has.told.seen) none has.told.are_events;
+  };
+  blank = blank;
+  seen = subst (λ (p : PortValue). HasSeen has.told.seen p) (sym port) has.seen;
+}
+
 -- all is told
-pub all_given : (start now : Option (List ℕ)) (events : List Event) (r : Reading) → HasGivenOf start events r now → r.pending.items ≡ [] → IfSome now (λ text. is_blank text ≡ true)
-    → IfSome start (λ text. AreToldAll r.format text events)
-all_given None now events r has none blank = tt
-all_given (Some text) None events r has none blank = absurd has
-all_given (Some text) (Some rest) events r has none blank = (r.number, rest, subst (λ (l : List Event). AreTold r.format text r.number events l rest) none has.told, blank)
+pub all_told : (format : LineFormat) (text : List ℕ) (events : List Event) (r : Reading) → HasGivenAll format text events r → AreToldAll format text events
+all_told format text events r has = (r.number, has.rest, has.told, has.blank)
 
 -- or a line tells nothing
 pub line_refused : (start now : Option (List ℕ)) (events : List Event) (line : List ℕ) (r s : Reading) (f : LinesFault) → HasGivenOf start events r now → r.pending.items ≡ []

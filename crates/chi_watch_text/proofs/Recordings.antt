@@ -32,6 +32,7 @@ use Rattle.chi_watch_text.specs.Recorded.{HasRecorded, HasWords, IsRecorded, IsT
 use Rattle.chi_watch_text.specs.declared.reading.Reading.{Reading}
 use Rattle.chi_watch_text.specs.declared.recorded.Recording.{Recording}
 use Rattle.chi_watch_text.proofs.KnownWords.{told_again}
+use Rattle.chi_watch_text.proofs.Readings.{all_told}
 use Rattle.chi_watch_text.proofs.Refused.{TookLines}
 
 -- a word that is told of a granule of which none was noted, and of one of which one was
@@ -155,7 +156,7 @@ pub all_recorded : (start now later : Option (List ℕ)) (recording : Recording)
     → ((events : List Event) → HasRecorded events recording → IsToldTrace events value) → IfSome start (λ text. IsRecorded r.format text value)
 all_recorded None now later recording r s value has gives is = tt
 all_recorded (Some text) None later recording r s value has gives is = absurd has
-all_recorded (Some text) (Some rest) later recording r s value (events, given, has) gives is = (events, gives events given, is events has)
+all_recorded (Some text) (Some rest) later recording r s value (events, given, has) gives is = (events, all_told r.format text events s (gives events given), is events has)
 
 -- a watch took them
 pub taken_lines : (start now : Option (List ℕ)) (recording : Recording) (r : Reading) → HasRecordedLines start recording r now → TookLines start recording.watch r now

@@ -1,5 +1,5 @@
 -- a line that is refused, or an event that is not taken
-use Rattle.std.proofs.Common.{◌≡◌, ℕ, ◌⊎◌, List, [], ◌∷◌, ◌++◌, Option, None, Some, IfSome, inl, inr, sym, subst}
+use Rattle.std.proofs.Common.{◌≡◌, ℕ, ◌⊎◌, List, ◌∷◌, Option, None, Some, IfSome, inl, inr, sym, subst}
 use Rattle.chi_events.specs.declared.event.Event.{Event}
 use Rattle.chi_watch.specs.Watches.{HasTaken, WatchValue}
 use Rattle.chi_watch_text.specs.Lines.{AreTold}

@@ -26,10 +26,14 @@ use Rattle.chi_watch_text.specs.declared.quiet.Quiet.{Quiet}
 use Rattle.chi_watch_text.specs.declared.watched.FoundGranule.{FoundGranule}
 use Rattle.chi_watch_text.specs.declared.watched.Watched.{Watched}
 use Rattle.chi_watch_text.specs.Kept.{AreKept, AreKeptOf}
-use Rattle.chi_watch_text.specs.Outcomes.{AreAsFar, AreTaken, AreUnreached, EndsAt, HasTakenLines, IsFoundBy, IsPast, IsQuietBy, IsSeenBy, IsSettled, IsStillFound, IsTold, IsUnreached, IsWatched, ReachedBy, SaysAtEnd, SaysOf, TakesEvent, WentBy}
-use Rattle.chi_watch_text.specs.Reading.{GivesNext, HasGiven, HasGivenOf, IsOfLast}
+use Rattle.chi_watch_text.specs.Outcomes.{AreAsFar, AreListed, AreTaken, AreUnreached, EndsAt, HasTakenLines, IsFoundBy, IsPast, IsQuietBy, IsSeenBy, IsSettled, IsStillFound, IsTold, IsUnreached, IsWatched, ReachedBy, SaysAtEnd, SaysOf, TakesEvent, WentBy}
+use Rattle.chi_watch_text.specs.Reading.{GivesNext, HasGiven, HasGivenAll, HasGivenOf, IsOfLast}
 use Rattle.chi_watch_text.specs.declared.line_format.LineFormat.{LineFormat}
 use Rattle.chi_watch_text.specs.declared.reading.Reading.{Reading}
+use Rattle.chi_watch_text.specs.Waiting.{first_waiting}
+use Rattle.chi_flits.specs.Effects.{HasSeen}
+use Rattle.chi_flits.specs.declared.flit.Flit.{Flit}
+use Rattle.chi_watch_text.proofs.Readings.{all_told}
 use Rattle.chi_watch_text.proofs.Refused.{TookLines}
 
 -- of some events the last tells the end or does not
@@ -163,7 +167,7 @@ event_taken (Some text) (Some rest) later time ended found quiet after old new r
 -- all events of a time are told
 past : (text rest : List ℕ) (events : List Event) (time : ℕ) (r s : Reading) (next : Option Event) (later : Option (List ℕ)) → HasGiven text events r rest → All (λ d. d.time ≤ time) events
     → GivesNext (Some text) r (Some rest) next s later → s.format ≡ r.format → IfSome next (λ e. time < e.time) → IsPast r.format text events
-past text rest events time r s None later has times gives format after = inl (gives events has)
+past text rest events time r s None later has times gives format after = inl (all_told r.format text events s (gives events has))
 past text rest events time r s (Some e) later has times gives format after = by_rest later (gives events has).0
   where
     by_rest : (left : Option (List ℕ)) → HasGivenOf (Some text) (events ++ e ∷ []) s left → IsPast r.format text events
@@ -246,10 +250,11 @@ says_of w events has ending says = record {
 -- what is said of the text where it ends at its end
 pub at_end : (start now later : Option (List ℕ)) (time : ℕ) (ended : Bool) (found : List FoundGranule) (quiet : List Quiet) (going : Bool) (w : WatchValue) (r s : Reading) (kept : Option (Vec ℕ Global)) (watched : Watched)
     → HasTakenLines start time ended found quiet w r now → GivesNext start r now None s later → r.pending.items ≡ [] → AllPairs (λ a b. a.granule ≢ b.granule) found → (going ≡ false → found ≡ [])
-    → IsTold w found ended kept watched → watched.ending ≢ None → IfSome watched.ending (SaysAtEnd w) → AreKeptOf start kept now → IfSome start (λ text. IsWatched r.format text going watched)
-at_end None now later time ended found quiet going w r s kept watched has gives whole once first told some says are_kept = tt
-at_end (Some text) None later time ended found quiet going w r s kept watched has gives whole once first told some says are_kept = absurd has
-at_end (Some text) (Some rest) later time ended found quiet going w r s kept watched has gives whole once first told some says are_kept = record {
+    → IsTold w found ended kept watched → watched.ending ≢ None → IfSome watched.ending (SaysAtEnd w) → ((flits : List Flit) → HasSeen flits s.port → watched.waiting.items ≡ first_waiting flits w.outstanding.requests)
+    → AreKeptOf start kept now → IfSome start (λ text. IsWatched r.format text going watched)
+at_end None now later time ended found quiet going w r s kept watched has gives whole once first told some says waits are_kept = tt
+at_end (Some text) None later time ended found quiet going w r s kept watched has gives whole once first told some says waits are_kept = absurd has
+at_end (Some text) (Some rest) later time ended found quiet going w r s kept watched has gives whole once first told some says waits are_kept = record {
   events = has.events;
   count = r.number;
   rest = rest;
@@ -260,24 +265,29 @@ at_end (Some text) (Some rest) later time ended found quiet going w r s kept wat
   counted = told.counted has.events has.taken;
   watch = w;
   taken = has.taken;
+  listed = by_list watched.ending some (gives has.events has.given);
   granules = told.granules;
   unjudged_is = told.unjudged_is;
   ended_is = told.ended_is ∙ has.ended_is;
   kept = subst (λ (o : Option (Vec ℕ Global)). AreKept text o rest) (sym told.kept_is) are_kept;
 }
   where
+    by_list : (o : Option Ending) → o ≢ None → HasGivenAll r.format text has.events s → AreListed r.format text has.events w o watched.waiting.items
+    by_list None is_some all = absurd (is_some refl)
+    by_list (Some ending) is_some all = (s.number, all.rest, all.told, all.blank, waits all.told.seen all.seen)
+
     by_ending : (o : Option Ending) → o ≢ None → IfSome o (SaysAtEnd w) → EndsAt r.format text going has.events found o
     by_ending None is_some said = absurd (is_some refl)
-    by_ending (Some ending) is_some said = (gives has.events has.given, says_of w has.events has.taken ending said, first)
+    by_ending (Some ending) is_some said = (all_told r.format text has.events s (gives has.events has.given), says_of w has.events has.taken ending said, first)
 
 -- what is said of the text where it stops
 pub at_stop : (start now later : Option (List ℕ)) (time : ℕ) (ended : Bool) (found : List FoundGranule) (quiet : List Quiet) (going is_past : Bool) (w : WatchValue) (r s : Reading) (next : Option Event) (kept : Option (Vec ℕ Global)) (watched : Watched)
     → HasTakenLines start time ended found quiet w r now → GivesNext start r now next s later → s.format ≡ r.format → (is_past ≡ true → IfSome next (λ e. time < e.time)) → (is_past ≡ true → r.pending.items ≡ [])
-    → AllPairs (λ a b. a.granule ≢ b.granule) found → (is_past ≡ true) × (going ≡ false) × (0 < length found) → IsTold w found ended kept watched → watched.ending ≡ None
+    → AllPairs (λ a b. a.granule ≢ b.granule) found → (is_past ≡ true) × (going ≡ false) × (0 < length found) → IsTold w found ended kept watched → watched.ending ≡ None → watched.waiting.items ≡ []
     → AreKeptOf start kept now → IfSome start (λ text. IsWatched r.format text going watched)
-at_stop None now later time ended found quiet going is_past w r s next kept watched has gives format after whole once stops told none are_kept = tt
-at_stop (Some text) None later time ended found quiet going is_past w r s next kept watched has gives format after whole once stops told none are_kept = absurd has
-at_stop (Some text) (Some rest) later time ended found quiet going is_past w r s next kept watched has gives format after whole once stops told none are_kept = record {
+at_stop None now later time ended found quiet going is_past w r s next kept watched has gives format after whole once stops told none unlisted are_kept = tt
+at_stop (Some text) None later time ended found quiet going is_past w r s next kept watched has gives format after whole once stops told none unlisted are_kept = absurd has
+at_stop (Some text) (Some rest) later time ended found quiet going is_past w r s next kept watched has gives format after whole once stops told none unlisted are_kept = record {
   events = has.events;
   count = r.number;
   rest = rest;
@@ -289,6 +299,7 @@ at_stop (Some text) (Some rest) later time ended found quiet going is_past w r s
   counted = told.counted has.events has.taken;
   watch = w;
   taken = has.taken;
+  listed = subst (λ (o : Option Ending). AreListed r.format text has.events w o watched.waiting.items) (sym none) unlisted;
   granules = told.granules;
   unjudged_is = told.unjudged_is;
   ended_is = told.ended_is ∙ has.ended_is;
@@ -330,7 +341,7 @@ far_at_end looked old middle new budget some (Some text) (Some rest) later time 
     let states = states_for budget undecided in
     record {
       events = has.events;
-      told = gives has.events has.given;
+      told = all_told r.format text has.events s (gives has.events has.given);
       far = All-weaker (λ u. (events : List Event) → HasTaken events w → IsExplainedAsFar looked middle new states events u) (IsExplainedAsFar looked old new states has.events)
           (λ u is. as_far_by looked middle new old new states states (λ whole. at_least_after looked old middle new states some whole) (judged has.events) u.granule (word_or_zero (openings has.events) u.granule) u.explained
           (is has.events has.taken)) undecided far;

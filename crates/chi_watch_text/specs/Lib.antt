@@ -12,3 +12,4 @@ pub mod Required
 pub mod Saved
 pub mod Telling
 pub mod Texts
+pub mod Waiting

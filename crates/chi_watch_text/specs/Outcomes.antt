@@ -1,5 +1,5 @@
 -- what comes of events that are read line by line
-use Rattle.std.specs.Prelude.{◌≡◌, ◌≢◌, ℕ, ◌<◌, ◌≤◌, ◌⊎◌, Bool, false, List, [], ◌∷◌, ◌++◌, All, length, Option, None, Some, IfSome, Result, Ok, Err, Vec}
+use Rattle.std.specs.Prelude.{◌≡◌, ◌≢◌, ℕ, ◌<◌, ◌≤◌, ◌⊎◌, Bool, true, false, List, [], ◌∷◌, ◌++◌, All, length, Option, None, Some, IfSome, Result, Ok, Err, Vec}
 use Rattle.std.specs.List.{AllPairs, Contains}
 use Rattle.std.specs.declared.alloc.Global.{Global}
 use Rattle.chi_events.specs.Ended.{are_ended}
@@ -18,13 +18,15 @@ use Rattle.chi_watch.specs.declared.fault.WatchFault.{WatchFault}
 use Rattle.chi_watch.specs.declared.undecided.UndecidedAtEnd.{UndecidedAtEnd}
 use Rattle.chi_watch_text.specs.FoundGranule.{is_found, with_quiet}
 use Rattle.chi_watch_text.specs.Kept.{AreKept}
-use Rattle.chi_watch_text.specs.Lines.{AreTold, AreToldAll, IsNext, StatesLater}
+use Rattle.chi_watch_text.specs.Lines.{AreTold, AreToldAll, IsNext, StatesLater, is_blank}
 use Rattle.chi_watch_text.specs.Reading.{HasGiven, IsFirstRefused}
+use Rattle.chi_watch_text.specs.Waiting.{first_waiting}
 use Rattle.chi_watch_text.specs.declared.fault.LinesFault.{LinesFault}
 use Rattle.chi_watch_text.specs.declared.fault.LinesFault.TheVariants as fault
 use Rattle.chi_watch_text.specs.declared.line_format.LineFormat.{LineFormat}
 use Rattle.chi_watch_text.specs.declared.quiet.Quiet.{Quiet}
 use Rattle.chi_watch_text.specs.declared.reading.Reading.{Reading}
+use Rattle.chi_watch_text.specs.declared.waiting.Waiting.{Waiting}
 use Rattle.chi_watch_text.specs.declared.watched.FoundGranule.{FoundGranule}
 use Rattle.chi_watch_text.specs.declared.watched.Unfinished.{Unfinished}
 use Rattle.chi_watch_text.specs.declared.watched.Watched.{Watched}
@@ -115,6 +117,12 @@ abbrev pub EndsAt : LineFormat → List ℕ → Bool → List Event → List Fou
 EndsAt format text going events found (Some ending) = AreToldAll format text events × SaysOf events ending × (going ≡ false → found ≡ [])
 EndsAt format text going events found None = (going ≡ false) × (0 < length found) × IsPast format text events
 
+-- where the events end, the first requests that are outstanding then are listed, with what each waits for
+abbrev pub AreListed : LineFormat → List ℕ → List Event → WatchValue → Option Ending → List Waiting → Type 0
+AreListed format text events watch None listed = listed ≡ []
+AreListed format text events watch (Some ending) listed =
+    (count : ℕ) × (rest : List ℕ) × (told : AreTold format text count events [] rest) × (is_blank rest ≡ true) × (listed ≡ first_waiting told.seen watch.outstanding.requests)
+
 -- What is found of a text: of so many lines, which tell events that a watch takes. Where lines are kept, these are.
 pub record IsWatched (format : LineFormat) (text : List ℕ) (going : Bool) (w : Watched) : Type 0 where
   pub events : List Event
@@ -127,6 +135,7 @@ pub record IsWatched (format : LineFormat) (text : List ℕ) (going : Bool) (w :
   pub counted : AreCounted events w.counts
   pub watch : WatchValue
   pub taken : HasTaken events watch
+  pub listed : AreListed format text events watch w.ending w.waiting.items
   pub granules : w.counts.granules ≡ length watch.granules
   pub unjudged_is : w.unjudged ≡ unjudged watch
   pub ended_is : w.is_ended ≡ are_ended events

@@ -1,11 +1,11 @@
 -- what a reading of lines has given, and why it gives no more
-use Rattle.std.specs.Prelude.{◌≡◌, ℕ, ◌+◌, ◌<◌, List, [], ◌∷◌, ◌++◌, Option, None, Some, IfSome, IsSomeAnd, Result, Ok, Err}
+use Rattle.std.specs.Prelude.{◌≡◌, ℕ, ◌+◌, ◌<◌, true, List, [], ◌∷◌, ◌++◌, Option, None, Some, IfSome, IsSomeAnd, Result, Ok, Err}
 use Rattle.std.specs.Io.BufRead.{take_through}
 use Rattle.chi_events.specs.declared.event.Event.{Event}
 use Rattle.chi_flits.specs.Effects.{HasSeen, PortValue}
 use Rattle.chi_flits.specs.declared.flit.Flit.{Flit}
 use Rattle.chi_watch_text.specs.LineTold.{Told, line_told, time_stated}
-use Rattle.chi_watch_text.specs.Lines.{AreTold, AreToldAll}
+use Rattle.chi_watch_text.specs.Lines.{AreTold, is_blank}
 use Rattle.chi_watch_text.specs.declared.fault.LinesFault.{LinesFault}
 use Rattle.chi_watch_text.specs.declared.fault.LinesFault.TheVariants as fault
 use Rattle.chi_watch_text.specs.declared.fault.TellingFault.{TellingFault}
@@ -66,9 +66,16 @@ IsOfLast None events e r rest = Unit {0}
 IsOfLast (Some text) events e r None = ⊥
 IsOfLast (Some text) events e r (Some rest) = AreTold r.format text r.number events (e ∷ r.pending.items) rest
 
+-- The reading has given all events that the text tells.
+pub record HasGivenAll (format : LineFormat) (text : List ℕ) (events : List Event) (r : Reading) : Type 0 where
+  pub rest : List ℕ
+  pub told : AreTold format text r.number events [] rest
+  pub blank : is_blank rest ≡ true
+  pub seen : HasSeen told.seen r.port
+
 -- After the events that were given this one is given next, or the text tells no more.
 abbrev pub GivesNext : Option (List ℕ) → Reading → Option (List ℕ) → Option Event → Reading → Option (List ℕ) → Type 0
-GivesNext start old now None new later = (events : List Event) → HasGivenOf start events old now → IfSome start (λ text. AreToldAll old.format text events)
+GivesNext start old now None new later = (events : List Event) → HasGivenOf start events old now → IfSome start (λ text. HasGivenAll old.format text events new)
 GivesNext start old now (Some e) new later =
     (events : List Event) → HasGivenOf start events old now → HasGivenOf start (events ++ e ∷ []) new later × IsOfLast start events e new later
 

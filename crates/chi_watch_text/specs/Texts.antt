@@ -1,5 +1,8 @@
 -- the text of what is found of events
 use Rattle.std.specs.Prelude.{ℕ, ◌==◌, ◌++◌, Bool, if◌then◌else◌, List, [], Option, None, Some, codes, decimal, flat_map}
+use Rattle.chi_script.specs.Transcript.{request_text}
+use Rattle.chi_trace.specs.RequestFields.{request_of}
+use Rattle.chi_trace.specs.declared.request_fields.RequestFields.{RequestFields}
 use Rattle.chi_answer.specs.DoubtLines.{found_line}
 use Rattle.chi_answer.specs.Lines.{granule_line, undecided_line}
 use Rattle.chi_watch.specs.declared.counts.Counts.{Counts}
@@ -13,6 +16,9 @@ use Rattle.chi_watch_text.specs.declared.options.WatchOptions.{WatchOptions}
 use Rattle.chi_watch_text.specs.declared.required.Required.{Required}
 use Rattle.chi_watch_text.specs.declared.watched.FoundGranule.{FoundGranule}
 use Rattle.chi_watch_text.specs.declared.watched.Watched.{Watched}
+use Rattle.chi_watch_text.specs.declared.waiting.Waiting.{Waiting}
+use Rattle.chi_watch_text.specs.declared.waiting.WaitsFor.{WaitsFor}
+use Rattle.chi_watch_text.specs.declared.waiting.WaitsFor.TheVariants.{Data, Dbid, Reply}
 use Rattle.chi_judge.specs.declared.standing.Standing.{Standing}
 use Rattle.chi_judge.specs.declared.standing.Standing.TheVariants.{Explained, Unexplained, Undecided}
 
@@ -39,11 +45,31 @@ verdict_text Explained budget w = codes "explained\n"
 verdict_text Unexplained budget w = ending_text budget w.found.items w.ending
 verdict_text Undecided budget w = ending_text budget w.found.items w.ending
 
--- how much was told
-unfoldable pub counts_text : Counts → ℕ → List ℕ
-counts_text counts unjudged =
-    codes "  operations that ended: " ++ decimal counts.ended ++ codes "\n  requests outstanding: " ++ decimal counts.outstanding
-    ++ codes "\n  granules: " ++ decimal counts.granules ++ codes "\n  granules not judged: " ++ decimal unjudged ++ codes "\n"
+-- a request as a transcript has it, of any requester and transaction
+abbrev pub fields_text : RequestFields → List ℕ
+fields_text f = request_text (record (request_of f) { src = f.src; txn = f.txn })
+
+-- what a request waits for
+abbrev pub waits_text : WaitsFor → List ℕ
+waits_text Data = codes "data"
+waits_text Dbid = codes "DBID"
+waits_text Reply = codes "reply"
+
+-- an outstanding request: the line that told it, since when it is outstanding, its fields, and what it waits for
+unfoldable pub waiting_line : Waiting → List ℕ
+waiting_line w =
+    codes "    line " ++ decimal w.fields.number ++ codes " since " ++ decimal w.since ++ codes ": "
+    ++ (fields_text w.fields ++ (codes "waits for its " ++ waits_text w.waits_for ++ codes "\n"))
+
+-- how much was told, and which requests are outstanding
+unfoldable pub outstanding_text : Counts → List ℕ
+outstanding_text counts = codes "  operations that ended: " ++ decimal counts.ended ++ codes "\n  requests outstanding: " ++ decimal counts.outstanding ++ codes "\n"
+
+unfoldable pub granules_text : Counts → ℕ → List ℕ
+granules_text counts unjudged = codes "  granules: " ++ decimal counts.granules ++ codes "\n  granules not judged: " ++ decimal unjudged ++ codes "\n"
+
+abbrev pub counts_text : Watched → List ℕ
+counts_text w = outstanding_text w.counts ++ (flat_map waiting_line w.waiting.items ++ granules_text w.counts w.unjudged)
 
 -- what is required and does not hold, a line each
 unfoldable pub are_text : ℕ → List ℕ
@@ -73,7 +99,7 @@ missing_text missing w =
 
 -- what is said once all is watched
 abbrev pub closing_text : WatchOptions → Watched → List ℕ
-closing_text options w = verdict_text (verdict_of w) options.budget w ++ (counts_text w.counts w.unjudged ++ missing_text (missing_of options.required w) w)
+closing_text options w = verdict_text (verdict_of w) options.budget w ++ (counts_text w ++ missing_text (missing_of options.required w) w)
 
 -- the whole text: the granules that were told when they were found, and what is said once all is watched
 abbrev pub watched_text : WatchOptions → Watched → List ℕ

@@ -19,6 +19,8 @@ mod saved;
 mod taking;
 mod telling;
 mod text;
+mod waiting;
+mod waiting_lines;
 mod watched;
 mod watching;
 
@@ -31,5 +33,6 @@ pub use recorded::read_events;
 pub use required::Required;
 pub use saved::lines_of_granule;
 pub use text::closing_text;
+pub use waiting::{Waiting, WaitsFor};
 pub use watched::{FoundGranule, Unfinished, Watched};
 pub use watching::watch_lines;

@@ -1,6 +1,6 @@
 //! What a line tells, after the lines before it.
 
-ghost use Rattle.std.specs.Prelude.{◌≡◌, ◌∷◌, [], List, IfErr, IfOk, Ok, map};
+ghost use Rattle.std.specs.Prelude.{◌≡◌, ◌≢◌, ◌∷◌, [], List, IfErr, IfOk, Ok, map};
 ghost use Rattle.serde_json.specs.Find.{as_object};
 ghost use Rattle.serde_json.specs.View.{view};
 ghost use Rattle.chi_reading.specs.EventText.{event_text};
@@ -123,6 +123,7 @@ fn flit_told(
 ) -> Result<Vec<Event>, LinesFault>
     ensures told { IfOk result (λ events. TellsBy (λ flits. flit_told flits (Ok flit.now)) port.old events.items port.new) }
     ensures fault { IfErr result (RefusesBy (λ flits. flit_told flits (Ok flit.now)) port.old number) }
+    ensures failed { IfErr result (λ fault. fault ≢ LinesFault.Memory → port.new ≡ port.old) }
 {
     match port.take(alloc, flit) {
         Ok(kinds) => Ok(at_time(alloc, flit.time, &kinds)?),
@@ -187,6 +188,7 @@ fn told_among(
 ) -> Result<Vec<Event>, LinesFault>
     ensures told { IfOk result (λ events. TellsBy (λ flits. told_among flits number line.now (stated_flit number line.now)) port.old events.items port.new) }
     ensures fault { IfErr result (RefusesBy (λ flits. told_among flits number line.now (stated_flit number line.now)) port.old number) }
+    ensures failed { IfErr result (λ fault. fault ≢ LinesFault.Memory → port.new ≡ port.old) }
 {
     match stated_flit(alloc, line, number)? {
         None => other_told(alloc, port, line, number),
@@ -223,6 +225,7 @@ pub(crate) fn line_told(
 ) -> Result<Vec<Event>, LinesFault>
     ensures told { IfOk result (λ events. TellsBy (λ flits. line_told format flits number line.now) port.old events.items port.new) }
     ensures fault { IfErr result (RefusesBy (λ flits. line_told format flits number line.now) port.old number) }
+    ensures failed { IfErr result (λ fault. fault ≢ LinesFault.Memory → port.new ≡ port.old) }
 {
     match format {
         LineFormat::Events => told_alone(alloc, port, line, number),

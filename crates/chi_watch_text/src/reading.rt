@@ -72,6 +72,7 @@ impl Reading {
         ensures lines { IfOk result (λ _. self.new.lines.items ≡ self.old.lines.items ++ self.old.line.items) }
         ensures line { self.new.line.items ≡ self.old.line.items }
         ensures refused { IfErr result (λ fault. fault ≢ LinesFault.Memory → self.new.number ≡ self.old.number) }
+        ensures failed { IfErr result (λ fault. fault ≢ LinesFault.Memory → self.new.port ≡ self.old.port) }
         ensures format { self.new.format ≡ self.old.format }
     {
         self.pending = line_told(alloc, self.format, &mut self.port, &self.line, number)?;
@@ -96,6 +97,7 @@ impl Reading {
         ensures read { IfOk result (λ more. IsTrue more → (start : Option (List ℕ)) (events : List Event) → HasGivenOf start events self.old (R.remaining from.old) → HasGivenOf start events self.new (R.remaining from.new)) }
         ensures lines { IfOk result (λ more. IsTrue more → (begin : Option (List ℕ)) → BeginsWith begin self.old.lines.items (R.remaining from.old) → BeginsWith begin self.new.lines.items (R.remaining from.new)) }
         ensures ended { IfOk result (λ more. more ≡ false → IfSome (R.remaining from.old) (λ text. is_blank text ≡ true)) }
+        ensures same { IfOk result (λ more. more ≡ false → (self.new.port ≡ self.old.port) × (self.new.number ≡ self.old.number)) }
         ensures fault { IfErr result (λ fault. (start : Option (List ℕ)) → FailsNext start self.old (R.remaining from.old) self.new fault) }
         ensures format { self.new.format ≡ self.old.format }
     {
@@ -108,6 +110,7 @@ impl Reading {
         }
         let fault = match self.take_line(alloc, number) {
             Ok(()) => return Ok(true),
+            Err(LinesFault::Memory) => return Err(LinesFault::Memory),
             Err(fault) => fault,
         };
         if !is_blank(&self.line) {

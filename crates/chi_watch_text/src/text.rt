@@ -2,11 +2,12 @@
 
 ghost use Rattle.std.specs.Prelude.{◌≡◌, ◌++◌, IfOk, OnOk, flat_map};
 ghost use Rattle.chi_watch_text.specs.FoundGranule.{verdict_of};
-ghost use Rattle.chi_watch_text.specs.Texts.{are_text, closing_text, counts_text, end_line, end_text, ending_text, found_text, judged_line, missing_text, operations_line, operations_text, quiet_line, undecided_text, verdict_text};
+ghost use Rattle.chi_watch_text.specs.Texts.{are_text, closing_text, counts_text, end_line, end_text, ending_text, found_text, granules_text, judged_line, missing_text, operations_line, operations_text, outstanding_text, quiet_line, undecided_text, verdict_text};
 
 use crate::options::WatchOptions;
 use crate::reach_lines::add_reach;
 use crate::required::Required;
+use crate::waiting_lines::add_all_waiting;
 use crate::watched::{FoundGranule, Watched, is_found};
 use chi_answer::{add_found_time, add_granule, add_undecided};
 use chi_judge::Standing;
@@ -131,9 +132,9 @@ fn add_verdict(
     }
 }
 
-/// How much was told.
-fn add_counts(to: &mut Vec<u8>, counts: &Counts, unjudged: u64) -> Result<(), AllocError>
-    ensures { OnOk result (to.new.items ≡ to.old.items ++ counts_text counts.now unjudged) }
+/// How many operations ended, and how many requests are outstanding.
+fn add_outstanding(to: &mut Vec<u8>, counts: &Counts) -> Result<(), AllocError>
+    ensures { OnOk result (to.new.items ≡ to.old.items ++ outstanding_text counts.now) }
 {
     add_parts(
         to,
@@ -142,13 +143,34 @@ fn add_counts(to: &mut Vec<u8>, counts: &Counts, unjudged: u64) -> Result<(), Al
             Part::Number(counts.ended),
             Part::Text("\n  requests outstanding: "),
             Part::Number(counts.outstanding as u64),
-            Part::Text("\n  granules: "),
+            Part::Text("\n"),
+        ],
+    )
+}
+
+/// Of how many granules was told, and how many are not judged.
+fn add_granules(to: &mut Vec<u8>, counts: &Counts, unjudged: u64) -> Result<(), AllocError>
+    ensures { OnOk result (to.new.items ≡ to.old.items ++ granules_text counts.now unjudged) }
+{
+    add_parts(
+        to,
+        &[
+            Part::Text("  granules: "),
             Part::Number(counts.granules as u64),
             Part::Text("\n  granules not judged: "),
             Part::Number(unjudged),
             Part::Text("\n"),
         ],
     )
+}
+
+/// How much was told, and which requests are outstanding at the end.
+fn add_counts(to: &mut Vec<u8>, watched: &Watched) -> Result<(), AllocError>
+    ensures { OnOk result (to.new.items ≡ to.old.items ++ counts_text watched.now) }
+{
+    add_outstanding(to, &watched.counts)?;
+    add_all_waiting(to, &watched.waiting)?;
+    add_granules(to, &watched.counts, watched.unjudged)
 }
 
 /// That so many are something.
@@ -264,7 +286,7 @@ pub fn closing_text(
     let missing = options.required.missing(watched);
     let mut text = Vec::new(alloc);
     add_verdict(alloc, &mut text, watched, options.budget)?;
-    add_counts(&mut text, &watched.counts, watched.unjudged)?;
+    add_counts(&mut text, watched)?;
     add_missing(&mut text, &missing, watched)?;
     Ok(text)
 }

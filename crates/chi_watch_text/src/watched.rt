@@ -4,6 +4,7 @@ ghost use Rattle.std.specs.Prelude.{◌≡◌};
 ghost use Rattle.chi_watch_text.specs.FoundGranule.{is_found, verdict_of};
 
 use crate::fault::LinesFault;
+use crate::waiting::Waiting;
 use chi_judge::{Reach, Standing};
 use chi_watch::{Counts, Ending};
 use thiserror::Error;
@@ -19,13 +20,14 @@ pub struct FoundGranule {
 
 /// What is found of events that are read line by line: granules that no order explains, each with the line by which that was first
 /// seen; what is said where the events end, or nothing where it stopped at the line of the last granule found; and how much was
-/// told. `unjudged` is of how many granules that were told of nothing is said. `is_ended` is whether the last line that was taken
-/// tells the end. `kept` is the lines that were taken, as they stand one after the other, where they are kept.
+/// told. `waiting` are the first 16 requests that are outstanding where the events end. `unjudged` is of how many granules that were
+/// told of nothing is said. `is_ended` is whether the last line that was taken tells the end. `kept` is the lines that were taken, as they stand one after the other, where they are kept.
 #[derive(Debug, Drop)]
 pub struct Watched {
     pub found: Vec<FoundGranule>,
     pub ending: Option<Ending>,
     pub counts: Counts,
+    pub waiting: Vec<Waiting>,
     pub unjudged: u64,
     pub is_ended: bool,
     pub kept: Option<Vec<u8>>,

@@ -5,6 +5,8 @@ ghost use Rattle.std.specs.Io.KnownBytes.{Appends};
 ghost use Rattle.chi_script.specs.WriterBytes.{AppendsFront};
 ghost use Rattle.chi_events.specs.Ended.{is_end};
 ghost use Rattle.chi_events.specs.declared.event.Event.{Event};
+ghost use Rattle.chi_flits.specs.Effects.{HasSeen};
+ghost use Rattle.chi_flits.specs.declared.flit.Flit.{Flit};
 ghost use Rattle.chi_search.specs.Looks.{LookedSome};
 ghost use Rattle.chi_watch.specs.Undecided.{IsExplainedAsFar, states_for};
 ghost use Rattle.chi_watch.specs.Watches.{HasTaken};
@@ -12,6 +14,7 @@ ghost use Rattle.chi_watch_text.specs.Outcomes.{IsFoundBy, IsOutcome, IsStillFou
 ghost use Rattle.chi_watch_text.specs.Reading.{IsRefusedLater};
 ghost use Rattle.chi_watch_text.specs.Telling.{AreAllTold, AreSomeTold};
 ghost use Rattle.chi_watch_text.specs.Texts.{found_text};
+ghost use Rattle.chi_watch_text.specs.Waiting.{first_waiting};
 
 use crate::fault::LinesFault;
 use crate::kept::nothing_kept;
@@ -20,8 +23,10 @@ use crate::progress::WatchProgress;
 use crate::quiet::{Quiet, judge_quiet};
 use crate::reading::Reading;
 use crate::taking::take_line;
+use crate::waiting::first_waiting;
 use crate::watched::{FoundGranule, Unfinished, Watched};
 use chi_events::{Event, EventKind};
+use chi_flits::Port;
 use chi_watch::Watch;
 use std::alloc::{AllocError, Global};
 use std::io::{BufRead, Write};
@@ -116,11 +121,13 @@ fn stopped(
 ) -> Watched
     ensures told { IsTold watch.now found.old.items is_ended kept result }
     ensures ending { result.ending ≡ None }
+    ensures waiting { result.waiting.items ≡ [] }
 {
     Watched {
         found: mem::replace(found, Vec::new(alloc)),
         ending: None,
         counts: watch.counts(),
+        waiting: Vec::new(alloc),
         unjudged: watch.unjudged(),
         is_ended,
         kept,
@@ -131,6 +138,7 @@ fn stopped(
 fn ended<P: WatchProgress>(
     alloc: Global,
     watch: Watch,
+    port: &Port,
     found: &mut Vec<FoundGranule>,
     is_ended: bool,
     kept: Option<Vec<u8>>,
@@ -140,6 +148,7 @@ fn ended<P: WatchProgress>(
     ensures told { IfOk result (λ watched. IsTold watch found.old.items is_ended kept watched) }
     ensures kept { IfErr result (λ _. found.new.items ≡ found.old.items) }
     ensures ending { IfOk result (λ watched. watched.ending ≢ None) }
+    ensures waiting { IfOk result (λ watched. (flits : List Flit) → HasSeen flits port.now → watched.waiting.items ≡ first_waiting flits watch.outstanding.requests) }
     ensures says { IfOk result (λ watched. IfSome watched.ending (SaysAtEnd watch)) }
     ensures undecided { IfOk result (WentBy P.looked progress.old progress.new budget) }
     ensures far { IfOk result (λ watched. IfSome watched.ending (λ ending. All (λ u. (events : List Event) → HasTaken events watch → IsExplainedAsFar P.looked progress.old progress.new (states_for budget ending.undecided.items) events u) ending.undecided.items)) }
@@ -148,11 +157,13 @@ fn ended<P: WatchProgress>(
 {
     let counts = watch.counts();
     let unjudged = watch.unjudged();
+    let waiting = first_waiting(alloc, port, watch.outstanding().requests())?;
     let ending = watch.ending(alloc, budget, progress)?;
     Ok(Watched {
         found: mem::replace(found, Vec::new(alloc)),
         ending: Some(ending),
         counts,
+        waiting,
         unjudged,
         is_ended,
         kept,
@@ -225,6 +236,7 @@ fn watch_each<R: BufRead, W: Write, P: WatchProgress>(
             return Ok(ended(
                 alloc,
                 watch,
+                &reading.port,
                 found,
                 is_ended,
                 kept,

@@ -16,3 +16,4 @@ mod required_tests;
 mod saved_tests;
 mod text_tests;
 mod verdict_tests;
+mod waiting_tests;

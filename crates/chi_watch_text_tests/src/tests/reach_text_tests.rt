@@ -57,6 +57,7 @@ at 4: 0 2 04 ReadNoSnp 3 0000000000001000 answered
   at the end
   operations that ended: 1
   requests outstanding: 1
+    line 1 since 1: 3 77 1c WriteNoSnpPtl 0 0000000000001000 waits for its reply
   granules: 1
   granules not judged: 0
 "

@@ -39,8 +39,19 @@ fn what_is_explained(rt: HostRuntime) -> Result<(), Fail> {
 
 #[test]
 fn what_is_outstanding_or_not_judged(rt: HostRuntime) -> Result<(), Fail> {
-    let texts = [WRITE, READ, UNKNOWN];
-    assert_answer(&rt, &texts, &STOPPING, "explained\n", (1, 1, 2, 1))
+    let text = answer(rt.alloc(), &[WRITE, READ, UNKNOWN], &STOPPING)?;
+    assert_same(
+        &rt,
+        text.as_str(),
+        "explained
+  operations that ended: 1
+  requests outstanding: 1
+    line 3 since 3: 0 2 04 ReadNoSnp 3 0000000000001000 waits for its reply
+  granules: 2
+  granules not judged: 1
+",
+    );
+    Ok(())
 }
 
 // What is found by the read of 0 where 5 was written.
@@ -141,6 +152,7 @@ fn all_there_is_to_tell(rt: HostRuntime) -> Result<(), Fail> {
             outstanding: 20,
             granules: 300,
         },
+        waiting: Vec::new(rt.alloc()),
         unjudged: 4,
         is_ended: false,
         kept: None,

@@ -46,6 +46,7 @@ fn verdict(
             outstanding: 0,
             granules: 3,
         },
+        waiting: Vec::new(alloc),
         unjudged: 0,
         is_ended: true,
         kept: None,

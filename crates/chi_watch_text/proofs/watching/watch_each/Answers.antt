@@ -20,7 +20,7 @@ use Rattle.chi_watch_text.specs.declared.watched.Watched.{Watched}
 use Rattle.chi_watch_text.proofs.KeptLines.{keeps_still, lines_kept_more, none_kept}
 use Rattle.chi_watch_text.proofs.Readings.{none_pending}
 use Rattle.chi_watch_text.proofs.RefusedLater.{found_refused, refused_fault}
-use Rattle.chi_watch_text.proofs.ToldTexts.{at_fault, begun_more, but_at_fault, told_more, whole_front}
+use Rattle.chi_watch_text.proofs.ToldTexts.{at_fault, begun_more, but_at_fault, told_more}
 use Rattle.chi_watch_text.proofs.Told.{at_end, at_stop, event_taken, far_at_end, found_of, found_so_far, kept_at_fault, none_found, none_taken, passed_on, reached_by_found, settled, took, undecided_after, unreached_all, unreached_at_end}
 use Rattle.chi_watch_text.proofs.Refused.{but_write, held_up, where_not_taken, where_refused}
 use Rattle.chi_watch_text.proofs.watching.watch_each.Goals as goal
@@ -97,7 +97,7 @@ returns-then-stops-clause-watched g c =
     (at_stop start (g.R.Read.remaining c.loop.from) (g.R.Read.remaining c.next_event.new.from) c.loop.time c.loop.is_ended c.judge_quiet.new.found.items c.judge_quiet.new.quiet.items
     c.args.options.now.keep_going c.is_past-is_past.result c.loop.watch c.loop.reading c.next_event.new.self c.in-Ok.next c.loop.kept c.stopped.result settled_now (c.in-Ok.ensures.gives start) c.next_event.ensures.format
     c.is_past-is_past.ensures.past (λ is. none_pending c.loop.reading c.is_whole-is_whole.result c.is_whole-is_whole.ensures (c.is_past-is_past.ensures.whole is)) (c.in_ok-judge_quiet.ensures.once before.once)
-    ((rw c.deref.ensures.value at c.stops.ensures.stops) c.if-stops.true) c.stopped.ensures.told c.stopped.ensures.ending before.kept)
+    ((rw c.deref.ensures.value at c.stops.ensures.stops) c.if-stops.true) c.stopped.ensures.told c.stopped.ensures.ending c.stopped.ensures.waiting before.kept)
 
 pub returns-in_default-clause-watched : goal.returns-in_default-clause-watched
 returns-in_default-clause-watched g c =
@@ -114,7 +114,7 @@ returns-in_default-clause-watched g c =
     subst (λ (k : LineFormat). IfSome start (λ text. IsWatched k text c.args.options.now.keep_going c.in_ok-ended.field-0)) before.format
     (at_end start (g.R.Read.remaining c.loop.from) (g.R.Read.remaining c.next_event.new.from) c.loop.time c.loop.is_ended c.judge_quiet.new.found.items c.judge_quiet.new.quiet.items
     c.args.options.now.keep_going c.loop.watch c.loop.reading c.next_event.new.self c.loop.kept c.in_ok-ended.field-0 settled_now gives (c.in-Ok.ensures.whole c.in_default.is) (c.in_ok-judge_quiet.ensures.once before.once) first
-    ended.told ended.ending ended.says before.kept)
+    ended.told ended.ending ended.says ended.waiting before.kept)
 
 pub returns-in_default-clause-undecided : goal.returns-in_default-clause-undecided
 returns-in_default-clause-undecided g c =

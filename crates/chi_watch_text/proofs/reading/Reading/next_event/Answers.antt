@@ -1,8 +1,7 @@
 -- the next event of the last line, or of a line that is read
 use Rattle.std.proofs.Common.{◌∙◌, ap, IfErr, IfSome, List, ℕ, Option, Result, inl, refl, subst, sym}
 use Rattle.chi_events.specs.declared.event.Event.{Event}
-use Rattle.chi_watch_text.specs.Lines.{AreToldAll}
-use Rattle.chi_watch_text.specs.Reading.{FailsNext, HasGivenOf, IsAtRefused, IsReadingFault}
+use Rattle.chi_watch_text.specs.Reading.{FailsNext, HasGivenAll, HasGivenOf, IsAtRefused, IsReadingFault}
 use Rattle.chi_watch_text.specs.declared.fault.LinesFault.{LinesFault}
 use Rattle.chi_watch_text.specs.declared.line_format.LineFormat.{LineFormat}
 use Rattle.chi_watch_text.specs.declared.reading.Reading.{Reading}
@@ -38,6 +37,6 @@ returns-then-not-branch-clause-gives g c = λ start events has.
     let now = g.R.Read.remaining c.loop.from in
     let same = c.give.ensures.unchanged c.in_default.is in
     let none = ap (λ (r : Reading). r.pending.items) same ∙ c.give.ensures.none c.in_default.is in
-    subst (λ (k : LineFormat). IfSome start (λ text. AreToldAll k text events)) (c.give.ensures.others.0 ∙ c.loop.invariant.format)
-    (all_given start now events c.give.new.self (subst (λ (r : Reading). HasGivenOf start events r now) (sym same) (c.loop.invariant.given start events has)) none
-    (c.in_ok-read_line.ensures.ended c.if-not-branch.true))
+    subst (λ (k : LineFormat). IfSome start (λ text. HasGivenAll k text events c.read_line.new.self)) (c.give.ensures.others.0 ∙ c.loop.invariant.format)
+    (all_given start now events c.give.new.self c.read_line.new.self (subst (λ (r : Reading). HasGivenOf start events r now) (sym same) (c.loop.invariant.given start events has)) none
+    (c.in_ok-read_line.ensures.ended c.if-not-branch.true) (c.in_ok-read_line.ensures.same c.if-not-branch.true))
