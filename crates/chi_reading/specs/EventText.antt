@@ -16,9 +16,9 @@ use Rattle.chi_reading.specs.declared.member.Member.TheVariants as name
 use Rattle.chi_reading.specs.Mark.{line_value}
 use Rattle.chi_reading.specs.Member.{member_name, request_members}
 use Rattle.chi_reading.specs.declared.fault.LineFault.{LineFault}
-use Rattle.chi_reading.specs.declared.fault.LineFault.TheVariants.{Object, OfTrace}
+use Rattle.chi_reading.specs.declared.fault.LineFault.TheVariants.{Object, OfFlits, OfTrace}
 use Rattle.chi_reading.specs.Faults.{faultless, of_line}
-use Rattle.chi_reading.specs.OtherKind.{is_of_trace, unread_line}
+use Rattle.chi_reading.specs.OtherKind.{is_of_flit, is_of_trace, unread_line}
 use Rattle.chi_reading.specs.Refused.{refusal_of}
 use Rattle.chi_reading.specs.Requests.{fields_of, seen_of, stated_request}
 use Rattle.chi_reading.specs.Told.{start_of, word_of as granule_word}
@@ -146,9 +146,9 @@ object_event number d members = do
   stated ← or_else (of_line d) (stated_event number d)
   faultless (λ unknown. Object (UnknownMember unknown)) (unknown_in member_name (members_of stated.0) members) stated.1
 
--- the event of the line with a number, which is an object and none of a trace
+-- the event of the line with a number, which is an object and none of a trace or of flits
 unfoldable pub event_text : ℕ → List ℕ → Result Event LineFault
 event_text number text = do
   d ← ok_or (line_value number text) (unread_line number text)
   members ← ok_or (as_object d) (Object NotObject)
-  if is_of_trace d then Err OfTrace else object_event number d members
+  if is_of_trace d then Err OfTrace else if is_of_flit d then Err OfFlits else object_event number d members

@@ -1,5 +1,5 @@
--- inputs of another kind: a trace where events are wanted, events where a trace is, and what gzip compressed
-use Rattle.std.specs.Prelude.{ℕ, ◌==◌, Bool, false, nat_eq, not, ◌&&◌, ◌||◌, if◌then◌else◌, List, [], ◌∷◌, find, position, take, Option, None, Some, is_none, is_some}
+-- inputs of another kind: a trace or flits where events are wanted, events or flits where a trace is, and what gzip compressed
+use Rattle.std.specs.Prelude.{ℕ, ◌==◌, Bool, false, nat_eq, not, ◌&&◌, ◌||◌, if◌then◌else◌, List, [], ◌∷◌, codes, find, position, take, Option, None, Some, is_none, is_some}
 use Rattle.std.specs.List.{starts_with}
 use Rattle.std.specs.Option.{option_map_or}
 use Rattle.serde_json.specs.Data.{Data}
@@ -20,6 +20,10 @@ is_of_trace d = is_some (get (member_name member.Requests) d) && is_none (get (m
 -- an object that names an event, and has no requests
 abbrev pub is_of_event : Data → Bool
 is_of_event d = is_some (get (member_name member.Event) d) && is_none (get (member_name member.Requests) d)
+
+-- an object that names the channel of a flit, and has neither an event nor requests
+abbrev pub is_of_flit : Data → Bool
+is_of_flit d = is_some (get (codes "channel") d) && is_none (get (member_name member.Event) d) && is_none (get (member_name member.Requests) d)
 
 -- a byte that is blank in JSON: a space, a tab, a line feed or a carriage return
 abbrev pub is_blank : ℕ → Bool
@@ -49,10 +53,12 @@ up_to (Some end) text = take end text
 abbrev pub first_line : List ℕ → List ℕ
 first_line text = up_to (position (λ b. b == 10) text) text
 
--- a text whose first line is an object that names an event
-abbrev pub begins_events : List ℕ → Bool
-begins_events text = option_map_or is_of_event (text_value (first_line text)) false
+-- a text whose first line is an object that names an event, and one whose first line names a channel
+abbrev pub begins_with : (Data → Bool) → List ℕ → Bool
+begins_with test text = option_map_or test (text_value (first_line text)) false
 
 -- why a text that has no value is no trace
 abbrev pub unread_text : List ℕ → TraceFault
-unread_text text = if begins_events text then trace_fault.OfEvents else if is_compressed text then trace_fault.Compressed else trace_fault.Object NotJson
+unread_text text =
+    if begins_with is_of_event text then trace_fault.OfEvents else if begins_with is_of_flit text then trace_fault.OfFlits
+    else if is_compressed text then trace_fault.Compressed else trace_fault.Object NotJson

@@ -17,9 +17,9 @@ use Rattle.chi_reading.specs.Member.{member_name, trace_members}
 use Rattle.chi_reading.specs.declared.recorded.Memory.{Memory}
 use Rattle.chi_reading.specs.declared.fault.TraceFault.{TraceFault}
 use Rattle.chi_json.specs.declared.fault.ObjectFault.TheVariants.{NotObject, UnknownMember}
-use Rattle.chi_reading.specs.declared.fault.TraceFault.TheVariants.{Object, OfEvents, RegionRefused}
+use Rattle.chi_reading.specs.declared.fault.TraceFault.TheVariants.{Object, OfEvents, OfFlits, RegionRefused}
 use Rattle.chi_reading.specs.Faults.{faultless, of_trace}
-use Rattle.chi_reading.specs.OtherKind.{is_of_event, unread_text}
+use Rattle.chi_reading.specs.OtherKind.{is_of_event, is_of_flit, unread_text}
 use Rattle.chi_reading.specs.Requests.{Completed, all_completed}
 use Rattle.chi_reading.specs.Told.{region_words, stated_list}
 
@@ -74,7 +74,7 @@ unfoldable pub trace_text : List ℕ → Result TextValue TraceFault
 trace_text text = do
   d ← ok_or (text_value text) (unread_text text)
   members ← ok_or (as_object d) (Object NotObject)
-  if is_of_event d then Err OfEvents else object_text d members
+  if is_of_event d then Err OfEvents else if is_of_flit d then Err OfFlits else object_text d members
 
 -- A trace that was read: its operations in the order of their starts, each with the place of its request in the text as its
 -- number, counted from 0; and why its other requests were refused, in the order of the text.

@@ -11,7 +11,7 @@ use crate::line_kind::LineKind;
 use crate::line_members::told;
 use crate::mark::line_value;
 use crate::member::Member;
-use crate::other_kind::{is_of_trace, unread_line};
+use crate::other_kind::{is_of_flit, is_of_trace, unread_line};
 use chi_events::Event;
 use chi_json::{MemberFault, ObjectFault, number, stated, unknown_member};
 use serde_json::{Map, Value};
@@ -98,6 +98,7 @@ pub fn read_event(alloc: Global, number_of_line: u64, line: &[u8]) -> Result<Eve
     };
     match object.as_object() {
         Some(_) if is_of_trace(&object) => Err(LineFault::OfTrace),
+        Some(_) if is_of_flit(&object) => Err(LineFault::OfFlits),
         Some(members) => object_event(number_of_line, &object, members),
         None => Err(LineFault::Object(ObjectFault::NotObject)),
     }

@@ -43,6 +43,7 @@ pub enum RequestFault {
 /// - `TooManyRequests`: there are more than 1,048,576 requests.
 /// - `InRequest`: a request is refused, at its place in the array from 0 on.
 /// - `OfEvents`: the text is no trace, and its first line is an object that names an event.
+/// - `OfFlits`: the same of one that names the channel of a flit.
 /// - `Compressed`: the text is what gzip made of one.
 ///
 /// ```
@@ -60,6 +61,8 @@ pub enum TraceFault {
     InRequest { place: usize, fault: RequestFault },
     #[error("input is of events, which the option --events reads")]
     OfEvents,
+    #[error("input is of flits, which the option --flits reads")]
+    OfFlits,
     #[error("input is compressed by gzip, and gunzip -c gives its text")]
     Compressed,
     #[error("no memory")]
@@ -71,6 +74,7 @@ pub enum TraceFault {
 ///
 /// - `Object`: the line is not an object of JSON, or its members are not those of an event.
 /// - `OfTrace`: it is an object with requests, as a trace is, that names no event.
+/// - `OfFlits`: it is an object that names the channel of a flit, and has neither an event nor requests.
 /// - `NotWhole`: it is the first line, begins as an object does, and is not JSON, as the first of a trace on several lines.
 /// - `Compressed`: it is the first line of what gzip made of a text.
 ///
@@ -83,6 +87,8 @@ pub enum LineFault {
     Object(ObjectFault<Member>),
     #[error("is of a trace, which chicheck explain reads")]
     OfTrace,
+    #[error("is of flits, which the option --flits reads")]
+    OfFlits,
     #[error("is not one whole JSON object, as an event is; chicheck explain reads a trace")]
     NotWhole,
     #[error("is compressed by gzip, and gunzip -c gives its text")]

@@ -1,8 +1,8 @@
-//! Inputs of another kind: a trace where events are wanted, events where a trace is, and what gzip compressed.
+//! Inputs of another kind: a trace or flits where events are wanted, events or flits where a trace is, and what gzip compressed.
 
 ghost use Rattle.std.specs.Prelude.{◌≡◌, ◌==◌, ◌≤◌, find, length, not, position, IfOk, IfSome};
 ghost use Rattle.serde_json.specs.View.{view};
-ghost use Rattle.chi_reading.specs.OtherKind.{begins_events, begins_object, first_line, is_blank, is_compressed, is_of_event, is_of_trace, unread_first, unread_line, unread_text};
+ghost use Rattle.chi_reading.specs.OtherKind.{begins_object, begins_with, first_line, is_blank, is_compressed, is_of_event, is_of_flit, is_of_trace, unread_first, unread_line, unread_text};
 
 use crate::fault::{LineFault, TraceFault};
 use crate::mark::{text_value, without_mark};
@@ -23,6 +23,15 @@ pub(crate) fn is_of_event(object: &Value) -> bool
     ensures { result ≡ is_of_event (view object.now) }
 {
     object.get(Member::Event.name()).is_some() && object.get(Member::Requests.name()).is_none()
+}
+
+/// Whether an object names the channel of a flit, and has neither an event nor requests.
+pub(crate) fn is_of_flit(object: &Value) -> bool
+    ensures { result ≡ is_of_flit (view object.now) }
+{
+    object.get("channel").is_some()
+        && object.get(Member::Event.name()).is_none()
+        && object.get(Member::Requests.name()).is_none()
 }
 
 /// Whether a byte is blank in JSON.
@@ -100,10 +109,20 @@ fn first_line(text: &[u8]) -> &[u8]
 
 /// Whether the first line of a text is an object that names an event.
 fn begins_events(alloc: Global, text: &[u8]) -> Result<bool, AllocError>
-    ensures { IfOk result (λ is. is ≡ begins_events text.now) }
+    ensures { IfOk result (λ is. is ≡ begins_with is_of_event text.now) }
 {
     match text_value(alloc, first_line(text))? {
         Some(value) => Ok(is_of_event(&value)),
+        None => Ok(false),
+    }
+}
+
+/// Whether it names the channel of a flit.
+fn begins_flits(alloc: Global, text: &[u8]) -> Result<bool, AllocError>
+    ensures { IfOk result (λ is. is ≡ begins_with is_of_flit text.now) }
+{
+    match text_value(alloc, first_line(text))? {
+        Some(value) => Ok(is_of_flit(&value)),
         None => Ok(false),
     }
 }
@@ -114,6 +133,8 @@ pub(crate) fn unread_text(alloc: Global, text: &[u8]) -> Result<TraceFault, Allo
 {
     if begins_events(alloc, text)? {
         Ok(TraceFault::OfEvents)
+    } else if begins_flits(alloc, text)? {
+        Ok(TraceFault::OfFlits)
     } else if is_compressed(text) {
         Ok(TraceFault::Compressed)
     } else {

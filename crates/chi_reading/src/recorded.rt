@@ -12,7 +12,7 @@ ghost use Rattle.chi_reading.specs.TraceText.{IsMemoryOf, IsOf, MemoryText, Text
 use crate::fault::TraceFault;
 use crate::mark::text_value;
 use crate::member::{Member, TRACE};
-use crate::other_kind::{is_of_event, unread_text};
+use crate::other_kind::{is_of_event, is_of_flit, unread_text};
 use crate::requests::{Found, all_completed};
 use crate::told::{region_words, stated_list};
 use chi_fields::{Refusal, Region};
@@ -258,7 +258,8 @@ fn object_trace(
 /// and no `reply`: it is no operation, and a fault where a home does not refuse it for just this reason.
 ///
 /// Members whose name begins with `x-` are ignored, in the trace and in its requests, and others than those above are refused.
-/// A text that is no trace, and whose first line is an object that names an event, is `OfEvents`.
+/// A text that is no trace, and whose first line is an object that names an event, is `OfEvents`; of one that names the channel of a
+/// flit it is `OfFlits`.
 ///
 /// The faults' order is that of the members `base`, `granules`, with the region's own fault, `image`, `final` and
 /// `requests`, then members that a trace does not have, and then of the requests, of each its members, members that it does
@@ -277,6 +278,7 @@ pub fn read_trace(alloc: Global, text: &[u8]) -> Result<Recorded, TraceFault>
     };
     match value.as_object() {
         Some(_) if is_of_event(&value) => Err(TraceFault::OfEvents),
+        Some(_) if is_of_flit(&value) => Err(TraceFault::OfFlits),
         Some(members) => object_trace(alloc, &value, members),
         None => Err(TraceFault::Object(ObjectFault::NotObject)),
     }

@@ -1,4 +1,4 @@
-//! Tests of inputs of the other kind: a trace where events are wanted, and events where a trace is.
+//! Tests of inputs of another kind: a trace or flits where events are wanted, and events or flits where a trace is.
 
 use crate::comparison::assert_same;
 use crate::event_comparison::shown_text;
@@ -36,6 +36,29 @@ fn traces_as_lines(rt: HostRuntime) {
     }
 }
 
+// An object is of flits where it names a channel, and has neither an event nor requests.
+#[test]
+fn flits_as_lines(rt: HostRuntime) {
+    for (line, wanted) in [
+        (r#"{"channel":"REQ"}"#, LineFault::OfFlits),
+        (r#"{"time":-1,"channel":null}"#, LineFault::OfFlits),
+        (r#"{"channel":"REQ","requests":[]}"#, LineFault::OfTrace),
+        (
+            r#"{"channel":"REQ","event":"end"}"#,
+            LineFault::Object(ObjectFault::Missing(Member::Time)),
+        ),
+        (
+            r#"{"channels":"REQ"}"#,
+            LineFault::Object(ObjectFault::Missing(Member::Event)),
+        ),
+    ] {
+        for number in [1, 2] {
+            let found = read_event(rt.alloc(), number, line.as_bytes()).err();
+            assert_same(&rt, (line, number, found), (line, number, Some(wanted)));
+        }
+    }
+}
+
 // Line 1 may be the first of a trace that stands on several, where it begins as an object does.
 #[test]
 fn first_lines_of_objects(rt: HostRuntime) {
@@ -65,6 +88,10 @@ fn texts_of_their_faults(rt: HostRuntime) -> Result<(), Fail> {
             "is of a trace, which chicheck explain reads",
         ),
         (
+            LineFault::OfFlits,
+            "is of flits, which the option --flits reads",
+        ),
+        (
             LineFault::NotWhole,
             "is not one whole JSON object, as an event is; chicheck explain reads a trace",
         ),
@@ -85,6 +112,7 @@ fn texts_of_their_faults(rt: HostRuntime) -> Result<(), Fail> {
 #[test]
 fn events_as_a_trace(rt: HostRuntime) -> Result<(), Fail> {
     let events = "input is of events, which the option --events reads";
+    let flits = "input is of flits, which the option --flits reads";
     for (text, wanted) in [
         (r#"{"time":1,"event":"end"}"#, events),
         ("{\"time\":1,\"event\":\"end\"}\n", events),
@@ -97,6 +125,13 @@ fn events_as_a_trace(rt: HostRuntime) -> Result<(), Fail> {
         (
             r#"{"event":7,"requests":[]}"#,
             "trace has an unknown member event",
+        ),
+        (r#"{"channel":"REQ"}"#, flits),
+        ("{\"channel\":7}\n{\"event\":8}\n", flits),
+        ("{\"event\":7,\"channel\":7}\n", events),
+        (
+            r#"{"channel":7,"requests":[]}"#,
+            "trace has an unknown member channel",
         ),
         (r#"{"time":1}"#, "trace member requests is missing"),
     ] {
