@@ -6,3 +6,4 @@ pub mod Told
 pub mod Faults
 pub mod Effects
 pub mod Outstanding
+pub mod Accepted

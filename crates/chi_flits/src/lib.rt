@@ -2,10 +2,12 @@
 #![tactic(auto)]
 
 mod answer;
+mod bounds;
 mod effects;
 mod fault;
 mod flit;
 mod lanes;
+pub mod laws;
 mod noting;
 mod opcode;
 mod open;
