@@ -20,12 +20,11 @@ use Rattle.chi_flits.specs.Faults.{is_answered, read_fault}
 use Rattle.chi_flits.specs.Opcodes.{is_read_data}
 use Rattle.chi_flits.specs.Requests.{count_of, fields_at, is_told, quarter_at}
 use Rattle.chi_flits.specs.Told.{answered, answered_at, data_reply, number_of, told_of_read, told_with}
-use Rattle.chi_flits.proofs.Decisions.{count_few, quarter_below}
+use Rattle.chi_flits.proofs.Decided.{count_few, quarter_below}
 use Rattle.chi_flits.proofs.Fits.{FitsRead, fits_read}
 use Rattle.chi_flits.proofs.Known.{by_came, came_from, given_below, same_key, same_request, taken_below}
-use Rattle.chi_flits.proofs.Numbers.{number_below}
 use Rattle.chi_flits.proofs.Packets.{quarter_is}
-use Rattle.chi_flits.proofs.Rows.{IsOf, row, row_below}
+use Rattle.chi_flits.proofs.Rows.{IsOf, number_below, row, row_below}
 use Rattle.chi_flits.proofs.Ready.{Ready, WaitsForReply, effects}
 use Rattle.chi_flits.proofs.Waiting.{AwaitsData, GoesOn, State, TransactionWaits, TransferWaits, all_ready, answer_waits, below_more, elsewhere, reply_leaves, transaction_moved, transfer_kept, transfer_moved, untouched}
 

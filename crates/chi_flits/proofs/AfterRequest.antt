@@ -25,13 +25,12 @@ use Rattle.chi_flits.specs.Effects.{opened, transaction_after}
 use Rattle.chi_flits.specs.Opcodes.{is_read, is_write, takes_txn}
 use Rattle.chi_flits.specs.Requests.{count_of, fields_at, is_told, lanes_at, may_write}
 use Rattle.chi_flits.specs.Told.{enables_at, number_of, requested, requested_at, told_with, unknown_line}
-use Rattle.chi_flits.proofs.Decisions.{count_few, told_decided}
+use Rattle.chi_flits.proofs.Decided.{count_few, told_decided}
 use Rattle.chi_flits.proofs.Known.{given_below, taken_below}
 use Rattle.chi_flits.proofs.KnownMore.{put_or}
 use Rattle.chi_flits.proofs.Lookups.{past_first}
-use Rattle.chi_flits.proofs.Numbers.{number_below, number_is}
 use Rattle.chi_flits.proofs.Packets.{zero_packet}
-use Rattle.chi_flits.proofs.Rows.{IsOf, all_told, row, row_below, row_own}
+use Rattle.chi_flits.proofs.Rows.{all_told, IsOf, number_below, number_is, row, row_below, row_own}
 use Rattle.chi_flits.proofs.Ready.{IsDecided, IsFair, Ready, effects, fair_whole}
 use Rattle.chi_flits.proofs.Waiting.{GoesOn, InStep, State, TransactionWaits, all_ready, below_more, elsewhere, transaction_moved, transfer_moved, untold}
 

@@ -23,8 +23,7 @@ use Rattle.chi_flits.specs.Requests.{count_of, fields_at, is_told, quarter_at}
 use Rattle.chi_flits.specs.Told.{completed, dropped, number_of, replied, reply_without, told_of_response, told_with}
 use Rattle.chi_flits.proofs.Fits.{gives_no_retry}
 use Rattle.chi_flits.proofs.Known.{given_below, same_request, taken_below}
-use Rattle.chi_flits.proofs.Numbers.{number_below}
-use Rattle.chi_flits.proofs.Rows.{IsOf, all_told, row, row_below}
+use Rattle.chi_flits.proofs.Rows.{all_told, IsOf, number_below, row, row_below}
 use Rattle.chi_flits.proofs.Ready.{Ready, effects}
 use Rattle.chi_flits.proofs.Waiting.{AwaitsData, State, TransactionWaits, TransferWaits, all_ready, below_more, elsewhere, reply_leaves, transaction_moved, transfer_kept, transfer_moved}
 

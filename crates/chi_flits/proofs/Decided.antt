@@ -1,95 +1,182 @@
--- a home refuses an operation that is told, if it does, by its byte enables
-use Rattle.std.specs.Prelude.{◌<◌, ◌^◌, ◌/◌, ◌%◌, ◌==◌, ◌⊎◌, if◌then◌else◌, nat_le}
-use Rattle.std.proofs.Common.{◌≡◌, ℕ, ◌+◌, ◌*◌, ◌-◌, ◌≤◌, Bool, true, false, not, Option, Some, None, Result, Ok, Err, inl, inr, refl, sym, ap, subst, ◌∙◌, eq-eqb, ne_eqb, arith}
-use Rattle.std.proofs.lemmas.Bool.{and_from, cases_lt, le-leb, lt-leb, le-ltb, not_from_true, true≢false, false≢true}
-use Rattle.chi_fields.specs.Access.{Access, enables_fit, lane_of}
-use Rattle.chi_fields.specs.Extent.{Extent, lies_in}
-use Rattle.chi_fields.specs.Opcode.{kind_of, numbered_op}
-use Rattle.chi_fields.specs.Refusal.{access_as, decision_as, decision_of, is_in_profile, len_of}
-use Rattle.chi_fields.specs.declared.kind.Kind.{Kind}
-use Rattle.chi_fields.specs.declared.kind.Kind.TheVariants.{Store, Load, Swap}
-use Rattle.chi_fields.specs.declared.refusal.Refusal.{Refusal}
-use Rattle.chi_fields.specs.declared.refusal.Refusal.TheVariants.{BadByteEnable, Misaligned, OutOfRegion, ReservedSize, SizeOutOfProfile}
-use Rattle.chi_trace.specs.RequestFields.{access_of, line_of, request_of}
-use Rattle.chi_trace.specs.declared.request_fields.RequestFields.{RequestFields}
-use Rattle.chi_flits.specs.Opcodes.{is_atomic}
-use Rattle.chi_flits.proofs.Operands.{Lies}
+-- a home refuses no operation that is told, but an atomic by its byte enables
+use Rattle.std.specs.Prelude.{◌<◌, ◌^◌, ◌/◌, ◌%◌, ◌==◌, ◌&&◌, ◌||◌, ◌⊎◌, if◌then◌else◌, nat_le, min, bit_and}
+use Rattle.std.proofs.Common.{◌≡◌, ℕ, zero, suc, ◌+◌, ◌*◌, ◌≤◌, Bool, true, false, not, None, inl, inr, refl, sym, ap, subst, ◌∙◌, eqb-true, eq-eqb, arith}
+use Rattle.std.proofs.lemmas.Bool.{and_parts, cases_eq, or_from, leb-true, true≢false}
+use Rattle.chi_fields.specs.Access.{enables_within}
+use Rattle.chi_fields.specs.Opcode.{kind_of}
+use Rattle.chi_fields.specs.declared.kind.Kind.TheVariants.{Compare, Read, Write}
+use Rattle.chi_trace.specs.RequestFields.{access_of}
+use Rattle.chi_events.specs.declared.event.Packet.{Packet}
+use Rattle.chi_events.specs.Operations.{with_packet}
+use Rattle.chi_flits.specs.declared.flit.RequestFlit.{RequestFlit}
+use Rattle.chi_flits.specs.Opcodes.{is_atomic, is_compare, is_read, is_write}
+use Rattle.chi_flits.specs.Requests.{addr_at, address, bytes_of, count_of, fields_at, first_addr, has_told_size, is_exclusive, is_told, operand_len, quarter_at}
+use Rattle.chi_flits.specs.Told.{enables_at}
+use Rattle.chi_flits.proofs.ByKind.{atomic_kind, decided_by, plain_decided}
+use Rattle.chi_flits.proofs.Masks.{ones_at, within}
+use Rattle.chi_flits.proofs.Operands.{Lies, aligned_down, at_granule, at_half, at_length}
 use Rattle.chi_flits.proofs.Ready.{IsDecided}
 
-past : (opcode : ℕ) (b : Bool) (e : Refusal) (r : Result Access Refusal) → b ≡ false → IsDecided opcode r → IsDecided opcode (if b then Err e else r)
-past opcode true e r is decided = absurd (true≢false is)
-past opcode false e r is decided = decided
-
--- the byte enables fit, or are those of an atomic
-abbrev pub IsJudged : Kind → RequestFields → Type 0
-IsJudged kind a = (enables_fit kind (len_of kind a.size) (lane_of a.addr) a.be ≡ true) ⊎ (is_atomic a.opcode ≡ true)
-
-by_enables : (opcode : ℕ) (b : Bool) (a : Access) → (b ≡ true) ⊎ (is_atomic opcode ≡ true) → IsDecided opcode (if not b then Err BadByteEnable else Ok a)
-by_enables opcode true a judged = tt
-by_enables opcode false a (inl fits) = absurd (false≢true fits)
-by_enables opcode false a (inr atomic) = (refl, atomic)
-
--- the line that has an address
-line_at : (addr : ℕ) → addr < 2 ^ 52 → line_of addr ≡ Some (record { base = addr / 64 * 64; granules = 8 })
-line_at addr below = rw (eq-eqb (addr / 64 * 64 % 64) 0 (omega arith), le-ltb (2 ^ 52) (addr / 64 * 64 + 64) (omega arith)) refl
-
-decided_as : (kind : Kind) (a : RequestFields) → is_in_profile kind a.size ≡ true → a.size ≤ 6 → Lies a.addr (len_of kind a.size) → IsJudged kind a
-    → IsDecided a.opcode (decision_as kind (request_of a) (record { base = a.addr / 64 * 64; granules = 8 }))
-unfolding decision_as
-decided_as kind a sized small lies judged =
-    let region : Extent = record { base = a.addr / 64 * 64; granules = 8 } in
-    past a.opcode (nat_le 7 a.size) ReservedSize _ (lt-leb 7 a.size (omega arith))
-    (past a.opcode (not (is_in_profile kind a.size)) SizeOutOfProfile _ (not_from_true (is_in_profile kind a.size) sized)
-    (past a.opcode (not (a.addr % len_of kind a.size == 0)) Misaligned _ (not_from_true (a.addr % len_of kind a.size == 0) (eq-eqb (a.addr % len_of kind a.size) 0 lies.aligned))
-    (past a.opcode (not (lies_in a.addr (len_of kind a.size) region)) OutOfRegion _
-    (not_from_true (lies_in a.addr (len_of kind a.size) region)
-    (and_from (nat_le region.base a.addr) (nat_le (a.addr + len_of kind a.size) (region.base + 8 * region.granules)) (le-leb region.base a.addr (omega arith))
-    (le-leb (a.addr + len_of kind a.size) (region.base + 8 * region.granules) (omega (arith, lies.inside)))))
-    (by_enables a.opcode (enables_fit kind (len_of kind a.size) (lane_of a.addr) a.be) (access_as kind (request_of a)) judged))))
-
-pub decided_by : (a : RequestFields) (kind : Kind) → kind_of a.opcode ≡ Some kind → is_in_profile kind a.size ≡ true → a.size ≤ 6 → Lies a.addr (len_of kind a.size) → IsJudged kind a
-    → IsDecided a.opcode (access_of None a)
-decided_by a kind named sized small lies judged =
-    rw (line_at a.addr lies.below)
-    (subst (λ (k : Option Kind). IsDecided a.opcode (decision_of k (request_of a) (record { base = a.addr / 64 * 64; granules = 8 }))) (sym named)
-    (decided_as kind a sized small lies judged))
-
--- a kind whose size counts its operand alone
-pub record IsPlain (kind : Kind) : Type 0 where
-  pub len : (size : ℕ) → len_of kind size ≡ 2 ^ size
-  pub profile : (size : ℕ) → is_in_profile kind size ≡ nat_le size 3
-
-pub plain_decided : (a : RequestFields) (kind : Kind) → kind_of a.opcode ≡ Some kind → IsPlain kind → a.size ≤ 3 → Lies a.addr (2 ^ a.size) → IsJudged kind a → IsDecided a.opcode (access_of None a)
-plain_decided a kind named plain small lies =
-    decided_by a kind named (plain.profile a.size ∙ le-leb a.size 3 small) (omega arith) (subst (Lies a.addr) (sym (plain.len a.size)) lies)
-
--- the kind of an atomic that is no AtomicCompare
-pub record PlainKind (opcode : ℕ) : Type 0 where
-  pub kind : Kind
-  pub named : kind_of opcode ≡ Some kind
-  pub plain : IsPlain kind
-
-pub atomic_kind : (opcode : ℕ) → 0x28 ≤ opcode → opcode ≤ 0x38 → PlainKind opcode
-atomic_kind opcode least most = by_store (cases_lt 0x2f opcode) (cases_lt 0x37 opcode)
+-- a request that is told is of 64 bytes at most
+told_size : (q : RequestFlit) → has_told_size q ≡ true → q.size ≤ 6
+told_size q sized = by_read (is_read q.opcode || q.opcode == 0x1c) refl sized
   where
-    by_store : (0x2f < opcode) ⊎ (opcode ≤ 0x2f) → (0x37 < opcode) ⊎ (opcode ≤ 0x37) → PlainKind opcode
-    by_store (inr low) other = record {
-      kind = Store (numbered_op (opcode - 0x28));
-      named = rw (ne_eqb opcode 0x04 (λ same. absurd (omega arith)), ne_eqb opcode 0x1c (λ same. absurd (omega arith)), le-leb 0x28 opcode least, le-leb opcode 0x2f low) refl;
-      plain = record { len = λ size. refl; profile = λ size. refl };
-    }
-    by_store (inl high) (inr low) = record {
-      kind = Load (numbered_op (opcode - 0x30));
-      named = rw (
-        ne_eqb opcode 0x04 (λ same. absurd (omega arith)),
-        ne_eqb opcode 0x1c (λ same. absurd (omega arith)),
-        le-leb 0x28 opcode least,
-        lt-leb opcode 0x2f high,
-        le-leb 0x30 opcode (omega arith),
-        le-leb opcode 0x37 low,
-      ) refl;
-      plain = record { len = λ size. refl; profile = λ size. refl };
-    }
-    by_store (inl high) (inl higher) =
-        let same : opcode ≡ 0x38 = omega arith in
-        record { kind = Swap; named = ap kind_of same; plain = record { len = λ size. refl; profile = λ size. refl } }
+    by_compare : (b : Bool) → (if b then nat_le 1 q.size && nat_le q.size 4 else is_atomic q.opcode && nat_le q.size 3) ≡ true → q.size ≤ 6
+    by_compare true is = let most = leb-true q.size 4 (and_parts (nat_le 1 q.size) (nat_le q.size 4) is).1 in omega arith
+    by_compare false is = let most = leb-true q.size 3 (and_parts (is_atomic q.opcode) (nat_le q.size 3) is).1 in omega arith
+
+    by_full : (b : Bool) → (if b then q.size == 6 else if is_compare q.opcode then nat_le 1 q.size && nat_le q.size 4 else is_atomic q.opcode && nat_le q.size 3) ≡ true → q.size ≤ 6
+    by_full true is = let same = eqb-true q.size 6 is in omega arith
+    by_full false is = by_compare (is_compare q.opcode) is
+
+    by_read : (b : Bool) → (is_read q.opcode || q.opcode == 0x1c) ≡ b → has_told_size q ≡ true → q.size ≤ 6
+    by_read b at is = by_test b (subst (λ b. (if b then nat_le q.size 6 else if q.opcode == 0x1d then q.size == 6 else if is_compare q.opcode then nat_le 1 q.size && nat_le q.size 4 else is_atomic q.opcode && nat_le q.size 3) ≡ true) at is)
+      where
+        by_test : (b : Bool) → (if b then nat_le q.size 6 else if q.opcode == 0x1d then q.size == 6 else if is_compare q.opcode then nat_le 1 q.size && nat_le q.size 4 else is_atomic q.opcode && nat_le q.size 3) ≡ true → q.size ≤ 6
+        by_test true is = leb-true q.size 6 is
+        by_test false is = by_full (q.opcode == 0x1d) is
+
+-- it has eight granules at most
+granules : (size : ℕ) → size ≤ 6 → 2 ^ min size 7 / 8 ≤ 8
+granules zero small = omega arith
+granules (suc zero) small = omega arith
+granules (suc (suc zero)) small = omega arith
+granules (suc (suc (suc zero))) small = omega arith
+granules (suc (suc (suc (suc zero)))) small = omega arith
+granules (suc (suc (suc (suc (suc zero))))) small = omega arith
+granules (suc (suc (suc (suc (suc (suc zero)))))) small = omega arith
+granules (suc (suc (suc (suc (suc (suc (suc n))))))) small = absurd (omega arith)
+
+sized : (q : RequestFlit) → is_told q ≡ true → has_told_size q ≡ true
+sized q told =
+    let parts = and_parts _ (is_write q.opcode || address q % operand_len q == 0) told in
+    (and_parts _ (has_told_size q) parts.0).1
+
+pub count_few : (q : RequestFlit) → is_told q ≡ true → count_of q ≤ 8
+count_few q told = by_one (is_atomic q.opcode || nat_le q.size 3)
+  where
+    by_one : (b : Bool) → (if b then 1 else bytes_of q / 8) ≤ 8
+    by_one true = omega arith
+    by_one false = granules q.size (told_size q (sized q told))
+
+pub quarter_below : (q : RequestFlit) (i : ℕ) → quarter_at q i < 4
+quarter_below q i = omega arith
+
+-- the same of a request with an opcode
+opcode_so : (q : RequestFlit) (opcode : ℕ) (P : RequestFlit → Type 0) → q.opcode ≡ opcode → P (record q { opcode = opcode }) → P q
+opcode_so q opcode P is holds = subst (λ (n : ℕ). P (record q { opcode = n })) (sym is) holds
+
+-- an aligned operand is in its packet
+lane_fits : (size addr : ℕ) → size ≤ 3 → addr % 2 ^ size ≡ 0 → addr % 16 + 2 ^ size ≤ 16
+lane_fits zero addr small aligned = omega arith
+lane_fits (suc zero) addr small aligned = omega arith
+lane_fits (suc (suc zero)) addr small aligned = omega arith
+lane_fits (suc (suc (suc zero))) addr small aligned = omega arith
+lane_fits (suc (suc (suc (suc n)))) addr small aligned = absurd (omega arith)
+
+-- a write's operand has the bytes of its granule
+granule_len : (size : ℕ) → size ≤ 6 → min (2 ^ min size 7) 8 ≡ 2 ^ min size 3
+granule_len zero small = refl
+granule_len (suc zero) small = refl
+granule_len (suc (suc zero)) small = refl
+granule_len (suc (suc (suc zero))) small = refl
+granule_len (suc (suc (suc (suc zero)))) small = refl
+granule_len (suc (suc (suc (suc (suc zero))))) small = refl
+granule_len (suc (suc (suc (suc (suc (suc zero)))))) small = refl
+granule_len (suc (suc (suc (suc (suc (suc (suc n))))))) small = absurd (omega arith)
+
+module _ (i : ℕ) (p : Packet) (be : ℕ) where
+  -- a home decides the operation with these byte enables of its quarter
+  abbrev Decides : RequestFlit → Type 0
+  Decides q = is_told q ≡ true → i < count_of q → p.be ≡ enables_at q i be → IsDecided (fields_at q i).opcode (access_of None (with_packet (fields_at q i) p))
+
+  read_decided : (q : RequestFlit) → Decides (record q { opcode = 0x04 })
+  read_decided q told less enables =
+      let parts = and_parts (not (is_exclusive (record q { opcode = 0x04 })) && nat_le q.size 6) (address q % 2 ^ min q.size 7 == 0) told in
+      let small = leb-true q.size 6 (and_parts (not (is_exclusive (record q { opcode = 0x04 }))) (nat_le q.size 6) parts.0).1 in
+      let size : min q.size 7 ≡ q.size = omega arith in
+      let aligned = eqb-true (address q % 2 ^ min q.size 7) 0 parts.1 in
+      plain_decided (with_packet (fields_at (record q { opcode = 0x04 }) i) p) Read refl (record { len = λ size. refl; profile = λ size. refl }) (omega arith)
+      (at_granule q.size (address q) i small (omega arith) (subst (λ (s : ℕ). address q % 2 ^ s ≡ 0) size aligned)
+      (subst (λ (s : ℕ). i < (if nat_le q.size 3 then 1 else 2 ^ s / 8)) size less)) (inl refl)
+
+  write_lies : (size addr : ℕ) → size ≤ 6 → addr < 2 ^ 52 → i < (if nat_le size 3 then 1 else 2 ^ min size 7 / 8)
+      → Lies (addr / 2 ^ min size 7 * 2 ^ min size 7 + 8 * i) (2 ^ min size 3)
+  write_lies size addr small below less =
+      let same : min size 7 ≡ size = omega arith in
+      let down = aligned_down size addr small below in
+      subst (λ (s : ℕ). Lies (addr / 2 ^ s * 2 ^ s + 8 * i) (2 ^ min size 3)) (sym same)
+      (at_granule size (addr / 2 ^ size * 2 ^ size) i small down.0 down.1 (subst (λ (s : ℕ). i < (if nat_le size 3 then 1 else 2 ^ s / 8)) same less))
+
+  write_fits : (size addr : ℕ) → size ≤ 6 → addr % 2 ^ min size 3 ≡ 0 → p.be ≡ bit_and be (ones_at (min (2 ^ min size 7) 8) (addr % 16))
+      → enables_within (addr % 16) (2 ^ min size 3) p.be ≡ true
+  write_fits size addr small aligned enables =
+      ap (enables_within (addr % 16) (2 ^ min size 3)) (enables ∙ ap (λ (n : ℕ). bit_and be (ones_at n (addr % 16))) (granule_len size small))
+      ∙ within be (min size 3) (addr % 16) (omega arith) (omega arith) (lane_fits (min size 3) addr (omega arith) aligned)
+
+  write_decided : (q : RequestFlit) → Decides (record q { opcode = 0x1c })
+  write_decided q told less enables =
+      let small = told_size (record q { opcode = 0x1c }) (sized (record q { opcode = 0x1c }) told) in
+      let lies = write_lies q.size (address q) small (omega arith) less in
+      plain_decided (with_packet (fields_at (record q { opcode = 0x1c }) i) p) Write refl (record { len = λ size. refl; profile = λ size. refl }) (omega arith)
+      lies (inl (write_fits q.size (addr_at (record q { opcode = 0x1c }) i) small lies.aligned enables))
+
+  full_decided : (q : RequestFlit) → Decides (record q { opcode = 0x1d })
+  full_decided q told less enables =
+      let small = told_size (record q { opcode = 0x1d }) (sized (record q { opcode = 0x1d }) told) in
+      let lies = write_lies q.size (address q) small (omega arith) less in
+      plain_decided (with_packet (fields_at (record q { opcode = 0x1d }) i) p) Write refl (record { len = λ size. refl; profile = λ size. refl }) (omega arith)
+      lies (inl (write_fits q.size (addr_at (record q { opcode = 0x1d }) i) small lies.aligned enables))
+
+  compare_decided : (q : RequestFlit) → Decides (record q { opcode = 0x39 })
+  compare_decided q told less enables =
+      let parts = and_parts (not (is_exclusive (record q { opcode = 0x39 })) && (nat_le 1 q.size && nat_le q.size 4)) (address q % (2 ^ min q.size 7 / 2) == 0) told in
+      let fits = (and_parts (not (is_exclusive (record q { opcode = 0x39 }))) (nat_le 1 q.size && nat_le q.size 4) parts.0).1 in
+      let some = leb-true 1 q.size (and_parts (nat_le 1 q.size) (nat_le q.size 4) fits).0 in
+      let small = leb-true q.size 4 (and_parts (nat_le 1 q.size) (nat_le q.size 4) fits).1 in
+      let size : min q.size 7 ≡ q.size = omega arith in
+      let aligned = eqb-true (address q % (2 ^ min q.size 7 / 2)) 0 parts.1 in
+      let at : address q ≡ address q + 8 * i = omega arith in
+      decided_by (with_packet (fields_at (record q { opcode = 0x39 }) i) p) Compare refl fits (omega arith)
+      (subst (λ (a : ℕ). Lies a (2 ^ q.size / 2)) at
+      (at_half q.size (address q) some small (omega arith) (subst (λ (s : ℕ). address q % (2 ^ s / 2) ≡ 0) size aligned))) (inr refl)
+
+  atomic_decided : (q : RequestFlit) → (q.opcode == 0x1d) ≡ false → is_write q.opcode ≡ false → is_compare q.opcode ≡ false → is_atomic q.opcode ≡ true → q.size ≤ 3 → Decides q
+  atomic_decided q partial reads plain atomic small told less enables =
+      let range = and_parts (nat_le 0x28 q.opcode) (nat_le q.opcode 0x39) atomic in
+      let most : q.opcode ≤ 0x38 = below (leb-true q.opcode 0x39 range.1) in
+      let kind = atomic_kind q.opcode (leb-true 0x28 q.opcode range.0) most in
+      let a = with_packet (fields_at q i) p in
+      let opcode : a.opcode ≡ q.opcode = ap (λ b. if b then 0x1c else q.opcode) partial in
+      let size : a.size ≡ q.size = ap (λ b. if b then q.size else min q.size 3) atomic in
+      let first : first_addr q ≡ address q = ap (λ b. if b then address q / bytes_of q * bytes_of q else address q) reads in
+      let one : i < 1 = subst (λ b. i < (if b || nat_le q.size 3 then 1 else bytes_of q / 8)) atomic less in
+      let addr : a.addr ≡ address q = ap (λ (n : ℕ). n + 8 * i) first ∙ omega arith in
+      let len : operand_len q ≡ bytes_of q = ap (λ b. if b then bytes_of q / 2 else bytes_of q) plain in
+      let bytes : min q.size 7 ≡ q.size = omega arith in
+      let lined = (and_parts (not (is_exclusive q) && has_told_size q) (is_write q.opcode || address q % operand_len q == 0) told).1 in
+      let aligned : address q % operand_len q ≡ 0 = eqb-true (address q % operand_len q) 0 (subst (λ b. (b || address q % operand_len q == 0) ≡ true) reads lined) in
+      plain_decided a kind.kind (ap kind_of opcode ∙ kind.named) kind.plain (subst (λ (s : ℕ). s ≤ 3) (sym size) small)
+      (subst (λ (n : ℕ). Lies n (2 ^ a.size)) (sym addr) (subst (λ (s : ℕ). Lies (address q) (2 ^ s)) (sym size)
+      (at_length q.size (address q) small (omega arith) (subst (λ (s : ℕ). address q % 2 ^ s ≡ 0) bytes (ap (λ (n : ℕ). address q % n) (sym len) ∙ aligned))))) (inr (ap is_atomic opcode ∙ atomic))
+    where
+      below : q.opcode ≤ 0x39 → q.opcode ≤ 0x38
+      below most = by_case (cases_eq q.opcode 0x39)
+        where
+          by_case : (q.opcode ≡ 0x39) ⊎ (q.opcode ≡ 0x39 → ⊥) → q.opcode ≤ 0x38
+          by_case (inl same) = absurd (true≢false (sym (eq-eqb q.opcode 0x39 same) ∙ plain))
+          by_case (inr apart) = omega arith
+
+  pub told_decided : (q : RequestFlit) → Decides q
+  told_decided q = by_read (is_read q.opcode) refl (q.opcode == 0x1c) refl (q.opcode == 0x1d) refl (is_compare q.opcode) refl
+    where
+      by_read : (b : Bool) → is_read q.opcode ≡ b → (c : Bool) → (q.opcode == 0x1c) ≡ c → (d : Bool) → (q.opcode == 0x1d) ≡ d → (e : Bool) → is_compare q.opcode ≡ e → Decides q
+      by_read true is c part d full e half = opcode_so q 0x04 Decides (eqb-true q.opcode 0x04 is) (read_decided q)
+      by_read false is true part d full e half = opcode_so q 0x1c Decides (eqb-true q.opcode 0x1c part) (write_decided q)
+      by_read false is false part true full e half = opcode_so q 0x1d Decides (eqb-true q.opcode 0x1d full) (full_decided q)
+      by_read false is false part false full true half = opcode_so q 0x39 Decides (eqb-true q.opcode 0x39 half) (compare_decided q)
+      by_read false is false part false full false half =
+          λ told less enables.
+          let fits : (is_atomic q.opcode && nat_le q.size 3) ≡ true = rw (or_from (is_read q.opcode) (q.opcode == 0x1c) is part, full, half) at (sized q told) in
+          let parts = and_parts (is_atomic q.opcode) (nat_le q.size 3) fits in
+          atomic_decided q full (or_from (q.opcode == 0x1c) (q.opcode == 0x1d) part full) half parts.0 (leb-true q.size 3 parts.1) told less enables

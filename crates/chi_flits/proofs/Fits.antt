@@ -1,9 +1,8 @@
 -- what is so of what is known where a flit can come next
-use Rattle.std.specs.Prelude.{◌<◌, ◌==◌, ◌&&◌, ◌||◌, if◌then◌else◌, find, is_some, option_and_then}
-use Rattle.std.specs.List.{list_all, list_any, range_with_len}
+use Rattle.std.specs.Prelude.{◌<◌, ◌==◌, ◌&&◌, ◌||◌, if◌then◌else◌, option_and_then}
 use Rattle.std.specs.Option.{option_or}
-use Rattle.std.proofs.Common.{◌≡◌, ℕ, zero, suc, ◌+◌, ◌≤◌, Bool, true, false, not, Option, Some, None, inl, inr, refl, sym, ap, subst, ◌∙◌, eqb-true, ne_eqb, arith, ◌⊎◌}
-use Rattle.std.proofs.lemmas.Bool.{and_from, and_parts, cases_eq, not-false, or_cases, or_parts}
+use Rattle.std.proofs.Common.{◌≡◌, ℕ, Bool, true, false, not, Option, Some, None, inl, inr, refl, sym, subst, eqb-true, ne_eqb, arith, ◌⊎◌}
+use Rattle.std.proofs.lemmas.Bool.{and_from, not-false, or_cases, or_parts}
 use Rattle.std.proofs.lemmas.Option.{none-some}
 use Rattle.chi_flits.specs.declared.fault.FlitFault.{FlitFault}
 use Rattle.chi_flits.specs.declared.fault.FlitFault.TheVariants as fault
@@ -17,6 +16,7 @@ use Rattle.chi_flits.specs.Faults.{answer_fault, answered_fault, comp_fault, dat
 use Rattle.chi_flits.specs.Opcodes.{gives_dbid, is_comp, is_read_data, is_response, is_retry, is_write_data}
 use Rattle.chi_flits.specs.Requests.{answers_data, count_of, is_told, needs_data, quarter_at}
 use Rattle.chi_flits.specs.Told.{are_whole}
+use Rattle.chi_flits.proofs.Each.{none_found}
 
 -- no test has passed before
 pub no_fault : (b : Bool) (f : FlitFault) (o : Option FlitFault) → (if b then Some f else o) ≡ None → (b ≡ false) × (o ≡ None)
@@ -26,40 +26,6 @@ no_fault false f o none = (refl, none)
 neither : (a b : Option FlitFault) → option_or a b ≡ None → (a ≡ None) × (b ≡ None)
 neither None b none = (refl, none)
 neither (Some f) b none = absurd (none-some f (sym none))
-
--- each of a row of numbers
-pub any_at : (p : ℕ → Bool) (a n : ℕ) → list_any p (range_with_len a n) ≡ false → (i : ℕ) → a ≤ i → i < a + n → p i ≡ false
-any_at p a zero none i from to = absurd (omega arith)
-any_at p a (suc n) none i from to =
-    let parts = or_parts (p a) (list_any p (range_with_len (a + 1) n)) none in
-    by_case (cases_eq i a) parts.0 (λ apart. any_at p (a + 1) n parts.1 i (omega arith) (omega arith))
-  where
-    by_case : (i ≡ a) ⊎ (i ≡ a → ⊥) → p a ≡ false → ((i ≡ a → ⊥) → p i ≡ false) → p i ≡ false
-    by_case (inl same) here later = ap p same ∙ here
-    by_case (inr apart) here later = later apart
-
-pub all_at : (p : ℕ → Bool) (a n : ℕ) → list_all p (range_with_len a n) ≡ true → (i : ℕ) → a ≤ i → i < a + n → p i ≡ true
-all_at p a zero all i from to = absurd (omega arith)
-all_at p a (suc n) all i from to =
-    let parts = and_parts (p a) (list_all p (range_with_len (a + 1) n)) all in
-    by_case (cases_eq i a) parts.0 (λ apart. all_at p (a + 1) n parts.1 i (omega arith) (omega arith))
-  where
-    by_case : (i ≡ a) ⊎ (i ≡ a → ⊥) → p a ≡ true → ((i ≡ a → ⊥) → p i ≡ true) → p i ≡ true
-    by_case (inl same) here later = ap p same ∙ here
-    by_case (inr apart) here later = later apart
-
--- no number of a row has a fault
-none_found : (f : ℕ → Option FlitFault) (a n : ℕ) → option_and_then f (find (λ i. is_some (f i)) (range_with_len a n)) ≡ None → (i : ℕ) → a ≤ i → i < a + n → f i ≡ None
-none_found f a zero none i from to = absurd (omega arith)
-none_found f a (suc n) none i from to = by_first (f a) refl (cases_eq i a) (λ rest apart. none_found f (a + 1) n rest i (omega arith) (omega arith))
-  where
-    by_first : (o : Option FlitFault) → f a ≡ o → (i ≡ a) ⊎ (i ≡ a → ⊥)
-        → (option_and_then f (find (λ i. is_some (f i)) (range_with_len (a + 1) n)) ≡ None → (i ≡ a → ⊥) → f i ≡ None) → f i ≡ None
-    by_first None is (inl same) later = ap f same ∙ is
-    by_first None is (inr apart) later =
-        later (subst (λ (o : Option FlitFault). option_and_then f (if is_some o then Some a else find (λ i. is_some (f i)) (range_with_len (a + 1) n)) ≡ None) is none) apart
-    by_first (Some x) is case later =
-        absurd (none-some x (sym (sym is ∙ subst (λ (o : Option FlitFault). option_and_then f (if is_some o then Some a else find (λ i. is_some (f i)) (range_with_len (a + 1) n)) ≡ None) is none)))
 
 -- a response that gives a DBID, or completes, is no RetryAck
 pub gives_no_retry : (opcode : ℕ) → gives_dbid opcode ≡ true → is_retry opcode ≡ false

@@ -6,7 +6,7 @@ use Rattle.std.proofs.Common.{◌≡◌, ℕ, zero, suc, ◌+◌, ◌*◌, ◌-�
 use Rattle.std.proofs.lemmas.Bool.{le-ltb, or_cases, or_left, or_right}
 use Rattle.std.proofs.lemmas.Nat.Bits.{bit_at_and}
 use Rattle.chi_fields.specs.Access.{each_lane, enables_within, is_among}
-use Rattle.chi_flits.proofs.Fits.{all_at}
+use Rattle.chi_flits.proofs.Each.{all_at, all_of}
 
 -- so many lanes from a first one on, as bits
 abbrev pub ones_at : ℕ → ℕ → ℕ
@@ -22,11 +22,6 @@ marked (suc zero) small = refl
 marked (suc (suc zero)) small = refl
 marked (suc (suc (suc zero))) small = refl
 marked (suc (suc (suc (suc n)))) small = absurd (omega arith)
-
--- what holds of each of a row
-all_of : (p : ℕ → Bool) (a n : ℕ) → ((i : ℕ) → a ≤ i → i < a + n → p i ≡ true) → list_all p (range_with_len a n) ≡ true
-all_of p a zero holds = refl
-all_of p a (suc n) holds = rw (holds a (omega arith) (omega arith)) (all_of p (a + 1) n (λ i from to. holds i (omega arith) (omega arith)))
 
 pub within : (be size lane : ℕ) → size ≤ 3 → lane < 16 → lane + 2 ^ size ≤ 16 → enables_within lane (2 ^ size) (bit_and be (ones_at (2 ^ size) lane)) ≡ true
 unfolding enables_within

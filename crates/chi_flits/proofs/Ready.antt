@@ -21,7 +21,7 @@ use Rattle.chi_events.specs.Outstanding.{HasPacket, HasWord, data_fault, drop_fa
 use Rattle.chi_flits.specs.Opcodes.{is_atomic}
 use Rattle.chi_flits.proofs.Lookups.{changed, changes_so}
 
--- a home refuses a request of this opcode, if it does, since it is an atomic, by its byte enables
+-- a home refuses no request of this opcode, but an atomic by its byte enables
 abbrev pub IsFair : ℕ → Option Refusal → Type 0
 IsFair opcode None = Unit {0}
 IsFair opcode (Some reason) = (reason ≡ refusal.BadByteEnable) × (is_atomic opcode ≡ true)
@@ -84,7 +84,7 @@ abbrev pub AreReady : ℕ → List EventKind → List Open → Type 0
 AreReady time [] l = Unit {0}
 AreReady time (k ∷ ks) l = Ready k (open_with (number_in k) l) × AreReady time ks (effect time k l)
 
--- a request of this opcode has no fault, or that of its byte enables, as an atomic
+-- an event about a request of this opcode has no fault, or that of an atomic's byte enables
 abbrev Passes : ℕ → Option EventFault → Type 0
 Passes opcode f = (f ≡ None) ⊎ ((f ≡ Some (fault.Refused refusal.BadByteEnable)) × (is_atomic opcode ≡ true))
 
@@ -140,7 +140,7 @@ ready_takes time (event.Final w) l ready = (None, (refl, refl))
 ready_takes time (event.Unknown addr len) l ready = (None, (refl, refl))
 ready_takes time event.End l ready = (None, (refl, refl))
 
--- the request of which it is refused, where it is
+-- the atomic for whose byte enables it is refused
 pub record IsBarred (l : List Open) (k : EventKind) : Type 0 where
   pub request : Open
   pub about : request_about l k ≡ Some request

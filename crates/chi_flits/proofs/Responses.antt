@@ -17,8 +17,9 @@ use Rattle.chi_flits.specs.Faults.{is_answered, response_fault}
 use Rattle.chi_flits.specs.Opcodes.{gives_dbid, is_response}
 use Rattle.chi_flits.specs.Requests.{count_of, fields_at, is_told, needs_data, quarter_at}
 use Rattle.chi_flits.specs.Told.{are_whole, number_of}
-use Rattle.chi_flits.proofs.Decisions.{count_few}
-use Rattle.chi_flits.proofs.Fits.{FitsResponse, any_at, fits_response, gives_response}
+use Rattle.chi_flits.proofs.Decided.{count_few}
+use Rattle.chi_flits.proofs.Each.{any_at}
+use Rattle.chi_flits.proofs.Fits.{FitsResponse, fits_response, gives_response}
 use Rattle.chi_flits.proofs.Known.{Came, by_came, came_from, same_key, taken_below}
 use Rattle.chi_flits.proofs.KnownAfter.{Begun, given_from}
 use Rattle.chi_flits.proofs.Packets.{no_chunks}

@@ -1,7 +1,7 @@
 -- one event for each operation of a request: what they ask, and what they do
 use Rattle.std.specs.Prelude.{◌<◌, ◌^◌, ◌==◌, ◌&&◌, ◌⊎◌, if◌then◌else◌, filter_map}
 use Rattle.std.specs.List.{cons_option, range_with_len}
-use Rattle.std.proofs.Common.{◌≡◌, ℕ, zero, suc, ◌+◌, ◌≤◌, Bool, true, false, List, [], ◌∷◌, ◌++◌, map, All, Option, Some, None, is_some, inl, inr, refl, sym, ap, subst, ◌∙◌, arith}
+use Rattle.std.proofs.Common.{◌≡◌, ℕ, zero, suc, ◌+◌, ◌*◌, ◌≤◌, Bool, true, false, List, [], ◌∷◌, ◌++◌, map, All, Option, Some, None, is_some, inl, inr, refl, sym, ap, subst, ◌∙◌, arith}
 use Rattle.std.proofs.lemmas.Bool.{cases_eq}
 use Rattle.std.proofs.lemmas.List.Elements.{All-cons, All-nil, All-push}
 use Rattle.std.proofs.lemmas.Option.{none-some, same_Some}
@@ -12,8 +12,20 @@ use Rattle.chi_events.specs.EventEffects.{opened, still_open, with_data, with_re
 use Rattle.chi_events.specs.Outstanding.{open_with}
 use Rattle.chi_flits.specs.Told.{number_of}
 use Rattle.chi_flits.proofs.Lookups.{IsSilent, all_kept, at_first, changed, found_left, others_kept, past_first}
-use Rattle.chi_flits.proofs.Numbers.{operations_apart}
 use Rattle.chi_flits.proofs.Ready.{AreReady, Ready, effect, effects, number_in}
+
+-- the numbers of operations
+pub number_is : (place i : ℕ) → place < 2 ^ 61 → i < 8 → number_of place i ≡ 8 * place + i
+number_is place i below few = omega arith
+
+pub numbers_apart : (place other i j : ℕ) → place < 2 ^ 61 → other < 2 ^ 61 → i < 8 → j < 8 → (place ≡ other → ⊥) → number_of place i ≡ number_of other j → ⊥
+numbers_apart place other i j below beneath few small apart same = absurd (omega arith)
+
+pub operations_apart : (place i j : ℕ) → place < 2 ^ 61 → i < 8 → j < 8 → (i ≡ j → ⊥) → number_of place i ≡ number_of place j → ⊥
+operations_apart place i j below few small apart same = absurd (omega arith)
+
+pub number_below : (place i count : ℕ) → place < count → count ≤ 2 ^ 61 → i < 8 → number_of place i < 8 * count
+number_below place i count below few small = omega arith
 
 -- the event is about the request with a number
 abbrev pub IsOf : ℕ → EventKind → Type 0

@@ -17,12 +17,11 @@ use Rattle.chi_flits.specs.Faults.{write_fault}
 use Rattle.chi_flits.specs.Opcodes.{is_write_data}
 use Rattle.chi_flits.specs.Requests.{count_of, fields_at, is_told}
 use Rattle.chi_flits.specs.Told.{are_whole, number_of, with_chunks}
-use Rattle.chi_flits.proofs.Decisions.{count_few}
+use Rattle.chi_flits.proofs.Decided.{count_few}
 use Rattle.chi_flits.proofs.Fits.{fits_write}
 use Rattle.chi_flits.proofs.Known.{Came, by_came, came_from, given_below, taken_below}
-use Rattle.chi_flits.proofs.Numbers.{number_below}
 use Rattle.chi_flits.proofs.Packets.{more_chunks}
-use Rattle.chi_flits.proofs.Rows.{IsOf, row, row_below}
+use Rattle.chi_flits.proofs.Rows.{IsOf, number_below, row, row_below}
 use Rattle.chi_flits.proofs.Ready.{Ready, effects}
 use Rattle.chi_flits.proofs.Waiting.{AwaitsData, ChunksFit, GoesOn, InStep, State, TransactionWaits, TransferWaits, all_ready, below_more, elsewhere, transaction_moved, transfer_moved}
 

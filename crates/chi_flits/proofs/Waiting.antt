@@ -26,12 +26,11 @@ use Rattle.chi_flits.specs.Opcodes.{gives_dbid, is_comp, is_retry}
 use Rattle.chi_flits.specs.Faults.{is_answered, is_held}
 use Rattle.chi_flits.specs.Requests.{count_of, fields_at, is_told, needs_data, quarter_at}
 use Rattle.chi_flits.specs.Told.{are_whole, number_of}
-use Rattle.chi_flits.proofs.Decisions.{count_few, quarter_below}
+use Rattle.chi_flits.proofs.Decided.{count_few, quarter_below}
 use Rattle.chi_flits.proofs.Known.{Knowledge}
 use Rattle.chi_flits.proofs.Lookups.{found_number}
-use Rattle.chi_flits.proofs.Numbers.{numbers_apart, operations_apart}
 use Rattle.chi_flits.proofs.Packets.{quarter_is}
-use Rattle.chi_flits.proofs.Rows.{IsOf, left_of, row, row_others, row_own, row_ready}
+use Rattle.chi_flits.proofs.Rows.{IsOf, left_of, numbers_apart, operations_apart, row, row_others, row_own, row_ready}
 use Rattle.chi_flits.proofs.Ready.{AreReady, Ready, WaitsForData, WaitsForReply, effects, fair_whole}
 
 -- the request waits for its data, which decide whether a home refuses it
