@@ -3,7 +3,8 @@
 # the monitor tell events: of flits by hand just those that were worked, and of a home node by chance events that chicheck watch
 # explains while they come, or that stop it and with it the simulation, where a mistake is planted; chicheck watch --flits does so by
 # its flits; and 100,000 requests of it cover all traffic that they can. Flits with an x are those of a bench in Icarus Verilog. Of
-# the waves of both benches chi-waves tells the lines that the monitor of flits wrote.
+# the waves of both benches chi-waves tells the lines that the monitor of flits wrote. A bench in VHDL, in GHDL, has the lines that
+# were worked by hand.
 # dv/run.sh [SEEDS [REQUESTS]]
 set -eu
 cd "$(dirname "$0")/.."
@@ -162,6 +163,28 @@ if command -v iverilog > /dev/null; then
   echo "${#cases[@]} cases with an x, in Icarus Verilog: as they were worked by hand, and the same by waves"
 else
   echo "flits with an x are left out: no iverilog on the path (apt-get install iverilog)"
+fi
+
+# Flits in VHDL. Each case but 0 changes one of the lines that were worked by hand; of chicheck's answer the status and the first line count.
+if command -v ghdl > /dev/null; then
+  mkdir -p out/dv_vhdl
+  in_ghdl() { (cd out/dv_vhdl && timeout -k 5 60 ghdl "$1" --std=08 "${@:2}" > said.log 2>&1); }
+  in_ghdl -a ../../dv/chi_flits.vhd ../../dv/vhdl_bench.vhd || fail "GHDL does not take the bench in VHDL: $(cat out/dv_vhdl/said.log)"
+  changes=("" '8s/6"}/5"}/' '5s/X0/XX/' '7s/"REQ"/"REQ","valid":"x"/' '8s/"RDAT"/"RDAT","valid":"x"/')
+  answers=("0 explained" "1 not explained: granule 0000000000001000" "3 chicheck: line 5 has an x in an enabled lane"
+    "3 chicheck: line 7 has a valid that is not known" "3 chicheck: line 8 has a valid that is not known")
+  for case in "${!answers[@]}"; do
+    in_ghdl --elab-run vhdl_bench "-gNumber=$case" -gPath=flits.jsonl || fail "case $case in VHDL ends with a fault: $(cat out/dv_vhdl/said.log)"
+    sed "${changes[case]}" dv/vhdl_lines.jsonl | diff - out/dv_vhdl/flits.jsonl || fail "case $case in VHDL has other lines"
+    status=0
+    said=$($checker watch --flits --require-end --require-quiet < out/dv_vhdl/flits.jsonl 2>&1) || status=$?
+    [ "$status ${said%%$'\n'*}" = "${answers[case]}" ] \
+      || fail "case $case in VHDL: chicheck ends with $status $said, and not with ${answers[case]}"
+  done
+  ! in_ghdl --elab-run vhdl_bench -gPath=/dev/full || fail "a full disk does not end the bench in VHDL with a fault"
+  echo "${#answers[@]} cases in VHDL, in GHDL: as they were worked by hand"
+else
+  echo "flits in VHDL are left out: no ghdl on the path (apt-get install ghdl)"
 fi
 
 # What the traffic of the bench covers: every bin but the one that a home of eight places cannot have.
