@@ -89,7 +89,7 @@ install: build checker lib
 	install -m 644 dv/chi_pkg.sv dv/chi_monitor.sv dv/chi_flits.sv dv/chi_flits.vhd dv/chi_stimulus.sv dv/chi_dv.c docs/FLITS.md docs/WAVES.md VERSION "$(DESTDIR)$(PREFIX)/share/chi"
 	install -d "$(DESTDIR)$(PREFIX)/share/chi/python/chi" "$(DESTDIR)$(PREFIX)/share/chi/python/chi_waves"
 	install -m 644 python/pyproject.toml python/setup.py "$(DESTDIR)$(PREFIX)/share/chi/python"
-	install -m 644 python/chi/__init__.py "$(DESTDIR)$(PREFIX)/share/chi/python/chi"
+	install -m 644 python/chi/*.py "$(DESTDIR)$(PREFIX)/share/chi/python/chi"
 	install -m 644 python/chi_waves/*.py "$(DESTDIR)$(PREFIX)/share/chi/python/chi_waves"
 	install -d "$(DESTDIR)$(PREFIX)/share/man/man1" "$(DESTDIR)$(PREFIX)/share/bash-completion/completions" "$(DESTDIR)$(PREFIX)/lib/pkgconfig"
 	install -m 644 man/*.1 "$(DESTDIR)$(PREFIX)/share/man/man1"
