@@ -165,7 +165,7 @@ else
   echo "flits with an x are left out: no iverilog on the path (apt-get install iverilog)"
 fi
 
-# Flits in VHDL. Each case but 0 changes one of the lines that were worked by hand; of chicheck's answer the status and the first line count.
+# Flits in VHDL, and their waves. Each case but 0 changes one of the lines that were worked by hand; of chicheck's answer the status and the first line count.
 if command -v ghdl > /dev/null; then
   mkdir -p out/dv_vhdl
   in_ghdl() { (cd out/dv_vhdl && timeout -k 5 60 ghdl "$1" --std=08 "${@:2}" > said.log 2>&1); }
@@ -174,15 +174,19 @@ if command -v ghdl > /dev/null; then
   answers=("0 explained" "1 not explained: granule 0000000000001000" "3 chicheck: line 5 has an x in an enabled lane"
     "3 chicheck: line 7 has a valid that is not known" "3 chicheck: line 8 has a valid that is not known")
   for case in "${!answers[@]}"; do
-    in_ghdl --elab-run vhdl_bench "-gNumber=$case" -gPath=flits.jsonl || fail "case $case in VHDL ends with a fault: $(cat out/dv_vhdl/said.log)"
+    in_ghdl --elab-run vhdl_bench "-gNumber=$case" -gPath=flits.jsonl --vcd=waves.vcd \
+      || fail "case $case in VHDL ends with a fault: $(cat out/dv_vhdl/said.log)"
     sed "${changes[case]}" dv/vhdl_lines.jsonl | diff - out/dv_vhdl/flits.jsonl || fail "case $case in VHDL has other lines"
+    # VHDL prints digits in upper case.
+    PYTHONPATH=python $limited python3 -B -m chi_waves dv/waves.json out/dv_vhdl/waves.vcd | diff -i out/dv_vhdl/flits.jsonl - \
+      || fail "the waves of case $case in VHDL have other flits than the monitor wrote"
     status=0
     said=$($checker watch --flits --require-end --require-quiet < out/dv_vhdl/flits.jsonl 2>&1) || status=$?
     [ "$status ${said%%$'\n'*}" = "${answers[case]}" ] \
       || fail "case $case in VHDL: chicheck ends with $status $said, and not with ${answers[case]}"
   done
   ! in_ghdl --elab-run vhdl_bench -gPath=/dev/full || fail "a full disk does not end the bench in VHDL with a fault"
-  echo "${#answers[@]} cases in VHDL, in GHDL: as they were worked by hand"
+  echo "${#answers[@]} cases in VHDL, in GHDL: as they were worked by hand, and the same by waves"
 else
   echo "flits in VHDL are left out: no ghdl on the path (apt-get install ghdl)"
 fi

@@ -1,5 +1,5 @@
-"""A VCD file (IEEE 1364-2005, value change dump), as Verilator, Icarus Verilog and others write it: its variables by their names,
-and how their values change."""
+"""A VCD file (IEEE 1364-2005, value change dump), as Verilator, Icarus Verilog, GHDL and others write it: its variables by their
+names, and how their values change."""
 
 import collections
 import gzip
@@ -16,6 +16,8 @@ _NUMBER = re.compile(r"\d{1,7}")
 _INDICES = re.compile(r"\[(-?\d{1,7}):(-?\d{1,7})\]$")
 # A time has at most so many digits.
 _DIGITS = 20
+# Values that GHDL writes besides: U, W and - of VHDL are not known, and L and H are weak.
+_OF_VHDL = str.maketrans("UWLH-", "xx01x")
 
 
 def open_vcd(path):
@@ -112,7 +114,7 @@ class Vcd:
         time, changes = 0, {}
         for word in self._words:
             kind = word[0]
-            if kind in "01xXzZ":
+            if kind in "01xXzZUWLH-":
                 code, value = word[1:], kind
             elif kind in "bB":
                 code, value = self._next(), word[1:]
@@ -139,7 +141,7 @@ class Vcd:
             else:
                 raise self._fault(f"has {word[:32]}, which is no change of a value")
             if code in sizes:
-                value = (value or "").lower()
+                value = (value or "").translate(_OF_VHDL).lower()
                 if not 0 < len(value) <= sizes[code] or value.strip("01xz"):
                     raise self._fault("has a value that its variable cannot have")
                 changes[code] = extended(value, sizes[code])
