@@ -14,7 +14,7 @@ bench, and what chihome, chicheck and monitors write, read (docs/FROM-C.md).
 {"src":0,"txn":1,"op":57,"size":3,"addr":4104,"endian":0,"be":65280,"lanes":"000000000000000008000000ffffffff"}]}
 """
 
-from chi.answer import Answer, GranuleAnswer, read_answer
+from chi.answer import Answer, GranuleAnswer, Outstanding, read_answer
 from chi.events import (
     DataEvent, DroppedEvent, EndEvent, RefusedEvent, ReplyEvent, RequestEvent, UnknownEvent, WordEvent, read_events,
 )
@@ -26,6 +26,6 @@ from chi.transcript import REFUSALS, GranuleLine, RequestLine, read_transcript
 
 __all__ = [
     "Access", "Answer", "DataEvent", "DroppedEvent", "EndEvent", "GranuleAnswer", "GranuleLine", "KINDS", "Memory", "OPERATIONS",
-    "REFUSALS", "Refused", "RefusedEvent", "ReplyEvent", "Request", "RequestEvent", "RequestLine", "UnknownEvent", "WordEvent", "apply",
-    "decode", "op_name", "read_answer", "read_events", "read_transcript", "result_name", "rows", "script", "version",
+    "Outstanding", "REFUSALS", "Refused", "RefusedEvent", "ReplyEvent", "Request", "RequestEvent", "RequestLine", "UnknownEvent",
+    "WordEvent", "apply", "decode", "op_name", "read_answer", "read_events", "read_transcript", "result_name", "rows", "script", "version",
 ]

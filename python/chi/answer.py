@@ -32,6 +32,7 @@ _SAID = re.compile(
     )
 )
 _COUNT = re.compile("  (operations that ended|requests outstanding|granules|granules not judged): ([0-9]+)")
+_WAITS = re.compile("    line ([0-9]+) since ([0-9]+): (.+) waits for its (data|reply|DBID)")
 _REQUIRED = "required: "
 
 
@@ -54,13 +55,25 @@ class GranuleAnswer:
 
 
 @dataclasses.dataclass(frozen=True)
+class Outstanding:
+    """A request that a watch says is outstanding: the line that told it, its time, its own text, and what it waits for."""
+
+    line: int
+    time: int
+    request: str
+    waits_for: str
+
+
+@dataclasses.dataclass(frozen=True)
 class Answer:
     """An answer: verdict is "explained", "not explained" or "undecided". granules has those that are named, counts what a watch counts
-    by its names, missing what is required and does not hold, and witness the transcript of explain --witness."""
+    by its names, outstanding the requests that it names, missing what is required and does not hold, and witness the transcript of
+    explain --witness."""
 
     verdict: str
     granules: list[GranuleAnswer]
     counts: dict[str, int]
+    outstanding: list[Outstanding]
     missing: list[str]
     witness: list[TranscriptLine]
 
@@ -86,13 +99,16 @@ def read_answer(text: str) -> Answer:
     """
     granules: list[list[str]] = []
     counts: dict[str, int] = {}
+    outstanding: list[Outstanding] = []
     missing: list[str] = []
     witness: list[tuple[int, str]] = []
     explained = text.startswith("explained\n")
     for number, line in lines_of(text):
-        count = _COUNT.fullmatch(line)
+        count, waits = _COUNT.fullmatch(line), _WAITS.fullmatch(line)
         if count:
             counts[count[1]] = int(count[2])
+        elif counts and waits:
+            outstanding.append(Outstanding(int(waits[1]), int(waits[2]), waits[3], waits[4]))
         elif counts and line.startswith(_REQUIRED):
             missing.append(line[len(_REQUIRED) :])
         elif explained and not counts:
@@ -108,4 +124,4 @@ def read_answer(text: str) -> Answer:
     found = [_granule(it) for it in granules]
     verdicts = {it.verdict for it in found}
     verdict = next((it for it in ["not explained", "undecided"] if it in verdicts), "explained")
-    return Answer(verdict, found, counts, missing, list(transcript_lines(iter(witness))))
+    return Answer(verdict, found, counts, outstanding, missing, list(transcript_lines(iter(witness))))
