@@ -1,6 +1,10 @@
 -- what a check does: the answer of the trace that its input is
-use Rattle.std.specs.Prelude.{◌≡◌, ◌≢◌, ℕ, ◌/◌, ◌<◌, ◌≤◌, List, length, Option, None, Some, IfSome, IsSomeAnd, Result, Ok, Err}
+use Rattle.std.specs.Prelude.{◌≡◌, ◌≢◌, ℕ, ◌/◌, ◌<◌, ◌≤◌, ◌==◌, ◌||◌, Bool, if◌then◌else◌, is_some, List, length, Option, None, Some, IfSome, IsSomeAnd, Result, Ok, Err}
 use Rattle.std.specs.Io.KnownBytes.{Appends, Keeps}
+use Rattle.std.specs.List.{list_any}
+use Rattle.chi_trace.specs.Granules.{granule_of}
+use Rattle.chi_trace.specs.Words.{find_word}
+use Rattle.chi_trace.specs.declared.operation.Operation.{Operation}
 use Rattle.chi_script.specs.WriterBytes.{AppendsFront}
 use Rattle.chi_search.specs.Looks.{LookedMore}
 use Rattle.chi_reading.specs.declared.fault.TraceFault.TheVariants as trace_fault
@@ -16,7 +20,7 @@ use Rattle.chi_excerpt.specs.Failures.{failure_text}
 use Rattle.chi_check.specs.CheckStatus.{answer_status}
 use Rattle.chi_check.specs.Limits.{IsWithin}
 use Rattle.chi_check.specs.declared.fault.CheckFault.{CheckFault}
-use Rattle.chi_check.specs.declared.fault.CheckFault.TheVariants.{Input, File, Page, Unfinished, Unsaved, Unshown, Write}
+use Rattle.chi_check.specs.declared.fault.CheckFault.TheVariants.{Input, File, Page, Unfinished, Untold, Unsaved, Unshown, Write}
 use Rattle.chi_check.specs.declared.fault.SourceFault.{SourceFault}
 use Rattle.chi_check.specs.declared.fault.SourceFault.TheVariants as source_fault
 use Rattle.chi_check.specs.declared.options.CheckOptions.{CheckOptions}
@@ -42,6 +46,18 @@ HasNoTrace lines input (source_fault.Events fault) = IsSomeAnd lines (λ format.
 abbrev pub asked : Option ℕ → RecordedValue → RecordedValue
 asked None r = r
 asked (Some addr) r = alone (addr / 8) r
+
+-- an operation or a word of the granule is told
+abbrev pub has_operation : ℕ → List Operation → Bool
+has_operation g ops = list_any (λ op. granule_of op == g) ops
+
+abbrev pub tells_of : ℕ → RecordedValue → Bool
+tells_of g r = has_operation g r.trace.operations || is_some (find_word r.trace.opening g) || is_some (find_word r.final_words g)
+
+-- the address that is asked for, where nothing is told of its granule
+abbrev pub untold : Option ℕ → RecordedValue → Option ℕ
+untold None r = None
+untold (Some addr) r = if tells_of (addr / 8) r then None else Some addr
 
 -- and all of it, or what had happened by a time
 abbrev pub happened : Option ℕ → RecordedValue → RecordedValue
@@ -83,6 +99,7 @@ Outcome options input old new (Err (Input source_fault.Memory)) = Unit {0}
 Outcome options input old new (Err (Input (source_fault.Trace fault))) = HasNoTrace options.lines input (source_fault.Trace fault)
 Outcome options input old new (Err (Input (source_fault.Events fault))) = HasNoTrace options.lines input (source_fault.Events fault)
 Outcome options input old new (Err (File place fault)) = ⊥
+Outcome options input old new (Err (Untold addr)) = (recorded : RecordedValue) × HasTrace options.lines input recorded × (untold options.granule recorded ≡ Some addr)
 Outcome options input old new (Err Page) = Unit {0}
 Outcome options input old new (Err (Unfinished fault)) = ⊥
 Outcome options input old new (Err Unsaved) = ⊥

@@ -8,7 +8,7 @@ use Rattle.chi_watch_text.specs.Illegal.{is_illegal}
 use Rattle.chi_watch_text.specs.declared.fault.LinesFault.{LinesFault}
 use Rattle.chi_watch_text.specs.declared.fault.LinesFault.TheVariants as lines_fault
 use Rattle.chi_check.specs.declared.fault.CheckFault.{CheckFault}
-use Rattle.chi_check.specs.declared.fault.CheckFault.TheVariants.{Input, File, Page, Unfinished, Unsaved, Unshown, Write}
+use Rattle.chi_check.specs.declared.fault.CheckFault.TheVariants.{Input, File, Page, Unfinished, Untold, Unsaved, Unshown, Write}
 use Rattle.chi_check.specs.declared.fault.SourceFault.{SourceFault}
 use Rattle.chi_check.specs.declared.fault.SourceFault.TheVariants as source_fault
 
@@ -36,6 +36,7 @@ source_status (source_fault.Events fault) = lines_status fault
 abbrev pub status_of : CheckFault → ℕ
 status_of (Input fault) = source_status fault
 status_of (File place fault) = source_status fault
+status_of (Untold addr) = 3
 status_of Page = 5
 status_of (Unfinished fault) = lines_status fault
 status_of Unsaved = 5

@@ -18,7 +18,7 @@ use Rattle.chi_cover.specs.Texts.{table_text}
 use Rattle.chi_check.specs.Check.{most_bytes}
 use Rattle.chi_check.specs.declared.inputs.Counted.{Counted}
 use Rattle.chi_check.specs.declared.fault.CheckFault.{CheckFault}
-use Rattle.chi_check.specs.declared.fault.CheckFault.TheVariants.{Input, File, Page, Unfinished, Unsaved, Unshown, Write}
+use Rattle.chi_check.specs.declared.fault.CheckFault.TheVariants.{Input, File, Page, Unfinished, Untold, Unsaved, Unshown, Write}
 use Rattle.chi_check.specs.declared.fault.SourceFault.{SourceFault}
 use Rattle.chi_check.specs.declared.fault.SourceFault.TheVariants as source_fault
 use Rattle.chi_check.specs.declared.options.CoverOptions.{CoverOptions}
@@ -129,6 +129,7 @@ IsInputFault lines input (Input source_fault.Memory) = Unit {0}
 IsInputFault lines input (Input (source_fault.Trace fault)) = IsTraceFault lines input (source_fault.Trace fault)
 IsInputFault lines input (Input (source_fault.Events fault)) = IsTraceFault lines input (source_fault.Events fault)
 IsInputFault lines input (File place fault) = ⊥
+IsInputFault lines input (Untold addr) = ⊥
 IsInputFault lines input Page = ⊥
 IsInputFault lines input (Unfinished fault) = ⊥
 IsInputFault lines input Unsaved = ⊥

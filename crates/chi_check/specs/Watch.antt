@@ -68,4 +68,5 @@ WatchOutcome options input old new (Err (check_fault.Input source_fault.Read)) =
 WatchOutcome options input old new (Err (check_fault.Input source_fault.TooLong)) = ⊥
 WatchOutcome options input old new (Err (check_fault.Input (source_fault.Trace fault))) = ⊥
 WatchOutcome options input old new (Err (check_fault.File place fault)) = ⊥
+WatchOutcome options input old new (Err (check_fault.Untold addr)) = ⊥
 WatchOutcome options input old new (Err check_fault.Page) = ⊥

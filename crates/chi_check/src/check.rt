@@ -17,6 +17,7 @@ use crate::page::{blamed_page_asked, page_asked};
 use crate::pages::Pages;
 use crate::recorded::trace_told;
 use crate::search::{Searched, search};
+use crate::untold::untold;
 use chi_answer::{Answer, answer_text};
 use chi_excerpt::failure_text;
 use chi_json::{InputFault, read_input};
@@ -207,7 +208,7 @@ pub(crate) fn put_page<G: Pages>(pages: &mut G, path: Option<&str>, page: &[u8])
 /// Reads a trace, or lines with the option for them, and writes whether what was observed can be explained. The answer is a
 /// status: 0 where it can, 1 where it cannot, 6 where that is undecided within the budget.
 ///
-/// Nothing is written unless the whole trace was read and its answer found. After a fault of the writer a prefix of the
+/// Nothing is written unless the whole trace was read and its answer found. A granule of which nothing is told has none. After a fault of the writer a prefix of the
 /// answer has been written. Where a page of the trace is asked for, it is made whole and put before the answer is written.
 /// `progress` is told how far the search is, and cleared before anything is written. `machine` puts the page, and tells how much of
 /// its time and memory was used.
@@ -234,6 +235,9 @@ pub fn check<R: Read, W: Write, P: WatchProgress, G: Pages + Meter>(
         Ok(recorded) => recorded,
         Err(fault) => return Err(CheckFault::Input(fault)),
     };
+    if let Some(addr) = untold(&recorded, options.granule) {
+        return Err(CheckFault::Untold { addr });
+    }
     let Ok(report) = reported(alloc, recorded, options, progress, machine) else {
         return Err(CheckFault::Input(SourceFault::Memory));
     };

@@ -34,6 +34,7 @@ pub enum SourceFault {
 ///
 /// - `Input`: there is nothing to write of the input, or of what the inputs hold together.
 /// - `File`: the file at this place among those that were named, counted from 0, was not counted. Up to here nothing is written.
+/// - `Untold`: neither an operation nor a word of the granule that is asked for is told. Up to here nothing is written.
 /// - `Page`: the page was not written whole. Up to here nothing else is written.
 /// - `Unfinished`: a line of events or flits was refused, or not read. The granules that were found by then are written.
 /// - `Unsaved`: the lines of a granule were not saved whole. The granules that were found by lines are written.
@@ -45,6 +46,8 @@ pub enum CheckFault {
     Input(SourceFault),
     #[error("{fault}")]
     File { place: usize, fault: SourceFault },
+    #[error("nothing is told of the granule at {addr}, which is read as a decimal number")]
+    Untold { addr: u64 },
     #[error("page could not be written")]
     Page,
     #[error(transparent)]
@@ -90,6 +93,7 @@ impl ProgramFault for CheckFault {
         match self {
             CheckFault::Input(fault) => source_status(fault),
             CheckFault::File { place: _, fault } => source_status(fault),
+            CheckFault::Untold { addr: _ } => 3,
             CheckFault::Page => 5,
             CheckFault::Unfinished(fault) => lines_status(fault),
             CheckFault::Unsaved => 5,

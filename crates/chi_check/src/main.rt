@@ -22,6 +22,7 @@ mod search;
 mod show;
 mod sources;
 mod tasks;
+mod untold;
 mod watch;
 
 use crate::arguments::run_arguments;
