@@ -83,6 +83,11 @@ def flit(channel, time, **members):
     return json.dumps({"time": time, "channel": channel, **texts}) + "\n"
 
 
+def point(time, src, txn, **more):
+    """That the request of a requester and a TxnID takes effect."""
+    return flit("POINT", time, src=src, txn=txn, **more)
+
+
 def lanes(number, addr=LOW):
     """The digits of 16 lanes: of a number little-endian from the address on."""
     return f"{number << addr % 16 * 8:032x}"

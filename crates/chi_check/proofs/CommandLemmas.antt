@@ -1,5 +1,5 @@
 -- what the program's command line is to `clap`
-use Rattle.std.proofs.Common.{◌≡◌, ◌⊎◌, ◌∙◌, true, false, List, [], ◌∷◌, Option, Some, codes, refl, ap, subst, sym}
+use Rattle.std.proofs.Common.{◌≡◌, ◌⊎◌, ◌∙◌, true, false, List, [], ◌∷◌, Option, Some, codes, inl, refl, ap, subst, sym}
 use Rattle.std.specs.Option.{option_map, unwrap_or}
 use Rattle.std.specs.Str.{bytes_eq}
 use Rattle.clap.specs.Faults.{fault_of, is_simple_and_free}
@@ -12,8 +12,8 @@ use Rattle.clap.specs.declared.error.kind.ErrorKind.TheVariants as error_kind
 use Rattle.clap.specs.declared.parser.matches.ArgMatches.{ArgMatches}
 use Rattle.clap.proofs.OnLiterals.{clap_on_literals}
 use Rattle.clap.proofs.WalkLemmas.{walk_stopped}
-use Rattle.chi_check.specs.OptionValues.{Finds, IsCover, IsExplain, IsNamed, IsNamedFirst, IsWatch}
-use Rattle.chi_check.specs.CommandLine.{IsArgumentsFault, IsTaken, program_app}
+use Rattle.chi_check.specs.OptionValues.{Finds, IsArgumentsFault, IsCover, IsExplain, IsNamed, IsNamedFirst, IsWatch}
+use Rattle.chi_check.specs.CommandLine.{IsTaken, program_app}
 use Rattle.chi_program.specs.OptionValues.{BeginsWith}
 use Rattle.chi_program.proofs.CommandLemmas.{subcommand_found}
 use Rattle.chi_check.specs.declared.command.Task.{Task}
@@ -96,7 +96,7 @@ module _ (arguments : List Text) (name : Text) (found : List Row) (task : Task) 
 -- what `clap` refuses
 pub arguments_fault : (app : App) (arguments : List Text) (kind : ErrorKind) → app ≡ program_app
     → (kind ≡ error_kind.OutOfMemory) ⊎ IsAmong kind (fault_of app arguments) → IsArgumentsFault arguments kind
-arguments_fault app arguments kind is h = subst (λ (a : App). (kind ≡ error_kind.OutOfMemory) ⊎ IsAmong kind (fault_of a arguments)) is h
+arguments_fault app arguments kind is h = inl (subst (λ (a : App). (kind ≡ error_kind.OutOfMemory) ⊎ IsAmong kind (fault_of a arguments)) is h)
 
 -- and what it takes
 pub arguments_taken : (app : App) (arguments : List Text) → app ≡ program_app → fault_of app arguments ≡ [] → IsTaken arguments

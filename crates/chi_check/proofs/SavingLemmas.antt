@@ -6,6 +6,7 @@ use Rattle.std.specs.Borrow.{Bor}
 use Rattle.std.specs.Io.KnownBytes.{Appends}
 use Rattle.std.specs.Prelude.{◌||◌, Vec, flat_map, is_some}
 use Rattle.std.specs.declared.alloc.Global.{Global}
+use Rattle.chi_points.specs.PointedPort.{nothing_seen}
 use Rattle.chi_script.proofs.WriterBytesLemmas.{taken_then}
 use Rattle.chi_watch_text.specs.Kept.{AreKept}
 use Rattle.chi_watch_text.specs.Outcomes.{IsWatched}
@@ -15,7 +16,7 @@ use Rattle.chi_watch_text.specs.Texts.{closing_text, found_text, watched_text}
 use Rattle.chi_watch_text.specs.declared.fault.LinesFault.{LinesFault}
 use Rattle.chi_watch_text.specs.declared.fault.LinesFault.TheVariants as lines_fault
 use Rattle.chi_watch_text.specs.declared.line_format.LineFormat.{LineFormat}
-use Rattle.chi_watch_text.specs.declared.line_format.LineFormat.TheVariants.{Events, Flits}
+use Rattle.chi_watch_text.specs.declared.line_format.LineFormat.TheVariants.{Events, Flits, PointedFlits}
 use Rattle.chi_watch_text.specs.declared.options.WatchOptions.{WatchOptions}
 use Rattle.chi_watch_text.specs.declared.watched.Watched.{Watched}
 use Rattle.chi_watch_text.proofs.EachEvent.{each_event}
@@ -32,7 +33,7 @@ whole : (format : LineFormat) (input : List ℕ) (going : Bool) (w : Watched) (i
     → AreWhole kept is.told.lines is.events
 whole format input going w is kept events all = record {
   are_lines = lines_kept input is.told.lines is.rest kept is.told.are_lines all;
-  are_events = each_event 1 [] is.told.lines is.events is.told.seen (subst (λ (f : LineFormat). AreEvents f 1 [] is.told.lines is.events [] is.told.seen) events is.told.are_events);
+  are_events = each_event 1 nothing_seen is.told.lines is.events is.told.seen (subst (λ (f : LineFormat). AreEvents f 1 nothing_seen is.told.lines is.events [] is.told.seen) events is.told.are_events);
 }
 
 -- lines that were not put: the granules that were found are written
@@ -86,6 +87,7 @@ module _ {P : Type 0} (has_put : P → List ℕ → List ℕ → Type 0) where
       → AreSaved format kept g lines → AreSavedOf format input is.rest is.told.lines is.events g lines
   saves Events input going w is kept are g lines saved = saved is.told.lines is.events (whole Events input going w is kept refl are)
   saves Flits input going w is kept are g lines saved = are ∙ ap (λ l. l ++ is.rest) (sym saved)
+  saves PointedFlits input going w is kept are g lines saved = are ∙ ap (λ l. l ++ is.rest) (sym saved)
 
   first_put : (format : LineFormat) (input : List ℕ) (going : Bool) (w : Watched) (is : IsWatched format input going w) (kept : Option (Vec ℕ Global)) (path : List ℕ) (before after : P) → is_some kept ≡ true
       → AreKept input kept is.rest → IfSome kept (λ k. IsPutOf has_put (first_listed w) (AreSaved format k.items) path before after)

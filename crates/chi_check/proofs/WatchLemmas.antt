@@ -96,6 +96,7 @@ module _ (options : WatchOptions) (old mid new : Option (List ℕ)) (watched : W
   closed_in input (Err (check_fault.Write fault)) is front = inl (watched, is, front_then old mid new (flat_map found_text watched.found.items) (closing_text options watched) told front)
   closed_in input (Err (check_fault.Input fault)) is (same, keeps) = no_memory input (check_fault.Input fault) is same keeps
   closed_in input (Err (check_fault.File place fault)) is (same, keeps) = no_memory input (check_fault.File place fault) is same keeps
+  closed_in input (Err (check_fault.Untold addr)) is (same, keeps) = no_memory input (check_fault.Untold addr) is same keeps
   closed_in input (Err check_fault.Page) is (same, keeps) = no_memory input check_fault.Page is same keeps
   closed_in input (Err (check_fault.Unfinished fault)) is (same, keeps) = no_memory input (check_fault.Unfinished fault) is same keeps
   closed_in input (Err check_fault.Unsaved) is (same, keeps) = no_memory input check_fault.Unsaved is same keeps
@@ -116,6 +117,7 @@ module _ (options : WatchOptions) (old mid new : Option (List ℕ)) (watched : W
   closed_unanswered (Err (check_fault.Write fault)) writes = tt
   closed_unanswered (Err (check_fault.Input fault)) (same, keeps) = kept_memory (check_fault.Input fault) same keeps
   closed_unanswered (Err (check_fault.File place fault)) (same, keeps) = kept_memory (check_fault.File place fault) same keeps
+  closed_unanswered (Err (check_fault.Untold addr)) (same, keeps) = kept_memory (check_fault.Untold addr) same keeps
   closed_unanswered (Err check_fault.Page) (same, keeps) = kept_memory check_fault.Page same keeps
   closed_unanswered (Err (check_fault.Unfinished fault)) (same, keeps) = kept_memory (check_fault.Unfinished fault) same keeps
   closed_unanswered (Err check_fault.Unsaved) (same, keeps) = kept_memory check_fault.Unsaved same keeps

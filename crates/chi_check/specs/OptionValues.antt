@@ -1,14 +1,18 @@
 -- which task the arguments name, and with which options
-use Rattle.std.specs.Prelude.{◌≡◌, true, false, if◌then◌else◌, [], List, unwrap_or, Option, None, Some, codes}
+use Rattle.std.specs.Prelude.{◌≡◌, ◌⊎◌, Bool, true, false, not, ◌&&◌, if◌then◌else◌, [], List, unwrap_or, Option, None, Some, codes}
 use Rattle.std.specs.Option.{option_map}
 use Rattle.std.specs.Str.{bytes_eq}
 use Rattle.std.specs.Borrow.{Bor}
 use Rattle.clap.specs.Walk.{Row, Text, all_of, first_of, one_of}
 use Rattle.clap.specs.Simple.{subcommand_of}
+use Rattle.clap.specs.Kinds.{IsAmong}
+use Rattle.clap.specs.Faults.{fault_of}
+use Rattle.clap.specs.declared.error.kind.ErrorKind.{ErrorKind}
+use Rattle.clap.specs.declared.error.kind.ErrorKind.TheVariants as error_kind
 use Rattle.chi_check.specs.declared.command.Task.{Task}
 use Rattle.chi_check.specs.declared.command.Task.TheVariants.{Explain, Watch, Cover}
 use Rattle.chi_watch_text.specs.declared.line_format.LineFormat.{LineFormat}
-use Rattle.chi_watch_text.specs.declared.line_format.LineFormat.TheVariants.{Events, Flits}
+use Rattle.chi_watch_text.specs.declared.line_format.LineFormat.TheVariants.{Events, Flits, PointedFlits}
 use Rattle.chi_watch_text.specs.declared.required.Required.{Required}
 use Rattle.chi_check.specs.CommandLine.{program_app}
 use Rattle.chi_check.specs.Cover.{paths_of}
@@ -21,22 +25,40 @@ use Rattle.chi_program.specs.OptionValues.{BeginsWith, IsNumberOr, IsNumberOrNon
 abbrev pub Finds : List Text → Text → List Row → Type 0
 Finds arguments name found = subcommand_of program_app arguments ≡ Some (name, found)
 
+-- points were asked for, and no flits
+abbrev pub lacks_flits : List Row → Bool
+lacks_flits found = has_word found (codes "points") (codes "true") && not (has_word found (codes "flits") (codes "true"))
+
+-- in these arguments `clap` finds options that ask for points, and for no flits
+abbrev pub LackFlits : List Text → Type 0
+LackFlits arguments = (name : Text) × (found : List Row) × Finds arguments name found × (lacks_flits found ≡ true)
+
+-- why the arguments name no task: there is no memory; `clap` finds this fault in them, or is asked for help; or they ask for points, and
+-- for no flits
+abbrev pub IsArgumentsFault : List Text → ErrorKind → Type 0
+IsArgumentsFault arguments kind =
+    ((kind ≡ error_kind.OutOfMemory) ⊎ IsAmong kind (fault_of program_app arguments)) ⊎ ((kind ≡ error_kind.MissingRequiredArgument) × LackFlits arguments)
+
 -- the name `watch` is that of the watch, `cover` that of the count, and any other that of the explaining
 abbrev pub IsNamed : Text → Task → Type 0
 IsNamed name (Explain options file) = (bytes_eq name (codes "watch") ≡ false) × (bytes_eq name (codes "cover") ≡ false)
 IsNamed name (Watch options file) = bytes_eq name (codes "watch") ≡ true
 IsNamed name (Cover options) = bytes_eq name (codes "cover") ≡ true
 
+-- what each line among flits tells: points too, where that was asked for
+abbrev pub flits_asked : List Row → LineFormat
+flits_asked found = if has_word found (codes "points") (codes "true") then PointedFlits else Flits
+
 -- what each line of an input tells: flits or events, where that was asked for, and else it is a trace
 abbrev pub lines_asked : List Row → Option LineFormat
 lines_asked found =
-    if has_word found (codes "flits") (codes "true") then Some Flits
+    if has_word found (codes "flits") (codes "true") then Some (flits_asked found)
     else if has_word found (codes "events") (codes "true") then Some Events
     else None
 
 -- of a watch: flits where that was asked for, and else events
 abbrev pub format_asked : List Row → LineFormat
-format_asked found = if has_word found (codes "flits") (codes "true") then Flits else Events
+format_asked found = if has_word found (codes "flits") (codes "true") then flits_asked found else Events
 
 -- the options of `explain` are those that were found
 pub record HasExplainOptions (found : List Row) (options : CheckOptions) : Type 0 where

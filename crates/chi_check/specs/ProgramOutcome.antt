@@ -4,8 +4,8 @@ use Rattle.std.specs.Borrow.{Bor}
 use Rattle.clap.specs.Walk.{Text}
 use Rattle.chi_check.specs.Check.{KeepsUnanswered, Outcome}
 use Rattle.chi_check.specs.CheckStatus.{IsAnswerStatus, status_of}
-use Rattle.chi_check.specs.OptionValues.{Chooses}
-use Rattle.chi_check.specs.CommandLine.{IsArgumentsFault, IsTaken}
+use Rattle.chi_check.specs.OptionValues.{Chooses, IsArgumentsFault}
+use Rattle.chi_check.specs.CommandLine.{IsTaken}
 use Rattle.chi_check.specs.Cover.{CoverOutcome}
 use Rattle.chi_check.specs.declared.fault.CheckFault.{CheckFault}
 use Rattle.chi_check.specs.declared.command.Task.{Task}

@@ -9,7 +9,7 @@ use Rattle.chi_watch_text.specs.Saved.{IsSaved, IsSavingFault, lines_about, no_n
 use Rattle.chi_watch_text.specs.Texts.{watched_text}
 use Rattle.chi_watch_text.specs.declared.fault.LinesFault.{LinesFault}
 use Rattle.chi_watch_text.specs.declared.line_format.LineFormat.{LineFormat}
-use Rattle.chi_watch_text.specs.declared.line_format.LineFormat.TheVariants.{Events, Flits}
+use Rattle.chi_watch_text.specs.declared.line_format.LineFormat.TheVariants.{Events}
 use Rattle.chi_watch_text.specs.declared.watched.FoundGranule.{FoundGranule}
 use Rattle.chi_watch_text.specs.declared.watched.Watched.{Watched}
 use Rattle.chi_check.specs.Watch.{stopped_by, watch_status, watching}
@@ -41,7 +41,7 @@ IsPutOf has_put (Some g) are_lines path old new = (lines : List ℕ) × are_line
 -- of lines that are events those that tell of a granule; where they state flits, all
 abbrev pub AreSaved : LineFormat → List ℕ → ℕ → List ℕ → Type 0
 AreSaved Events lines g saved = IsSaved lines g saved
-AreSaved Flits lines g saved = saved ≡ lines
+AreSaved _ lines g saved = saved ≡ lines
 
 -- the same of the granule that is listed first, and the lines that are kept
 abbrev pub IsFirstPut : {P : Type 0} → (P → List ℕ → List ℕ → Type 0) → LineFormat → Watched → List ℕ → P → P → Type 0
@@ -59,7 +59,7 @@ IsUnsaved format w kept fault = (fault ≡ check_fault.Unsaved) ⊎ ((format ≡
 -- of the lines that were read of an input, each with its event, those that tell of a granule; of flits all that this rest follows
 abbrev pub AreSavedOf : LineFormat → List ℕ → List ℕ → List (List ℕ) → List Event → ℕ → List ℕ → Type 0
 AreSavedOf Events input rest lines events g saved = saved ≡ lines_about g no_number lines events
-AreSavedOf Flits input rest lines events g saved = input ≡ saved ++ rest
+AreSavedOf _ input rest lines events g saved = input ≡ saved ++ rest
 
 -- Where lines are to be saved, those that were read and tell of the granule that is listed first, or all flits, were put at the path,
 -- before what is said once all is watched was written; where no granule is listed nothing was put.

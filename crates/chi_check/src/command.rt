@@ -5,10 +5,12 @@ ghost use Rattle.clap.specs.Matches.{found_of};
 ghost use Rattle.clap.specs.Simple.{app_of};
 ghost use Rattle.clap.specs.Values.{kind_of};
 ghost use Rattle.clap.specs.Walk.{rows_of};
-ghost use Rattle.chi_check.specs.OptionValues.{Chooses, HasOptions, IsNamed, IsNamedFirst};
-ghost use Rattle.chi_check.specs.CommandLine.{IsArgumentsFault, IsTaken, program_app};
+ghost use Rattle.chi_check.specs.OptionValues.{Chooses, HasOptions, IsArgumentsFault, IsNamed, IsNamedFirst};
+ghost use Rattle.chi_check.specs.CommandLine.{IsTaken, program_app};
 
-use crate::option_values::{cover_options, explain_options, file_given, watch_options};
+use crate::option_values::{
+    cover_options, explain_options, file_given, lacks_flits, watch_options,
+};
 use crate::options::{CheckOptions, CoverOptions, WatchingOptions};
 use crate::tasks::TASKS;
 use chi_program::program_command;
@@ -33,6 +35,8 @@ const VERSION: &str = "0.1.0";
 
 const ABOUT: &str = "Says whether what was observed at a CHI home node can be explained.";
 
+const POINTS_ALONE: &str = "the option '--points' needs '--flits'";
+
 const MORE: &str =
     "A trace in FILE or on standard input is a script of chihome whose requests have the members
 start, end and reply too. It may have the member final, the words at the end. Where granules is
@@ -47,7 +51,8 @@ reply is null its answer was not seen. The answer on standard output is `explain
 
 Events in FILE or on standard input are one JSON object a line: requests, their data and their
 replies, as a monitor tells them. `watch` reads them as they come (docs/EVENTS.md). With `--flits`
-the lines are the flits at a home's port (docs/FLITS.md).
+the lines are the flits at a home's port (docs/FLITS.md), and with `--points` too each request is
+told at the time of its point.
 
 `cover` writes a table of how many operations each bin counted, of a trace or of events on standard
 input, or of all the files that are named (docs/COVERAGE.md).
@@ -81,10 +86,19 @@ fn chosen_task<'a>(
     })
 }
 
+// That points are asked for, and no flits.
+fn points_alone(alloc: Global) -> Result<Error, Error>
+    ensures kind { IfOk result (λ error. kind_of error ≡ ErrorKind.MissingRequiredArgument) }
+    ensures memory { IfErr result (λ error. kind_of error ≡ ErrorKind.OutOfMemory) }
+{
+    let mut command = whole_command(alloc)?;
+    Ok(command.error(ErrorKind::MissingRequiredArgument, POINTS_ALONE)?)
+}
+
 /// Reads the arguments after the program's name: `explain`, `watch` or `cover`, and its options.
 ///
 /// Which arguments are refused, and as what, and which task and options the others name, `clap`'s definitions say of the
-/// program's command line. That `clap` refuses a budget or a time that is no number no contract says; `.ci/checker` shows it.
+/// program's command line; but `--points` needs `--flits`. That `clap` refuses a budget or a time that is no number no contract says; `.ci/checker` shows it.
 ///
 /// ```
 /// let task = task_of(alloc, &arguments)?; // explain --witness --budget 1000 --until 4711
@@ -99,5 +113,8 @@ pub fn task_of(alloc: Global, arguments: &[String]) -> Result<Task<'_>, Error>
     let Some((name, matches)) = matches.subcommand() else {
         unreachable!()
     };
+    if lacks_flits(matches) {
+        return Err(points_alone(alloc)?);
+    }
     Ok(chosen_task(alloc, name, matches)?)
 }

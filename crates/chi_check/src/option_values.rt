@@ -4,7 +4,7 @@ ghost use Rattle.std.specs.Prelude.{◌≡◌, [], codes, map, unwrap_or, IfOk};
 ghost use Rattle.std.specs.Option.{option_map};
 ghost use Rattle.clap.specs.Matches.{found_of};
 ghost use Rattle.clap.specs.Walk.{all_of, first_of, one_of, rows_of};
-ghost use Rattle.chi_check.specs.OptionValues.{HasCoverOptions, HasRequired, HasWatchOptions, format_asked, lines_asked};
+ghost use Rattle.chi_check.specs.OptionValues.{HasCoverOptions, HasRequired, HasWatchOptions, flits_asked, format_asked, lacks_flits, lines_asked};
 ghost use Rattle.chi_program.specs.OptionValues.{IsNumberOr, IsNumberOrNone, has_word};
 
 use crate::options::{CheckOptions, CoverOptions, WatchingOptions};
@@ -39,12 +39,23 @@ pub(crate) fn file_given<'a>(matches: &ArgMatches<'a>) -> Option<&'a str>
     text_given(matches, "file")
 }
 
+// What each line among flits tells.
+fn flits_asked(matches: &ArgMatches<'_>) -> LineFormat
+    ensures { result ≡ flits_asked (rows_of (found_of matches.now)) }
+{
+    if is_switched(matches, "points") {
+        LineFormat::PointedFlits
+    } else {
+        LineFormat::Flits
+    }
+}
+
 // What each line of an input tells, where it is no trace.
 fn lines_asked(matches: &ArgMatches<'_>) -> Option<LineFormat>
     ensures { result ≡ lines_asked (rows_of (found_of matches.now)) }
 {
     if is_switched(matches, "flits") {
-        Some(LineFormat::Flits)
+        Some(flits_asked(matches))
     } else if is_switched(matches, "events") {
         Some(LineFormat::Events)
     } else {
@@ -57,10 +68,17 @@ fn format_asked(matches: &ArgMatches<'_>) -> LineFormat
     ensures { result ≡ format_asked (rows_of (found_of matches.now)) }
 {
     if is_switched(matches, "flits") {
-        LineFormat::Flits
+        flits_asked(matches)
     } else {
         LineFormat::Events
     }
+}
+
+/// Whether points are asked for, and no flits.
+pub(crate) fn lacks_flits(matches: &ArgMatches<'_>) -> bool
+    ensures { result ≡ lacks_flits (rows_of (found_of matches.now)) }
+{
+    is_switched(matches, "points") && !is_switched(matches, "flits")
 }
 
 /// The options that `explain` was given, or that stand in for them.

@@ -16,6 +16,13 @@ const FLITS: NamedOption<'static> = NamedOption {
     help: "Follows the flits at a home's port, a line each",
 };
 
+// That the lines state points too.
+const POINTS: NamedOption<'static> = NamedOption {
+    name: "points",
+    takes: Takes::Nothing,
+    help: "Tells each request at its point, which is a line among the flits",
+};
+
 // The file that is read.
 const FILE: NamedOption<'static> = NamedOption {
     name: "file",
@@ -24,13 +31,14 @@ const FILE: NamedOption<'static> = NamedOption {
 };
 
 // The options of `explain`, and its file.
-const EXPLAIN: [NamedOption<'static>; 11] = [
+const EXPLAIN: [NamedOption<'static>; 12] = [
     NamedOption {
         name: "events",
         takes: Takes::Nothing,
         help: "Judges what events tell, a line each, and no trace",
     },
     FLITS,
+    POINTS,
     NamedOption {
         name: "witness",
         takes: Takes::Nothing,
@@ -71,8 +79,9 @@ const EXPLAIN: [NamedOption<'static>; 11] = [
 ];
 
 // The options of `watch`, and its file.
-const WATCH: [NamedOption<'static>; 10] = [
+const WATCH: [NamedOption<'static>; 11] = [
     FLITS,
+    POINTS,
     BUDGET,
     NamedOption {
         name: "save",
@@ -113,7 +122,7 @@ const WATCH: [NamedOption<'static>; 10] = [
 ];
 
 // The options of `cover`, and the files that are counted.
-const COVER: [NamedOption<'static>; 5] = [
+const COVER: [NamedOption<'static>; 6] = [
     NamedOption {
         name: "require",
         takes: Takes::NumberOr("PERCENT", "0"),
@@ -125,6 +134,7 @@ const COVER: [NamedOption<'static>; 5] = [
         help: "Counts what events tell, a line each, and not traces",
     },
     FLITS,
+    POINTS,
     NamedOption {
         name: "html",
         takes: Takes::Text("FILE"),

@@ -4,4 +4,5 @@ pub mod FlitText
 pub mod Lanes
 pub mod LookedAt
 pub mod Member
+pub mod PointText
 pub mod Stated

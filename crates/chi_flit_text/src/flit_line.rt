@@ -47,7 +47,7 @@ fn validity_text(text: &str) -> Option<bool>
 }
 
 /// Whether the valid of a flit is known. Where it is left out it is.
-fn validity(object: &Value) -> Result<bool, MemberFault<FlitMember>>
+pub(crate) fn validity(object: &Value) -> Result<bool, MemberFault<FlitMember>>
     ensures { result ≡ validity_by (get (member_name FlitMember.Valid) (view object.now)) }
 {
     let Some(value) = object.get(FlitMember::Valid.name()) else {

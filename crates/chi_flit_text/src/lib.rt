@@ -1,4 +1,4 @@
-//! Flits as objects of JSON, and how one is read. Source: profile.
+//! Flits and points as objects of JSON, and how one is read. Source: profile.
 #![tactic(auto)]
 
 mod channel;
@@ -11,7 +11,9 @@ mod lanes;
 mod looked_at;
 mod member;
 mod numbers;
+mod point_line;
 
 pub use fault::FlitLineFault;
 pub use flit_line::read_flit;
 pub use member::FlitMember;
+pub use point_line::{names_point, read_point};

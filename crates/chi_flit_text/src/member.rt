@@ -7,8 +7,8 @@ use chi_json::Named;
 
 /// A member of the object that states a flit.
 ///
-/// - `Channel`, `Time` and `Valid` are of each flit, and so are `Txn` and `Opcode`. `Valid` may be left out.
-/// - `Src` is of requests and of data to the home, and `Tgt` of responses and of data of the home.
+/// - `Channel`, `Time` and `Valid` are of each flit and each point, and so is `Txn`. `Valid` may be left out. `Opcode` is of each flit.
+/// - `Src` is of requests, of data to the home and of points, and `Tgt` of responses and of data of the home.
 /// - `Size` to `Excl` are of requests, and the last two, `Endian` and `Excl`, may be left out.
 /// - `RespErr` is of responses and of data, and `Dbid` of responses.
 /// - `DataId` and `Data` are of data, and `Be` of data to the home, which may leave `RespErr` out.
@@ -71,7 +71,7 @@ impl Named for FlitMember {
 
     fn wanted(self) -> &'static str {
         match self {
-            FlitMember::Channel => "REQ, RSP, RDAT or WDAT",
+            FlitMember::Channel => "REQ, RSP, RDAT, WDAT or POINT",
             FlitMember::Time => "a whole number below 2^64",
             FlitMember::Src | FlitMember::Tgt | FlitMember::Txn | FlitMember::Dbid => {
                 "1 to 16 hex digits, x or z, up to ffff"

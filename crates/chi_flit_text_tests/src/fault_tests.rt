@@ -164,7 +164,7 @@ fn texts_of_faults(rt: HostRuntime) -> Result<(), Fail> {
         ),
         (
             bad(FlitMember::Channel, "req"),
-            "member channel is \"req\", and not REQ, RSP, RDAT or WDAT",
+            "member channel is \"req\", and not REQ, RSP, RDAT, WDAT or POINT",
         ),
         (
             FlitLineFault::Object(ObjectFault::BadMember {

@@ -1,6 +1,7 @@
 pub mod Opcodes
 pub mod Requests
 pub mod Answers
+pub mod Held
 pub mod History
 pub mod Told
 pub mod Faults

@@ -6,6 +6,7 @@ mod bounds;
 mod effects;
 mod fault;
 mod flit;
+mod held;
 mod lanes;
 pub mod laws;
 mod noting;
@@ -26,6 +27,7 @@ mod write_faults;
 
 pub use fault::FlitFault;
 pub use flit::{Chunk, DataFlit, Flit, FlitKind, RequestFlit, ResponseFlit};
+pub use held::Held;
 pub use opcode::{
     gives_dbid, is_atomic, is_cancel, is_comp, is_read, is_read_data, is_response, is_write,
     is_write_data, takes_txn, writes_nothing,

@@ -3,8 +3,8 @@ use Rattle.std.proofs.Common.{◌≡◌, ℕ, ◌+◌, ◌<◌, ◌==◌, Bool, 
 use Rattle.std.proofs.lemmas.List.{nil_from_length}
 use Rattle.std.specs.Io.BufRead.{drop_through, take_through}
 use Rattle.chi_events.specs.declared.event.Event.{Event}
-use Rattle.chi_flits.specs.Effects.{HasSeen, PortValue}
-use Rattle.chi_flits.specs.declared.flit.Flit.{Flit}
+use Rattle.chi_points.specs.PointedPort.{Follows, Seen, nothing_seen}
+use Rattle.chi_points.specs.declared.pointed_port.PointedPort.{PointedPort}
 use Rattle.chi_watch_text.specs.LineTold.{line_told}
 use Rattle.chi_watch_text.specs.Lines.{AreEvents, AreLines, AreTold, AreToldAll, is_blank}
 use Rattle.chi_watch_text.specs.Reading.{BeginsWith, HasGiven, HasGivenAll, HasGivenOf, IsAtRefused, IsLineFault, IsOfLast, IsReadingFault, RefusesBy, TellsBy}
@@ -21,55 +21,55 @@ lines_more text (line ∷ lines) rest (more, is, are) some = (more, is, lines_mo
 
 module _ (format : LineFormat) where
   -- a line more, whose events are not given yet
-  events_read : (number : ℕ) (flits : List Flit) (lines : List (List ℕ)) (line : List ℕ) (events told : List Event) (seen after : List Flit) → AreEvents format number flits lines events [] seen
-      → line_told format seen (number + length lines) line ≡ Ok (record { events = told; flits = after }) → AreEvents format number flits (lines ++ line ∷ []) events told after
+  events_read : (number : ℕ) (before : Seen) (lines : List (List ℕ)) (line : List ℕ) (events told : List Event) (seen after : Seen) → AreEvents format number before lines events [] seen
+      → line_told format seen (number + length lines) line ≡ Ok (record { events = told; seen = after }) → AreEvents format number before (lines ++ line ∷ []) events told after
   unfolding AreEvents
-  events_read number flits [] line events told seen after (none, nothing, same) is =
+  events_read number before [] line events told seen after (none, nothing, same) is =
       let here : number + 0 ≡ number = omega arith in
-      rw none (subst (λ n. line_told format flits n line ≡ Ok (record { events = told; flits = after })) here (subst (λ (l : List Flit). line_told format l (number + 0) line ≡ Ok (record { events = told; flits = after })) same is))
-  events_read number flits (first ∷ []) line events told seen after are is =
-      (record { events = events ++ []; flits = seen }, are, ([], sym (append-nil events) ∙ sym (append-nil (events ++ [])), is))
-  events_read number flits (first ∷ next ∷ lines) line events told seen after (here, tells, (later, whole, are)) is =
+      rw none (subst (λ n. line_told format before n line ≡ Ok (record { events = told; seen = after })) here (subst (λ (l : Seen). line_told format l (number + 0) line ≡ Ok (record { events = told; seen = after })) same is))
+  events_read number before (first ∷ []) line events told seen after are is =
+      (record { events = events ++ []; seen = seen }, are, ([], sym (append-nil events) ∙ sym (append-nil (events ++ [])), is))
+  events_read number before (first ∷ next ∷ lines) line events told seen after (here, tells, (later, whole, are)) is =
       let at : number + length (first ∷ next ∷ lines) ≡ number + 1 + length (next ∷ lines) = omega arith in (
         here,
         tells,
         (
           later,
           whole,
-          events_read (number + 1) here.flits (next ∷ lines) line later told seen after are
-              (subst (λ n. line_told format seen n line ≡ Ok (record { events = told; flits = after })) at is),
+          events_read (number + 1) here.seen (next ∷ lines) line later told seen after are
+              (subst (λ n. line_told format seen n line ≡ Ok (record { events = told; seen = after })) at is),
         ),
       )
 
   -- an event more of the last line is given
-  event_given : (number : ℕ) (flits : List Flit) (lines : List (List ℕ)) (events : List Event) (e : Event) (more : List Event) (seen : List Flit) → AreEvents format number flits lines events (e ∷ more) seen
-      → AreEvents format number flits lines (events ++ e ∷ []) more seen
+  event_given : (number : ℕ) (before : Seen) (lines : List (List ℕ)) (events : List Event) (e : Event) (more : List Event) (seen : Seen) → AreEvents format number before lines events (e ∷ more) seen
+      → AreEvents format number before lines (events ++ e ∷ []) more seen
   unfolding AreEvents
-  event_given number flits [] events e more seen (none, some, same) = absurd (let no = ap length some in omega (arith, no))
-  event_given number flits (line ∷ []) events e more seen are =
-      subst (λ (l : List Event). line_told format flits number line ≡ Ok (record { events = l; flits = seen })) (sym (append_assoc events (e ∷ []) more)) are
-  event_given number flits (line ∷ next ∷ lines) events e more seen (here, tells, (later, whole, are)) =
-      (here, tells, (later ++ e ∷ [], ap (λ l. l ++ e ∷ []) whole ∙ append_assoc here.events later (e ∷ []), event_given (number + 1) here.flits (next ∷ lines) later e more seen are))
+  event_given number before [] events e more seen (none, some, same) = absurd (let no = ap length some in omega (arith, no))
+  event_given number before (line ∷ []) events e more seen are =
+      subst (λ (l : List Event). line_told format before number line ≡ Ok (record { events = l; seen = seen })) (sym (append_assoc events (e ∷ []) more)) are
+  event_given number before (line ∷ next ∷ lines) events e more seen (here, tells, (later, whole, are)) =
+      (here, tells, (later ++ e ∷ [], ap (λ l. l ++ e ∷ []) whole ∙ append_assoc here.events later (e ∷ []), event_given (number + 1) here.seen (next ∷ lines) later e more seen are))
 
 -- The reading read one line more.
 line_read : (text rest : List ℕ) (events : List Event) (old new : Reading) → HasGiven text events old rest → 0 < length rest → old.pending.items ≡ []
-    → TellsBy (λ flits. line_told old.format flits (old.number + 1) (take_through 10 rest)) old.port new.pending.items new.port
+    → TellsBy (λ seen. line_told old.format seen (old.number + 1) (take_through 10 rest)) old.port new.pending.items new.port
     → new.number ≡ old.number + 1 → new.format ≡ old.format → HasGiven text events new (drop_through 10 rest)
 line_read text rest events old new has some none tells number format =
     let t = has.told in
     let (after, is, seen) = tells t.seen has.seen in
     let next : old.number + 1 ≡ 1 + length t.lines = omega (arith, t.count_is) in
-    let was = subst (λ (l : List Event). AreEvents old.format 1 [] t.lines events l t.seen) none t.are_events in
+    let was = subst (λ (l : List Event). AreEvents old.format 1 nothing_seen t.lines events l t.seen) none t.are_events in
     let all =
-    events_read old.format 1 [] t.lines (take_through 10 rest) events new.pending.items t.seen after was
-    (subst (λ n. line_told old.format t.seen n (take_through 10 rest) ≡ Ok (record { events = new.pending.items; flits = after })) next is) in
+    events_read old.format 1 nothing_seen t.lines (take_through 10 rest) events new.pending.items t.seen after was
+    (subst (λ n. line_told old.format t.seen n (take_through 10 rest) ≡ Ok (record { events = new.pending.items; seen = after })) next is) in
     record {
       told = record {
         lines = t.lines ++ take_through 10 rest ∷ [];
         seen = after;
         count_is = omega (arith, number, t.count_is, length-append t.lines (take_through 10 rest ∷ []));
         are_lines = lines_more text t.lines rest t.are_lines some;
-        are_events = subst (λ (f : LineFormat). AreEvents f 1 [] (t.lines ++ take_through 10 rest ∷ []) events new.pending.items after) (sym format) all;
+        are_events = subst (λ (f : LineFormat). AreEvents f 1 nothing_seen (t.lines ++ take_through 10 rest ∷ []) events new.pending.items after) (sym format) all;
       };
       seen = seen;
     }
@@ -79,30 +79,30 @@ one_given : (text rest : List ℕ) (events : List Event) (old new : Reading) (e 
     → new.format ≡ old.format → new.port ≡ old.port → new.number ≡ old.number → HasGiven text (events ++ e ∷ []) new rest
 one_given text rest events old new e has is format port number =
     let t = has.told in
-    let was = subst (λ (l : List Event). AreEvents old.format 1 [] t.lines events l t.seen) is t.are_events in
+    let was = subst (λ (l : List Event). AreEvents old.format 1 nothing_seen t.lines events l t.seen) is t.are_events in
     record {
       told = record {
         lines = t.lines;
         seen = t.seen;
         count_is = t.count_is ∙ sym number;
         are_lines = t.are_lines;
-        are_events = subst (λ (f : LineFormat). AreEvents f 1 [] t.lines (events ++ e ∷ []) new.pending.items t.seen) (sym format)
-            (event_given old.format 1 [] t.lines events e new.pending.items t.seen was);
+        are_events = subst (λ (f : LineFormat). AreEvents f 1 nothing_seen t.lines (events ++ e ∷ []) new.pending.items t.seen) (sym format)
+            (event_given old.format 1 nothing_seen t.lines events e new.pending.items t.seen was);
       };
-      seen = subst (λ (p : PortValue). HasSeen t.seen p) (sym port) has.seen;
+      seen = subst (λ (p : PointedPort). Follows t.seen p) (sym port) has.seen;
     }
 
 -- the same of a text that may not be known
 pub line_read_of : (start now later : Option (List ℕ)) (events : List Event) (line : List ℕ) (old new : Reading) → HasGivenOf start events old now
     → IfSome now (λ text. (line ≡ take_through 10 text) × (later ≡ Some (drop_through 10 text))) → 0 < length line → old.pending.items ≡ []
-    → TellsBy (λ flits. line_told old.format flits (old.number + 1) line) old.port new.pending.items new.port
+    → TellsBy (λ seen. line_told old.format seen (old.number + 1) line) old.port new.pending.items new.port
     → new.number ≡ old.number + 1 → new.format ≡ old.format → HasGivenOf start events new later
 line_read_of None now later events line old new has read some none tells number format = tt
 line_read_of (Some text) None later events line old new has read some none tells number format = absurd has
 line_read_of (Some text) (Some rest) later events line old new has (is, left) some none tells number format =
     subst (HasGivenOf (Some text) events new) (sym left)
     (line_read text rest events old new has (some_of rest (subst (λ (l : List ℕ). 0 < length l) is some)) none
-    (subst (λ (l : List ℕ). TellsBy (λ flits. line_told old.format flits (old.number + 1) l) old.port new.pending.items new.port) is tells) number format)
+    (subst (λ (l : List ℕ). TellsBy (λ seen. line_told old.format seen (old.number + 1) l) old.port new.pending.items new.port) is tells) number format)
   where
     some_of : (rest : List ℕ) → 0 < length (take_through 10 rest) → 0 < length rest
     some_of [] some = some
@@ -121,11 +121,11 @@ one_given_of (Some text) (Some rest) events old new e has is format port number 
         (subst (λ (l : List Event). AreTold old.format text old.number events l rest) is has.told))
 
 -- nothing was read
-pub none_given : (r : Reading) → HasSeen [] r.port → r.number ≡ 0 → r.pending.items ≡ [] → (start : Option (List ℕ)) → HasGivenOf start [] r start
+pub none_given : (r : Reading) → Follows nothing_seen r.port → r.number ≡ 0 → r.pending.items ≡ [] → (start : Option (List ℕ)) → HasGivenOf start [] r start
 unfolding AreEvents AreLines
 none_given r seen first none None = tt
 none_given r seen first none (Some text) = record {
-  told = record { lines = []; seen = []; count_is = sym first; are_lines = refl; are_events = (refl, none, refl) };
+  told = record { lines = []; seen = nothing_seen; count_is = sym first; are_lines = refl; are_events = (refl, none, refl) };
   seen = seen;
 }
 
@@ -141,10 +141,10 @@ all_given (Some text) (Some rest) events r s has none blank (port, number) = rec
     seen = has.told.seen;
     count_is = has.told.count_is ∙ sym number;
     are_lines = has.told.are_lines;
-    are_events = subst (λ (l : List Event). AreEvents r.format 1 [] has.told.lines events l has.told.seen) none has.told.are_events;
+    are_events = subst (λ (l : List Event). AreEvents r.format 1 nothing_seen has.told.lines events l has.told.seen) none has.told.are_events;
   };
   blank = blank;
-  seen = subst (λ (p : PortValue). HasSeen has.told.seen p) (sym port) has.seen;
+  seen = subst (λ (p : PointedPort). Follows has.told.seen p) (sym port) has.seen;
 }
 
 -- all is told
@@ -153,7 +153,7 @@ all_told format text events r has = (r.number, has.rest, has.told, has.blank)
 
 -- or a line tells nothing
 pub line_refused : (start now : Option (List ℕ)) (events : List Event) (line : List ℕ) (r s : Reading) (f : LinesFault) → HasGivenOf start events r now → r.pending.items ≡ []
-    → IfSome now (λ text. line ≡ take_through 10 text) → RefusesBy (λ flits. line_told r.format flits (r.number + 1) line) r.port (r.number + 1) f
+    → IfSome now (λ text. line ≡ take_through 10 text) → RefusesBy (λ seen. line_told r.format seen (r.number + 1) line) r.port (r.number + 1) f
     → s.format ≡ r.format → ((f ≡ fault.Memory → ⊥) → s.number ≡ r.number) → s.line.items ≡ line
     → IfSome start (λ text. IsReadingFault r.format text events f × IsAtRefused text events s f)
 line_refused None now events line r s f has none is refuses format number last = tt
@@ -166,7 +166,7 @@ line_refused (Some text) (Some rest) events line r s f has none is refuses forma
       seen = has.told.seen;
       count_is = has.told.count_is;
       are_lines = has.told.are_lines;
-      are_events = subst (λ (l : List Event). AreEvents r.format 1 [] has.told.lines events l has.told.seen) none has.told.are_events;
+      are_events = subst (λ (l : List Event). AreEvents r.format 1 nothing_seen has.told.lines events l has.told.seen) none has.told.are_events;
     }
 
     by_fault : (f : LinesFault) → IsLineFault (line_told r.format has.told.seen (r.number + 1) line) (r.number + 1) f → ((f ≡ fault.Memory → ⊥) → s.number ≡ r.number)
@@ -215,10 +215,10 @@ same_given (Some text) (Some rest) events old new format number pending port has
         seen = t.seen;
         count_is = t.count_is ∙ sym number;
         are_lines = t.are_lines;
-        are_events = subst (λ (f : LineFormat). AreEvents f 1 [] t.lines events new.pending.items t.seen) (sym format)
-            (subst (λ (l : List Event). AreEvents old.format 1 [] t.lines events l t.seen) (sym pending) t.are_events);
+        are_events = subst (λ (f : LineFormat). AreEvents f 1 nothing_seen t.lines events new.pending.items t.seen) (sym format)
+            (subst (λ (l : List Event). AreEvents old.format 1 nothing_seen t.lines events l t.seen) (sym pending) t.are_events);
       };
-      seen = subst (λ (p : PortValue). HasSeen t.seen p) (sym port) has.seen;
+      seen = subst (λ (p : PointedPort). Follows t.seen p) (sym port) has.seen;
     }
 
 -- the line that was read

@@ -4,6 +4,7 @@ use Rattle.std.specs.Io.BufRead.{drop_through, take_through}
 use Rattle.chi_events.specs.declared.event.Event.{Event}
 use Rattle.chi_events.specs.declared.event.EventKind.{EventKind}
 use Rattle.chi_events.specs.declared.event.EventKind.TheVariants as kind
+use Rattle.chi_points.specs.PointedPort.{nothing_seen}
 use Rattle.chi_reading.specs.EventText.{event_text}
 use Rattle.chi_watch_text.specs.Lines.{AreLines}
 use Rattle.chi_watch_text.specs.LineTold.{event_told}
@@ -100,7 +101,7 @@ line_saved g numbers after number rest saved new all e some tells is noted left 
         }
 
 -- and no line is at fault
-pub none_refused : (g : ℕ) (numbers : ℕ → Bool) (number : ℕ) (rest saved all : List ℕ) (f : LinesFault) → 0 < length rest → IsLineFault (event_told [] (event_text number (take_through 10 rest))) number f
+pub none_refused : (g : ℕ) (numbers : ℕ → Bool) (number : ℕ) (rest saved all : List ℕ) (f : LinesFault) → 0 < length rest → IsLineFault (event_told nothing_seen (event_text number (take_through 10 rest))) number f
     → IsLeft g numbers number rest saved all → IsOfNoLine f
 unfolding AreOf AreLines
 none_refused g numbers number rest saved all fault.Read some refused left = tt
@@ -110,7 +111,7 @@ none_refused g numbers number rest saved all (fault.Line n f) some refused left 
     by_lines [] events none are = absurd (let empty = ap length none in omega (arith, some, empty))
     by_lines (line ∷ lines) [] more are = are
     by_lines (line ∷ lines) (d ∷ events) (more, line_is, are_lines) (told, are_events) =
-        let both : event_told [] (Ok d) ≡ Err f = ap (event_told []) (sym told ∙ ap (event_text number) line_is) ∙ refused.1 in cc
+        let both : event_told nothing_seen (Ok d) ≡ Err f = ap (event_told nothing_seen) (sym told ∙ ap (event_text number) line_is) ∙ refused.1 in cc
 none_refused g numbers number rest saved all (fault.Event n f) some refused left = refused
 none_refused g numbers number rest saved all fault.TooManyLines some refused left = tt
 none_refused g numbers number rest saved all fault.Write some refused left = refused

@@ -250,7 +250,7 @@ says_of w events has ending says = record {
 -- what is said of the text where it ends at its end
 pub at_end : (start now later : Option (List ℕ)) (time : ℕ) (ended : Bool) (found : List FoundGranule) (quiet : List Quiet) (going : Bool) (w : WatchValue) (r s : Reading) (kept : Option (Vec ℕ Global)) (watched : Watched)
     → HasTakenLines start time ended found quiet w r now → GivesNext start r now None s later → r.pending.items ≡ [] → AllPairs (λ a b. a.granule ≢ b.granule) found → (going ≡ false → found ≡ [])
-    → IsTold w found ended kept watched → watched.ending ≢ None → IfSome watched.ending (SaysAtEnd w) → ((flits : List Flit) → HasSeen flits s.port → watched.waiting.items ≡ first_waiting flits w.outstanding.requests)
+    → IsTold w found ended kept watched → watched.ending ≢ None → IfSome watched.ending (SaysAtEnd w) → ((flits : List Flit) → HasSeen flits s.port.port → watched.waiting.items ≡ first_waiting flits w.outstanding.requests)
     → AreKeptOf start kept now → IfSome start (λ text. IsWatched r.format text going watched)
 at_end None now later time ended found quiet going w r s kept watched has gives whole once first told some says waits are_kept = tt
 at_end (Some text) None later time ended found quiet going w r s kept watched has gives whole once first told some says waits are_kept = absurd has
@@ -274,7 +274,7 @@ at_end (Some text) (Some rest) later time ended found quiet going w r s kept wat
   where
     by_list : (o : Option Ending) → o ≢ None → HasGivenAll r.format text has.events s → AreListed r.format text has.events w o watched.waiting.items
     by_list None is_some all = absurd (is_some refl)
-    by_list (Some ending) is_some all = (s.number, all.rest, all.told, all.blank, waits all.told.seen all.seen)
+    by_list (Some ending) is_some all = (s.number, all.rest, all.told, all.blank, waits all.told.seen.flits all.seen.flits)
 
     by_ending : (o : Option Ending) → o ≢ None → IfSome o (SaysAtEnd w) → EndsAt r.format text going has.events found o
     by_ending None is_some said = absurd (is_some refl)

@@ -3,7 +3,7 @@ use Rattle.std.specs.Prelude.{◌≡◌, ℕ, ◌+◌, ◌<◌, ◌==◌, ◌||�
 use Rattle.std.specs.List.{list_all}
 use Rattle.std.specs.Io.BufRead.{drop_through, take_through}
 use Rattle.chi_events.specs.declared.event.Event.{Event}
-use Rattle.chi_flits.specs.declared.flit.Flit.{Flit}
+use Rattle.chi_points.specs.PointedPort.{Seen, nothing_seen}
 use Rattle.chi_watch_text.specs.LineTold.{Told, line_told, time_stated}
 use Rattle.chi_watch_text.specs.declared.line_format.LineFormat.{LineFormat}
 
@@ -20,22 +20,22 @@ is_space b = b == 32 || b == 9 || b == 10 || b == 13
 abbrev pub is_blank : List ℕ → Bool
 is_blank bytes = list_all is_space bytes
 
--- Lines tell these events, and the last of them more, where the first has this number and comes after some flits; these flits were
--- seen by then.
-unfoldable pub AreEvents : LineFormat → ℕ → List Flit → List (List ℕ) → List Event → List Event → List Flit → Type 0
-AreEvents format number flits [] events more seen = (events ≡ []) × (more ≡ []) × (seen ≡ flits)
-AreEvents format number flits (line ∷ []) events more seen = line_told format flits number line ≡ Ok (record { events = events ++ more; flits = seen })
-AreEvents format number flits (line ∷ next ∷ lines) events more seen =
-    (told : Told) × (line_told format flits number line ≡ Ok told)
-    × ((later : List Event) × (events ≡ told.events ++ later) × AreEvents format (number + 1) told.flits (next ∷ lines) later more seen)
+-- Lines tell these events, and the last of them more, where the first has this number and this was seen before it; that was seen by
+-- then.
+unfoldable pub AreEvents : LineFormat → ℕ → Seen → List (List ℕ) → List Event → List Event → Seen → Type 0
+AreEvents format number before [] events more seen = (events ≡ []) × (more ≡ []) × (seen ≡ before)
+AreEvents format number before (line ∷ []) events more seen = line_told format before number line ≡ Ok (record { events = events ++ more; seen = seen })
+AreEvents format number before (line ∷ next ∷ lines) events more seen =
+    (told : Told) × (line_told format before number line ≡ Ok told)
+    × ((later : List Event) × (events ≡ told.events ++ later) × AreEvents format (number + 1) told.seen (next ∷ lines) later more seen)
 
 -- the first lines of the text, so many of them, counted from 1, tell these events, and the last of them more; the rest follows
 pub record AreTold (format : LineFormat) (text : List ℕ) (count : ℕ) (events more : List Event) (rest : List ℕ) : Type 0 where
   pub lines : List (List ℕ)
-  pub seen : List Flit
+  pub seen : Seen
   pub count_is : length lines ≡ count
   pub are_lines : AreLines text lines rest
-  pub are_events : AreEvents format 1 [] lines events more seen
+  pub are_events : AreEvents format 1 nothing_seen lines events more seen
 
 -- all lines of the text do, and no others follow but blank ones
 abbrev pub AreToldAll : LineFormat → List ℕ → List Event → Type 0

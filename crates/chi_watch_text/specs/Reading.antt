@@ -2,8 +2,8 @@
 use Rattle.std.specs.Prelude.{◌≡◌, ℕ, ◌+◌, ◌<◌, true, List, [], ◌∷◌, ◌++◌, Option, None, Some, IfSome, IsSomeAnd, Result, Ok, Err}
 use Rattle.std.specs.Io.BufRead.{take_through}
 use Rattle.chi_events.specs.declared.event.Event.{Event}
-use Rattle.chi_flits.specs.Effects.{HasSeen, PortValue}
-use Rattle.chi_flits.specs.declared.flit.Flit.{Flit}
+use Rattle.chi_points.specs.PointedPort.{Follows, Seen}
+use Rattle.chi_points.specs.declared.pointed_port.PointedPort.{PointedPort}
 use Rattle.chi_watch_text.specs.LineTold.{Told, line_told, time_stated}
 use Rattle.chi_watch_text.specs.Lines.{AreTold, is_blank}
 use Rattle.chi_watch_text.specs.declared.fault.LinesFault.{LinesFault}
@@ -12,9 +12,9 @@ use Rattle.chi_watch_text.specs.declared.fault.TellingFault.{TellingFault}
 use Rattle.chi_watch_text.specs.declared.line_format.LineFormat.{LineFormat}
 use Rattle.chi_watch_text.specs.declared.reading.Reading.{Reading}
 
--- at a port that saw some flits, what is told after them is these events, and it has seen those that are told then
-abbrev pub TellsBy : (List Flit → Result Told TellingFault) → PortValue → List Event → PortValue → Type 0
-TellsBy told old events new = (flits : List Flit) → HasSeen flits old → (after : List Flit) × (told flits ≡ Ok (record { events = events; flits = after })) × HasSeen after new
+-- at a port that has seen something, what is told after that is these events, and it has seen what was seen then
+abbrev pub TellsBy : (Seen → Result Told TellingFault) → PointedPort → List Event → PointedPort → Type 0
+TellsBy told old events new = (seen : Seen) → Follows seen old → (after : Seen) × (told seen ≡ Ok (record { events = events; seen = after })) × Follows after new
 
 -- why the line with this number is refused, if memory does not end
 abbrev pub IsLineFault : Result Told TellingFault → ℕ → LinesFault → Type 0
@@ -25,13 +25,13 @@ IsLineFault told number fault.TooManyLines = ⊥
 IsLineFault told number fault.Write = ⊥
 IsLineFault told number fault.Memory = Unit {0}
 
-abbrev pub RefusesBy : (List Flit → Result Told TellingFault) → PortValue → ℕ → LinesFault → Type 0
-RefusesBy told old number f = (flits : List Flit) → HasSeen flits old → IsLineFault (told flits) number f
+abbrev pub RefusesBy : (Seen → Result Told TellingFault) → PointedPort → ℕ → LinesFault → Type 0
+RefusesBy told old number f = (seen : Seen) → Follows seen old → IsLineFault (told seen) number f
 
 -- The reading has given these events of the lines that it read, and the rest of the text follows.
 pub record HasGiven (text : List ℕ) (events : List Event) (r : Reading) (rest : List ℕ) : Type 0 where
   pub told : AreTold r.format text r.number events r.pending.items rest
-  pub seen : HasSeen told.seen r.port
+  pub seen : Follows told.seen r.port
 
 -- the same of a text that may not be known
 abbrev pub HasGivenOf : Option (List ℕ) → List Event → Reading → Option (List ℕ) → Type 0
@@ -71,7 +71,7 @@ pub record HasGivenAll (format : LineFormat) (text : List ℕ) (events : List Ev
   pub rest : List ℕ
   pub told : AreTold format text r.number events [] rest
   pub blank : is_blank rest ≡ true
-  pub seen : HasSeen told.seen r.port
+  pub seen : Follows told.seen r.port
 
 -- After the events that were given this one is given next, or the text tells no more.
 abbrev pub GivesNext : Option (List ℕ) → Reading → Option (List ℕ) → Option Event → Reading → Option (List ℕ) → Type 0

@@ -1,10 +1,11 @@
 //! Why lines are read no further.
 
 ghost use Rattle.std.specs.Prelude.{◌≡◌};
-ghost use Rattle.chi_watch_text.specs.Illegal.{begin_of, is_illegal, is_illegal_flit, is_illegal_line};
+ghost use Rattle.chi_watch_text.specs.Illegal.{begin_of, is_illegal, is_illegal_flit, is_illegal_line, is_illegal_pointed};
 
 use chi_flit_text::FlitLineFault;
 use chi_flits::FlitFault;
+use chi_points::PointFault;
 use chi_reading::LineFault;
 use chi_watch::WatchFault;
 use std::alloc::AllocError;
@@ -15,6 +16,8 @@ use thiserror::Error;
 /// - `Event`: it is no event.
 /// - `Flit`: it is no flit.
 /// - `Port`: its flit cannot come next.
+/// - `Points`: it cannot come next where requests are told at their points.
+/// - `OfPoint`: it is a point, and requests are not told at their points.
 /// - `OfRequest`: it is an event of a request among flits, by which such events are told.
 ///
 /// ```
@@ -28,6 +31,10 @@ pub enum TellingFault {
     Flit(FlitLineFault),
     #[error("{0}")]
     Port(FlitFault),
+    #[error("{0}")]
+    Points(PointFault),
+    #[error("is a point, and --points is not given")]
+    OfPoint,
     #[error("is an event of a request, and requests are told by flits")]
     OfRequest,
 }
@@ -47,6 +54,17 @@ fn is_illegal_flit(fault: &FlitFault) -> bool
     )
 }
 
+/// The same where requests have points.
+fn is_illegal_pointed(fault: &PointFault) -> bool
+    ensures { result ≡ is_illegal_pointed fault.now }
+{
+    match fault {
+        PointFault::Port(fault) => is_illegal_flit(fault),
+        PointFault::AfterEnd | PointFault::Memory => false,
+        PointFault::RetryLate | PointFault::NoPoint(_) => true,
+    }
+}
+
 impl TellingFault {
     /// Whether the line states a flit that no requester and no home send then.
     fn is_illegal(&self) -> bool
@@ -54,6 +72,7 @@ impl TellingFault {
     {
         match self {
             TellingFault::Port(fault) => is_illegal_flit(fault),
+            TellingFault::Points(fault) => is_illegal_pointed(fault),
             _ => false,
         }
     }
@@ -109,8 +128,9 @@ impl From<AllocError> for LinesFault {
 }
 
 impl LinesFault {
-    /// Whether a line states a flit that no requester and no home that keep to the protocol send then: the design does something
-    /// that it may not, or the monitor is not bound as it should be. It is false where a line is no flit, where time falls, and
+    /// Whether a line states a flit that no requester and no home that keep to the protocol send then, or where requests have points
+    /// a point for which none waits, or the end before one: the design does something that it may not, or the monitor is not bound
+    /// as it should be. It is false where a line is no flit, where time falls, and
     /// where something that is looked at is not known.
     ///
     /// ```

@@ -8,10 +8,11 @@ ghost use Rattle.chi_watch_text.specs.Reading.{BeginsWith, FailsNext, GivesNext,
 
 use crate::fault::LinesFault;
 use crate::line_format::LineFormat;
-use crate::line_told::{line_told, time_stated};
+use crate::line_stated::time_stated;
+use crate::line_told::line_told;
 use crate::lines::{is_at_end, is_blank, next_line};
 use chi_events::Event;
-use chi_flits::Port;
+use chi_points::PointedPort;
 use std::alloc::{AllocError, Global};
 use std::io::BufRead;
 
@@ -20,7 +21,7 @@ use std::io::BufRead;
 #[derive(Drop)]
 pub(crate) struct Reading {
     pub format: LineFormat,
-    pub port: Port,
+    pub port: PointedPort,
     pub line: Vec<u8>,
     pub number: u64,
     pub pending: Vec<Event>,
@@ -36,7 +37,7 @@ impl Reading {
     {
         Reading {
             format,
-            port: Port::new(alloc),
+            port: PointedPort::new(alloc),
             line: Vec::new(alloc),
             number: 0,
             pending: Vec::new(alloc),
@@ -66,8 +67,8 @@ impl Reading {
 
     /// Takes the line that was read, which has this number.
     fn take_line(&mut self, alloc: Global, number: u64) -> Result<(), LinesFault>
-        ensures told { IfOk result (λ _. TellsBy (λ flits. line_told self.old.format flits number self.old.line.items) self.old.port self.new.pending.items self.new.port) }
-        ensures fault { IfErr result (RefusesBy (λ flits. line_told self.old.format flits number self.old.line.items) self.old.port number) }
+        ensures told { IfOk result (λ _. TellsBy (λ seen. line_told self.old.format seen number self.old.line.items) self.old.port self.new.pending.items self.new.port) }
+        ensures fault { IfErr result (RefusesBy (λ seen. line_told self.old.format seen number self.old.line.items) self.old.port number) }
         ensures number { IfOk result (λ _. self.new.number ≡ number) }
         ensures lines { IfOk result (λ _. self.new.lines.items ≡ self.old.lines.items ++ self.old.line.items) }
         ensures line { self.new.line.items ≡ self.old.line.items }

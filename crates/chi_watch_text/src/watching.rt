@@ -236,7 +236,7 @@ fn watch_each<R: BufRead, W: Write, P: WatchProgress>(
             return Ok(ended(
                 alloc,
                 watch,
-                &reading.port,
+                &reading.port.port,
                 found,
                 is_ended,
                 kept,

@@ -8,6 +8,7 @@ mod flits;
 mod keep_going_tests;
 mod line_tests;
 mod operation_tests;
+mod point_tests;
 mod progress_tests;
 mod reach_text_tests;
 mod reader_tests;

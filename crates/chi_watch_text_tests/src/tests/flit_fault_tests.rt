@@ -7,7 +7,7 @@ use chi_events::EventFault;
 use chi_flit_text::{FlitLineFault, FlitMember};
 use chi_flits::FlitFault;
 use chi_json::ObjectFault;
-use chi_reading::{LineFault, Member};
+use chi_reading::LineFault;
 use chi_watch::WatchFault;
 use chi_watch_text::{LineFormat, LinesFault, TellingFault, read_events, read_operations};
 use std::test::Fail;
@@ -116,11 +116,10 @@ fn faults_and_their_texts(rt: HostRuntime) -> Result<(), Fail> {
 // Operations and a trace are refused for the same reason. A flit is no event.
 #[test]
 fn faults_of_operations_and_traces(rt: HostRuntime) -> Result<(), Fail> {
-    let missing = LineFault::Object(ObjectFault::Missing(Member::Event));
     let text = joined(rt.alloc(), &[READ, FIVE, FIVE])?;
     for (format, fault) in [
         (LineFormat::Flits, at_port(3, FlitFault::NotOpen)),
-        (LineFormat::Events, no_event(1, missing)),
+        (LineFormat::Events, no_event(1, LineFault::OfFlits)),
     ] {
         let mut from = text.as_slice();
         let found = read_operations(rt.alloc(), &mut from, format).err();
@@ -132,6 +131,6 @@ fn faults_of_operations_and_traces(rt: HostRuntime) -> Result<(), Fail> {
     let found = watched(rt.alloc(), &[READ], &STOPPING)
         .err()
         .map(|it| it.fault);
-    assert_same(&rt, found, Some(no_event(1, missing)));
+    assert_same(&rt, found, Some(no_event(1, LineFault::OfFlits)));
     Ok(())
 }

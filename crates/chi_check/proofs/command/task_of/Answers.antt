@@ -1,6 +1,6 @@
 -- What is answered to the arguments is what `clap` finds in them, or out of memory. The task and its options are those
 -- of the subcommand that it finds.
-use Rattle.std.proofs.Common.{map, string_bytes}
+use Rattle.std.proofs.Common.{inr, map, string_bytes, sym, ◌∙◌}
 use Rattle.std.proofs.lemmas.Result.{err_from_is_err_and}
 use Rattle.clap.specs.Matches.{found_of}
 use Rattle.clap.specs.Simple.{app_of}
@@ -39,3 +39,12 @@ returns-clause-first c =
     let found = rows_of (found_of c.in-Some.matches.now) in
     let found_so = finds app arguments c.in_ok-matches.matches name found is c.in_ok-matches.ensures.matches c.in-Some.ensures.name c.in-Some.ensures.rows in
     named_first arguments name found c.in_ok-chosen_task.field-0 found_so c.in_ok-chosen_task.ensures.named
+
+pub returns-then-lacks_flits-clause-refused : goal.returns-then-lacks_flits-clause-refused
+returns-then-lacks_flits-clause-refused c =
+    let app = app_of c.in_ok-whole_command.field-0 in
+    let is = c.in_ok-whole_command.ensures.app in
+    let name = c.in-Some.name.now in
+    let found = rows_of (found_of c.in-Some.matches.now) in
+    let found_so = finds app (map string_bytes c.args.arguments.now) c.in_ok-matches.matches name found is c.in_ok-matches.ensures.matches c.in-Some.ensures.name c.in-Some.ensures.rows in
+    inr (c.in_ok-points_alone.ensures.kind, (name, found, found_so, sym c.lacks_flits.ensures ∙ c.if-lacks_flits.true))

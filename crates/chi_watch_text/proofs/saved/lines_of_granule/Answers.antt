@@ -1,8 +1,9 @@
 -- line by line what tells of the granule is saved
-use Rattle.std.proofs.Common.{◌≡◌, ◌∙◌, ℕ, ◌+◌, ◌++◌, List, [], IfErr, Result, Ok, length, ap, eqb-true, subst, sym}
+use Rattle.std.proofs.Common.{◌≡◌, ◌∙◌, ℕ, ◌+◌, ◌++◌, List, IfErr, Result, Ok, length, ap, eqb-true, subst, sym}
 use Rattle.std.specs.BTreeSet.{contains}
 use Rattle.std.specs.Io.BufRead.{drop_through, take_through}
 use Rattle.std.specs.Ordering.{nat_cmp}
+use Rattle.chi_points.specs.PointedPort.{nothing_seen}
 use Rattle.chi_reading.specs.EventText.{event_text}
 use Rattle.chi_watch_text.specs.LineTold.{event_told}
 use Rattle.chi_watch_text.specs.Reading.{IsLineFault}
@@ -22,7 +23,7 @@ returns-in_err-event-clause-fault c =
     let rest = c.loop-number.from.now in
     let some = some_left rest c.is_empty.result c.is_empty.ensures c.if-is_empty.false in
     let read = c.in_ok-next_line.ensures.line in
-    let refused = subst (λ (l : List ℕ). IsLineFault (event_told [] (event_text c.loop-number.number l)) c.loop-number.number c.in_err-event.field-0.0) (c.deref.ensures.value ∙ read.0) c.in_err-event.ensures.fault in
+    let refused = subst (λ (l : List ℕ). IsLineFault (event_told nothing_seen (event_text c.loop-number.number l)) c.loop-number.number c.in_err-event.field-0.0) (c.deref.ensures.value ∙ read.0) c.in_err-event.ensures.fault in
     passed_on c.from_residual-in_err-event.result c.in_err-event.field-0.0 (λ (r : Result _ LinesFault). IfErr r (IsSavingFault c.args.text.now)) c.from_residual-in_err-event.ensures.1
     (λ lines events whole. none_refused c.args.granule (contains nat_cmp c.loop-number.numbers) c.loop-number.number rest c.loop-number.saved.items _ c.in_err-event.field-0.0 some refused
     (c.loop-number.invariant.left lines events whole))

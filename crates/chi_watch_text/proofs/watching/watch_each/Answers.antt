@@ -20,7 +20,7 @@ use Rattle.chi_watch_text.specs.declared.watched.Watched.{Watched}
 use Rattle.chi_watch_text.proofs.KeptLines.{keeps_still, lines_kept_more, none_kept}
 use Rattle.chi_watch_text.proofs.Readings.{none_pending}
 use Rattle.chi_watch_text.proofs.RefusedLater.{found_refused, refused_fault}
-use Rattle.chi_watch_text.proofs.ToldTexts.{at_fault, begun_more, but_at_fault, told_more}
+use Rattle.chi_watch_text.proofs.ToldTexts.{whole_front, at_fault, begun_more, but_at_fault, told_more}
 use Rattle.chi_watch_text.proofs.Told.{at_end, at_stop, event_taken, far_at_end, found_of, found_so_far, kept_at_fault, none_found, none_taken, passed_on, reached_by_found, settled, took, undecided_after, unreached_all, unreached_at_end}
 use Rattle.chi_watch_text.proofs.Refused.{but_write, held_up, where_not_taken, where_refused}
 use Rattle.chi_watch_text.proofs.watching.watch_each.Goals as goal
@@ -275,3 +275,6 @@ returns-in_err-ended-clause-kept g c =
     but_at_fault c.from_residual-in_err-ended.result (λ x. x ≡ fault.Write → ⊥) (Appends (g.W.Write.contents c.args.to.now) (g.W.Write.contents c.judge_quiet.new.to) (flat_map found_text c.ended.new.found.items))
     (subst (λ (l : List FoundGranule). Appends (g.W.Write.contents c.args.to.now) (g.W.Write.contents c.judge_quiet.new.to) (flat_map found_text l)) (sym c.in_err-ended.ensures.kept)
     (told_more c.loop.found.items c.judge_quiet.new.found.items (g.W.Write.contents c.args.to.now) (g.W.Write.contents c.loop.to) (g.W.Write.contents c.judge_quiet.new.to) c.loop.invariant.written c.in_ok-judge_quiet.ensures.told))
+
+pub returns-clause-begun : goal.returns-clause-begun
+returns-clause-begun g c = whole_front (g.W.Write.contents c.args.to.now) (g.W.Write.contents c.loop.to) (flat_map found_text c.loop.found.items) c.loop.invariant.written

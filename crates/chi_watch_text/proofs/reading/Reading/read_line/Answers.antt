@@ -22,7 +22,7 @@ returns-in-Ok-clause-read g c = λ _ start events has.
     let number : c.in-Some.number ≡ old.number + 1 = c.in-Some.ensures.1 in
     let some : 0 < length line = subst (λ n. 0 < n) c.next_line.new.line.ok.0 (some_read c.next_line.new.line.len c.is_empty.result c.is_empty.ensures c.if-is_empty.false) in
     line_read_of start (g.R.Read.remaining c.args.from.now) (g.R.Read.remaining c.next_line.new.from) events line old new has c.in_ok-next_line.ensures.line some c.requires
-    (subst (λ (n : ℕ). TellsBy (λ flits. line_told old.format flits n line) old.port new.pending.items new.port) number c.in-Ok.ensures.told) (c.in-Ok.ensures.number ∙ number) c.take_line.ensures.format
+    (subst (λ (n : ℕ). TellsBy (λ seen. line_told old.format seen n line) old.port new.pending.items new.port) number c.in-Ok.ensures.told) (c.in-Ok.ensures.number ∙ number) c.take_line.ensures.format
 
 pub returns-in-Ok-clause-lines : goal.returns-in-Ok-clause-lines
 returns-in-Ok-clause-lines g c = λ _ begin begins.
@@ -36,7 +36,7 @@ returns-then-not-is_blank-clause-fault g c = λ start events has.
     let now = g.R.Read.remaining c.args.from.now in
     let number : c.in-Some.number ≡ old.number + 1 = c.in-Some.ensures.1 in
     line_refused start now events line old c.take_line.new.self c.in-Err.fault has c.requires (line_of now (g.R.Read.remaining c.next_line.new.from) line c.in_ok-next_line.ensures.line)
-    (subst (λ (n : ℕ). RefusesBy (λ flits. line_told old.format flits n line) old.port n c.in-Err.fault) number c.in-Err.ensures.fault) c.take_line.ensures.format c.in-Err.ensures.refused c.take_line.ensures.line
+    (subst (λ (n : ℕ). RefusesBy (λ seen. line_told old.format seen n line) old.port n c.in-Err.fault) number c.in-Err.ensures.fault) c.take_line.ensures.format c.in-Err.ensures.refused c.take_line.ensures.line
 
 pub returns-then-branch-clause-ended : goal.returns-then-branch-clause-ended
 returns-then-branch-clause-ended g c = λ _.
@@ -51,4 +51,4 @@ returns-clause-fault g c = λ start events has.
     let now = g.R.Read.remaining c.args.from.now in
     let number : c.in-Some.number ≡ old.number + 1 = c.in-Some.ensures.1 in
     line_refused start now events line old (record c.take_line.new.self { lines = c.is_at_end.new.line }) c.in-Err.fault has c.requires (line_of now (g.R.Read.remaining c.next_line.new.from) line c.in_ok-next_line.ensures.line)
-    (subst (λ (n : ℕ). RefusesBy (λ flits. line_told old.format flits n line) old.port n c.in-Err.fault) number c.in-Err.ensures.fault) c.take_line.ensures.format c.in-Err.ensures.refused c.take_line.ensures.line
+    (subst (λ (n : ℕ). RefusesBy (λ seen. line_told old.format seen n line) old.port n c.in-Err.fault) number c.in-Err.ensures.fault) c.take_line.ensures.format c.in-Err.ensures.refused c.take_line.ensures.line

@@ -1,0 +1,3 @@
+mod KindsLeft
+mod OnePoint
+mod Steps

@@ -1,0 +1,5 @@
+pub mod Known
+pub mod Points
+pub mod PointFaults
+pub mod PointedPort
+pub mod PointLaws
