@@ -60,7 +60,7 @@ trap 'rm -f "$pipe"' EXIT
 declare -A simulated watched answer found stopped
 watch() { # events or flits, the build, and plusargs: sets the statuses of both programs and the first line of the answer
   local told=$1 other=flits flags="" fault="chi_monitor: cycle [0-9]*: an event cannot be written"
-  [ "$told" = events ] || other=events flags=--flits fault="chi_flits: time [0-9]*: no line can be written"
+  [ "$told" = events ] || other=events flags=$asked fault="chi_flits: time [0-9]*: no line can be written"
   timeout -k 5 120 $checker watch $flags --require-end --require-quiet < "$pipe" > "out/dv_answer_$told" 2>&1 &
   simulated[$told]=0 watched[$told]=0
   # Where chicheck has stopped the monitor sees that it cannot write, and ends the simulation by $fatal.
@@ -72,9 +72,8 @@ watch() { # events or flits, the build, and plusargs: sets the statuses of both 
   answer[$told]=$(head -n 1 "out/dv_answer_$told")
 }
 # Events and flits of one run have to agree on the status of chicheck, and where it is 0 on the whole answer.
-watch_all() { # the build, and plusargs: as watch, by all that the build tells
-  for told in $tellings; do watch "$told" "$@"; done
-  [ "$tellings" != events ] || return 0
+watch_all() { # the build, and plusargs: as watch, by both
+  for told in events flits; do watch "$told" "$@"; done
   [ ${watched[events]} = ${watched[flits]} ] && { [ ${watched[events]} != 0 ] || cmp -s out/dv_answer_events out/dv_answer_flits; } \
     || fail "$*: by events chicheck ends with ${watched[events]}: $(cat out/dv_answer_events)" \
       "by flits it ends with ${watched[flits]}: $(cat out/dv_answer_flits)"
@@ -82,32 +81,32 @@ watch_all() { # the build, and plusargs: as watch, by all that the build tells
 mistakes=("" "a lost update" "a stale read" "byte enables ignored" "a compare that writes on a mismatch" "the wrong half of the window"
   "no sign in SMAX" "a retried request that took effect" "a response for another TxnID")
 for kind in 128 256 512 point; do
-  flags="-GDataWidth=$kind" tellings="events flits"
-  [ $kind != point ] || flags="-GSeesPoint=1'b1" tellings=events # flits have no points
+  flags="-GDataWidth=$kind" asked=--flits # what the flits are watched with
+  [ $kind != point ] || flags="-GSeesPoint=1'b1" asked="--flits --points"
   build out/dv_channels_$kind chi_channels_tb $flags \
     dv/chi_stimulus.sv dv/chi_home_node.sv dv/chi_monitor.sv dv/chi_flits.sv dv/chi_channels_tb.sv
   for seed in $(seq "$seeds"); do
     for more in "" +errors; do
       watch_all $kind "+seed=$seed" $more
-      for told in $tellings; do
+      for told in events flits; do
         [ "${simulated[$told]} ${watched[$told]}" = "0 0" ] || fail "$kind, seed $seed $more: by $told the home node ends with" \
           "${simulated[$told]}, and chicheck with ${watched[$told]}: $(cat out/dv_answer_$told out/dv_said_$told)"
       done
     done
   done
-  echo "$kind, by ${tellings/ / and }: $seeds seeds are explained, also with errors; of the last $(grep '^chi_monitor: [0-9]' out/dv_said_events)"
+  echo "$kind, by events and flits: $seeds seeds are explained, also with errors; of the last $(grep '^chi_monitor: [0-9]' out/dv_said_events)"
   for mistake in 1 2 3 4 5 6 7 8; do
-    for told in $tellings; do found[$told]=0 stopped[$told]=0; done
+    for told in events flits; do found[$told]=0 stopped[$told]=0; done
     for seed in $(seq "$seeds"); do
       watch_all $kind "+seed=$seed" "+mistake=$mistake"
-      for told in $tellings; do
+      for told in events flits; do
         [ ${watched[$told]} = 0 ] || [ ${watched[$told]} = 1 ] \
           || fail "$kind, seed $seed, mistake $mistake: by $told chicheck ends with ${watched[$told]}: $(cat out/dv_answer_$told)"
         [[ ! ${answer[$told]} =~ ^(not explained|chicheck: not legal at the port): ]] || found[$told]=$((${found[$told]} + 1))
         [ ${simulated[$told]} = 0 ] || stopped[$told]=$((${stopped[$told]} + 1))
       done
     done
-    for told in $tellings; do
+    for told in events flits; do
       [ $((16 * ${found[$told]})) -ge $((15 * seeds)) ] && [ ${found[$told]} -ge ${found[events]} ] \
         || fail "$kind: ${mistakes[mistake]} is found with ${found[$told]} of $seeds seeds by $told, and with ${found[events]} by events"
       [ ${stopped[$told]} -gt 0 ] || fail "$kind: ${mistakes[mistake]} stops no simulation by $told"
@@ -116,7 +115,7 @@ for kind in 128 256 512 point; do
     done
   done
   watch_all $kind +seed=1 +mistake=9
-  for told in $tellings; do
+  for told in events flits; do
     [ "${watched[$told]} ${answer[$told]} $(grep '^required: ' out/dv_answer_$told | cut -d , -f 1)" \
       = "1 explained required: no request is outstanding" ] && grep -q ' is open,' out/dv_said_$told \
       || fail "$kind, by $told: a request without an answer: $(cat out/dv_answer_$told out/dv_said_$told)"
