@@ -1,8 +1,7 @@
 #!/usr/bin/env bash
-# Runs the benches in Verilator. The one with the reference has to agree, and to find each of three planted mistakes. Those with
-# the monitor tell events: of flits by hand just those that were worked, and of a home node by chance events that chicheck watch
-# explains while they come, or that stop it and with it the simulation, where a mistake is planted; chicheck watch --flits does so by
-# its flits; and 100,000 requests of it cover all traffic that they can. Flits with an x are those of a bench in Icarus Verilog. Of
+# Runs the benches in Verilator. The one with the reference has to agree, and to find each of three planted mistakes. Of the one with
+# a home node by chance chicheck watch --flits explains the flits while they come, or stops, and with it the simulation, where a mistake
+# is planted; and 100,000 requests of it cover all traffic that they can. Flits with an x are those of a bench in Icarus Verilog. Of
 # the waves of both benches chi-waves tells the lines that the monitor of flits wrote. A bench in VHDL, in GHDL, has the lines that
 # were worked by hand.
 # dv/run.sh [SEEDS [REQUESTS]]
@@ -39,89 +38,53 @@ for bug in 1 2 3; do
   printf '%s\n' "$found" | grep '^tb:'
 done
 
-build out/dv_directed chi_directed_tb dv/chi_monitor.sv dv/chi_directed_tb.sv
-$limited out/dv_directed/Vchi_directed_tb +events=out/dv_directed.jsonl > out/dv_directed/said.log || fail "the flits by hand stop the simulation"
-diff dv/directed.jsonl out/dv_directed.jsonl || fail "the flits by hand give other events"
-echo "flits by hand: $(wc -l < dv/directed.jsonl) events"
-build out/dv_stray chi_directed_tb "-GStopsAtStray=1'b1" dv/chi_monitor.sv dv/chi_directed_tb.sv
-if $limited out/dv_stray/Vchi_directed_tb +events=out/dv_stray.jsonl > out/dv_stray/said.log 2>&1; then
-  fail "the first stray flit by hand does not end the simulation"
-fi
-stray=$(grep -m 1 '^chi_monitor: cycle ' out/dv_directed/said.log)
-grep -qF "$stray" out/dv_stray/said.log || fail "the simulation does not end at the first stray flit: $(cat out/dv_stray/said.log)"
-cmp -n "$(wc -c < out/dv_stray.jsonl)" dv/directed.jsonl out/dv_stray.jsonl || fail "up to the first stray flit the events are others"
-echo "where a stray flit is to stop the simulation: $stray"
-
 checker=crates/chi_check/out/chi_check
 .ci/built chicheck
 pipe=$(mktemp -u)
 mkfifo "$pipe"
 trap 'rm -f "$pipe"' EXIT
-declare -A simulated watched answer found stopped
-watch() { # events or flits, the build, and plusargs: sets the statuses of both programs and the first line of the answer
-  local told=$1 other=flits flags="" fault="chi_monitor: cycle [0-9]*: an event cannot be written"
-  [ "$told" = events ] || other=events flags=$asked fault="chi_flits: time [0-9]*: no line can be written"
-  timeout -k 5 120 $checker watch $flags --require-end --require-quiet < "$pipe" > "out/dv_answer_$told" 2>&1 &
-  simulated[$told]=0 watched[$told]=0
+watch() { # the build, and plusargs: sets the statuses of both programs and the first line of the answer
+  simulated=0 watched=0
+  timeout -k 5 120 $checker watch $asked --require-end --require-quiet < "$pipe" > out/dv_answer 2>&1 &
   # Where chicheck has stopped the monitor sees that it cannot write, and ends the simulation by $fatal.
-  { (trap '' PIPE; $limited "out/dv_channels_$2/Vchi_channels_tb" "+$told=$pipe" "+$other=/dev/null" "+requests=$requests" "${@:3}") \
-    > "out/dv_said_$told" 2>&1; } 2> /dev/null || simulated[$told]=$?
-  [ ${simulated[$told]} = 0 ] || grep -q "$fault (Broken pipe)" "out/dv_said_$told" \
-    || fail "$*: the simulation ends with ${simulated[$told]}: $(cat "out/dv_said_$told")"
-  wait $! || watched[$told]=$?
-  answer[$told]=$(head -n 1 "out/dv_answer_$told")
-}
-# Events and flits of one run have to agree on the status of chicheck, and where it is 0 on the whole answer.
-watch_all() { # the build, and plusargs: as watch, by both
-  for told in events flits; do watch "$told" "$@"; done
-  [ ${watched[events]} = ${watched[flits]} ] && { [ ${watched[events]} != 0 ] || cmp -s out/dv_answer_events out/dv_answer_flits; } \
-    || fail "$*: by events chicheck ends with ${watched[events]}: $(cat out/dv_answer_events)" \
-      "by flits it ends with ${watched[flits]}: $(cat out/dv_answer_flits)"
+  { (trap '' PIPE; $limited "out/dv_channels_$1/Vchi_channels_tb" "+flits=$pipe" "+requests=$requests" "${@:2}") > out/dv_said 2>&1; } \
+    2> /dev/null || simulated=$?
+  [ $simulated = 0 ] || grep -q "chi_flits: time [0-9]*: no line can be written (Broken pipe)" out/dv_said \
+    || fail "$*: the simulation ends with $simulated: $(cat out/dv_said)"
+  wait $! || watched=$?
+  answer=$(head -n 1 out/dv_answer)
 }
 mistakes=("" "a lost update" "a stale read" "byte enables ignored" "a compare that writes on a mismatch" "the wrong half of the window"
   "no sign in SMAX" "a retried request that took effect" "a response for another TxnID")
 for kind in 128 256 512 point; do
   flags="-GDataWidth=$kind" asked=--flits # what the flits are watched with
   [ $kind != point ] || flags="-GSeesPoint=1'b1" asked="--flits --points"
-  build out/dv_channels_$kind chi_channels_tb $flags \
-    dv/chi_stimulus.sv dv/chi_home_node.sv dv/chi_monitor.sv dv/chi_flits.sv dv/chi_channels_tb.sv
+  build out/dv_channels_$kind chi_channels_tb $flags dv/chi_stimulus.sv dv/chi_home_node.sv dv/chi_flits.sv dv/chi_channels_tb.sv
   for seed in $(seq "$seeds"); do
     for more in "" +errors; do
-      watch_all $kind "+seed=$seed" $more
-      for told in events flits; do
-        [ "${simulated[$told]} ${watched[$told]}" = "0 0" ] || fail "$kind, seed $seed $more: by $told the home node ends with" \
-          "${simulated[$told]}, and chicheck with ${watched[$told]}: $(cat out/dv_answer_$told out/dv_said_$told)"
-      done
+      watch $kind "+seed=$seed" $more
+      [ "$simulated $watched" = "0 0" ] \
+        || fail "$kind, seed $seed $more: the home node ends with $simulated, and chicheck with $watched: $(cat out/dv_answer out/dv_said)"
     done
   done
-  echo "$kind, by events and flits: $seeds seeds are explained, also with errors; of the last $(grep '^chi_monitor: [0-9]' out/dv_said_events)"
+  echo "$kind: $seeds seeds are explained, also with errors; of the last:$(grep -m 1 '^  operations that ended' out/dv_answer)"
   for mistake in 1 2 3 4 5 6 7 8; do
-    for told in events flits; do found[$told]=0 stopped[$told]=0; done
+    found=0 stopped=0
     for seed in $(seq "$seeds"); do
-      watch_all $kind "+seed=$seed" "+mistake=$mistake"
-      for told in events flits; do
-        [ ${watched[$told]} = 0 ] || [ ${watched[$told]} = 1 ] \
-          || fail "$kind, seed $seed, mistake $mistake: by $told chicheck ends with ${watched[$told]}: $(cat out/dv_answer_$told)"
-        [[ ! ${answer[$told]} =~ ^(not explained|chicheck: not legal at the port): ]] || found[$told]=$((${found[$told]} + 1))
-        [ ${simulated[$told]} = 0 ] || stopped[$told]=$((${stopped[$told]} + 1))
-      done
+      watch $kind "+seed=$seed" "+mistake=$mistake"
+      [ $watched = 0 ] || [ $watched = 1 ] || fail "$kind, seed $seed, mistake $mistake: chicheck ends with $watched: $(cat out/dv_answer)"
+      [[ ! $answer =~ ^(not explained|chicheck: not legal at the port): ]] || found=$((found + 1))
+      [ $simulated = 0 ] || stopped=$((stopped + 1))
     done
-    for told in events flits; do
-      [ $((16 * ${found[$told]})) -ge $((15 * seeds)) ] && [ ${found[$told]} -ge ${found[events]} ] \
-        || fail "$kind: ${mistakes[mistake]} is found with ${found[$told]} of $seeds seeds by $told, and with ${found[events]} by events"
-      [ ${stopped[$told]} -gt 0 ] || fail "$kind: ${mistakes[mistake]} stops no simulation by $told"
-      echo "$kind, by $told: ${mistakes[mistake]} is found with ${found[$told]} of $seeds seeds, and stops the simulation with" \
-        "${stopped[$told]}; with the last: ${answer[$told]}"
-    done
+    [ $((16 * found)) -ge $((15 * seeds)) ] || fail "$kind: ${mistakes[mistake]} is found with $found of $seeds seeds"
+    [ $stopped -gt 0 ] || fail "$kind: ${mistakes[mistake]} stops no simulation"
+    echo "$kind: ${mistakes[mistake]} is found with $found of $seeds seeds, and stops the simulation with $stopped; with the last: $answer"
   done
-  watch_all $kind +seed=1 +mistake=9
-  for told in events flits; do
-    [ "${watched[$told]} ${answer[$told]} $(grep '^required: ' out/dv_answer_$told | cut -d , -f 1)" \
-      = "1 explained required: no request is outstanding" ] && grep -q ' is open,' out/dv_said_$told \
-      || fail "$kind, by $told: a request without an answer: $(cat out/dv_answer_$told out/dv_said_$told)"
-    echo "$kind, by $told: where a request is not answered all is ${answer[$told]}, and $(tail -n 1 out/dv_answer_$told); the first" \
-      "that is open: $(grep -m 1 ' is open,' out/dv_said_$told)"
-  done
+  watch $kind +seed=1 +mistake=9
+  hangs=$(grep -m 1 '^    line [0-9]* since [0-9]*: .* waits for its reply$' out/dv_answer) \
+    && [ "$watched $answer $(grep '^required: ' out/dv_answer | cut -d , -f 1)" = "1 explained required: no request is outstanding" ] \
+    || fail "$kind: a request without an answer: $(cat out/dv_answer out/dv_said)"
+  echo "$kind: where a request is not answered all is $answer, and $(tail -n 1 out/dv_answer); the first that is outstanding:$hangs"
 done
 
 same_by_waves() { # the folder of a run with flits.jsonl, and waves.vcd of the same run
@@ -130,9 +93,9 @@ same_by_waves() { # the folder of a run with flits.jsonl, and waves.vcd of the s
   cmp "$1/flits.jsonl" "$1/by_waves.jsonl" || fail "the waves of $1 have other flits than the monitor wrote"
 }
 build out/dv_waves chi_channels_tb --trace -GDataWidth=256 \
-  dv/chi_stimulus.sv dv/chi_home_node.sv dv/chi_monitor.sv dv/chi_flits.sv dv/chi_channels_tb.sv
+  dv/chi_stimulus.sv dv/chi_home_node.sv dv/chi_flits.sv dv/chi_channels_tb.sv
 for more in "" +errors; do
-  $limited out/dv_waves/Vchi_channels_tb +events=/dev/null +flits=out/dv_waves/flits.jsonl +waves=out/dv_waves/waves.vcd \
+  $limited out/dv_waves/Vchi_channels_tb +flits=out/dv_waves/flits.jsonl +waves=out/dv_waves/waves.vcd \
     +requests=2000 $more > out/dv_waves/said.log 2>&1 || fail "the bench with waves ends with a fault: $(cat out/dv_waves/said.log)"
   same_by_waves out/dv_waves
 done
@@ -191,8 +154,8 @@ else
 fi
 
 # What the traffic of the bench covers: every bin but the one that a home of eight places cannot have.
-dv/events.sh out/dv_events.jsonl > out/dv_said 2>&1 || fail "the bench that writes events ends with a fault: $(cat out/dv_said)"
-$checker cover --events out/dv_events.jsonl > out/dv_cover || fail "chicheck cover ends with a fault"
+dv/flits.sh out/dv_flits.jsonl > out/dv_said 2>&1 || fail "the bench that writes flits ends with a fault: $(cat out/dv_said)"
+$checker cover --flits out/dv_flits.jsonl > out/dv_cover || fail "chicheck cover ends with a fault"
 missing=$(grep -E '^missing: (open|an overlap|.* while )' out/dv_cover | grep -vx 'missing: open more than 8' || true)
 [ -z "$missing" ] || fail "of the traffic of 100,000 requests: $missing"
 echo "100,000 requests: $(grep -E '^(open at once|overlaps|requesters|covered): ' out/dv_cover | paste -sd ';')"
