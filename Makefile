@@ -9,7 +9,7 @@ DIST := out/dist/chi-$(VERSION)
 SCRIPT ?= examples/fetch_add.json
 SECONDS ?= 10
 
-.PHONY: help try build checker example run soak test page-test edits lib dv install dist bench bench-c bench-explain corpus
+.PHONY: help try build checker example run soak test page-test edits clauses lib dv install dist bench bench-c bench-explain corpus
 
 help:
 	@echo "make try [SCRIPT=FILE]     build chihome with no proof, and show a script and the transcript of chihome run"
@@ -17,6 +17,7 @@ help:
 	@echo "make test                  the gate: every proof from nothing, the edits that must fail, tests, runs and what the documents show"
 	@echo "make page-test [PICTURE=F] the pages of a trace and of a coverage, opened in Chromium: what they show, keys and mouse, and how soon they open"
 	@echo "make edits [CRATES=..]     all edits of some crates or of all, also those outside the gate: the prover must refuse each"
+	@echo "make clauses               out/CLAUSES.md: each public call, what it does, the clauses of its contract, and where it stands"
 	@echo "make checker               chicheck, proved: the program that explains traces"
 	@echo "make soak [SECONDS=N]      four workers race at the lock-free store for so many seconds, 10 if not said, while chicheck watches"
 	@echo "make lib                   out/libchi_c.a and out/libchi.so, for C, C++, SystemVerilog and Python"
@@ -71,6 +72,9 @@ page-test: checker
 
 edits:
 	.ci/edits $(CRATES)
+
+clauses:
+	tools/clauses
 
 lib:
 	@$(call quiet,.ci/libraries chi_c)
