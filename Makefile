@@ -90,7 +90,7 @@ install: build checker lib
 	install -D -m 755 out/libchi.so "$(DESTDIR)$(PREFIX)/lib/libchi.so"
 	install -D -m 644 include/chi.h "$(DESTDIR)$(PREFIX)/include/chi.h"
 	install -d "$(DESTDIR)$(PREFIX)/share/chi"
-	install -m 644 dv/chi_pkg.sv dv/chi_flits.sv dv/chi_flits.vhd dv/chi_stimulus.sv dv/chi_dv.c docs/FLITS.md docs/MONITORS.md docs/WAVES.md VERSION "$(DESTDIR)$(PREFIX)/share/chi"
+	install -m 644 dv/chi_pkg.sv dv/chi_flits.sv dv/chi_flits.vhd dv/chi_stimulus.sv dv/chi_dv.c docs/GUIDE.md docs/FLITS.md docs/MONITORS.md docs/WAVES.md VERSION "$(DESTDIR)$(PREFIX)/share/chi"
 	install -d "$(DESTDIR)$(PREFIX)/share/chi/python/chi" "$(DESTDIR)$(PREFIX)/share/chi/python/chi_waves"
 	install -m 644 python/pyproject.toml python/setup.py "$(DESTDIR)$(PREFIX)/share/chi/python"
 	install -m 644 python/chi/*.py "$(DESTDIR)$(PREFIX)/share/chi/python/chi"
