@@ -1,6 +1,7 @@
 pub mod AllRead
 pub mod Blank
 pub mod EachEvent
+pub mod ErrorsTold
 pub mod KeptLines
 pub mod KnownWords
 pub mod Readings

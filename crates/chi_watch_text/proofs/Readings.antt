@@ -3,11 +3,13 @@ use Rattle.std.proofs.Common.{◌≡◌, ℕ, ◌+◌, ◌<◌, ◌==◌, Bool, 
 use Rattle.std.proofs.lemmas.List.{nil_from_length}
 use Rattle.std.specs.Io.BufRead.{drop_through, take_through}
 use Rattle.chi_events.specs.declared.event.Event.{Event}
-use Rattle.chi_points.specs.PointedPort.{Follows, Seen, nothing_seen}
+use Rattle.chi_points.specs.PointedPort.{Follows, Seen}
 use Rattle.chi_points.specs.declared.pointed_port.PointedPort.{PointedPort}
-use Rattle.chi_watch_text.specs.LineTold.{line_told}
+use Rattle.chi_watch_text.specs.ErrorEffects.{Awaits, told_by_effect, with_events}
+use Rattle.chi_watch_text.specs.LineTold.{Read, effect_of, line_taken, line_told, read_at_start, taken_by}
 use Rattle.chi_watch_text.specs.Lines.{AreEvents, AreLines, AreTold, AreToldAll, is_blank}
-use Rattle.chi_watch_text.specs.Reading.{BeginsWith, HasGiven, HasGivenAll, HasGivenOf, IsAtRefused, IsLineFault, IsOfLast, IsReadingFault, RefusesBy, TellsBy}
+use Rattle.chi_watch_text.specs.Reading.{BeginsWith, HasGiven, HasGivenAll, HasGivenOf, IsAtRefused, IsLineFault, IsOfLast, IsReadingFault, Keeps, RefusesBy, TakesBy}
+use Rattle.chi_watch_text.specs.declared.awaited_data.AwaitedData.{AwaitedData}
 use Rattle.chi_watch_text.specs.declared.fault.LinesFault.{LinesFault}
 use Rattle.chi_watch_text.specs.declared.fault.LinesFault.TheVariants as fault
 use Rattle.chi_watch_text.specs.declared.line_format.LineFormat.{LineFormat}
@@ -21,98 +23,117 @@ lines_more text (line ∷ lines) rest (more, is, are) some = (more, is, lines_mo
 
 module _ (format : LineFormat) where
   -- a line more, whose events are not given yet
-  events_read : (number : ℕ) (before : Seen) (lines : List (List ℕ)) (line : List ℕ) (events told : List Event) (seen after : Seen) → AreEvents format number before lines events [] seen
-      → line_told format seen (number + length lines) line ≡ Ok (record { events = told; seen = after }) → AreEvents format number before (lines ++ line ∷ []) events told after
+  events_read : (number : ℕ) (before : Read) (lines : List (List ℕ)) (line : List ℕ) (events told : List Event) (read after : Read) → AreEvents format number before lines events [] read
+      → line_taken format read (number + length lines) line ≡ Ok (record { events = told; read = after }) → AreEvents format number before (lines ++ line ∷ []) events told after
   unfolding AreEvents
-  events_read number before [] line events told seen after (none, nothing, same) is =
+  events_read number before [] line events told read after (none, nothing, same) is =
       let here : number + 0 ≡ number = omega arith in
-      rw none (subst (λ n. line_told format before n line ≡ Ok (record { events = told; seen = after })) here (subst (λ (l : Seen). line_told format l (number + 0) line ≡ Ok (record { events = told; seen = after })) same is))
-  events_read number before (first ∷ []) line events told seen after are is =
-      (record { events = events ++ []; seen = seen }, are, ([], sym (append-nil events) ∙ sym (append-nil (events ++ [])), is))
-  events_read number before (first ∷ next ∷ lines) line events told seen after (here, tells, (later, whole, are)) is =
+      rw none (subst (λ n. line_taken format before n line ≡ Ok (record { events = told; read = after })) here (subst (λ (l : Read). line_taken format l (number + 0) line ≡ Ok (record { events = told; read = after })) same is))
+  events_read number before (first ∷ []) line events told read after are is =
+      (record { events = events ++ []; read = read }, are, ([], sym (append-nil events) ∙ sym (append-nil (events ++ [])), is))
+  events_read number before (first ∷ next ∷ lines) line events told read after (here, tells, (later, whole, are)) is =
       let at : number + length (first ∷ next ∷ lines) ≡ number + 1 + length (next ∷ lines) = omega arith in (
         here,
         tells,
         (
           later,
           whole,
-          events_read (number + 1) here.seen (next ∷ lines) line later told seen after are
-              (subst (λ n. line_told format seen n line ≡ Ok (record { events = told; seen = after })) at is),
+          events_read (number + 1) here.read (next ∷ lines) line later told read after are
+              (subst (λ n. line_taken format read n line ≡ Ok (record { events = told; read = after })) at is),
         ),
       )
 
   -- an event more of the last line is given
-  event_given : (number : ℕ) (before : Seen) (lines : List (List ℕ)) (events : List Event) (e : Event) (more : List Event) (seen : Seen) → AreEvents format number before lines events (e ∷ more) seen
-      → AreEvents format number before lines (events ++ e ∷ []) more seen
+  event_given : (number : ℕ) (before : Read) (lines : List (List ℕ)) (events : List Event) (e : Event) (more : List Event) (read : Read) → AreEvents format number before lines events (e ∷ more) read
+      → AreEvents format number before lines (events ++ e ∷ []) more read
   unfolding AreEvents
-  event_given number before [] events e more seen (none, some, same) = absurd (let no = ap length some in omega (arith, no))
-  event_given number before (line ∷ []) events e more seen are =
-      subst (λ (l : List Event). line_told format before number line ≡ Ok (record { events = l; seen = seen })) (sym (append_assoc events (e ∷ []) more)) are
-  event_given number before (line ∷ next ∷ lines) events e more seen (here, tells, (later, whole, are)) =
-      (here, tells, (later ++ e ∷ [], ap (λ l. l ++ e ∷ []) whole ∙ append_assoc here.events later (e ∷ []), event_given (number + 1) here.seen (next ∷ lines) later e more seen are))
+  event_given number before [] events e more read (none, some, same) = absurd (let no = ap length some in omega (arith, no))
+  event_given number before (line ∷ []) events e more read are =
+      subst (λ (l : List Event). line_taken format before number line ≡ Ok (record { events = l; read = read })) (sym (append_assoc events (e ∷ []) more)) are
+  event_given number before (line ∷ next ∷ lines) events e more read (here, tells, (later, whole, are)) =
+      (here, tells, (later ++ e ∷ [], ap (λ l. l ++ e ∷ []) whole ∙ append_assoc here.events later (e ∷ []), event_given (number + 1) here.read (next ∷ lines) later e more read are))
+
+-- the line tells its events, by what an error says
+pub line_taken_as : (format : LineFormat) (number : ℕ) (line : List ℕ) (read : Read) (seen : Seen) (events told : List Event) (port : PointedPort) (awaited : AwaitedData)
+    → line_told format read.seen number line ≡ Ok (record { events = events; seen = seen }) → told ≡ told_by_effect (effect_of format) read.events events
+    → Follows seen port → Awaits (effect_of format) (with_events read.events events) awaited
+    → (after : Read) × (line_taken format read number line ≡ Ok (record { events = told; read = after })) × Keeps format after port awaited
+line_taken_as format number line read seen events told port awaited is told_is follows awaits =
+    let after : Read = record { seen = seen; events = with_events read.events events } in (
+      after,
+      ap (taken_by (effect_of format) read.events) is ∙ ap (λ (l : List Event). Ok (record { events = l; read = after })) (sym told_is),
+      record { seen = follows; awaits = awaits },
+    )
+
+-- what follows the same flits and events keeps the same
+keeps_same : (old new : Reading) (read : Read) → new.format ≡ old.format → new.port ≡ old.port → new.awaited ≡ old.awaited → Keeps old.format read old.port old.awaited
+    → Keeps new.format read new.port new.awaited
+keeps_same old new read format port awaited keeps =
+    subst (λ (f : LineFormat). Keeps f read new.port new.awaited) (sym format)
+    (subst (λ (a : AwaitedData). Keeps old.format read new.port a) (sym awaited) (subst (λ (p : PointedPort). Keeps old.format read p old.awaited) (sym port) keeps))
 
 -- The reading read one line more.
 line_read : (text rest : List ℕ) (events : List Event) (old new : Reading) → HasGiven text events old rest → 0 < length rest → old.pending.items ≡ []
-    → TellsBy (λ seen. line_told old.format seen (old.number + 1) (take_through 10 rest)) old.port new.pending.items new.port
+    → TakesBy old.format (old.number + 1) (take_through 10 rest) old.port old.awaited new.pending.items new.port new.awaited
     → new.number ≡ old.number + 1 → new.format ≡ old.format → HasGiven text events new (drop_through 10 rest)
-line_read text rest events old new has some none tells number format =
+line_read text rest events old new has some none takes number format =
     let t = has.told in
-    let (after, is, seen) = tells t.seen has.seen in
+    let (after, is, keeps) = takes t.read has.keeps in
     let next : old.number + 1 ≡ 1 + length t.lines = omega (arith, t.count_is) in
-    let was = subst (λ (l : List Event). AreEvents old.format 1 nothing_seen t.lines events l t.seen) none t.are_events in
+    let was = subst (λ (l : List Event). AreEvents old.format 1 read_at_start t.lines events l t.read) none t.are_events in
     let all =
-    events_read old.format 1 nothing_seen t.lines (take_through 10 rest) events new.pending.items t.seen after was
-    (subst (λ n. line_told old.format t.seen n (take_through 10 rest) ≡ Ok (record { events = new.pending.items; seen = after })) next is) in
+    events_read old.format 1 read_at_start t.lines (take_through 10 rest) events new.pending.items t.read after was
+    (subst (λ n. line_taken old.format t.read n (take_through 10 rest) ≡ Ok (record { events = new.pending.items; read = after })) next is) in
     record {
       told = record {
         lines = t.lines ++ take_through 10 rest ∷ [];
-        seen = after;
+        read = after;
         count_is = omega (arith, number, t.count_is, length-append t.lines (take_through 10 rest ∷ []));
         are_lines = lines_more text t.lines rest t.are_lines some;
-        are_events = subst (λ (f : LineFormat). AreEvents f 1 nothing_seen (t.lines ++ take_through 10 rest ∷ []) events new.pending.items after) (sym format) all;
+        are_events = subst (λ (f : LineFormat). AreEvents f 1 read_at_start (t.lines ++ take_through 10 rest ∷ []) events new.pending.items after) (sym format) all;
       };
-      seen = seen;
+      keeps = subst (λ (f : LineFormat). Keeps f after new.port new.awaited) (sym format) keeps;
     }
 
 -- or gave one event more
 one_given : (text rest : List ℕ) (events : List Event) (old new : Reading) (e : Event) → HasGiven text events old rest → old.pending.items ≡ e ∷ new.pending.items
-    → new.format ≡ old.format → new.port ≡ old.port → new.number ≡ old.number → HasGiven text (events ++ e ∷ []) new rest
-one_given text rest events old new e has is format port number =
+    → new.format ≡ old.format → new.port ≡ old.port → new.awaited ≡ old.awaited → new.number ≡ old.number → HasGiven text (events ++ e ∷ []) new rest
+one_given text rest events old new e has is format port awaited number =
     let t = has.told in
-    let was = subst (λ (l : List Event). AreEvents old.format 1 nothing_seen t.lines events l t.seen) is t.are_events in
+    let was = subst (λ (l : List Event). AreEvents old.format 1 read_at_start t.lines events l t.read) is t.are_events in
     record {
       told = record {
         lines = t.lines;
-        seen = t.seen;
+        read = t.read;
         count_is = t.count_is ∙ sym number;
         are_lines = t.are_lines;
-        are_events = subst (λ (f : LineFormat). AreEvents f 1 nothing_seen t.lines (events ++ e ∷ []) new.pending.items t.seen) (sym format)
-            (event_given old.format 1 nothing_seen t.lines events e new.pending.items t.seen was);
+        are_events = subst (λ (f : LineFormat). AreEvents f 1 read_at_start t.lines (events ++ e ∷ []) new.pending.items t.read) (sym format)
+            (event_given old.format 1 read_at_start t.lines events e new.pending.items t.read was);
       };
-      seen = subst (λ (p : PointedPort). Follows t.seen p) (sym port) has.seen;
+      keeps = keeps_same old new t.read format port awaited has.keeps;
     }
 
 -- the same of a text that may not be known
 pub line_read_of : (start now later : Option (List ℕ)) (events : List Event) (line : List ℕ) (old new : Reading) → HasGivenOf start events old now
     → IfSome now (λ text. (line ≡ take_through 10 text) × (later ≡ Some (drop_through 10 text))) → 0 < length line → old.pending.items ≡ []
-    → TellsBy (λ seen. line_told old.format seen (old.number + 1) line) old.port new.pending.items new.port
+    → TakesBy old.format (old.number + 1) line old.port old.awaited new.pending.items new.port new.awaited
     → new.number ≡ old.number + 1 → new.format ≡ old.format → HasGivenOf start events new later
-line_read_of None now later events line old new has read some none tells number format = tt
-line_read_of (Some text) None later events line old new has read some none tells number format = absurd has
-line_read_of (Some text) (Some rest) later events line old new has (is, left) some none tells number format =
+line_read_of None now later events line old new has read some none takes number format = tt
+line_read_of (Some text) None later events line old new has read some none takes number format = absurd has
+line_read_of (Some text) (Some rest) later events line old new has (is, left) some none takes number format =
     subst (HasGivenOf (Some text) events new) (sym left)
     (line_read text rest events old new has (some_of rest (subst (λ (l : List ℕ). 0 < length l) is some)) none
-    (subst (λ (l : List ℕ). TellsBy (λ seen. line_told old.format seen (old.number + 1) l) old.port new.pending.items new.port) is tells) number format)
+    (subst (λ (l : List ℕ). TakesBy old.format (old.number + 1) l old.port old.awaited new.pending.items new.port new.awaited) is takes) number format)
   where
     some_of : (rest : List ℕ) → 0 < length (take_through 10 rest) → 0 < length rest
     some_of [] some = some
     some_of (b ∷ rest) some = omega arith
 
 pub one_given_of : (start now : Option (List ℕ)) (events : List Event) (old new : Reading) (e : Event) → HasGivenOf start events old now → old.pending.items ≡ e ∷ new.pending.items
-    → new.format ≡ old.format → new.port ≡ old.port → new.number ≡ old.number → HasGivenOf start (events ++ e ∷ []) new now × IsOfLast start events e new now
-one_given_of None now events old new e has is format port number = (tt, tt)
-one_given_of (Some text) None events old new e has is format port number = absurd has
-one_given_of (Some text) (Some rest) events old new e has is format port number = (one_given text rest events old new e has is format port number, of_last)
+    → new.format ≡ old.format → new.port ≡ old.port → new.awaited ≡ old.awaited → new.number ≡ old.number → HasGivenOf start (events ++ e ∷ []) new now × IsOfLast start events e new now
+one_given_of None now events old new e has is format port awaited number = (tt, tt)
+one_given_of (Some text) None events old new e has is format port awaited number = absurd has
+one_given_of (Some text) (Some rest) events old new e has is format port awaited number = (one_given text rest events old new e has is format port awaited number, of_last)
   where
     of_last : AreTold new.format text new.number events (e ∷ new.pending.items) rest
     of_last =
@@ -121,12 +142,12 @@ one_given_of (Some text) (Some rest) events old new e has is format port number 
         (subst (λ (l : List Event). AreTold old.format text old.number events l rest) is has.told))
 
 -- nothing was read
-pub none_given : (r : Reading) → Follows nothing_seen r.port → r.number ≡ 0 → r.pending.items ≡ [] → (start : Option (List ℕ)) → HasGivenOf start [] r start
+pub none_given : (r : Reading) → Keeps r.format read_at_start r.port r.awaited → r.number ≡ 0 → r.pending.items ≡ [] → (start : Option (List ℕ)) → HasGivenOf start [] r start
 unfolding AreEvents AreLines
-none_given r seen first none None = tt
-none_given r seen first none (Some text) = record {
-  told = record { lines = []; seen = nothing_seen; count_is = sym first; are_lines = refl; are_events = (refl, none, refl) };
-  seen = seen;
+none_given r keeps first none None = tt
+none_given r keeps first none (Some text) = record {
+  told = record { lines = []; read = read_at_start; count_is = sym first; are_lines = refl; are_events = (refl, none, refl) };
+  keeps = keeps;
 }
 
 -- The reading has given all events, and what it read since are blank lines.
@@ -138,13 +159,13 @@ all_given (Some text) (Some rest) events r s has none blank (port, number) = rec
   rest = rest;
   told = record {
     lines = has.told.lines;
-    seen = has.told.seen;
+    read = has.told.read;
     count_is = has.told.count_is ∙ sym number;
     are_lines = has.told.are_lines;
-    are_events = subst (λ (l : List Event). AreEvents r.format 1 nothing_seen has.told.lines events l has.told.seen) none has.told.are_events;
+    are_events = subst (λ (l : List Event). AreEvents r.format 1 read_at_start has.told.lines events l has.told.read) none has.told.are_events;
   };
   blank = blank;
-  seen = subst (λ (p : PointedPort). Follows has.told.seen p) (sym port) has.seen;
+  seen = subst (λ (p : PointedPort). Follows has.told.read.seen p) (sym port) has.keeps.seen;
 }
 
 -- all is told
@@ -158,23 +179,23 @@ pub line_refused : (start now : Option (List ℕ)) (events : List Event) (line :
     → IfSome start (λ text. IsReadingFault r.format text events f × IsAtRefused text events s f)
 line_refused None now events line r s f has none is refuses format number last = tt
 line_refused (Some text) None events line r s f has none is refuses format number last = absurd has
-line_refused (Some text) (Some rest) events line r s f has none is refuses format number last = by_fault f (refuses has.told.seen has.seen) number
+line_refused (Some text) (Some rest) events line r s f has none is refuses format number last = by_fault f (refuses has.told.read.seen has.keeps.seen) number
   where
     told_whole : AreTold r.format text r.number events [] rest
     told_whole = record {
       lines = has.told.lines;
-      seen = has.told.seen;
+      read = has.told.read;
       count_is = has.told.count_is;
       are_lines = has.told.are_lines;
-      are_events = subst (λ (l : List Event). AreEvents r.format 1 nothing_seen has.told.lines events l has.told.seen) none has.told.are_events;
+      are_events = subst (λ (l : List Event). AreEvents r.format 1 read_at_start has.told.lines events l has.told.read) none has.told.are_events;
     }
 
-    by_fault : (f : LinesFault) → IsLineFault (line_told r.format has.told.seen (r.number + 1) line) (r.number + 1) f → ((f ≡ fault.Memory → ⊥) → s.number ≡ r.number)
+    by_fault : (f : LinesFault) → IsLineFault (line_told r.format has.told.read.seen (r.number + 1) line) (r.number + 1) f → ((f ≡ fault.Memory → ⊥) → s.number ≡ r.number)
         → IsReadingFault r.format text events f × IsAtRefused text events s f
     by_fault fault.Read why count = absurd why
     by_fault (fault.Line n why) (same, told) count =
-        let here : line_told r.format has.told.seen n (take_through 10 rest) ≡ Err why =
-        subst (λ (l : List ℕ). line_told r.format has.told.seen n l ≡ Err why) is (subst (λ (k : ℕ). line_told r.format has.told.seen k line ≡ Err why) (sym same) told) in
+        let here : line_told r.format has.told.read.seen n (take_through 10 rest) ≡ Err why =
+        subst (λ (l : List ℕ). line_told r.format has.told.read.seen n l ≡ Err why) is (subst (λ (k : ℕ). line_told r.format has.told.read.seen k line ≡ Err why) (sym same) told) in
         let still : s.number ≡ r.number = count (λ memory. cc) in (
           (r.number, rest, told_whole, sym same, here),
           (rest, subst (λ (k : LineFormat). AreTold k text s.number events [] rest) (sym format) (subst (λ (k : ℕ). AreTold r.format text k events [] rest) (sym still) told_whole), last ∙ is),
@@ -204,21 +225,21 @@ none_pending r is_whole is whole = nil_from_length r.pending.items (eqb-true (le
 
 -- what only forgets its lines has given the same
 pub same_given : (start now : Option (List ℕ)) (events : List Event) (old new : Reading) → new.format ≡ old.format → new.number ≡ old.number → new.pending.items ≡ old.pending.items → new.port ≡ old.port
-    → HasGivenOf start events old now → HasGivenOf start events new now
-same_given None now events old new format number pending port has = tt
-same_given (Some text) None events old new format number pending port has = absurd has
-same_given (Some text) (Some rest) events old new format number pending port has =
+    → new.awaited ≡ old.awaited → HasGivenOf start events old now → HasGivenOf start events new now
+same_given None now events old new format number pending port awaited has = tt
+same_given (Some text) None events old new format number pending port awaited has = absurd has
+same_given (Some text) (Some rest) events old new format number pending port awaited has =
     let t = has.told in
     record {
       told = record {
         lines = t.lines;
-        seen = t.seen;
+        read = t.read;
         count_is = t.count_is ∙ sym number;
         are_lines = t.are_lines;
-        are_events = subst (λ (f : LineFormat). AreEvents f 1 nothing_seen t.lines events new.pending.items t.seen) (sym format)
-            (subst (λ (l : List Event). AreEvents old.format 1 nothing_seen t.lines events l t.seen) (sym pending) t.are_events);
+        are_events = subst (λ (f : LineFormat). AreEvents f 1 read_at_start t.lines events new.pending.items t.read) (sym format)
+            (subst (λ (l : List Event). AreEvents old.format 1 read_at_start t.lines events l t.read) (sym pending) t.are_events);
       };
-      seen = subst (λ (p : PointedPort). Follows t.seen p) (sym port) has.seen;
+      keeps = keeps_same old new t.read format port awaited has.keeps;
     }
 
 -- the line that was read

@@ -274,7 +274,7 @@ at_end (Some text) (Some rest) later time ended found quiet going w r s kept wat
   where
     by_list : (o : Option Ending) → o ≢ None → HasGivenAll r.format text has.events s → AreListed r.format text has.events w o watched.waiting.items
     by_list None is_some all = absurd (is_some refl)
-    by_list (Some ending) is_some all = (s.number, all.rest, all.told, all.blank, waits all.told.seen.flits all.seen.flits)
+    by_list (Some ending) is_some all = (s.number, all.rest, all.told, all.blank, waits all.told.read.seen.flits all.seen.flits)
 
     by_ending : (o : Option Ending) → o ≢ None → IfSome o (SaysAtEnd w) → EndsAt r.format text going has.events found o
     by_ending None is_some said = absurd (is_some refl)

@@ -1,3 +1,4 @@
+pub mod ErrorEffects
 pub mod FoundGranule
 pub mod Illegal
 pub mod Kept

@@ -14,14 +14,17 @@ use Rattle.chi_flits.specs.Told.{told_by}
 use Rattle.chi_flits.specs.declared.fault.FlitFault.{FlitFault}
 use Rattle.chi_flits.specs.declared.flit.Flit.{Flit}
 use Rattle.chi_points.specs.PointFaults.{event_fault}
-use Rattle.chi_points.specs.PointedPort.{Seen, after_event, after_flit, after_point, flit_fault, point_fault, told_by_event, told_by_flit, told_by_point}
+use Rattle.chi_points.specs.PointedPort.{Seen, after_event, after_flit, after_point, flit_fault, nothing_seen, point_fault, told_by_event, told_by_flit, told_by_point}
 use Rattle.chi_points.specs.declared.fault.PointFault.{PointFault}
 use Rattle.chi_points.specs.declared.point.Point.{Point}
 use Rattle.chi_reading.specs.EventText.{event_text}
 use Rattle.chi_reading.specs.Mark.{line_value}
 use Rattle.chi_reading.specs.declared.fault.LineFault.{LineFault}
+use Rattle.chi_watch_text.specs.ErrorEffects.{told_by_effect, with_events}
 use Rattle.chi_watch_text.specs.declared.fault.TellingFault.{TellingFault}
 use Rattle.chi_watch_text.specs.declared.fault.TellingFault.TheVariants as fault
+use Rattle.chi_watch_text.specs.declared.line_format.ErrorEffect.{ErrorEffect}
+use Rattle.chi_watch_text.specs.declared.line_format.ErrorEffect.TheVariants as effect
 use Rattle.chi_watch_text.specs.declared.line_format.LineFormat.{LineFormat}
 use Rattle.chi_watch_text.specs.declared.line_format.LineFormat.TheVariants.{Events, Flits, PointedFlits}
 use Rattle.chi_watch_text.specs.declared.stated.Stated.{Stated}
@@ -142,8 +145,8 @@ pointed_among seen number text (Some stated) = stated_pointed seen stated
 
 unfoldable pub line_told : LineFormat → Seen → ℕ → List ℕ → Result Told TellingFault
 line_told Events seen number text = event_told seen (event_text number text)
-line_told Flits seen number text = told_among seen number text (stated_in number text)
-line_told PointedFlits seen number text = pointed_among seen number text (stated_in number text)
+line_told (Flits errors) seen number text = told_among seen number text (stated_in number text)
+line_told (PointedFlits errors) seen number text = pointed_among seen number text (stated_in number text)
 
 -- The time of the flit that a line with a number states, if it states one. Where requests have points, one may still be told of a
 -- time before that.
@@ -155,5 +158,33 @@ time_of (Some (Err why)) = None
 
 abbrev pub time_stated : LineFormat → ℕ → List ℕ → Option ℕ
 time_stated Events number text = None
-time_stated Flits number text = time_of (stated_in number text)
-time_stated PointedFlits number text = None
+time_stated (Flits errors) number text = time_of (stated_in number text)
+time_stated (PointedFlits errors) number text = None
+
+-- ---- where an error may say that its request took no effect
+
+abbrev pub effect_of : LineFormat → ErrorEffect
+effect_of Events = effect.Unknown
+effect_of (Flits errors) = errors
+effect_of (PointedFlits errors) = errors
+
+-- what was read by some lines: what was seen, and what they told but for errors, of which the newest stands first
+pub record Read : Type 0 where
+  pub seen : Seen
+  pub events : List Event
+
+abbrev pub read_at_start : Read
+read_at_start = record { seen = nothing_seen; events = [] }
+
+-- the events of a line, and what was read by then
+pub record Taken : Type 0 where
+  pub events : List Event
+  pub read : Read
+
+abbrev pub taken_by : ErrorEffect → List Event → Result Told TellingFault → Result Taken TellingFault
+taken_by errors older (Ok told) =
+    Ok (record { events = told_by_effect errors older told.events; read = record { seen = told.seen; events = with_events older told.events } })
+taken_by errors older (Err f) = Err f
+
+abbrev pub line_taken : LineFormat → Read → ℕ → List ℕ → Result Taken TellingFault
+line_taken format before number text = taken_by (effect_of format) before.events (line_told format before.seen number text)

@@ -3,8 +3,7 @@ use Rattle.std.specs.Prelude.{◌≡◌, ℕ, ◌+◌, ◌<◌, ◌==◌, ◌||�
 use Rattle.std.specs.List.{list_all}
 use Rattle.std.specs.Io.BufRead.{drop_through, take_through}
 use Rattle.chi_events.specs.declared.event.Event.{Event}
-use Rattle.chi_points.specs.PointedPort.{Seen, nothing_seen}
-use Rattle.chi_watch_text.specs.LineTold.{Told, line_told, time_stated}
+use Rattle.chi_watch_text.specs.LineTold.{Read, Taken, line_taken, read_at_start, time_stated}
 use Rattle.chi_watch_text.specs.declared.line_format.LineFormat.{LineFormat}
 
 -- The text begins with these lines, each up to its line feed, and the rest follows. The last line of a text may have no line feed.
@@ -20,22 +19,22 @@ is_space b = b == 32 || b == 9 || b == 10 || b == 13
 abbrev pub is_blank : List ℕ → Bool
 is_blank bytes = list_all is_space bytes
 
--- Lines tell these events, and the last of them more, where the first has this number and this was seen before it; that was seen by
+-- Lines tell these events, and the last of them more, where the first has this number and this was read before it; that was read by
 -- then.
-unfoldable pub AreEvents : LineFormat → ℕ → Seen → List (List ℕ) → List Event → List Event → Seen → Type 0
-AreEvents format number before [] events more seen = (events ≡ []) × (more ≡ []) × (seen ≡ before)
-AreEvents format number before (line ∷ []) events more seen = line_told format before number line ≡ Ok (record { events = events ++ more; seen = seen })
-AreEvents format number before (line ∷ next ∷ lines) events more seen =
-    (told : Told) × (line_told format before number line ≡ Ok told)
-    × ((later : List Event) × (events ≡ told.events ++ later) × AreEvents format (number + 1) told.seen (next ∷ lines) later more seen)
+unfoldable pub AreEvents : LineFormat → ℕ → Read → List (List ℕ) → List Event → List Event → Read → Type 0
+AreEvents format number before [] events more read = (events ≡ []) × (more ≡ []) × (read ≡ before)
+AreEvents format number before (line ∷ []) events more read = line_taken format before number line ≡ Ok (record { events = events ++ more; read = read })
+AreEvents format number before (line ∷ next ∷ lines) events more read =
+    (taken : Taken) × (line_taken format before number line ≡ Ok taken)
+    × ((later : List Event) × (events ≡ taken.events ++ later) × AreEvents format (number + 1) taken.read (next ∷ lines) later more read)
 
 -- the first lines of the text, so many of them, counted from 1, tell these events, and the last of them more; the rest follows
 pub record AreTold (format : LineFormat) (text : List ℕ) (count : ℕ) (events more : List Event) (rest : List ℕ) : Type 0 where
   pub lines : List (List ℕ)
-  pub seen : Seen
+  pub read : Read
   pub count_is : length lines ≡ count
   pub are_lines : AreLines text lines rest
-  pub are_events : AreEvents format 1 nothing_seen lines events more seen
+  pub are_events : AreEvents format 1 read_at_start lines events more read
 
 -- all lines of the text do, and no others follow but blank ones
 abbrev pub AreToldAll : LineFormat → List ℕ → List Event → Type 0

@@ -121,7 +121,7 @@ EndsAt format text going events found None = (going ≡ false) × (0 < length fo
 abbrev pub AreListed : LineFormat → List ℕ → List Event → WatchValue → Option Ending → List Waiting → Type 0
 AreListed format text events watch None listed = listed ≡ []
 AreListed format text events watch (Some ending) listed =
-    (count : ℕ) × (rest : List ℕ) × (told : AreTold format text count events [] rest) × (is_blank rest ≡ true) × (listed ≡ first_waiting told.seen.flits watch.outstanding.requests)
+    (count : ℕ) × (rest : List ℕ) × (told : AreTold format text count events [] rest) × (is_blank rest ≡ true) × (listed ≡ first_waiting told.read.seen.flits watch.outstanding.requests)
 
 -- What is found of a text: of so many lines, which tell events that a watch takes. Where lines are kept, these are.
 pub record IsWatched (format : LineFormat) (text : List ℕ) (going : Bool) (w : Watched) : Type 0 where

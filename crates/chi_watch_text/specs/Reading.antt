@@ -4,8 +4,10 @@ use Rattle.std.specs.Io.BufRead.{take_through}
 use Rattle.chi_events.specs.declared.event.Event.{Event}
 use Rattle.chi_points.specs.PointedPort.{Follows, Seen}
 use Rattle.chi_points.specs.declared.pointed_port.PointedPort.{PointedPort}
-use Rattle.chi_watch_text.specs.LineTold.{Told, line_told, time_stated}
+use Rattle.chi_watch_text.specs.ErrorEffects.{Awaits}
+use Rattle.chi_watch_text.specs.LineTold.{Read, Told, effect_of, line_taken, line_told, time_stated}
 use Rattle.chi_watch_text.specs.Lines.{AreTold, is_blank}
+use Rattle.chi_watch_text.specs.declared.awaited_data.AwaitedData.{AwaitedData}
 use Rattle.chi_watch_text.specs.declared.fault.LinesFault.{LinesFault}
 use Rattle.chi_watch_text.specs.declared.fault.LinesFault.TheVariants as fault
 use Rattle.chi_watch_text.specs.declared.fault.TellingFault.{TellingFault}
@@ -28,10 +30,20 @@ IsLineFault told number fault.Memory = Unit {0}
 abbrev pub RefusesBy : (Seen → Result Told TellingFault) → PointedPort → ℕ → LinesFault → Type 0
 RefusesBy told old number f = (seen : Seen) → Follows seen old → IsLineFault (told seen) number f
 
+-- a port that has seen what was read, and what is kept of the events for what errors say
+pub record Keeps (format : LineFormat) (read : Read) (port : PointedPort) (awaited : AwaitedData) : Type 0 where
+  pub seen : Follows read.seen port
+  pub awaits : Awaits (effect_of format) read.events awaited
+
+-- after what was read the line with this number tells these events
+abbrev pub TakesBy : LineFormat → ℕ → List ℕ → PointedPort → AwaitedData → List Event → PointedPort → AwaitedData → Type 0
+TakesBy format number line port awaited events new kept =
+    (read : Read) → Keeps format read port awaited → (after : Read) × (line_taken format read number line ≡ Ok (record { events = events; read = after })) × Keeps format after new kept
+
 -- The reading has given these events of the lines that it read, and the rest of the text follows.
 pub record HasGiven (text : List ℕ) (events : List Event) (r : Reading) (rest : List ℕ) : Type 0 where
   pub told : AreTold r.format text r.number events r.pending.items rest
-  pub seen : Follows told.seen r.port
+  pub keeps : Keeps r.format told.read r.port r.awaited
 
 -- the same of a text that may not be known
 abbrev pub HasGivenOf : Option (List ℕ) → List Event → Reading → Option (List ℕ) → Type 0
@@ -49,7 +61,7 @@ BeginsWith (Some text) bytes (Some rest) = text ≡ bytes ++ rest
 abbrev pub IsFirstRefused : LineFormat → List ℕ → List Event → ℕ → TellingFault → Type 0
 IsFirstRefused format text events number f =
     (before : ℕ) × (rest : List ℕ) × (told : AreTold format text before events [] rest) × (before + 1 ≡ number)
-    × (line_told format told.seen number (take_through 10 rest) ≡ Err f)
+    × (line_told format told.read.seen number (take_through 10 rest) ≡ Err f)
 
 -- why a text of which these events are given tells no more
 abbrev pub IsReadingFault : LineFormat → List ℕ → List Event → LinesFault → Type 0
@@ -71,7 +83,7 @@ pub record HasGivenAll (format : LineFormat) (text : List ℕ) (events : List Ev
   pub rest : List ℕ
   pub told : AreTold format text r.number events [] rest
   pub blank : is_blank rest ≡ true
-  pub seen : Follows told.seen r.port
+  pub seen : Follows told.read.seen r.port
 
 -- After the events that were given this one is given next, or the text tells no more.
 abbrev pub GivesNext : Option (List ℕ) → Reading → Option (List ℕ) → Option Event → Reading → Option (List ℕ) → Type 0

@@ -2,6 +2,7 @@
 //! profile.
 #![tactic(auto)]
 
+mod awaited_data;
 mod fault;
 mod kept;
 mod line_format;
@@ -28,7 +29,7 @@ mod watched;
 mod watching;
 
 pub use fault::{LinesFault, TellingFault};
-pub use line_format::LineFormat;
+pub use line_format::{ErrorEffect, LineFormat};
 pub use operations::{OperationsTold, read_operations};
 pub use options::WatchOptions;
 pub use progress::WatchProgress;

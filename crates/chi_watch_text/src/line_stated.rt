@@ -70,8 +70,8 @@ pub(crate) fn time_stated(
     ensures { IfOk result (λ time. time ≡ time_stated format number line.now) }
 {
     match format {
-        LineFormat::Events | LineFormat::PointedFlits => Ok(None),
-        LineFormat::Flits => match stated_in(alloc, line, number)? {
+        LineFormat::Events | LineFormat::PointedFlits { errors: _ } => Ok(None),
+        LineFormat::Flits { errors: _ } => match stated_in(alloc, line, number)? {
             Some(Ok(Stated::Flit(flit))) => Ok(Some(flit.time)),
             _ => Ok(None),
         },

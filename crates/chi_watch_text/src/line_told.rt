@@ -186,7 +186,7 @@ pub(crate) fn line_told(
 {
     match format {
         LineFormat::Events => told_alone(alloc, port, line, number),
-        LineFormat::Flits => told_among(alloc, port, line, number),
-        LineFormat::PointedFlits => pointed_among(alloc, port, line, number),
+        LineFormat::Flits { errors: _ } => told_among(alloc, port, line, number),
+        LineFormat::PointedFlits { errors: _ } => pointed_among(alloc, port, line, number),
     }
 }

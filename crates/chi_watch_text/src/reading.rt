@@ -4,10 +4,11 @@ ghost use Rattle.std.specs.Prelude.{◌≡◌, ◌≢◌, ◌+◌, Some, ◌==�
 ghost use Rattle.chi_events.specs.declared.event.Event.{Event};
 ghost use Rattle.chi_watch_text.specs.LineTold.{line_told, time_stated};
 ghost use Rattle.chi_watch_text.specs.Lines.{is_blank};
-ghost use Rattle.chi_watch_text.specs.Reading.{BeginsWith, FailsNext, GivesNext, HasGivenOf, RefusesBy, TellsBy};
+ghost use Rattle.chi_watch_text.specs.Reading.{BeginsWith, FailsNext, GivesNext, HasGivenOf, RefusesBy, TakesBy};
 
+use crate::awaited_data::{AwaitedData, told_by_effect};
 use crate::fault::LinesFault;
-use crate::line_format::LineFormat;
+use crate::line_format::{LineFormat, effect_of};
 use crate::line_stated::time_stated;
 use crate::line_told::line_told;
 use crate::lines::{is_at_end, is_blank, next_line};
@@ -16,12 +17,14 @@ use chi_points::PointedPort;
 use std::alloc::{AllocError, Global};
 use std::io::BufRead;
 
-/// A reading of lines: what it follows of the flits that they state; the last line, and how many lines were read; the events of the
-/// last line that are not given yet; and the lines that were read for the event that was given last, one after the other.
+/// A reading of lines: what it follows of the flits that they state, and of the requests that errors may drop; the last line, and how
+/// many lines were read; the events of the last line that are not given yet; and the lines that were read for the event that was
+/// given last, one after the other.
 #[derive(Drop)]
 pub(crate) struct Reading {
     pub format: LineFormat,
     pub port: PointedPort,
+    pub awaited: AwaitedData,
     pub line: Vec<u8>,
     pub number: u64,
     pub pending: Vec<Event>,
@@ -38,6 +41,7 @@ impl Reading {
         Reading {
             format,
             port: PointedPort::new(alloc),
+            awaited: AwaitedData::new(alloc),
             line: Vec::new(alloc),
             number: 0,
             pending: Vec::new(alloc),
@@ -57,7 +61,7 @@ impl Reading {
         ensures given { IfSome result (λ e. self.old.pending.items ≡ e ∷ self.new.pending.items) }
         ensures none { result ≡ None → self.old.pending.items ≡ [] }
         ensures unchanged { result ≡ None → self.new ≡ self.old }
-        ensures others { (self.new.format ≡ self.old.format) × (self.new.port ≡ self.old.port) × (self.new.number ≡ self.old.number) × (self.new.lines ≡ self.old.lines) }
+        ensures others { (self.new.format ≡ self.old.format) × (self.new.port ≡ self.old.port) × (self.new.awaited ≡ self.old.awaited) × (self.new.number ≡ self.old.number) × (self.new.lines ≡ self.old.lines) }
     {
         if self.pending.is_empty() {
             return None;
@@ -67,7 +71,7 @@ impl Reading {
 
     /// Takes the line that was read, which has this number.
     fn take_line(&mut self, alloc: Global, number: u64) -> Result<(), LinesFault>
-        ensures told { IfOk result (λ _. TellsBy (λ seen. line_told self.old.format seen number self.old.line.items) self.old.port self.new.pending.items self.new.port) }
+        ensures told { IfOk result (λ _. TakesBy self.old.format number self.old.line.items self.old.port self.old.awaited self.new.pending.items self.new.port self.new.awaited) }
         ensures fault { IfErr result (RefusesBy (λ seen. line_told self.old.format seen number self.old.line.items) self.old.port number) }
         ensures number { IfOk result (λ _. self.new.number ≡ number) }
         ensures lines { IfOk result (λ _. self.new.lines.items ≡ self.old.lines.items ++ self.old.line.items) }
@@ -76,7 +80,9 @@ impl Reading {
         ensures failed { IfErr result (λ fault. fault ≢ LinesFault.Memory → self.new.port ≡ self.old.port) }
         ensures format { self.new.format ≡ self.old.format }
     {
-        self.pending = line_told(alloc, self.format, &mut self.port, &self.line, number)?;
+        let events = line_told(alloc, self.format, &mut self.port, &self.line, number)?;
+        let effect = effect_of(self.format);
+        self.pending = told_by_effect(alloc, effect, &mut self.awaited, events)?;
         self.number = number;
         self.lines.extend_from_slice(&self.line)?;
         Ok(())

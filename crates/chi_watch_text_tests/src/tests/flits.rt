@@ -1,7 +1,7 @@
 //! Texts of flits at a home's port, whose bus has 16 bytes. The requester is node 3.
 
 use crate::tests::events::STOPPING;
-use chi_watch_text::{LineFormat, WatchOptions};
+use chi_watch_text::{ErrorEffect, LineFormat, WatchOptions};
 
 /// That the word at address 4096 is 5 before its first request. It is an event.
 pub(crate) const WORD: &str = r#"{"time":0,"event":"word","addr":4096,"bytes":"0500000000000000"}
@@ -73,6 +73,6 @@ pub(crate) const LAST: &str =
 
 /// Lines of flits are watched, up to the first granule that is found.
 pub(crate) const FLITS: WatchOptions = WatchOptions {
-    format: LineFormat::Flits,
+    format: LineFormat::Flits { errors: ErrorEffect::Unknown },
     ..STOPPING
 };

@@ -11,7 +11,7 @@ use Rattle.chi_watch_text.proofs.reading.Reading.next_event.Goals as goal
 
 pub loop-init : goal.loop-init
 loop-init g c = record {
-  given = λ start events has. same_given start (g.R.Read.remaining c.args.from.now) events c.args.self.now _ refl refl refl refl has;
+  given = λ start events has. same_given start (g.R.Read.remaining c.args.from.now) events c.args.self.now _ refl refl refl refl refl has;
   lines = nothing_read (g.R.Read.remaining c.args.from.now) c.clear.new.self.items c.clear.ensures.items;
   format = refl;
   whole = inl refl;
@@ -20,7 +20,7 @@ loop-init g c = record {
 pub returns-in-Some-clause-gives : goal.returns-in-Some-clause-gives
 returns-in-Some-clause-gives g c = λ start events has.
     one_given_of start (g.R.Read.remaining c.loop.from) events c.loop.self c.give.new.self c.in-Some.event (c.loop.invariant.given start events has) c.in-Some.ensures.given
-    c.give.ensures.others.0 c.give.ensures.others.1 c.give.ensures.others.2
+    c.give.ensures.others.0 c.give.ensures.others.1 c.give.ensures.others.2 c.give.ensures.others.3
 
 pub returns-in_err-read_line-clause-fault : goal.returns-in_err-read_line-clause-fault
 returns-in_err-read_line-clause-fault g c =

@@ -3,7 +3,7 @@ use Rattle.std.proofs.Common.{◌≡◌, ◌∙◌, ◌+◌, ◌<◌, ap, eqb-tr
 use Rattle.std.proofs.lemmas.List.{nil_from_length}
 use Rattle.chi_watch_text.specs.LineTold.{line_told}
 use Rattle.chi_watch_text.specs.Lines.{is_blank}
-use Rattle.chi_watch_text.specs.Reading.{RefusesBy, TellsBy}
+use Rattle.chi_watch_text.specs.Reading.{RefusesBy, TakesBy}
 use Rattle.chi_watch_text.proofs.Blank.{blank_line, none_left}
 use Rattle.chi_watch_text.proofs.Readings.{line_after, line_of, line_read_of, line_refused, some_read}
 use Rattle.chi_watch_text.proofs.reading.Reading.read_line.Goals as goal
@@ -22,7 +22,7 @@ returns-in-Ok-clause-read g c = λ _ start events has.
     let number : c.in-Some.number ≡ old.number + 1 = c.in-Some.ensures.1 in
     let some : 0 < length line = subst (λ n. 0 < n) c.next_line.new.line.ok.0 (some_read c.next_line.new.line.len c.is_empty.result c.is_empty.ensures c.if-is_empty.false) in
     line_read_of start (g.R.Read.remaining c.args.from.now) (g.R.Read.remaining c.next_line.new.from) events line old new has c.in_ok-next_line.ensures.line some c.requires
-    (subst (λ (n : ℕ). TellsBy (λ seen. line_told old.format seen n line) old.port new.pending.items new.port) number c.in-Ok.ensures.told) (c.in-Ok.ensures.number ∙ number) c.take_line.ensures.format
+    (subst (λ (n : ℕ). TakesBy old.format n line old.port old.awaited new.pending.items new.port new.awaited) number c.in-Ok.ensures.told) (c.in-Ok.ensures.number ∙ number) c.take_line.ensures.format
 
 pub returns-in-Ok-clause-lines : goal.returns-in-Ok-clause-lines
 returns-in-Ok-clause-lines g c = λ _ begin begins.
