@@ -6,10 +6,10 @@ use Rattle.std.specs.Borrow.{Bor}
 use Rattle.std.specs.Io.KnownBytes.{Appends}
 use Rattle.std.specs.Prelude.{◌||◌, Vec, flat_map, is_some}
 use Rattle.std.specs.declared.alloc.Global.{Global}
-use Rattle.chi_points.specs.PointedPort.{nothing_seen}
 use Rattle.chi_script.proofs.WriterBytesLemmas.{taken_then}
 use Rattle.chi_watch_text.specs.Kept.{AreKept}
 use Rattle.chi_watch_text.specs.Outcomes.{IsWatched}
+use Rattle.chi_watch_text.specs.LineTold.{read_at_start}
 use Rattle.chi_watch_text.specs.Lines.{AreEvents}
 use Rattle.chi_watch_text.specs.Saved.{AreWhole, IsOfNoLine}
 use Rattle.chi_watch_text.specs.Texts.{closing_text, found_text, watched_text}
@@ -33,7 +33,7 @@ whole : (format : LineFormat) (input : List ℕ) (going : Bool) (w : Watched) (i
     → AreWhole kept is.told.lines is.events
 whole format input going w is kept events all = record {
   are_lines = lines_kept input is.told.lines is.rest kept is.told.are_lines all;
-  are_events = each_event 1 nothing_seen is.told.lines is.events is.told.seen (subst (λ (f : LineFormat). AreEvents f 1 nothing_seen is.told.lines is.events [] is.told.seen) events is.told.are_events);
+  are_events = each_event 1 read_at_start is.told.lines is.events is.told.read (subst (λ (f : LineFormat). AreEvents f 1 read_at_start is.told.lines is.events [] is.told.read) events is.told.are_events);
 }
 
 -- lines that were not put: the granules that were found are written
@@ -86,8 +86,8 @@ module _ {P : Type 0} (has_put : P → List ℕ → List ℕ → Type 0) where
   saves : (format : LineFormat) (input : List ℕ) (going : Bool) (w : Watched) (is : IsWatched format input going w) (kept : List ℕ) → input ≡ kept ++ is.rest → (g : ℕ) (lines : List ℕ)
       → AreSaved format kept g lines → AreSavedOf format input is.rest is.told.lines is.events g lines
   saves Events input going w is kept are g lines saved = saved is.told.lines is.events (whole Events input going w is kept refl are)
-  saves Flits input going w is kept are g lines saved = are ∙ ap (λ l. l ++ is.rest) (sym saved)
-  saves PointedFlits input going w is kept are g lines saved = are ∙ ap (λ l. l ++ is.rest) (sym saved)
+  saves (Flits errors) input going w is kept are g lines saved = are ∙ ap (λ l. l ++ is.rest) (sym saved)
+  saves (PointedFlits errors) input going w is kept are g lines saved = are ∙ ap (λ l. l ++ is.rest) (sym saved)
 
   first_put : (format : LineFormat) (input : List ℕ) (going : Bool) (w : Watched) (is : IsWatched format input going w) (kept : Option (Vec ℕ Global)) (path : List ℕ) (before after : P) → is_some kept ≡ true
       → AreKept input kept is.rest → IfSome kept (λ k. IsPutOf has_put (first_listed w) (AreSaved format k.items) path before after)

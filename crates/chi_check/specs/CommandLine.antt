@@ -1,5 +1,5 @@
 -- the command line of the program, as `clap` reads it
-use Rattle.std.specs.Prelude.{◌≡◌, List, [], Some, codes}
+use Rattle.std.specs.Prelude.{◌≡◌, List, [], ◌∷◌, Some, codes}
 use Rattle.clap.specs.Walk.{Rule, Text}
 use Rattle.clap.specs.Simple.{App, new_app, new_rule, with_rule, with_subcommand}
 use Rattle.clap.specs.Faults.{fault_of}
@@ -22,11 +22,15 @@ html_rule = text_rule (codes "html") []
 abbrev pub file_rule : Rule
 file_rule = record (new_rule (codes "file")) { value_names = 1 }
 
--- the task `explain`: its input may tell events, or flits with points or without, its witness may be asked for, its granule, its limits, its time and how many
+-- what an error says of its request is any text, and `unknown` by default
+abbrev pub errors_rule : Rule
+errors_rule = text_rule (codes "errors") (codes "unknown" ∷ [])
+
+-- the task `explain`: its input may tell events, or flits with points or without and what errors say of them, its witness may be asked for, its granule, its limits, its time and how many
 -- operations are shown are whole numbers below 2^64, and it has the file of a page, a budget and a file that is read
 abbrev pub explain_app : App
 explain_app =
-    with_rule (with_rule (with_rule (with_rule (with_rule (with_rule (with_rule (with_rule (with_rule (with_rule (with_rule (with_rule (new_app (codes "explain")) (switch_rule (codes "events"))) (switch_rule (codes "flits"))) (switch_rule (codes "points"))) (switch_rule (codes "witness"))) (number_rule (codes "granule")))
+    with_rule (with_rule (with_rule (with_rule (with_rule (with_rule (with_rule (with_rule (with_rule (with_rule (with_rule (with_rule (with_rule (new_app (codes "explain")) (switch_rule (codes "events"))) (switch_rule (codes "flits"))) (switch_rule (codes "points"))) errors_rule) (switch_rule (codes "witness"))) (number_rule (codes "granule")))
     (number_rule (codes "until"))) around_rule) html_rule) budget_rule) (number_rule (codes "seconds"))) (number_rule (codes "memory"))) file_rule
 
 -- how many operations have to have ended is a whole number below 2^64, and 0 by default
@@ -37,11 +41,11 @@ operations_rule = number_rule_or (codes "require-operations") (codes "0")
 abbrev pub save_rule : Rule
 save_rule = text_rule (codes "save") []
 
--- the task `watch`: its input may tell flits, with points or without, it has a budget, a file of the lines of a granule and one of its page, may be asked to keep going, and may require
+-- the task `watch`: its input may tell flits, with points or without, and what errors say of them, it has a budget, a file of the lines of a granule and one of its page, may be asked to keep going, and may require
 -- the end, operations, quiet and judging, and it has a file that is read
 abbrev pub watch_app : App
 watch_app =
-    with_rule (with_rule (with_rule (with_rule (with_rule (with_rule (with_rule (with_rule (with_rule (with_rule (with_rule (new_app (codes "watch")) (switch_rule (codes "flits"))) (switch_rule (codes "points"))) budget_rule) save_rule) html_rule)
+    with_rule (with_rule (with_rule (with_rule (with_rule (with_rule (with_rule (with_rule (with_rule (with_rule (with_rule (with_rule (new_app (codes "watch")) (switch_rule (codes "flits"))) (switch_rule (codes "points"))) errors_rule) budget_rule) save_rule) html_rule)
     (switch_rule (codes "keep-going"))) (switch_rule (codes "require-end"))) operations_rule) (switch_rule (codes "require-quiet"))) (switch_rule (codes "require-judged"))) file_rule
 
 -- how many of a hundred bins have to have counted an operation is a whole number below 2^64, and 0 by default
@@ -52,10 +56,10 @@ require_rule = number_rule_or (codes "require") (codes "0")
 abbrev pub files_rule : Rule
 files_rule = record (new_rule (codes "file")) { value_names = 1; action = Some Append }
 
--- the task `cover`: it has that number, its inputs may tell events, or flits with points or without, and it has a file of a page and files that are counted
+-- the task `cover`: it has that number, its inputs may tell events, or flits with points or without and what errors say of them, and it has a file of a page and files that are counted
 abbrev pub cover_app : App
 cover_app =
-    with_rule (with_rule (with_rule (with_rule (with_rule (with_rule (new_app (codes "cover")) require_rule) (switch_rule (codes "events"))) (switch_rule (codes "flits"))) (switch_rule (codes "points"))) html_rule) files_rule
+    with_rule (with_rule (with_rule (with_rule (with_rule (with_rule (with_rule (new_app (codes "cover")) require_rule) (switch_rule (codes "events"))) (switch_rule (codes "flits"))) (switch_rule (codes "points"))) errors_rule) html_rule) files_rule
 
 -- the program, with its tasks `explain`, `watch` and `cover`
 abbrev pub program_app : App

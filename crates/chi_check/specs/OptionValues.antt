@@ -1,5 +1,5 @@
 -- which task the arguments name, and with which options
-use Rattle.std.specs.Prelude.{◌≡◌, ◌⊎◌, Bool, true, false, not, ◌&&◌, if◌then◌else◌, [], List, unwrap_or, Option, None, Some, codes}
+use Rattle.std.specs.Prelude.{◌≡◌, ◌⊎◌, Bool, true, false, not, ◌&&◌, ◌||◌, if◌then◌else◌, [], List, unwrap_or, Option, None, Some, codes}
 use Rattle.std.specs.Option.{option_map}
 use Rattle.std.specs.Str.{bytes_eq}
 use Rattle.std.specs.Borrow.{Bor}
@@ -11,6 +11,8 @@ use Rattle.clap.specs.declared.error.kind.ErrorKind.{ErrorKind}
 use Rattle.clap.specs.declared.error.kind.ErrorKind.TheVariants as error_kind
 use Rattle.chi_check.specs.declared.command.Task.{Task}
 use Rattle.chi_check.specs.declared.command.Task.TheVariants.{Explain, Watch, Cover}
+use Rattle.chi_watch_text.specs.declared.line_format.ErrorEffect.{ErrorEffect}
+use Rattle.chi_watch_text.specs.declared.line_format.ErrorEffect.TheVariants as effect
 use Rattle.chi_watch_text.specs.declared.line_format.LineFormat.{LineFormat}
 use Rattle.chi_watch_text.specs.declared.line_format.LineFormat.TheVariants.{Events, Flits, PointedFlits}
 use Rattle.chi_watch_text.specs.declared.required.Required.{Required}
@@ -25,19 +27,25 @@ use Rattle.chi_program.specs.OptionValues.{BeginsWith, IsNumberOr, IsNumberOrNon
 abbrev pub Finds : List Text → Text → List Row → Type 0
 Finds arguments name found = subcommand_of program_app arguments ≡ Some (name, found)
 
--- points were asked for, and no flits
+-- what is of flits alone was asked for, and no flits: points, or that errors have no effect
 abbrev pub lacks_flits : List Row → Bool
-lacks_flits found = has_word found (codes "points") (codes "true") && not (has_word found (codes "flits") (codes "true"))
+lacks_flits found =
+    (has_word found (codes "points") (codes "true") || has_word found (codes "errors") (codes "none")) && not (has_word found (codes "flits") (codes "true"))
 
--- in these arguments `clap` finds options that ask for points, and for no flits
-abbrev pub LackFlits : List Text → Type 0
-LackFlits arguments = (name : Text) × (found : List Row) × Finds arguments name found × (lacks_flits found ≡ true)
+-- what an error says of its request is neither of the two words
+abbrev pub has_other_effect : List Row → Bool
+has_other_effect found = not (has_word found (codes "errors") (codes "none")) && not (has_word found (codes "errors") (codes "unknown"))
 
--- why the arguments name no task: there is no memory; `clap` finds this fault in them, or is asked for help; or they ask for points, and
--- for no flits
+-- in these arguments `clap` finds options for which this holds
+abbrev pub FindsWhere : List Text → (List Row → Bool) → Type 0
+FindsWhere arguments holds = (name : Text) × (found : List Row) × Finds arguments name found × (holds found ≡ true)
+
+-- why the arguments name no task: there is no memory; `clap` finds this fault in them, or is asked for help; they ask for what is of
+-- flits alone, and for no flits; or no error says what they have it say
 abbrev pub IsArgumentsFault : List Text → ErrorKind → Type 0
 IsArgumentsFault arguments kind =
-    ((kind ≡ error_kind.OutOfMemory) ⊎ IsAmong kind (fault_of program_app arguments)) ⊎ ((kind ≡ error_kind.MissingRequiredArgument) × LackFlits arguments)
+    ((kind ≡ error_kind.OutOfMemory) ⊎ IsAmong kind (fault_of program_app arguments))
+    ⊎ (((kind ≡ error_kind.MissingRequiredArgument) × FindsWhere arguments lacks_flits) ⊎ ((kind ≡ error_kind.InvalidValue) × FindsWhere arguments has_other_effect))
 
 -- the name `watch` is that of the watch, `cover` that of the count, and any other that of the explaining
 abbrev pub IsNamed : Text → Task → Type 0
@@ -45,9 +53,13 @@ IsNamed name (Explain options file) = (bytes_eq name (codes "watch") ≡ false) 
 IsNamed name (Watch options file) = bytes_eq name (codes "watch") ≡ true
 IsNamed name (Cover options) = bytes_eq name (codes "cover") ≡ true
 
+-- what an error says of its request: that it took no effect, where that was asked for
+abbrev pub errors_asked : List Row → ErrorEffect
+errors_asked found = if has_word found (codes "errors") (codes "none") then effect.None else effect.Unknown
+
 -- what each line among flits tells: points too, where that was asked for
 abbrev pub flits_asked : List Row → LineFormat
-flits_asked found = if has_word found (codes "points") (codes "true") then PointedFlits else Flits
+flits_asked found = if has_word found (codes "points") (codes "true") then PointedFlits (errors_asked found) else Flits (errors_asked found)
 
 -- what each line of an input tells: flits or events, where that was asked for, and else it is a trace
 abbrev pub lines_asked : List Row → Option LineFormat

@@ -9,7 +9,7 @@ ghost use Rattle.chi_check.specs.OptionValues.{Chooses, HasOptions, IsArgumentsF
 ghost use Rattle.chi_check.specs.CommandLine.{IsTaken, program_app};
 
 use crate::option_values::{
-    cover_options, explain_options, file_given, lacks_flits, watch_options,
+    cover_options, explain_options, file_given, has_other_effect, lacks_flits, watch_options,
 };
 use crate::options::{CheckOptions, CoverOptions, WatchingOptions};
 use crate::tasks::TASKS;
@@ -35,7 +35,9 @@ const VERSION: &str = "0.1.0";
 
 const ABOUT: &str = "Says whether what was observed at a CHI home node can be explained.";
 
-const POINTS_ALONE: &str = "the option '--points' needs '--flits'";
+const NEED_FLITS: &str = "the options '--points' and '--errors' need '--flits'";
+
+const EFFECTS: &str = "the option '--errors' takes 'none' or 'unknown'";
 
 const MORE: &str =
     "A trace in FILE or on standard input is a script of chihome whose requests have the members
@@ -52,7 +54,8 @@ reply is null its answer was not seen. The answer on standard output is `explain
 Events in FILE or on standard input are one JSON object a line: requests, their data and their
 replies, as a monitor tells them. `watch` reads them as they come (docs/EVENTS.md). With `--flits`
 the lines are the flits at a home's port (docs/FLITS.md), and with `--points` too each request is
-told at the time of its point.
+told at the time of its point. A request that was answered by an error may have taken effect; with
+`--errors none` it took none.
 
 `cover` writes a table of how many operations each bin counted, of a trace or of events on standard
 input, or of all the files that are named (docs/COVERAGE.md).
@@ -86,19 +89,19 @@ fn chosen_task<'a>(
     })
 }
 
-// That points are asked for, and no flits.
-fn points_alone(alloc: Global) -> Result<Error, Error>
-    ensures kind { IfOk result (λ error. kind_of error ≡ ErrorKind.MissingRequiredArgument) }
+// An error of this kind, which says this.
+fn refused(alloc: Global, kind: ErrorKind, text: &str) -> Result<Error, Error>
+    ensures kind { IfOk result (λ error. kind_of error ≡ kind) }
     ensures memory { IfErr result (λ error. kind_of error ≡ ErrorKind.OutOfMemory) }
 {
     let mut command = whole_command(alloc)?;
-    Ok(command.error(ErrorKind::MissingRequiredArgument, POINTS_ALONE)?)
+    Ok(command.error(kind, text)?)
 }
 
 /// Reads the arguments after the program's name: `explain`, `watch` or `cover`, and its options.
 ///
 /// Which arguments are refused, and as what, and which task and options the others name, `clap`'s definitions say of the
-/// program's command line; but `--points` needs `--flits`. That `clap` refuses a budget or a time that is no number no contract says; `.ci/checker` shows it.
+/// program's command line; but `--points` and `--errors none` need `--flits`, and `--errors` takes one of two words. That `clap` refuses a budget or a time that is no number no contract says; `.ci/checker` shows it.
 ///
 /// ```
 /// let task = task_of(alloc, &arguments)?; // explain --witness --budget 1000 --until 4711
@@ -114,7 +117,10 @@ pub fn task_of(alloc: Global, arguments: &[String]) -> Result<Task<'_>, Error>
         unreachable!()
     };
     if lacks_flits(matches) {
-        return Err(points_alone(alloc)?);
+        return Err(refused(alloc, ErrorKind::MissingRequiredArgument, NEED_FLITS)?);
+    }
+    if has_other_effect(matches) {
+        return Err(refused(alloc, ErrorKind::InvalidValue, EFFECTS)?);
     }
     Ok(chosen_task(alloc, name, matches)?)
 }

@@ -4,12 +4,12 @@ ghost use Rattle.std.specs.Prelude.{◌≡◌, [], codes, map, unwrap_or, IfOk};
 ghost use Rattle.std.specs.Option.{option_map};
 ghost use Rattle.clap.specs.Matches.{found_of};
 ghost use Rattle.clap.specs.Walk.{all_of, first_of, one_of, rows_of};
-ghost use Rattle.chi_check.specs.OptionValues.{HasCoverOptions, HasRequired, HasWatchOptions, flits_asked, format_asked, lacks_flits, lines_asked};
+ghost use Rattle.chi_check.specs.OptionValues.{HasCoverOptions, HasRequired, HasWatchOptions, errors_asked, flits_asked, format_asked, has_other_effect, lacks_flits, lines_asked};
 ghost use Rattle.chi_program.specs.OptionValues.{IsNumberOr, IsNumberOrNone, has_word};
 
 use crate::options::{CheckOptions, CoverOptions, WatchingOptions};
-use chi_program::{is_switched, number_given, number_or, text_given};
-use chi_watch_text::{LineFormat, Required};
+use chi_program::{has_word, is_switched, number_given, number_or, text_given};
+use chi_watch_text::{ErrorEffect, LineFormat, Required};
 use clap::ArgMatches;
 use std::alloc::{AllocError, Global};
 
@@ -39,14 +39,26 @@ pub(crate) fn file_given<'a>(matches: &ArgMatches<'a>) -> Option<&'a str>
     text_given(matches, "file")
 }
 
+// What an error says of its request.
+fn errors_asked(matches: &ArgMatches<'_>) -> ErrorEffect
+    ensures { result ≡ errors_asked (rows_of (found_of matches.now)) }
+{
+    if has_word(matches, "errors", "none") {
+        ErrorEffect::None
+    } else {
+        ErrorEffect::Unknown
+    }
+}
+
 // What each line among flits tells.
 fn flits_asked(matches: &ArgMatches<'_>) -> LineFormat
     ensures { result ≡ flits_asked (rows_of (found_of matches.now)) }
 {
+    let errors = errors_asked(matches);
     if is_switched(matches, "points") {
-        LineFormat::PointedFlits
+        LineFormat::PointedFlits { errors }
     } else {
-        LineFormat::Flits
+        LineFormat::Flits { errors }
     }
 }
 
@@ -74,11 +86,19 @@ fn format_asked(matches: &ArgMatches<'_>) -> LineFormat
     }
 }
 
-/// Whether points are asked for, and no flits.
+/// Whether what is of flits alone is asked for, and no flits: points, or that errors have no effect.
 pub(crate) fn lacks_flits(matches: &ArgMatches<'_>) -> bool
     ensures { result ≡ lacks_flits (rows_of (found_of matches.now)) }
 {
-    is_switched(matches, "points") && !is_switched(matches, "flits")
+    (is_switched(matches, "points") || has_word(matches, "errors", "none"))
+        && !is_switched(matches, "flits")
+}
+
+/// Whether what an error says of its request is neither of the two words.
+pub(crate) fn has_other_effect(matches: &ArgMatches<'_>) -> bool
+    ensures { result ≡ has_other_effect (rows_of (found_of matches.now)) }
+{
+    !has_word(matches, "errors", "none") && !has_word(matches, "errors", "unknown")
 }
 
 /// The options that `explain` was given, or that stand in for them.

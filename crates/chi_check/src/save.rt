@@ -71,7 +71,9 @@ fn put_saved<G: Pages>(
 {
     match format {
         LineFormat::Events => put_events(alloc, watched, lines, granule, path, pages),
-        LineFormat::Flits | LineFormat::PointedFlits => put_lines(lines, path, pages),
+        LineFormat::Flits { errors: _ } | LineFormat::PointedFlits { errors: _ } => put_lines(
+            lines, path, pages,
+        ),
     }
 }
 

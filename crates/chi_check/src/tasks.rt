@@ -23,6 +23,13 @@ const POINTS: NamedOption<'static> = NamedOption {
     help: "Tells each request at its point, which is a line among the flits",
 };
 
+// What an error says of its request.
+const ERRORS: NamedOption<'static> = NamedOption {
+    name: "errors",
+    takes: Takes::TextOr("EFFECT", "unknown"),
+    help: "none: a request of flits that an error answers takes no effect",
+};
+
 // The file that is read.
 const FILE: NamedOption<'static> = NamedOption {
     name: "file",
@@ -31,7 +38,7 @@ const FILE: NamedOption<'static> = NamedOption {
 };
 
 // The options of `explain`, and its file.
-const EXPLAIN: [NamedOption<'static>; 12] = [
+const EXPLAIN: [NamedOption<'static>; 13] = [
     NamedOption {
         name: "events",
         takes: Takes::Nothing,
@@ -39,6 +46,7 @@ const EXPLAIN: [NamedOption<'static>; 12] = [
     },
     FLITS,
     POINTS,
+    ERRORS,
     NamedOption {
         name: "witness",
         takes: Takes::Nothing,
@@ -79,9 +87,10 @@ const EXPLAIN: [NamedOption<'static>; 12] = [
 ];
 
 // The options of `watch`, and its file.
-const WATCH: [NamedOption<'static>; 11] = [
+const WATCH: [NamedOption<'static>; 12] = [
     FLITS,
     POINTS,
+    ERRORS,
     BUDGET,
     NamedOption {
         name: "save",
@@ -122,7 +131,7 @@ const WATCH: [NamedOption<'static>; 11] = [
 ];
 
 // The options of `cover`, and the files that are counted.
-const COVER: [NamedOption<'static>; 6] = [
+const COVER: [NamedOption<'static>; 7] = [
     NamedOption {
         name: "require",
         takes: Takes::NumberOr("PERCENT", "0"),
@@ -135,6 +144,7 @@ const COVER: [NamedOption<'static>; 6] = [
     },
     FLITS,
     POINTS,
+    ERRORS,
     NamedOption {
         name: "html",
         takes: Takes::Text("FILE"),

@@ -1,6 +1,6 @@
 -- What is answered to the arguments is what `clap` finds in them, or out of memory. The task and its options are those
 -- of the subcommand that it finds.
-use Rattle.std.proofs.Common.{inr, map, string_bytes, sym, ◌∙◌}
+use Rattle.std.proofs.Common.{inl, inr, map, string_bytes, sym, ◌∙◌}
 use Rattle.std.proofs.lemmas.Result.{err_from_is_err_and}
 use Rattle.clap.specs.Matches.{found_of}
 use Rattle.clap.specs.Simple.{app_of}
@@ -47,4 +47,13 @@ returns-then-lacks_flits-clause-refused c =
     let name = c.in-Some.name.now in
     let found = rows_of (found_of c.in-Some.matches.now) in
     let found_so = finds app (map string_bytes c.args.arguments.now) c.in_ok-matches.matches name found is c.in_ok-matches.ensures.matches c.in-Some.ensures.name c.in-Some.ensures.rows in
-    inr (c.in_ok-points_alone.ensures.kind, (name, found, found_so, sym c.lacks_flits.ensures ∙ c.if-lacks_flits.true))
+    inr (inl (c.in_ok-refused.ensures.kind, (name, found, found_so, sym c.lacks_flits.ensures ∙ c.if-lacks_flits.true)))
+
+pub returns-then-has_other_effect-clause-refused : goal.returns-then-has_other_effect-clause-refused
+returns-then-has_other_effect-clause-refused c =
+    let app = app_of c.in_ok-whole_command.field-0 in
+    let is = c.in_ok-whole_command.ensures.app in
+    let name = c.in-Some.name.now in
+    let found = rows_of (found_of c.in-Some.matches.now) in
+    let found_so = finds app (map string_bytes c.args.arguments.now) c.in_ok-matches.matches name found is c.in_ok-matches.ensures.matches c.in-Some.ensures.name c.in-Some.ensures.rows in
+    inr (inr (c.in_ok-refused-2.ensures.kind, (name, found, found_so, sym c.has_other_effect.ensures ∙ c.if-has_other_effect.true)))
