@@ -12,25 +12,31 @@ SECONDS ?= 10
 .PHONY: help try build checker example run soak test page-test edits clauses lib dv install dist bench bench-c bench-explain corpus
 
 help:
-	@echo "make try [SCRIPT=FILE]     build chihome with no proof, and show a script and the transcript of chihome run"
-	@echo "make run [SCRIPT=FILE]     the same, once chihome is proved"
-	@echo "make test                  the gate: every proof from nothing, the edits that must fail, tests, runs and what the documents show"
-	@echo "make page-test [PICTURE=F] the pages of a trace and of a coverage, opened in Chromium: what they show, keys and mouse, and how soon they open"
-	@echo "make edits [CRATES=..]     all edits of some crates or of all, also those outside the gate: the prover must refuse each"
-	@echo "make clauses               out/CLAUSES.md: each public call, what it does, the clauses of its contract, and where it stands"
-	@echo "make checker               chicheck, proved: the program that explains traces"
-	@echo "make soak [SECONDS=N]      four workers race at the lock-free store for so many seconds, 10 if not said, while chicheck watches"
-	@echo "make lib                   out/libchi_c.a and out/libchi.so, for C, C++, SystemVerilog and Python"
-	@echo "make dv                    the benches in SystemVerilog, in Verilator: the calls, the monitor whose flits chicheck watches, and the stimulus of both;"
-	@echo "                           and where Icarus Verilog and GHDL are on the path, flits by hand in these"
-	@echo "make install PREFIX=DIR    put the programs chihome and chicheck into DIR/bin, and the libraries, header, packages, module, man pages"
-	@echo "                           and completions below DIR;"
-	@echo "                           with DESTDIR=ROOT too, all of it below ROOT"
-	@echo "make dist                  out/dist/chi-$(VERSION).tar.gz: all that, with the pages and the examples, for machines without the kit"
-	@echo "make bench                 the speed of chihome and of the lock-free store, beside plain Rust"
-	@echo "make bench-c               the speed of the calls for C, beside plain C and by DPI"
-	@echo "make bench-explain         the checker of traces beside every order of 100,000 small ones, and its speed beside plain Rust"
-	@echo "make corpus [SEED=N]       chihome on 10,000 scripts by chance, half of them broken, and on 100 of chihome generate, beside plain Rust"
+	@echo "Times are of a fresh clone on 4 cores; what was proved before is not proved again."
+	@echo
+	@echo "Use it"
+	@echo "  make try [SCRIPT=FILE]     chihome with no proof, and a script with its transcript: under a minute"
+	@echo "  make run [SCRIPT=FILE]     the same, once chihome is proved: 6 minutes"
+	@echo "  make checker               chicheck, proved: some 20 minutes"
+	@echo "  make lib                   out/libchi_c.a and out/libchi.so, for C, C++, SystemVerilog and Python"
+	@echo "  make install PREFIX=DIR    both programs, the libraries, monitors, man pages and completions below DIR; with DESTDIR=ROOT too below ROOT"
+	@echo "  make dist                  out/dist/chi-$(VERSION).tar.gz: all that, with the pages and the examples, for machines without the kit"
+	@echo
+	@echo "Check it"
+	@echo "  make test                  the gate: every proof from nothing, edits that must be refused, tests and examples: 40 to 50 minutes"
+	@echo "  make clauses               out/CLAUSES.md: each public call with the clauses of its contract: some seconds"
+	@echo "  make soak [SECONDS=N]      four workers race at the lock-free store for N seconds (10), while chicheck watches; it wants make checker"
+	@echo "  make dv                    the benches in Verilator, and flits by hand where Icarus Verilog and GHDL are on the path: 12 minutes after make checker"
+	@echo
+	@echo "Develop it"
+	@echo "  make edits [CRATES=..]     all edits of some crates or of all, also those outside the gate: the prover must refuse each"
+	@echo "  make page-test [PICTURE=F] the pages of a trace and of a coverage, opened in Chromium"
+	@echo
+	@echo "Measure it, beside programs in plain Rust and C"
+	@echo "  make bench                 the speed of chihome and of the lock-free store"
+	@echo "  make bench-c               the speed of the calls for C, also by DPI"
+	@echo "  make bench-explain         the checker of traces beside every order of 100,000 small ones, and its speed"
+	@echo "  make corpus [SEED=N]       chihome on 10,000 scripts by chance, half of them broken, and on 100 of chihome generate"
 
 # Where a command fails, what it said is shown; it leaves no file behind.
 quiet = log=$$(mktemp) && trap "rm -f $$log" EXIT && trap "exit 130" INT TERM && { $(1); } > $$log 2>&1 || { cat $$log; exit 1; }
