@@ -9,7 +9,9 @@ use chi_flits::FlitFault;
 use chi_json::ObjectFault;
 use chi_reading::LineFault;
 use chi_watch::WatchFault;
-use chi_watch_text::{ErrorEffect, LineFormat, LinesFault, TellingFault, read_events, read_operations};
+use chi_watch_text::{
+    ErrorEffect, LineFormat, LinesFault, TellingFault, read_events, read_operations,
+};
 use std::test::Fail;
 
 // ReadNoSnp with an address of which a digit is not known.
@@ -118,7 +120,12 @@ fn faults_and_their_texts(rt: HostRuntime) -> Result<(), Fail> {
 fn faults_of_operations_and_traces(rt: HostRuntime) -> Result<(), Fail> {
     let text = joined(rt.alloc(), &[READ, FIVE, FIVE])?;
     for (format, fault) in [
-        (LineFormat::Flits { errors: ErrorEffect::Unknown }, at_port(3, FlitFault::NotOpen)),
+        (
+            LineFormat::Flits {
+                errors: ErrorEffect::Unknown,
+            },
+            at_port(3, FlitFault::NotOpen),
+        ),
         (LineFormat::Events, no_event(1, LineFault::OfFlits)),
     ] {
         let mut from = text.as_slice();

@@ -63,7 +63,9 @@ fn a_write_of_two_granules(rt: HostRuntime) -> Result<(), Fail> {
 #[test]
 fn granules_and_their_lines(rt: HostRuntime) -> Result<(), Fail> {
     let going = WatchOptions {
-        format: LineFormat::Flits { errors: ErrorEffect::Unknown },
+        format: LineFormat::Flits {
+            errors: ErrorEffect::Unknown,
+        },
         ..GOING
     };
     for (options, texts, wanted) in &[
@@ -125,7 +127,13 @@ fn operations_of_flits(rt: HostRuntime) -> Result<(), Fail> {
     let text = joined(rt.alloc(), &[WRITE, CREDIT, LOW, HIGH, LAST])?;
     let wanted = [(1, 1, 3), (1, 1, 3), (5, 5, 6), (7, 7, 8)];
     let mut from = text.as_slice();
-    let told = read_operations(rt.alloc(), &mut from, LineFormat::Flits { errors: ErrorEffect::Unknown })?;
+    let told = read_operations(
+        rt.alloc(),
+        &mut from,
+        LineFormat::Flits {
+            errors: ErrorEffect::Unknown,
+        },
+    )?;
     let times: Vec<(u64, u64, u64)> = told
         .operations
         .iter()
@@ -133,7 +141,13 @@ fn operations_of_flits(rt: HostRuntime) -> Result<(), Fail> {
         .collect(rt.alloc())?;
     assert_same(&rt, times.as_slice(), wanted.as_slice());
     let mut from = text.as_slice();
-    let recorded = read_events(rt.alloc(), &mut from, LineFormat::Flits { errors: ErrorEffect::Unknown })?;
+    let recorded = read_events(
+        rt.alloc(),
+        &mut from,
+        LineFormat::Flits {
+            errors: ErrorEffect::Unknown,
+        },
+    )?;
     let times: Vec<(u64, u64, u64)> = recorded
         .trace()
         .operations()

@@ -73,6 +73,8 @@ pub(crate) const LAST: &str =
 
 /// Lines of flits are watched, up to the first granule that is found.
 pub(crate) const FLITS: WatchOptions = WatchOptions {
-    format: LineFormat::Flits { errors: ErrorEffect::Unknown },
+    format: LineFormat::Flits {
+        errors: ErrorEffect::Unknown,
+    },
     ..STOPPING
 };

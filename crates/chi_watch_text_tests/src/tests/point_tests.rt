@@ -6,12 +6,16 @@ use crate::tests::flits::{FIVE, FLITS, READ, WORD};
 use chi_flit_text::{FlitLineFault, FlitMember};
 use chi_flits::FlitFault;
 use chi_points::PointFault;
-use chi_watch_text::{ErrorEffect, LineFormat, LinesFault, TellingFault, WatchOptions, read_operations};
+use chi_watch_text::{
+    ErrorEffect, LineFormat, LinesFault, TellingFault, WatchOptions, read_operations,
+};
 use std::test::Fail;
 
 // Flits and points are watched, up to the first granule that is found.
 const POINTED: WatchOptions = WatchOptions {
-    format: LineFormat::PointedFlits { errors: ErrorEffect::Unknown },
+    format: LineFormat::PointedFlits {
+        errors: ErrorEffect::Unknown,
+    },
     ..FLITS
 };
 
@@ -91,7 +95,13 @@ fn order_of_points(rt: HostRuntime) -> Result<(), Fail> {
 fn operations_at_their_points(rt: HostRuntime) -> Result<(), Fail> {
     let text = joined(rt.alloc(), &[BEGUN, WRITE_FIRST, DONE, END])?;
     let mut from = text.as_slice();
-    let told = read_operations(rt.alloc(), &mut from, LineFormat::PointedFlits { errors: ErrorEffect::Unknown })?;
+    let told = read_operations(
+        rt.alloc(),
+        &mut from,
+        LineFormat::PointedFlits {
+            errors: ErrorEffect::Unknown,
+        },
+    )?;
     let times: Vec<(u64, u64, u64)> = told
         .operations
         .iter()
