@@ -1,8 +1,7 @@
 -- the sets of states of a search by layers, and the words that can follow
-use Rattle.std.proofs.Common.{◌≡◌, ℕ, ◌+◌, ◌-◌, ◌^◌, ◌<◌, ◌≤◌, ◌⊎◌, ◌↔◌, All, List, [], ◌∷◌, ◌++◌, length-append, get_or, length, slice_index, None, Option, Some, sym, ap, subst, ◌∙◌, arith, inl, inr, below_more}
+use Rattle.std.proofs.Common.{◌≡◌, ℕ, ◌+◌, ◌-◌, ◌^◌, ◌<◌, ◌≤◌, ◌⊎◌, ◌↔◌, All, List, [], ◌∷◌, ◌++◌, length-append, length, None, Option, Some, sym, ap, subst, arith, inl, inr, below_more}
 use Rattle.std.proofs.lemmas.Bool.{cases_lt}
 use Rattle.std.specs.Prelude.{slice_get}
-use Rattle.std.proofs.lemmas.List.{get_or_read}
 use Rattle.std.proofs.lemmas.List.Elements.{Contains-get_or}
 use Rattle.std.proofs.lemmas.Option.{get_or_from_slice_get, slice_get_within}
 use Rattle.chi_trace.specs.declared.operation.Operation.{Operation}
@@ -12,14 +11,13 @@ use Rattle.chi_trace.proofs.Segments.{at_later}
 use Rattle.chi_search.specs.declared.states.States.{States}
 use Rattle.chi_search.specs.Layers.{AreReady, AreWaiting, EitherEnds, SomeEnds, Waits}
 use Rattle.chi_search.specs.Moves.{ByTaking, CanCome, Drops, Ends, IsIdle, Takes}
-use Rattle.chi_search.specs.Paths.{AreEarliest}
 use Rattle.chi_search.specs.Positions.{IsReady, Position}
 use Rattle.chi_search.specs.Searchable.{AreSorted}
 use Rattle.chi_search.specs.StateSets.{Has, positions}
 use Rattle.chi_search.proofs.Moves.{ByDropping, from_dropped, from_idle, from_taken, goes_on}
 use Rattle.chi_search.proofs.Settling.{left_is}
 use Rattle.chi_search.proofs.Following.{at_before}
-use Rattle.chi_search.proofs.Paths.{all_late}
+use Rattle.chi_search.proofs.Paths.{AreLate, not_late}
 use Rattle.chi_search.proofs.Elements.{some_added}
 use Rattle.chi_search.proofs.Sets.{one_more, swapped}
 
@@ -101,6 +99,25 @@ grown_taken ops old now new p q k grown added sorted comes takes below = record 
     more : Grown ops old new p k
     more = grown_by ops old now new p q k grown added (λ v. takes_to ops p q k v sorted comes takes below)
 
+-- none by operations that start too late
+pub grown_late : (ops : List Operation) (old now : States) (p : Position) (k m : ℕ) → Grown ops old now p k → AreLate ops p k m → Grown ops old now p m
+grown_late ops old now p k m grown late = record {
+  forth = grown.forth;
+  back = grown.back;
+  tried = λ v i before taking. elim (cases_lt i k) [
+    | inl earlier ↦ grown.tried v i earlier taking
+    | inr from ↦ absurd (not_late ops p k m i late from before taking.0)
+  ];
+}
+
+-- and they start too late whatever follows
+pub late_before : (ops more : List Operation) (p : Position) (k m : ℕ) → p.first < length ops → m ≤ length ops → AreLate ops p k m → AreLate (ops ++ more) p k m
+late_before ops more p k m first within late i from before =
+    let end : (at (ops ++ more) p.first).end ≡ (at ops p.first).end = ap (λ (o : Operation). o.end) (at_before ops more p.first first) in
+    let start : (at (ops ++ more) i).start ≡ (at ops i).start = ap (λ (o : Operation). o.start) (at_before ops more i (omega arith)) in
+    let apart : (at ops p.first).end < (at ops i).start = late i from before in
+    omega (arith, start, end, apart)
+
 -- the words that can follow from p are among those that can follow from the set
 abbrev pub IsWhole : List Operation → States → States → Position → Type 0
 IsWhole ops new old p = (v : ℕ) → SomeEnds ops new v ↔ (SomeEnds ops old v ⊎ Ends ops (Some v) p)
@@ -123,12 +140,6 @@ whole_idle ops old new p q k added sorted comes takes finds leaves idle =
 -- No operation from the place on can come next: so each order begins by one before it, or without the first.
 abbrev pub IsLate : List Operation → Position → ℕ → Type 0
 IsLate ops p k = (i : ℕ) → k ≤ i → i < length ops → (at ops p.first).end < (at ops i).start
-
-pub is_late : (ops : List Operation) (times : List ℕ) (p : Position) (k : ℕ) (op : Operation) → p.first < length ops → AreEarliest ops times → op ≡ get_or ops p.first op
-    → (get_or ops p.first op).end < slice_index times k → IsLate ops p k
-is_late ops times p k op below earliest is late =
-    subst (λ (o : Operation). (i : ℕ) → k ≤ i → i < length ops → o.end < (at ops i).start) (sym is ∙ get_or_read ops p.first op below is nothing)
-    (all_late ops times k (get_or ops p.first op).end earliest late)
 
 pub late_on : (ops more : List Operation) (p : Position) (k : ℕ) → p.first < length ops → IsLate ops p k → All (λ op. (at ops p.first).end < op.start) more
     → IsLate (ops ++ more) p k

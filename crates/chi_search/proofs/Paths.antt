@@ -1,16 +1,17 @@
 -- walks of a search, and what is known of a position from which operations were tried
-use Rattle.std.proofs.Common.{◌≡◌, ℕ, ◌+◌, ◌^◌, ◌<◌, ◌≤◌, List, [], ◌∷◌, ◌++◌, length, slice_index, Option, None, Some, refl, sym, subst, arith, inl, inr, below_more}
+use Rattle.std.proofs.Common.{◌≡◌, ℕ, ◌+◌, ◌^◌, ◌<◌, ◌≤◌, List, [], ◌∷◌, ◌++◌, length, get_or, Option, None, Some, refl, sym, subst, ◌∙◌, arith, inl, inr, below_more}
 use Rattle.std.proofs.lemmas.Bool.{cases_lt}
+use Rattle.std.proofs.lemmas.List.{get_or_read}
 use Rattle.std.proofs.lemmas.List.Elements.{All-pop, All-push}
 use Rattle.chi_trace.specs.declared.operation.Operation.{Operation}
-use Rattle.chi_trace.specs.Explains.{at}
+use Rattle.chi_trace.specs.Explains.{at, nothing}
 use Rattle.chi_trace.specs.Granules.{Finishes, Fits}
 use Rattle.chi_search.specs.declared.path.Step.{Step}
 use Rattle.chi_search.specs.declared.states.States.{States}
 use Rattle.chi_search.specs.Commuting.{GoesFirst}
 use Rattle.chi_search.specs.Equal.{GoesOnBefore}
 use Rattle.chi_search.specs.Moves.{ByTaking, CanCome, IsIdle, Takes}
-use Rattle.chi_search.specs.Paths.{AllDead, AreEarliest, AreTried, AreTriedBefore, IsDead, Moves, Walks, after_op, taken}
+use Rattle.chi_search.specs.Paths.{AllDead, AreTried, AreTriedBefore, IsDead, Moves, Walks, after_op, taken}
 use Rattle.chi_search.specs.Positions.{IsReady, Position, is_left, position_of}
 use Rattle.chi_search.specs.Searchable.{AreSorted}
 use Rattle.chi_search.specs.StateSets.{Has}
@@ -87,6 +88,28 @@ pub dead_more : (ops : List Operation) (final_word : Option ℕ) (dead : States)
 dead_more ops final_word dead p q k tried takes has all =
     below_more (λ i. ByTaking ops final_word p i → ⊥) k (tried all) (λ taking. all q has (taking.3 q takes))
 
+-- none from a place up to another can come next, since each starts too late
+abbrev pub AreLate : List Operation → Position → ℕ → ℕ → Type 0
+AreLate ops p k m = (i : ℕ) → k ≤ i → i < m → (at ops p.first).end < (at ops i).start
+
+pub are_late : (ops : List Operation) (p : Position) (k m : ℕ) (op : Operation) → p.first < length ops → op ≡ get_or ops p.first op
+    → ((i : ℕ) → k ≤ i → i < m → (get_or ops p.first op).end < (at ops i).start) → AreLate ops p k m
+are_late ops p k m op below is late =
+    subst (λ (o : Operation). (i : ℕ) → k ≤ i → i < m → o.end < (at ops i).start) (sym is ∙ get_or_read ops p.first op below is nothing) late
+
+pub not_late : (ops : List Operation) (p : Position) (k m i : ℕ) → AreLate ops p k m → k ≤ i → i < m → CanCome ops p i → ⊥
+not_late ops p k m i late from before comes =
+    let starts : (at ops i).start ≤ (at ops p.first).end = comes.1 in
+    let ends : (at ops p.first).end < (at ops i).start = late i from before in
+    omega (arith, starts, ends)
+
+pub late_more : (ops : List Operation) (final_word : Option ℕ) (dead : States) (p : Position) (k m : ℕ) → Tried ops final_word dead p k → AreLate ops p k m
+    → Tried ops final_word dead p m
+late_more ops final_word dead p k m tried late all i before taking = elim (cases_lt i k) [
+  | inl earlier ↦ tried all i earlier taking
+  | inr from ↦ not_late ops p k m i late from before taking.0
+]
+
 -- all that can come next were tried, and the first cannot be left out
 pub tried_all : (ops : List Operation) (final_word : Option ℕ) (dead : States) (p : Position) (k : ℕ) → AreSorted ops → IsReady (length ops) p → p.first < length ops
     → Tried ops final_word dead p k → ((i : ℕ) → k ≤ i → i < length ops → (at ops p.first).end < (at ops i).start)
@@ -102,11 +125,6 @@ tried_all ops final_word dead p k sorted ready below tried late dropped all (x, 
   ]
   | inr dropping ↦ dropped all dropping
 ]
-
--- the times say that none after a place starts in time
-pub all_late : (ops : List Operation) (times : List ℕ) (k end : ℕ) → AreEarliest ops times → end < slice_index times k
-    → (i : ℕ) → k ≤ i → i < length ops → end < (at ops i).start
-all_late ops times k end earliest late i from below = let least : slice_index times k ≤ (at ops i).start = earliest.1 k i from below in omega (arith, late, least)
 
 -- where an operation that changes nothing leads to a state of the set
 pub idle_dead : (ops : List Operation) (final_word : Option ℕ) (dead : States) (p q : Position) (i : ℕ) → p.word < 2 ^ 64 → CanCome ops p i → IsIdle (at ops i) → Takes ops p i q

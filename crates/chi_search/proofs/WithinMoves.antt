@@ -13,6 +13,7 @@ use Rattle.chi_search.specs.Within.{AreTriedWithin, ByDroppingWithin, ByTakingWi
 use Rattle.chi_search.proofs.Covers.{Covers, covers_first, covers_rest, covers_settled, parts, without}
 use Rattle.chi_search.proofs.Moves.{begins_early}
 use Rattle.chi_search.proofs.Orders.{absent}
+use Rattle.chi_search.proofs.Paths.{AreLate, not_late}
 use Rattle.chi_search.proofs.Settling.{left_is, left_settles}
 use Rattle.chi_search.proofs.Within.{finishes_without, same_word, turned}
 
@@ -84,6 +85,14 @@ tried_all mask ops final_word p k sorted ready below tried late dropped (x, c) =
         absurd (omega (arith, starts, ends))
   ]
   | inr dropping ↦ dropped dropping
+]
+
+-- none of the operations that start too late can come
+pub late_more : (mask : ℕ) (ops : List Operation) (final_word : Option ℕ) (p : Position) (k m : ℕ) → AreTriedWithin mask ops final_word p k → AreLate ops p k m
+    → AreTriedWithin mask ops final_word p m
+late_more mask ops final_word p k m tried late i before taking = elim (cases_lt i k) [
+  | inl earlier ↦ tried i earlier taking
+  | inr from ↦ not_late ops p k m i late from before taking.comes
 ]
 
 -- each step of a path was made from a position that is ready, and the operations before the place to which it had come were tried

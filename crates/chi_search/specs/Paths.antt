@@ -2,6 +2,7 @@
 use Rattle.std.specs.Prelude.{◌≡◌, ℕ, ◌^◌, ◌<◌, ◌≤◌, List, [], ◌∷◌, All, length, slice_index, Option, Some, None}
 use Rattle.chi_trace.specs.declared.operation.Operation.{Operation}
 use Rattle.chi_trace.specs.Explains.{at}
+use Rattle.chi_search.specs.declared.earliest.EarliestStarts.{EarliestStarts}
 use Rattle.chi_search.specs.declared.path.Step.{Step}
 use Rattle.chi_search.specs.declared.states.States.{States}
 use Rattle.chi_search.specs.Moves.{ByTaking, CanCome, Drops, Ends, Takes}
@@ -9,8 +10,21 @@ use Rattle.chi_search.specs.Positions.{IsReady, Position, position_of}
 use Rattle.chi_search.specs.StateSets.{Has}
 
 -- each time is no later than the start of the operation at its place, and of each after it
-abbrev pub AreEarliest : List Operation → List ℕ → Type 0
-AreEarliest ops times = (length times ≡ length ops) × ((i j : ℕ) → i ≤ j → j < length ops → slice_index times i ≤ (at ops j).start)
+pub record AreLeast (ops : List Operation) (times : List ℕ) : Type 0 where
+  pub each : length times ≡ length ops
+  pub early : (i j : ℕ) → i ≤ j → j < length ops → slice_index times i ≤ (at ops j).start
+
+-- for each place a later one, where none of the operations between starts before the one at the first
+pub record AreLower (ops : List Operation) (places : List ℕ) : Type 0 where
+  pub each : length places ≡ length ops
+  pub later : (i : ℕ) → i < length ops → i < slice_index places i
+  pub within : (i : ℕ) → i < length ops → slice_index places i ≤ length ops
+  pub between : (i j : ℕ) → i < length ops → i ≤ j → j < slice_index places i → (at ops i).start ≤ (at ops j).start
+
+-- both are those of the operations
+pub record AreEarliest (ops : List Operation) (starts : EarliestStarts) : Type 0 where
+  pub times : AreLeast ops starts.times.items
+  pub lower : AreLower ops starts.lower.items
 
 -- no order goes on from here
 abbrev pub IsDead : List Operation → Option ℕ → Position → Type 0

@@ -48,15 +48,12 @@ fn kept_next(problem: &Problem, mask: u64, state: &State) -> Option<usize>
         return None;
     }
     let end = ops[state.first].end;
-    let mut place = state.first;
-    while place < ops.len() && problem.earliest[place] <= end {
-        if ops[place].start <= end
-            && is_kept(&problem.effects[place], mask, state.word)
-            && is_left(state, ops.len(), place)
-        {
+    let mut place = problem.earliest.next(ops, state.first, end);
+    while place < ops.len() {
+        if is_kept(&problem.effects[place], mask, state.word) && is_left(state, ops.len(), place) {
             return Some(place);
         }
-        place += 1;
+        place = problem.earliest.next(ops, place + 1, end);
     }
     None
 }

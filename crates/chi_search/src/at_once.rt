@@ -3,10 +3,11 @@
 ghost use Rattle.std.specs.Prelude.{◌≡◌, ◌≤◌, [], IfOk, IfSome, IsTrue, OnOk, length};
 ghost use Rattle.chi_trace.specs.Granules.{Finishes};
 ghost use Rattle.chi_search.specs.Problems.{IsProblem};
-ghost use Rattle.chi_search.specs.Paths.{AllDead, IsDead};
+ghost use Rattle.chi_search.specs.Paths.{AllDead, AreEarliest, IsDead};
 ghost use Rattle.chi_search.specs.Positions.{Position, is_left, position_of};
 ghost use Rattle.chi_search.specs.StateSets.{Has};
 
+use crate::earliest::EarliestStarts;
 use crate::effect::effects_of;
 use crate::makers::lacks_maker;
 use crate::problem::Problem;
@@ -21,21 +22,40 @@ const FEW_NEXT: usize = 28;
 /// How many operations are looked at for makers before the search.
 const LOOKED_AT: usize = 1000;
 
-// How many operations at most lie between the first that is left and the last that can come next, it among them.
-fn most_next(ops: &[Operation], earliest: &[u64]) -> usize {
+// How many operations have ended. Those that were still open stand after them.
+fn ended_count(ops: &[Operation]) -> usize
+    ensures { result ≤ length ops.now }
+{
+    let mut count = ops.len();
+    while count > 0 && ops[count - 1].end == u64::MAX {
+        count -= 1;
+    }
+    count
+}
+
+// How many operations at most lie between the first that is left and the last that can come next, it among them. Each that was
+// still open counts as one more.
+fn most_next(ops: &[Operation], earliest: &EarliestStarts) -> usize
+    requires earliest { AreEarliest ops.now earliest.now }
+{
+    let ended = ended_count(ops);
     let mut most: usize = 0;
     let mut past: usize = 0;
-    for place in 0..ops.len() {
-        while past < ops.len() && past < earliest.len() && earliest[past] <= ops[place].end {
-            past += 1;
+    for place in 0..ended {
+        let mut last = earliest.next(ops, past, ops[place].end);
+        while last < ended {
+            past = last + 1;
+            last = earliest.next(ops, past, ops[place].end);
         }
         most = most.max(past.saturating_sub(place));
     }
-    most
+    most.saturating_add(ops.len() - ended)
 }
 
 /// Whether many operations can come next at once.
-pub(crate) fn are_hot(ops: &[Operation], earliest: &[u64]) -> bool {
+pub(crate) fn are_hot(ops: &[Operation], earliest: &EarliestStarts) -> bool
+    requires earliest { AreEarliest ops.now earliest.now }
+{
     most_next(ops, earliest) > FEW_NEXT
 }
 

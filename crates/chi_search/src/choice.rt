@@ -13,6 +13,7 @@ ghost use Rattle.chi_search.specs.Searchable.{AreWithin};
 
 use crate::absorbing::keeps_word;
 use crate::commuting::commuting_next;
+use crate::earliest::EarliestStarts;
 use crate::effect::Effect;
 use crate::equal::has_equal_before;
 use crate::makers::{FOLLOWED, lacks_maker};
@@ -77,7 +78,7 @@ pub(crate) fn take(
 pub(crate) fn idle_next(
     ops: &[Operation],
     effects: &[Effect],
-    earliest: &[u64],
+    earliest: &EarliestStarts,
     state: &State,
 ) -> Option<usize>
     requires within { AreWithin ops.now }
@@ -88,16 +89,14 @@ pub(crate) fn idle_next(
     ensures idle { IfSome result (λ place. IsIdle (at ops.now place)) }
 {
     let end = ops[state.first].end;
-    let mut place = state.first;
-    while place < ops.len() && earliest[place] <= end {
-        let op = &ops[place];
-        if op.start <= end
-            && is_left(state, ops.len(), place)
-            && (stays(op, state.word) || keeps_word(ops, effects, place, state.word))
+    let mut place = earliest.next(ops, state.first, end);
+    while place < ops.len() {
+        if is_left(state, ops.len(), place)
+            && (stays(&ops[place], state.word) || keeps_word(ops, effects, place, state.word))
         {
             return Some(place);
         }
-        place += 1;
+        place = earliest.next(ops, place + 1, end);
     }
     None
 }
@@ -190,11 +189,11 @@ pub(crate) fn choose(
             is_only: false,
         });
     }
-    let mut place = tried;
-    while place < ops.len() && earliest[place] <= end {
+    let mut place = earliest.next(ops, tried, end);
+    while place < ops.len() {
         if take(ops, state, place, next)?
             && !has(dead, next)
-            && !has_equal_before(ops, state, place, with_rules)
+            && !has_equal_before(ops, earliest, state, place, with_rules)
         {
             return Ok(Choice::Step {
                 op: Some(place),
@@ -202,7 +201,7 @@ pub(crate) fn choose(
                 is_only: false,
             });
         }
-        place += 1;
+        place = earliest.next(ops, place + 1, end);
     }
     if leave_out(ops, state, next)? && !has(dead, next) {
         return Ok(Choice::Step {

@@ -6,6 +6,7 @@ ghost use Rattle.chi_search.specs.Paths.{AreEarliest};
 ghost use Rattle.chi_search.specs.Positions.{IsReady, position_of};
 ghost use Rattle.chi_search.specs.Searchable.{AreSorted, AreWithin};
 
+use crate::earliest::EarliestStarts;
 use crate::equal::is_same_operand;
 use crate::state::{State, is_left};
 use chi_fields::{Access, Kind};
@@ -90,7 +91,7 @@ fn stops(ops: &[Operation], state: &State, place: usize, other: usize) -> bool
 // at first.
 fn stop_of(
     ops: &[Operation],
-    earliest: &[u64],
+    earliest: &EarliestStarts,
     state: &State,
     place: usize,
     likely: usize,
@@ -106,12 +107,12 @@ fn stop_of(
         return Some(likely);
     }
     let end = ops[place].end;
-    let mut other = state.first;
-    while other < ops.len() && earliest[other] <= end {
+    let mut other = earliest.next(ops, state.first, end);
+    while other < ops.len() {
         if stops(ops, state, place, other) {
             return Some(other);
         }
-        other += 1;
+        other = earliest.next(ops, other + 1, end);
     }
     None
 }
@@ -120,7 +121,7 @@ fn stop_of(
 /// there is one, and it is asked for.
 pub(crate) fn commuting_next(
     ops: &[Operation],
-    earliest: &[u64],
+    earliest: &EarliestStarts,
     state: &State,
     is_asked: bool,
 ) -> Option<usize>
@@ -138,17 +139,17 @@ pub(crate) fn commuting_next(
     // That the word is one of 64 bits is known here once it is read.
     let _word = state.word;
     let end = ops[state.first].end;
-    let mut place = state.first;
+    let mut place = earliest.next(ops, state.first, end);
     let mut stop = state.first;
-    while place < ops.len() && earliest[place] <= end {
+    while place < ops.len() {
         let op = &ops[place];
-        if op.start <= end && op.reply.is_some() && is_left(state, ops.len(), place) {
+        if op.reply.is_some() && is_left(state, ops.len(), place) {
             match stop_of(ops, earliest, state, place, stop) {
                 Some(found) => stop = found,
                 None => return Some(place),
             }
         }
-        place += 1;
+        place = earliest.next(ops, place + 1, end);
     }
     None
 }

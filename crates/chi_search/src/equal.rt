@@ -2,9 +2,11 @@
 
 ghost use Rattle.std.specs.Prelude.{◌≡◌, ◌<◌, IsTrue, length};
 ghost use Rattle.chi_search.specs.Equal.{AreEqual, GoesOnBefore};
+ghost use Rattle.chi_search.specs.Paths.{AreEarliest};
 ghost use Rattle.chi_search.specs.Positions.{IsReady, position_of};
 ghost use Rattle.chi_search.specs.Searchable.{AreSorted};
 
+use crate::earliest::EarliestStarts;
 use crate::state::{State, is_left};
 use crate::step::is_same;
 use chi_fields::Access;
@@ -57,11 +59,13 @@ pub(crate) fn are_equal(op: &Operation, other: &Operation) -> bool
 /// Whether an equal operation that can come next as well stands before the place, where it is asked for.
 pub(crate) fn has_equal_before(
     ops: &[Operation],
+    earliest: &EarliestStarts,
     state: &State,
     place: usize,
     is_asked: bool,
 ) -> bool
     requires sorted { AreSorted ops.now }
+    requires earliest { AreEarliest ops.now earliest.now }
     requires ready { IsReady (length ops.now) (position_of state.now) }
     requires first { state.now.first < length ops.now }
     requires place { place < length ops.now }
@@ -72,11 +76,12 @@ pub(crate) fn has_equal_before(
     }
     let end = ops[state.first].end;
     let op = &ops[place];
-    for before in state.first..place {
-        let other = &ops[before];
-        if other.start <= end && are_equal(op, other) && is_left(state, ops.len(), before) {
+    let mut before = earliest.next(ops, state.first, end);
+    while before < place {
+        if are_equal(op, &ops[before]) && is_left(state, ops.len(), before) {
             return true;
         }
+        before = earliest.next(ops, before + 1, end);
     }
     false
 }

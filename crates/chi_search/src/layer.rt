@@ -14,7 +14,7 @@ ghost use Rattle.chi_search.specs.Searchable.{AreSorted, AreWithin};
 ghost use Rattle.chi_search.specs.StateSets.{Has, positions};
 
 use crate::choice::{idle_next, leave_out, take};
-use crate::earliest::earliest_starts;
+use crate::earliest::{EarliestStarts, earliest_starts};
 use crate::progress::Progress;
 use crate::state::{State, first_state};
 use crate::states::{States, add, count, has, no_states, read};
@@ -37,7 +37,7 @@ pub(crate) fn add_new(alloc: Global, states: &mut States, state: &State) -> Resu
 fn add_moves(
     alloc: Global,
     ops: &[Operation],
-    earliest: &[u64],
+    earliest: &EarliestStarts,
     state: &State,
     next: &mut State,
     states: &mut States,
@@ -57,12 +57,12 @@ fn add_moves(
         }
     }
     let end = ops[state.first].end;
-    let mut place = state.first;
-    while place < ops.len() && earliest[place] <= end {
+    let mut place = earliest.next(ops, state.first, end);
+    while place < ops.len() {
         if take(ops, state, place, next)? {
             add_new(alloc, states, next)?;
         }
-        place += 1;
+        place = earliest.next(ops, place + 1, end);
     }
     if leave_out(ops, state, next)? {
         add_new(alloc, states, next)?;
@@ -89,7 +89,7 @@ fn waits(ops: &[Operation], horizon: Option<u64>, first: usize) -> bool
 fn put_next(
     alloc: Global,
     ops: &[Operation],
-    earliest: &[u64],
+    earliest: &EarliestStarts,
     horizon: Option<u64>,
     state: &State,
     next: &mut State,
@@ -145,7 +145,7 @@ fn fewest_settled(layer: &States, state: &mut State) -> Result<(usize, usize), A
 fn next_layer<P: Progress>(
     alloc: Global,
     ops: &[Operation],
-    earliest: &[u64],
+    earliest: &EarliestStarts,
     horizon: Option<u64>,
     layer: &States,
     waiting: &mut States,

@@ -91,11 +91,10 @@ pub(crate) fn lacks_maker(
     {
         return true;
     }
-    let mut place = state.first;
-    while place < ops.len() && problem.earliest[place] <= until && place - state.first < count {
+    let mut place = problem.earliest.next(ops, state.first, until);
+    while place < ops.len() && place - state.first < count {
         let followed = if ops[place].start <= time { depth } else { 0 };
-        if ops[place].start <= until
-            && must_find(ops, state, place)
+        if must_find(ops, state, place)
             && is_out_of_reach(
                 problem,
                 state,
@@ -108,7 +107,7 @@ pub(crate) fn lacks_maker(
         {
             return true;
         }
-        place += 1;
+        place = problem.earliest.next(ops, place + 1, until);
     }
     false
 }

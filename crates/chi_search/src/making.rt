@@ -9,6 +9,7 @@ ghost use Rattle.chi_search.specs.Paths.{AreEarliest};
 ghost use Rattle.chi_search.specs.Positions.{position_of};
 ghost use Rattle.chi_search.specs.Within.{IsRun};
 
+use crate::earliest::EarliestStarts;
 use crate::effect::Effect;
 use crate::problem::Problem;
 use crate::state::{State, is_left};
@@ -82,7 +83,7 @@ fn may_make(
 }
 
 // The place from which on no operation may stand before the other one.
-fn bound_of(ops: &[Operation], earliest: &[u64], other: Option<usize>) -> usize
+fn bound_of(ops: &[Operation], earliest: &EarliestStarts, other: Option<usize>) -> usize
     requires earliest { AreEarliest ops.now earliest.now }
     requires other { IfSome other (λ after. after < length ops.now) }
     ensures within { result ≤ length ops.now }
@@ -91,11 +92,13 @@ fn bound_of(ops: &[Operation], earliest: &[u64], other: Option<usize>) -> usize
     match other {
         Some(after) => {
             let end = ops[after].end;
-            let mut place = after;
-            while place < ops.len() && earliest[place] <= end {
-                place += 1;
+            let mut bound = after;
+            let mut place = earliest.next(ops, after, end);
+            while place < ops.len() {
+                bound = place + 1;
+                place = earliest.next(ops, bound, end);
             }
-            place
+            bound
         }
         None => ops.len(),
     }

@@ -35,18 +35,18 @@ pub(crate) fn narrowest_next(
     let end = ops[state.first].end;
     let mut least = u32::MAX;
     let mut found = None;
-    let mut place = state.first;
-    while place < ops.len() && place < effects.len() && problem.earliest[place] <= end {
+    let mut place = problem.earliest.next(ops, state.first, end);
+    while place < ops.len() && place < effects.len() {
         let bits = effects[place].changed_mask.count_ones();
         if bits < least
             && take(ops, state, place, next)?
             && !has(dead, next)
-            && !has_equal_before(ops, state, place, true)
+            && !has_equal_before(ops, problem.earliest, state, place, true)
         {
             least = bits;
             found = Some(place);
         }
-        place += 1;
+        place = problem.earliest.next(ops, place + 1, end);
     }
     match found {
         Some(place) => {

@@ -148,9 +148,9 @@ fn choose_within(
     {
         return Ok(Choice::Dead);
     }
-    let mut place = tried;
-    while place < ops.len() && problem.earliest[place] <= end {
-        if ops[place].start <= end && is_left(state, ops.len(), place) {
+    let mut place = problem.earliest.next(ops, tried, end);
+    while place < ops.len() {
+        if is_left(state, ops.len(), place) {
             let outcomes = outcomes_of(&ops[place], &problem.effects[place], part.mask, state.word);
             let Outcomes::Problem { one, other } = outcomes else {
                 return Ok(Choice::Ended);
@@ -165,7 +165,7 @@ fn choose_within(
                 });
             }
         }
-        place += 1;
+        place = problem.earliest.next(ops, place + 1, end);
     }
     if leave_out_within(problem, part, state, next, spare)? {
         return Ok(Choice::Step {

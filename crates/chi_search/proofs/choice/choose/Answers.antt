@@ -1,15 +1,12 @@
 -- a step is a move, and a state without one is dead
-use Rattle.std.proofs.Common.{◌≡◌, ℕ, ◌<◌, ◌≤◌, IfSome, Option, get_or, length, refl, sym, subst, ◌∙◌, arith}
-use Rattle.std.proofs.lemmas.List.{get_or_read}
-use Rattle.chi_trace.specs.declared.operation.Operation.{Operation}
-use Rattle.chi_trace.specs.Explains.{at, nothing}
+use Rattle.std.proofs.Common.{◌≡◌, ℕ, ◌+◌, ◌<◌, ◌≤◌, IfSome, Option, length, refl, sym, subst, arith}
 use Rattle.chi_search.specs.Paths.{Moves}
 use Rattle.chi_search.specs.Positions.{position_of}
 use Rattle.chi_search.proofs.Moves.{at_end}
-use Rattle.chi_search.proofs.Paths.{all_late, dead_more, equal_more, first_dead, first_refused, idle_dead, refused_more, tried_all}
+use Rattle.chi_search.proofs.Paths.{are_late, dead_more, equal_more, first_dead, first_refused, idle_dead, late_more, refused_more, tried_all}
 use Rattle.chi_search.proofs.Within.{dead_within}
 use Rattle.chi_search.proofs.choice.choose.Goals as goal
-use Rattle.chi_search.proofs.choice.choose.Goals.{else-branch-2-via-else-branch-2, else-branch-2-via-then-branch-2+else-not-has, else-branch-3-via-else-branch-3, else-branch-3-via-then-branch-3+else-not-has-2, else-branch-3-via-then-branch-3+then-not-has-2+else-not-has_equal_before, else-branch-4-via-else-branch-4, else-branch-4-via-then-branch-4+else-not-has-3, else-loop-place-test, then-loop-place-test+else-earliest-place}
+use Rattle.chi_search.proofs.choice.choose.Goals.{else-branch-2-via-else-branch-2, else-branch-2-via-then-branch-2+else-not-has, else-branch-3-via-else-branch-3, else-branch-3-via-then-branch-3+else-not-has-2, else-branch-3-via-then-branch-3+then-not-has-2+else-not-has_equal_before, else-branch-4-via-else-branch-4, else-branch-4-via-then-branch-4+else-not-has-3}
 
 pub returns-in-Some-clause-dead : goal.returns-in-Some-clause-dead
 returns-in-Some-clause-dead c all (x, ends) =
@@ -56,18 +53,27 @@ unfolding Moves
 returns-then-not-has_equal_before-clause-moves c =
     (c.requires.ready, c.in_ok-take-3.ensures.comes c.if-branch-3.true, c.in_ok-take-3.ensures.takes c.if-branch-3.true, c.in_ok-take-3.ensures.leaves c.if-branch-3.true)
 
+pub loop-place-init : goal.loop-place-init
+loop-place-init c =
+    late_more c.args.problem.now.ops.now c.args.problem.now.final_word c.args.dead.now (position_of c.args.state.now) c.args.tried c.next-place.result (λ all. c.requires.tried)
+    (are_late c.args.problem.now.ops.now (position_of c.args.state.now) c.args.tried c.next-place.result c.index-ops-state.result (omega arith) c.index-ops-state.is c.next-place.ensures.late)
+
 pub loop-place-preserved : goal.loop-place-preserved
-loop-place-preserved c = elim c.else-branch-3.branch [
-  | else-branch-3-via-then-branch-3+then-not-has-2+else-not-has_equal_before w ↦
-      equal_more c.args.problem.now.ops.now c.args.problem.now.final_word c.args.dead.now (position_of c.args.state.now) c.loop-place.place c.loop-place.invariant
-      (w.has_equal_before.ensures w.if-not-has_equal_before.false)
-  | else-branch-3-via-then-branch-3+else-not-has-2 w ↦
-      dead_more c.args.problem.now.ops.now c.args.problem.now.final_word c.args.dead.now (position_of c.args.state.now) (position_of c.take-in-loop-place.new.next) c.loop-place.place c.loop-place.invariant
-      (c.in_ok-take-3.ensures.takes w.if-branch-3.true) (w.has-then-branch-3.ensures w.if-not-has-2.false)
-  | else-branch-3-via-else-branch-3 w ↦
-      refused_more c.args.problem.now.ops.now c.args.problem.now.final_word c.args.dead.now (position_of c.args.state.now) c.loop-place.place c.loop-place.invariant
-      (c.in_ok-take-3.ensures.refused w.if-branch-3.false)
-]
+loop-place-preserved c =
+    late_more c.args.problem.now.ops.now c.args.problem.now.final_word c.args.dead.now (position_of c.args.state.now) (c.loop-place.place + 1) c.next-place-in-loop-place.result
+    (elim c.else-branch-3.branch [
+      | else-branch-3-via-then-branch-3+then-not-has-2+else-not-has_equal_before w ↦
+          equal_more c.args.problem.now.ops.now c.args.problem.now.final_word c.args.dead.now (position_of c.args.state.now) c.loop-place.place c.loop-place.invariant
+          (w.has_equal_before.ensures w.if-not-has_equal_before.false)
+      | else-branch-3-via-then-branch-3+else-not-has-2 w ↦
+          dead_more c.args.problem.now.ops.now c.args.problem.now.final_word c.args.dead.now (position_of c.args.state.now) (position_of c.take-in-loop-place.new.next) c.loop-place.place c.loop-place.invariant
+          (c.in_ok-take-3.ensures.takes w.if-branch-3.true) (w.has-then-branch-3.ensures w.if-not-has-2.false)
+      | else-branch-3-via-else-branch-3 w ↦
+          refused_more c.args.problem.now.ops.now c.args.problem.now.final_word c.args.dead.now (position_of c.args.state.now) c.loop-place.place c.loop-place.invariant
+          (c.in_ok-take-3.ensures.refused w.if-branch-3.false)
+    ])
+    (are_late c.args.problem.now.ops.now (position_of c.args.state.now) (c.loop-place.place + 1) c.next-place-in-loop-place.result c.index-ops-state.result (omega arith) c.index-ops-state.is
+    c.next-place-in-loop-place.ensures.late)
 
 pub returns-then-not-has-3-clause-moves : goal.returns-then-not-has-3-clause-moves
 unfolding Moves
@@ -77,13 +83,7 @@ pub returns-clause-dead : goal.returns-clause-dead
 returns-clause-dead c =
     let below : c.args.state.now.first < length c.args.problem.now.ops.now = omega arith in
     tried_all c.args.problem.now.ops.now c.args.problem.now.final_word c.args.dead.now (position_of c.args.state.now) c.loop-place.place c.requires.problem.sorted c.requires.ready below c.loop-place.invariant
-    (elim c.loop-place-test.branch [
-      | then-loop-place-test+else-earliest-place w ↦
-          subst (λ (op : Operation). (i : ℕ) → c.loop-place.place ≤ i → i < length c.args.problem.now.ops.now → op.end < (at c.args.problem.now.ops.now i).start)
-          (sym c.index-ops-state.is ∙ get_or_read c.args.problem.now.ops.now c.args.state.now.first c.index-ops-state.result below c.index-ops-state.is nothing)
-          (all_late c.args.problem.now.ops.now c.args.problem.now.earliest.now c.loop-place.place (get_or c.args.problem.now.ops.now c.args.state.now.first c.index-ops-state.result).end c.requires.problem.earliest w.if-earliest-place.false)
-      | else-loop-place-test w ↦ λ i from inside. absurd (omega (arith, from, inside, w.loop-place-test.false))
-    ])
+    (λ i from inside. absurd (omega (arith, from, inside, c.loop-place-test.false)))
     (λ all dropping. elim c.else-branch-4.branch [
       | else-branch-4-via-then-branch-4+else-not-has-3 w ↦
           all (position_of c.leave_out.new.next) (w.has-then-branch-4.ensures w.if-not-has-3.false) (dropping.1 (position_of c.leave_out.new.next) (c.in_ok-leave_out.ensures.drops w.if-branch-4.true))

@@ -1,5 +1,5 @@
 -- an operation that can be moved before all others comes first
-use Rattle.std.proofs.Common.{◌≡◌, ◌<◌, ◌≤◌, ◌^◌, Option, get_or, sym, ap, subst, ◌∙◌, arith, true, None, Some, is_some, refl, rules}
+use Rattle.std.proofs.Common.{◌≡◌, ◌<◌, ◌≤◌, ◌^◌, Option, get_or, length, sym, ap, subst, ◌∙◌, arith, true, None, Some, is_some, refl, rules}
 use Rattle.chi_lanes.specs.declared.reply.Reply.{Reply}
 use Rattle.std.proofs.lemmas.List.{get_or_read}
 use Rattle.chi_trace.specs.declared.operation.Operation.{Operation}
@@ -25,8 +25,8 @@ returns-in-None-clause-first c final_word =
     let first : get_or ops p.first c.index-ops-state.result ≡ at ops p.first =
     sym c.index-ops-state.is ∙ get_or_read ops p.first c.index-ops-state.result (omega arith) c.index-ops-state.is nothing in
     let op : c.index-ops-place.result ≡ at ops place = get_or_read ops place c.index-ops-place.result (omega arith) c.index-ops-place.is nothing in
-    let starts : (at ops place).start ≤ (at ops p.first).end =
-    omega (arith, c.if-op-end.true, ap (λ (o : Operation). o.end) first, ap (λ (o : Operation). o.start) op) in
+    let within : place < length ops = omega arith in
+    let starts : (at ops place).start ≤ (at ops p.first).end = omega (arith, c.loop-place.invariant.starts within, ap (λ (o : Operation). o.end) first) in
     let comes : CanCome ops p place = (sym c.is_left.ensures ∙ c.if-is_left.true, starts) in
     let answered : is_answered (at ops place) ≡ true =
     subst (λ (o : Operation). is_answered o ≡ true) op (has_reply c.index-ops-place.result (sym c.is_some.ensures ∙ c.if-is_some.true)) in

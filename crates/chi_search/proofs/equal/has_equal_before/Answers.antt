@@ -24,7 +24,6 @@ returns-then-is_left c _ =
     let equal : AreEqual (at ops place) (at ops before) =
     subst (λ (o : Operation). AreEqual o (at ops before)) op
     (subst (AreEqual c.index-ops-place.result) other (c.are_equal.ensures c.if-are_equal.true)) in
-    let starts : (at ops before).start ≤ (at ops p.first).end =
-    omega (arith, c.if-other-end.true, ap (λ (o : Operation). o.end) first, ap (λ (o : Operation). o.start) other) in
+    let starts : (at ops before).start ≤ (at ops p.first).end = omega (arith, c.loop-before.invariant (omega (arith, below, c.requires.place)), ap (λ (o : Operation). o.end) first) in
     let comes : CanCome ops p before = (sym c.is_left.ensures ∙ c.if-is_left.true, starts) in
     (before, below, λ (final_word : Option ℕ). by_equal ops final_word p place before c.requires.sorted (omega (arith, below)) equal comes)

@@ -9,10 +9,11 @@ use Rattle.chi_search.specs.Moves.{IsIdle}
 use Rattle.chi_search.specs.Paths.{AreReached}
 use Rattle.chi_search.specs.Positions.{position_of}
 use Rattle.chi_search.proofs.Following.{at_before, comes_back, comes_on, drops_on, ready_on, takes_on}
-use Rattle.chi_search.proofs.Layers.{Grown, IsAdded, grown_refused, grown_taken, is_late, late_on, ready_more, whole_answered, whole_dropped, whole_idle}
+use Rattle.chi_search.proofs.Layers.{Grown, IsAdded, grown_late, grown_refused, grown_taken, late_before, late_on, not_grown, ready_more, whole_answered, whole_dropped, whole_idle}
+use Rattle.chi_search.proofs.Paths.{AreLate, are_late}
 use Rattle.chi_search.proofs.Reached.{reached_dropped, reached_more, reached_taken}
 use Rattle.chi_search.proofs.layer.add_moves.Goals as goal
-use Rattle.chi_search.proofs.layer.add_moves.Goals.{else-branch-2, else-loop-place-test, then-branch-2+in_ok-add_new, then-loop-place-test+else-earliest-place}
+use Rattle.chi_search.proofs.layer.add_moves.Goals.{else-branch-2, then-branch-2+in_ok-add_new}
 
 pub returns-then-branch-clause-ends : goal.returns-then-branch-clause-ends
 returns-then-branch-clause-ends c =
@@ -48,6 +49,20 @@ returns-then-branch-clause-reached c =
     (c.in_ok-take.ensures.leaves c.if-branch.true) reached))
     c.add_new.ensures.has
 
+pub loop-place-init : goal.loop-place-init
+loop-place-init c =
+    let ops = c.args.ops.now in
+    let p = position_of c.args.state.now in
+    let place = c.next-place.result in
+    record {
+      grown = λ more after.
+          grown_late (ops ++ more) c.args.states.now c.args.states.now p p.first place (not_grown (ops ++ more) c.args.states.now p)
+          (late_before ops more p p.first place c.requires.first c.next-place.ensures.within
+          (are_late ops p p.first place c.index-ops-state.result c.requires.first c.index-ops-state.is c.next-place.ensures.late));
+      ready = λ all. all;
+      reached = λ from reached all. all;
+    }
+
 pub loop-place-preserved : goal.loop-place-preserved
 loop-place-preserved c =
     let ops = c.args.ops.now in
@@ -57,14 +72,19 @@ loop-place-preserved c =
     let below : place < length ops = omega arith in
     let old = c.args.states.now in
     let now = c.loop-place.states in
+    let further = c.next-place-in-loop-place.result in
+    let late : AreLate ops p (place + 1) further =
+    are_late ops p (place + 1) further c.index-ops-state.result c.requires.first c.index-ops-state.is c.next-place-in-loop-place.ensures.late in
     elim c.if-branch-2.branch [
       | then-branch-2+in_ok-add_new w ↦ record {
         grown = λ more after.
-            subst (λ (grown : States). Grown (ops ++ more) old grown p (place + 1)) (sym w.states-is)
+            subst (λ (grown : States). Grown (ops ++ more) old grown p further) (sym w.states-is)
+            (grown_late (ops ++ more) old w.add_new-then-branch-2.new.states p (place + 1) further
             (grown_taken (ops ++ more) old now w.add_new-then-branch-2.new.states p q place (c.loop-place.invariant.grown more after) w.in_ok-add_new.ensures.has
             after.sorted
             (comes_on ops more p place c.requires.first (c.in_ok-take-2.ensures.comes w.if-branch-2.true))
-            (takes_on ops more p q place below (c.in_ok-take-2.ensures.takes w.if-branch-2.true)) (c.in_ok-take-2.ensures.leaves w.if-branch-2.true));
+            (takes_on ops more p q place below (c.in_ok-take-2.ensures.takes w.if-branch-2.true)) (c.in_ok-take-2.ensures.leaves w.if-branch-2.true))
+            (late_before ops more p (place + 1) further c.requires.first c.next-place-in-loop-place.ensures.within late));
         ready = λ all.
             subst (AreReady ops) (sym w.states-is)
             (ready_more ops w.add_new-then-branch-2.new.states now q w.in_ok-add_new.ensures.has (c.in_ok-take-2.ensures.ready w.if-branch-2.true) (c.loop-place.invariant.ready all));
@@ -77,11 +97,13 @@ loop-place-preserved c =
       }
       | else-branch-2 w ↦ record {
         grown = λ more after.
-            subst (λ (grown : States). Grown (ops ++ more) old grown p (place + 1)) (sym w.states-is)
+            subst (λ (grown : States). Grown (ops ++ more) old grown p further) (sym w.states-is)
+            (grown_late (ops ++ more) old now p (place + 1) further
             (grown_refused (ops ++ more) old now p place (c.loop-place.invariant.grown more after)
             (λ comes fits.
             c.in_ok-take-2.ensures.refused w.if-branch-2.false (comes_back ops more p place c.requires.first below comes)
-            (subst (λ (o : Operation). Fits o p.word) (at_before ops more place below) fits)));
+            (subst (λ (o : Operation). Fits o p.word) (at_before ops more place below) fits)))
+            (late_before ops more p (place + 1) further c.requires.first c.next-place-in-loop-place.ensures.within late));
         ready = λ all. subst (AreReady ops) (sym w.states-is) (c.loop-place.invariant.ready all);
         reached = λ from reached all. subst (AreReached ops from) (sym w.states-is) (c.loop-place.invariant.reached from reached all);
       }
@@ -96,11 +118,7 @@ returns-in_ok-add_new-2-clause-ends c more after =
     whole_dropped (ops ++ more) c.args.states.now c.loop-place.states c.add_new-then-branch-3.new.states p q c.loop-place.place (c.loop-place.invariant.grown more after) c.in_ok-add_new-2.ensures.has
     after.sorted (ready_on ops more p c.requires.ready) further
     (late_on ops more p c.loop-place.place c.requires.first
-    (elim c.loop-place-test.branch [
-      | then-loop-place-test+else-earliest-place w ↦
-          is_late ops c.args.earliest.now p c.loop-place.place c.index-ops-state.result c.requires.first c.requires.earliest c.index-ops-state.is w.if-earliest-place.false
-      | else-loop-place-test w ↦ λ i from inside. absurd (omega (arith, from, inside, w.loop-place-test.false))
-    ])
+    (λ i from inside. absurd (omega (arith, from, inside, c.loop-place-test.false)))
     after.late)
     (drops_on ops more p q c.requires.first (c.in_ok-leave_out.ensures.drops c.if-branch-3.true))
 
@@ -124,10 +142,6 @@ returns-else-branch-3-clause-ends c more after =
     let further : p.first < length (ops ++ more) = omega (arith, c.requires.first, length-append ops more) in
     whole_answered (ops ++ more) c.args.states.now c.loop-place.states p c.loop-place.place (c.loop-place.invariant.grown more after) after.sorted (ready_on ops more p c.requires.ready) further
     (late_on ops more p c.loop-place.place c.requires.first
-    (elim c.loop-place-test.branch [
-      | then-loop-place-test+else-earliest-place w ↦
-          is_late ops c.args.earliest.now p c.loop-place.place c.index-ops-state.result c.requires.first c.requires.earliest c.index-ops-state.is w.if-earliest-place.false
-      | else-loop-place-test w ↦ λ i from inside. absurd (omega (arith, from, inside, w.loop-place-test.false))
-    ])
+    (λ i from inside. absurd (omega (arith, from, inside, c.loop-place-test.false)))
     after.late)
     (λ none. c.in_ok-leave_out.ensures.answered c.if-branch-3.false (ap (λ (o : Operation). o.reply) (sym (at_before ops more p.first c.requires.first)) ∙ none))

@@ -1,7 +1,7 @@
 -- the times from this place on
 use Rattle.std.proofs.Common.{◌≡◌, ℕ, ◌<◌, ◌≤◌, length, get_or}
 use Rattle.chi_trace.specs.Explains.{at}
-use Rattle.chi_search.proofs.earliest.earliest_starts.Given as goal
+use Rattle.chi_search.proofs.earliest.least_starts.Given as goal
 
 abbrev pub invariant-loop-place : goal.invariant-loop-place
 invariant-loop-place l = record {
