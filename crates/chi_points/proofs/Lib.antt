@@ -1,3 +1,4 @@
 mod KindsLeft
 mod OnePoint
 mod Steps
+pub mod Waiting

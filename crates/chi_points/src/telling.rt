@@ -140,6 +140,9 @@ impl Points {
         ensures left { IfOk result (λ _. self.new ≡ left self.old) }
     {
         let ready = self.ready(alloc)?;
+        if ready.is_empty() {
+            return Ok(Vec::new(alloc));
+        }
         let events = told(alloc, &self.noted, &ready)?;
         self.leave(alloc, &ready)?;
         Ok(events)
