@@ -208,10 +208,10 @@ pub(crate) fn put_page<G: Pages>(pages: &mut G, path: Option<&str>, page: &[u8])
 /// Reads a trace, or lines with the option for them, and writes whether what was observed can be explained. The answer is a
 /// status: 0 where it can, 1 where it cannot, 6 where that is undecided within the budget.
 ///
-/// Nothing is written unless the whole trace was read and its answer found. A granule of which nothing is told has none. After a fault of the writer a prefix of the
-/// answer has been written. Where a page of the trace is asked for, it is made whole and put before the answer is written.
-/// `progress` is told how far the search is, and cleared before anything is written. `machine` puts the page, and tells how much of
-/// its time and memory was used.
+/// Nothing is written unless the whole trace was read and its answer found. A granule of which nothing is told has none. After a
+/// fault of the writer a prefix of the answer has been written. Where a page of the trace is asked for, it is made whole and put
+/// before the answer is written. `progress` is told how far the search is, and cleared before anything is written. `machine` puts
+/// the page, and tells how much of its time and memory was used.
 ///
 /// ```
 /// let status = check(alloc, &mut trace.as_bytes(), &mut answer, &options, &mut progress, &mut machine)?; // explained

@@ -101,7 +101,8 @@ fn refused(alloc: Global, kind: ErrorKind, text: &str) -> Result<Error, Error>
 /// Reads the arguments after the program's name: `explain`, `watch` or `cover`, and its options.
 ///
 /// Which arguments are refused, and as what, and which task and options the others name, `clap`'s definitions say of the
-/// program's command line; but `--points` and `--errors none` need `--flits`, and `--errors` takes one of two words. That `clap` refuses a budget or a time that is no number no contract says; `.ci/checker` shows it.
+/// program's command line; but `--points` and `--errors none` need `--flits`, and `--errors` takes one of two words. That `clap`
+/// refuses a budget or a time that is no number no contract says; `.ci/checker` shows it.
 ///
 /// ```
 /// let task = task_of(alloc, &arguments)?; // explain --witness --budget 1000 --until 4711

@@ -21,9 +21,10 @@ pub struct CheckOptions<'a> {
     pub html: Option<&'a str>,
 }
 
-/// How lines are watched. `format` is what they tell. `budget` is how many states are looked at for an answer. With `keep_going` a granule that no order explains
-/// does not end it. `required` changes nothing of what is found. `save` is the path of a file that is to be the lines that tell of
-/// the granule that is listed first, where one is listed that no order explains, or all flits up to there, and `html` that of one that is to be its page.
+/// How lines are watched. `format` is what they tell. `budget` is how many states are looked at for an answer. With `keep_going`
+/// a granule that no order explains does not end it. `required` changes nothing of what is found. `save` is the path of a file
+/// that is to be the lines that tell of the granule that is listed first, where one is listed that no order explains, or all
+/// flits up to there, and `html` that of one that is to be its page.
 #[derive(Clone, Copy)]
 pub struct WatchingOptions<'a> {
     pub format: LineFormat,
@@ -35,8 +36,8 @@ pub struct WatchingOptions<'a> {
 }
 
 /// What is counted, and how. `require` is how many of a hundred bins have to have counted an operation. With `lines` the inputs
-/// are lines that tell this, and no traces. `files` are the paths of the inputs; where there is none it is the standard input. `html` is the path
-/// of a file that is to be the page of the counts.
+/// are lines that tell this, and no traces. `files` are the paths of the inputs; where there is none it is the standard input.
+/// `html` is the path of a file that is to be the page of the counts.
 #[derive(Drop)]
 pub struct CoverOptions<'a> {
     pub require: u64,

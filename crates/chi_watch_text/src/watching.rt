@@ -269,7 +269,8 @@ fn watch_each<R: BufRead, W: Write, P: WatchProgress>(
 /// is there. The last line needs no line feed, and blank ones after it tell nothing.
 ///
 /// Each granule is told to `to` as soon as it is found, and in place of how far the watch is. Where a line is refused that states a
-/// flit of a later time, the granules that are found by then are told first; after a fault nothing else is said of the events. Where lines are kept, all that are taken are, so they take as much memory as the input has by then.
+/// flit of a later time, the granules that are found by then are told first; after a fault nothing else is said of the events.
+/// Where lines are kept, all that are taken are, so they take as much memory as the input has by then.
 ///
 /// ```
 /// let watched = watch_lines(alloc, &mut reader, &mut out, &options, &mut NoProgress)?;
