@@ -15,6 +15,20 @@ use chi_flits::Flit;
 use chi_points::{Point, PointFault, PointedPort};
 use std::alloc::Global;
 
+/// Why lines are read no further where a port answers this fault to the line with this number.
+fn points_fault(number: u64, fault: PointFault) -> LinesFault
+    ensures line { fault ≢ PointFault.Memory → result ≡ LinesFault.Line number (TellingFault.Points fault) }
+    ensures memory { fault ≡ PointFault.Memory → result ≡ LinesFault.Memory }
+{
+    match fault {
+        PointFault::Memory => LinesFault::Memory,
+        fault => LinesFault::Line {
+            number,
+            fault: TellingFault::Points(fault),
+        },
+    }
+}
+
 /// The events of the flit that a line states.
 fn flit_pointed(
     alloc: Global,
@@ -28,11 +42,7 @@ fn flit_pointed(
 {
     match port.take_flit(alloc, flit) {
         Ok(events) => Ok(events),
-        Err(PointFault::Memory) => Err(LinesFault::Memory),
-        Err(fault) => Err(LinesFault::Line {
-            number,
-            fault: TellingFault::Points(fault),
-        }),
+        Err(fault) => Err(points_fault(number, fault)),
     }
 }
 
@@ -49,11 +59,7 @@ fn point_pointed(
 {
     match port.take_point(alloc, point) {
         Ok(events) => Ok(events),
-        Err(PointFault::Memory) => Err(LinesFault::Memory),
-        Err(fault) => Err(LinesFault::Line {
-            number,
-            fault: TellingFault::Points(fault),
-        }),
+        Err(fault) => Err(points_fault(number, fault)),
     }
 }
 
@@ -70,11 +76,7 @@ fn event_pointed(
 {
     match port.take_event(alloc, event) {
         Ok(events) => Ok(events),
-        Err(PointFault::Memory) => Err(LinesFault::Memory),
-        Err(fault) => Err(LinesFault::Line {
-            number,
-            fault: TellingFault::Points(fault),
-        }),
+        Err(fault) => Err(points_fault(number, fault)),
     }
 }
 
