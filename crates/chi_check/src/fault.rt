@@ -46,7 +46,7 @@ pub enum CheckFault {
     Input(SourceFault),
     #[error("{fault}")]
     File { place: usize, fault: SourceFault },
-    #[error("nothing is told of the granule at {addr}, which is read as a decimal number")]
+    #[error("no operation and no word is told of the granule at {addr}, a decimal number")]
     Untold { addr: u64 },
     #[error("page could not be written")]
     Page,
