@@ -49,6 +49,12 @@ def first(count):
     return requests + [addition(granule, 7, start + 5, end=start + 8) for granule, start in places], ["explain"]
 
 
+def hanging(count):
+    """One granule, where a read that comes before all others never ends."""
+    read = {"src": 7, "txn": 9, "op": 4, "size": 3, "addr": 0, "endian": 0, "be": 0, "lanes": "0" * 32, "start": 0}
+    return [read] + [addition(0, place, 10 * place + 1, end=10 * place + 6) for place in range(count)], ["explain"]
+
+
 def still_open(count):
     """Operations of one granule that never end."""
     return [addition(0, None, 10 * place) for place in range(count)], ["cover"]
@@ -67,7 +73,7 @@ def seconds(row, count):
     return min(times)
 
 
-for row in around, page, first, still_open:
+for row in around, page, first, hanging, still_open:
     times = [seconds(row, COUNT * more) for more in (1, 2, 4)]
     shown = "  ".join(f"{it:7.3f} s" for it in times)
     print(f"{row.__name__:12} {shown}  exponent {math.log(times[2] / times[0], 4):.2f}", flush=True)

@@ -155,6 +155,7 @@ struct Search<'a> {
     ops: &'a [Observed],
     effects: Vec<Effect>,
     earliest: Vec<u64>,
+    lower: Vec<usize>,
     last: Option<u64>,
     dead: Dead,
     left: u64,
@@ -206,12 +207,35 @@ fn moves_before(a: &Observed, b: &Observed) -> bool {
 }
 
 impl Search<'_> {
+    /// The first place from one on whose operation starts by a time, or the number of operations where there is none.
+    fn next(&self, from: usize, time: u64) -> usize {
+        let mut place = from;
+        if place >= self.ops.len() || self.earliest[place] > time {
+            return self.ops.len();
+        }
+        while place < self.ops.len() && self.ops[place].start > time {
+            place = self.lower[place];
+        }
+        place
+    }
+
+    /// All such places.
+    fn starting(&self, from: usize, time: u64) -> impl Iterator<Item = usize> {
+        let mut next = self.next(from, time);
+        std::iter::from_fn(move || {
+            let place = next;
+            if place >= self.ops.len() {
+                return None;
+            }
+            next = self.next(place + 1, time);
+            Some(place)
+        })
+    }
+
     /// The places from one on whose operations can come next, whether or not they fit the word.
     fn places(&self, state: &State, from: usize) -> impl Iterator<Item = usize> {
-        let end = self.ops[state.first].end;
-        (from..self.ops.len())
-            .take_while(move |place| self.earliest[*place] <= end)
-            .filter(move |place| self.ops[*place].start <= end && !state.is_settled(*place))
+        self.starting(from, self.ops[state.first].end)
+            .filter(move |place| !state.is_settled(*place))
     }
 
     /// The word that an operation leaves, where it fits the word that it finds.
@@ -232,17 +256,28 @@ impl Search<'_> {
         })
     }
 
-    /// How many operations at most lie between the first that is left and the last that can come next, it among them.
+    /// How many operations at most lie between the first that is left and the last that can come next, it among them. Each that was
+    /// still open counts as one more.
     fn most_next(&self) -> usize {
+        let open = self
+            .ops
+            .iter()
+            .rev()
+            .take_while(|op| op.end == u64::MAX)
+            .count();
+        let ended = self.ops.len() - open;
         let mut past = 0;
-        let mut most = 0;
-        for place in 0..self.ops.len() {
-            while past < self.ops.len() && self.earliest[past] <= self.ops[place].end {
-                past += 1;
-            }
-            most = most.max(past - place);
+        let mut most: usize = 0;
+        for place in 0..ended {
+            let end = self.ops[place].end;
+            past = self
+                .starting(past, end)
+                .take_while(|last| *last < ended)
+                .last()
+                .map_or(past, |last| last + 1);
+            most = most.max(past.saturating_sub(place));
         }
-        most
+        most + open
     }
 
     /// Whether an operation is seen at once to find what no other can leave, or the end to have it.
@@ -277,9 +312,9 @@ impl Search<'_> {
         }
         let bound = later[0].map_or(self.ops.len(), |next| {
             let end = self.ops[next].end;
-            (next..self.ops.len())
-                .find(|place| self.earliest[*place] > end)
-                .unwrap_or(self.ops.len())
+            self.starting(next, end)
+                .last()
+                .map_or(next, |last| last + 1)
         });
         (state.first..bound).rev().any(|place| {
             let it = &self.effects[place];
@@ -336,12 +371,9 @@ impl Search<'_> {
         {
             return true;
         }
-        (state.first..self.ops.len().min(state.first + count))
-            .take_while(|place| self.earliest[*place] <= until)
-            .filter(|place| {
-                let op = &self.ops[*place];
-                op.start <= until && op.reply.is_some() && self.is_left(state, *place)
-            })
+        self.starting(state.first, until)
+            .take_while(|place| place - state.first < count)
+            .filter(|place| self.ops[*place].reply.is_some() && self.is_left(state, *place))
             .any(|place| {
                 let it = &self.effects[place];
                 let wanted = (it.found, it.found_mask & mask);
@@ -359,14 +391,11 @@ impl Search<'_> {
         self.places(state, state.first).find(|place| {
             let op = &self.ops[*place];
             op.reply.is_some()
-                && (state.first..self.ops.len())
-                    .take_while(|other| self.earliest[*other] <= op.end)
-                    .all(|other| {
-                        other == *place
-                            || self.ops[other].start > op.end
-                            || !self.is_left(state, other)
-                            || moves_before(op, &self.ops[other])
-                    })
+                && self.starting(state.first, op.end).all(|other| {
+                    other == *place
+                        || !self.is_left(state, other)
+                        || moves_before(op, &self.ops[other])
+                })
         })
     }
 
@@ -651,10 +680,19 @@ fn order_of(
         least = least.min(ops[place].start);
         earliest[place] = least;
     }
+    let mut lower = vec![ops.len(); ops.len()];
+    for place in (0..ops.len()).rev() {
+        let mut later = place + 1;
+        while later < ops.len() && ops[later].start >= ops[place].start {
+            later = lower[later];
+        }
+        lower[place] = later;
+    }
     let mut it = Search {
         ops,
         effects: Vec::new(),
         earliest,
+        lower,
         last,
         dead: Dead::default(),
         left: 0,
