@@ -58,9 +58,9 @@ fn same_kind(kind: &EventKind, want: &EventKind) -> bool {
 }
 
 /// Compares what line 4 tells, at time 70.
-pub(crate) fn assert_tells<R: AllocGlobal + Abort>(rt: &R, line: &str, want: EventKind) {
+pub(crate) fn assert_tells<R: AllocGlobal + Abort>(rt: &R, line: &str, want: &EventKind) {
     let is_told = match read_event(rt.alloc(), 4, line.as_bytes()) {
-        Ok(event) => event.time == 70 && same_kind(&event.kind, &want),
+        Ok(event) => event.time == 70 && same_kind(&event.kind, want),
         Err(_) => false,
     };
     assert!(*rt; is_told, "{line}");

@@ -8,7 +8,7 @@ mod event_comparison;
 #[cfg(test)]
 mod event_fault_tests;
 #[cfg(test)]
-mod event_request_tests;
+mod event_member_tests;
 #[cfg(test)]
 mod event_tests;
 #[cfg(test)]
@@ -17,6 +17,8 @@ mod fault_tests;
 mod memory_tests;
 #[cfg(test)]
 mod other_kind_tests;
+#[cfg(test)]
+mod request_fault_tests;
 #[cfg(test)]
 mod request_tests;
 #[cfg(test)]
