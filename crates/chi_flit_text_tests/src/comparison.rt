@@ -1,4 +1,5 @@
-//! What an object states, and its fault, beside what is wanted.
+//! What an object states, and its fault, beside what is wanted. A text is told by its opening and the members after that, and is
+//! closed here.
 
 use chi_flit_text::{FlitLineFault, FlitMember, read_flit};
 use chi_flits::{Chunk, DataFlit, Flit, FlitKind, RequestFlit, ResponseFlit};
@@ -58,7 +59,7 @@ fn same_kind(found: &FlitKind, wanted: &FlitKind) -> bool {
     }
 }
 
-/// What the object on line 7 states, and the fault of the text where it is none.
+/// What the object of this text on line 7 states, or its fault.
 fn read<R: AllocGlobal + Abort>(rt: &R, text: &str) -> Result<Flit, FlitLineFault> {
     let object = match json(rt.alloc(), text.as_bytes()) {
         Ok(Some(object)) => object,
@@ -70,21 +71,43 @@ fn read<R: AllocGlobal + Abort>(rt: &R, text: &str) -> Result<Flit, FlitLineFaul
     }
 }
 
+/// The text of an object.
+fn closed<R: AllocGlobal + Abort>(rt: &R, opening: &str, members: &str) -> String {
+    format!(in rt.alloc(); "{opening}{members}}}").expect(rt, "memory")
+}
+
 /// Compares the flit of line 7, at time 70.
-pub(crate) fn assert_states<R: AllocGlobal + Abort>(rt: &R, text: &str, wanted: FlitKind) {
-    let is_stated = match read(rt, text) {
-        Ok(flit) => flit.time == 70 && same_kind(&flit.kind, &wanted),
+pub(crate) fn assert_states<R: AllocGlobal + Abort>(
+    rt: &R,
+    opening: &str,
+    members: &str,
+    wanted: &FlitKind,
+) {
+    let text = closed(rt, opening, members);
+    let is_stated = match read(rt, text.as_str()) {
+        Ok(flit) => flit.time == 70 && same_kind(&flit.kind, wanted),
         Err(_) => false,
     };
     assert!(*rt; is_stated, "{text}");
 }
 
 /// Compares the fault of line 7.
-pub(crate) fn assert_fault<R: AllocGlobal + Abort>(rt: &R, text: &str, wanted: FlitLineFault) {
-    assert_eq!(*rt; read(rt, text).err(), Some(wanted), "{text}");
+pub(crate) fn assert_fault<R: AllocGlobal + Abort>(
+    rt: &R,
+    opening: &str,
+    members: &str,
+    wanted: FlitLineFault,
+) {
+    let text = closed(rt, opening, members);
+    assert_eq!(*rt; read(rt, text.as_str()).err(), Some(wanted), "{text}");
 }
 
 /// Compares the fault of line 7, of which this member is not known and is looked at.
-pub(crate) fn assert_unknown<R: AllocGlobal + Abort>(rt: &R, text: &str, member: FlitMember) {
-    assert_fault(rt, text, FlitLineFault::UnknownDigit(member));
+pub(crate) fn assert_unknown<R: AllocGlobal + Abort>(
+    rt: &R,
+    opening: &str,
+    members: &str,
+    member: FlitMember,
+) {
+    assert_fault(rt, opening, members, FlitLineFault::UnknownDigit(member));
 }

@@ -4,7 +4,6 @@ use crate::comparison::assert_fault;
 use chi_flit_text::{FlitLineFault, FlitMember};
 use chi_json::{ObjectFault, ShownText, ShownValue};
 use std::process::Abort;
-use std::test::Fail;
 
 /// A fault of a member that is not as stated.
 fn bad(member: FlitMember, text: &str) -> FlitLineFault {
@@ -19,187 +18,204 @@ fn missing(member: FlitMember) -> FlitLineFault {
     FlitLineFault::Object(ObjectFault::Missing(member))
 }
 
-// Compares the text of a fault.
-fn assert_text<R: AllocGlobal + Abort>(
-    rt: &R,
-    fault: FlitLineFault,
-    wanted: &str,
-) -> Result<(), Fail> {
-    let text = format!(in rt.alloc(); "{fault}")?;
-    assert!(*rt; text.as_str() == wanted, "{text}, {wanted}");
-    Ok(())
+/// Openings whose members follow.
+const EMPTY: &str = "{";
+
+const REQUEST: &str = r#"{"channel":"REQ","time":70"#;
+
+const RESPONSE: &str = r#"{"channel":"RSP","time":70"#;
+
+const WRITE: &str = r#"{"channel":"WDAT","time":70,"src":"2","txn":"3","opcode":"3","data_id":"0""#;
+
+/// Openings and members, and which member is missing.
+const MISSING: [(&str, &str, FlitMember); 6] = [
+    // faults_of_a_request_in_their_order
+    (EMPTY, "", FlitMember::Channel),
+    (EMPTY, r#""channel":"REQ""#, FlitMember::Time),
+    (REQUEST, r#","txn":"g""#, FlitMember::Src),
+    (REQUEST, r#","src":"1","txn":"2""#, FlitMember::Opcode),
+    // faults_of_data
+    (WRITE, "", FlitMember::Be),
+    (WRITE, r#","be":"ffff","resp_err":"4""#, FlitMember::Data),
+];
+
+#[test]
+fn missing_members(rt: HostRuntime) {
+    for (opening, members, member) in &MISSING {
+        assert_fault(&rt, opening, members, missing(*member));
+    }
 }
 
+/// Openings and members, and which member is this text and not as stated.
+const BAD: [(&str, &str, FlitMember, &str); 23] = [
+    // faults_of_a_request_in_their_order
+    (EMPTY, r#""channel":"req""#, FlitMember::Channel, "req"),
+    (REQUEST, r#","src":"1","txn":"g""#, FlitMember::Txn, "g"),
+    (
+        REQUEST,
+        r#","src":"1","txn":"2","opcode":"100""#,
+        FlitMember::Opcode,
+        "100",
+    ),
+    (
+        REQUEST,
+        r#","src":"1","txn":"2","opcode":"0","size":"8""#,
+        FlitMember::Size,
+        "8",
+    ),
+    (
+        REQUEST,
+        r#","src":"1","txn":"2","opcode":"0","size":"7","addr":"10000000000000""#,
+        FlitMember::Addr,
+        "10000000000000",
+    ),
+    (
+        REQUEST,
+        r#","src":"1","txn":"2","opcode":"0","size":"7","addr":"0","endian":"2""#,
+        FlitMember::Endian,
+        "2",
+    ),
+    (
+        REQUEST,
+        r#","src":"1","txn":"2","opcode":"0","size":"7","addr":"0","excl":"""#,
+        FlitMember::Excl,
+        "",
+    ),
+    (
+        REQUEST,
+        r#","src":"1","txn":"2","opcode":"x","size":"7","addr":"0","note":0,"valid":"0""#,
+        FlitMember::Valid,
+        "0",
+    ),
+    (
+        REQUEST,
+        r#","src":"1","txn":"2","opcode":"x","size":"7","addr":"0","note":0,"valid":"xx""#,
+        FlitMember::Valid,
+        "xx",
+    ),
+    // texts_that_are_no_numbers
+    (RESPONSE, r#","tgt":"""#, FlitMember::Tgt, ""),
+    (RESPONSE, r#","tgt":"0h1""#, FlitMember::Tgt, "0h1"),
+    (RESPONSE, r#","tgt":"-1""#, FlitMember::Tgt, "-1"),
+    (RESPONSE, r#","tgt":" 1""#, FlitMember::Tgt, " 1"),
+    (RESPONSE, r#","tgt":"1_0""#, FlitMember::Tgt, "1_0"),
+    (
+        RESPONSE,
+        r#","tgt":"00000000000000001""#,
+        FlitMember::Tgt,
+        "00000000000000001",
+    ),
+    (RESPONSE, r#","tgt":"10000""#, FlitMember::Tgt, "10000"),
+    (
+        RESPONSE,
+        r#","tgt":"zzzzzzzzzzzzzzzzz""#,
+        FlitMember::Tgt,
+        "zzzzzzzzzzzzzzzzz",
+    ),
+    // faults_of_data
+    (WRITE, r#","be":"fff""#, FlitMember::Be, "fff"),
+    (WRITE, r#","be":"ffgf""#, FlitMember::Be, "ffgf"),
+    (WRITE, r#","be":"ffff","data":"00""#, FlitMember::Data, "00"),
+    (
+        WRITE,
+        r#","data":"00000000000000000000000000000000","be":"ffffffff""#,
+        FlitMember::Be,
+        "ffffffff",
+    ),
+    (
+        WRITE,
+        r#","data":"00000000000000000000000000000000","be":"ffff","resp_err":"4""#,
+        FlitMember::RespErr,
+        "4",
+    ),
+    (
+        WRITE,
+        r#","data":"00000000000000000000000000000000g","be":"ffff""#,
+        FlitMember::Data,
+        "00000000000000000000000000000000g",
+    ),
+];
+
+#[test]
+fn bad_members(rt: HostRuntime) {
+    for (opening, members, member, text) in &BAD {
+        assert_fault(&rt, opening, members, bad(*member, text));
+    }
+    let value = ShownValue::Whole(1);
+    let member = FlitMember::Tgt;
+    let fault = FlitLineFault::Object(ObjectFault::BadMember { member, value });
+    assert_fault(&rt, RESPONSE, r#","tgt":1"#, fault);
+}
+
+/// The members of a request whose opcode is not known.
+const UNKNOWN: &str =
+    r#"{"channel":"REQ","time":70,"src":"1","txn":"2","opcode":"x","size":"7","addr":"0""#;
+
+// Those after the faults of its members.
 #[test]
 fn faults_of_a_request_in_their_order(rt: HostRuntime) {
-    for (text, fault) in [
-        ("{}", missing(FlitMember::Channel)),
-        (r#"{"channel":"req"}"#, bad(FlitMember::Channel, "req")),
-        (r#"{"channel":"REQ"}"#, missing(FlitMember::Time)),
-        (
-            r#"{"channel":"REQ","time":70,"txn":"g"}"#,
-            missing(FlitMember::Src),
-        ),
-        (
-            r#"{"channel":"REQ","time":70,"src":"1","txn":"g"}"#,
-            bad(FlitMember::Txn, "g"),
-        ),
-        (
-            r#"{"channel":"REQ","time":70,"src":"1","txn":"2"}"#,
-            missing(FlitMember::Opcode),
-        ),
-        (
-            r#"{"channel":"REQ","time":70,"src":"1","txn":"2","opcode":"100"}"#,
-            bad(FlitMember::Opcode, "100"),
-        ),
-        (
-            r#"{"channel":"REQ","time":70,"src":"1","txn":"2","opcode":"0","size":"8"}"#,
-            bad(FlitMember::Size, "8"),
-        ),
-        (
-            r#"{"channel":"REQ","time":70,"src":"1","txn":"2","opcode":"0","size":"7","addr":"10000000000000"}"#,
-            bad(FlitMember::Addr, "10000000000000"),
-        ),
-        (
-            r#"{"channel":"REQ","time":70,"src":"1","txn":"2","opcode":"0","size":"7","addr":"0","endian":"2"}"#,
-            bad(FlitMember::Endian, "2"),
-        ),
-        (
-            r#"{"channel":"REQ","time":70,"src":"1","txn":"2","opcode":"0","size":"7","addr":"0","excl":""}"#,
-            bad(FlitMember::Excl, ""),
-        ),
-        (
-            r#"{"channel":"REQ","time":70,"src":"1","txn":"2","opcode":"x","size":"7","addr":"0","note":0,"valid":"0"}"#,
-            bad(FlitMember::Valid, "0"),
-        ),
-        (
-            r#"{"channel":"REQ","time":70,"src":"1","txn":"2","opcode":"x","size":"7","addr":"0","note":0,"valid":"xx"}"#,
-            bad(FlitMember::Valid, "xx"),
-        ),
-        (
-            r#"{"channel":"REQ","time":70,"src":"1","txn":"2","opcode":"x","size":"7","addr":"0","note":0,"valid":"Z"}"#,
-            FlitLineFault::UnknownValid,
-        ),
-        (
-            r#"{"channel":"REQ","time":70,"src":"1","txn":"2","opcode":"x","size":"7","addr":"0","tgt":"1"}"#,
-            FlitLineFault::Object(ObjectFault::UnknownMember(ShownText::of("tgt"))),
-        ),
-        (
-            r#"{"channel":"REQ","time":70,"src":"1","txn":"2","opcode":"x","size":"7","addr":"0"}"#,
-            FlitLineFault::UnknownDigit(FlitMember::Opcode),
-        ),
-    ] {
-        assert_fault(&rt, text, fault);
-    }
+    let fault = FlitLineFault::UnknownValid;
+    assert_fault(&rt, UNKNOWN, r#","note":0,"valid":"Z""#, fault);
+    let other = ObjectFault::UnknownMember(ShownText::of("tgt"));
+    let fault = FlitLineFault::Object(other);
+    assert_fault(&rt, UNKNOWN, r#","tgt":"1""#, fault);
+    let fault = FlitLineFault::UnknownDigit(FlitMember::Opcode);
+    assert_fault(&rt, UNKNOWN, "", fault);
 }
 
-#[test]
-fn texts_that_are_no_numbers(rt: HostRuntime) {
-    for text in [
-        "",
-        "0h1",
-        "-1",
-        " 1",
-        "1_0",
-        "00000000000000001",
-        "10000",
-        "zzzzzzzzzzzzzzzzz",
-    ] {
-        let object = format!(in rt.alloc();
-            "{{\"channel\":\"RSP\",\"time\":70,\"tgt\":\"{text}\"}}"
-        );
-        match object {
-            Ok(object) => assert_fault(&rt, object.as_str(), bad(FlitMember::Tgt, text)),
-            Err(_) => panic!(rt; "{text}"),
-        }
-    }
-    assert_fault(
-        &rt,
-        r#"{"channel":"RSP","time":70,"tgt":1}"#,
-        FlitLineFault::Object(ObjectFault::BadMember {
-            member: FlitMember::Tgt,
-            value: ShownValue::Whole(1),
-        }),
-    );
+// Compares the text of a fault.
+fn assert_text<R: AllocGlobal + Abort>(rt: &R, fault: FlitLineFault, wanted: &str) {
+    let text = format!(in rt.alloc(); "{fault}").expect(rt, "memory");
+    assert!(*rt; text.as_str() == wanted, "{text}, {wanted}");
 }
 
-#[test]
-fn faults_of_data(rt: HostRuntime) -> Result<(), Fail> {
-    let write = r#"{"channel":"WDAT","time":70,"src":"2","txn":"3","opcode":"3","data_id":"0""#;
-    let data = "00000000000000000000000000000000";
-    for (members, fault) in [
-        ("", missing(FlitMember::Be)),
-        (r#","be":"fff""#, bad(FlitMember::Be, "fff")),
-        (r#","be":"ffgf""#, bad(FlitMember::Be, "ffgf")),
-        (r#","be":"ffff","resp_err":"4""#, missing(FlitMember::Data)),
-        (r#","be":"ffff","data":"00""#, bad(FlitMember::Data, "00")),
-    ] {
-        let text = format!(in rt.alloc(); "{write}{members}}}")?;
-        assert_fault(&rt, text.as_str(), fault);
-    }
-    for (members, fault) in [
-        (r#"","be":"ffffffff""#, bad(FlitMember::Be, "ffffffff")),
-        (
-            r#"","be":"ffff","resp_err":"4""#,
-            bad(FlitMember::RespErr, "4"),
-        ),
-        (
-            r#"g","be":"ffff""#,
-            bad(FlitMember::Data, "00000000000000000000000000000000g"),
-        ),
-    ] {
-        let text = format!(in rt.alloc(); "{write},\"data\":\"{data}{members}}}")?;
-        assert_fault(&rt, text.as_str(), fault);
-    }
-    Ok(())
-}
+/// Members that are these texts and not as stated, and what is told of that.
+const TEXTS: [(FlitMember, &str, &str); 5] = [
+    (
+        FlitMember::Txn,
+        "g",
+        "member txn is \"g\", and not 1 to 16 hex digits, x or z, up to ffff",
+    ),
+    (
+        FlitMember::Channel,
+        "req",
+        "member channel is \"req\", and not REQ, RSP, RDAT, WDAT or POINT",
+    ),
+    (
+        FlitMember::Be,
+        "f",
+        "member be is \"f\", and not 4, 8 or 16 hex digits, x or z: an eighth of those of data",
+    ),
+    (
+        FlitMember::Data,
+        "0",
+        "member data is \"0\", and not 32, 64 or 128 hex digits, x or z",
+    ),
+    (
+        FlitMember::Valid,
+        "0",
+        "member valid is \"0\", and not 1, x or z",
+    ),
+];
 
 #[test]
-fn texts_of_faults(rt: HostRuntime) -> Result<(), Fail> {
-    for (fault, text) in [
-        (missing(FlitMember::Txn), "member txn is missing"),
-        (
-            bad(FlitMember::Txn, "g"),
-            "member txn is \"g\", and not 1 to 16 hex digits, x or z, up to ffff",
-        ),
-        (
-            bad(FlitMember::Channel, "req"),
-            "member channel is \"req\", and not REQ, RSP, RDAT, WDAT or POINT",
-        ),
-        (
-            FlitLineFault::Object(ObjectFault::BadMember {
-                member: FlitMember::Time,
-                value: ShownValue::Whole(-1),
-            }),
-            "member time is -1, and not a whole number below 2^64",
-        ),
-        (
-            bad(FlitMember::Be, "f"),
-            "member be is \"f\", and not 4, 8 or 16 hex digits, x or z: an eighth of those of data",
-        ),
-        (
-            bad(FlitMember::Data, "0"),
-            "member data is \"0\", and not 32, 64 or 128 hex digits, x or z",
-        ),
-        (
-            bad(FlitMember::Valid, "0"),
-            "member valid is \"0\", and not 1, x or z",
-        ),
-        (
-            FlitLineFault::Object(ObjectFault::UnknownMember(ShownText::of("tgt"))),
-            "has an unknown member tgt",
-        ),
-        (FlitLineFault::UnknownValid, "has a valid that is not known"),
-        (
-            FlitLineFault::UnknownDigit(FlitMember::DataId),
-            "has an x in its data_id",
-        ),
-        (
-            FlitLineFault::DataId,
-            "has a DataID that no flit of its width has",
-        ),
-    ] {
-        assert_text(&rt, fault, text)?;
+fn texts_of_faults(rt: HostRuntime) {
+    for (member, text, wanted) in &TEXTS {
+        assert_text(&rt, bad(*member, text), wanted);
     }
-    Ok(())
+    assert_text(&rt, missing(FlitMember::Txn), "member txn is missing");
+    let value = ShownValue::Whole(-1);
+    let member = FlitMember::Time;
+    let fault = FlitLineFault::Object(ObjectFault::BadMember { member, value });
+    let wanted = "member time is -1, and not a whole number below 2^64";
+    assert_text(&rt, fault, wanted);
+    let other = ObjectFault::UnknownMember(ShownText::of("tgt"));
+    let fault = FlitLineFault::Object(other);
+    assert_text(&rt, fault, "has an unknown member tgt");
+    let fault = FlitLineFault::UnknownValid;
+    assert_text(&rt, fault, "has a valid that is not known");
+    let fault = FlitLineFault::UnknownDigit(FlitMember::DataId);
+    assert_text(&rt, fault, "has an x in its data_id");
+    let wanted = "has a DataID that no flit of its width has";
+    assert_text(&rt, FlitLineFault::DataId, wanted);
 }

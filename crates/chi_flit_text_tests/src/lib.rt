@@ -4,6 +4,8 @@
 #[cfg(test)]
 mod comparison;
 #[cfg(test)]
+mod data_member_tests;
+#[cfg(test)]
 mod data_tests;
 #[cfg(test)]
 mod fault_tests;

@@ -3,7 +3,6 @@
 use crate::comparison::{assert_states, assert_unknown};
 use chi_flit_text::FlitMember;
 use chi_flits::{FlitKind, RequestFlit};
-use std::test::Fail;
 
 /// A request without its opcode, and not closed.
 const REQUEST: &str =
@@ -13,134 +12,177 @@ const REQUEST: &str =
 const UNKNOWN: &str =
     r#"{"channel":"REQ","time":70,"src":"X","txn":"z","size":"x","addr":"0Z","endian":"x","excl":"xx""#;
 
+/// The opening of a request whose members follow.
+const START: &str = r#"{"channel":"REQ","time":70"#;
+
+const REQUESTS: [(&str, &str, FlitKind); 3] = [
+    (
+        START,
+        r#","src":"0012","txn":"0A3","opcode":"1c","size":"3","addr":"00000000010F8","endian":"0","excl":"1""#,
+        FlitKind::Request(RequestFlit {
+            number: 7,
+            src: 18,
+            txn: 163,
+            opcode: 28,
+            size: 3,
+            addr: 4344,
+            endian: false,
+            excl: true,
+        }),
+    ),
+    (
+        START,
+        r#","src":"000000000000ffff","txn":"FFFF","opcode":"39","size":"7","addr":"fffffffffffff","endian":"01""#,
+        FlitKind::Request(RequestFlit {
+            number: 7,
+            src: 65535,
+            txn: 65535,
+            opcode: 57,
+            size: 7,
+            addr: 4503599627370495,
+            endian: true,
+            excl: false,
+        }),
+    ),
+    (
+        START,
+        r#","src":"0","txn":"0","opcode":"ff","size":"0","addr":"0","valid":"1","x-note":"g""#,
+        FlitKind::Request(RequestFlit {
+            number: 7,
+            src: 0,
+            txn: 0,
+            opcode: 255,
+            size: 0,
+            addr: 0,
+            endian: false,
+            excl: false,
+        }),
+    ),
+];
+
 #[test]
 fn requests(rt: HostRuntime) {
-    for (text, wanted) in [
-        (
-            r#"{"channel":"REQ","time":70,"src":"0012","txn":"0A3","opcode":"1c","size":"3","addr":"00000000010F8","endian":"0","excl":"1"}"#,
-            RequestFlit {
-                number: 7,
-                src: 18,
-                txn: 163,
-                opcode: 28,
-                size: 3,
-                addr: 4344,
-                endian: false,
-                excl: true,
-            },
-        ),
-        (
-            r#"{"channel":"REQ","time":70,"src":"000000000000ffff","txn":"FFFF","opcode":"39","size":"7","addr":"fffffffffffff","endian":"01"}"#,
-            RequestFlit {
-                number: 7,
-                src: 65535,
-                txn: 65535,
-                opcode: 57,
-                size: 7,
-                addr: 4503599627370495,
-                endian: true,
-                excl: false,
-            },
-        ),
-        (
-            r#"{"channel":"REQ","time":70,"src":"0","txn":"0","opcode":"ff","size":"0","addr":"0","valid":"1","x-note":"g"}"#,
-            RequestFlit {
-                number: 7,
-                src: 0,
-                txn: 0,
-                opcode: 255,
-                size: 0,
-                addr: 0,
-                endian: false,
-                excl: false,
-            },
-        ),
-    ] {
-        assert_states(&rt, text, FlitKind::Request(wanted));
+    for (opening, members, wanted) in &REQUESTS {
+        assert_states(&rt, opening, members, wanted);
     }
 }
 
+/// Members of requests of which no digit is known but those stated here, their opcodes, and the requester, transaction, size and
+/// address that they state.
+const NOT_LOOKED_AT: [(&str, u8, (u16, u16), (u8, u64)); 15] = [
+    (r#","opcode":"0""#, 0x00, (0, 0), (0, 0)),
+    (r#","opcode":"5""#, 0x05, (0, 0), (0, 0)),
+    (r#","opcode":"3a""#, 0x3a, (0, 0), (0, 0)),
+    (r#","src":"1","txn":"2","opcode":"1""#, 0x01, (1, 2), (0, 0)),
+    (r#","src":"1","txn":"2","opcode":"2""#, 0x02, (1, 2), (0, 0)),
+    (r#","src":"1","txn":"2","opcode":"3""#, 0x03, (1, 2), (0, 0)),
+    (r#","src":"1","txn":"2","opcode":"d""#, 0x0d, (1, 2), (0, 0)),
+    (
+        r#","src":"1","txn":"2","opcode":"14""#,
+        0x14,
+        (1, 2),
+        (0, 0),
+    ),
+    (
+        r#","src":"1","txn":"2","opcode":"22""#,
+        0x22,
+        (1, 2),
+        (0, 0),
+    ),
+    (
+        r#","src":"1","txn":"2","opcode":"23""#,
+        0x23,
+        (1, 2),
+        (0, 0),
+    ),
+    (
+        r#","src":"1","txn":"2","opcode":"24""#,
+        0x24,
+        (1, 2),
+        (0, 0),
+    ),
+    (
+        r#","src":"1","txn":"2","opcode":"26""#,
+        0x26,
+        (1, 2),
+        (0, 0),
+    ),
+    (
+        r#","src":"1","txn":"2","size":"3","addr":"40","opcode":"27""#,
+        0x27,
+        (1, 2),
+        (3, 64),
+    ),
+    (
+        r#","src":"1","txn":"2","size":"3","addr":"40","endian":"0","opcode":"28""#,
+        0x28,
+        (1, 2),
+        (3, 64),
+    ),
+    (
+        r#","src":"1","txn":"2","size":"3","addr":"40","opcode":"3b""#,
+        0x3b,
+        (1, 2),
+        (3, 64),
+    ),
+];
+
 #[test]
-fn members_of_requests_that_are_not_looked_at(rt: HostRuntime) -> Result<(), Fail> {
-    for (opcode, known, src, txn, size, addr) in [
-        (0x00, "", 0, 0, 0, 0),
-        (0x05, "", 0, 0, 0, 0),
-        (0x3a, "", 0, 0, 0, 0),
-        (0x01, r#","src":"1","txn":"2""#, 1, 2, 0, 0),
-        (0x02, r#","src":"1","txn":"2""#, 1, 2, 0, 0),
-        (0x03, r#","src":"1","txn":"2""#, 1, 2, 0, 0),
-        (0x0d, r#","src":"1","txn":"2""#, 1, 2, 0, 0),
-        (0x14, r#","src":"1","txn":"2""#, 1, 2, 0, 0),
-        (0x22, r#","src":"1","txn":"2""#, 1, 2, 0, 0),
-        (0x23, r#","src":"1","txn":"2""#, 1, 2, 0, 0),
-        (0x24, r#","src":"1","txn":"2""#, 1, 2, 0, 0),
-        (0x26, r#","src":"1","txn":"2""#, 1, 2, 0, 0),
-        (
-            0x27,
-            r#","src":"1","txn":"2","size":"3","addr":"40""#,
-            1,
-            2,
-            3,
-            64,
-        ),
-        (
-            0x28,
-            r#","src":"1","txn":"2","size":"3","addr":"40","endian":"0""#,
-            1,
-            2,
-            3,
-            64,
-        ),
-        (
-            0x3b,
-            r#","src":"1","txn":"2","size":"3","addr":"40""#,
-            1,
-            2,
-            3,
-            64,
-        ),
-    ] {
-        let text = format!(in rt.alloc(); "{UNKNOWN}{known},\"opcode\":\"{opcode:x}\"}}")?;
+fn members_of_requests_that_are_not_looked_at(rt: HostRuntime) {
+    for (members, opcode, (src, txn), (size, addr)) in &NOT_LOOKED_AT {
         let wanted = RequestFlit {
             number: 7,
-            src,
-            txn,
-            opcode,
-            size,
-            addr,
+            src: *src,
+            txn: *txn,
+            opcode: *opcode,
+            size: *size,
+            addr: *addr,
             endian: false,
             excl: false,
         };
-        assert_states(&rt, text.as_str(), FlitKind::Request(wanted));
+        assert_states(&rt, UNKNOWN, members, &FlitKind::Request(wanted));
     }
-    Ok(())
 }
 
+const LOOKED_AT: [(&str, &str, FlitMember); 17] = [
+    (REQUEST, r#","opcode":"01","src":"1x""#, FlitMember::Src),
+    (REQUEST, r#","opcode":"26","txn":"1x""#, FlitMember::Txn),
+    (REQUEST, r#","opcode":"04","src":"1x""#, FlitMember::Src),
+    (REQUEST, r#","opcode":"04","txn":"1x""#, FlitMember::Txn),
+    (REQUEST, r#","opcode":"04","size":"1x""#, FlitMember::Size),
+    (REQUEST, r#","opcode":"04","addr":"1x""#, FlitMember::Addr),
+    (REQUEST, r#","opcode":"04","excl":"1x""#, FlitMember::Excl),
+    (REQUEST, r#","opcode":"1c","excl":"1x""#, FlitMember::Excl),
+    (REQUEST, r#","opcode":"1d","excl":"1x""#, FlitMember::Excl),
+    (
+        REQUEST,
+        r#","opcode":"28","endian":"1x""#,
+        FlitMember::Endian,
+    ),
+    (
+        REQUEST,
+        r#","opcode":"39","endian":"1x""#,
+        FlitMember::Endian,
+    ),
+    (REQUEST, r#","opcode":"27","addr":"1x""#, FlitMember::Addr),
+    (REQUEST, r#","opcode":"3b","size":"1x""#, FlitMember::Size),
+    (
+        REQUEST,
+        r#","opcode":"x","opcode":"1x""#,
+        FlitMember::Opcode,
+    ),
+    (REQUEST, r#","opcode":"0Z","src":"1x""#, FlitMember::Opcode),
+    (UNKNOWN, r#","opcode":"28""#, FlitMember::Src),
+    (
+        UNKNOWN,
+        r#","opcode":"28","src":"0","txn":"0""#,
+        FlitMember::Size,
+    ),
+];
+
 #[test]
-fn members_of_requests_that_are_looked_at(rt: HostRuntime) -> Result<(), Fail> {
-    for (opcode, name, member) in [
-        ("01", "src", FlitMember::Src),
-        ("26", "txn", FlitMember::Txn),
-        ("04", "src", FlitMember::Src),
-        ("04", "txn", FlitMember::Txn),
-        ("04", "size", FlitMember::Size),
-        ("04", "addr", FlitMember::Addr),
-        ("04", "excl", FlitMember::Excl),
-        ("1c", "excl", FlitMember::Excl),
-        ("1d", "excl", FlitMember::Excl),
-        ("28", "endian", FlitMember::Endian),
-        ("39", "endian", FlitMember::Endian),
-        ("27", "addr", FlitMember::Addr),
-        ("3b", "size", FlitMember::Size),
-        ("x", "opcode", FlitMember::Opcode),
-        ("0Z", "src", FlitMember::Opcode),
-    ] {
-        let text = format!(in rt.alloc(); "{REQUEST},\"opcode\":\"{opcode}\",\"{name}\":\"1x\"}}")?;
-        assert_unknown(&rt, text.as_str(), member);
+fn members_of_requests_that_are_looked_at(rt: HostRuntime) {
+    for (opening, members, member) in &LOOKED_AT {
+        assert_unknown(&rt, opening, members, *member);
     }
-    let text = format!(in rt.alloc(); "{UNKNOWN},\"opcode\":\"28\"}}")?;
-    assert_unknown(&rt, text.as_str(), FlitMember::Src);
-    let text = format!(in rt.alloc(); "{UNKNOWN},\"opcode\":\"28\",\"src\":\"0\",\"txn\":\"0\"}}")?;
-    assert_unknown(&rt, text.as_str(), FlitMember::Size);
-    Ok(())
 }
