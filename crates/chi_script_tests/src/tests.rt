@@ -1,6 +1,7 @@
 //! The tests, and what they share.
 
 mod comparison;
+mod exchange_tests;
 mod image_tests;
 mod input_tests;
 mod member_tests;

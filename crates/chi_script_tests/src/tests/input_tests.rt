@@ -1,9 +1,9 @@
 //! Tests of reading an input up to a limit.
 
-use crate::tests::comparison::assert_same;
+use crate::tests::comparison::{assert_same, assert_text};
 use chi_json::{InputFault, read_input};
 use std::io::{self, Read};
-use std::test::Fail;
+use std::process::Abort;
 
 // A reader of a text that gives so many bytes a call at most, and fails once it has been called so many times.
 #[derive(Drop)]
@@ -26,9 +26,27 @@ impl Read for SlowReader<'_> {
     }
 }
 
+// Compares what is read of a text up to a limit.
+fn assert_read<R: AllocGlobal + Abort, F: Read>(
+    rt: &R,
+    from: &mut F,
+    text: &[u8],
+    most: usize,
+    wanted: Option<InputFault>,
+) {
+    let case = (text.len(), most);
+    match read_input(rt.alloc(), from, most) {
+        Ok(input) => {
+            let found = (None, input.as_slice());
+            assert_same(rt, (case, found), (case, (wanted, text)));
+        }
+        Err(fault) => assert_same(rt, (case, Some(fault)), (case, wanted)),
+    }
+}
+
 #[test]
-fn inputs_up_to_a_limit(rt: HostRuntime) -> Result<(), Fail> {
-    for (text, most, want) in [
+fn inputs_up_to_a_limit(rt: HostRuntime) {
+    for (text, most, wanted) in &[
         ("", 0, None),
         ("a", 0, Some(InputFault::TooLong)),
         ("abc", 4, None),
@@ -42,39 +60,27 @@ fn inputs_up_to_a_limit(rt: HostRuntime) -> Result<(), Fail> {
                 most: step,
                 calls: 9,
             };
-            match read_input(rt.alloc(), &mut from, most) {
-                Ok(input) => {
-                    assert_same(&rt, ((text, most), want), ((text, most), None));
-                    assert_same(&rt, input.as_slice(), text.as_bytes());
-                }
-                Err(fault) => assert_same(&rt, ((text, most), Some(fault)), ((text, most), want)),
-            }
+            assert_read(&rt, &mut from, text.as_bytes(), *most, *wanted);
         }
     }
-    Ok(())
 }
 
 // 4,096 bytes are read at once.
 #[test]
-fn inputs_of_several_reads(rt: HostRuntime) -> Result<(), Fail> {
+fn inputs_of_several_reads(rt: HostRuntime) {
+    let text = [b'x'; 8193];
     for length in [4095, 4096, 4097, 8192, 8193] {
-        let text = vec![in rt.alloc(); b'x'; length]?;
-        let mut from = text.as_slice();
-        let input = read_input(rt.alloc(), &mut from, length)?;
-        assert_same(&rt, input.as_slice(), text.as_slice());
-        let mut from = text.as_slice();
-        let short = read_input(rt.alloc(), &mut from, length - 1);
-        assert_same(
-            &rt,
-            (length, short.err()),
-            (length, Some(InputFault::TooLong)),
-        );
+        let whole = &text[..length];
+        let mut from = whole;
+        assert_read(&rt, &mut from, whole, length, None);
+        let mut from = whole;
+        let short = Some(InputFault::TooLong);
+        assert_read(&rt, &mut from, whole, length - 1, short);
     }
-    Ok(())
 }
 
 #[test]
-fn inputs_that_fail(rt: HostRuntime) -> Result<(), Fail> {
+fn inputs_that_fail(rt: HostRuntime) {
     for calls in 0..6 {
         let mut from = SlowReader {
             text: b"abcde",
@@ -84,18 +90,11 @@ fn inputs_that_fail(rt: HostRuntime) -> Result<(), Fail> {
         let input = read_input(rt.alloc(), &mut from, 9);
         assert_same(&rt, (calls, input.err()), (calls, Some(InputFault::Read)));
     }
-    Ok(())
 }
 
 #[test]
-fn input_fault_texts(rt: HostRuntime) -> Result<(), Fail> {
-    for (fault, want) in [
-        (InputFault::Read, "input could not be read"),
-        (InputFault::TooLong, "input is too long"),
-        (InputFault::Memory, "no memory"),
-    ] {
-        let text = format!(in rt.alloc(); "{fault}")?;
-        assert_same(&rt, text.as_str(), want);
-    }
-    Ok(())
+fn input_fault_texts(rt: HostRuntime) {
+    assert_text(&rt, InputFault::Read, "input could not be read");
+    assert_text(&rt, InputFault::TooLong, "input is too long");
+    assert_text(&rt, InputFault::Memory, "no memory");
 }

@@ -1,12 +1,14 @@
-//! Scripts for the tests, with a member changed or left out, and with many requests.
+//! Scripts for the tests, with a part exchanged for another, and what is read of them.
 
+use crate::tests::comparison::assert_same;
 use chi_fields::Request;
-use chi_script::{Member, ScriptFault, read_script};
-use std::alloc::Global;
-use std::test::Fail;
+use chi_script::{ScriptFault, read_script};
+use std::process::Abort;
 
 pub(crate) const FETCH_ADD_SCRIPT: &str =
-    "{\"base\":4096,\"granules\":8,\"requests\":[{\"src\":0,\"txn\":1,\"op\":48,\"size\":3,\"addr\":4096,\"endian\":0,\"be\":255,\"lanes\":\"01000000000000000000000000000000\"}]}";
+    r#"{"base":4096,"granules":8,"requests":[{"src":0,"txn":1,"op":48,"size":3,"addr":4096,"endian":0,"be":255,"lanes":"01000000000000000000000000000000"}]}"#;
+
+pub(crate) const EMPTY_SCRIPT: &str = r#"{"base":4096,"granules":8,"requests":[]}"#;
 
 pub(crate) const FETCH_ADD: Request = Request {
     src: 0,
@@ -19,99 +21,60 @@ pub(crate) const FETCH_ADD: Request = Request {
     lanes: [1, 0, 0, 0, 0, 0, 0, 0, 0, 0, 0, 0, 0, 0, 0, 0],
 };
 
-pub(crate) const SCRIPT_MEMBERS: [(Member, &str); 2] = [
-    (Member::Base, "4096"),
-    (Member::Granules, "8"),
-];
+/// The script of the fetch and add with further members, which are not looked at.
+const WITH_MORE: &str =
+    r#"{"base":4096,"granules":8,"requests":[{"src":0,"txn":1,"op":48,"size":3,"addr":4096,"endian":0,"be":255,"lanes":"01000000000000000000000000000000","more":[]}],"more":{}}"#;
 
-pub(crate) const REQUEST_MEMBERS: [(Member, &str); 8] = [
-    (Member::Src, "0"),
-    (Member::Txn, "1"),
-    (Member::Opcode, "48"),
-    (Member::Size, "3"),
-    (Member::Addr, "4096"),
-    (Member::Endian, "0"),
-    (Member::Be, "255"),
-    (Member::Lanes, "\"01000000000000000000000000000000\""),
-];
+/// Its requests and its lanes.
+pub(crate) const REQUESTS: &str =
+    r#""requests":[{"src":0,"txn":1,"op":48,"size":3,"addr":4096,"endian":0,"be":255,"lanes":"01000000000000000000000000000000","more":[]}],"#;
 
-// The fault of a text, for requesters up to `top`.
-pub(crate) fn fault_of(alloc: Global, text: &str, top: u8) -> Option<ScriptFault> {
-    read_script(alloc, text.as_bytes(), top).err()
+pub(crate) const LANES: &str = r#""lanes":"01000000000000000000000000000000","#;
+
+/// Compares the fault of a text, for requesters up to `top`.
+pub(crate) fn assert_fault<R: AllocGlobal + Abort>(
+    rt: &R,
+    what: &str,
+    text: &[u8],
+    top: u8,
+    wanted: Option<ScriptFault>,
+) {
+    let found = read_script(rt.alloc(), text, top).err();
+    let case = (what, text.len(), top);
+    assert_same(rt, (case, found), (case, wanted));
 }
 
-// The fault of the fetch and add's script with one member changed or left out.
-pub(crate) fn fault_with(
-    alloc: Global,
-    changed: Member,
-    value: &str,
-) -> Result<Option<ScriptFault>, Fail> {
-    let text = script_with(alloc, changed, value)?;
-    Ok(fault_of(alloc, text.as_str(), 7))
+/// Compares the fault of the script with further members, of which this part is exchanged for another.
+pub(crate) fn assert_exchanged<R: AllocGlobal + Abort>(
+    rt: &R,
+    (part, other): (&str, &str),
+    top: u8,
+    wanted: Option<ScriptFault>,
+) {
+    let (before, after) = WITH_MORE
+        .split_once(part)
+        .expect(rt, "the script has the part");
+    let text = format!(in rt.alloc(); "{before}{other}{after}").expect(rt, "memory");
+    assert_fault(rt, text.as_str(), text.as_bytes(), top, wanted);
 }
 
-// The fault of a script of so many requests without change, and then a last one of this size.
-pub(crate) fn fault_of_many(
-    alloc: Global,
-    granules: &str,
-    count: usize,
-    size: &str,
-) -> Result<Option<ScriptFault>, Fail> {
-    let text = long_script(alloc, granules, count, size)?;
-    Ok(fault_of(alloc, text.as_str(), 7))
-}
-
-// Adds each member by its name, but the changed one with another value, or not at all where that is empty.
-fn push_members(
-    text: &mut String,
-    members: &[(Member, &str)],
-    changed: Member,
-    value: &str,
-) -> Result<(), Fail> {
-    for (member, usual) in members {
-        let value = if *member == changed { value } else { *usual };
-        if value != "" {
-            text.push_str("\"")?;
-            text.push_str(member.name())?;
-            text.push_str("\":")?;
-            text.push_str(value)?;
-            text.push_str(",")?;
+/// Compares a script's region from 4096 on, with its words, and its requests.
+pub(crate) fn assert_read<R: AllocGlobal + Abort>(
+    rt: &R,
+    text: &str,
+    words: &[u64],
+    requests: &[Request],
+) {
+    match read_script(rt.alloc(), text.as_bytes(), 7) {
+        Ok(script) => {
+            let region = (
+                script.region().base(),
+                usize::from(script.region().granules()),
+            );
+            let found = (region, script.image(), script.requests());
+            let wanted = ((4096, words.len()), words, requests);
+            assert_same(rt, (text, found), (text, wanted));
         }
+        Err(_) => panic!(*rt; "{text}"),
     }
-    Ok(())
-}
-
-// The script of a fetch and add with one member changed or left out.
-pub(crate) fn script_with(alloc: Global, changed: Member, value: &str) -> Result<String, Fail> {
-    let mut text = String::new(alloc);
-    text.push_str("{")?;
-    push_members(&mut text, &SCRIPT_MEMBERS, changed, value)?;
-    if changed != Member::Requests {
-        text.push_str("\"requests\":[{")?;
-        push_members(&mut text, &REQUEST_MEMBERS, changed, value)?;
-        text.push_str("\"more\":[]}],")?;
-    } else if value != "" {
-        text.push_str("\"requests\":")?;
-        text.push_str(value)?;
-        text.push_str(",")?;
-    }
-    text.push_str("\"more\":{}}")?;
-    Ok(text)
-}
-
-// A script of so many requests without change, and then a last one of this size.
-fn long_script(alloc: Global, granules: &str, count: usize, size: &str) -> Result<String, Fail> {
-    let mut text = String::new(alloc);
-    text.push_str("{\"base\":4096,\"granules\":")?;
-    text.push_str(granules)?;
-    text.push_str(",\"requests\":[")?;
-    for _ in 0..count {
-        text.push_str("{")?;
-        push_members(&mut text, &REQUEST_MEMBERS, Member::Base, "")?;
-        text.push_str("\"more\":0},")?;
-    }
-    text.push_str("{")?;
-    push_members(&mut text, &REQUEST_MEMBERS, Member::Size, size)?;
-    text.push_str("\"more\":0}]}")?;
-    Ok(text)
 }

@@ -1,71 +1,46 @@
 //! Tests of texts that are no JSON, and of the faults' own texts.
 
-use crate::tests::comparison::assert_same;
-use crate::tests::sample_scripts::FETCH_ADD_SCRIPT;
+use crate::tests::comparison::assert_text;
+use crate::tests::sample_scripts::{EMPTY_SCRIPT, FETCH_ADD_SCRIPT, assert_fault};
 use chi_fields::RegionFault;
-use chi_script::{Member, ScriptFault, read_script};
-use std::alloc::Global;
-use std::test::Fail;
+use chi_script::{Member, ScriptFault};
 
+/// The script of the fetch and add, whose last digit is the byte ff.
+const NO_TEXT: &[u8] =
+    b"{\"base\":4096,\"granules\":8,\"requests\":[{\"src\":0,\"txn\":1,\"op\":48,\"size\":3,\"addr\":4096,\"endian\":0,\"be\":255,\"lanes\":\"0100000000000000000000000000000\xff\"}]}";
+
+// A proper prefix is none, and nor is a text with a byte that no letter has.
 #[test]
-fn texts_that_are_no_json(rt: HostRuntime) -> Result<(), Fail> {
-    let whole = FETCH_ADD_SCRIPT.as_bytes();
-    for end in 0..whole.len() {
-        let cut = read_script(rt.alloc(), &whole[..end], 7);
-        assert_same(&rt, (end, cut.err()), (end, Some(ScriptFault::NotJson)));
+fn texts_that_are_no_json(rt: HostRuntime) {
+    let wanted = Some(ScriptFault::NotJson);
+    for whole in [FETCH_ADD_SCRIPT, EMPTY_SCRIPT] {
+        for end in 0..whole.len() {
+            assert_fault(&rt, whole, &whole.as_bytes()[..end], 7, wanted);
+        }
     }
-    Ok(())
+    assert_fault(&rt, "bytes_that_are_no_text", NO_TEXT, 7, wanted);
 }
 
 #[test]
-fn bytes_that_are_no_text(rt: HostRuntime) -> Result<(), Fail> {
-    let mut bytes = FETCH_ADD_SCRIPT.as_bytes().to_vec(rt.alloc())?;
-    let at = bytes.len().saturating_sub(5);
-    if at < bytes.len() {
-        bytes[at] = 0xff;
-    }
-    let fault = read_script(rt.alloc(), bytes.as_slice(), 7).err();
-    assert_same(&rt, fault, Some(ScriptFault::NotJson));
-    Ok(())
-}
-
-// The fault of so many arrays, each in the one before.
-fn fault_of_nested(alloc: Global, depth: usize) -> Result<Option<ScriptFault>, Fail> {
-    let mut nested = vec![in alloc; b'['; depth]?;
-    nested.extend_from_slice(vec![in alloc; b']'; depth]?.as_slice())?;
-    Ok(read_script(alloc, nested.as_slice(), 7).err())
+fn texts_nested_too_deep(rt: HostRuntime) {
+    let mut nested = [b']'; 256];
+    nested[..128].fill(b'[');
+    let (deep, deeper) = (ScriptFault::NotObject, ScriptFault::NotJson);
+    assert_fault(&rt, "127 deep", &nested[1..255], 7, Some(deep));
+    assert_fault(&rt, "128 deep", &nested, 7, Some(deeper));
 }
 
 #[test]
-fn texts_nested_too_deep(rt: HostRuntime) -> Result<(), Fail> {
-    let faults = (
-        fault_of_nested(rt.alloc(), 127)?,
-        fault_of_nested(rt.alloc(), 128)?,
-    );
-    assert_same(
-        &rt,
-        faults,
-        (Some(ScriptFault::NotObject), Some(ScriptFault::NotJson)),
-    );
-    Ok(())
+fn script_before_many_spaces(rt: HostRuntime) {
+    let text = EMPTY_SCRIPT.as_bytes();
+    let mut spaced = vec![in rt.alloc(); b' '; 4_194_304].expect(&rt, "memory");
+    spaced[..text.len()].copy_from_slice(text);
+    assert_fault(&rt, "many spaces", spaced.as_slice(), 7, None);
 }
 
 #[test]
-fn script_before_many_spaces(rt: HostRuntime) -> Result<(), Fail> {
-    let text = "{\"base\":4096,\"granules\":8,\"requests\":[]}";
-    let mut spaced = text.as_bytes().to_vec(rt.alloc())?;
-    spaced.extend_from_slice(vec![in rt.alloc(); b' '; 4_194_264]?.as_slice())?;
-    assert_same(
-        &rt,
-        read_script(rt.alloc(), spaced.as_slice(), 7).err(),
-        None,
-    );
-    Ok(())
-}
-
-#[test]
-fn script_fault_texts(rt: HostRuntime) -> Result<(), Fail> {
-    let texts = [
+fn script_fault_texts(rt: HostRuntime) {
+    for (fault, wanted) in &[
         (ScriptFault::NotJson, "script is not JSON"),
         (ScriptFault::NotObject, "script is not an object"),
         (
@@ -85,10 +60,7 @@ fn script_fault_texts(rt: HostRuntime) -> Result<(), Fail> {
             "script region is refused: GranuleCount",
         ),
         (ScriptFault::Memory, "no memory"),
-    ];
-    for (fault, want) in texts {
-        let text = format!(in rt.alloc(); "{fault}")?;
-        assert_same(&rt, text.as_str(), want);
+    ] {
+        assert_text(&rt, *fault, wanted);
     }
-    Ok(())
 }

@@ -1,15 +1,14 @@
 //! Tests of the transcript's text, and of writers that fail.
 
-use crate::tests::comparison::assert_same;
+use crate::tests::comparison::{assert_same, assert_text};
 use crate::tests::sample_scripts::FETCH_ADD;
 use chi_fields::{Refusal, Region, Request};
 use chi_history::Line;
 use chi_lanes::Reply;
 use chi_script::{WriteFault, write_lines, write_transcript};
-use std::alloc::Global;
 use std::io;
 use std::io::Write;
-use std::test::Fail;
+use std::process::Abort;
 
 const ZEROS: [u8; 16] = [0; 16];
 
@@ -43,123 +42,123 @@ impl Write for Device {
     }
 }
 
-fn make_device(alloc: Global, room: usize, each: usize, sticks: bool) -> Device {
-    Device {
-        taken: Vec::new(alloc),
+// Writes the transcript of the fetch and add to a new device, and compares what it then has taken.
+fn assert_taken<R: AllocGlobal + Abort>(
+    rt: &R,
+    (room, each, sticks): (usize, usize, bool),
+    wanted: Result<(), WriteFault>,
+    taken: &[u8],
+) {
+    let mut to = Device {
+        taken: Vec::new(rt.alloc()),
         room,
         each,
         sticks,
         calls: 0,
-    }
-}
-
-// Writes the transcript of the fetch and add, or answers that its region is refused.
-fn write_fetch_add(to: &mut Device) -> Result<Result<(), WriteFault>, Fail> {
-    let region = Region::new(0x1000, 8)?;
-    let words = [1, 0, 0, 0, 0, 0, 0, 0];
-    if region.granules() != 8 {
-        return Err("the region has other granules".into());
-    }
+    };
     let lines = [Line::Completed(FETCH_ADD, Reply::CompData(ZEROS))];
-    Ok(write_transcript(to, &lines, &region, &words))
+    match Region::new(0x1000, 8) {
+        Ok(region) if region.granules() == 8 => {
+            let written = write_transcript(&mut to, &lines, &region, &[1, 0, 0, 0, 0, 0, 0, 0]);
+            let case = (room, each, sticks);
+            let found = (written, to.taken.as_slice());
+            assert_same(rt, (case, found), (case, (wanted, taken)));
+        }
+        _ => panic!(*rt; "the region has other granules"),
+    }
+}
+
+// A writer that takes so many bytes is left with as much of the transcript, whether it fails then or takes none.
+fn assert_cut<R: AllocGlobal + Abort>(rt: &R, room: usize, each: usize) {
+    let left = FETCH_ADD_TEXT.as_bytes().get(..room).unwrap_or_default();
+    assert_taken(rt, (room, each, false), Err(WriteFault::Failed), left);
+    assert_taken(rt, (room, each, true), Err(WriteFault::Stuck), left);
 }
 
 #[test]
-fn retried_and_completed(rt: HostRuntime) -> Result<(), Fail> {
-    let mut completed = ZEROS;
-    completed[0] = 2;
-    let lines = [
-        Line::Retried(FETCH_ADD),
-        Line::Completed(FETCH_ADD, Reply::CompData(completed)),
-    ];
-    let mut to: Vec<u8> = Vec::new(rt.alloc());
-    write_lines(&mut to, &lines)?;
-    let want =
-        "0 1 30 AtomicLoad.ADD 3 0000000000001000 retry\n0 1 30 AtomicLoad.ADD 3 0000000000001000 data 02000000000000000000000000000000\n";
-    assert_same(&rt, to.as_slice(), want.as_bytes());
-    Ok(())
+fn failing_devices(rt: HostRuntime) {
+    assert_cut(&rt, 10, 10);
 }
 
 #[test]
-fn refused_and_completed_without_data(rt: HostRuntime) -> Result<(), Fail> {
-    let swap = Request {
-        src: 7,
-        txn: 5,
-        opcode: 0x38,
-        addr: 0x0ffc,
-        ..FETCH_ADD
-    };
-    let store = Request {
-        src: 107,
-        txn: 255,
-        opcode: 0x2d,
-        ..FETCH_ADD
-    };
-    let lines = [
-        Line::Refused(swap, Refusal::Misaligned),
-        Line::Completed(store, Reply::Comp),
-    ];
-    let mut to: Vec<u8> = Vec::new(rt.alloc());
-    write_lines(&mut to, &lines)?;
-    let want =
-        "7 5 38 AtomicSwap 3 0000000000000ffc refused Misaligned\n107 255 2d AtomicStore.SMIN 3 0000000000001000 comp\n";
-    assert_same(&rt, to.as_slice(), want.as_bytes());
-    Ok(())
-}
-
-// Whether a writer that takes so many bytes is left with as much of the transcript, and the fault is this one.
-fn is_cut(
-    alloc: Global,
-    room: usize,
-    each: usize,
-    sticks: bool,
-    fault: WriteFault,
-) -> Result<bool, Fail> {
-    let mut to = make_device(alloc, room, each, sticks);
-    let written = write_fetch_add(&mut to)?;
-    let left = FETCH_ADD_TEXT.as_bytes().get(..room);
-    Ok(written == Err(fault) && Some(to.taken.as_slice()) == left)
-}
-
-#[test]
-fn failing_devices(rt: HostRuntime) -> Result<(), Fail> {
-    assert!(rt; is_cut(rt.alloc(), 10, 10, false, WriteFault::Failed)?);
-    assert!(rt; is_cut(rt.alloc(), 10, 10, true, WriteFault::Stuck)?);
-    Ok(())
-}
-
-#[test]
-fn hostile_devices(rt: HostRuntime) -> Result<(), Fail> {
+fn hostile_devices(rt: HostRuntime) {
     for room in 0..FETCH_ADD_TEXT.len() {
-        assert!(rt; is_cut(rt.alloc(), room, 7, false, WriteFault::Failed)?);
-        assert!(rt; is_cut(rt.alloc(), room, 7, true, WriteFault::Stuck)?);
+        assert_cut(&rt, room, 7);
     }
-    Ok(())
 }
 
 #[test]
-fn writes_of_one_byte(rt: HostRuntime) -> Result<(), Fail> {
-    let mut slow = make_device(rt.alloc(), 4096, 1, false);
-    assert_same(&rt, write_fetch_add(&mut slow)?, Ok(()));
-    assert_same(&rt, slow.taken.as_slice(), FETCH_ADD_TEXT.as_bytes());
-    Ok(())
+fn writes_of_one_byte(rt: HostRuntime) {
+    assert_taken(&rt, (4096, 1, false), Ok(()), FETCH_ADD_TEXT.as_bytes());
+}
+
+/// Lines and their texts.
+const LINES: [([Line; 2], &str); 2] = [
+    // retried_and_completed
+    (
+        [
+            Line::Retried(FETCH_ADD),
+            Line::Completed(
+                FETCH_ADD,
+                Reply::CompData([2, 0, 0, 0, 0, 0, 0, 0, 0, 0, 0, 0, 0, 0, 0, 0]),
+            ),
+        ],
+        "0 1 30 AtomicLoad.ADD 3 0000000000001000 retry\n0 1 30 AtomicLoad.ADD 3 0000000000001000 data 02000000000000000000000000000000\n",
+    ),
+    // refused_and_completed_without_data
+    (
+        [
+            Line::Refused(
+                Request {
+                    src: 7,
+                    txn: 5,
+                    opcode: 0x38,
+                    addr: 0x0ffc,
+                    ..FETCH_ADD
+                },
+                Refusal::Misaligned,
+            ),
+            Line::Completed(
+                Request {
+                    src: 107,
+                    txn: 255,
+                    opcode: 0x2d,
+                    ..FETCH_ADD
+                },
+                Reply::Comp,
+            ),
+        ],
+        "7 5 38 AtomicSwap 3 0000000000000ffc refused Misaligned\n107 255 2d AtomicStore.SMIN 3 0000000000001000 comp\n",
+    ),
+];
+
+#[test]
+fn retried_refused_and_completed(rt: HostRuntime) {
+    for (lines, wanted) in &LINES {
+        let mut to: Vec<u8> = Vec::new(rt.alloc());
+        let written = write_lines(&mut to, lines);
+        let found = (written, to.as_slice());
+        assert_same(&rt, found, (Ok(()), wanted.as_bytes()));
+    }
 }
 
 #[test]
-fn few_writes(rt: HostRuntime) -> Result<(), Fail> {
+fn few_writes(rt: HostRuntime) {
     let lines = [Line::Completed(FETCH_ADD, Reply::CompData(ZEROS)); 512];
-    let mut to = make_device(rt.alloc(), usize::MAX, usize::MAX, false);
-    write_lines(&mut to, &lines)?;
-    assert_same(&rt, to.taken.len(), 512 * 79);
-    assert_same(&rt, to.calls, 3);
-    Ok(())
+    let mut to = Device {
+        taken: Vec::new(rt.alloc()),
+        room: usize::MAX,
+        each: usize::MAX,
+        sticks: false,
+        calls: 0,
+    };
+    let written = write_lines(&mut to, &lines);
+    let found = (written, to.taken.len(), to.calls);
+    assert_same(&rt, found, (Ok(()), 512 * 79, 3));
 }
 
 #[test]
-fn write_fault_text(rt: HostRuntime) -> Result<(), Fail> {
-    for fault in [WriteFault::Failed, WriteFault::Stuck] {
-        let text = format!(in rt.alloc(); "{fault}")?;
-        assert_same(&rt, text.as_str(), "output could not be written");
-    }
-    Ok(())
+fn write_fault_text(rt: HostRuntime) {
+    assert_text(&rt, WriteFault::Failed, "output could not be written");
+    assert_text(&rt, WriteFault::Stuck, "output could not be written");
 }
