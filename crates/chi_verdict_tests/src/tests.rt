@@ -1,5 +1,6 @@
 //! The tests, and what they share.
 
+mod blames;
 mod byte_tests;
 mod comparison;
 mod execution_tests;
@@ -11,4 +12,5 @@ mod random_tests;
 mod search_tests;
 mod trace_tests;
 mod traces;
+mod verdicts;
 mod words_tests;

@@ -1,80 +1,165 @@
 //! Tests of traces with operations on some bytes of a granule, of many writes, and of two neighbouring granules, with answers
 //! that were worked by hand.
 
-use crate::tests::comparison::assert_same;
-use crate::tests::traces::{
-    ADD, LOW, LOWER, NEXT, STORE_ADD, Told, WRITE, add, answered, assert_ordered, assert_verdicts,
-    at, done, read, sent, silent, verdict_from, write,
-};
+use crate::tests::traces::{ADD, LOW, LOWER, NEXT, STORE_ADD, Sent, Timed, WRITE};
+use crate::tests::verdicts::{Case, Told, assert_verdicts};
 use std::test::Fail;
 
-// The bytes 00 ff at the granule's end are 255 in big-endian order, and 01 00 are 256.
-#[test]
-fn big_endian_add(rt: HostRuntime) -> Result<(), Fail> {
-    let before = 0xff00_0000_0000_0000;
-    let after = 0x0001_0000_0000_0000;
-    for (endian, final_word, wanted) in [
-        (true, after, Told::Explained(1)),
-        (true, 0, Told::Unexplained(LOWER)),
-        (false, 0, Told::Explained(1)),
-    ] {
-        let one = 0x0100_0000_0000_0000;
-        let op = sent((0, 10), ADD, 1, LOW + 6, endian, 0x00c0, one);
-        let ops = [answered(op, before)];
-        let found = verdict_from(rt.alloc(), &[at(LOW, before)], &ops, &[at(LOW, final_word)])?;
-        assert_same(
-            &rt,
-            (endian, final_word, found),
-            (endian, final_word, wanted),
-        );
-    }
-    Ok(())
-}
+const BEFORE: u64 = 0xff00_0000_0000_0000;
+
+const AFTER: u64 = 0x0001_0000_0000_0000;
+
+// An addition of 1 to the two bytes at the granule's end.
+const ADDED: Sent = Sent {
+    opcode: ADD,
+    size: 1,
+    addr: LOW + 6,
+    endian: false,
+    be: 0x00c0,
+    lanes: 0x0100_0000_0000_0000,
+};
+
+const BIG_ENDIAN: Timed = Timed::BytesAnswered(
+    (0, 10),
+    Sent {
+        endian: true,
+        ..ADDED
+    },
+    BEFORE,
+);
+
+const LITTLE_ENDIAN: Timed = Timed::BytesAnswered((0, 10), ADDED, BEFORE);
+
+// Writes of the two lowest bytes.
+const LOW_BYTE: Sent = Sent {
+    opcode: WRITE,
+    size: 0,
+    addr: LOW,
+    endian: false,
+    be: 0x0001,
+    lanes: 0xaa,
+};
+
+const HIGH_BYTE: Sent = Sent {
+    opcode: WRITE,
+    size: 0,
+    addr: LOW + 1,
+    endian: false,
+    be: 0x0002,
+    lanes: 0xbb00,
+};
+
+const ONE: Timed = Timed::Write((0, 90), LOW, 1);
+
+const TWO: Timed = Timed::Write((0, 90), LOW, 2);
+
+const THREE: Timed = Timed::Write((0, 90), LOW, 3);
+
+const SEES_TWO: Timed = Timed::Read((10, 20), LOW, 2);
+
+const SEES_THREE: Timed = Timed::Read((30, 40), LOW, 3);
+
+// Additions to two granules.
+const NEIGHBOURS: [Timed; 4] = [
+    Timed::Add((0, 10), LOW, 0),
+    Timed::Done((20, 30), STORE_ADD, NEXT, 3),
+    Timed::Add((40, 50), LOW, 1),
+    Timed::Read((60, 70), NEXT, 3),
+];
+
+// The bytes 00 ff at the granule's end are 255 in big-endian order, and 01 00 are 256. Of the three writes only the later reads tell
+// the order. Each of two granules' order is told by its own words, and the times hold both together.
+static TRACES: [Case; 9] = [
+    (
+        "big_endian_add: carried",
+        &[(LOW, BEFORE)],
+        &[BIG_ENDIAN],
+        &[(LOW, AFTER)],
+        Told::Explained(1),
+    ),
+    (
+        "big_endian_add: 0",
+        &[(LOW, BEFORE)],
+        &[BIG_ENDIAN],
+        &[(LOW, 0)],
+        Told::Unexplained(LOWER),
+    ),
+    (
+        "big_endian_add: little-endian",
+        &[(LOW, BEFORE)],
+        &[LITTLE_ENDIAN],
+        &[(LOW, 0)],
+        Told::Explained(1),
+    ),
+    (
+        "bytes_of_one_granule: both",
+        &[],
+        &[
+            Timed::BytesDone((0, 50), HIGH_BYTE),
+            Timed::BytesDone((0, 50), LOW_BYTE),
+            Timed::Read((10, 20), LOW, 0x00aa),
+            Timed::Read((30, 40), LOW, 0xbbaa),
+        ],
+        &[(LOW, 0xbbaa)],
+        Told::Ordered(&[1, 2, 0, 3]),
+    ),
+    (
+        "bytes_of_one_granule: high alone",
+        &[],
+        &[
+            Timed::BytesDone((0, 50), HIGH_BYTE),
+            Timed::BytesDone((0, 50), LOW_BYTE),
+            Timed::Read((10, 20), LOW, 0x00aa),
+            Timed::Read((30, 40), LOW, 0xbb00),
+        ],
+        &[(LOW, 0xbbaa)],
+        Told::Unexplained(LOWER),
+    ),
+    (
+        "writes_told_by_reads",
+        &[],
+        &[
+            ONE,
+            TWO,
+            THREE,
+            SEES_TWO,
+            SEES_THREE,
+            Timed::Read((50, 60), LOW, 1),
+        ],
+        &[(LOW, 1)],
+        Told::Ordered(&[1, 3, 2, 4, 0, 5]),
+    ),
+    (
+        "writes_told_by_reads: 2 again",
+        &[],
+        &[
+            ONE,
+            TWO,
+            THREE,
+            SEES_TWO,
+            SEES_THREE,
+            Timed::Read((50, 60), LOW, 2),
+        ],
+        &[],
+        Told::Unexplained(LOWER),
+    ),
+    (
+        "two_granules",
+        &[(LOW, 0), (NEXT, 0)],
+        &NEIGHBOURS,
+        &[(LOW, 2), (NEXT, 3)],
+        Told::Ordered(&[0, 1, 2, 3]),
+    ),
+    (
+        "two_granules: 1 at the opening",
+        &[(LOW, 0), (NEXT, 1)],
+        &NEIGHBOURS,
+        &[(LOW, 2), (NEXT, 4)],
+        Told::Unexplained(NEXT / 8),
+    ),
+];
 
 #[test]
-fn bytes_of_one_granule(rt: HostRuntime) -> Result<(), Fail> {
-    let high = done(sent((0, 50), WRITE, 0, LOW + 1, false, 0x0002, 0xbb00));
-    let low = done(sent((0, 50), WRITE, 0, LOW, false, 0x0001, 0xaa));
-    let sees_low = read((10, 20), LOW, 0x00aa);
-    let sees_high = read((30, 40), LOW, 0xbb00);
-    let sees_both = read((30, 40), LOW, 0xbbaa);
-    let both = [at(LOW, 0xbbaa)];
-    let ops = [high, low, sees_low, sees_both];
-    assert_ordered(&rt, &[], &ops, &both, &[1, 2, 0, 3])?;
-    let ops = [high, low, sees_low, sees_high];
-    assert_verdicts(&rt, &ops, &[(&both, Told::Unexplained(LOWER))])
-}
-
-// Three writes whose order only the later reads tell.
-#[test]
-fn writes_told_by_reads(rt: HostRuntime) -> Result<(), Fail> {
-    let one = write((0, 90), LOW, 1);
-    let two = write((0, 90), LOW, 2);
-    let three = write((0, 90), LOW, 3);
-    let sees_two = read((10, 20), LOW, 2);
-    let sees_three = read((30, 40), LOW, 3);
-    let sees_one = read((50, 60), LOW, 1);
-    let again = read((50, 60), LOW, 2);
-    let ops = [one, two, three, sees_two, sees_three, sees_one];
-    assert_ordered(&rt, &[], &ops, &[at(LOW, 1)], &[1, 3, 2, 4, 0, 5])?;
-    let ops = [one, two, three, sees_two, sees_three, again];
-    assert_verdicts(&rt, &ops, &[(&[], Told::Unexplained(LOWER))])
-}
-
-// Each granule's order is told by its own words, and the times hold both together.
-#[test]
-fn two_granules(rt: HostRuntime) -> Result<(), Fail> {
-    let ops = [
-        add((0, 10), LOW, 0),
-        done(silent((20, 30), STORE_ADD, NEXT, 3)),
-        add((40, 50), LOW, 1),
-        read((60, 70), NEXT, 3),
-    ];
-    let opening = [at(LOW, 0), at(NEXT, 0)];
-    let final_words = [at(LOW, 2), at(NEXT, 3)];
-    assert_ordered(&rt, &opening, &ops, &final_words, &[0, 1, 2, 3])?;
-    let opening = [at(LOW, 0), at(NEXT, 1)];
-    let found = verdict_from(rt.alloc(), &opening, &ops, &[at(LOW, 2), at(NEXT, 4)])?;
-    assert_same(&rt, found, Told::Unexplained(NEXT / 8));
-    Ok(())
+fn bytes_writes_and_neighbours(rt: HostRuntime) -> Result<(), Fail> {
+    assert_verdicts(&rt, &TRACES)
 }

@@ -1,79 +1,172 @@
 //! Tests of what the memory does when operations are executed in an order: its replies, and the words that it has after them.
 
 use crate::tests::comparison::assert_same;
-use crate::tests::traces::{
-    ADD, HIGH, LOW, NEXT, Timed, add, answered, at, data, read, silent, trace_from, write,
-};
+use crate::tests::traces::{ADD, HIGH, LOW, NEXT, Timed, data, trace};
 use chi_lanes::Reply;
-use chi_trace::{GranuleWord, execute};
+use chi_trace::{Executed, Trace, execute};
+use std::alloc::Global;
 use std::process::Abort;
 use std::test::Fail;
 
-// Compares the replies of the memory in this order of the operations, from these words on, the words of two granules after
-// it, and of how many granules there are words.
-fn assert_executed<R: AllocGlobal + Abort>(
-    rt: &R,
-    ops: &[Timed],
-    opening: &[GranuleWord],
-    order: &[usize],
-    replies: &[Reply],
+// What the memory does: a reply without data, or with this word of the granule at an address.
+#[derive(Clone, Copy)]
+enum Does {
+    Comp,
+    Data(u64, u64),
+}
+
+// The operations and the words before them, their order and the replies, the words of two granules after it, and of how many
+// granules there are words.
+struct Case<'a> {
+    name: &'a str,
+    ops: &'a [Timed],
+    opening: &'a [(u64, u64)],
+    order: &'a [usize],
+    replies: &'a [Does],
     wanted: [(u64, Option<u64>); 2],
     count: usize,
-) -> Result<(), Fail> {
-    let trace = trace_from(rt.alloc(), opening, ops)?;
+}
+
+// What the memory does in this order of the operations.
+fn executed(alloc: Global, trace: &Trace, order: &[usize]) -> Result<Executed, Fail> {
     let places = trace.operations().len();
     if order.iter().any(|place| *place >= places) {
         return Err(Fail::new("the order has a place that is none of the trace"));
     }
-    let after = execute(rt.alloc(), &trace, order)?;
-    let found = wanted.map(|(addr, _)| (addr, after.words.get(addr / 8)));
-    assert_same(rt, after.replies.as_slice(), replies);
-    assert_same(rt, (found, after.words.as_slice().len()), (wanted, count));
+    Ok(execute(alloc, trace, order)?)
+}
+
+// The replies that are wanted.
+fn replies(alloc: Global, wanted: &[Does]) -> Result<Vec<Reply>, Fail> {
+    let mut list = Vec::new(alloc);
+    for each in wanted {
+        list.push(match *each {
+            Does::Comp => Reply::Comp,
+            Does::Data(addr, word) => data(addr, word),
+        })?;
+    }
+    Ok(list)
+}
+
+// Compares the word of a granule after it.
+fn assert_word<R: Abort>(rt: &R, name: &str, after: &Executed, wanted: (u64, Option<u64>)) {
+    let (addr, word) = wanted;
+    assert_same(
+        rt,
+        (name, addr, after.words.get(addr / 8)),
+        (name, addr, word),
+    );
+}
+
+fn assert_executed<R: AllocGlobal + Abort>(rt: &R, case: &Case<'_>) -> Result<(), Fail> {
+    let trace = trace(rt.alloc(), case.opening, case.ops)?;
+    let after = executed(rt.alloc(), &trace, case.order)?;
+    let wanted = replies(rt.alloc(), case.replies)?;
+    let name = case.name;
+    assert_same(
+        rt,
+        (name, after.replies.as_slice()),
+        (name, wanted.as_slice()),
+    );
+    assert_word(rt, name, &after, case.wanted[0]);
+    assert_word(rt, name, &after, case.wanted[1]);
+    assert_same(rt, (name, after.words.as_slice().len()), (name, case.count));
     Ok(())
 }
 
-#[test]
-fn words_after_an_order(rt: HostRuntime) -> Result<(), Fail> {
-    let ops = [
-        write((0, 10), HIGH, 5),
-        add((0, 10), LOW, 0),
-        add((11, 20), HIGH, 5),
-    ];
-    let replies = [Reply::Comp, data(LOW, 0), data(HIGH, 5)];
-    let wanted = [(LOW, Some(1)), (HIGH, Some(6))];
-    assert_executed(&rt, &ops, &[], &[0, 1, 2], &replies, wanted, 2)
-}
-
-// The third order is none that explains the operations: the read answered 10, and comes before the addition.
-#[test]
-fn words_after_orders(rt: HostRuntime) -> Result<(), Fail> {
-    let ops = [
-        answered(silent((0, 10), ADD, LOW, 3), 7),
-        read((0, 10), LOW, 10),
-        write((0, 10), NEXT, 5),
-    ];
-    let opening = [at(LOW, 7)];
-    let (seven, ten) = (data(LOW, 7), data(LOW, 10));
-    for (order, replies, low, next, count) in [
-        ([].as_slice(), [].as_slice(), 7, None, 1),
-        (&[0], &[seven], 10, None, 1),
-        (&[2, 0, 1], &[Reply::Comp, seven, ten], 10, Some(5), 2),
-        (&[1, 0, 2], &[seven, seven, Reply::Comp], 10, Some(5), 2),
-    ] {
-        let wanted = [(LOW, Some(low)), (NEXT, next)];
-        assert_executed(&rt, &ops, &opening, order, replies, wanted, count)?;
+fn assert_each<R: AllocGlobal + Abort>(rt: &R, cases: &[Case<'_>]) -> Result<(), Fail> {
+    for case in cases {
+        assert_executed(rt, case)?;
     }
     Ok(())
 }
 
-// An addition to a granule of which no word was told finds 0, and a granule of which one was told keeps it.
+// A read that answered 10 beside an addition that answered 7, and a write to the next granule.
+const BESIDE: [Timed; 3] = [
+    Timed::Answered((0, 10), ADD, LOW, 3, 7),
+    Timed::Read((0, 10), LOW, 10),
+    Timed::Write((0, 10), NEXT, 5),
+];
+
+// Two additions to granules of which no word was told.
+const UNTOLD: [Timed; 2] = [
+    Timed::Silent((0, 10), ADD, HIGH, 3),
+    Timed::Silent((0, 10), ADD, NEXT, 4),
+];
+
+// The last of the orders of BESIDE is none that explains the operations, since the read comes before the addition. An addition to a
+// granule of which no word was told finds 0, and a granule of which one was told keeps it.
+static EXECUTED: [Case<'static>; 7] = [
+    Case {
+        name: "words_after_an_order",
+        ops: &[
+            Timed::Write((0, 10), HIGH, 5),
+            Timed::Add((0, 10), LOW, 0),
+            Timed::Add((11, 20), HIGH, 5),
+        ],
+        opening: &[],
+        order: &[0, 1, 2],
+        replies: &[Does::Comp, Does::Data(LOW, 0), Does::Data(HIGH, 5)],
+        wanted: [(LOW, Some(1)), (HIGH, Some(6))],
+        count: 2,
+    },
+    Case {
+        name: "words_after_orders: of none",
+        ops: &BESIDE,
+        opening: &[(LOW, 7)],
+        order: &[],
+        replies: &[],
+        wanted: [(LOW, Some(7)), (NEXT, None)],
+        count: 1,
+    },
+    Case {
+        name: "words_after_orders: of one",
+        ops: &BESIDE,
+        opening: &[(LOW, 7)],
+        order: &[0],
+        replies: &[Does::Data(LOW, 7)],
+        wanted: [(LOW, Some(10)), (NEXT, None)],
+        count: 1,
+    },
+    Case {
+        name: "words_after_orders: of all",
+        ops: &BESIDE,
+        opening: &[(LOW, 7)],
+        order: &[2, 0, 1],
+        replies: &[Does::Comp, Does::Data(LOW, 7), Does::Data(LOW, 10)],
+        wanted: [(LOW, Some(10)), (NEXT, Some(5))],
+        count: 2,
+    },
+    Case {
+        name: "words_after_orders: read first",
+        ops: &BESIDE,
+        opening: &[(LOW, 7)],
+        order: &[1, 0, 2],
+        replies: &[Does::Data(LOW, 7), Does::Data(LOW, 7), Does::Comp],
+        wanted: [(LOW, Some(10)), (NEXT, Some(5))],
+        count: 2,
+    },
+    Case {
+        name: "granules_told_and_not_touched_or_touched_and_not_told: touched",
+        ops: &UNTOLD,
+        opening: &[(LOW, 7)],
+        order: &[0],
+        replies: &[Does::Data(HIGH, 0)],
+        wanted: [(LOW, Some(7)), (HIGH, Some(3))],
+        count: 2,
+    },
+    Case {
+        name: "granules_told_and_not_touched_or_touched_and_not_told: neither",
+        ops: &UNTOLD,
+        opening: &[(LOW, 7)],
+        order: &[0],
+        replies: &[Does::Data(HIGH, 0)],
+        wanted: [(LOW, Some(7)), (NEXT, None)],
+        count: 2,
+    },
+];
+
 #[test]
-fn granules_told_and_not_touched_or_touched_and_not_told(rt: HostRuntime) -> Result<(), Fail> {
-    let ops = [silent((0, 10), ADD, HIGH, 3), silent((0, 10), ADD, NEXT, 4)];
-    let replies = [data(HIGH, 0)];
-    for (addr, word) in [(HIGH, Some(3)), (NEXT, None)] {
-        let wanted = [(LOW, Some(7)), (addr, word)];
-        assert_executed(&rt, &ops, &[at(LOW, 7)], &[0], &replies, wanted, 2)?;
-    }
-    Ok(())
+fn words_and_replies_of_orders(rt: HostRuntime) -> Result<(), Fail> {
+    assert_each(&rt, &EXECUTED)
 }

@@ -1,87 +1,134 @@
 //! Tests of whole traces with answers that were worked by hand.
 
 use crate::tests::comparison::assert_same;
-use crate::tests::traces::{
-    BUDGET, HIGH, LOW, LOWER, Told, UPPER, WRITE, add, assert_ordered, assert_verdicts, at, read,
-    silent, trace, write,
-};
-use chi_search::{Found, NoProgress};
-use chi_trace::{GranuleWord, GranuleWords};
-use chi_verdict::{Grouped, Verdict, explain};
+use crate::tests::search_tests::found::{NOTHING, Numbers, assert_numbers, numbers_of};
+use crate::tests::traces::{BUDGET, HIGH, LOW, LOWER, Timed, UPPER, WRITE, trace};
+use crate::tests::verdicts::{Case, Told, assert_verdict, assert_verdicts, verdict};
+use chi_search::NoProgress;
+use chi_trace::{GranuleWords, Trace};
+use chi_verdict::{Grouped, Verdict};
+use std::alloc::Global;
 use std::test::Fail;
 
-#[test]
-fn granules_far_apart(rt: HostRuntime) -> Result<(), Fail> {
-    let ops = [
-        write((0, 10), HIGH, 5),
-        read((5, 15), LOW, 0),
-        read((11, 20), HIGH, 5),
-    ];
-    let wanted: [(&[GranuleWord], Told); 4] = [
-        (&[], Told::Explained(3)),
-        (&[at(LOW, 0), at(HIGH, 5)], Told::Explained(3)),
-        (&[at(LOW, 1), at(HIGH, 5)], Told::Unexplained(LOWER)),
-        (&[at(LOW, 0), at(HIGH, 0)], Told::Unexplained(UPPER)),
-    ];
-    assert_verdicts(&rt, &ops, &wanted)
-}
+const APART: [Timed; 3] = [
+    Timed::Write((0, 10), HIGH, 5),
+    Timed::Read((5, 15), LOW, 0),
+    Timed::Read((11, 20), HIGH, 5),
+];
+
+const LOW_ALONE: [Timed; 1] = [Timed::Read((5, 15), LOW, 0)];
+
+const OPEN: [Timed; 2] = [
+    Timed::Silent((0, u64::MAX), WRITE, LOW, 4),
+    Timed::Read((5, 10), LOW, 4),
+];
+
+static ENDS: [Case; 11] = [
+    ("granules_far_apart", &[], &APART, &[], Told::Explained(3)),
+    (
+        "granules_far_apart: 0 and 5",
+        &[],
+        &APART,
+        &[(LOW, 0), (HIGH, 5)],
+        Told::Explained(3),
+    ),
+    (
+        "granules_far_apart: 1 and 5",
+        &[],
+        &APART,
+        &[(LOW, 1), (HIGH, 5)],
+        Told::Unexplained(LOWER),
+    ),
+    (
+        "granules_far_apart: 0 and 0",
+        &[],
+        &APART,
+        &[(LOW, 0), (HIGH, 0)],
+        Told::Unexplained(UPPER),
+    ),
+    (
+        "stale_read_in_one_granule",
+        &[],
+        &[
+            Timed::Write((0, 10), HIGH, 5),
+            Timed::Read((5, 15), LOW, 0),
+            Timed::Read((11, 20), HIGH, 0),
+        ],
+        &[],
+        Told::Unexplained(UPPER),
+    ),
+    (
+        "word_of_a_granule_without_operations: 0",
+        &[],
+        &LOW_ALONE,
+        &[(HIGH, 0)],
+        Told::Explained(1),
+    ),
+    (
+        "word_of_a_granule_without_operations: 7",
+        &[],
+        &LOW_ALONE,
+        &[(HIGH, 7)],
+        Told::Unexplained(UPPER),
+    ),
+    (
+        "word_of_a_granule_without_operations: none at all",
+        &[],
+        &[],
+        &[(LOW, 7)],
+        Told::Unexplained(LOWER),
+    ),
+    (
+        "word_of_a_granule_without_operations: as at the opening",
+        &[(LOW, 4)],
+        &[],
+        &[(LOW, 4)],
+        Told::Ordered(&[]),
+    ),
+    (
+        "open_write_that_a_read_found: 4",
+        &[],
+        &OPEN,
+        &[(LOW, 4)],
+        Told::Explained(2),
+    ),
+    (
+        "open_write_that_a_read_found: 0",
+        &[],
+        &OPEN,
+        &[(LOW, 0)],
+        Told::Unexplained(LOWER),
+    ),
+];
 
 #[test]
-fn stale_read_in_one_granule(rt: HostRuntime) -> Result<(), Fail> {
-    let ops = [
-        write((0, 10), HIGH, 5),
-        read((5, 15), LOW, 0),
-        read((11, 20), HIGH, 0),
-    ];
-    assert_verdicts(&rt, &ops, &[(&[], Told::Unexplained(UPPER))])
+fn words_at_the_end_of_granules_apart(rt: HostRuntime) -> Result<(), Fail> {
+    assert_verdicts(&rt, &ENDS)
 }
 
-#[test]
-fn word_of_a_granule_without_operations(rt: HostRuntime) -> Result<(), Fail> {
-    let ops = [read((5, 15), LOW, 0)];
-    let wanted: [(&[GranuleWord], Told); 2] = [
-        (&[at(HIGH, 0)], Told::Explained(1)),
-        (&[at(HIGH, 7)], Told::Unexplained(UPPER)),
-    ];
-    assert_verdicts(&rt, &ops, &wanted)?;
-    assert_verdicts(&rt, &[], &[(&[at(LOW, 7)], Told::Unexplained(LOWER))])?;
-    assert_ordered(&rt, &[at(LOW, 4)], &[], &[at(LOW, 4)], &[])
-}
-
-#[test]
-fn open_write_that_a_read_found(rt: HostRuntime) -> Result<(), Fail> {
-    let ops = [silent((0, u64::MAX), WRITE, LOW, 4), read((5, 10), LOW, 4)];
-    let wanted: [(&[GranuleWord], Told); 2] = [
-        (&[at(LOW, 4)], Told::Explained(2)),
-        (&[at(LOW, 0)], Told::Unexplained(LOWER)),
-    ];
-    assert_verdicts(&rt, &ops, &wanted)
+// Six hundred writes, each of another granule.
+fn writes_apart(alloc: Global) -> Result<Vec<Timed>, Fail> {
+    let mut ops = Vec::new(alloc);
+    for granule in 0..600 {
+        ops.push(Timed::Write((granule, granule + 9), HIGH - 64 * granule, granule))?;
+    }
+    Ok(ops)
 }
 
 #[test]
 fn more_granules_than_a_region_has(rt: HostRuntime) -> Result<(), Fail> {
-    let mut ops = Vec::new(rt.alloc());
-    for granule in 0..600 {
-        ops.push(write((granule, granule + 9), HIGH - 64 * granule, granule))?;
-    }
-    assert_verdicts(&rt, &ops, &[(&[], Told::Explained(600))])
+    let ops = writes_apart(rt.alloc())?;
+    assert_verdict(&rt, "600", &[], &ops, &[], Told::Explained(600))
 }
 
 #[test]
 fn undecided_where_the_budget_was_spent(rt: HostRuntime) -> Result<(), Fail> {
     let ops = [
-        add((0, 9), LOW, 1),
-        add((0, 9), LOW, 0),
-        read((0, 9), HIGH, 0),
+        Timed::Add((0, 9), LOW, 1),
+        Timed::Add((0, 9), LOW, 0),
+        Timed::Read((0, 9), HIGH, 0),
     ];
-    let none = GranuleWords::none(rt.alloc());
-    let found = match explain(
-        rt.alloc(),
-        &trace(rt.alloc(), &ops)?,
-        &none,
-        2,
-        &mut NoProgress,
-    )? {
+    let found = match verdict(rt.alloc(), &[], &ops, &[], 2, &mut NoProgress)? {
         Verdict::Undecided { granule, states } => (granule, states),
         _ => (0, 0),
     };
@@ -89,27 +136,32 @@ fn undecided_where_the_budget_was_spent(rt: HostRuntime) -> Result<(), Fail> {
     Ok(())
 }
 
+// The numbers that stand for the order of one granule of a trace.
+fn order_of_one(alloc: Global, trace: &Trace, granule: u64) -> Result<Vec<usize>, Fail> {
+    let grouped = Grouped::of(alloc, trace)?;
+    let none = GranuleWords::none(alloc);
+    let mut budget = BUDGET;
+    numbers_of(
+        alloc,
+        grouped.explain(alloc, &none, granule, &mut budget, &mut NoProgress)?,
+    )
+}
+
 #[test]
 fn granules_one_after_the_other(rt: HostRuntime) -> Result<(), Fail> {
     let ops = [
-        write((0, 10), HIGH, 5),
-        read((5, 15), LOW, 1),
-        read((11, 20), HIGH, 5),
+        Timed::Write((0, 10), HIGH, 5),
+        Timed::Read((5, 15), LOW, 1),
+        Timed::Read((11, 20), HIGH, 5),
     ];
-    let trace = trace(rt.alloc(), &ops)?;
-    let none = GranuleWords::none(rt.alloc());
-    let grouped = Grouped::of(rt.alloc(), &trace)?;
-    let wanted: [(u64, Option<&[usize]>); 3] = [
-        (UPPER, Some(&[0, 2])),
-        (LOWER, None),
-        (LOWER + 1, Some(&[])),
-    ];
-    for (granule, order) in wanted {
-        let mut budget = BUDGET;
-        match grouped.explain(rt.alloc(), &none, granule, &mut budget, &mut NoProgress)? {
-            Found::Order(found) => assert_same(&rt, Some(found.as_slice()), order),
-            _ => assert_same(&rt, None, order),
-        }
+    let trace = trace(rt.alloc(), &[], &ops)?;
+    for (case, granule, wanted) in &[
+        ("UPPER", UPPER, Numbers::These(&[0, 2])),
+        ("LOWER", LOWER, NOTHING),
+        ("LOWER + 1", LOWER + 1, Numbers::These(&[])),
+    ] {
+        let found = order_of_one(rt.alloc(), &trace, *granule)?;
+        assert_numbers(&rt, case, &found, *wanted);
     }
     Ok(())
 }

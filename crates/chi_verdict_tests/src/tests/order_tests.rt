@@ -1,54 +1,121 @@
 //! Tests of traces of one granule, and of the words at their end, whose answers were worked by hand.
 
-use crate::tests::traces::{
-    COMPARE, LOW, LOWER, NEXT, Timed, Told, answered, assert_ordered, assert_verdicts, at, read,
-    sent, swap, write,
-};
+use crate::tests::traces::{COMPARE, LOW, LOWER, NEXT, Sent, Timed};
+use crate::tests::verdicts::{Case, Told, assert_verdicts};
 use std::test::Fail;
 
-const LOWER_FAILS: Told = Told::Unexplained(LOWER);
+const LOWER_FAILS: Told<'static> = Told::Unexplained(LOWER);
+
+const THIN_AIR: [Timed; 2] = [Timed::Write((0, 10), LOW, 5), Timed::Read((0, 10), LOW, 7)];
+
+const ONE: Timed = Timed::Swap((0, 10), LOW, 1, 2);
+
+const FIRST: Timed = Timed::Swap((0, 10), LOW, 2, 0);
+
+// Compares with 0 that swap 1 in, and 2.
+const COMPARE_1: Sent = Sent {
+    opcode: COMPARE,
+    size: 4,
+    addr: LOW,
+    endian: false,
+    be: 0xffff,
+    lanes: 1 << 64,
+};
+
+const COMPARE_2: Sent = Sent {
+    lanes: 2 << 64,
+    ..COMPARE_1
+};
+
+const WON: Timed = Timed::BytesAnswered((0, 10), COMPARE_1, 0);
+
+const WRITES: [Timed; 2] = [
+    Timed::Write((0, 10), NEXT, 5),
+    Timed::Write((0, 10), NEXT, 6),
+];
+
+static TRACES: [Case; 12] = [
+    ("value_out_of_thin_air", &[], &THIN_AIR, &[], LOWER_FAILS),
+    (
+        "value_out_of_thin_air: at the opening",
+        &[(LOW, 7)],
+        &THIN_AIR,
+        &[],
+        Told::Ordered(&[1, 0]),
+    ),
+    (
+        "two_swaps_exchanged: both",
+        &[],
+        &[ONE, Timed::Swap((0, 10), LOW, 2, 1)],
+        &[],
+        LOWER_FAILS,
+    ),
+    (
+        "two_swaps_exchanged: 2 last",
+        &[],
+        &[ONE, FIRST],
+        &[(LOW, 2)],
+        LOWER_FAILS,
+    ),
+    (
+        "two_swaps_exchanged: 1 last",
+        &[],
+        &[ONE, FIRST],
+        &[(LOW, 1)],
+        Told::Ordered(&[1, 0]),
+    ),
+    (
+        "compare_that_both_won",
+        &[],
+        &[WON, Timed::BytesAnswered((0, 10), COMPARE_2, 0)],
+        &[],
+        LOWER_FAILS,
+    ),
+    (
+        "compare_that_both_won: one lost",
+        &[],
+        &[Timed::BytesAnswered((0, 10), COMPARE_2, 1), WON],
+        &[(LOW, 1)],
+        Told::Ordered(&[1, 0]),
+    ),
+    (
+        "words_at_the_end: 5",
+        &[],
+        &WRITES,
+        &[(LOW, 0), (NEXT, 5)],
+        Told::Ordered(&[1, 0]),
+    ),
+    (
+        "words_at_the_end: 6",
+        &[],
+        &WRITES,
+        &[(LOW, 0), (NEXT, 6)],
+        Told::Ordered(&[0, 1]),
+    ),
+    (
+        "words_at_the_end: no write",
+        &[],
+        &WRITES,
+        &[(LOW, 0), (NEXT, 7)],
+        Told::Unexplained(NEXT / 8),
+    ),
+    (
+        "words_at_the_end: other word",
+        &[],
+        &WRITES,
+        &[(LOW, 1), (NEXT, 6)],
+        LOWER_FAILS,
+    ),
+    (
+        "words_at_the_end: not told",
+        &[],
+        &[Timed::Write((0, 10), NEXT, 5)],
+        &[],
+        Told::Explained(1),
+    ),
+];
 
 #[test]
-fn value_out_of_thin_air(rt: HostRuntime) -> Result<(), Fail> {
-    let ops = [write((0, 10), LOW, 5), read((0, 10), LOW, 7)];
-    assert_verdicts(&rt, &ops, &[(&[], LOWER_FAILS)])?;
-    assert_ordered(&rt, &[at(LOW, 7)], &ops, &[], &[1, 0])
-}
-
-#[test]
-fn two_swaps_exchanged(rt: HostRuntime) -> Result<(), Fail> {
-    let one = swap((0, 10), LOW, 1, 2);
-    let two = swap((0, 10), LOW, 2, 1);
-    let first = swap((0, 10), LOW, 2, 0);
-    assert_verdicts(&rt, &[one, two], &[(&[], LOWER_FAILS)])?;
-    assert_verdicts(&rt, &[one, first], &[(&[at(LOW, 2)], LOWER_FAILS)])?;
-    assert_ordered(&rt, &[], &[one, first], &[at(LOW, 1)], &[1, 0])
-}
-
-// A compare with 0 that swaps this word in.
-fn compare(word: u128, answer: u64) -> Timed {
-    let op = sent((0, 10), COMPARE, 4, LOW, false, 0xffff, word << 64);
-    answered(op, answer)
-}
-
-#[test]
-fn compare_that_both_won(rt: HostRuntime) -> Result<(), Fail> {
-    let one = compare(1, 0);
-    assert_verdicts(&rt, &[one, compare(2, 0)], &[(&[], LOWER_FAILS)])?;
-    assert_ordered(&rt, &[], &[compare(2, 1), one], &[at(LOW, 1)], &[1, 0])
-}
-
-#[test]
-fn words_at_the_end(rt: HostRuntime) -> Result<(), Fail> {
-    let ops = [write((0, 10), NEXT, 5), write((0, 10), NEXT, 6)];
-    assert_ordered(&rt, &[], &ops, &[at(LOW, 0), at(NEXT, 5)], &[1, 0])?;
-    assert_ordered(&rt, &[], &ops, &[at(LOW, 0), at(NEXT, 6)], &[0, 1])?;
-    let no_write = [at(LOW, 0), at(NEXT, 7)];
-    let other_word = [at(LOW, 1), at(NEXT, 6)];
-    let wanted = [
-        (no_write.as_slice(), Told::Unexplained(NEXT / 8)),
-        (&other_word, LOWER_FAILS),
-    ];
-    assert_verdicts(&rt, &ops, &wanted)?;
-    assert_verdicts(&rt, &ops[..1], &[(&[], Told::Explained(1))])
+fn traces_of_one_granule(rt: HostRuntime) -> Result<(), Fail> {
+    assert_verdicts(&rt, &TRACES)
 }

@@ -3,10 +3,11 @@
 ghost use Rattle.std.specs.Prelude.{◌≡◌, ◌-◌, ◌^◌, min};
 
 use crate::tests::comparison::assert_same;
-use crate::tests::traces::{BUDGET, LOW, LOWER, NEXT, Timed, add, read, trace, write};
-use chi_search::{Progress, Words};
-use chi_trace::GranuleWords;
-use chi_verdict::{First, Verdict, explain, first_unexplained, words_held};
+use crate::tests::traces::{BUDGET, LOW, LOWER, NEXT, Timed};
+use crate::tests::verdicts::{first, verdict};
+use crate::tests::words_tests::held_within;
+use chi_search::Progress;
+use chi_verdict::{First, Verdict};
 use std::alloc::Global;
 use std::test::Fail;
 
@@ -17,26 +18,23 @@ struct Looks(u64);
 impl Progress for Looks {
     ghost looked = { λ s n. s.0 ≡ min n (2 ^ 64 - 1) };
 
-    fn look(&mut self) {
+    fn look(&mut self, _left: u64) -> u64 {
         self.0 = self.0.saturating_add(1);
+        1
     }
 }
 
 // An operation on the lower granule, and two on the next.
-fn three_operations() -> [Timed; 3] {
-    [
-        write((0, 10), LOW, 5),
-        add((0, 10), NEXT, 0),
-        read((20, 30), NEXT, 1),
-    ]
-}
+const THREE: [Timed; 3] = [
+    Timed::Write((0, 10), LOW, 5),
+    Timed::Add((0, 10), NEXT, 0),
+    Timed::Read((20, 30), NEXT, 1),
+];
 
 // Which granule of the three operations is not decided within so many states, and how many were looked at, of both.
 fn found_within(alloc: Global, budget: u64) -> Result<(Option<u64>, u64), Fail> {
-    let trace = trace(alloc, &three_operations())?;
     let mut looks = Looks(0);
-    let none = GranuleWords::none(alloc);
-    match explain(alloc, &trace, &none, budget, &mut looks)? {
+    match verdict(alloc, &[], &THREE, &[], budget, &mut looks)? {
         Verdict::Explained(_) => Ok((None, looks.0)),
         Verdict::Unexplained { granule: _ } => Err(Fail::new("the trace is not explained")),
         Verdict::Undecided { granule, states: _ } => Ok((Some(granule), looks.0)),
@@ -62,12 +60,11 @@ fn states_of_each_granule(rt: HostRuntime) -> Result<(), Fail> {
 // The trace up to the time before is searched once more, which takes three states.
 #[test]
 fn states_of_a_blame(rt: HostRuntime) -> Result<(), Fail> {
-    let alloc = rt.alloc();
-    let [write, add, sees_one] = three_operations();
-    let stale = read((40, 50), NEXT, 0);
-    let trace = trace(alloc, &[write, add, sees_one, stale])?;
+    let [write, add, sees_one] = THREE;
+    let stale = Timed::Read((40, 50), NEXT, 0);
+    let ops = [write, add, sees_one, stale];
     let mut looks = Looks(0);
-    let First::At(blame) = first_unexplained(alloc, &trace, 16, BUDGET, &mut looks)? else {
+    let First::At(blame) = first(rt.alloc(), &ops, 16, BUDGET, &mut looks)? else {
         return Err(Fail::new("explained at each time"));
     };
     assert_same(&rt, (blame.stop.time, looks.0 > 3), (50, true));
@@ -76,18 +73,11 @@ fn states_of_a_blame(rt: HostRuntime) -> Result<(), Fail> {
 
 #[test]
 fn words_at_end_look_at_states(rt: HostRuntime) -> Result<(), Fail> {
-    let alloc = rt.alloc();
-    let trace = trace(alloc, &three_operations())?;
     let mut looks = Looks(0);
     let mut budget = BUDGET;
-    let Words::Each(words) = words_held(alloc, &trace, NEXT / 8, &mut budget, &mut looks)? else {
-        return Err(Fail::new("the budget was spent"));
-    };
+    let words = held_within(rt.alloc(), &[], &THREE, NEXT, &mut budget, &mut looks)?;
     let spent = BUDGET.saturating_sub(budget);
-    assert_same(
-        &rt,
-        (words.as_slice(), looks.0 > 0, looks.0),
-        ([1].as_slice(), true, spent),
-    );
+    assert_same(&rt, words.as_slice(), [1].as_slice());
+    assert_same(&rt, (looks.0 > 0, looks.0), (true, spent));
     Ok(())
 }

@@ -2,7 +2,9 @@
 
 mod commuting_tests;
 mod equal_tests;
+pub(crate) mod found;
 mod frontier_order_tests;
+mod frontier_steps;
 mod frontier_tests;
 mod maker_tests;
 mod many_tests;

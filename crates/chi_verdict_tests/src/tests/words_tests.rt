@@ -1,19 +1,18 @@
 //! Tests of the words of granules: those that are told, and those that can be held.
 
 use crate::tests::comparison::assert_same;
-use crate::tests::traces::{
-    ADD, BUDGET, HIGH, LOW, NEXT, Timed, at, read, silent, trace_from, words, write,
-};
-use chi_search::{NoProgress, Words};
+use crate::tests::traces::{ADD, BUDGET, HIGH, LOW, NEXT, Timed, trace, words};
+use chi_search::{NoProgress, Progress, Words};
 use chi_trace::{GranuleWord, GranuleWords};
 use chi_verdict::words_held;
 use std::alloc::Global;
 use std::collections::BTreeMap;
+use std::process::Abort;
 use std::test::Fail;
 
 #[test]
 fn words_that_are_told(rt: HostRuntime) -> Result<(), Fail> {
-    let told = words(rt.alloc(), &[at(LOW, 3), at(HIGH, 4)])?;
+    let told = words(rt.alloc(), &[(LOW, 3), (HIGH, 4)])?;
     let found = (
         told.get(LOW / 8),
         told.get(LOW / 8 + 1),
@@ -61,16 +60,17 @@ fn words_of_a_map(rt: HostRuntime) -> Result<(), Fail> {
     Ok(())
 }
 
-// The words that a granule can hold after the operations, from these words on, in rising order.
-fn held(
+/// The words that a granule can hold after the operations, from these words on, in rising order.
+pub(crate) fn held_within<P: Progress>(
     alloc: Global,
-    opening: &[GranuleWord],
+    opening: &[(u64, u64)],
     ops: &[Timed],
     addr: u64,
+    budget: &mut u64,
+    progress: &mut P,
 ) -> Result<Vec<u64>, Fail> {
-    let trace = trace_from(alloc, opening, ops)?;
-    let mut budget = BUDGET;
-    match words_held(alloc, &trace, addr / 8, &mut budget, &mut NoProgress)? {
+    let trace = trace(alloc, opening, ops)?;
+    match words_held(alloc, &trace, addr / 8, budget, progress)? {
         Words::Each(mut each) => {
             each.sort()?;
             Ok(each)
@@ -79,23 +79,65 @@ fn held(
     }
 }
 
-#[test]
-fn words_that_a_granule_can_hold(rt: HostRuntime) -> Result<(), Fail> {
-    let ops = [silent((0, 10), ADD, LOW, 1), read((0, 20), HIGH, 0)];
-    let found = held(rt.alloc(), &[], &ops, LOW)?;
-    assert_same(&rt, found.as_slice(), [0, 1].as_slice());
+// A name, the words at the opening, the operations, an address and the words that its granule can hold.
+type Case = (
+    &'static str,
+    &'static [(u64, u64)],
+    &'static [Timed],
+    u64,
+    &'static [u64],
+);
+
+fn assert_held<R: AllocGlobal + Abort>(rt: &R, cases: &[Case]) -> Result<(), Fail> {
+    for (case, opening, ops, addr, wanted) in cases {
+        let mut budget = BUDGET;
+        let found = held_within(
+            rt.alloc(),
+            opening,
+            ops,
+            *addr,
+            &mut budget,
+            &mut NoProgress,
+        )?;
+        assert_same(rt, (*case, found.as_slice()), (*case, *wanted));
+    }
     Ok(())
 }
 
-// Two writes overlap, and either may be the last one.
+const TWO_WRITES: [Timed; 2] = [
+    Timed::Write((0, 10), NEXT, 4),
+    Timed::Write((0, 10), NEXT, 6),
+];
+
+// Where two writes overlap, either may be the last one.
+static HELD: [Case; 3] = [
+    (
+        "words_that_a_granule_can_hold",
+        &[],
+        &[
+            Timed::Silent((0, 10), ADD, LOW, 1),
+            Timed::Read((0, 20), HIGH, 0),
+        ],
+        LOW,
+        &[0, 1],
+    ),
+    (
+        "either_write_last",
+        &[(LOW, 7), (NEXT, 0)],
+        &TWO_WRITES,
+        NEXT,
+        &[4, 6],
+    ),
+    (
+        "either_write_last: the other granule",
+        &[(LOW, 7), (NEXT, 0)],
+        &TWO_WRITES,
+        LOW,
+        &[7],
+    ),
+];
+
 #[test]
-fn either_write_last(rt: HostRuntime) -> Result<(), Fail> {
-    let alloc = rt.alloc();
-    let opening = [at(LOW, 7), at(NEXT, 0)];
-    let ops = [write((0, 10), NEXT, 4), write((0, 10), NEXT, 6)];
-    let found = held(alloc, &opening, &ops, NEXT)?;
-    assert_same(&rt, found.as_slice(), [4, 6].as_slice());
-    let still = held(alloc, &opening, &ops, LOW)?;
-    assert_same(&rt, still.as_slice(), [7].as_slice());
-    Ok(())
+fn words_that_a_granule_can_hold(rt: HostRuntime) -> Result<(), Fail> {
+    assert_held(&rt, &HELD)
 }

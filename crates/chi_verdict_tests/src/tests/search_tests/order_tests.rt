@@ -1,63 +1,92 @@
 //! Tests of a few operations whose answers were worked by hand, each of which has a reply.
 
-use super::operations::{ADD, READ, SWAP, WRITE, assert_orders, done, told};
+use super::found::{OrderCase, assert_orders};
+use super::operations::{ADD, READ, SWAP, Timed, WRITE};
 use std::test::Fail;
 
-#[test]
-fn lost_update(rt: HostRuntime) -> Result<(), Fail> {
-    let first = told((0, 10), ADD, 1, 0);
-    let lost = told((5, 15), ADD, 1, 0);
-    let kept = told((5, 15), ADD, 1, 1);
-    assert_orders(
-        &rt,
+const FIRST: Timed = Timed::Told((0, 10), ADD, 1, 0);
+
+const KEPT: Timed = Timed::Told((5, 15), ADD, 1, 1);
+
+const FIVE: Timed = Timed::Done((0, 10), WRITE, 5);
+
+const SEVEN_FOR_THREE: Timed = Timed::Told((0, 10), SWAP, 7, 3);
+
+const THREE_FOR_NONE: Timed = Timed::Told((0, 20), SWAP, 3, 0);
+
+const LATER: Timed = Timed::Done((0, 20), WRITE, 1);
+
+const SOONER: Timed = Timed::Done((0, 10), WRITE, 2);
+
+static FEW: [OrderCase; 11] = [
+    (
+        "lost_update",
+        &[FIRST, Timed::Told((5, 15), ADD, 1, 0)],
+        None,
+        &[999],
+    ),
+    ("lost_update: kept", &[FIRST, KEPT], Some(2), &[0, 1]),
+    (
+        "lost_update: kept, lost last",
+        &[FIRST, KEPT],
+        Some(1),
+        &[999],
+    ),
+    (
+        "stale_read: late",
+        &[FIVE, Timed::Told((11, 30), READ, 0, 0)],
+        None,
+        &[999],
+    ),
+    (
+        "stale_read: touching",
+        &[FIVE, Timed::Told((10, 30), READ, 0, 0)],
+        Some(5),
+        &[1, 0],
+    ),
+    (
+        "swaps_in_the_order_of_their_answers: 7",
+        &[SEVEN_FOR_THREE, THREE_FOR_NONE],
+        Some(7),
+        &[1, 0],
+    ),
+    (
+        "swaps_in_the_order_of_their_answers: 3",
+        &[SEVEN_FOR_THREE, THREE_FOR_NONE],
+        Some(3),
+        &[999],
+    ),
+    (
+        "swaps_in_the_order_of_their_answers: a read of 9",
         &[
-            (&[first, lost], None, &[999]),
-            (&[first, kept], Some(2), &[0, 1]),
-            (&[first, kept], Some(1), &[999]),
+            SEVEN_FOR_THREE,
+            THREE_FOR_NONE,
+            Timed::Told((0, 30), READ, 0, 9),
         ],
-    )
-}
+        None,
+        &[999],
+    ),
+    (
+        "operations_out_of_order_are_not_searched: the later first",
+        &[LATER, SOONER],
+        None,
+        &[997],
+    ),
+    (
+        "operations_out_of_order_are_not_searched: backwards",
+        &[Timed::Done((20, 10), WRITE, 2)],
+        None,
+        &[997],
+    ),
+    (
+        "operations_out_of_order_are_not_searched: in order",
+        &[SOONER, LATER],
+        Some(2),
+        &[1, 0],
+    ),
+];
 
 #[test]
-fn stale_read(rt: HostRuntime) -> Result<(), Fail> {
-    let write = done((0, 10), WRITE, 5);
-    let late = told((11, 30), READ, 0, 0);
-    let touching = told((10, 30), READ, 0, 0);
-    assert_orders(
-        &rt,
-        &[
-            (&[write, late], None, &[999]),
-            (&[write, touching], Some(5), &[1, 0]),
-        ],
-    )
-}
-
-#[test]
-fn swaps_in_the_order_of_their_answers(rt: HostRuntime) -> Result<(), Fail> {
-    let second = told((0, 10), SWAP, 7, 3);
-    let first = told((0, 20), SWAP, 3, 0);
-    let read = told((0, 30), READ, 0, 9);
-    assert_orders(
-        &rt,
-        &[
-            (&[second, first], Some(7), &[1, 0]),
-            (&[second, first], Some(3), &[999]),
-            (&[second, first, read], None, &[999]),
-        ],
-    )
-}
-
-#[test]
-fn operations_out_of_order_are_not_searched(rt: HostRuntime) -> Result<(), Fail> {
-    let later = done((0, 20), WRITE, 1);
-    let sooner = done((0, 10), WRITE, 2);
-    let backwards = done((20, 10), WRITE, 2);
-    assert_orders(
-        &rt,
-        &[
-            (&[later, sooner], None, &[997]),
-            (&[backwards], None, &[997]),
-            (&[sooner, later], Some(2), &[1, 0]),
-        ],
-    )
+fn few_operations_with_replies(rt: HostRuntime) -> Result<(), Fail> {
+    assert_orders(&rt, &FEW)
 }

@@ -1,49 +1,96 @@
 //! Tests of searches that end since some bytes of the word have no order by themselves, or go on by what they tell.
 
-use super::operations::{NOTHING, STORE_ADD, Timed, WRITE, assert_before_read, done, done_at};
-use std::alloc::Global;
+use super::found::{ANY, Case, NOTHING, Numbers, assert_each_found};
+use super::operations::{READ, STORE_ADD, Timed, WRITE};
 use std::test::Fail;
 
-// Of each byte of the granule but one a write of 5 and an addition of 1 that are open at once, and a read after them. It finds a
-// byte that no order leaves, and then what one does.
-#[test]
-fn bytes_that_no_order_or_one_leaves(rt: HostRuntime) -> Result<(), Fail> {
-    let mut ops = Vec::new(rt.alloc());
-    for byte in 0..7 {
-        ops.push(done_at((0, 10), WRITE, byte, 0x0505_0505_0505_0505))?;
-        ops.push(done_at((0, 10), STORE_ADD, byte, 0x0101_0101_0101_0101))?;
-    }
-    let answers = [
-        (0x0006_0606_0606_0607, 200, NOTHING),
-        (0x0006_0506_0506_0506, 1000, (15, Some(14))),
-    ];
-    assert_before_read(&rt, &ops, (11, 20), &answers)
-}
+const ONES: u64 = 0x0101_0101_0101_0101;
 
-// Four writes of each byte, of 1 to 4, all open at once.
-fn writes_of_bytes(alloc: Global) -> Result<Vec<Timed>, Fail> {
-    let mut ops = Vec::new(alloc);
-    for number in 1..5 {
-        for byte in 0..8 {
-            ops.push(done_at((0, 10), WRITE, byte, number * 0x0101_0101_0101_0101))?;
-        }
-    }
-    Ok(ops)
-}
+const FIVES: u64 = 5 * ONES;
+
+// The first two are, of each byte of the granule but one, of a write of 5 and an addition of 1 that are open at once, and a read after
+// them. One finds a byte that no order leaves, the other what one does. The others are of four writes of each byte, of 1 to 4, all
+// open at once, and of four writes of all bytes among them.
+static BYTES: [Case; 4] = [
+    (
+        "bytes_that_no_order_or_one_leaves: none",
+        &[
+            Timed::DoneAt((0, 10), WRITE, 0, FIVES),
+            Timed::DoneAt((0, 10), STORE_ADD, 0, ONES),
+            Timed::DoneAt((0, 10), WRITE, 1, FIVES),
+            Timed::DoneAt((0, 10), STORE_ADD, 1, ONES),
+            Timed::DoneAt((0, 10), WRITE, 2, FIVES),
+            Timed::DoneAt((0, 10), STORE_ADD, 2, ONES),
+            Timed::DoneAt((0, 10), WRITE, 3, FIVES),
+            Timed::DoneAt((0, 10), STORE_ADD, 3, ONES),
+            Timed::DoneAt((0, 10), WRITE, 4, FIVES),
+            Timed::DoneAt((0, 10), STORE_ADD, 4, ONES),
+            Timed::DoneAt((0, 10), WRITE, 5, FIVES),
+            Timed::DoneAt((0, 10), STORE_ADD, 5, ONES),
+            Timed::DoneAt((0, 10), WRITE, 6, FIVES),
+            Timed::DoneAt((0, 10), STORE_ADD, 6, ONES),
+            Timed::Told((11, 20), READ, 0, 0x0006_0606_0606_0607),
+        ],
+        None,
+        (200, ANY),
+        NOTHING,
+    ),
+    (
+        "bytes_that_no_order_or_one_leaves: one",
+        &[
+            Timed::DoneAt((0, 10), WRITE, 0, FIVES),
+            Timed::DoneAt((0, 10), STORE_ADD, 0, ONES),
+            Timed::DoneAt((0, 10), WRITE, 1, FIVES),
+            Timed::DoneAt((0, 10), STORE_ADD, 1, ONES),
+            Timed::DoneAt((0, 10), WRITE, 2, FIVES),
+            Timed::DoneAt((0, 10), STORE_ADD, 2, ONES),
+            Timed::DoneAt((0, 10), WRITE, 3, FIVES),
+            Timed::DoneAt((0, 10), STORE_ADD, 3, ONES),
+            Timed::DoneAt((0, 10), WRITE, 4, FIVES),
+            Timed::DoneAt((0, 10), STORE_ADD, 4, ONES),
+            Timed::DoneAt((0, 10), WRITE, 5, FIVES),
+            Timed::DoneAt((0, 10), STORE_ADD, 5, ONES),
+            Timed::DoneAt((0, 10), WRITE, 6, FIVES),
+            Timed::DoneAt((0, 10), STORE_ADD, 6, ONES),
+            Timed::Told((11, 20), READ, 0, 0x0006_0506_0506_0506),
+        ],
+        None,
+        (1000, ANY),
+        Numbers::Many(15, None, Some(14)),
+    ),
+    (
+        "writes_of_a_byte_before_a_read",
+        &[
+            Timed::EachByte((0, 10), WRITE, ONES),
+            Timed::EachByte((0, 10), WRITE, 2 * ONES),
+            Timed::EachByte((0, 10), WRITE, 3 * ONES),
+            Timed::EachByte((0, 10), WRITE, 4 * ONES),
+            Timed::Told((11, 20), READ, 0, 0x0102_0304_0403_0201),
+        ],
+        None,
+        (450, ANY),
+        Numbers::Many(33, None, Some(32)),
+    ),
+    (
+        "writes_of_all_bytes_among_them",
+        &[
+            Timed::EachByte((0, 10), WRITE, ONES),
+            Timed::EachByte((0, 10), WRITE, 2 * ONES),
+            Timed::EachByte((0, 10), WRITE, 3 * ONES),
+            Timed::EachByte((0, 10), WRITE, 4 * ONES),
+            Timed::Done((0, 10), WRITE, 5 * ONES),
+            Timed::Done((0, 10), WRITE, 6 * ONES),
+            Timed::Done((0, 10), WRITE, 7 * ONES),
+            Timed::Done((0, 10), WRITE, 8 * ONES),
+            Timed::Told((11, 20), READ, 0, 0x0808_0308_0808_0201),
+        ],
+        None,
+        (1000, ANY),
+        Numbers::Many(37, None, Some(36)),
+    ),
+];
 
 #[test]
-fn writes_of_a_byte_before_a_read(rt: HostRuntime) -> Result<(), Fail> {
-    let ops = writes_of_bytes(rt.alloc())?;
-    let answers = [(0x0102_0304_0403_0201, 450, (33, Some(32)))];
-    assert_before_read(&rt, &ops, (11, 20), &answers)
-}
-
-#[test]
-fn writes_of_all_bytes_among_them(rt: HostRuntime) -> Result<(), Fail> {
-    let mut ops = writes_of_bytes(rt.alloc())?;
-    for number in 5..9 {
-        ops.push(done((0, 10), WRITE, number * 0x0101_0101_0101_0101))?;
-    }
-    let answers = [(0x0808_0308_0808_0201, 1000, (37, Some(36)))];
-    assert_before_read(&rt, &ops, (11, 20), &answers)
+fn bytes_by_themselves(rt: HostRuntime) -> Result<(), Fail> {
+    assert_each_found(&rt, &BYTES)
 }

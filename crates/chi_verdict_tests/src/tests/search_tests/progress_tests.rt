@@ -2,7 +2,7 @@
 
 ghost use Rattle.std.specs.Prelude.{◌≡◌, ◌-◌, ◌^◌, min};
 
-use super::operations::{ADD, observed, silent};
+use super::operations::{ADD, Timed, observed};
 use crate::tests::comparison::assert_same;
 use chi_search::{Progress, are_searchable, order_of, words_of};
 use std::test::Fail;
@@ -14,8 +14,9 @@ struct States(u64);
 impl Progress for States {
     ghost looked = { λ s n. s.0 ≡ min n (2 ^ 64 - 1) };
 
-    fn look(&mut self) {
+    fn look(&mut self, _left: u64) -> u64 {
         self.0 = self.0.saturating_add(1);
+        1
     }
 }
 
@@ -23,7 +24,10 @@ impl Progress for States {
 fn states_are_counted_as_the_budget_is_spent(rt: HostRuntime) -> Result<(), Fail> {
     let ops = observed(
         rt.alloc(),
-        &[silent((0, 10), ADD, 1), silent((5, 15), ADD, 1)],
+        &[
+            Timed::Silent((0, 10), ADD, 1),
+            Timed::Silent((5, 15), ADD, 1),
+        ],
     )?;
     let mut budget = 100;
     let mut states = States(0);
