@@ -25,6 +25,7 @@ _SAID = re.compile(
             r"    (?:no home answers so|legal would be): .+",
             r"  any one of these answers may be the wrong one: .+",
             r"  up to [0-9]+ in .+",
+            r"  what is not shown was not found within [0-9]+ more states",
             r"  at line (?P<line>[0-9]+)",
             r"  at the end",
             r"  operations open at most: [0-9]+",

@@ -1,4 +1,5 @@
 pub mod Answers
+pub mod CutShort
 pub mod DoubtLines
 pub mod Lines
 pub mod Stops

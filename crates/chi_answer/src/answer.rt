@@ -1,7 +1,9 @@
 //! What is answered of a trace.
 
 ghost use Rattle.std.specs.Prelude.{◌≡◌, ◌+◌, ℕ, IfOk};
+ghost use Rattle.chi_trace.specs.Traces.{IsExplained};
 ghost use Rattle.chi_verdict.specs.Doubts.{IsAsFar};
+ghost use Rattle.chi_verdict.specs.Verdicts.{IfExplained, IfUnexplained, IfUndecided as IfUnfound, LookedForVerdict};
 ghost use Rattle.chi_search.specs.Looks.{LookedMore};
 ghost use Rattle.chi_answer.specs.Answers.{IfUndecided, IsAnswer, IsUnexplained, IsUnexplainedIn, LookedForAnswer};
 
@@ -23,6 +25,26 @@ pub enum Answer {
     Blamed(Blame),
     Unexplained { granule: u64, words: Words },
     Undecided(Doubt),
+}
+
+/// Whether the trace can be explained. `progress` is told that this is searched for, and that it was found.
+fn verdict_of<P: Progress>(
+    alloc: Global,
+    recorded: &Recorded,
+    budget: u64,
+    progress: &mut P,
+) -> Result<Verdict, AllocError>
+    ensures explained { IfOk result (λ verdict. IfExplained verdict (IsExplained recorded.now.trace recorded.now.final_words)) }
+    ensures unexplained { IfOk result (λ verdict. IfUnexplained verdict (λ granule. IsUnexplained recorded.now)) }
+    ensures granule { IfOk result (λ verdict. IfUnexplained verdict (IsUnexplainedIn recorded.now)) }
+    ensures undecided { IfOk result (λ verdict. IfUnfound verdict (λ states. states ≡ budget)) }
+    ensures spent { IfOk result (LookedForVerdict P.looked progress.old progress.new) }
+{
+    progress.before_verdict();
+    let trace = recorded.trace();
+    let verdict = explain(alloc, trace, recorded.final_words(), budget, progress)?;
+    progress.after_verdict(trace.operations().len());
+    Ok(verdict)
 }
 
 /// The answer of a trace that no order explains, not even the operations of this granule.
@@ -84,13 +106,7 @@ pub fn answer_of<P: Progress>(
     ensures far { IfOk result (λ answer. IfUndecided answer (IsAsFar P.looked progress.old progress.new (budget + budget) recorded.now.trace)) }
     ensures spent { IfOk result (LookedForAnswer P.looked progress.old progress.new) }
 {
-    match explain(
-        alloc,
-        recorded.trace(),
-        recorded.final_words(),
-        budget,
-        progress,
-    )? {
+    match verdict_of(alloc, recorded, budget, progress)? {
         Verdict::Explained(order) => Ok(Answer::Explained { order }),
         Verdict::Unexplained { granule } => unexplained(
             alloc, recorded, granule, shown, budget, progress,

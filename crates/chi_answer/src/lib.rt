@@ -2,6 +2,7 @@
 #![tactic(auto)]
 
 mod answer;
+mod cut_short;
 mod doubt_lines;
 mod lines;
 mod stop_lines;
@@ -9,6 +10,7 @@ mod text;
 mod witness;
 
 pub use answer::{Answer, answer_of};
+pub use cut_short::add_cut_short;
 pub use doubt_lines::add_found_time;
 pub use lines::{add_granule, add_undecided};
 pub use stop_lines::add_stop;

@@ -1,11 +1,12 @@
 -- what is written of a trace that was read
-use Rattle.std.proofs.Common.{◌≡◌, ℕ, ◌≤◌, List, length, Option, None, Some, Ok, Err, IfSome, refl, subst}
+use Rattle.std.proofs.Common.{◌≡◌, ℕ, ◌≤◌, List, ◌++◌, length, Option, None, Some, Ok, Err, IfSome, refl, subst}
 use Rattle.std.specs.Io.KnownBytes.{Appends}
 use Rattle.chi_script.specs.WriterBytes.{AppendsFront}
 use Rattle.chi_script.specs.declared.device.WriteFault.{WriteFault}
 use Rattle.chi_answer.specs.declared.answer.Answer.{Answer}
 use Rattle.chi_answer.specs.declared.answer.Answer.TheVariants.{Explained, Blamed, Unexplained, Undecided}
 use Rattle.chi_answer.specs.Answers.{IfUndecided, IsUnexplained}
+use Rattle.chi_answer.specs.CutShort.{cut_short_line}
 use Rattle.chi_excerpt.specs.Failures.{failure_text}
 use Rattle.chi_verdict.specs.Blames.{IsBlame}
 use Rattle.chi_verdict.specs.declared.first.Blame.{Blame}
@@ -79,7 +80,7 @@ spent_where_undecided options (Unexplained granule words) count within spent is 
 spent_where_undecided options (Undecided doubt) count within spent is = (doubt.states, within, spent)
 
 -- where a trace stops being explained, the text of the failure is the one of a right answer, and so is its page
-pub blamed_right : (options : CheckOptions) (r : RecordedValue) (blame : Blame) (text page : List ℕ) → IsUnexplained r → IsBlame r.trace options.around blame → text ≡ failure_text r options.around blame
-    → IsPageAsked options r (Blamed blame) page → IsReported options r 1 text page
-blamed_right options r blame text page unexplained is text_is page_is =
-    (Blamed blame, record { right = (unexplained, is); undecided = tt; text_is = text_is }, refl, page_is)
+pub blamed_right : (options : CheckOptions) (r : RecordedValue) (blame : Blame) (cut_short : Option ℕ) (text page : List ℕ) → IsUnexplained r → IsBlame r.trace options.around blame
+    → text ≡ failure_text r options.around blame ++ cut_short_line cut_short → IsPageAsked options r (Blamed blame) page → IsReported options r 1 text page
+blamed_right options r blame cut_short text page unexplained is text_is page_is =
+    (Blamed blame, record { right = (unexplained, is); undecided = tt; text_is = (cut_short, text_is) }, refl, page_is)

@@ -1,5 +1,5 @@
 -- what a check does: the answer of the trace that its input is
-use Rattle.std.specs.Prelude.{◌≡◌, ◌≢◌, ℕ, ◌/◌, ◌<◌, ◌≤◌, ◌==◌, ◌||◌, Bool, if◌then◌else◌, is_some, List, length, Option, None, Some, IfSome, IsSomeAnd, Result, Ok, Err}
+use Rattle.std.specs.Prelude.{◌≡◌, ◌≢◌, ℕ, ◌++◌, ◌/◌, ◌<◌, ◌≤◌, ◌==◌, ◌||◌, Bool, if◌then◌else◌, is_some, List, length, Option, None, Some, IfSome, IsSomeAnd, Result, Ok, Err}
 use Rattle.std.specs.Io.KnownBytes.{Appends, Keeps}
 use Rattle.std.specs.List.{list_any}
 use Rattle.chi_trace.specs.Granules.{granule_of}
@@ -15,6 +15,7 @@ use Rattle.chi_watch_text.specs.declared.line_format.LineFormat.{LineFormat}
 use Rattle.chi_answer.specs.declared.answer.Answer.{Answer}
 use Rattle.chi_answer.specs.declared.answer.Answer.TheVariants.{Explained, Blamed, Unexplained, Undecided}
 use Rattle.chi_answer.specs.Answers.{IfUndecided, IsAnswer}
+use Rattle.chi_answer.specs.CutShort.{cut_short_line}
 use Rattle.chi_answer.specs.Texts.{IsText}
 use Rattle.chi_excerpt.specs.Failures.{failure_text}
 use Rattle.chi_check.specs.CheckStatus.{answer_status}
@@ -68,13 +69,24 @@ happened (Some time) r = cut_at time r
 abbrev pub judged : CheckOptions → RecordedValue → RecordedValue
 judged options r = happened options.until (asked options.granule r)
 
+-- the text of an answer, and a line more where what follows the verdict was not searched for to its end
+abbrev pub IsTextCut : CheckOptions → RecordedValue → Answer → List ℕ → Type 0
+IsTextCut options r answer text = (whole : List ℕ) × IsText options.witness r answer whole × ((cut_short : Option ℕ) × (text ≡ whole ++ cut_short_line cut_short))
+
+-- what is written of an answer that blames no operation
+abbrev pub IsUsualText : CheckOptions → RecordedValue → Answer → List ℕ → Type 0
+IsUsualText options r (Explained order) text = IsText options.witness r (Explained order) text
+IsUsualText options r (Blamed blame) text = IsTextCut options r (Blamed blame) text
+IsUsualText options r (Unexplained granule words) text = IsTextCut options r (Unexplained granule words) text
+IsUsualText options r (Undecided doubt) text = IsTextCut options r (Undecided doubt) text
+
 -- What is written of an answer: its text; and where the trace stops being explained, the operations of the granule around the one
 -- that is blamed too.
 abbrev pub IsWritten : CheckOptions → RecordedValue → Answer → List ℕ → Type 0
-IsWritten options r (Explained order) text = IsText options.witness r (Explained order) text
-IsWritten options r (Blamed blame) text = text ≡ failure_text r options.around blame
-IsWritten options r (Unexplained granule words) text = IsText options.witness r (Unexplained granule words) text
-IsWritten options r (Undecided doubt) text = IsText options.witness r (Undecided doubt) text
+IsWritten options r (Explained order) text = IsUsualText options r (Explained order) text
+IsWritten options r (Blamed blame) text = (cut_short : Option ℕ) × (text ≡ failure_text r options.around blame ++ cut_short_line cut_short)
+IsWritten options r (Unexplained granule words) text = IsUsualText options r (Unexplained granule words) text
+IsWritten options r (Undecided doubt) text = IsUsualText options r (Undecided doubt) text
 
 -- the answer is a right one of the trace, undecided only after as many states as may be looked at, and this is what is written of it
 pub record IsRight (options : CheckOptions) (r : RecordedValue) (answer : Answer) (text : List ℕ) : Type 0 where

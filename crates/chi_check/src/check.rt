@@ -3,8 +3,7 @@
 ghost use Rattle.std.specs.Prelude.{◌≡◌, ◌≤◌, length, IfErr, IfOk, IfSome, IsTrue, None};
 ghost use Rattle.chi_verdict.specs.Blames.{IsBlame};
 ghost use Rattle.chi_answer.specs.Answers.{IfUndecided, IsAnswer, IsUnexplained};
-ghost use Rattle.chi_answer.specs.Texts.{IsText};
-ghost use Rattle.chi_check.specs.Check.{IsReadFault, KeepsUnanswered, LookedForStatus, Outcome, asked, happened, judged, most_bytes};
+ghost use Rattle.chi_check.specs.Check.{IsReadFault, IsUsualText, KeepsUnanswered, LookedForStatus, Outcome, asked, happened, judged, most_bytes};
 ghost use Rattle.chi_check.specs.Limits.{IsWithin};
 ghost use Rattle.chi_search.specs.Looks.{LookedSome};
 ghost use Rattle.chi_check.specs.CheckStatus.{IsAnswerStatus, answer_status};
@@ -18,7 +17,7 @@ use crate::pages::Pages;
 use crate::recorded::trace_told;
 use crate::search::{Searched, search};
 use crate::untold::untold;
-use chi_answer::{Answer, answer_text};
+use chi_answer::{Answer, add_cut_short, answer_text};
 use chi_excerpt::failure_text;
 use chi_json::{InputFault, read_input};
 use chi_reading::Recorded;
@@ -107,19 +106,40 @@ fn blamed_report(
     blame: &Blame,
     options: &CheckOptions<'_>,
     budget: u64,
+    cut_short: Option<u64>,
 ) -> Result<Report, AllocError>
     requires unexplained { IsUnexplained recorded.now }
     requires blame { IsBlame recorded.now.trace options.now.around blame.now }
     ensures reported { IfOk result (λ report. IsReported options.now recorded.now report.status report.text.items report.page.items) }
     ensures status { IfOk result (λ report. report.status ≡ 1) }
 {
-    let text = failure_text(alloc, recorded, blame, options.around as usize)?;
+    let mut text = failure_text(alloc, recorded, blame, options.around as usize)?;
+    add_cut_short(&mut text, cut_short)?;
     let page = blamed_page_asked(alloc, recorded, blame, options, budget)?;
     Ok(Report {
         status: 1,
         text,
         page,
     })
+}
+
+// What is written of an answer that blames no operation.
+fn usual_text(
+    alloc: Global,
+    recorded: &Recorded,
+    answer: &Answer,
+    options: &CheckOptions<'_>,
+    cut_short: Option<u64>,
+) -> Result<Vec<u8>, AllocError>
+    requires { IsAnswer recorded.now options.now.around answer.now }
+    ensures { IfOk result (λ text. IsUsualText options.now recorded.now answer.now text.items) }
+{
+    let mut text = answer_text(alloc, recorded, answer, options.witness)?;
+    match answer {
+        Answer::Explained { order: _ } => {}
+        _ => add_cut_short(&mut text, cut_short)?,
+    }
+    Ok(text)
 }
 
 // What is reported of an answer that blames no operation.
@@ -129,13 +149,14 @@ fn usual_report(
     answer: &Answer,
     options: &CheckOptions<'_>,
     budget: u64,
+    cut_short: Option<u64>,
 ) -> Result<Report, AllocError>
     requires { IsAnswer recorded.now options.now.around answer.now }
-    ensures text { IfOk result (λ report. IsText options.now.witness recorded.now answer.now report.text.items) }
+    ensures text { IfOk result (λ report. IsUsualText options.now recorded.now answer.now report.text.items) }
     ensures status { IfOk result (λ report. report.status ≡ answer_status answer.now) }
     ensures page { IfOk result (λ report. IfSome options.now.html (λ _. IsPage recorded.now None report.page.items)) }
 {
-    let text = answer_text(alloc, recorded, answer, options.witness)?;
+    let text = usual_text(alloc, recorded, answer, options, cut_short)?;
     let page = page_asked(alloc, recorded, options, budget)?;
     Ok(Report {
         status: answer_status(answer),
@@ -150,6 +171,7 @@ fn report_of(
     recorded: &Recorded,
     searched: Searched,
     options: &CheckOptions<'_>,
+    cut_short: Option<u64>,
 ) -> Result<Report, AllocError>
     requires right { IsAnswer recorded.now options.now.around searched.answer }
     requires undecided { IfUndecided searched.answer (λ doubt. IsWithin options.now doubt.states) }
@@ -158,8 +180,10 @@ fn report_of(
 {
     let budget = searched.budget;
     match searched.answer {
-        Answer::Blamed(blame) => blamed_report(alloc, recorded, &blame, options, budget),
-        other => usual_report(alloc, recorded, &other, options, budget),
+        Answer::Blamed(blame) => {
+            blamed_report(alloc, recorded, &blame, options, budget, cut_short)
+        }
+        other => usual_report(alloc, recorded, &other, options, budget, cut_short),
     }
 }
 
@@ -175,7 +199,7 @@ fn answered<P: WatchProgress, M: Meter>(
     ensures spent { IfOk result (λ report. LookedForStatus P.looked progress.old progress.new options.now report.status) }
 {
     let searched = search(alloc, recorded, options, progress, meter)?;
-    report_of(alloc, recorded, searched, options)
+    report_of(alloc, recorded, searched, options, progress.cut_short())
 }
 
 /// What is reported of what is judged of a trace, once what is shown of the progress is taken back.

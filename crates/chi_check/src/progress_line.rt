@@ -1,6 +1,6 @@
 //! The line that says how far a search is.
 
-ghost use Rattle.std.specs.Prelude.{◌≡◌, ℕ, ◌+◌, ◌-◌, ◌^◌, None, min};
+ghost use Rattle.std.specs.Prelude.{◌≡◌, ℕ, ◌+◌, ◌-◌, ◌*◌, ◌^◌, ◌<◌, ◌≤◌, None, min};
 ghost use Rattle.std.specs.Io.KnownBytes.{Keeps};
 
 use chi_search::Progress;
@@ -19,12 +19,26 @@ const STATES: u64 = 4096;
 
 const EVENTS: u64 = 1024;
 
+// How many times the states of a verdict may be looked at after it, but no more than so many; and beside them so many for each
+// operation, and so many in all.
+const TIMES: u64 = 16;
+
+const MOST: u64 = 2_000_000;
+
+const EACH: u64 = 64;
+
+const LEAST: u64 = 100_000;
+
+// As how many a state counts from then on.
+const LATE: u64 = 4096;
+
 /// A line on a terminal that says how many states a search has looked at, or, once events are told, how many operations have
 /// ended, of how many granules, how many requests are outstanding, and the time of the last event. It is first written where a
 /// second has gone by since the program began, and then written over ten times a second. Where `to` is no terminal nothing is
-/// written.
+/// written. Its own faults are ignored.
 ///
-/// Its own faults are ignored.
+/// It also ends what follows a verdict: once as many states were looked at as that may take, each further one counts as many, so
+/// that each search soon has spent its budget.
 #[derive(Drop)]
 pub struct ProgressLine<'a, C, W> {
     clock: &'a C,
@@ -32,8 +46,23 @@ pub struct ProgressLine<'a, C, W> {
     began: Option<Instant>,
     shown: Option<Instant>,
     states: u64,
+    looks: u64,
     events: u64,
     reached: Option<(Counts, u64)>,
+    begun: u64,
+    may_follow: Option<u64>,
+    cut_short: Option<u64>,
+}
+
+// How many states may be looked at after a verdict of so many operations, which took so many states.
+fn states_after(states: u64, operations: usize) -> u64
+    ensures { result ≡ min (min (states * 16) 2000000 + operations * 64 + 100000) (2 ^ 64 - 1) }
+{
+    let of_states = states.saturating_mul(TIMES).min(MOST);
+    let of_operations = (operations as u64).saturating_mul(EACH);
+    of_states
+        .saturating_add(of_operations)
+        .saturating_add(LEAST)
 }
 
 impl<'a, C: Clock, W: Write + IsTerminal> ProgressLine<'a, C, W> {
@@ -57,8 +86,12 @@ impl<'a, C: Clock, W: Write + IsTerminal> ProgressLine<'a, C, W> {
             began,
             shown: None,
             states: 0,
+            looks: 0,
             events: 0,
             reached: None,
+            begun: 0,
+            may_follow: None,
+            cut_short: None,
         }
     }
 }
@@ -73,6 +106,25 @@ impl<'a, C: Clock, W: Write> ProgressLine<'a, C, W> {
             None => now.duration_since(began) >= Duration::from_millis(FIRST),
         };
         if is_due { Some(now) } else { None }
+    }
+
+    // As how many the next state counts, of as many as are left.
+    fn count_next(&mut self, left: u64) -> u64
+        requires { 0 < left }
+        ensures some { 0 < result }
+        ensures within { result ≤ left }
+        ensures one { self.old.may_follow ≡ None → result ≡ 1 }
+        ensures states { self.new.states ≡ self.old.states }
+        ensures began { self.new.began ≡ self.old.began }
+        ensures unwritten { Keeps (W.contents self.old.to) (W.contents self.new.to) }
+    {
+        match self.may_follow {
+            Some(most) if self.states.saturating_sub(self.begun) >= most => {
+                self.cut_short = Some(most);
+                left.min(LATE)
+            }
+            _ => 1,
+        }
     }
 
     // Writes the line over the one that stands there.
@@ -110,14 +162,45 @@ impl<'a, C: Clock, W: Write> ProgressLine<'a, C, W> {
 impl<'a, C: Clock, W: Write> Progress for ProgressLine<'a, C, W> {
     ghost looked = { λ p n. p.states ≡ min n (2 ^ 64 - 1) };
 
-    fn look(&mut self)
-        ensures counted { (n : ℕ) → self.old.states ≡ min n (2 ^ 64 - 1) → self.new.states ≡ min (n + 1) (2 ^ 64 - 1) }
+    fn look(&mut self, left: u64) -> u64
+        requires { 0 < left }
+        ensures some { 0 < result }
+        ensures within { result ≤ left }
+        ensures looked { (n : ℕ) → self.old.states ≡ min n (2 ^ 64 - 1) → self.new.states ≡ min (n + result) (2 ^ 64 - 1) }
+        ensures one { self.old.may_follow ≡ None → result ≡ 1 }
         ensures quiet { self.old.began ≡ None → Keeps (W.contents self.old.to) (W.contents self.new.to) }
     {
-        self.states = self.states.saturating_add(1);
-        if self.began.is_some() && self.states % STATES == 0 {
+        let count = self.count_next(left);
+        self.states = self.states.saturating_add(count);
+        self.looks = self.looks.wrapping_add(1);
+        if self.began.is_some() && self.looks % STATES == 0 {
             self.show_if_due();
         }
+        count
+    }
+
+    fn before_verdict(&mut self)
+        ensures counted { (n : ℕ) → self.old.states ≡ min n (2 ^ 64 - 1) → self.new.states ≡ min n (2 ^ 64 - 1) }
+        ensures quiet { Keeps (W.contents self.old.to) (W.contents self.new.to) }
+        ensures unlimited { self.new.may_follow ≡ None }
+    {
+        self.begun = self.states;
+        self.may_follow = None;
+    }
+
+    fn after_verdict(&mut self, operations: usize)
+        ensures counted { (n : ℕ) → self.old.states ≡ min n (2 ^ 64 - 1) → self.new.states ≡ min n (2 ^ 64 - 1) }
+        ensures quiet { Keeps (W.contents self.old.to) (W.contents self.new.to) }
+        ensures limited { self.new.may_follow ≡ Some (min (min ((self.old.states - self.old.begun) * 16) 2000000 + operations * 64 + 100000) (2 ^ 64 - 1)) }
+    {
+        let taken = self.states.saturating_sub(self.begun);
+        self.begun = self.states;
+        self.may_follow = Some(states_after(taken, operations));
+        self.cut_short = None;
+    }
+
+    fn cut_short(&self) -> Option<u64> {
+        self.cut_short
     }
 }
 

@@ -1,4 +1,5 @@
 pub mod Apart
+pub mod Around
 pub mod Bits
 pub mod Bitwise
 pub mod ByEqual

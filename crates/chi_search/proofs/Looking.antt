@@ -11,10 +11,11 @@ pub more_after : {P : Type 0} (looked : P → ℕ → Type 0) (old middle new : 
     → LookedMore looked old middle a → LookedMore looked middle new b → LookedMore looked old new c
 more_after looked old middle new a b c sum first then n knows = subst (looked new) (omega (arith, sum)) (then (n + a) (first n knows))
 
--- as many as a budget lost, and one for one more that it loses
-pub one_more : {P : Type 0} (looked : P → ℕ → Type 0) (old middle new : P) (budget left : ℕ) → left ≤ budget → 0 < left
-    → LookedMore looked old middle (budget - left) → LookedMore looked middle new 1 → LookedMore looked old new (budget - (left - 1))
-one_more looked old middle new budget left under some = more_after looked old middle new (budget - left) 1 (budget - (left - 1)) (omega (arith, under, some))
+-- as many as a budget lost, and as many as the next state counts
+pub next_look : {P : Type 0} (looked : P → ℕ → Type 0) (old middle new : P) (budget left count : ℕ) → left ≤ budget → count ≤ left
+    → LookedMore looked old middle (budget - left) → LookedMore looked middle new count → LookedMore looked old new (budget - (left - count))
+next_look looked old middle new budget left count under within =
+    more_after looked old middle new (budget - left) count (budget - (left - count)) (omega (arith, under, within))
 
 -- the same for as many as it loses then
 pub spent_after : {P : Type 0} (looked : P → ℕ → Type 0) (old middle new : P) (budget left less : ℕ) → left ≤ budget → less ≤ left

@@ -182,8 +182,7 @@ fn next_layer<P: Progress>(
         if *budget == 0 {
             return Ok(None);
         }
-        *budget -= 1;
-        progress.look();
+        *budget -= progress.look(*budget);
         put_next(
             alloc,
             ops,

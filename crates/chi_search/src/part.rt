@@ -227,8 +227,7 @@ pub(crate) fn lacks_order<P: Progress>(
                 tried: place,
                 ..
             } => {
-                *budget -= 1;
-                progress.look();
+                *budget -= progress.look(*budget);
                 path.push(Step {
                     from: state,
                     op,

@@ -106,8 +106,7 @@ pub(crate) fn search<P: Progress>(
                 if *budget == 0 {
                     return Ok(Found::Undecided);
                 }
-                *budget -= 1;
-                progress.look();
+                *budget -= progress.look(*budget);
                 if *budget <= due {
                     path = Vec::new(alloc);
                     state = copy_of(alloc, from)?;

@@ -30,12 +30,13 @@ use std::alloc::{AllocError, Global};
 use std::collections::BTreeMap;
 
 /// A granule that no order explains, by its number; its word at the end, where one was told and is judged; and how far its operations
-/// can be explained.
+/// can be explained, with how many states were looked at for that where it was cut short.
 #[derive(Debug, Drop)]
 pub struct FoundAtEnd {
     pub granule: u64,
     pub final_word: Option<u64>,
     pub reach: Reach,
+    pub cut_short: Option<u64>,
 }
 
 /// The granules whose operations no order explains, in the order of the times at which they stop being explained, and then of their
@@ -83,6 +84,7 @@ fn found_at_end<P: Progress>(
             granule,
             final_word: None,
             reach: Reach::Undecided,
+            cut_short: None,
         });
     };
     let reach = reach_of(alloc, followed, budget, progress)?;
@@ -90,6 +92,7 @@ fn found_at_end<P: Progress>(
         granule,
         final_word: judged_word(followed),
         reach,
+        cut_short: progress.cut_short(),
     })
 }
 

@@ -16,7 +16,7 @@ use chi_trace::laws::granules_stand_alone;
 use std::alloc::{AllocError, Global};
 
 /// How far the operations that were told of a granule can be explained.
-pub(crate) fn reach_of<P: Progress>(
+fn told_reach<P: Progress>(
     alloc: Global,
     followed: &Followed,
     budget: u64,
@@ -27,6 +27,23 @@ pub(crate) fn reach_of<P: Progress>(
     ensures looked { IfOk result (λ _. LookedSome P.looked progress.old progress.new) }
 {
     followed.judge.reach(alloc, budget, progress)
+}
+
+/// The same, which follows a verdict.
+pub(crate) fn reach_of<P: Progress>(
+    alloc: Global,
+    followed: &Followed,
+    budget: u64,
+    progress: &mut P,
+) -> Result<Reach, AllocError>
+    ensures right { IfOk result (ReachesBy followed.now.judge) }
+    ensures undecided { IfOk result (λ reach. IfUndecided reach (IsOfSomeTrace followed.now.judge → LookedAtLeast P.looked progress.old progress.new budget)) }
+    ensures looked { IfOk result (λ _. LookedSome P.looked progress.old progress.new) }
+{
+    progress.after_verdict(0);
+    let reach = told_reach(alloc, followed, budget, progress);
+    progress.before_verdict();
+    reach
 }
 
 impl Watch {

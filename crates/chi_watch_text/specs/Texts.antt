@@ -10,6 +10,7 @@ use Rattle.chi_watch.specs.declared.ending.Ending.{Ending}
 use Rattle.chi_watch.specs.declared.ending.FoundAtEnd.{FoundAtEnd}
 use Rattle.chi_watch.specs.declared.undecided.UndecidedAtEnd.{UndecidedAtEnd}
 use Rattle.chi_watch_text.specs.FoundGranule.{is_found, verdict_of}
+use Rattle.chi_answer.specs.CutShort.{cut_short_line}
 use Rattle.chi_watch_text.specs.ReachTexts.{reach_text}
 use Rattle.chi_watch_text.specs.Required.{missing_of}
 use Rattle.chi_watch_text.specs.declared.options.WatchOptions.{WatchOptions}
@@ -24,11 +25,11 @@ use Rattle.chi_judge.specs.declared.standing.Standing.TheVariants.{Explained, Un
 
 -- a granule, how far it can be explained, and the line by which it was found
 unfoldable pub found_text : FoundGranule → List ℕ
-found_text f = granule_line f.granule ++ (reach_text None f.reach ++ (codes "  at line " ++ decimal f.line ++ codes "\n"))
+found_text f = granule_line f.granule ++ (reach_text None f.reach ++ (cut_short_line f.cut_short ++ (codes "  at line " ++ decimal f.line ++ codes "\n")))
 
 -- one that is not explained at the end, where it was not found before
 unfoldable pub end_text : List FoundGranule → FoundAtEnd → List ℕ
-end_text found f = if is_found f.granule found then [] else granule_line f.granule ++ (reach_text f.final_word f.reach ++ codes "  at the end\n")
+end_text found f = if is_found f.granule found then [] else granule_line f.granule ++ (reach_text f.final_word f.reach ++ (cut_short_line f.cut_short ++ codes "  at the end\n"))
 
 -- one that is not decided, and the time up to which it is explained, where one was found
 abbrev pub undecided_text : ℕ → UndecidedAtEnd → List ℕ

@@ -89,6 +89,7 @@ fn judge_one<W: Write, P: WatchProgress>(
             granule: it.granule,
             line: it.line,
             reach,
+            cut_short: progress.cut_short(),
         };
         let text = text_of_found(alloc, &noted)?;
         add(found, noted)?;

@@ -9,7 +9,7 @@ use crate::reach_lines::add_reach;
 use crate::required::Required;
 use crate::waiting_lines::add_all_waiting;
 use crate::watched::{FoundGranule, Watched, is_found};
-use chi_answer::{add_found_time, add_granule, add_undecided};
+use chi_answer::{add_cut_short, add_found_time, add_granule, add_undecided};
 use chi_judge::Standing;
 use chi_text::{Part, add_parts};
 use chi_watch::{Counts, Ending, FoundAtEnd, UndecidedAtEnd};
@@ -21,6 +21,7 @@ fn add_found(alloc: Global, to: &mut Vec<u8>, found: &FoundGranule) -> Result<()
 {
     add_granule(to, found.granule)?;
     add_reach(alloc, to, None, &found.reach)?;
+    add_cut_short(to, found.cut_short)?;
     add_parts(
         to,
         &[
@@ -45,6 +46,7 @@ fn add_at_end(
     }
     add_granule(to, it.granule)?;
     add_reach(alloc, to, it.final_word, &it.reach)?;
+    add_cut_short(to, it.cut_short)?;
     add_parts(to, &[Part::Text("  at the end\n")])
 }
 

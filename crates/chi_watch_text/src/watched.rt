@@ -10,12 +10,13 @@ use chi_watch::{Counts, Ending};
 use thiserror::Error;
 
 /// A granule that no order explains, by its number; the line by which that was seen, counted from 1; and how far its operations
-/// can be explained.
+/// can be explained, with how many states were looked at for that where it was cut short.
 #[derive(Debug, Drop)]
 pub struct FoundGranule {
     pub granule: u64,
     pub line: u64,
     pub reach: Reach,
+    pub cut_short: Option<u64>,
 }
 
 /// What is found of events that are read line by line: granules that no order explains, each with the line by which that was first

@@ -20,7 +20,9 @@ struct Kept {
 impl Progress for Kept {
     ghost looked = { λ k n. ⊤ };
 
-    fn look(&mut self) {}
+    fn look(&mut self, _left: u64) -> u64 {
+        1
+    }
 }
 
 impl WatchProgress for Kept {

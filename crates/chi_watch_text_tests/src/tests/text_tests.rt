@@ -119,6 +119,7 @@ fn at_end(granule: u64) -> FoundAtEnd {
         granule,
         final_word: None,
         reach: Reach::Undecided,
+        cut_short: None,
     }
 }
 
@@ -134,9 +135,13 @@ fn all_there_is_to_tell(rt: HostRuntime) -> Result<(), Fail> {
         granule: 513,
         line: 18446744073709551614,
         reach: Reach::Undecided,
+        cut_short: None,
     };
     let mut unexplained = Vec::new(rt.alloc());
-    unexplained.push(at_end(0))?;
+    unexplained.push(FoundAtEnd {
+        cut_short: Some(100_400),
+        ..at_end(0)
+    })?;
     unexplained.push(at_end(513))?;
     let ending = Ending {
         unexplained,
@@ -172,6 +177,7 @@ fn all_there_is_to_tell(rt: HostRuntime) -> Result<(), Fail> {
         &rt,
         text.as_str(),
         "not explained: granule 0000000000000000
+  what is not shown was not found within 100400 more states
   at the end
 undecided: granule 0000000000001000 after 70 states
   explained up to 30

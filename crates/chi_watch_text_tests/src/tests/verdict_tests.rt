@@ -20,6 +20,7 @@ fn verdict(
             granule: 512,
             line: 4,
             reach: Reach::Undecided,
+            cut_short: None,
         })?;
     }
     let mut at_end = Vec::new(alloc);
@@ -28,6 +29,7 @@ fn verdict(
             granule: 513,
             final_word: None,
             reach: Reach::Undecided,
+            cut_short: None,
         })?;
     }
     let granule = UndecidedAtEnd {

@@ -10,7 +10,7 @@ returns-in-Explained-clause-spent g c =
 pub returns-in-Unexplained-clause-spent : goal.returns-in-Unexplained-clause-spent
 returns-in-Unexplained-clause-spent g c =
     let spent = c.in_ok-order.ensures.spent in
-    decided_after g.P.Progress.looked c.args.progress.now c.explain.new.progress c.unexplained.new.progress c.unexplained.result (spent.count, spent.more)
+    decided_after g.P.Progress.looked c.args.progress.now c.verdict_of.new.progress c.unexplained.new.progress c.unexplained.result (spent.count, spent.more)
     c.unexplained.ensures.decided c.unexplained.ensures.looked
 
 pub returns-in-Unexplained-clause-far : goal.returns-in-Unexplained-clause-far
@@ -22,7 +22,7 @@ returns-in-Undecided-clause-spent g c =
     let spent = c.in_ok-order.ensures.spent in
     let under = rw c.in-Undecided.is at spent.undecided in
     let whole = rw c.in-Undecided.is at c.in_ok-order.ensures.undecided in
-    undecided_after g.P.Progress.looked c.args.progress.now c.explain.new.progress c.undecided.new.progress c.args.budget c.undecided.result spent.count (omega (arith, under, whole)) spent.more
+    undecided_after g.P.Progress.looked c.args.progress.now c.verdict_of.new.progress c.undecided.new.progress c.args.budget c.undecided.result spent.count (omega (arith, under, whole)) spent.more
     c.undecided.ensures.undecided c.undecided.ensures.looked
 
 pub returns-in-Undecided-clause-far : goal.returns-in-Undecided-clause-far
@@ -30,6 +30,6 @@ returns-in-Undecided-clause-far g c =
     let spent = c.in_ok-order.ensures.spent in
     let under = rw c.in-Undecided.is at spent.undecided in
     let whole = rw c.in-Undecided.is at c.in_ok-order.ensures.undecided in
-    far_after g.P.Progress.looked c.args.progress.now c.explain.new.progress c.undecided.new.progress c.args.budget c.args.recorded.now.trace c.undecided.result
+    far_after g.P.Progress.looked c.args.progress.now c.verdict_of.new.progress c.undecided.new.progress c.args.budget c.args.recorded.now.trace c.undecided.result
     (spent.count, omega (arith, under, whole), spent.more)
     c.undecided.ensures.far

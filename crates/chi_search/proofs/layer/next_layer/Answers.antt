@@ -6,7 +6,7 @@ use Rattle.chi_search.specs.Positions.{IsReady, position_of}
 use Rattle.chi_search.specs.StateSets.{positions}
 use Rattle.chi_search.proofs.Elements.{some_end_beside, some_step_beside}
 use Rattle.chi_search.proofs.Layers.{ends_more, has_at, more_states, ready_at, ready_more}
-use Rattle.chi_search.proofs.Looking.{one_more}
+use Rattle.chi_search.proofs.Looking.{next_look}
 use Rattle.chi_search.proofs.Reached.{reached_more}
 use Rattle.chi_search.proofs.layer.next_layer.Goals as goal
 
@@ -27,7 +27,7 @@ loop-place-preserved g c =
       count = omega (arith, c.in_ok-put_next.ensures.count, so.count, some);
       fewer = λ before. omega (arith, so.left, some);
       left = omega (arith, so.left);
-      looked = one_more g.P.Progress.looked c.args.progress.now c.loop-place.progress c.look.new.self c.args.budget.now c.loop-place.budget so.left some so.looked c.look.ensures;
+      looked = next_look g.P.Progress.looked c.args.progress.now c.loop-place.progress c.look.new.self c.args.budget.now c.loop-place.budget c.look.result so.left c.look.ensures.within so.looked c.look.ensures.looked;
     }
 
 pub returns-clause-ends : goal.returns-clause-ends

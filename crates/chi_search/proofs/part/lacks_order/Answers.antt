@@ -6,7 +6,7 @@ use Rattle.chi_search.specs.declared.states.States.{States}
 use Rattle.chi_search.specs.Choices.{IfDead, IfStep, IfTried}
 use Rattle.chi_search.specs.Positions.{IsReady, position_of}
 use Rattle.chi_search.specs.Within.{AllDeadWithin, AreTriedWithin, IsDeadWithin, IsRun}
-use Rattle.chi_search.proofs.Looking.{one_more}
+use Rattle.chi_search.proofs.Looking.{next_look}
 use Rattle.chi_search.proofs.DeadStates.{more_of}
 use Rattle.chi_search.proofs.WithinMoves.{IsTriedStep, dead_from, none_tried}
 use Rattle.chi_search.proofs.part.lacks_order.Goals as goal
@@ -38,8 +38,8 @@ loop-budget-preserved-in-Step g c =
           (All-push (IsTriedStep mask c.args.problem.now.ops.now c.args.problem.now.final_word) c.loop-budget.path.items (record { from = c.loop-budget.state; op = c.in-Step.op; tried = c.in-Step.place })
           c.loop-budget.invariant.before (record { ready = c.loop-budget.invariant.ready; tried = tried c.loop-budget.invariant.dead }));
       left = omega arith;
-      looked = one_more g.P.Progress.looked c.args.progress.now c.loop-budget.progress c.look.new.self c.args.budget.now c.loop-budget.budget c.loop-budget.invariant.left
-          c.loop-budget-test.true c.loop-budget.invariant.looked c.look.ensures;
+      looked = next_look g.P.Progress.looked c.args.progress.now c.loop-budget.progress c.look.new.self c.args.budget.now c.loop-budget.budget c.look.result c.loop-budget.invariant.left
+          c.look.ensures.within c.loop-budget.invariant.looked c.look.ensures.looked;
     }
 
 pub loop-budget-preserved : goal.loop-budget-preserved

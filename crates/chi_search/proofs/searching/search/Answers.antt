@@ -7,7 +7,7 @@ use Rattle.chi_search.specs.declared.path.Step.{Step}
 use Rattle.chi_search.specs.Choices.{IfDead, IfEnded, IfStep, IfTried}
 use Rattle.chi_search.specs.Paths.{AllDead, AreTried, AreTriedBefore, IsDead, Moves, Walks, taken}
 use Rattle.chi_search.specs.Positions.{IsReady, Position, is_left, position_of}
-use Rattle.chi_search.proofs.Looking.{none_more, one_more, spent_after}
+use Rattle.chi_search.proofs.Looking.{none_more, next_look, spent_after}
 use Rattle.chi_search.proofs.Moves.{ended}
 use Rattle.chi_search.proofs.Paths.{moves_ready, none_tried, tried_back, tried_on, walks_back, walks_end, walks_on}
 use Rattle.chi_search.proofs.DeadStates.{more_dead}
@@ -57,8 +57,8 @@ loop-budget-preserved-in-Step g c =
           c.loop-budget.invariant.before (tried c.loop-budget.invariant.dead));
       parts = c.in_ok-decide.ensures.parts;
       left = omega (arith, less);
-      looked = one_more g.P.Progress.looked c.args.progress.now c.decide.new.progress c.look.new.self c.args.budget.now c.decide.new.budget less
-          (omega arith) before_look c.look.ensures;
+      looked = next_look g.P.Progress.looked c.args.progress.now c.decide.new.progress c.look.new.self c.args.budget.now c.decide.new.budget c.look.result less
+          c.look.ensures.within before_look c.look.ensures.looked;
     }
 
 -- begun again, with the states that are dead
@@ -77,8 +77,8 @@ loop-budget-preserved-then-budget-due g c =
       before = subst (AreTriedBefore c.args.problem.now.ops.now c.args.problem.now.final_word) (sym c.new-path-then-budget-due.ensures.items) (All-nil _);
       parts = c.in_ok-decide.ensures.parts;
       left = omega (arith, less);
-      looked = one_more g.P.Progress.looked c.args.progress.now c.decide.new.progress c.look.new.self c.args.budget.now c.decide.new.budget less
-          (omega arith) before_look c.look.ensures;
+      looked = next_look g.P.Progress.looked c.args.progress.now c.decide.new.progress c.look.new.self c.args.budget.now c.decide.new.budget c.look.result less
+          c.look.ensures.within before_look c.look.ensures.looked;
     }
 
 pub loop-budget-preserved : goal.loop-budget-preserved

@@ -12,7 +12,7 @@ use Rattle.chi_watch_text.proofs.quiet.judge_one.Goals as goal
 
 pub returns-in_err-tell-clause-noted : goal.returns-in_err-tell-clause-noted
 returns-in_err-tell-clause-noted g c = inr (
-  record { granule = c.args.it.granule; line = c.args.it.line; reach = c.in_ok-reach.reach },
+  record { granule = c.args.it.granule; line = c.args.it.line; reach = c.in_ok-reach.reach; cut_short = c.cut_short.result },
   c.in_ok-add.ensures.added,
   sym (rw c.deref.ensures.value at c.is_found.ensures) ∙ c.if-is_found.false,
   record { granule = refl; line = refl; unexplained = c.in_ok-is_unexplained.ensures.found c.if-branch.true; reach = c.in_ok-reach.ensures.right },
@@ -20,7 +20,7 @@ returns-in_err-tell-clause-noted g c = inr (
 
 pub returns-in_ok-tell-clause-noted : goal.returns-in_ok-tell-clause-noted
 returns-in_ok-tell-clause-noted g c = inr (
-  record { granule = c.args.it.granule; line = c.args.it.line; reach = c.in_ok-reach.reach },
+  record { granule = c.args.it.granule; line = c.args.it.line; reach = c.in_ok-reach.reach; cut_short = c.cut_short.result },
   c.in_ok-add.ensures.added,
   sym (rw c.deref.ensures.value at c.is_found.ensures) ∙ c.if-is_found.false,
   record { granule = refl; line = refl; unexplained = c.in_ok-is_unexplained.ensures.found c.if-branch.true; reach = c.in_ok-reach.ensures.right },
@@ -38,7 +38,7 @@ returns-in_ok-tell-clause-unreached g c events has =
     let not = c.in_ok-is_unexplained.ensures.found c.if-branch.true events has in
     let quiet = c.in_ok-is_unexplained.ensures.quiet c.if-branch.true in
     subst (All more) (sym c.in_ok-add.ensures.added)
-    (All-push more found (record { granule = c.args.it.granule; line = c.args.it.line; reach = c.in_ok-reach.reach })
+    (All-push more found (record { granule = c.args.it.granule; line = c.args.it.line; reach = c.in_ok-reach.reach; cut_short = c.cut_short.result })
     (All-weaker (Contains found) more (λ f here. inl here) found (All-contains_itself found))
     (inr (undecided_weaker c.in_ok-reach.reach
     (λ spent. let least = at_least_after looked old middle new c.args.budget c.in_ok-is_unexplained.ensures.looked (spent quiet events has not) in (least.0, least.1, λ n known. c.tell.ensures.looked _ (least.2 n known)))

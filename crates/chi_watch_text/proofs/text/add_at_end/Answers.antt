@@ -1,5 +1,6 @@
 -- nothing is said of a granule that was found before
 use Rattle.std.proofs.Common.{ℕ, List, ◌∙◌, ◌++◌, codes, append-nil, sym}
+use Rattle.chi_answer.specs.CutShort.{cut_short_line}
 use Rattle.chi_answer.specs.Lines.{granule_line}
 use Rattle.chi_text.proofs.Growing.{part_then}
 use Rattle.chi_watch_text.specs.ReachTexts.{reach_text}
@@ -15,6 +16,11 @@ unfolding end_text
 returns c =
     let it = c.args.it.now in
     let reach : List ℕ = reach_text it.final_word it.reach in
+    let cut : List ℕ = cut_short_line it.cut_short in
+    let place : List ℕ = codes "  at the end\n" in
+    let result = c.add_parts.result in
+    let last = c.add_parts.new.to.items in
     rw (sym c.is_found.ensures ∙ c.if-is_found.false)
-    (part_then c.add_parts.result c.args.to.now.items c.add_granule.new.to.items c.add_parts.new.to.items (granule_line it.granule) (reach ++ codes "  at the end\n") c.in_ok-add_granule.ensures
-    (part_then c.add_parts.result c.add_granule.new.to.items c.add_reach.new.to.items c.add_parts.new.to.items reach (codes "  at the end\n") c.in_ok-add_reach.ensures (simp append-nil at c.add_parts.ensures)))
+    (part_then result c.args.to.now.items c.add_granule.new.to.items last (granule_line it.granule) (reach ++ (cut ++ place)) c.in_ok-add_granule.ensures
+    (part_then result c.add_granule.new.to.items c.add_reach.new.to.items last reach (cut ++ place) c.in_ok-add_reach.ensures
+    (part_then result c.add_reach.new.to.items c.add_cut_short.new.to.items last cut place c.in_ok-add_cut_short.ensures (simp append-nil at c.add_parts.ensures))))
