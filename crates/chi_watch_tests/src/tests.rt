@@ -2,6 +2,7 @@
 
 mod comparison;
 mod counts_tests;
+mod dropped_tests;
 mod ending_tests;
 mod event_tests;
 mod fault_tests;

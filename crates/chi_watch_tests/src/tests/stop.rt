@@ -6,6 +6,7 @@ use chi_judge::Reach;
 use chi_lanes::Reply;
 use chi_search::Words;
 use chi_trace::Operation;
+use std::alloc::Global;
 use std::process::Abort;
 use std::test::Fail;
 
@@ -21,55 +22,57 @@ pub(crate) struct Stop<'a> {
     pub(crate) blamed: u64,
     pub(crate) before: &'a [u64],
     pub(crate) open: &'a [u64],
-    pub(crate) legal: &'a [u8],
+    pub(crate) legal: &'a [u64],
 }
 
-// Compares the numbers of these operations.
-fn assert_numbers<R: AllocGlobal + Abort>(
-    rt: &R,
-    ops: &[Operation],
-    wanted: &[u64],
-) -> Result<(), Fail> {
-    let numbers: Vec<u64> = ops.iter().map(|op| op.number).collect(rt.alloc())?;
-    assert_same(rt, numbers.as_slice(), wanted);
-    Ok(())
+fn numbers(alloc: Global, ops: &[Operation]) -> Result<Vec<u64>, Fail> {
+    Ok(ops.iter().map(|op| op.number).collect(alloc)?)
 }
 
-// Compares the first bytes of these answers, in rising order; the others have to be 0.
-fn assert_legal<R: AllocGlobal + Abort>(
-    rt: &R,
-    replies: &[Reply],
-    wanted: &[u8],
-) -> Result<(), Fail> {
-    let mut legal = Vec::new(rt.alloc());
+fn starts(alloc: Global, ops: &[Operation]) -> Result<Vec<u64>, Fail> {
+    Ok(ops.iter().map(|op| op.start).collect(alloc)?)
+}
+
+// The numbers of the operations that were answered.
+fn answered(alloc: Global, ops: &[Operation]) -> Result<Vec<u64>, Fail> {
+    Ok(
+        ops.iter()
+            .filter(|op| op.reply.is_some())
+            .map(|op| op.number)
+            .collect(alloc)?,
+    )
+}
+
+/// These numbers in rising order.
+pub(crate) fn rising(alloc: Global, each: &[u64]) -> Result<Vec<u64>, Fail> {
+    let mut list = Vec::from_slice(alloc, each)?;
+    list.sort()?;
+    Ok(list)
+}
+
+// The first bytes of these answers, in rising order; the others have to be 0.
+fn legal(alloc: Global, replies: &[Reply]) -> Result<Vec<u64>, Fail> {
+    let mut list = Vec::new(alloc);
     for reply in replies {
         if let Reply::CompData(bytes) = reply {
-            if *bytes == lanes(bytes[0]) {
-                legal.push(bytes[0])?;
+            if *bytes == lanes(u16::from(bytes[0])) {
+                list.push(u64::from(bytes[0]))?;
             }
         }
     }
-    legal.sort()?;
-    assert_same(rt, legal.as_slice(), wanted);
-    Ok(())
+    list.sort()?;
+    Ok(list)
 }
 
-// Compares these words, in rising order.
-fn assert_words<R: AllocGlobal + Abort>(rt: &R, words: &[u64], wanted: &[u64]) -> Result<(), Fail> {
-    let mut words = Vec::from_slice(rt.alloc(), words)?;
-    words.sort()?;
-    assert_same(rt, words.as_slice(), wanted);
-    Ok(())
-}
-
-// Compares the starts of these operations.
-fn assert_starts<R: AllocGlobal + Abort>(
+// Compares numbers of a case, which are listed once that was possible.
+fn assert_listed<R: Abort>(
     rt: &R,
-    ops: &[Operation],
+    (case, what): (&str, &str),
+    found: Result<Vec<u64>, Fail>,
     wanted: &[u64],
 ) -> Result<(), Fail> {
-    let starts: Vec<u64> = ops.iter().map(|op| op.start).collect(rt.alloc())?;
-    assert_same(rt, starts.as_slice(), wanted);
+    let found = found?;
+    assert_same(rt, (case, what, found.as_slice()), (case, what, wanted));
     Ok(())
 }
 
@@ -77,54 +80,79 @@ fn assert_starts<R: AllocGlobal + Abort>(
 // 16 of them or more the first may be left out.
 fn assert_order<R: AllocGlobal + Abort>(
     rt: &R,
+    case: &str,
     order: &[Operation],
     ended: &[u64],
 ) -> Result<(), Fail> {
-    let answered: Vec<u64> = order
-        .iter()
-        .filter(|op| op.reply.is_some())
-        .map(|op| op.number)
-        .collect(rt.alloc())?;
+    let answered = answered(rt.alloc(), order)?;
     let from = ended.len().saturating_sub(answered.len());
-    assert_same(rt, from == 0 || ended.len() >= 16, true);
-    assert_same(rt, answered.as_slice(), &ended[from..]);
+    assert_same(rt, (case, from == 0 || ended.len() >= 16), (case, true));
+    assert_same(rt, (case, answered.as_slice()), (case, &ended[from..]));
     Ok(())
+}
+
+// The words that the granule can hold, or none where they are not known.
+fn known(words: &Words) -> &[u64] {
+    match words {
+        Words::Each(words) => words,
+        Words::Unknown => &[],
+    }
 }
 
 /// Compares the time at which operations stop being explained, the request that was answered then, those that were open, by their
 /// starts, and the words that the granule can hold before.
 pub(crate) fn assert_stop<R: AllocGlobal + Abort>(
     rt: &R,
+    case: &str,
     reach: &Reach,
     (time, opcode): (u64, u8),
-    starts: &[u64],
+    starts_wanted: &[u64],
     words: &[u64],
 ) -> Result<(), Fail> {
     let Reach::Stops(stop) = reach else {
         return Err(Fail::new("it does not stop"));
     };
-    assert_same(rt, (stop.time, stop.op.opcode()), (time, opcode));
-    assert_starts(rt, &stop.overlapping, starts)?;
-    match &stop.words {
-        Words::Each(found) => assert_words(rt, found, words),
-        Words::Unknown => assert_words(rt, &[], words),
-    }
+    assert_same(
+        rt,
+        (case, stop.time, stop.op.opcode()),
+        (case, time, opcode),
+    );
+    let open = starts(rt.alloc(), &stop.overlapping);
+    assert_listed(rt, (case, "starts"), open, starts_wanted)?;
+    let held = rising(rt.alloc(), known(&stop.words));
+    assert_listed(rt, (case, "words"), held, words)
 }
 
 /// Compares where a granule stops being explained. Those that had ended before have to have come one after the other.
 pub(crate) fn assert_stops<R: AllocGlobal + Abort>(
     rt: &R,
+    case: &str,
     reach: &Reach,
     wanted: Stop<'_>,
 ) -> Result<(), Fail> {
     let at = (wanted.time, wanted.opcode);
-    assert_stop(rt, reach, at, wanted.starts, wanted.words)?;
+    assert_stop(rt, case, reach, at, wanted.starts, wanted.words)?;
     let Reach::Stops(stop) = reach else {
         return Err(Fail::new("it does not stop"));
     };
-    assert_same(rt, stop.op.number, wanted.blamed);
-    assert_numbers(rt, &stop.before, wanted.before)?;
-    assert_order(rt, &stop.order, wanted.before)?;
-    assert_numbers(rt, &stop.overlapping, wanted.open)?;
-    assert_legal(rt, &stop.legal, wanted.legal)
+    assert_same(rt, (case, stop.op.number), (case, wanted.blamed));
+    assert_listed(
+        rt,
+        (case, "before"),
+        numbers(rt.alloc(), &stop.before),
+        wanted.before,
+    )?;
+    assert_order(rt, case, &stop.order, wanted.before)?;
+    assert_listed(
+        rt,
+        (case, "open"),
+        numbers(rt.alloc(), &stop.overlapping),
+        wanted.open,
+    )?;
+    assert_listed(
+        rt,
+        (case, "legal"),
+        legal(rt.alloc(), &stop.legal),
+        wanted.legal,
+    )
 }

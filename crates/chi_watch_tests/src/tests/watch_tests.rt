@@ -1,158 +1,168 @@
 //! What is found while events come.
 
 use crate::tests::comparison::assert_same;
-use crate::tests::home::{
-    GRANULE, add, answer, assert_found, done, dropped, error, read, read_next, take, take_all,
-    word, write,
-};
-use chi_events::{Event, EventKind};
+use crate::tests::home::{FoundCase, GRANULE, Told, assert_each_found, granule_if, record, take};
 use chi_watch::{Watch, WatchFault};
 use std::alloc::Global;
+use std::process::Abort;
 use std::test::Fail;
 
-// The granule, where it is found.
-fn granule_if(is_found: bool) -> Option<u64> {
-    if is_found { Some(GRANULE) } else { None }
+// A write of 5 has ended before the read starts, so the read cannot answer 0. While it is outstanding a read may answer 0 or 5, but not 0
+// after another that answered 5 and ended. Where both of two overlapping AtomicLoads found 0, one was lost. It is found when the second
+// ends, since no other is outstanding.
+static LOST: [FoundCase; 7] = [
+    (
+        "a_write_that_is_read_or_lost: 0",
+        &[
+            Told::Write(1, 5),
+            Told::Done(1),
+            Told::Read(2),
+            Told::Answer(2, 0),
+        ],
+        true,
+    ),
+    (
+        "a_write_that_is_read_or_lost: 5",
+        &[
+            Told::Write(1, 5),
+            Told::Done(1),
+            Told::Read(2),
+            Told::Answer(2, 5),
+        ],
+        false,
+    ),
+    (
+        "reads_beside_a_write: 0 and 0",
+        &[
+            Told::Write(1, 5),
+            Told::Read(2),
+            Told::Answer(2, 0),
+            Told::Read(3),
+            Told::Answer(3, 0),
+            Told::Done(1),
+        ],
+        false,
+    ),
+    (
+        "reads_beside_a_write: 0 and 5",
+        &[
+            Told::Write(1, 5),
+            Told::Read(2),
+            Told::Answer(2, 0),
+            Told::Read(3),
+            Told::Answer(3, 5),
+            Told::Done(1),
+        ],
+        false,
+    ),
+    (
+        "reads_beside_a_write: 5 and 5",
+        &[
+            Told::Write(1, 5),
+            Told::Read(2),
+            Told::Answer(2, 5),
+            Told::Read(3),
+            Told::Answer(3, 5),
+            Told::Done(1),
+        ],
+        false,
+    ),
+    (
+        "reads_beside_a_write: 5 and 0",
+        &[
+            Told::Write(1, 5),
+            Told::Read(2),
+            Told::Answer(2, 5),
+            Told::Read(3),
+            Told::Answer(3, 0),
+            Told::Done(1),
+        ],
+        true,
+    ),
+    (
+        "a_lost_addition",
+        &[
+            Told::Add(1, 1),
+            Told::Add(2, 1),
+            Told::Answer(1, 0),
+            Told::Answer(2, 0),
+        ],
+        true,
+    ),
+];
+
+#[test]
+fn lost_writes_and_additions(rt: HostRuntime) -> Result<(), Fail> {
+    assert_each_found(&rt, &LOST)
 }
 
-// A write of 5 has ended before the read starts, so the read cannot answer 0.
-#[test]
-fn a_write_that_is_read_or_lost(rt: HostRuntime) -> Result<(), Fail> {
-    for (value, is_found) in [(0, true), (5, false)] {
-        let kinds = [write(1, 5), done(1), read(2), answer(2, value)];
-        assert_found(&rt, &kinds, granule_if(is_found))?;
-    }
-    Ok(())
-}
+// The word that is told before the first request is the one that the granule has. What starts after something that is not told is not
+// judged. A word that is told after that is what the granule holds, and what starts then is judged.
+static WORDS: [FoundCase; 6] = [
+    (
+        "a_word_at_the_opening: 7",
+        &[Told::Word(7), Told::Read(1), Told::Answer(1, 7)],
+        false,
+    ),
+    (
+        "a_word_at_the_opening: 0",
+        &[Told::Word(7), Told::Read(1), Told::Answer(1, 0)],
+        true,
+    ),
+    (
+        "something_unknown: at 4100",
+        &[Told::Unknown(4100, 1), Told::Read(1), Told::Answer(1, 9)],
+        false,
+    ),
+    (
+        "something_unknown: at 4104",
+        &[Told::Unknown(4104, 64), Told::Read(1), Told::Answer(1, 9)],
+        true,
+    ),
+    (
+        "a_word_told_again: 7",
+        &[
+            Told::Write(1, 5),
+            Told::Done(1),
+            Told::Unknown(4096, 8),
+            Told::Word(7),
+            Told::Read(2),
+            Told::Answer(2, 7),
+        ],
+        false,
+    ),
+    (
+        "a_word_told_again: 0",
+        &[
+            Told::Write(1, 5),
+            Told::Done(1),
+            Told::Unknown(4096, 8),
+            Told::Word(7),
+            Told::Read(2),
+            Told::Answer(2, 0),
+        ],
+        true,
+    ),
+];
 
-// While the write is outstanding a read may answer 0 or 5, but not 0 after another that answered 5 and ended.
 #[test]
-fn reads_beside_a_write(rt: HostRuntime) -> Result<(), Fail> {
-    for (first, second, is_found) in [(0, 0, false), (0, 5, false), (5, 5, false), (5, 0, true)] {
-        let kinds = [
-            write(1, 5),
-            read(2),
-            answer(2, first),
-            read(3),
-            answer(3, second),
-            done(1),
-        ];
-        assert_found(&rt, &kinds, granule_if(is_found))?;
-    }
-    Ok(())
-}
-
-// Both of two overlapping AtomicLoads found 0: one was lost. It is found when the second ends, since no other is outstanding.
-#[test]
-fn a_lost_addition(rt: HostRuntime) -> Result<(), Fail> {
-    let kinds = [add(1, 1), add(2, 1), answer(1, 0), answer(2, 0)];
-    assert_found(&rt, &kinds, Some(GRANULE))
-}
-
-// A write that was dropped took no effect; one that ended with an error may have taken effect or not.
-#[test]
-fn dropped_and_in_error(rt: HostRuntime) -> Result<(), Fail> {
-    for (end, value, is_found) in &[
-        (dropped(1), 0, false),
-        (dropped(1), 5, true),
-        (error(1), 0, false),
-        (error(1), 5, false),
-        (error(1), 6, true),
-    ] {
-        let kinds = [write(1, 5), *end, read(2), answer(2, *value)];
-        assert_found(&rt, &kinds, granule_if(*is_found))?;
-    }
-    Ok(())
-}
-
-// A read that answered 5 beside the write is found when the write is dropped, and no sooner. Where another read is outstanding it
-// is found when that is dropped too.
-#[test]
-fn a_write_that_was_dropped_after_a_read(rt: HostRuntime) -> Result<(), Fail> {
-    for (value, is_found) in [(0, false), (5, true)] {
-        let kinds = [write(1, 5), read(2), answer(2, value), dropped(1)];
-        assert_found(&rt, &kinds, granule_if(is_found))?;
-        let kinds = [
-            write(1, 5),
-            read(2),
-            read(3),
-            answer(2, value),
-            dropped(1),
-            dropped(3),
-        ];
-        assert_found(&rt, &kinds, granule_if(is_found))?;
-    }
-    Ok(())
-}
-
-// A request of another granule that is dropped has that judged, and not this one.
-#[test]
-fn a_request_of_another_granule_that_was_dropped(rt: HostRuntime) -> Result<(), Fail> {
-    let kinds = [
-        write(1, 5),
-        read(2),
-        answer(2, 6),
-        read_next(3),
-        dropped(3),
-        dropped(1),
-    ];
-    assert_found(&rt, &kinds[..5], None)?;
-    assert_found(&rt, &kinds, Some(GRANULE))
-}
-
-// The word that is told before the first request is the one that the granule has.
-#[test]
-fn a_word_at_the_opening(rt: HostRuntime) -> Result<(), Fail> {
-    for (value, is_found) in [(7, false), (0, true)] {
-        let kinds = [EventKind::Word(word(7)), read(1), answer(1, value)];
-        assert_found(&rt, &kinds, granule_if(is_found))?;
-    }
-    Ok(())
-}
-
-// What starts after something that is not told is not judged.
-#[test]
-fn something_unknown(rt: HostRuntime) -> Result<(), Fail> {
-    for (addr, length, is_found) in [(4100, 1, false), (4104, 64, true)] {
-        let kinds = [EventKind::Unknown { addr, length }, read(1), answer(1, 9)];
-        assert_found(&rt, &kinds, granule_if(is_found))?;
-    }
-    Ok(())
-}
-
-// A word that is told after that is what the granule holds, and what starts then is judged.
-#[test]
-fn a_word_told_again(rt: HostRuntime) -> Result<(), Fail> {
-    for (value, is_found) in [(7, false), (0, true)] {
-        let kinds = [
-            write(1, 5),
-            done(1),
-            EventKind::Unknown {
-                addr: 4096,
-                length: 8,
-            },
-            EventKind::Word(word(7)),
-            read(2),
-            answer(2, value),
-        ];
-        assert_found(&rt, &kinds, granule_if(is_found))?;
-    }
-    Ok(())
+fn words_that_are_told_and_not_told(rt: HostRuntime) -> Result<(), Fail> {
+    assert_each_found(&rt, &WORDS)
 }
 
 // A hundred additions of 1, each of which starts before the one before it ends: what is found before the last one ends, and when
 // that answers this.
-fn never_quiet(alloc: Global, last: u8) -> Result<(bool, Option<u64>), WatchFault> {
+fn never_quiet(alloc: Global, last: u16) -> Result<(bool, Option<u64>), WatchFault> {
     let mut watch = Watch::new(alloc);
-    let mut is_found = take(alloc, &mut watch, 0, add(0, 1))?.is_some();
-    for id in 1..100u8 {
-        let time = u64::from(id) * 10;
-        let starts = take(alloc, &mut watch, time, add(u64::from(id), 1))?;
-        let ends = answer(u64::from(id - 1), id - 1);
-        let ends = take(alloc, &mut watch, time + 1, ends)?;
+    let mut is_found = take(alloc, &mut watch, 0, Told::Add(0, 1))?.is_some();
+    for number in 1..100_u16 {
+        let id = u64::from(number);
+        let starts = take(alloc, &mut watch, id * 10, Told::Add(id, 1))?;
+        let ended = Told::Answer(id - 1, number - 1);
+        let ends = take(alloc, &mut watch, id * 10 + 1, ended)?;
         is_found = is_found || starts.is_some() || ends.is_some();
     }
-    let found = take(alloc, &mut watch, 1000, answer(99, last))?;
+    let found = take(alloc, &mut watch, 1000, Told::Answer(99, last))?;
     Ok((is_found, found))
 }
 
@@ -166,16 +176,30 @@ fn a_granule_that_is_never_quiet(rt: HostRuntime) -> Result<(), Fail> {
     Ok(())
 }
 
+// Compares whether an operation ends by each of these events, which are recorded.
+fn assert_recorded<R: AllocGlobal + Abort>(
+    rt: &R,
+    watch: &mut Watch,
+    events: &[(Told, bool)],
+) -> Result<(), Fail> {
+    for (told, is_end) in events {
+        let ended = record(rt.alloc(), watch, 1, *told)?;
+        assert_same(rt, ended.is_some(), *is_end);
+    }
+    Ok(())
+}
+
 // What is recorded is not judged, and the operation that ended is answered.
 #[test]
 fn events_that_are_recorded(rt: HostRuntime) -> Result<(), Fail> {
     let mut watch = Watch::new(rt.alloc());
-    let kinds = [write(1, 5), done(1), read(2), answer(2, 0)];
-    for (kind, is_end) in kinds.into_iter().zip([false, true, false, true]) {
-        let event = Event { time: 1, kind };
-        let ended = watch.record(rt.alloc(), &event)?;
-        assert_same(&rt, ended.is_some(), is_end);
-    }
+    let events = [
+        (Told::Write(1, 5), false),
+        (Told::Done(1), true),
+        (Told::Read(2), false),
+        (Told::Answer(2, 0), true),
+    ];
+    assert_recorded(&rt, &mut watch, &events)?;
     assert_same(&rt, watch.counts().ended, 2);
     assert_same(&rt, watch.unknown_since(GRANULE), None);
     Ok(())

@@ -7,6 +7,12 @@ use std::test::Fail;
 
 const ENOUGH: (u64, Left) = (1000, ANY);
 
+// An addition of 1, and one of 2 that found 0.
+const ADDITIONS: Step<'static> = Step::Take(&[
+    Timed::Done((0, 10), STORE_ADD, 1),
+    Timed::Told((5, 15), ADD, 2, 0),
+]);
+
 // Two writes at the same time that are settled for good, of 5 and of 6.
 const WRITES: Step<'static> = Step::Take(&[
     Timed::Done((0, 10), WRITE, 5),
@@ -19,19 +25,27 @@ const SEVENS: Step<'static> = Step::Take(&[
     Timed::Rising(18, (0, 20), STORE_ADD, 7),
 ]);
 
-static ORDERS: [Case; 7] = [
+static ORDERS: [Case; 9] = [
     (
-        "order_that_leaves_the_final_word",
+        "order_that_leaves_the_final_word: not told",
         &[0],
         &[
-            Step::Take(&[
-                Timed::Done((0, 10), STORE_ADD, 1),
-                Timed::Told((5, 15), ADD, 2, 0),
-            ]),
+            ADDITIONS,
             Step::Orders(None, ENOUGH, Numbers::These(&[1, 0])),
-            Step::Orders(Some(3), ENOUGH, Numbers::These(&[1, 0])),
-            Step::Orders(Some(2), ENOUGH, NOTHING),
         ],
+    ),
+    (
+        "order_that_leaves_the_final_word: 3",
+        &[0],
+        &[
+            ADDITIONS,
+            Step::Orders(Some(3), ENOUGH, Numbers::These(&[1, 0])),
+        ],
+    ),
+    (
+        "order_that_leaves_the_final_word: 2",
+        &[0],
+        &[ADDITIONS, Step::Orders(Some(2), ENOUGH, NOTHING)],
     ),
     (
         "order_from_whichever_position_has_one: read of 5",

@@ -1,9 +1,6 @@
 //! Requests that are still open.
 
-use super::home::{
-    ENABLES, LANES, OLD, after, answer, assert_load, data, load_with_data, load_without_data, read,
-    take_each,
-};
+use super::home::{ENABLES, LANES, OLD, Told, after, assert_load};
 use crate::tests::comparison::assert_same;
 use chi_events::Outstanding;
 use chi_lanes::Reply;
@@ -20,16 +17,16 @@ fn none_is_outstanding(rt: HostRuntime) {
 #[test]
 fn open_with_data(rt: HostRuntime) -> Result<(), Fail> {
     let events = [
-        (10, load_with_data(3)),
-        (11, load_without_data(4)),
-        (12, data(4, ENABLES)),
+        (10, Told::Load(3)),
+        (11, Told::LoadAlone(4)),
+        (12, Told::Data(4, ENABLES)),
     ];
     let outstanding = after(rt.alloc(), &events)?;
     let [first, second] = outstanding.requests() else {
         return Err(Fail::new("there are not two requests"));
     };
-    assert_load(&rt, first.operation(), (10, u64::MAX), None);
-    assert_load(&rt, second.operation(), (11, u64::MAX), None);
+    assert_load(&rt, "first", first.operation(), (10, u64::MAX), None);
+    assert_load(&rt, "second", second.operation(), (11, u64::MAX), None);
     assert_same(&rt, first.completion, None);
     Ok(())
 }
@@ -37,18 +34,16 @@ fn open_with_data(rt: HostRuntime) -> Result<(), Fail> {
 // Before its data have come it has taken no effect, whether or not its completion has left.
 #[test]
 fn open_without_data(rt: HostRuntime) -> Result<(), Fail> {
-    let sent = Some(Some(Reply::CompData(OLD)));
-    let events = [(10, load_without_data(3)), (11, answer(3))];
-    for (count, completion) in &[(1, None), (2, sent)] {
-        let mut outstanding = Outstanding::new(rt.alloc());
-        take_each(&mut outstanding, &events[..*count])?;
+    let events = [(10, Told::LoadAlone(3)), (11, Told::Answer(3))];
+    for (count, completion) in [(1, None), (2, Some(Some(Reply::CompData(OLD))))] {
+        let outstanding = after(rt.alloc(), &events[..count])?;
         let [request] = outstanding.requests() else {
             return Err(Fail::new("there is not one request"));
         };
         assert_same(
             &rt,
-            (*count, request.operation().is_none(), request.completion),
-            (*count, true, *completion),
+            (count, request.operation().is_none(), request.completion),
+            (count, true, completion),
         );
     }
     Ok(())
@@ -57,7 +52,7 @@ fn open_without_data(rt: HostRuntime) -> Result<(), Fail> {
 // What an outstanding request is, as it was taken.
 #[test]
 fn request_as_it_was_asked(rt: HostRuntime) -> Result<(), Fail> {
-    let events = [(10, load_with_data(3)), (10, read(7, 4100))];
+    let events = [(10, Told::Load(3)), (10, Told::Read(7, 4100))];
     let outstanding = after(rt.alloc(), &events)?;
     let [load, read] = outstanding.requests() else {
         return Err(Fail::new("there are not two requests"));
