@@ -24,86 +24,87 @@ const LATE_RETRY: &str =
     r#"{"time":3,"channel":"RSP","tgt":"03","txn":"01","opcode":"3","resp_err":"0","dbid":"00"}
 "#;
 
-// The fault of the line with this number, whose flit cannot come next.
-fn at_port(number: u64, fault: FlitFault) -> LinesFault {
-    LinesFault::Line {
-        number,
-        fault: TellingFault::Port(fault),
-    }
-}
+// Lines, the fault that they are refused for, its text, and whether it is of a flit that is not legal.
+type FaultCase = ([&'static str; 3], LinesFault, &'static str, bool);
 
-// The same of one that tells no event.
-fn no_event(number: u64, fault: LineFault) -> LinesFault {
-    LinesFault::Line {
-        number,
-        fault: TellingFault::Event(fault),
-    }
-}
+static FAULTS: [FaultCase; 8] = [
+    (
+        [READ, FIVE, FIVE],
+        LinesFault::Line {
+            number: 3,
+            fault: TellingFault::Port(FlitFault::NotOpen),
+        },
+        "not legal at the port: line 3 is of no open request",
+        true,
+    ),
+    (
+        [WRITE, CREDIT, LATE_RETRY],
+        LinesFault::Line {
+            number: 5,
+            fault: TellingFault::Port(FlitFault::TimeFalls),
+        },
+        "line 5 is earlier than the flit before it",
+        false,
+    ),
+    (
+        [WRITE, LATE_RETRY, ""],
+        LinesFault::Line {
+            number: 4,
+            fault: TellingFault::Port(FlitFault::NotOpen),
+        },
+        "not legal at the port: line 4 is of no open request",
+        true,
+    ),
+    (
+        [WORD, READ, UNKNOWN_LANE],
+        LinesFault::Line {
+            number: 3,
+            fault: TellingFault::Port(FlitFault::UnknownLane),
+        },
+        "line 3 has an x in a lane of its operand",
+        false,
+    ),
+    (
+        [UNKNOWN_ADDR, "", ""],
+        LinesFault::Line {
+            number: 1,
+            fault: TellingFault::Flit(FlitLineFault::UnknownDigit(FlitMember::Addr)),
+        },
+        "line 1 has an x in its addr",
+        false,
+    ),
+    (
+        [CREDIT, READ_EVENT, ""],
+        LinesFault::Line {
+            number: 2,
+            fault: TellingFault::OfRequest,
+        },
+        "line 2 is an event of a request, and requests are told by flits",
+        false,
+    ),
+    (
+        [LATE_WORD, READ, ""],
+        LinesFault::Event {
+            number: 2,
+            fault: WatchFault::Event(EventFault::TimeFalls),
+        },
+        "line 2 is earlier than the event before it",
+        false,
+    ),
+    (
+        [WORD, "\n", READ],
+        LinesFault::Line {
+            number: 2,
+            fault: TellingFault::Event(LineFault::Object(ObjectFault::NotJson)),
+        },
+        "line 2 is not JSON",
+        false,
+    ),
+];
 
 #[test]
 fn faults_and_their_texts(rt: HostRuntime) -> Result<(), Fail> {
-    let unknown_addr = LinesFault::Line {
-        number: 1,
-        fault: TellingFault::Flit(FlitLineFault::UnknownDigit(FlitMember::Addr)),
-    };
-    let of_request = LinesFault::Line {
-        number: 2,
-        fault: TellingFault::OfRequest,
-    };
-    let earlier = LinesFault::Event {
-        number: 2,
-        fault: WatchFault::Event(EventFault::TimeFalls),
-    };
-    for (texts, fault, text, is_illegal) in &[
-        (
-            [READ, FIVE, FIVE],
-            at_port(3, FlitFault::NotOpen),
-            "not legal at the port: line 3 is of no open request",
-            true,
-        ),
-        (
-            [WRITE, CREDIT, LATE_RETRY],
-            at_port(5, FlitFault::TimeFalls),
-            "line 5 is earlier than the flit before it",
-            false,
-        ),
-        (
-            [WRITE, LATE_RETRY, ""],
-            at_port(4, FlitFault::NotOpen),
-            "not legal at the port: line 4 is of no open request",
-            true,
-        ),
-        (
-            [WORD, READ, UNKNOWN_LANE],
-            at_port(3, FlitFault::UnknownLane),
-            "line 3 has an x in a lane of its operand",
-            false,
-        ),
-        (
-            [UNKNOWN_ADDR, "", ""],
-            unknown_addr,
-            "line 1 has an x in its addr",
-            false,
-        ),
-        (
-            [CREDIT, READ_EVENT, ""],
-            of_request,
-            "line 2 is an event of a request, and requests are told by flits",
-            false,
-        ),
-        (
-            [LATE_WORD, READ, ""],
-            earlier,
-            "line 2 is earlier than the event before it",
-            false,
-        ),
-        (
-            [WORD, "\n", READ],
-            no_event(2, LineFault::Object(ObjectFault::NotJson)),
-            "line 2 is not JSON",
-            false,
-        ),
-    ] {
+    for (texts, fault, text, is_illegal) in &FAULTS {
         let found = watched(rt.alloc(), texts, &FLITS).err().map(|it| it.fault);
         let told = format!(in rt.alloc(); "{fault}")?;
         assert_same(
@@ -115,6 +116,17 @@ fn faults_and_their_texts(rt: HostRuntime) -> Result<(), Fail> {
     Ok(())
 }
 
+// A third line is refused where it is of no open request, and a line where it is a flit and events are read.
+const THIRD: LinesFault = LinesFault::Line {
+    number: 3,
+    fault: TellingFault::Port(FlitFault::NotOpen),
+};
+
+const NO_EVENT: LinesFault = LinesFault::Line {
+    number: 1,
+    fault: TellingFault::Event(LineFault::OfFlits),
+};
+
 // Operations and a trace are refused for the same reason. A flit is no event.
 #[test]
 fn faults_of_operations_and_traces(rt: HostRuntime) -> Result<(), Fail> {
@@ -124,9 +136,9 @@ fn faults_of_operations_and_traces(rt: HostRuntime) -> Result<(), Fail> {
             LineFormat::Flits {
                 errors: ErrorEffect::Unknown,
             },
-            at_port(3, FlitFault::NotOpen),
+            THIRD,
         ),
-        (LineFormat::Events, no_event(1, LineFault::OfFlits)),
+        (LineFormat::Events, NO_EVENT),
     ] {
         let mut from = text.as_slice();
         let found = read_operations(rt.alloc(), &mut from, format).err();
@@ -138,6 +150,6 @@ fn faults_of_operations_and_traces(rt: HostRuntime) -> Result<(), Fail> {
     let found = watched(rt.alloc(), &[READ], &STOPPING)
         .err()
         .map(|it| it.fault);
-    assert_same(&rt, found, Some(no_event(1, LineFault::OfFlits)));
+    assert_same(&rt, found, Some(NO_EVENT));
     Ok(())
 }

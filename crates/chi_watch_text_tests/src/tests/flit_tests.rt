@@ -58,31 +58,38 @@ fn a_write_of_two_granules(rt: HostRuntime) -> Result<(), Fail> {
     Ok(())
 }
 
+// It keeps going.
+const GOING_FLITS: WatchOptions = WatchOptions {
+    format: LineFormat::Flits {
+        errors: ErrorEffect::Unknown,
+    },
+    ..GOING
+};
+
+// Lines with how they are read, and the granules that are found by lines.
+type FoundCase = (WatchOptions, &'static [&'static str], &'static [(u64, u64)]);
+
+static FOUND: [FoundCase; 5] = [
+    (FLITS, &[WORD, READ, CREDIT, FIVE], &[]),
+    (FLITS, &[WORD, READ, CREDIT, SIX, LAST], &[(512, 4)]),
+    (FLITS, &[WRITE, CREDIT, LOW, STALE_HIGH], &[(513, 8)]),
+    (
+        FLITS,
+        &[WRITE, CREDIT, LOW, STALE_BOTH, LAST],
+        &[(512, 8), (513, 8)],
+    ),
+    (
+        GOING_FLITS,
+        &[WRITE, CREDIT, LOW, STALE_BOTH, LAST],
+        &[(512, 8), (513, 8)],
+    ),
+];
+
 // The granules at 4096 and 4104 have the numbers 512 and 513. Where one line tells the replies of both, both are found by it, also
 // where it stops at the first.
 #[test]
 fn granules_and_their_lines(rt: HostRuntime) -> Result<(), Fail> {
-    let going = WatchOptions {
-        format: LineFormat::Flits {
-            errors: ErrorEffect::Unknown,
-        },
-        ..GOING
-    };
-    for (options, texts, wanted) in &[
-        (FLITS, [WORD, READ, CREDIT, FIVE].as_slice(), [].as_slice()),
-        (FLITS, &[WORD, READ, CREDIT, SIX, LAST], &[(512, 4)]),
-        (FLITS, &[WRITE, CREDIT, LOW, STALE_HIGH], &[(513, 8)]),
-        (
-            FLITS,
-            &[WRITE, CREDIT, LOW, STALE_BOTH, LAST],
-            &[(512, 8), (513, 8)],
-        ),
-        (
-            going,
-            &[WRITE, CREDIT, LOW, STALE_BOTH, LAST],
-            &[(512, 8), (513, 8)],
-        ),
-    ] {
+    for (options, texts, wanted) in &FOUND {
         let watched = watched(rt.alloc(), texts, options)?;
         let places = places(rt.alloc(), &watched)?;
         assert_same(
@@ -94,6 +101,19 @@ fn granules_and_their_lines(rt: HostRuntime) -> Result<(), Fail> {
     Ok(())
 }
 
+// Lines, and those of them that are kept.
+static KEPT: [(&[&str], &[&str]); 3] = [
+    (
+        &[CREDIT_BEFORE, WORD, READ, CREDIT, FIVE, "\n"],
+        &[CREDIT_BEFORE, WORD, READ, CREDIT, FIVE],
+    ),
+    (&[WORD, READ, CREDIT, SIX, LAST], &[WORD, READ, CREDIT, SIX]),
+    (
+        &[WRITE, CREDIT, LOW, HIGH, LAST],
+        &[WRITE, CREDIT, LOW, HIGH, LAST],
+    ),
+];
+
 // Of the lines that are taken, those of flits that tell nothing are kept too. It stops at the line after the one that is found by.
 #[test]
 fn lines_that_are_kept(rt: HostRuntime) -> Result<(), Fail> {
@@ -101,17 +121,7 @@ fn lines_that_are_kept(rt: HostRuntime) -> Result<(), Fail> {
         keep_lines: true,
         ..FLITS
     };
-    for (texts, wanted) in &[
-        (
-            [CREDIT_BEFORE, WORD, READ, CREDIT, FIVE, "\n"].as_slice(),
-            [CREDIT_BEFORE, WORD, READ, CREDIT, FIVE].as_slice(),
-        ),
-        (&[WORD, READ, CREDIT, SIX, LAST], &[WORD, READ, CREDIT, SIX]),
-        (
-            &[WRITE, CREDIT, LOW, HIGH, LAST],
-            &[WRITE, CREDIT, LOW, HIGH, LAST],
-        ),
-    ] {
+    for (texts, wanted) in &KEPT {
         let kept = watched(rt.alloc(), texts, &keeping)?
             .kept
             .unwrap_or(Vec::new(rt.alloc()));

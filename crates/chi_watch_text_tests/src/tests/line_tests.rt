@@ -62,58 +62,61 @@ fn a_write_of_the_same_time(rt: HostRuntime) -> Result<(), Fail> {
     Ok(())
 }
 
+// Lines, the fault that they are refused for, and its text.
+static FAULTS: [([&str; 2], LinesFault, &str); 6] = [
+    (
+        [WRITE, "{\n"],
+        LinesFault::Line {
+            number: 3,
+            fault: TellingFault::Event(LineFault::Object(ObjectFault::NotJson)),
+        },
+        "line 3 is not JSON",
+    ),
+    (
+        [WRITE, "{\"time\":3,\"event\":\"dropped\"}"],
+        LinesFault::Line {
+            number: 3,
+            fault: TellingFault::Event(LineFault::Object(ObjectFault::Missing(Member::Id))),
+        },
+        "line 3 member id is missing",
+    ),
+    (
+        ["{\"requests\":[]}\n", READ],
+        LinesFault::Line {
+            number: 1,
+            fault: TellingFault::Event(LineFault::OfTrace),
+        },
+        "line 1 is of a trace, which chicheck explain reads",
+    ),
+    (
+        ["{\n", "\"requests\": []}\n"],
+        LinesFault::Line {
+            number: 1,
+            fault: TellingFault::Event(LineFault::NotWhole),
+        },
+        "line 1 is not one whole JSON object, as an event is; chicheck explain reads a trace",
+    ),
+    (
+        [READ, WRITE],
+        LinesFault::Event {
+            number: 2,
+            fault: WatchFault::Event(EventFault::TimeFalls),
+        },
+        "line 2 is earlier than the event before it",
+    ),
+    (
+        [READ, READ],
+        LinesFault::Event {
+            number: 2,
+            fault: WatchFault::Event(EventFault::NumberTaken),
+        },
+        "line 2 takes a number of an outstanding request",
+    ),
+];
+
 #[test]
 fn faults_and_their_texts(rt: HostRuntime) -> Result<(), Fail> {
-    for (texts, fault, text) in &[
-        (
-            [WRITE, "{\n"],
-            LinesFault::Line {
-                number: 3,
-                fault: TellingFault::Event(LineFault::Object(ObjectFault::NotJson)),
-            },
-            "line 3 is not JSON",
-        ),
-        (
-            [WRITE, "{\"time\":3,\"event\":\"dropped\"}"],
-            LinesFault::Line {
-                number: 3,
-                fault: TellingFault::Event(LineFault::Object(ObjectFault::Missing(Member::Id))),
-            },
-            "line 3 member id is missing",
-        ),
-        (
-            ["{\"requests\":[]}\n", READ],
-            LinesFault::Line {
-                number: 1,
-                fault: TellingFault::Event(LineFault::OfTrace),
-            },
-            "line 1 is of a trace, which chicheck explain reads",
-        ),
-        (
-            ["{\n", "\"requests\": []}\n"],
-            LinesFault::Line {
-                number: 1,
-                fault: TellingFault::Event(LineFault::NotWhole),
-            },
-            "line 1 is not one whole JSON object, as an event is; chicheck explain reads a trace",
-        ),
-        (
-            [READ, WRITE],
-            LinesFault::Event {
-                number: 2,
-                fault: WatchFault::Event(EventFault::TimeFalls),
-            },
-            "line 2 is earlier than the event before it",
-        ),
-        (
-            [READ, READ],
-            LinesFault::Event {
-                number: 2,
-                fault: WatchFault::Event(EventFault::NumberTaken),
-            },
-            "line 2 takes a number of an outstanding request",
-        ),
-    ] {
+    for (texts, fault, text) in &FAULTS {
         let found = watched(rt.alloc(), texts, &STOPPING)
             .err()
             .map(|it| it.fault);

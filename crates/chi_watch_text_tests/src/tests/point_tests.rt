@@ -62,23 +62,33 @@ const OTHER: &str =
     r#"{"time":6,"channel":"REQ","src":"03","txn":"04","opcode":"04","size":"3","addr":"0000000001000"}
 "#;
 
+// Lines with how they are read, the granules that are found by lines, and how many requests are outstanding.
+type OrderCase = (
+    WatchOptions,
+    &'static [&'static str],
+    &'static [(u64, u64)],
+    usize,
+);
+
+static ORDER: [OrderCase; 6] = [
+    (FLITS, &[WORD, BEGUN, DONE, END], &[], 0),
+    (POINTED, &[WORD, BEGUN, WRITE_FIRST, DONE, END], &[], 0),
+    (
+        POINTED,
+        &[WORD, BEGUN, READ_FIRST, DONE, END],
+        &[(512, 7)],
+        0,
+    ),
+    (POINTED, &[WORD, BEGUN, READ_FIRST, END], &[], 2),
+    (POINTED, &[WORD, BEGUN, END], &[], 2),
+    (POINTED, &[WORD, READ, RETRY, OTHER, END], &[], 1),
+];
+
 // The read overlaps the write, so without points either order is legal. By its point it is before the write, and then it may not
 // tell what is written: its answer is line 7.
 #[test]
 fn order_of_points(rt: HostRuntime) -> Result<(), Fail> {
-    for (options, texts, wanted, outstanding) in &[
-        (FLITS, [WORD, BEGUN, DONE, END].as_slice(), [].as_slice(), 0),
-        (POINTED, &[WORD, BEGUN, WRITE_FIRST, DONE, END], &[], 0),
-        (
-            POINTED,
-            &[WORD, BEGUN, READ_FIRST, DONE, END],
-            &[(512, 7)],
-            0,
-        ),
-        (POINTED, &[WORD, BEGUN, READ_FIRST, END], &[], 2),
-        (POINTED, &[WORD, BEGUN, END], &[], 2),
-        (POINTED, &[WORD, READ, RETRY, OTHER, END], &[], 1),
-    ] {
+    for (options, texts, wanted, outstanding) in &ORDER {
         let watched = watched(rt.alloc(), texts, options)?;
         let places = places(rt.alloc(), &watched)?;
         assert_same(
@@ -111,95 +121,105 @@ fn operations_at_their_points(rt: HostRuntime) -> Result<(), Fail> {
     Ok(())
 }
 
-// The fault of the line with this number where requests have points.
-fn refused(number: u64, fault: PointFault) -> LinesFault {
-    LinesFault::Line {
-        number,
-        fault: TellingFault::Points(fault),
-    }
-}
+// Lines with how they are read, the number of the line that is refused, for what, its text, and whether it is of a flit that is not
+// legal.
+type FaultCase = (
+    WatchOptions,
+    &'static [&'static str],
+    u64,
+    TellingFault,
+    &'static str,
+    bool,
+);
+
+static FAULTS: [FaultCase; 9] = [
+    (
+        FLITS,
+        &[OF_FOUR],
+        1,
+        TellingFault::OfPoint,
+        "line 1 is a point, and --points is not given",
+        false,
+    ),
+    (
+        POINTED,
+        &[UNKNOWN_SRC],
+        1,
+        TellingFault::Flit(FlitLineFault::UnknownDigit(FlitMember::Src)),
+        "line 1 has an x in its src",
+        false,
+    ),
+    (
+        POINTED,
+        &[OF_FOUR],
+        1,
+        TellingFault::Points(PointFault::Port(FlitFault::NotOpen)),
+        "not legal at the port: line 1 is of no open request",
+        true,
+    ),
+    (
+        POINTED,
+        &[BEGUN, WRITE_FIRST, AGAIN],
+        6,
+        TellingFault::Points(PointFault::Port(FlitFault::NotOpen)),
+        "not legal at the port: line 6 is of no open request",
+        true,
+    ),
+    (
+        POINTED,
+        &[READ, FIVE, OTHER],
+        3,
+        TellingFault::Points(PointFault::Port(FlitFault::TakesOpen)),
+        "not legal at the port: line 3 takes the TxnID of an open request",
+        true,
+    ),
+    (
+        POINTED,
+        &[READ, OF_FOUR, RETRY],
+        3,
+        TellingFault::Points(PointFault::RetryLate),
+        "not legal at the port: line 3 is RetryAck to a request that had another answer, or its point",
+        true,
+    ),
+    (
+        POINTED,
+        &[WORD, READ, FIVE, END],
+        4,
+        TellingFault::Points(PointFault::NoPoint(2)),
+        "not legal at the port: line 4 is the end, and line 2 is a request that was completed, and has no point",
+        true,
+    ),
+    (
+        POINTED,
+        &[READ, FIVE, OF_FOUR],
+        3,
+        TellingFault::Points(PointFault::Port(FlitFault::TimeFalls)),
+        "line 3 is earlier than the flit before it",
+        false,
+    ),
+    (
+        POINTED,
+        &[END, END],
+        2,
+        TellingFault::Points(PointFault::AfterEnd),
+        "line 2 comes after the end",
+        false,
+    ),
+];
 
 #[test]
 fn faults_of_points(rt: HostRuntime) -> Result<(), Fail> {
-    let not_given = LinesFault::Line {
-        number: 1,
-        fault: TellingFault::OfPoint,
-    };
-    let unknown = LinesFault::Line {
-        number: 1,
-        fault: TellingFault::Flit(FlitLineFault::UnknownDigit(FlitMember::Src)),
-    };
-    for (options, texts, fault, text, is_illegal) in &[
-        (
-            FLITS,
-            [OF_FOUR].as_slice(),
-            not_given,
-            "line 1 is a point, and --points is not given",
-            false,
-        ),
-        (
-            POINTED,
-            &[UNKNOWN_SRC],
-            unknown,
-            "line 1 has an x in its src",
-            false,
-        ),
-        (
-            POINTED,
-            &[OF_FOUR],
-            refused(1, PointFault::Port(FlitFault::NotOpen)),
-            "not legal at the port: line 1 is of no open request",
-            true,
-        ),
-        (
-            POINTED,
-            &[BEGUN, WRITE_FIRST, AGAIN],
-            refused(6, PointFault::Port(FlitFault::NotOpen)),
-            "not legal at the port: line 6 is of no open request",
-            true,
-        ),
-        (
-            POINTED,
-            &[READ, FIVE, OTHER],
-            refused(3, PointFault::Port(FlitFault::TakesOpen)),
-            "not legal at the port: line 3 takes the TxnID of an open request",
-            true,
-        ),
-        (
-            POINTED,
-            &[READ, OF_FOUR, RETRY],
-            refused(3, PointFault::RetryLate),
-            "not legal at the port: line 3 is RetryAck to a request that had another answer, or its point",
-            true,
-        ),
-        (
-            POINTED,
-            &[WORD, READ, FIVE, END],
-            refused(4, PointFault::NoPoint(2)),
-            "not legal at the port: line 4 is the end, and line 2 is a request that was completed, and has no point",
-            true,
-        ),
-        (
-            POINTED,
-            &[READ, FIVE, OF_FOUR],
-            refused(3, PointFault::Port(FlitFault::TimeFalls)),
-            "line 3 is earlier than the flit before it",
-            false,
-        ),
-        (
-            POINTED,
-            &[END, END],
-            refused(2, PointFault::AfterEnd),
-            "line 2 comes after the end",
-            false,
-        ),
-    ] {
+    for (options, texts, number, fault, text, is_illegal) in &FAULTS {
+        let fault = LinesFault::Line {
+            number: *number,
+            fault: *fault,
+        };
         let found = watched(rt.alloc(), texts, options).err().map(|it| it.fault);
         let told = format!(in rt.alloc(); "{fault}")?;
         assert_same(
             &rt,
             (found, told.as_str(), fault.is_illegal()),
-            (Some(*fault), *text, *is_illegal),
+            (Some(fault), *text, *is_illegal),
         );
     }
     Ok(())

@@ -27,18 +27,21 @@ impl Read for FailingReader<'_> {
     }
 }
 
+// Lines before a read that fails, and what comes of them.
+static FAILING: [(&[&str], Result<Standing, LinesFault>); 7] = [
+    (&[], Err(LinesFault::Read)),
+    (&[WRITE], Err(LinesFault::Read)),
+    (&[WRITE, "{\"time\":3,"], Err(LinesFault::Read)),
+    (&[WRITE, READ, FIVE], Err(LinesFault::Read)),
+    (&[WRITE, READ, ZERO], Err(LinesFault::Read)),
+    (&[WRITE, READ, ZERO, "\n"], Err(LinesFault::Read)),
+    (&[WRITE, READ, ZERO, "\n", LAST], Ok(Standing::Unexplained)),
+];
+
 // A granule is found before the read that fails only if the whole line of a later event was read.
 #[test]
 fn reads_that_fail(rt: HostRuntime) -> Result<(), Fail> {
-    for (texts, wanted) in &[
-        ([].as_slice(), Err(LinesFault::Read)),
-        (&[WRITE], Err(LinesFault::Read)),
-        (&[WRITE, "{\"time\":3,"], Err(LinesFault::Read)),
-        (&[WRITE, READ, FIVE], Err(LinesFault::Read)),
-        (&[WRITE, READ, ZERO], Err(LinesFault::Read)),
-        (&[WRITE, READ, ZERO, "\n"], Err(LinesFault::Read)),
-        (&[WRITE, READ, ZERO, "\n", LAST], Ok(Standing::Unexplained)),
-    ] {
+    for (texts, wanted) in &FAILING {
         let text = joined(rt.alloc(), texts)?;
         for most in [1, 7, 4096] {
             let from = FailingReader { text: &text, most };

@@ -164,29 +164,34 @@ fn a_line_that_tells_no_event(rt: HostRuntime) -> Result<(), Fail> {
     Ok(())
 }
 
+// Lines with how they are watched, and those of them that are kept.
+type KeptCase = (
+    WatchOptions,
+    &'static [&'static str],
+    &'static [&'static str],
+);
+
+static KEPT: [KeptCase; 5] = [
+    (STOPPING, &[WRITE, READ, FIVE, " \n"], &[WRITE, READ, FIVE]),
+    (
+        STOPPING,
+        &[WRITE, READ, ZERO, "\n", LAST],
+        &[WRITE, READ, ZERO, "\n"],
+    ),
+    (STOPPING, &[WRITE, READ, ZERO], &[WRITE, READ, ZERO]),
+    (
+        GOING,
+        &[WRITE, NINE_AND_FIVE, LAST],
+        &[WRITE, NINE_AND_FIVE, LAST],
+    ),
+    (GOING, &[], &[]),
+];
+
 // The lines that a watch takes are kept where they are to be: those up to the time at which it stops, and without the blank ones at
 // the end.
 #[test]
 fn lines_that_are_kept(rt: HostRuntime) -> Result<(), Fail> {
-    for (options, texts, wanted) in &[
-        (
-            STOPPING,
-            [WRITE, READ, FIVE, " \n"].as_slice(),
-            [WRITE, READ, FIVE].as_slice(),
-        ),
-        (
-            STOPPING,
-            &[WRITE, READ, ZERO, "\n", LAST],
-            &[WRITE, READ, ZERO, "\n"],
-        ),
-        (STOPPING, &[WRITE, READ, ZERO], &[WRITE, READ, ZERO]),
-        (
-            GOING,
-            &[WRITE, NINE_AND_FIVE, LAST],
-            &[WRITE, NINE_AND_FIVE, LAST],
-        ),
-        (GOING, &[], &[]),
-    ] {
+    for (options, texts, wanted) in &KEPT {
         let keeping = WatchOptions {
             keep_lines: true,
             ..*options
