@@ -1,2 +1,4 @@
 mod Enabled
 pub mod Failures
+mod WriterLemmas
+mod WrongByteLemmas

@@ -9,6 +9,7 @@ use Rattle.chi_excerpt.specs.Impossible.{impossible_text}
 use Rattle.chi_excerpt.specs.Operands.{returned_text}
 use Rattle.chi_excerpt.specs.Rows.{first_start, widths_of}
 use Rattle.chi_excerpt.specs.Texts.{row_text}
+use Rattle.chi_excerpt.specs.WrongBytes.{wrong_bytes, wrong_line}
 
 -- those that ended after a time
 abbrev pub ended_after : ℕ → List Operation → List Operation
@@ -26,9 +27,12 @@ legal_line row reply = codes "    legal would be:" ++ (returned_text row.access 
 unfoldable pub line_of_time : ℕ → ℕ → List ℕ
 line_of_time from to = codes "  the last operations of the granule, from time " ++ decimal from ++ codes " to " ++ decimal to ++ codes ":\n"
 
--- the operation that is blamed, why no home answers so, where none does, and the replies that would have been legal
+-- The operation that is blamed, why no home answers so, where none does, the replies that would have been legal, and the bytes of
+-- the answer that none of them has.
 unfoldable pub blamed_text : List ℕ → ℕ → ℕ → Widths → Stop → List ℕ
-blamed_text label from to w s = row_text label true from to w s.op ++ (impossible_text (reply_fault s.op.access s.op.reply) ++ flat_map (legal_line s.op) s.legal.items)
+blamed_text label from to w s =
+    row_text label true from to w s.op ++ (impossible_text (reply_fault s.op.access s.op.reply) ++ (flat_map (legal_line s.op) s.legal.items
+    ++ wrong_line (wrong_bytes s.op s.legal.items)))
 
 -- the number of an operation's request
 abbrev pub number_text : Operation → List ℕ

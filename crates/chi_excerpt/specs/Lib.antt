@@ -6,3 +6,5 @@ pub mod Impossible
 pub mod Operands
 pub mod Rows
 pub mod Texts
+pub mod Writers
+pub mod WrongBytes

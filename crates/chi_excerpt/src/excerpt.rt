@@ -8,6 +8,7 @@ use crate::columns::{Widths, first_start, widths_of};
 use crate::impossible::add_impossible;
 use crate::line::add_row;
 use crate::operand::add_returned;
+use crate::wrong_bytes::{add_wrong, wrong_bytes};
 use chi_judge::Stop;
 use chi_lanes::Reply;
 use chi_text::{Part, add_parts};
@@ -77,6 +78,7 @@ fn add_each_legal(to: &mut Vec<u8>, row: &Operation, legal: &[Reply]) -> Result<
 /// The lines of the operation that is blamed.
 #[tactic(auto, unfolding(crate::specs::Excerpts::blamed_text))]
 fn add_blamed(
+    alloc: Global,
     to: &mut Vec<u8>,
     label: &str,
     line: (u64, u64),
@@ -87,7 +89,8 @@ fn add_blamed(
 {
     add_row(to, label, true, line, widths, &stop.op)?;
     add_impossible(to, &stop.op)?;
-    add_each_legal(to, &stop.op, &stop.legal)
+    add_each_legal(to, &stop.op, &stop.legal)?;
+    add_wrong(to, &wrong_bytes(alloc, &stop.op, &stop.legal)?)
 }
 
 /// The line of time that the rows stand on.
@@ -162,7 +165,7 @@ pub fn add_excerpt(
     let line = (first_start(stop.time, &rows), stop.time);
     add_line_of_time(to, line)?;
     add_rows(to, label, line, widths, &stop.before)?;
-    add_blamed(to, label, line, widths, stop)?;
+    add_blamed(alloc, to, label, line, widths, stop)?;
     add_rows(to, label, line, widths, &still_open)?;
     add_suspects(to, label, &stop.suspects)
 }

@@ -8,6 +8,9 @@ mod failure;
 mod impossible;
 mod line;
 mod operand;
+mod writers;
+mod wrong_bytes;
 
 pub use excerpt::{add_excerpt, add_order};
 pub use failure::{failure_text, order_in};
+pub use writers::add_writers;

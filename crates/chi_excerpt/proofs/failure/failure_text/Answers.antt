@@ -2,7 +2,7 @@
 use Rattle.std.proofs.Common.{◌<◌, All, ℕ, length, codes, sym, subst}
 use Rattle.chi_answer.specs.Texts.{blame_text}
 use Rattle.chi_excerpt.specs.Excerpts.{excerpt_text}
-use Rattle.chi_excerpt.specs.Failures.{order_in, last_line}
+use Rattle.chi_excerpt.specs.Failures.{order_in, last_lines}
 use Rattle.chi_excerpt.proofs.Failures.{order_places, text_of}
 use Rattle.chi_excerpt.proofs.failure.failure_text.Goals as goal
 
@@ -19,6 +19,6 @@ returns c =
     let r = c.args.recorded.now in
     let blame = c.args.blame.now in
     text_of c.new-text.result.items c.add_blame.new.to.items c.add_excerpt.new.to.items c.add_last.new.to.items
-    (blame_text blame) (excerpt_text (codes "request") blame.stop) (last_line r c.args.around blame.stop.time (order_in r blame.granule blame.order.items))
+    (blame_text blame) (excerpt_text (codes "request") blame.stop) (last_lines r c.args.around blame.stop (order_in r blame.granule blame.order.items))
     c.new-text.ensures.items c.in_ok-add_blame.ensures c.in_ok-add_excerpt.ensures
     (rw (c.deref-2.ensures.value, c.in_ok-order.ensures, c.deref.ensures.value) at c.in_ok-add_last.ensures)
