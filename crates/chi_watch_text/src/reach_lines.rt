@@ -4,7 +4,7 @@ ghost use Rattle.std.specs.Prelude.{◌≡◌, ◌++◌, OnOk};
 ghost use Rattle.chi_watch_text.specs.ReachTexts.{reach_text, stop_lines};
 
 use chi_answer::{add_stop, add_words_at_end};
-use chi_excerpt::{add_excerpt, add_order};
+use chi_excerpt::{add_excerpt, add_order, add_writers};
 use chi_judge::{Reach, Stop};
 use std::alloc::{AllocError, Global};
 
@@ -19,7 +19,8 @@ fn add_stop_lines(alloc: Global, to: &mut Vec<u8>, stop: &Stop) -> Result<(), Al
         " in an order that ends with lines",
         stop.time,
         &stop.order,
-    )
+    )?;
+    add_writers(alloc, to, "line", stop, &stop.order)
 }
 
 /// The lines of how far a granule's operations can be explained, of which this word was told at the end.
