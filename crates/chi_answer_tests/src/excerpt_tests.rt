@@ -73,6 +73,7 @@ const LOST_ADDITION: &str = "  the last operations of the granule, from time 0 t
     request  0 |==========                              |   0 to 10  AtomicLoad.ADD  +0 L8  sent 0100000000000000  returned 0000000000000000  requester 1 txn 1
   > request  2 |                             ###########|  30 to 40  AtomicLoad.ADD  +0 L8  sent 0100000000000000  returned 0000000000000000  requester 2 txn 1
     legal would be:  returned 0100000000000000
+    unlike each of these: +0 is 00
     request 17 |                                  ======|  35 on     WriteNoSnpPtl   +4 L4  sent 07--0900  no reply  requester 3 txn 4
   any one of these answers may be the wrong one: requests 2 0
 ";

@@ -13,3 +13,5 @@ mod page_tests;
 mod text_tests;
 #[cfg(test)]
 mod witness_tests;
+#[cfg(test)]
+mod wrong_byte_tests;

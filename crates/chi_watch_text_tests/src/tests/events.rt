@@ -81,11 +81,11 @@ pub(crate) fn watched(
     watch_lines(alloc, &mut from, &mut told, options, &mut NoProgress)
 }
 
-/// A text without the lines of how an order ends, since it is not promised which order is found.
-fn without_orders(alloc: Global, text: &str) -> Result<String, Fail> {
+/// A text without the lines that start so.
+pub(crate) fn without_lines(alloc: Global, text: &str, start: &str) -> Result<String, Fail> {
     let mut left = String::new(alloc);
     for line in text.lines() {
-        if !line.starts_with("  up to ") {
+        if !line.starts_with(start) {
             left.push_str(line)?;
             left.push_str("\n")?;
         }
@@ -93,7 +93,7 @@ fn without_orders(alloc: Global, text: &str) -> Result<String, Fail> {
     Ok(left)
 }
 
-/// The text of it, without the lines of how an order ends.
+/// The text of it, without the lines of how an order ends, since it is not promised which order is found.
 pub(crate) fn answer(
     alloc: Global,
     texts: &[&str],
@@ -104,7 +104,7 @@ pub(crate) fn answer(
     let mut text = Vec::new(alloc);
     let watched = watch_lines(alloc, &mut from, &mut text, options, &mut NoProgress)?;
     text.extend_from_slice(&closing_text(alloc, &watched, options)?)?;
-    without_orders(alloc, &String::from_utf8(text)?)
+    without_lines(alloc, &String::from_utf8(text)?, "  up to ")
 }
 
 /// Nothing is required, or all of which one can say whether it is there.

@@ -26,6 +26,7 @@ at 5: 3 4 04 ReadNoSnp 3 0000000000001000 answered
   the last operations of the granule, from time 3 to 5:
   > line 2 |########################################|  3 to 5  ReadNoSnp  +0 L8  returned 0600000000000000  requester 3 txn 4
     legal would be:  returned 0500000000000000
+    unlike each of these: +0 is 06
   at line 4
   operations that ended: 1
   requests outstanding: 0

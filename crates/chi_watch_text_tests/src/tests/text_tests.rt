@@ -64,6 +64,8 @@ at 4: 0 2 04 ReadNoSnp 3 0000000000001000 answered
     line 1 |==============                          |  1 to 2  WriteNoSnpPtl  +0 L8  sent 0500000000000000  comp  requester 0 txn 1
   > line 3 |                          ##############|  3 to 4  ReadNoSnp      +0 L8  returned 0000000000000000  requester 0 txn 2
     legal would be:  returned 0500000000000000
+    unlike each of these: +0 is 00
+    last written by line 1: +0
   at line 4
 ";
 
@@ -85,6 +87,7 @@ at 6: 0 3 04 ReadNoSnp 3 0000000000001008 answered
   the last operations of the granule, from time 5 to 6:
   > line 5 |########################################|  5 to 6  ReadNoSnp  +0 L8  returned 0900000000000000  requester 0 txn 3
     legal would be:  returned 0000000000000000
+    unlike each of these: +0 is 09
   at line 6
 not explained: granule 0000000000001010
 at the end: 0800000000000000
