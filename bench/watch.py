@@ -4,8 +4,8 @@
 Each history is told as events (histories.py). What has to be answered on them, with and without --keep-going, is found by
 trying every order (telling.py, orders.py): which granules are not explained, by which line, and where each stops being so.
 `chicheck explain` has to give the same verdict on the same operations, told as a trace and as events, and of each such granule by
-itself it has to say the same and to show the same operations; each of these has to have the line that told its request. A
-history that the program disagrees on is shown. With `prefixes` each is the beginning of a history in which granules are never
+itself it has to say the same and to show the same operations; each of these has to have the line that told its request. Which bytes
+are wrong and who wrote them last is compared with the other lines (written.py). A history that the program disagrees on is shown. With `prefixes` each is the beginning of a history in which granules are never
 quiet. CHICHECK names the program."""
 
 import collections
@@ -21,8 +21,9 @@ os.chdir(f"{os.path.dirname(os.path.abspath(__file__))}/..")
 sys.dont_write_bytecode = True
 
 from histories import history, prefix
-from orders import MOST, TooMany, is_end_of_order
+from orders import MOST, Operation, TooMany, is_end_of_order
 from telling import Told, Watched
+from written import UNLIKE, WRITTEN, told_lines, wanted_lines
 
 CHECKER = os.environ.get("CHICHECK", "crates/chi_check/out/chi_check")
 COUNT, SEED = [int(it) for it in sys.argv[1:3]] + [20000, 1][len(sys.argv[1:3]) :]
@@ -83,8 +84,8 @@ def is_same_part(found, wanted):
 
 
 def without_rows(lines):
-    """Lines without those of a granule's last operations, and of their order."""
-    return [it for it in lines if not (it.startswith((LAST, LEGAL)) or ROW.fullmatch(it) or ORDER.fullmatch(it))]
+    """Lines without those of a granule's last operations, of their bytes, and of their order."""
+    return [it for it in lines if not (it.startswith((LAST, LEGAL, UNLIKE, WRITTEN)) or ROW.fullmatch(it) or ORDER.fullmatch(it))]
 
 
 def rows_of(lines):
@@ -157,6 +158,11 @@ def are_last_clear(trace, lines):
     return len(ends) <= SHOWN_BEFORE or ends[-SHOWN_BEFORE] != ends[-SHOWN_BEFORE - 1]
 
 
+def operations_of(trace):
+    """The operations of a trace by their numbers."""
+    return {at: Operation(it, it["start"], it.get("end", MOST), it["reply"], at) for at, it in enumerate(trace["requests"])}
+
+
 def unexplained_as_a_whole(told):
     return [it for it in told.granules if not told.is_explained(it)]
 
@@ -174,8 +180,13 @@ def disagreements(events):
         if not all(is_told_there(it, events) for it in filter(None, map(ROW.fullmatch, lines))):
             found.append((f"rows of {words}", answer, "the lines of their requests"))
         for granule, its in by_granule(answer[1]).items():
-            if granule in watched.before and not is_right_order(its, watched.before[granule]):
+            if granule not in watched.before:
+                continue
+            if not is_right_order(its, watched.before[granule]):
                 found.append((f"order of {granule:016x} of {words}", answer, watched.before[granule]))
+            bytes_wanted = wanted_lines(its, {it.number: it for it in watched.before[granule][1]})
+            if told_lines(its) != bytes_wanted:
+                found.append((f"bytes of {granule:016x} of {words}", answer, bytes_wanted))
     rows = rows_by_granule(answer[1])
     for granule, lines in watched.stops.items():
         answer = run("explain", json.dumps(watched.traces[granule]))
@@ -183,6 +194,10 @@ def disagreements(events):
             found.append((f"explain of {granule:016x}", answer, lines))
         if are_last_clear(watched.traces[granule], lines) and rows_of(answer[1].splitlines()) != rows.get(granule):
             found.append((f"rows of explain of {granule:016x}", answer, rows.get(granule)))
+        its = answer[1].splitlines()
+        bytes_wanted = wanted_lines(its, operations_of(watched.traces[granule]))
+        if told_lines(its) != bytes_wanted:
+            found.append((f"bytes of explain of {granule:016x}", answer, bytes_wanted))
     told = Told()
     for event in events:
         told.take(event)
