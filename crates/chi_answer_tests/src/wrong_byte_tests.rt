@@ -127,7 +127,15 @@ static CASES: [Case; 10] = [
     },
     Case {
         name: "none_that_wrote",
-        blamed: Row(9, READ, 2, 0x100c, 0, 0, Seen::Data(0x00ff_0000_0000_0000_0000_0000_0000_0000)),
+        blamed: Row(
+            9,
+            READ,
+            2,
+            0x100c,
+            0,
+            0,
+            Seen::Data(0x00ff_0000_0000_0000_0000_0000_0000_0000),
+        ),
         legal: &[Seen::Data(0)],
         order: &[
             Row(7, READ, 3, 0x1008, 0, 0, Seen::Data(0)),

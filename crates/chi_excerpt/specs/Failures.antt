@@ -2,13 +2,13 @@
 use Rattle.std.specs.Prelude.{ℕ, nat_lt, List, ◌++◌, codes, length, if◌then◌else◌}
 use Rattle.std.specs.List.{filter}
 use Rattle.chi_judge.specs.Shown.{last_of}
+use Rattle.chi_judge.specs.declared.reach.Stop.{Stop}
 use Rattle.chi_trace.specs.AtPlaces.{at_places}
 use Rattle.chi_trace.specs.Granules.{is_of}
+use Rattle.chi_trace.specs.declared.operation.Operation.{Operation}
 use Rattle.chi_reading.specs.TraceText.{RecordedValue}
 use Rattle.chi_verdict.specs.declared.first.Blame.{Blame}
 use Rattle.chi_answer.specs.Texts.{blame_text}
-use Rattle.chi_judge.specs.declared.reach.Stop.{Stop}
-use Rattle.chi_trace.specs.declared.operation.Operation.{Operation}
 use Rattle.chi_excerpt.specs.Excerpts.{excerpt_text, order_line}
 use Rattle.chi_excerpt.specs.Writers.{writers_text}
 
