@@ -1,5 +1,5 @@
 -- one line after the other
-use Rattle.std.proofs.Common.{◌++◌, List, None, ℕ, codes}
+use Rattle.std.proofs.Common.{◌++◌, None, codes}
 use Rattle.chi_answer.specs.Stops.{stop_text}
 use Rattle.chi_excerpt.specs.Excerpts.{excerpt_text, order_line}
 use Rattle.chi_excerpt.specs.Writers.{writers_text}
