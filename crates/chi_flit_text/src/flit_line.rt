@@ -1,8 +1,9 @@
 //! Objects that state a flit each, and how one is read.
 
-ghost use Rattle.std.specs.Prelude.{◌≡◌};
+ghost use Rattle.std.specs.Prelude.{◌≡◌, IfSome, Ok};
 ghost use Rattle.serde_json.specs.Find.{get};
 ghost use Rattle.serde_json.specs.View.{members_view, view};
+ghost use Rattle.chi_json.specs.Flat.{flat_data, flat_members};
 ghost use Rattle.chi_json.specs.Members.{member_by};
 ghost use Rattle.chi_flit_text.specs.FlitText.{line_of, object_flit};
 ghost use Rattle.chi_flit_text.specs.Member.{member_name};
@@ -14,7 +15,7 @@ use crate::kind::kind;
 use crate::member::FlitMember;
 use crate::numbers::{Numbers, stated_numbers};
 use chi_flits::Flit;
-use chi_json::{MemberFault, ObjectFault, number, stated, unknown_member};
+use chi_json::{FlatObject, JsonObject, MemberFault, ObjectFault, number, stated, unknown_member};
 use serde_json::{Map, Value};
 
 /// What the members of a flit's object state.
@@ -27,10 +28,11 @@ pub(crate) struct FlitLine {
 }
 
 /// The channel that an object names.
-fn channel(object: &Value) -> Result<Channel, MemberFault<FlitMember>>
-    ensures { result ≡ member_by member_name FlitMember.Channel channel_of (view object.now) }
+fn channel<O: JsonObject>(object: &O) -> Result<Channel, MemberFault<FlitMember>>
+    ensures { result ≡ member_by member_name FlitMember.Channel channel_of (O.data_of object.now) }
 {
-    let name = stated(object, FlitMember::Channel)?.as_str();
+    let value = stated(object, FlitMember::Channel)?;
+    let name = value.as_str();
     name.and_then(Channel::named)
         .ok_or(MemberFault::BadMember(FlitMember::Channel))
 }
@@ -47,8 +49,8 @@ fn validity_text(text: &str) -> Option<bool>
 }
 
 /// Whether the valid of a flit is known. Where it is left out it is.
-pub(crate) fn validity(object: &Value) -> Result<bool, MemberFault<FlitMember>>
-    ensures { result ≡ validity_by (get (member_name FlitMember.Valid) (view object.now)) }
+pub(crate) fn validity<O: JsonObject>(object: &O) -> Result<bool, MemberFault<FlitMember>>
+    ensures { result ≡ validity_by (get (member_name FlitMember.Valid) (O.data_of object.now)) }
 {
     let Some(value) = object.get(FlitMember::Valid.name()) else {
         return Ok(true);
@@ -61,8 +63,8 @@ pub(crate) fn validity(object: &Value) -> Result<bool, MemberFault<FlitMember>>
 
 /// What the members of an object state.
 #[tactic(auto, unfolding(crate::specs::FlitText::line_of))]
-fn flit_line(object: &Value) -> Result<FlitLine, MemberFault<FlitMember>>
-    ensures { result ≡ line_of (view object.now) }
+fn flit_line<O: JsonObject>(object: &O) -> Result<FlitLine, MemberFault<FlitMember>>
+    ensures { result ≡ line_of (O.data_of object.now) }
 {
     let channel = channel(object)?;
     let time = number(object, FlitMember::Time, u64::MAX)?;
@@ -141,4 +143,28 @@ pub fn read_flit(
         time: line.time,
         kind,
     })
+}
+
+/// The flit that an object on the line with this number states, where the object has no fault. Where it has one nothing is said.
+///
+/// ```
+/// let flit = usual_flit(4, &object)?; // {"channel":"RSP","time":70,"tgt":"1","txn":"a3",..}
+/// ```
+#[tactic(auto, unfolding(crate::specs::FlitText::object_flit))]
+pub fn usual_flit(number_of_line: u64, object: &FlatObject<'_>) -> Option<Flit>
+    ensures { IfSome result (λ flit. object_flit number_of_line (flat_data object.now) (flat_members object.now) ≡ Ok flit) }
+{
+    let Ok(line) = flit_line(object) else {
+        return None;
+    };
+    if !line.is_valid || !object.has_only(line.channel.members()) {
+        return None;
+    }
+    match kind(number_of_line, line.numbers) {
+        Ok(kind) => Some(Flit {
+            time: line.time,
+            kind,
+        }),
+        Err(_) => None,
+    }
 }

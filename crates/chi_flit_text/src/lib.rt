@@ -14,6 +14,6 @@ mod numbers;
 mod point_line;
 
 pub use fault::FlitLineFault;
-pub use flit_line::read_flit;
+pub use flit_line::{read_flit, usual_flit};
 pub use member::FlitMember;
-pub use point_line::{names_point, read_point};
+pub use point_line::{names_point, read_point, usual_point};

@@ -1,7 +1,6 @@
 //! What the members of a flit's object state, by its channel. A number of which a digit is not known is `None`.
 
 ghost use Rattle.std.specs.Prelude.{◌≡◌};
-ghost use Rattle.serde_json.specs.View.{view};
 ghost use Rattle.chi_flit_text.specs.Stated.{read_numbers, request_numbers, response_numbers, stated_of, write_numbers};
 
 use crate::channel::Channel;
@@ -10,8 +9,7 @@ use crate::lanes::chunks;
 use crate::member::FlitMember;
 use chi_fields::ADDRESSES;
 use chi_flits::Chunk;
-use chi_json::MemberFault;
-use serde_json::Value;
+use chi_json::{JsonObject, MemberFault};
 
 /// The members of a request.
 #[derive(Clone, Copy)]
@@ -59,8 +57,8 @@ pub(crate) enum Numbers {
 
 /// What the members of a request state.
 #[tactic(auto, unfolding(crate::specs::Stated::request_numbers))]
-fn request_numbers(object: &Value) -> Result<RequestNumbers, MemberFault<FlitMember>>
-    ensures { result ≡ request_numbers (view object.now) }
+fn request_numbers<O: JsonObject>(object: &O) -> Result<RequestNumbers, MemberFault<FlitMember>>
+    ensures { result ≡ request_numbers (O.data_of object.now) }
 {
     Ok(RequestNumbers {
         src: hex_u16(object, FlitMember::Src, 0xffff)?,
@@ -75,8 +73,8 @@ fn request_numbers(object: &Value) -> Result<RequestNumbers, MemberFault<FlitMem
 
 /// What the members of a response state.
 #[tactic(auto, unfolding(crate::specs::Stated::response_numbers))]
-fn response_numbers(object: &Value) -> Result<ResponseNumbers, MemberFault<FlitMember>>
-    ensures { result ≡ response_numbers (view object.now) }
+fn response_numbers<O: JsonObject>(object: &O) -> Result<ResponseNumbers, MemberFault<FlitMember>>
+    ensures { result ≡ response_numbers (O.data_of object.now) }
 {
     Ok(ResponseNumbers {
         tgt: hex_u16(object, FlitMember::Tgt, 0xffff)?,
@@ -89,8 +87,8 @@ fn response_numbers(object: &Value) -> Result<ResponseNumbers, MemberFault<FlitM
 
 /// What the members of data to a requester state.
 #[tactic(auto, unfolding(crate::specs::Stated::read_numbers))]
-fn read_numbers(object: &Value) -> Result<DataNumbers, MemberFault<FlitMember>>
-    ensures { result ≡ read_numbers (view object.now) }
+fn read_numbers<O: JsonObject>(object: &O) -> Result<DataNumbers, MemberFault<FlitMember>>
+    ensures { result ≡ read_numbers (O.data_of object.now) }
 {
     let node = hex_u16(object, FlitMember::Tgt, 0xffff)?;
     let txn = hex_u16(object, FlitMember::Txn, 0xffff)?;
@@ -111,8 +109,8 @@ fn read_numbers(object: &Value) -> Result<DataNumbers, MemberFault<FlitMember>>
 
 /// What the members of data from a requester state.
 #[tactic(auto, unfolding(crate::specs::Stated::write_numbers))]
-fn write_numbers(object: &Value) -> Result<DataNumbers, MemberFault<FlitMember>>
-    ensures { result ≡ write_numbers (view object.now) }
+fn write_numbers<O: JsonObject>(object: &O) -> Result<DataNumbers, MemberFault<FlitMember>>
+    ensures { result ≡ write_numbers (O.data_of object.now) }
 {
     let node = hex_u16(object, FlitMember::Src, 0xffff)?;
     let txn = hex_u16(object, FlitMember::Txn, 0xffff)?;
@@ -137,11 +135,11 @@ fn write_numbers(object: &Value) -> Result<DataNumbers, MemberFault<FlitMember>>
 
 /// What the members of a flit of a channel state, or the first fault of these members.
 #[tactic(auto, unfolding(crate::specs::Stated::stated_of))]
-pub(crate) fn stated_numbers(
+pub(crate) fn stated_numbers<O: JsonObject>(
     channel: Channel,
-    object: &Value,
+    object: &O,
 ) -> Result<Numbers, MemberFault<FlitMember>>
-    ensures { result ≡ stated_of channel (view object.now) }
+    ensures { result ≡ stated_of channel (O.data_of object.now) }
 {
     match channel {
         Channel::Request => Ok(Numbers::Request(request_numbers(object)?)),

@@ -1,7 +1,8 @@
 //! Objects that state a point each, and how one is read.
 
-ghost use Rattle.std.specs.Prelude.{◌≡◌};
+ghost use Rattle.std.specs.Prelude.{◌≡◌, IfSome, Ok};
 ghost use Rattle.serde_json.specs.View.{members_view, view};
+ghost use Rattle.chi_json.specs.Flat.{flat_data, flat_members};
 ghost use Rattle.chi_flit_text.specs.PointText.{names_point, object_point, point_line};
 
 use crate::fault::FlitLineFault;
@@ -9,7 +10,7 @@ use crate::flit_line::validity;
 use crate::hex_member::hex_u16;
 use crate::looked_at::looked_at;
 use crate::member::FlitMember;
-use chi_json::{MemberFault, ObjectFault, number, unknown_member};
+use chi_json::{FlatObject, JsonObject, MemberFault, ObjectFault, number, unknown_member};
 use chi_points::Point;
 use serde_json::{Map, Value};
 
@@ -36,8 +37,8 @@ pub(crate) struct PointLine {
 /// ```
 /// let is_point = names_point(&object); // {"channel":"POINT",..}
 /// ```
-pub fn names_point(object: &Value) -> bool
-    ensures { result ≡ names_point (view object.now) }
+pub fn names_point<O: JsonObject>(object: &O) -> bool
+    ensures { result ≡ names_point (O.data_of object.now) }
 {
     match object.get(FlitMember::Channel.name()) {
         Some(value) => value.as_str() == Some("POINT"),
@@ -47,8 +48,8 @@ pub fn names_point(object: &Value) -> bool
 
 /// What the members of an object state.
 #[tactic(auto, unfolding(crate::specs::PointText::point_line))]
-fn point_line(object: &Value) -> Result<PointLine, MemberFault<FlitMember>>
-    ensures { result ≡ point_line (view object.now) }
+fn point_line<O: JsonObject>(object: &O) -> Result<PointLine, MemberFault<FlitMember>>
+    ensures { result ≡ point_line (O.data_of object.now) }
 {
     let time = number(object, FlitMember::Time, u64::MAX)?;
     let src = hex_u16(object, FlitMember::Src, 0xffff)?;
@@ -91,4 +92,29 @@ pub fn read_point(object: &Value, members: &Map<String, Value>) -> Result<Point,
         src,
         txn,
     })
+}
+
+/// The point that an object states, where the object has no fault. Where it has one nothing is said.
+///
+/// ```
+/// let point = usual_point(&object)?; // {"channel":"POINT","time":17,"src":"03","txn":"04"}
+/// ```
+#[tactic(auto, unfolding(crate::specs::PointText::object_point))]
+pub fn usual_point(object: &FlatObject<'_>) -> Option<Point>
+    ensures { IfSome result (λ point. object_point (flat_data object.now) (flat_members object.now) ≡ Ok point) }
+{
+    let Ok(line) = point_line(object) else {
+        return None;
+    };
+    if !line.is_valid || !object.has_only(&[&POINT]) {
+        return None;
+    }
+    match (line.src, line.txn) {
+        (Some(src), Some(txn)) => Some(Point {
+            time: line.time,
+            src,
+            txn,
+        }),
+        _ => None,
+    }
 }

@@ -13,3 +13,5 @@ mod fault_tests;
 mod request_tests;
 #[cfg(test)]
 mod response_tests;
+#[cfg(test)]
+mod usual_tests;

@@ -1,3 +1,5 @@
+mod FlatLemmas
+mod FlatReading
 pub mod ObjectLemmas
 mod ShownTexts
 mod UnknownNames

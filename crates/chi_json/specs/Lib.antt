@@ -1,4 +1,6 @@
+pub mod Datum
 pub mod Faults
+pub mod Flat
 pub mod Members
 pub mod Object
 pub mod Shown

@@ -1,8 +1,10 @@
-//! The walk over a JSON text that scripts, traces and events share, and objects that are made: the text's value, and members of
-//! an object.
+//! The walk over a JSON text that scripts, traces and events share, and objects that are made: the text's value, members of an
+//! object, and objects that are read with no allocation.
 #![tactic(auto)]
 
+mod datum;
 mod fault;
+mod flat;
 mod input;
 mod member;
 mod object;
@@ -11,7 +13,9 @@ mod text;
 mod unknown;
 mod words;
 
+pub use datum::{Datum, JsonObject};
 pub use fault::ObjectFault;
+pub use flat::{FlatObject, Scratch, flat_object};
 pub use input::{InputFault, read_input};
 pub use member::{MemberFault, Named, number, stated};
 pub use object::{put_bytes, put_number, put_request, put_text, put_words};

@@ -4,10 +4,10 @@ ghost use Rattle.std.specs.Prelude.{◌≡◌, ◌≤◌, IfOk};
 ghost use Rattle.std.specs.Option.{ok_or};
 ghost use Rattle.std.specs.Result.{result_map_both};
 ghost use Rattle.serde_json.specs.Find.{get};
-ghost use Rattle.serde_json.specs.View.{view};
+ghost use Rattle.chi_json.specs.Datum.{datum_data};
 ghost use Rattle.chi_json.specs.Members.{number_of};
 
-use serde_json::Value;
+use crate::datum::{Datum, JsonObject};
 use thiserror::Error;
 
 /// A member that objects of some kind have.
@@ -60,8 +60,8 @@ pub enum MemberFault<M> {
 /// ```
 /// let list = stated(&object, Member::Requests)?.as_array();
 /// ```
-pub fn stated<M: Named>(object: &Value, member: M) -> Result<&Value, MemberFault<M>>
-    ensures { result_map_both (λ value. view value.now) (λ fault. fault) result ≡ ok_or (get (M.name_of member) (view object.now)) (MemberFault.Missing member) }
+pub fn stated<O: JsonObject, M: Named>(object: &O, member: M) -> Result<Datum<'_>, MemberFault<M>>
+    ensures { result_map_both datum_data (λ fault. fault) result ≡ ok_or (get (M.name_of member) (O.data_of object.now)) (MemberFault.Missing member) }
 {
     object
         .get(member.name())
@@ -77,8 +77,12 @@ pub fn stated<M: Named>(object: &Value, member: M) -> Result<&Value, MemberFault
 /// let start = number(&object, Member::Start, u64::MAX)?;
 /// ```
 #[tactic(auto, unfolding(crate::specs::Members::number_of))]
-pub fn number<M: Named>(object: &Value, member: M, top: u64) -> Result<u64, MemberFault<M>>
-    ensures value { result ≡ number_of M.name_of member top (view object.now) }
+pub fn number<O: JsonObject, M: Named>(
+    object: &O,
+    member: M,
+    top: u64,
+) -> Result<u64, MemberFault<M>>
+    ensures value { result ≡ number_of M.name_of member top (O.data_of object.now) }
     ensures small { IfOk result (λ n. n ≤ top) }
 {
     match stated(object, member)?.as_u64() {

@@ -3,9 +3,11 @@
 ghost use Rattle.std.specs.Prelude.{◌≡◌, IfOk};
 ghost use Rattle.std.specs.Option.{option_map};
 ghost use Rattle.serde_json.specs.View.{view};
+ghost use Rattle.chi_json.specs.Datum.{datum_data};
 ghost use Rattle.chi_json.specs.Members.{member_by};
 ghost use Rattle.chi_json.specs.Values.{hex_bytes, json_value};
 
+use crate::datum::{Datum, JsonObject};
 use crate::member::{MemberFault, Named, stated};
 use hex::FromHex;
 use serde_json::Value;
@@ -33,8 +35,8 @@ pub fn json(alloc: Global, text: &[u8]) -> Result<Option<Value>, AllocError>
 /// ```
 /// let word: [u8; 8] = hex_bytes(&value)?;
 /// ```
-pub fn hex_bytes<const COUNT: usize>(value: &Value) -> Option<[u8; COUNT]>
-    ensures { result ≡ hex_bytes COUNT (view value.now) }
+pub fn hex_bytes<const COUNT: usize>(value: &Datum<'_>) -> Option<[u8; COUNT]>
+    ensures { result ≡ hex_bytes COUNT (datum_data value.now) }
 {
     let text = value.as_str()?;
     <[u8; COUNT] as FromHex>::from_hex(text).ok()
@@ -47,12 +49,12 @@ pub fn hex_bytes<const COUNT: usize>(value: &Value) -> Option<[u8; COUNT]>
 /// ```
 /// let lanes: [u8; 16] = stated_bytes(&object, Member::Lanes)?;
 /// ```
-pub fn stated_bytes<M: Named, const COUNT: usize>(
-    object: &Value,
+pub fn stated_bytes<O: JsonObject, M: Named, const COUNT: usize>(
+    object: &O,
     member: M,
 ) -> Result<[u8; COUNT], MemberFault<M>>
-    ensures { result ≡ member_by M.name_of member (hex_bytes COUNT) (view object.now) }
+    ensures { result ≡ member_by M.name_of member (hex_bytes COUNT) (O.data_of object.now) }
 {
     let value = stated(object, member)?;
-    hex_bytes(value).ok_or(MemberFault::BadMember(member))
+    hex_bytes(&value).ok_or(MemberFault::BadMember(member))
 }

@@ -24,7 +24,7 @@ fn is_among<M: Named>(name: &str, known: &[M]) -> bool
 
 /// Whether an object that may have the members of some lists may have one of this name.
 #[tactic(auto, unfolding(crate::specs::Unknown::is_known))]
-fn is_known<M: Named>(name: &str, known: &[&[M]]) -> bool
+pub(crate) fn is_known<M: Named>(name: &str, known: &[&[M]]) -> bool
     ensures { result ≡ is_known M.name_of (map (λ members. members.now) known.now) name.now }
 {
     is_ignored(name) || known.iter().any(|members| is_among(name, members))

@@ -1,5 +1,6 @@
 mod Elements
 mod Joined
+pub mod LineValues
 mod ObjectText
 mod OneMore
 pub mod RegionText

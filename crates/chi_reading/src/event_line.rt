@@ -12,27 +12,29 @@ use crate::line_members::told;
 use crate::mark::line_value;
 use crate::member::Member;
 use crate::other_kind::{is_of_flit, is_of_trace, unread_line};
+use crate::usual_line::usual_event;
 use chi_events::Event;
-use chi_json::{MemberFault, ObjectFault, number, stated, unknown_member};
+use chi_json::{JsonObject, MemberFault, ObjectFault, Scratch, number, stated, unknown_member};
 use serde_json::{Map, Value};
 use std::alloc::Global;
 
 /// The kind that a line names.
-fn kind_told(object: &Value) -> Result<LineKind, MemberFault<Member>>
-    ensures { result ≡ member_by member_name Member.Event kind_of (view object.now) }
+fn kind_told<O: JsonObject>(object: &O) -> Result<LineKind, MemberFault<Member>>
+    ensures { result ≡ member_by member_name Member.Event kind_of (O.data_of object.now) }
 {
-    let name = stated(object, Member::Event)?.as_str();
+    let value = stated(object, Member::Event)?;
+    let name = value.as_str();
     name.and_then(LineKind::named)
         .ok_or(MemberFault::BadMember(Member::Event))
 }
 
 /// The kind that an object on the line with this number names, and the event that it tells, or the first fault of its members.
 #[tactic(auto, unfolding(crate::specs::EventText::stated_event))]
-fn stated_event(
+pub(crate) fn stated_event<O: JsonObject>(
     number_of_line: u64,
-    object: &Value,
+    object: &O,
 ) -> Result<(LineKind, Event), MemberFault<Member>>
-    ensures { result ≡ stated_event number_of_line (view object.now) }
+    ensures { result ≡ stated_event number_of_line (O.data_of object.now) }
 {
     let kind = kind_told(object)?;
     let time = number(object, Member::Time, u64::MAX)?;
@@ -56,6 +58,23 @@ fn object_event(
     match unknown_member(members, kind.members()) {
         Some(name) => Err(LineFault::Object(ObjectFault::UnknownMember(name))),
         None => Ok(event),
+    }
+}
+
+/// The event that a line tells, or the line's first fault, for a line of any kind.
+#[tactic(auto, unfolding(crate::specs::EventText::event_text))]
+fn any_event(alloc: Global, number_of_line: u64, line: &[u8]) -> Result<Event, LineFault>
+    ensures ok { IfOk result (λ event. event_text number_of_line line.now ≡ Ok event) }
+    ensures fault { IfErr result (λ fault. fault ≢ LineFault.Memory → event_text number_of_line line.now ≡ Err fault) }
+{
+    let Some(object) = line_value(alloc, number_of_line, line)? else {
+        return Err(unread_line(number_of_line, line));
+    };
+    match object.as_object() {
+        Some(_) if is_of_trace(&object) => Err(LineFault::OfTrace),
+        Some(_) if is_of_flit(&object) => Err(LineFault::OfFlits),
+        Some(members) => object_event(number_of_line, &object, members),
+        None => Err(LineFault::Object(ObjectFault::NotObject)),
     }
 }
 
@@ -85,21 +104,24 @@ fn object_event(
 /// The faults' order is that of `event`, `time`, the kind's members as they are listed here, and then members that it does
 /// not have. `Memory` is answered where a growth is refused before a fault is met.
 ///
+/// A usual line, of at most 15 members and of no list, object or number of another kind, takes no memory but that of `scratch`, which
+/// is kept from line to line.
+///
 /// ```
-/// let event = read_event(alloc, 1, b"{\"time\":70,\"event\":\"dropped\",\"id\":3}")?;
+/// let mut scratch = Scratch::new(alloc);
+/// let event = read_event(alloc, &mut scratch, 1, b"{\"time\":70,\"event\":\"dropped\",\"id\":3}")?;
 /// ```
-#[tactic(auto, unfolding(crate::specs::EventText::event_text))]
-pub fn read_event(alloc: Global, number_of_line: u64, line: &[u8]) -> Result<Event, LineFault>
+pub fn read_event(
+    alloc: Global,
+    scratch: &mut Scratch,
+    number_of_line: u64,
+    line: &[u8],
+) -> Result<Event, LineFault>
     ensures ok { IfOk result (λ event. event_text number_of_line line.now ≡ Ok event) }
     ensures fault { IfErr result (λ fault. fault ≢ LineFault.Memory → event_text number_of_line line.now ≡ Err fault) }
 {
-    let Some(object) = line_value(alloc, number_of_line, line)? else {
-        return Err(unread_line(number_of_line, line));
-    };
-    match object.as_object() {
-        Some(_) if is_of_trace(&object) => Err(LineFault::OfTrace),
-        Some(_) if is_of_flit(&object) => Err(LineFault::OfFlits),
-        Some(members) => object_event(number_of_line, &object, members),
-        None => Err(LineFault::Object(ObjectFault::NotObject)),
+    match usual_event(scratch, number_of_line, line) {
+        Some(event) => Ok(event),
+        None => any_event(alloc, number_of_line, line),
     }
 }

@@ -1,22 +1,20 @@
 //! The requests of a trace, as its text has them.
 
 ghost use Rattle.std.specs.Prelude.{◌≡◌};
-ghost use Rattle.serde_json.specs.View.{view};
 ghost use Rattle.chi_reading.specs.Requests.{fields_of, stated_request};
 
 use crate::member::Member;
-use chi_json::{MemberFault, number as number_in, stated_bytes};
+use chi_json::{JsonObject, MemberFault, number as number_in, stated_bytes};
 use chi_trace::RequestFields;
-use serde_json::Value;
 
 /// The fields of a request that an object states, with no data: its byte enables and its lanes are 0. `number` says which part
 /// of the input the object is. The fields are read in the order `src`, `txn`, `op`, `size`, `addr`, `endian`.
 #[tactic(auto, unfolding(crate::specs::Requests::fields_of))]
-pub(crate) fn request_fields(
+pub(crate) fn request_fields<O: JsonObject>(
     number: u64,
-    object: &Value,
+    object: &O,
 ) -> Result<RequestFields, MemberFault<Member>>
-    ensures { result ≡ fields_of number (view object.now) }
+    ensures { result ≡ fields_of number (O.data_of object.now) }
 {
     let src = number_in(object, Member::Src, 65535)?;
     let txn = number_in(object, Member::Txn, 65535)?;
@@ -40,11 +38,11 @@ pub(crate) fn request_fields(
 /// The request that an object states, with its data, or the first fault of its members: those of `request_fields`, and
 /// then `be` and `lanes`.
 #[tactic(auto, unfolding(crate::specs::Requests::stated_request))]
-pub(crate) fn request_with_data(
+pub(crate) fn request_with_data<O: JsonObject>(
     number: u64,
-    object: &Value,
+    object: &O,
 ) -> Result<RequestFields, MemberFault<Member>>
-    ensures { result ≡ stated_request number (view object.now) }
+    ensures { result ≡ stated_request number (O.data_of object.now) }
 {
     let fields = request_fields(number, object)?;
     let be = number_in(object, Member::Be, 65535)?;

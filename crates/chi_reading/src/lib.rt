@@ -15,9 +15,11 @@ mod refused;
 mod requests;
 mod stated;
 mod told;
+mod usual_line;
 
 pub use event_line::read_event;
 pub use fault::{LineFault, MOST_OPERATIONS, RequestFault, TraceFault};
 pub use mark::line_value;
 pub use member::Member;
 pub use recorded::{Recorded, read_trace};
+pub use usual_line::usual_event;

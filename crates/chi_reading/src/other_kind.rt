@@ -1,33 +1,31 @@
 //! Inputs of another kind: a trace or flits where events are wanted, events or flits where a trace is, and what gzip compressed.
 
 ghost use Rattle.std.specs.Prelude.{◌≡◌, ◌==◌, ◌≤◌, find, length, not, position, IfOk, IfSome};
-ghost use Rattle.serde_json.specs.View.{view};
 ghost use Rattle.chi_reading.specs.OtherKind.{begins_object, begins_with, first_line, is_blank, is_compressed, is_of_event, is_of_flit, is_of_trace, unread_first, unread_line, unread_text};
 
 use crate::fault::{LineFault, TraceFault};
 use crate::mark::{text_value, without_mark};
 use crate::member::Member;
-use chi_json::ObjectFault;
-use serde_json::Value;
+use chi_json::{JsonObject, ObjectFault};
 use std::alloc::{AllocError, Global};
 
 /// Whether an object has requests, as a trace does, and names no event.
-pub(crate) fn is_of_trace(object: &Value) -> bool
-    ensures { result ≡ is_of_trace (view object.now) }
+pub(crate) fn is_of_trace<O: JsonObject>(object: &O) -> bool
+    ensures { result ≡ is_of_trace (O.data_of object.now) }
 {
     object.get(Member::Requests.name()).is_some() && object.get(Member::Event.name()).is_none()
 }
 
 /// Whether an object names an event, and has no requests.
-pub(crate) fn is_of_event(object: &Value) -> bool
-    ensures { result ≡ is_of_event (view object.now) }
+pub(crate) fn is_of_event<O: JsonObject>(object: &O) -> bool
+    ensures { result ≡ is_of_event (O.data_of object.now) }
 {
     object.get(Member::Event.name()).is_some() && object.get(Member::Requests.name()).is_none()
 }
 
 /// Whether an object names the channel of a flit, and has neither an event nor requests.
-pub(crate) fn is_of_flit(object: &Value) -> bool
-    ensures { result ≡ is_of_flit (view object.now) }
+pub(crate) fn is_of_flit<O: JsonObject>(object: &O) -> bool
+    ensures { result ≡ is_of_flit (O.data_of object.now) }
 {
     object.get("channel").is_some()
         && object.get(Member::Event.name()).is_none()

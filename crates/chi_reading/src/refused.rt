@@ -1,7 +1,7 @@
 //! Why a home refused a request, as a trace tells it.
 
 ghost use Rattle.std.specs.Prelude.{◌≡◌};
-ghost use Rattle.serde_json.specs.View.{view};
+ghost use Rattle.chi_json.specs.Datum.{datum_data};
 ghost use Rattle.chi_reading.specs.Refused.{is_refused_so, refusal_of, refusal_with};
 ghost use Rattle.chi_trace.specs.RequestFields.{access_of};
 ghost use Rattle.chi_reading.specs.Requests.{refused_of};
@@ -9,8 +9,8 @@ ghost use Rattle.chi_reading.specs.Requests.{refused_of};
 use crate::fault::RequestFault;
 use crate::stated::Stated;
 use chi_fields::{Refusal, Region, refusal_name};
+use chi_json::Datum;
 use chi_trace::{RequestFields, access};
-use serde_json::Value;
 
 /// The first of some reasons that has this name.
 fn with_name(name: &str, refusals: &[Refusal]) -> Option<Refusal>
@@ -24,8 +24,8 @@ fn with_name(name: &str, refusals: &[Refusal]) -> Option<Refusal>
 
 /// Why a home refused a request: the reason of a name, as `Misaligned`. `None` is answered where the value is none of the six
 /// names.
-pub(crate) fn refusal_named(value: &Value) -> Option<Refusal>
-    ensures { result ≡ refusal_of (view value.now) }
+pub(crate) fn refusal_named(value: &Datum<'_>) -> Option<Refusal>
+    ensures { result ≡ refusal_of (datum_data value.now) }
 {
     let name = value.as_str()?;
     with_name(name, &Refusal::ALL)

@@ -3,6 +3,7 @@
 ghost use Rattle.std.specs.Prelude.{◌≡◌, map};
 ghost use Rattle.serde_json.specs.Find.{get};
 ghost use Rattle.serde_json.specs.View.{view};
+ghost use Rattle.chi_json.specs.Datum.{datum_data};
 ghost use Rattle.chi_reading.specs.Member.{member_name};
 ghost use Rattle.chi_reading.specs.Requests.{answer_of, end_of, members_of, outcome_by, reply_by, seen_of, stated_at, stated_of};
 
@@ -11,7 +12,7 @@ use crate::fields::request_with_data;
 use crate::member::{Member, REQUEST};
 use crate::refused::refusal_named;
 use chi_fields::Refusal;
-use chi_json::{MemberFault, ObjectFault, hex_bytes, number, unknown_member};
+use chi_json::{Datum, JsonObject, MemberFault, ObjectFault, hex_bytes, number, unknown_member};
 use chi_lanes::Reply;
 use chi_trace::RequestFields;
 use serde_json::Value;
@@ -49,8 +50,8 @@ pub(crate) struct Stated {
 
 /// When the request ended.
 #[tactic(auto, unfolding(crate::specs::Requests::end_of))]
-fn end(object: &Value) -> Result<u64, MemberFault<Member>>
-    ensures { result ≡ end_of (view object.now) }
+fn end<O: JsonObject>(object: &O) -> Result<u64, MemberFault<Member>>
+    ensures { result ≡ end_of (O.data_of object.now) }
 {
     if object.get(Member::End.name()).is_none() {
         return Ok(u64::MAX);
@@ -59,8 +60,8 @@ fn end(object: &Value) -> Result<u64, MemberFault<Member>>
 }
 
 /// What was answered: `comp`, or the data packet as 32 hex digits, lane 0 first.
-fn answer(value: &Value) -> Option<Reply>
-    ensures { result ≡ answer_of (view value.now) }
+fn answer(value: &Datum<'_>) -> Option<Reply>
+    ensures { result ≡ answer_of (datum_data value.now) }
 {
     if value.as_str()? == "comp" {
         return Some(Reply::Comp);
@@ -71,8 +72,8 @@ fn answer(value: &Value) -> Option<Reply>
 
 /// What was answered, and `None` in it where that was not seen: `comp`, a data packet as 32 hex digits, or `null`. `None` is
 /// answered where the value is none of these.
-pub(crate) fn seen_reply(value: &Value) -> Option<Option<Reply>>
-    ensures { result ≡ seen_of (view value.now) }
+pub(crate) fn seen_reply(value: &Datum<'_>) -> Option<Option<Reply>>
+    ensures { result ≡ seen_of (datum_data value.now) }
 {
     if value.is_null() {
         return Some(None);
@@ -82,8 +83,8 @@ pub(crate) fn seen_reply(value: &Value) -> Option<Option<Reply>>
 }
 
 /// What was answered, where it was seen: the member `reply`, which may be `null`, and may be left out where the end is.
-fn reply(object: &Value) -> Result<Option<Reply>, MemberFault<Member>>
-    ensures { result ≡ reply_by (get (member_name Member.Reply) (view object.now)) (get (member_name Member.End) (view object.now)) }
+fn reply<O: JsonObject>(object: &O) -> Result<Option<Reply>, MemberFault<Member>>
+    ensures { result ≡ reply_by (get (member_name Member.Reply) (O.data_of object.now)) (get (member_name Member.End) (O.data_of object.now)) }
 {
     let Some(value) = object.get(Member::Reply.name()) else {
         return match object.get(Member::End.name()) {
@@ -91,18 +92,18 @@ fn reply(object: &Value) -> Result<Option<Reply>, MemberFault<Member>>
             None => Ok(None),
         };
     };
-    seen_reply(value).ok_or(MemberFault::BadMember(Member::Reply))
+    seen_reply(&value).ok_or(MemberFault::BadMember(Member::Reply))
 }
 
 /// What came of the request: the member `refused` says why it was refused, and where it is left out the request was accepted.
-fn outcome_stated(object: &Value) -> Result<Outcome, MemberFault<Member>>
-    ensures { result ≡ outcome_by (get (member_name Member.Refused) (view object.now)) (get (member_name Member.Reply) (view object.now)) (get (member_name Member.End) (view object.now)) }
+fn outcome_stated<O: JsonObject>(object: &O) -> Result<Outcome, MemberFault<Member>>
+    ensures { result ≡ outcome_by (get (member_name Member.Refused) (O.data_of object.now)) (get (member_name Member.Reply) (O.data_of object.now)) (get (member_name Member.End) (O.data_of object.now)) }
 {
     let Some(value) = object.get(Member::Refused.name()) else {
         let seen = reply(object)?;
         return Ok(Outcome::Accepted(seen));
     };
-    match refusal_named(value) {
+    match refusal_named(&value) {
         Some(reason) => Ok(Outcome::Refused(reason)),
         None => Err(MemberFault::BadMember(Member::Refused)),
     }
@@ -110,8 +111,8 @@ fn outcome_stated(object: &Value) -> Result<Outcome, MemberFault<Member>>
 
 /// What the request at a place states, or the first fault of its members.
 #[tactic(auto, unfolding(crate::specs::Requests::stated_of))]
-fn request_stated(place: usize, object: &Value) -> Result<Stated, MemberFault<Member>>
-    ensures { result ≡ stated_of place (view object.now) }
+fn request_stated<O: JsonObject>(place: usize, object: &O) -> Result<Stated, MemberFault<Member>>
+    ensures { result ≡ stated_of place (O.data_of object.now) }
 {
     let fields = request_with_data(place as u64, object)?;
     let start = number(object, Member::Start, u64::MAX)?;

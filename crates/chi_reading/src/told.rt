@@ -2,13 +2,14 @@
 
 ghost use Rattle.std.specs.Prelude.{◌≡◌, ◌≢◌, ◌≤◌, ◌^◌, ℕ, List, [], None, Some, Ok, Err, IfOk, IfErr};
 ghost use Rattle.serde_json.specs.View.{items_view, view};
+ghost use Rattle.chi_json.specs.Datum.{datum_data};
 ghost use Rattle.chi_reading.specs.Told.{region_words, start_of, stated_list, told_from, told_of, word_of};
 ghost use Rattle.chi_trace.specs.declared.words.GranuleWord.{GranuleWord};
 ghost use Rattle.chi_trace.specs.Words.{find_word};
 
 use crate::member::Member;
 use chi_fields::ADDRESSES;
-use chi_json::{MemberFault, hex_bytes};
+use chi_json::{Datum, MemberFault, hex_bytes};
 use chi_trace::{GranuleWord, GranuleWords};
 use serde_json::Value;
 use std::alloc::{AllocError, Global};
@@ -33,8 +34,8 @@ pub(crate) fn region_words(
 }
 
 /// An address at which a granule starts: a multiple of 8 below 2^52. `None` is answered where the value is none.
-pub(crate) fn granule_start(value: &Value) -> Option<u64>
-    ensures { result ≡ start_of (view value.now) }
+pub(crate) fn granule_start(value: &Datum<'_>) -> Option<u64>
+    ensures { result ≡ start_of (datum_data value.now) }
 {
     let addr = value.as_u64()?;
     if addr % 8 != 0 || addr >= ADDRESSES {
@@ -45,8 +46,8 @@ pub(crate) fn granule_start(value: &Value) -> Option<u64>
 
 /// The word of a granule: a text of 16 hex digits, which are its eight bytes in address order. `None` is answered where the
 /// value is none.
-pub(crate) fn granule_word(value: &Value) -> Option<u64>
-    ensures { result ≡ word_of (view value.now) }
+pub(crate) fn granule_word(value: &Datum<'_>) -> Option<u64>
+    ensures { result ≡ word_of (datum_data value.now) }
 {
     let bytes = hex_bytes(value)?;
     Some(u64::from_le_bytes(bytes))
@@ -56,8 +57,8 @@ pub(crate) fn granule_word(value: &Value) -> Option<u64>
 fn word_told(value: &Value) -> Option<GranuleWord>
     ensures { result ≡ told_of (view value.now) }
 {
-    let addr = granule_start(value.get("addr")?)?;
-    let word = granule_word(value.get("bytes")?)?;
+    let addr = granule_start(&Datum::Value(value.get("addr")?))?;
+    let word = granule_word(&Datum::Value(value.get("bytes")?))?;
     Some(GranuleWord {
         granule: addr / 8,
         word,

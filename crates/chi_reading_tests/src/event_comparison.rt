@@ -1,7 +1,7 @@
 //! What a line tells, and its fault, beside what is wanted.
 
-use chi_events::{EventKind, WordTold};
-use chi_json::{ObjectFault, ShownText, ShownValue};
+use chi_events::{Event, EventKind, WordTold};
+use chi_json::{ObjectFault, Scratch, ShownText, ShownValue};
 use chi_reading::{LineFault, Member, read_event};
 use chi_trace::RequestFields;
 use std::process::Abort;
@@ -57,9 +57,15 @@ fn same_kind(kind: &EventKind, want: &EventKind) -> bool {
     }
 }
 
+/// What the line with this number tells, or its fault.
+pub(crate) fn read<R: AllocGlobal>(rt: &R, number: u64, line: &[u8]) -> Result<Event, LineFault> {
+    let mut scratch = Scratch::new(rt.alloc());
+    read_event(rt.alloc(), &mut scratch, number, line)
+}
+
 /// Compares what line 4 tells, at time 70.
 pub(crate) fn assert_tells<R: AllocGlobal + Abort>(rt: &R, line: &str, want: &EventKind) {
-    let is_told = match read_event(rt.alloc(), 4, line.as_bytes()) {
+    let is_told = match read(rt, 4, line.as_bytes()) {
         Ok(event) => event.time == 70 && same_kind(&event.kind, want),
         Err(_) => false,
     };
@@ -68,7 +74,7 @@ pub(crate) fn assert_tells<R: AllocGlobal + Abort>(rt: &R, line: &str, want: &Ev
 
 /// Compares the fault of line 4, which is one of its object.
 pub(crate) fn assert_fault<R: AllocGlobal + Abort>(rt: &R, line: &str, want: ObjectFault<Member>) {
-    let fault = read_event(rt.alloc(), 4, line.as_bytes()).err();
+    let fault = read(rt, 4, line.as_bytes()).err();
     assert_eq!(*rt; fault, Some(LineFault::Object(want)), "{line}");
 }
 

@@ -1,9 +1,9 @@
 //! The faults of a line, and their texts, and members that its kind of event does not have.
 
 use crate::comparison::assert_same;
-use crate::event_comparison::{assert_fault, shown_text};
+use crate::event_comparison::{assert_fault, read, shown_text};
 use chi_json::{ObjectFault, ShownText, ShownValue};
-use chi_reading::{Member, read_event};
+use chi_reading::Member;
 use std::process::Abort;
 
 // Compares the text of a fault.
@@ -82,7 +82,7 @@ fn assert_shown<R: AllocGlobal + Abort>(rt: &R, value: &str, shown: &str) {
     let wanted = format!(in rt.alloc();
         "member id is {shown}, and not a whole number below 2^64"
     ).expect(rt, "memory");
-    match read_event(rt.alloc(), 4, line.as_bytes()) {
+    match read(rt, 4, line.as_bytes()) {
         Ok(_) => panic!(*rt; "{value}"),
         Err(fault) => {
             let found = format!(in rt.alloc(); "{fault}").expect(rt, "memory");

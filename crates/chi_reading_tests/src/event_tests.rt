@@ -1,11 +1,10 @@
 //! Each kind of event, and members that are ignored.
 
 use crate::comparison::assert_same;
-use crate::event_comparison::assert_tells;
+use crate::event_comparison::{assert_tells, read};
 use chi_events::{Completion, EventKind, Packet, Requested, WordTold};
 use chi_fields::Refusal;
 use chi_lanes::Reply;
-use chi_reading::read_event;
 use chi_trace::RequestFields;
 
 const WORD: WordTold = WordTold {
@@ -201,7 +200,7 @@ fn events_of_each_kind(rt: HostRuntime) {
 #[test]
 fn greatest_time(rt: HostRuntime) {
     let line = b"{\"time\":18446744073709551615,\"event\":\"dropped\",\"id\":3}\r\n";
-    match read_event(rt.alloc(), 1, line) {
+    match read(&rt, 1, line) {
         Ok(event) => assert_same(&rt, event.time, 18446744073709551615),
         Err(_) => panic!(rt; "no event"),
     }

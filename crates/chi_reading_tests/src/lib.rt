@@ -23,3 +23,5 @@ mod request_fault_tests;
 mod request_tests;
 #[cfg(test)]
 mod texts;
+#[cfg(test)]
+mod usual_event_tests;

@@ -1,17 +1,17 @@
 //! Tests of inputs of another kind: a trace or flits where events are wanted, and events or flits where a trace is.
 
 use crate::comparison::assert_same;
-use crate::event_comparison::shown_text;
+use crate::event_comparison::{read, shown_text};
 use crate::texts::assert_fault;
 use chi_json::ObjectFault;
-use chi_reading::{LineFault, Member, read_event};
+use chi_reading::{LineFault, Member};
 use std::process::Abort;
 
 // Compares the fault of line 1, and that of line 2.
 fn assert_line<R: AllocGlobal + Abort>(rt: &R, line: &str, first: LineFault, later: LineFault) {
-    let found = read_event(rt.alloc(), 1, line.as_bytes()).err();
+    let found = read(rt, 1, line.as_bytes()).err();
     assert_same(rt, (line, 1, found), (line, 1, Some(first)));
-    let found = read_event(rt.alloc(), 2, line.as_bytes()).err();
+    let found = read(rt, 2, line.as_bytes()).err();
     assert_same(rt, (line, 2, found), (line, 2, Some(later)));
 }
 

@@ -2,6 +2,7 @@
 
 mod comparison;
 mod exchange_tests;
+mod flat_tests;
 mod image_tests;
 mod input_tests;
 mod member_tests;

@@ -11,3 +11,4 @@ pub mod RefusedLater
 pub mod SavedLines
 pub mod Told
 pub mod ToldTexts
+pub mod UsualStated

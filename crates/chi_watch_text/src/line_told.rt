@@ -14,6 +14,7 @@ use crate::pointed_told::pointed_among;
 use crate::stated::Stated;
 use chi_events::{Event, EventKind};
 use chi_flits::{Flit, FlitFault};
+use chi_json::Scratch;
 use chi_points::PointedPort;
 use chi_reading::{LineFault, read_event};
 use std::alloc::{AllocError, Global};
@@ -36,11 +37,16 @@ pub(crate) fn is_of_request(kind: &EventKind) -> bool
 }
 
 /// The event that the line with this number is.
-pub(crate) fn event_told(alloc: Global, line: &[u8], number: u64) -> Result<Event, LinesFault>
+pub(crate) fn event_told(
+    alloc: Global,
+    scratch: &mut Scratch,
+    line: &[u8],
+    number: u64,
+) -> Result<Event, LinesFault>
     ensures told { IfOk result (λ event. event_text number line.now ≡ Ok event) }
     ensures fault { IfErr result (IsLineFault (event_told nothing_seen (event_text number line.now)) number) }
 {
-    match read_event(alloc, number, line) {
+    match read_event(alloc, scratch, number, line) {
         Ok(event) => Ok(event),
         Err(LineFault::Memory) => Err(LinesFault::Memory),
         Err(fault) => Err(LinesFault::Line {
@@ -94,6 +100,7 @@ fn events_of_other(
 /// The events of a line among flits that states none.
 fn other_told(
     alloc: Global,
+    scratch: &mut Scratch,
     port: &PointedPort,
     line: &[u8],
     number: u64,
@@ -101,7 +108,7 @@ fn other_told(
     ensures told { IfOk result (λ events. TellsBy (λ seen. other_told seen (event_text number line.now)) port.now events.items port.now) }
     ensures fault { IfErr result (RefusesBy (λ seen. other_told seen (event_text number line.now)) port.now number) }
 {
-    let event = event_told(alloc, line, number)?;
+    let event = event_told(alloc, scratch, line, number)?;
     if is_of_request(&event.kind) {
         return Err(LinesFault::Line {
             number,
@@ -135,6 +142,7 @@ fn flit_told(
 /// The events of a line among flits.
 fn told_among(
     alloc: Global,
+    scratch: &mut Scratch,
     port: &mut PointedPort,
     line: &[u8],
     number: u64,
@@ -143,8 +151,8 @@ fn told_among(
     ensures fault { IfErr result (RefusesBy (λ seen. told_among seen number line.now (stated_in number line.now)) port.old number) }
     ensures failed { IfErr result (λ fault. fault ≢ LinesFault.Memory → port.new ≡ port.old) }
 {
-    match stated_in(alloc, line, number)? {
-        None => other_told(alloc, port, line, number),
+    match stated_in(alloc, scratch, line, number)? {
+        None => other_told(alloc, scratch, port, line, number),
         Some(Ok(Stated::Flit(flit))) => flit_told(alloc, port, &flit, number),
         Some(Ok(Stated::Point(_))) => Err(LinesFault::Line {
             number,
@@ -160,6 +168,7 @@ fn told_among(
 /// The event of a line that is one. The port sees nothing.
 fn told_alone(
     alloc: Global,
+    scratch: &mut Scratch,
     port: &PointedPort,
     line: &[u8],
     number: u64,
@@ -167,7 +176,7 @@ fn told_alone(
     ensures told { IfOk result (λ events. TellsBy (λ seen. event_told seen (event_text number line.now)) port.now events.items port.now) }
     ensures fault { IfErr result (RefusesBy (λ seen. event_told seen (event_text number line.now)) port.now number) }
 {
-    let event = event_told(alloc, line, number)?;
+    let event = event_told(alloc, scratch, line, number)?;
     Ok(alone(alloc, event)?)
 }
 
@@ -175,6 +184,7 @@ fn told_alone(
 #[tactic(auto, unfolding(crate::specs::LineTold::line_told))]
 pub(crate) fn line_told(
     alloc: Global,
+    scratch: &mut Scratch,
     format: LineFormat,
     port: &mut PointedPort,
     line: &[u8],
@@ -185,8 +195,8 @@ pub(crate) fn line_told(
     ensures failed { IfErr result (λ fault. fault ≢ LinesFault.Memory → port.new ≡ port.old) }
 {
     match format {
-        LineFormat::Events => told_alone(alloc, port, line, number),
-        LineFormat::Flits { errors: _ } => told_among(alloc, port, line, number),
-        LineFormat::PointedFlits { errors: _ } => pointed_among(alloc, port, line, number),
+        LineFormat::Events => told_alone(alloc, scratch, port, line, number),
+        LineFormat::Flits { errors: _ } => told_among(alloc, scratch, port, line, number),
+        LineFormat::PointedFlits { errors: _ } => pointed_among(alloc, scratch, port, line, number),
     }
 }

@@ -12,6 +12,7 @@ use crate::line_told::{event_told, is_early, is_of_request};
 use crate::stated::Stated;
 use chi_events::Event;
 use chi_flits::Flit;
+use chi_json::Scratch;
 use chi_points::{Point, PointFault, PointedPort};
 use std::alloc::Global;
 
@@ -106,6 +107,7 @@ fn other_pointed_by(
 /// The events of a line that states neither a flit nor a point.
 fn other_pointed(
     alloc: Global,
+    scratch: &mut Scratch,
     port: &mut PointedPort,
     line: &[u8],
     number: u64,
@@ -114,7 +116,7 @@ fn other_pointed(
     ensures fault { IfErr result (RefusesBy (λ seen. other_pointed seen (event_text number line.now)) port.old number) }
     ensures failed { IfErr result (λ fault. fault ≢ LinesFault.Memory → port.new ≡ port.old) }
 {
-    let event = event_told(alloc, line, number)?;
+    let event = event_told(alloc, scratch, line, number)?;
     other_pointed_by(alloc, port, &event, number)
 }
 
@@ -138,6 +140,7 @@ fn stated_pointed(
 /// The events of a line among flits and points.
 pub(crate) fn pointed_among(
     alloc: Global,
+    scratch: &mut Scratch,
     port: &mut PointedPort,
     line: &[u8],
     number: u64,
@@ -146,8 +149,8 @@ pub(crate) fn pointed_among(
     ensures fault { IfErr result (RefusesBy (λ seen. pointed_among seen number line.now (stated_in number line.now)) port.old number) }
     ensures failed { IfErr result (λ fault. fault ≢ LinesFault.Memory → port.new ≡ port.old) }
 {
-    match stated_in(alloc, line, number)? {
-        None => other_pointed(alloc, port, line, number),
+    match stated_in(alloc, scratch, line, number)? {
+        None => other_pointed(alloc, scratch, port, line, number),
         Some(Ok(stated)) => stated_pointed(alloc, port, &stated, number),
         Some(Err(fault)) => Err(LinesFault::Line {
             number,

@@ -13,13 +13,14 @@ use crate::line_stated::time_stated;
 use crate::line_told::line_told;
 use crate::lines::{is_at_end, is_blank, next_line};
 use chi_events::Event;
+use chi_json::Scratch;
 use chi_points::PointedPort;
 use std::alloc::{AllocError, Global};
 use std::io::BufRead;
 
 /// A reading of lines: what it follows of the flits that they state, and of the requests that errors may drop; the last line, and how
-/// many lines were read; the events of the last line that are not given yet; and the lines that were read for the event that was
-/// given last, one after the other.
+/// many lines were read; the events of the last line that are not given yet; the lines that were read for the event that was
+/// given last, one after the other; and the memory by which usual lines are read.
 #[derive(Drop)]
 pub(crate) struct Reading {
     pub format: LineFormat,
@@ -29,6 +30,7 @@ pub(crate) struct Reading {
     pub number: u64,
     pub pending: Vec<Event>,
     pub lines: Vec<u8>,
+    pub scratch: Scratch,
 }
 
 impl Reading {
@@ -46,6 +48,7 @@ impl Reading {
             number: 0,
             pending: Vec::new(alloc),
             lines: Vec::new(alloc),
+            scratch: Scratch::new(alloc),
         }
     }
 
@@ -80,7 +83,14 @@ impl Reading {
         ensures failed { IfErr result (λ fault. fault ≢ LinesFault.Memory → self.new.port ≡ self.old.port) }
         ensures format { self.new.format ≡ self.old.format }
     {
-        let events = line_told(alloc, self.format, &mut self.port, &self.line, number)?;
+        let events = line_told(
+            alloc,
+            &mut self.scratch,
+            self.format,
+            &mut self.port,
+            &self.line,
+            number,
+        )?;
         let effect = effect_of(self.format);
         self.pending = told_by_effect(alloc, effect, &mut self.awaited, events)?;
         self.number = number;

@@ -11,6 +11,7 @@ use crate::fault::LinesFault;
 use crate::line_told::event_told;
 use crate::lines::next_line;
 use chi_events::EventKind;
+use chi_json::Scratch;
 use std::alloc::{AllocError, Global};
 use std::collections::BTreeSet;
 
@@ -89,13 +90,14 @@ pub fn lines_of_granule(alloc: Global, text: &[u8], granule: u64) -> Result<Vec<
     let mut saved = Vec::new(alloc);
     let mut numbers = BTreeSet::new(alloc);
     let mut line = Vec::new(alloc);
+    let mut scratch = Scratch::new(alloc);
     let mut from = text;
     for number in 1..u64::MAX {
         if from.is_empty() {
             return Ok(saved);
         }
         next_line(&mut from, &mut line)?;
-        let event = event_told(alloc, &line, number)?;
+        let event = event_told(alloc, &mut scratch, &line, number)?;
         add_line(&mut saved, granule, &numbers, &line, &event.kind)?;
         note_number(granule, &mut numbers, &event.kind)?;
     }

@@ -1,0 +1,16 @@
+-- the members so far stand before those that are left
+use Rattle.std.proofs.Common.{◌≡◌, ℕ, ◌-◌, ◌≤◌, length}
+use Rattle.json.specs.Json.{members, value}
+use Rattle.arrayvec.specs.ArrayVec.{array_vec_len}
+use Rattle.serde_json.specs.Data.{no_members}
+use Rattle.serde_json.specs.Read.{converted, of_members}
+use Rattle.chi_json.specs.Flat.{put_all}
+use Rattle.chi_json.proofs.flat.read_members.Given as goal
+
+abbrev pub invariant-members : goal.invariant-members
+invariant-members l =
+    (n : ℕ) × (length l.reader ≤ n)
+    × (converted (λ ms. of_members ms no_members) (members (value 126) (length l.initial.reader) l.initial.reader) ≡ converted (λ ms. of_members ms (put_all l.members.items no_members)) (members (value 126) n l.reader))
+
+abbrev pub decreases-members : goal.decreases-members
+decreases-members l = 16 - array_vec_len l.members
