@@ -4,9 +4,13 @@ use Rattle.std.specs.List.{Contains}
 use Rattle.chi_verdict.specs.Doubts.{IsDoubt}
 use Rattle.chi_verdict.specs.declared.doubt.Doubt.{Doubt}
 use Rattle.chi_search.specs.Found.{IfWords}
-use Rattle.chi_search.specs.Looks.{LookedMore}
+use Rattle.chi_search.specs.Looks.{FoundThenLooked, Search}
+use Rattle.chi_judge.specs.Explained.{IsAsFarUnless}
 use Rattle.chi_verdict.specs.Blames.{IsBlame}
-use Rattle.chi_trace.specs.Traces.{CanHold, IsExplained, IsExplainedIn, IsLegal}
+use Rattle.chi_verdict.specs.Verdicts.{IfUndecided as IfUnfound}
+use Rattle.chi_verdict.specs.declared.verdict.Verdict.{Verdict}
+use Rattle.chi_trace.specs.Traces.{CanHold, IsExplained, IsExplainedIn, IsLegal, TraceValue}
+use Rattle.chi_trace.specs.Words.{word_or_zero}
 use Rattle.chi_reading.specs.TraceText.{RecordedValue}
 use Rattle.chi_answer.specs.declared.answer.Answer.{Answer}
 use Rattle.chi_answer.specs.declared.answer.Answer.TheVariants.{Explained, Blamed, Unexplained, Undecided}
@@ -39,8 +43,24 @@ IfUndecided (Blamed blame) P = Unit {0}
 IfUndecided (Unexplained granule words) P = Unit {0}
 IfUndecided (Undecided doubt) P = P doubt
 
--- so many states were looked at on the way to the answer: no fewer than it says where it was not found
-pub record LookedForAnswer {P : Type 0} (looked : P → ℕ → Type 0) (old new : P) (answer : Answer) : Type 0 where
+-- so many states were looked at for the verdict, no fewer than it tells where it decides nothing
+pub record FoundVerdict {P : Type 0} (states : P → ℕ → Type 0) (looked : Search → P → ℕ → Type 0) (old new : P) (verdict : Verdict) : Type 0 where
   pub count : ℕ
-  pub more : LookedMore looked old new count
+  pub found : FoundThenLooked states looked old new count 0
+  pub undecided : IfUnfound verdict (λ states. states ≤ count)
+
+-- so many were looked at for the verdict, no fewer than the answer says where it was not found, and so many were counted after it
+pub record LookedForAnswer {P : Type 0} (states : P → ℕ → Type 0) (looked : Search → P → ℕ → Type 0) (old new : P) (answer : Answer) : Type 0 where
+  pub count : ℕ
+  pub more : ℕ
+  pub found : FoundThenLooked states looked old new count more
   pub undecided : IfUndecided answer (λ doubt. doubt.states ≤ count)
+
+-- a whole budget was looked at for the verdict, and as many states as it has were counted after it
+abbrev pub SpentTwice : {P : Type 0} → (P → ℕ → Type 0) → (Search → P → ℕ → Type 0) → P → P → ℕ → Type 0
+SpentTwice states looked old new budget = (count : ℕ) × (budget ≤ count) × ((more : ℕ) × (budget ≤ more) × FoundThenLooked states looked old new count more)
+
+-- it is explained as far as was found within that
+abbrev pub IsAsFar : {P : Type 0} → (P → ℕ → Type 0) → (Search → P → ℕ → Type 0) → P → P → ℕ → TraceValue → Doubt → Type 0
+IsAsFar states looked old new budget t doubt =
+    IsAsFarUnless (SpentTwice states looked old new budget) t.operations doubt.granule (word_or_zero t.opening doubt.granule) doubt.explained

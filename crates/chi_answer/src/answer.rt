@@ -1,11 +1,11 @@
 //! What is answered of a trace.
 
-ghost use Rattle.std.specs.Prelude.{◌≡◌, ◌+◌, ℕ, IfOk};
+ghost use Rattle.std.specs.Prelude.{◌≡◌, ℕ, IfOk};
 ghost use Rattle.chi_trace.specs.Traces.{IsExplained};
-ghost use Rattle.chi_verdict.specs.Doubts.{IsAsFar};
-ghost use Rattle.chi_verdict.specs.Verdicts.{IfExplained, IfUnexplained, IfUndecided as IfUnfound, LookedForVerdict};
-ghost use Rattle.chi_search.specs.Looks.{LookedMore};
-ghost use Rattle.chi_answer.specs.Answers.{IfUndecided, IsAnswer, IsUnexplained, IsUnexplainedIn, LookedForAnswer};
+ghost use Rattle.chi_verdict.specs.Doubts.{IsAsFar as IsFoundAsFar};
+ghost use Rattle.chi_verdict.specs.Verdicts.{IfExplained, IfUnexplained, IfUndecided as IfUnfound};
+ghost use Rattle.chi_search.specs.Looks.{LookedSome};
+ghost use Rattle.chi_answer.specs.Answers.{FoundVerdict, IfUndecided, IsAnswer, IsAsFar, IsUnexplained, IsUnexplainedIn, LookedForAnswer};
 
 use chi_reading::Recorded;
 use chi_search::{Progress, Words};
@@ -38,7 +38,7 @@ fn verdict_of<P: Progress>(
     ensures unexplained { IfOk result (λ verdict. IfUnexplained verdict (λ granule. IsUnexplained recorded.now)) }
     ensures granule { IfOk result (λ verdict. IfUnexplained verdict (IsUnexplainedIn recorded.now)) }
     ensures undecided { IfOk result (λ verdict. IfUnfound verdict (λ states. states ≡ budget)) }
-    ensures spent { IfOk result (LookedForVerdict P.looked progress.old progress.new) }
+    ensures spent { IfOk result (FoundVerdict P.states P.looked progress.old progress.new) }
 {
     progress.before_verdict();
     let trace = recorded.trace();
@@ -60,7 +60,7 @@ fn unexplained<P: Progress>(
     requires granule { IsUnexplainedIn recorded.now granule }
     ensures right { IfOk result (IsAnswer recorded.now shown) }
     ensures decided { IfOk result (λ answer. IfUndecided answer (λ doubt. ⊥)) }
-    ensures looked { IfOk result (λ _. (k : ℕ) × LookedMore P.looked progress.old progress.new k) }
+    ensures looked { IfOk result (λ _. LookedSome P.looked progress.old progress.new) }
 {
     let trace = recorded.trace();
     if let First::At(blame) = first_unexplained(alloc, trace, shown, budget, progress)? {
@@ -81,8 +81,8 @@ fn undecided<P: Progress>(
 ) -> Result<Answer, AllocError>
     ensures right { IfOk result (λ answer. (most : ℕ) → IsAnswer recorded.now most answer) }
     ensures undecided { IfOk result (λ answer. IfUndecided answer (λ doubt. doubt.states ≡ budget)) }
-    ensures far { IfOk result (λ answer. IfUndecided answer (IsAsFar P.looked progress.old progress.new budget recorded.now.trace)) }
-    ensures looked { IfOk result (λ _. (k : ℕ) × LookedMore P.looked progress.old progress.new k) }
+    ensures far { IfOk result (λ answer. IfUndecided answer (IsFoundAsFar P.looked progress.old progress.new budget recorded.now.trace)) }
+    ensures looked { IfOk result (λ _. LookedSome P.looked progress.old progress.new) }
 {
     let doubt = doubt_of(alloc, recorded.trace(), granule, budget, progress)?;
     Ok(Answer::Undecided(doubt))
@@ -103,8 +103,8 @@ pub fn answer_of<P: Progress>(
 ) -> Result<Answer, AllocError>
     ensures right { IfOk result (IsAnswer recorded.now shown) }
     ensures undecided { IfOk result (λ answer. IfUndecided answer (λ doubt. doubt.states ≡ budget)) }
-    ensures far { IfOk result (λ answer. IfUndecided answer (IsAsFar P.looked progress.old progress.new (budget + budget) recorded.now.trace)) }
-    ensures spent { IfOk result (LookedForAnswer P.looked progress.old progress.new) }
+    ensures far { IfOk result (λ answer. IfUndecided answer (IsAsFar P.states P.looked progress.old progress.new budget recorded.now.trace)) }
+    ensures spent { IfOk result (LookedForAnswer P.states P.looked progress.old progress.new) }
 {
     match verdict_of(alloc, recorded, budget, progress)? {
         Verdict::Explained(order) => Ok(Answer::Explained { order }),

@@ -11,7 +11,7 @@ use Rattle.chi_excerpt.specs.Failures.{failure_text}
 use Rattle.chi_verdict.specs.Blames.{IsBlame}
 use Rattle.chi_verdict.specs.declared.first.Blame.{Blame}
 use Rattle.chi_reading.specs.TraceText.{RecordedValue}
-use Rattle.chi_check.specs.Check.{Answers, Outcome, HasTrace, HasNoTrace, judged, most_bytes}
+use Rattle.chi_check.specs.Check.{Answers, HasNoTrace, HasTrace, IsRight, IsWritten, Outcome, judged, most_bytes}
 use Rattle.chi_check.specs.CheckStatus.{answer_status}
 use Rattle.chi_check.specs.Limits.{IsWithin}
 use Rattle.chi_check.specs.Pages.{IsPage, IsPageAsked, IsPut, IsReported}
@@ -21,33 +21,33 @@ use Rattle.chi_check.specs.declared.fault.SourceFault.TheVariants as source_faul
 use Rattle.chi_check.specs.declared.options.CheckOptions.{CheckOptions}
 
 -- the answer that stands behind a report
-answers : (options : CheckOptions) (input : List ℕ) (r : RecordedValue) (status : ℕ) (text page : List ℕ) → length input ≤ most_bytes → HasTrace options.lines input r
-    → (a : IsReported options (judged options r) status text page) → Answers options input a.0 text
-answers options input r status text page within has a = record { within = within; recorded = r; has_trace = has; right = a.1 }
+answers : (IsCut : Option ℕ → Type 0) (options : CheckOptions) (input : List ℕ) (r : RecordedValue) (status : ℕ) (text page : List ℕ) → length input ≤ most_bytes → HasTrace options.lines input r
+    → (a : IsReported IsCut options (judged options r) status text page) → Answers IsCut options input a.0 text
+answers IsCut options input r status text page within has a = record { within = within; recorded = r; has_trace = has; right = a.1 }
 
 -- the whole text was written
-pub written : (options : CheckOptions) (remaining old new : Option (List ℕ)) (input : List ℕ) (r : RecordedValue) (status : ℕ) (text page : List ℕ)
-    → IfSome remaining (λ bytes. input ≡ bytes) → length input ≤ most_bytes → HasTrace options.lines input r → IsReported options (judged options r) status text page → Appends old new text
-    → IfSome remaining (λ bytes. Outcome options bytes old new (Ok status))
-written options None old new input r status text page same within read a appends = tt
-written options (Some bytes) old new input r status text page same within read a appends =
-    subst (λ (l : List ℕ). Outcome options l old new (Ok status)) same (a.0, text, answers options input r status text page within read a, a.2, appends)
+pub written : (IsCut : Option ℕ → Type 0) (options : CheckOptions) (remaining old new : Option (List ℕ)) (input : List ℕ) (r : RecordedValue) (status : ℕ) (text page : List ℕ)
+    → IfSome remaining (λ bytes. input ≡ bytes) → length input ≤ most_bytes → HasTrace options.lines input r → IsReported IsCut options (judged options r) status text page → Appends old new text
+    → IfSome remaining (λ bytes. Outcome IsCut options bytes old new (Ok status))
+written IsCut options None old new input r status text page same within read a appends = tt
+written IsCut options (Some bytes) old new input r status text page same within read a appends =
+    subst (λ (l : List ℕ). Outcome IsCut options l old new (Ok status)) same (a.0, text, answers IsCut options input r status text page within read a, a.2, appends)
 
 -- the writer failed
-pub cut : (options : CheckOptions) (remaining old new : Option (List ℕ)) (input : List ℕ) (r : RecordedValue) (status : ℕ) (text page : List ℕ) (fault : WriteFault)
-    → IfSome remaining (λ bytes. input ≡ bytes) → length input ≤ most_bytes → HasTrace options.lines input r → IsReported options (judged options r) status text page → AppendsFront old new text
-    → IfSome remaining (λ bytes. Outcome options bytes old new (Err (Write fault)))
-cut options None old new input r status text page fault same within read a front = tt
-cut options (Some bytes) old new input r status text page fault same within read a front =
-    subst (λ (l : List ℕ). Outcome options l old new (Err (Write fault))) same (a.0, text, answers options input r status text page within read a, front)
+pub cut : (IsCut : Option ℕ → Type 0) (options : CheckOptions) (remaining old new : Option (List ℕ)) (input : List ℕ) (r : RecordedValue) (status : ℕ) (text page : List ℕ) (fault : WriteFault)
+    → IfSome remaining (λ bytes. input ≡ bytes) → length input ≤ most_bytes → HasTrace options.lines input r → IsReported IsCut options (judged options r) status text page → AppendsFront old new text
+    → IfSome remaining (λ bytes. Outcome IsCut options bytes old new (Err (Write fault)))
+cut IsCut options None old new input r status text page fault same within read a front = tt
+cut IsCut options (Some bytes) old new input r status text page fault same within read a front =
+    subst (λ (l : List ℕ). Outcome IsCut options l old new (Err (Write fault))) same (a.0, text, answers IsCut options input r status text page within read a, front)
 
 -- the input has no trace
-pub no_trace : (options : CheckOptions) (remaining old new : Option (List ℕ)) (input : List ℕ) (fault : SourceFault) → IfSome remaining (λ bytes. input ≡ bytes) → HasNoTrace options.lines input fault
-    → IfSome remaining (λ bytes. Outcome options bytes old new (Err (Input fault)))
-no_trace options None old new input fault same is = tt
-no_trace options (Some bytes) old new input fault same is = subst (λ (l : List ℕ). Outcome options l old new (Err (Input fault))) same (by_fault fault is)
+pub no_trace : (IsCut : Option ℕ → Type 0) (options : CheckOptions) (remaining old new : Option (List ℕ)) (input : List ℕ) (fault : SourceFault) → IfSome remaining (λ bytes. input ≡ bytes) → HasNoTrace options.lines input fault
+    → IfSome remaining (λ bytes. Outcome IsCut options bytes old new (Err (Input fault)))
+no_trace IsCut options None old new input fault same is = tt
+no_trace IsCut options (Some bytes) old new input fault same is = subst (λ (l : List ℕ). Outcome IsCut options l old new (Err (Input fault))) same (by_fault fault is)
   where
-    by_fault : (f : SourceFault) → HasNoTrace options.lines input f → Outcome options input old new (Err (Input f))
+    by_fault : (f : SourceFault) → HasNoTrace options.lines input f → Outcome IsCut options input old new (Err (Input f))
     by_fault source_fault.Read is = tt
     by_fault source_fault.TooLong is = absurd is
     by_fault source_fault.Memory is = tt
@@ -60,16 +60,16 @@ both_some A B C None a b both = tt
 both_some A B C (Some x) a b both = both x a b
 
 -- the page of the answer was put
-module _ {P : Type 0} (has_put : P → List ℕ → List ℕ → Type 0) where
+module _ {P : Type 0} (has_put : P → List ℕ → List ℕ → Type 0) (IsCut : Option ℕ → Type 0) where
   pub put : (options : CheckOptions) (remaining old new : Option (List ℕ)) (input : List ℕ) (r : RecordedValue) (status : ℕ) (text page : List ℕ) (pages : P)
-      → IfSome remaining (λ bytes. input ≡ bytes) → length input ≤ most_bytes → HasTrace options.lines input r → IsReported options (judged options r) status text page → Appends old new text
-      → IfSome options.html (λ path. has_put pages path.now page) → IfSome remaining (λ bytes. IsPut has_put options bytes old new status pages)
+      → IfSome remaining (λ bytes. input ≡ bytes) → length input ≤ most_bytes → HasTrace options.lines input r → IsReported IsCut options (judged options r) status text page → Appends old new text
+      → IfSome options.html (λ path. has_put pages path.now page) → IfSome remaining (λ bytes. IsPut has_put IsCut options bytes old new status pages)
   unfolding answers
   put options None old new input r status text page pages same within read a appends was_put = tt
   put options (Some bytes) old new input r status text page pages same within read a appends was_put =
-      subst (λ (l : List ℕ). IsPut has_put options l old new status pages) same
+      subst (λ (l : List ℕ). IsPut has_put IsCut options l old new status pages) same
       (both_some (λ _. IsPage _ _ page) (λ path. has_put pages path.now page) _ options.html a.3 was_put
-      (λ path is_page has. (a.0, text, page, record { answers = answers options input r status text page within read a; page_is = is_page }, a.2, appends, has)))
+      (λ path is_page has. (a.0, text, page, record { answers = answers IsCut options input r status text page within read a; page_is = is_page }, a.2, appends, has)))
 
 -- the status of a trace that is not decided tells that as many states were looked at as may be
 pub spent_where_undecided : (options : CheckOptions) (answer : Answer) (count : ℕ) → IfUndecided answer (λ doubt. IsWithin options doubt.states)
@@ -80,7 +80,21 @@ spent_where_undecided options (Unexplained granule words) count within spent is 
 spent_where_undecided options (Undecided doubt) count within spent is = (doubt.states, within, spent)
 
 -- where a trace stops being explained, the text of the failure is the one of a right answer, and so is its page
-pub blamed_right : (options : CheckOptions) (r : RecordedValue) (blame : Blame) (cut_short : Option ℕ) (text page : List ℕ) → IsUnexplained r → IsBlame r.trace options.around blame
-    → text ≡ failure_text r options.around blame ++ cut_short_line cut_short → IsPageAsked options r (Blamed blame) page → IsReported options r 1 text page
-blamed_right options r blame cut_short text page unexplained is text_is page_is =
-    (Blamed blame, record { right = (unexplained, is); undecided = tt; text_is = (cut_short, text_is) }, refl, page_is)
+pub blamed_right : (IsCut : Option ℕ → Type 0) (options : CheckOptions) (r : RecordedValue) (blame : Blame) (cut_short : Option ℕ) (text page : List ℕ) → IsCut cut_short → IsUnexplained r → IsBlame r.trace options.around blame
+    → text ≡ failure_text r options.around blame ++ cut_short_line cut_short → IsPageAsked options r (Blamed blame) page → IsReported IsCut options r 1 text page
+blamed_right IsCut options r blame cut_short text page is_cut unexplained is text_is page_is =
+    (Blamed blame, record { right = (unexplained, is); undecided = tt; text_is = (cut_short, is_cut, text_is) }, refl, page_is)
+
+-- what is known of the line says what else is
+module _ (IsCut May : Option ℕ → Type 0) (may : (cut_short : Option ℕ) → IsCut cut_short → May cut_short) (options : CheckOptions) (r : RecordedValue) where
+  written_by : (answer : Answer) (text : List ℕ) → IsWritten IsCut options r answer text → IsWritten May options r answer text
+  written_by (Explained order) text is = is
+  written_by (Blamed blame) text (cut_short, is, same) = (cut_short, may cut_short is, same)
+  written_by (Unexplained granule words) text (whole, text_is, (cut_short, is, same)) = (whole, text_is, (cut_short, may cut_short is, same))
+  written_by (Undecided doubt) text (whole, text_is, (cut_short, is, same)) = (whole, text_is, (cut_short, may cut_short is, same))
+
+  pub right_by : (answer : Answer) (text : List ℕ) → IsRight IsCut options r answer text → IsRight May options r answer text
+  right_by answer text is = record { right = is.right; undecided = is.undecided; text_is = written_by answer text is.text_is }
+
+  pub reported_by : (status : ℕ) (text page : List ℕ) → IsReported IsCut options r status text page → IsReported May options r status text page
+  reported_by status text page (answer, right, status_is, page_is) = (answer, right_by answer text right, status_is, page_is)

@@ -1,22 +1,23 @@
 -- the states that are looked at within the limits
-use Rattle.std.proofs.Common.{ℕ, ◌+◌, ◌≤◌, refl, arith}
-use Rattle.chi_search.specs.Looks.{LookedSome}
-use Rattle.chi_search.proofs.Looking.{more_after}
+use Rattle.std.proofs.Common.{◌≡◌, ℕ, ◌+◌, ◌≤◌, Option, refl, arith}
+use Rattle.chi_search.specs.Looks.{FoundBy, FoundThenLooked, Grew, GrewBy, IsCutShort, Search, after_verdict}
+use Rattle.chi_search.proofs.Growing.{at_least_after, grew_found}
 use Rattle.chi_answer.specs.declared.answer.Answer.{Answer}
-use Rattle.chi_answer.specs.declared.answer.Answer.TheVariants.{Explained, Blamed, Unexplained, Undecided}
-use Rattle.chi_answer.specs.Answers.{IfUndecided, LookedForAnswer}
+use Rattle.chi_answer.specs.Answers.{LookedForAnswer}
+use Rattle.chi_check.specs.Searched.{LookedForSearched}
 
--- others before those on the way to an answer
-module _ {P : Type 0} (looked : P → ℕ → Type 0) (old middle new : P) where
-  pub answer_after : (answer : Answer) → LookedSome looked old middle → LookedForAnswer looked middle new answer → LookedForAnswer looked old new answer
-  answer_after answer before spent = record {
-    count = before.0 + spent.count;
-    more = more_after looked old middle new before.0 spent.count (before.0 + spent.count) refl before.1 spent.more;
-    undecided = of_answer answer spent.count spent.undecided;
+module _ {P : Type 0} (states : P → ℕ → Type 0) (looked : Search → P → ℕ → Type 0) where
+  -- a verdict, and what follows it, after others
+  found_after : (old middle new : P) (count more : ℕ) → Grew states old middle → FoundThenLooked states looked middle new count more → FoundBy states looked old new count
+  found_after old middle new count more before found n knows =
+      let begun = before n knows in
+      (begun.0 + count, omega (arith, begun.1), (begun.0 + count + more, omega arith, found begun.0 begun.2))
+
+  pub searched_after : (old middle new : P) (answer : Answer) (cut_short : Option ℕ) → Grew states old middle → LookedForAnswer states looked middle new answer → IsCutShort states looked new cut_short
+      → LookedForSearched states looked old new answer
+  searched_after old middle new answer cut_short before spent told = record {
+    count = spent.count;
+    found = found_after old middle new spent.count spent.more before spent.found;
+    grew = at_least_after states old middle new spent.count before (grew_found states looked middle new spent.count spent.more cut_short spent.found told);
+    undecided = spent.undecided;
   }
-    where
-      of_answer : (it : Answer) (count : ℕ) → IfUndecided it (λ doubt. doubt.states ≤ count) → IfUndecided it (λ doubt. doubt.states ≤ before.0 + count)
-      of_answer (Explained order) count under = tt
-      of_answer (Blamed blame) count under = tt
-      of_answer (Unexplained granule words) count under = tt
-      of_answer (Undecided doubt) count under = omega (arith, under)

@@ -7,37 +7,39 @@ use Rattle.std.specs.Io.KnownBytes.{Appends}
 use Rattle.std.specs.Prelude.{◌||◌, Vec, flat_map, is_some}
 use Rattle.std.specs.declared.alloc.Global.{Global}
 use Rattle.chi_reading.specs.TraceText.{RecordedValue}
-use Rattle.chi_search.specs.Looks.{LookedAtLeast, LookedSome}
-use Rattle.chi_search.proofs.Looking.{more_after}
+use Rattle.chi_search.specs.Looks.{Grew, Search}
 use Rattle.chi_watch_text.specs.Kept.{AreKept}
 use Rattle.chi_watch_text.specs.Outcomes.{IsWatched}
 use Rattle.chi_watch_text.specs.Texts.{found_text, watched_text}
 use Rattle.chi_watch_text.specs.declared.fault.LinesFault.TheVariants as lines_fault
 use Rattle.chi_watch_text.specs.declared.options.WatchOptions.{WatchOptions}
 use Rattle.chi_watch_text.specs.declared.watched.Watched.{Watched}
-use Rattle.chi_check.specs.Check.{HasTrace, KeepsUnanswered, judged}
+use Rattle.chi_check.specs.Check.{AnyCut, HasTrace, KeepsUnanswered, judged}
 use Rattle.chi_check.specs.Pages.{IsReported}
 use Rattle.chi_check.specs.Saving.{IsPutOf, PutsMore, first_listed}
 use Rattle.chi_check.specs.Showing.{IsFirstShown, IsPageOf, IsPageOfRead, IsUnshown, ShowsFirst, page_options}
-use Rattle.chi_check.specs.Watch.{WatchOutcome, WritesClosing, watch_status, watching}
+use Rattle.chi_check.specs.Watch.{WatchOutcome, WatchedFor, WritesClosing, watch_status, watching}
 use Rattle.chi_check.specs.declared.fault.CheckFault.{CheckFault}
 use Rattle.chi_check.specs.declared.options.CheckOptions.{CheckOptions}
 use Rattle.chi_check.specs.declared.options.WatchingOptions.{WatchingOptions}
+use Rattle.chi_check.proofs.CheckLemmas.{right_by}
 use Rattle.chi_check.proofs.SavingLemmas.{more_then, put_weaker, whole_told}
 use Rattle.chi_check.proofs.WatchLemmas.{before_it, unanswered}
 
 -- what is reported of the trace of some lines has the page of a check of these
-pub page_reported : (how options : CheckOptions) (lines : List ℕ) (r : RecordedValue) (status : ℕ) (text page : List ℕ) → how ≡ options → HasTrace options.lines lines r
-    → IsReported how (judged how r) status text page → IfSome options.html (λ _. IsPageOf options lines page)
-page_reported how options lines r status text page same has reported =
-    let it = subst (λ (o : CheckOptions). IsReported o (judged o r) status text page) same reported in
-    IfSome_then options.html it.3 (λ path is. record { recorded = r; has_trace = has; answer = it.0; text = text; right = it.1; page_is = is })
+pub page_reported : (IsCut : Option ℕ → Type 0) (how options : CheckOptions) (lines : List ℕ) (r : RecordedValue) (status : ℕ) (text page : List ℕ) → how ≡ options → HasTrace options.lines lines r
+    → IsReported IsCut how (judged how r) status text page → IfSome options.html (λ _. IsPageOf options lines page)
+page_reported IsCut how options lines r status text page same has reported =
+    let it = subst (λ (o : CheckOptions). IsReported IsCut o (judged o r) status text page) same reported in
+    IfSome_then options.html it.3 (λ path is. record { recorded = r; has_trace = has; answer = it.0; text = text; right = right_by IsCut AnyCut (λ cut_short is_cut. tt) options (judged options r) it.0 text it.1; page_is = is })
 
 -- states that were looked at after those of a budget
-pub spent_after : {P : Type 0} (looked : P → ℕ → Type 0) (old middle new : P) (budget : ℕ) → LookedAtLeast looked old middle budget → LookedSome looked middle new
-    → LookedAtLeast looked old new budget
-spent_after looked old middle new budget (count, enough, first) (more, then) =
-    (count + more, omega (arith, enough), more_after looked old middle new count more (count + more) refl first then)
+pub spent_after : {P : Type 0} (states : P → ℕ → Type 0) (looked : Search → P → ℕ → Type 0) (old middle new : P) (budget : ℕ) → WatchedFor states looked old middle budget → Grew states middle new
+    → WatchedFor states looked old new budget
+spent_after states looked old middle new budget first then n knows =
+    let begun = first n knows in
+    let ended = then begun.0 begun.2 in
+    (ended.0, omega (arith, begun.1, ended.1), ended.2)
 
 -- a page that was not put: the granules that were found are written
 module _ (options : WatchOptions) (old new : Option (List ℕ)) (w : Watched) (told : Appends old new (flat_map found_text w.found.items)) where

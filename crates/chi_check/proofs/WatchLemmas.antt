@@ -6,7 +6,7 @@ use Rattle.chi_script.specs.WriterBytes.{AppendsFront}
 use Rattle.chi_script.proofs.WriterBytesLemmas.{taken_then}
 use Rattle.chi_script.specs.declared.device.WriteFault.{WriteFault}
 use Rattle.chi_script.specs.declared.device.WriteFault.TheVariants.{Failed}
-use Rattle.chi_search.specs.Looks.{LookedAtLeast}
+use Rattle.chi_search.specs.Looks.{GrewBy}
 use Rattle.chi_watch.specs.declared.ending.Ending.{Ending}
 use Rattle.chi_watch.specs.declared.ending.FoundAtEnd.{FoundAtEnd}
 use Rattle.chi_watch.specs.declared.undecided.UndecidedAtEnd.{UndecidedAtEnd}
@@ -136,31 +136,31 @@ watched_status options old new watched (Err fault) writes = tt
 
 -- the status of what is not decided tells that the budget was spent
 pub spent_at_six : {P : Type 0} (looked : P → ℕ → Type 0) (old new : P) (options : WatchOptions) (before after : Option (List ℕ)) (watched : Watched) (result : Result ℕ CheckFault)
-    → WritesClosing options watched before after result → WentBy looked old new options.budget watched → IfOk result (λ status. status ≡ 6 → LookedAtLeast looked old new options.budget)
+    → WritesClosing options watched before after result → WentBy looked old new options.budget watched → IfOk result (λ status. status ≡ 6 → GrewBy looked old new options.budget)
 spent_at_six looked old new options before after watched (Err fault) writes went = tt
 spent_at_six looked old new options before after watched (Ok status) (is, appends) went =
     λ six. by_found watched.found.items watched.ending went (is_nothing (missing_of options.required watched)) (sym is ∙ six)
   where
-    by_lists : (un : List FoundAtEnd) (dec : List UndecidedAtEnd) → All (λ (u : UndecidedAtEnd). LookedAtLeast looked old new options.budget) dec → (complete : Bool) → verdict_status (listed_verdict un dec) complete ≡ 6 → LookedAtLeast looked old new options.budget
+    by_lists : (un : List FoundAtEnd) (dec : List UndecidedAtEnd) → All (λ (u : UndecidedAtEnd). GrewBy looked old new options.budget) dec → (complete : Bool) → verdict_status (listed_verdict un dec) complete ≡ 6 → GrewBy looked old new options.budget
     by_lists (g ∷ un) dec all complete is_six = cc
-    by_lists [] (u ∷ dec) all complete is_six = All-head (λ (it : UndecidedAtEnd). LookedAtLeast looked old new options.budget) u dec all
+    by_lists [] (u ∷ dec) all complete is_six = All-head (λ (it : UndecidedAtEnd). GrewBy looked old new options.budget) u dec all
     by_lists [] [] all true is_six = cc
     by_lists [] [] all false is_six = cc
 
-    by_ending : (o : Option Ending) → IfSome o (λ ending. All (λ g. LookedAtLeast looked old new options.budget) ending.undecided.items) → (complete : Bool) → verdict_status (ending_verdict o) complete ≡ 6 → LookedAtLeast looked old new options.budget
+    by_ending : (o : Option Ending) → IfSome o (λ ending. All (λ g. GrewBy looked old new options.budget) ending.undecided.items) → (complete : Bool) → verdict_status (ending_verdict o) complete ≡ 6 → GrewBy looked old new options.budget
     by_ending None all true is_six = cc
     by_ending None all false is_six = cc
     by_ending (Some ending) all complete is_six = by_lists ending.unexplained.items ending.undecided.items all complete is_six
 
-    by_found : (found : List FoundGranule) (o : Option Ending) → IfSome o (λ ending. All (λ g. LookedAtLeast looked old new options.budget) ending.undecided.items) → (complete : Bool)
-        → verdict_status (found_verdict found o) complete ≡ 6 → LookedAtLeast looked old new options.budget
+    by_found : (found : List FoundGranule) (o : Option Ending) → IfSome o (λ ending. All (λ g. GrewBy looked old new options.budget) ending.undecided.items) → (complete : Bool)
+        → verdict_status (found_verdict found o) complete ≡ 6 → GrewBy looked old new options.budget
     by_found (f ∷ found) o all complete is_six = cc
     by_found [] o all complete is_six = by_ending o all complete is_six
 
 -- the outcome of a task stays so when its text is flushed, also where the flush fails
-module _ (holds : List ℕ → List ℕ → Type 0) where
-  flushed : (task : Task) (remaining old mid new : Option (List ℕ)) (status : ℕ) → IfSome remaining (λ input. TaskOutcome holds task input old mid (Ok status)) → Keeps mid new
-      → IfSome remaining (λ input. TaskOutcome holds task input old new (Ok status))
+module _ (IsCut : Option ℕ → Type 0) (holds : List ℕ → List ℕ → Type 0) where
+  flushed : (task : Task) (remaining old mid new : Option (List ℕ)) (status : ℕ) → IfSome remaining (λ input. TaskOutcome IsCut holds task input old mid (Ok status)) → Keeps mid new
+      → IfSome remaining (λ input. TaskOutcome IsCut holds task input old new (Ok status))
   flushed task None old mid new status outcome keeps = tt
   flushed (Explain options file) (Some input) old mid new status (answer, text, answers, status_is, appends) keeps =
       (answer, text, answers, status_is, appends_kept old mid new text appends keeps)
@@ -169,8 +169,8 @@ module _ (holds : List ℕ → List ℕ → Type 0) where
   flushed (Cover options) (Some input) old mid new status (counts, has, status_is, appends) keeps =
       (counts, has, status_is, appends_kept old mid new (cover_text counts) appends keeps)
 
-  flush_failed : (task : Task) (remaining old mid new : Option (List ℕ)) (status : ℕ) (fault : WriteFault) → IfSome remaining (λ input. TaskOutcome holds task input old mid (Ok status))
-      → Keeps mid new → IfSome remaining (λ input. TaskOutcome holds task input old new (Err (check_fault.Write fault)))
+  flush_failed : (task : Task) (remaining old mid new : Option (List ℕ)) (status : ℕ) (fault : WriteFault) → IfSome remaining (λ input. TaskOutcome IsCut holds task input old mid (Ok status))
+      → Keeps mid new → IfSome remaining (λ input. TaskOutcome IsCut holds task input old new (Err (check_fault.Write fault)))
   flush_failed task None old mid new status fault outcome keeps = tt
   flush_failed (Explain options file) (Some input) old mid new status fault (answer, text, answers, status_is, appends) keeps =
       (answer, text, answers, whole_front old new text (appends_kept old mid new text appends keeps))
@@ -180,8 +180,8 @@ module _ (holds : List ℕ → List ℕ → Type 0) where
       (counts, has, whole_front old new (cover_text counts) (appends_kept old mid new (cover_text counts) appends keeps))
 
   -- a task whose text was flushed, or could not be, came to an outcome of this status
-  pub ended : (task : Task) (remaining old mid new : Option (List ℕ)) (done status : ℕ) → IfSome remaining (λ input. TaskOutcome holds task input old mid (Ok done)) → Keeps mid new
-      → IsAnswerStatus done → (status ≡ done) ⊎ (status ≡ 5) → Ends holds task remaining old new status
+  pub ended : (task : Task) (remaining old mid new : Option (List ℕ)) (done status : ℕ) → IfSome remaining (λ input. TaskOutcome IsCut holds task input old mid (Ok done)) → Keeps mid new
+      → IsAnswerStatus done → (status ≡ done) ⊎ (status ≡ 5) → Ends IsCut holds task remaining old new status
   ended task remaining old mid new done status outcome keeps answers (inl is) =
       (Ok done, tt, answers, flushed task remaining old mid new done outcome keeps, is)
   ended task remaining old mid new done status outcome keeps answers (inr is) =

@@ -6,7 +6,7 @@ use Rattle.chi_trace.specs.Granules.{granule_of}
 use Rattle.chi_trace.specs.Words.{find_word}
 use Rattle.chi_trace.specs.declared.operation.Operation.{Operation}
 use Rattle.chi_script.specs.WriterBytes.{AppendsFront}
-use Rattle.chi_search.specs.Looks.{LookedMore}
+use Rattle.chi_search.specs.Looks.{FoundBy, GrewBy, Search}
 use Rattle.chi_reading.specs.declared.fault.TraceFault.TheVariants as trace_fault
 use Rattle.chi_reading.specs.TraceText.{IsOf, RecordedValue, TextValue, alone, cut_at, trace_text}
 use Rattle.chi_watch_text.specs.Outcomes.{IsLinesFault}
@@ -69,54 +69,59 @@ happened (Some time) r = cut_at time r
 abbrev pub judged : CheckOptions → RecordedValue → RecordedValue
 judged options r = happened options.until (asked options.granule r)
 
--- the text of an answer, and a line more where what follows the verdict was not searched for to its end
-abbrev pub IsTextCut : CheckOptions → RecordedValue → Answer → List ℕ → Type 0
-IsTextCut options r answer text = (whole : List ℕ) × IsText options.witness r answer whole × ((cut_short : Option ℕ) × (text ≡ whole ++ cut_short_line cut_short))
+-- nothing is said of that line
+abbrev pub AnyCut : Option ℕ → Type 0
+AnyCut cut_short = Unit {0}
+
+-- the text of an answer, and a line more where what follows the verdict was not searched for to its end, which is as is said
+abbrev pub IsTextCut : (Option ℕ → Type 0) → CheckOptions → RecordedValue → Answer → List ℕ → Type 0
+IsTextCut IsCut options r answer text =
+    (whole : List ℕ) × IsText options.witness r answer whole × ((cut_short : Option ℕ) × IsCut cut_short × (text ≡ whole ++ cut_short_line cut_short))
 
 -- what is written of an answer that blames no operation
-abbrev pub IsUsualText : CheckOptions → RecordedValue → Answer → List ℕ → Type 0
-IsUsualText options r (Explained order) text = IsText options.witness r (Explained order) text
-IsUsualText options r (Blamed blame) text = IsTextCut options r (Blamed blame) text
-IsUsualText options r (Unexplained granule words) text = IsTextCut options r (Unexplained granule words) text
-IsUsualText options r (Undecided doubt) text = IsTextCut options r (Undecided doubt) text
+abbrev pub IsUsualText : (Option ℕ → Type 0) → CheckOptions → RecordedValue → Answer → List ℕ → Type 0
+IsUsualText IsCut options r (Explained order) text = IsText options.witness r (Explained order) text
+IsUsualText IsCut options r (Blamed blame) text = IsTextCut IsCut options r (Blamed blame) text
+IsUsualText IsCut options r (Unexplained granule words) text = IsTextCut IsCut options r (Unexplained granule words) text
+IsUsualText IsCut options r (Undecided doubt) text = IsTextCut IsCut options r (Undecided doubt) text
 
 -- What is written of an answer: its text; and where the trace stops being explained, the operations of the granule around the one
 -- that is blamed too.
-abbrev pub IsWritten : CheckOptions → RecordedValue → Answer → List ℕ → Type 0
-IsWritten options r (Explained order) text = IsUsualText options r (Explained order) text
-IsWritten options r (Blamed blame) text = (cut_short : Option ℕ) × (text ≡ failure_text r options.around blame ++ cut_short_line cut_short)
-IsWritten options r (Unexplained granule words) text = IsUsualText options r (Unexplained granule words) text
-IsWritten options r (Undecided doubt) text = IsUsualText options r (Undecided doubt) text
+abbrev pub IsWritten : (Option ℕ → Type 0) → CheckOptions → RecordedValue → Answer → List ℕ → Type 0
+IsWritten IsCut options r (Explained order) text = IsUsualText IsCut options r (Explained order) text
+IsWritten IsCut options r (Blamed blame) text = (cut_short : Option ℕ) × IsCut cut_short × (text ≡ failure_text r options.around blame ++ cut_short_line cut_short)
+IsWritten IsCut options r (Unexplained granule words) text = IsUsualText IsCut options r (Unexplained granule words) text
+IsWritten IsCut options r (Undecided doubt) text = IsUsualText IsCut options r (Undecided doubt) text
 
 -- the answer is a right one of the trace, undecided only after as many states as may be looked at, and this is what is written of it
-pub record IsRight (options : CheckOptions) (r : RecordedValue) (answer : Answer) (text : List ℕ) : Type 0 where
+pub record IsRight (IsCut : Option ℕ → Type 0) (options : CheckOptions) (r : RecordedValue) (answer : Answer) (text : List ℕ) : Type 0 where
   pub right : IsAnswer r options.around answer
   pub undecided : IfUndecided answer (λ doubt. IsWithin options doubt.states)
-  pub text_is : IsWritten options r answer text
+  pub text_is : IsWritten IsCut options r answer text
 
 -- the input has a trace, this is a right answer of it, and this its text
-pub record Answers (options : CheckOptions) (input : List ℕ) (answer : Answer) (text : List ℕ) : Type 0 where
+pub record Answers (IsCut : Option ℕ → Type 0) (options : CheckOptions) (input : List ℕ) (answer : Answer) (text : List ℕ) : Type 0 where
   pub within : length input ≤ most_bytes
   pub recorded : RecordedValue
   pub has_trace : HasTrace options.lines input recorded
-  pub right : IsRight options (judged options recorded) answer text
+  pub right : IsRight IsCut options (judged options recorded) answer text
 
 -- After Ok the text of a right answer of the input's trace was written, and this is its status. What each fault means,
 -- and what was written then: nothing but where the writer failed.
-abbrev pub Outcome : CheckOptions → List ℕ → Option (List ℕ) → Option (List ℕ) → Result ℕ CheckFault → Type 0
-Outcome options input old new (Ok status) = (answer : Answer) × (text : List ℕ) × Answers options input answer text × (status ≡ answer_status answer) × Appends old new text
-Outcome options input old new (Err (Input source_fault.Read)) = Unit {0}
-Outcome options input old new (Err (Input source_fault.TooLong)) = most_bytes < length input
-Outcome options input old new (Err (Input source_fault.Memory)) = Unit {0}
-Outcome options input old new (Err (Input (source_fault.Trace fault))) = HasNoTrace options.lines input (source_fault.Trace fault)
-Outcome options input old new (Err (Input (source_fault.Events fault))) = HasNoTrace options.lines input (source_fault.Events fault)
-Outcome options input old new (Err (File place fault)) = ⊥
-Outcome options input old new (Err (Untold addr)) = (recorded : RecordedValue) × HasTrace options.lines input recorded × (untold options.granule recorded ≡ Some addr)
-Outcome options input old new (Err Page) = Unit {0}
-Outcome options input old new (Err (Unfinished fault)) = ⊥
-Outcome options input old new (Err Unsaved) = ⊥
-Outcome options input old new (Err Unshown) = ⊥
-Outcome options input old new (Err (Write fault)) = (answer : Answer) × (text : List ℕ) × Answers options input answer text × AppendsFront old new text
+abbrev pub Outcome : (Option ℕ → Type 0) → CheckOptions → List ℕ → Option (List ℕ) → Option (List ℕ) → Result ℕ CheckFault → Type 0
+Outcome IsCut options input old new (Ok status) = (answer : Answer) × (text : List ℕ) × Answers IsCut options input answer text × (status ≡ answer_status answer) × Appends old new text
+Outcome IsCut options input old new (Err (Input source_fault.Read)) = Unit {0}
+Outcome IsCut options input old new (Err (Input source_fault.TooLong)) = most_bytes < length input
+Outcome IsCut options input old new (Err (Input source_fault.Memory)) = Unit {0}
+Outcome IsCut options input old new (Err (Input (source_fault.Trace fault))) = HasNoTrace options.lines input (source_fault.Trace fault)
+Outcome IsCut options input old new (Err (Input (source_fault.Events fault))) = HasNoTrace options.lines input (source_fault.Events fault)
+Outcome IsCut options input old new (Err (File place fault)) = ⊥
+Outcome IsCut options input old new (Err (Untold addr)) = (recorded : RecordedValue) × HasTrace options.lines input recorded × (untold options.granule recorded ≡ Some addr)
+Outcome IsCut options input old new (Err Page) = Unit {0}
+Outcome IsCut options input old new (Err (Unfinished fault)) = ⊥
+Outcome IsCut options input old new (Err Unsaved) = ⊥
+Outcome IsCut options input old new (Err Unshown) = ⊥
+Outcome IsCut options input old new (Err (Write fault)) = (answer : Answer) × (text : List ℕ) × Answers IsCut options input answer text × AppendsFront old new text
 
 -- nothing is written where no answer was found, but granules before a fault of the events, or where lines were not saved or no page of a granule was put
 abbrev pub KeepsUnanswered : Option (List ℕ) → Option (List ℕ) → Result ℕ CheckFault → Type 0
@@ -134,8 +139,9 @@ IsReadFault input (Input source_fault.TooLong) = IfSome input (λ bytes. most_by
 IsReadFault input (Input source_fault.Memory) = Unit {0}
 IsReadFault input fault = ⊥
 
--- so many states were looked at on the way to the status: no fewer than may be where it is that of an undecided trace
-pub record LookedForStatus {P : Type 0} (looked : P → ℕ → Type 0) (old new : P) (options : CheckOptions) (status : ℕ) : Type 0 where
+-- So many states were looked at for the verdict that the status is of: no fewer than may be where it is that of an undecided trace.
+pub record LookedForStatus {P : Type 0} (states : P → ℕ → Type 0) (looked : Search → P → ℕ → Type 0) (old new : P) (options : CheckOptions) (status : ℕ) : Type 0 where
   pub count : ℕ
-  pub more : LookedMore looked old new count
+  pub found : FoundBy states looked old new count
+  pub grew : GrewBy states old new count
   pub undecided : status ≡ 6 → (states : ℕ) × IsWithin options states × (states ≤ count)

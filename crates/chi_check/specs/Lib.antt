@@ -1,11 +1,13 @@
 pub mod Check
 pub mod CheckStatus
 pub mod CommandLine
+pub mod Counted
 pub mod Cover
 pub mod Limits
 pub mod OptionValues
 pub mod Pages
 pub mod ProgramOutcome
 pub mod Saving
+pub mod Searched
 pub mod Showing
 pub mod Watch

@@ -35,17 +35,17 @@ abbrev pub IsPageAsked : CheckOptions → RecordedValue → Answer → List ℕ 
 IsPageAsked options r answer page = IfSome options.html (λ _. IsPage r (blame_in answer) page)
 
 -- some answer of what is judged of the trace is right: this is its status, what is written of it, and its page
-abbrev pub IsReported : CheckOptions → RecordedValue → ℕ → List ℕ → List ℕ → Type 0
-IsReported options r status text page =
-    (answer : Answer) × IsRight options r answer text × (status ≡ answer_status answer) × IsPageAsked options r answer page
+abbrev pub IsReported : (Option ℕ → Type 0) → CheckOptions → RecordedValue → ℕ → List ℕ → List ℕ → Type 0
+IsReported IsCut options r status text page =
+    (answer : Answer) × IsRight IsCut options r answer text × (status ≡ answer_status answer) × IsPageAsked options r answer page
 
 -- the input has a trace, this is a right answer of it, this its text, and this its page
-pub record HasPage (options : CheckOptions) (input : List ℕ) (answer : Answer) (text page : List ℕ) : Type 0 where
-  pub answers : Answers options input answer text
+pub record HasPage (IsCut : Option ℕ → Type 0) (options : CheckOptions) (input : List ℕ) (answer : Answer) (text page : List ℕ) : Type 0 where
+  pub answers : Answers IsCut options input answer text
   pub page_is : IsPage (judged options answers.recorded) (blame_in answer) page
 
 -- where one was asked for, the page of the answer that was written was put at the path
-abbrev pub IsPut : {P : Type 0} → (P → List ℕ → List ℕ → Type 0) → CheckOptions → List ℕ → Option (List ℕ) → Option (List ℕ) → ℕ → P → Type 0
-IsPut has_put options input old new status pages =
-    IfSome options.html (λ path. (answer : Answer) × (text : List ℕ) × (page : List ℕ) × HasPage options input answer text page
+abbrev pub IsPut : {P : Type 0} → (P → List ℕ → List ℕ → Type 0) → (Option ℕ → Type 0) → CheckOptions → List ℕ → Option (List ℕ) → Option (List ℕ) → ℕ → P → Type 0
+IsPut has_put IsCut options input old new status pages =
+    IfSome options.html (λ path. (answer : Answer) × (text : List ℕ) × (page : List ℕ) × HasPage IsCut options input answer text page
     × (status ≡ answer_status answer) × Appends old new text × has_put pages path.now page)

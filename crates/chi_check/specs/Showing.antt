@@ -7,7 +7,7 @@ use Rattle.chi_watch_text.specs.Outcomes.{IsWatched}
 use Rattle.chi_watch_text.specs.Texts.{watched_text}
 use Rattle.chi_watch_text.specs.declared.fault.LinesFault.TheVariants as lines_fault
 use Rattle.chi_watch_text.specs.declared.watched.Watched.{Watched}
-use Rattle.chi_check.specs.Check.{HasTrace, IsRight, judged}
+use Rattle.chi_check.specs.Check.{AnyCut, HasTrace, IsRight, judged}
 use Rattle.chi_check.specs.Pages.{IsPage, blame_in}
 use Rattle.chi_check.specs.Saving.{IsPutOf, first_listed}
 use Rattle.chi_check.specs.Watch.{stopped_by, watch_status, watching}
@@ -37,7 +37,7 @@ pub record IsPageOf (options : CheckOptions) (lines page : List ℕ) : Type 0 wh
   pub has_trace : HasTrace options.lines lines recorded
   pub answer : Answer
   pub text : List ℕ
-  pub right : IsRight options (judged options recorded) answer text
+  pub right : IsRight AnyCut options (judged options recorded) answer text
   pub page_is : IsPage (judged options recorded) (blame_in answer) page
 
 -- it is the one that a check makes of this granule, and of the lines that were read of an input, which this rest follows

@@ -1,5 +1,5 @@
 -- what a watch does: what it answers to the events that its input tells
-use Rattle.std.specs.Prelude.{◌≡◌, ℕ, ◌<◌, ◌⊎◌, ◌||◌, Bool, if◌then◌else◌, List, [], ◌∷◌, All, Option, Result, Ok, Err, flat_map, is_some, length}
+use Rattle.std.specs.Prelude.{◌≡◌, ℕ, ◌+◌, ◌<◌, ◌≤◌, ◌⊎◌, ◌||◌, Bool, if◌then◌else◌, List, [], ◌∷◌, All, Option, Result, Ok, Err, flat_map, is_some, length}
 use Rattle.std.specs.Io.KnownBytes.{Appends, Keeps}
 use Rattle.chi_script.specs.WriterBytes.{AppendsFront}
 use Rattle.chi_script.specs.declared.device.WriteFault.TheVariants.{Failed}
@@ -12,6 +12,7 @@ use Rattle.chi_watch_text.specs.declared.fault.LinesFault.TheVariants as lines_f
 use Rattle.chi_watch_text.specs.declared.options.WatchOptions.{WatchOptions}
 use Rattle.chi_watch_text.specs.declared.watched.FoundGranule.{FoundGranule}
 use Rattle.chi_watch_text.specs.declared.watched.Watched.{Watched}
+use Rattle.chi_search.specs.Looks.{Search, for_verdict}
 use Rattle.chi_judge.specs.declared.standing.Standing.{Standing}
 use Rattle.chi_judge.specs.declared.standing.Standing.TheVariants.{Explained, Unexplained, Undecided}
 use Rattle.chi_check.specs.declared.fault.CheckFault.{CheckFault}
@@ -70,3 +71,7 @@ WatchOutcome options input old new (Err (check_fault.Input (source_fault.Trace f
 WatchOutcome options input old new (Err (check_fault.File place fault)) = ⊥
 WatchOutcome options input old new (Err (check_fault.Untold addr)) = ⊥
 WatchOutcome options input old new (Err check_fault.Page) = ⊥
+
+-- at least so many states were looked at, where that was known of those before, which were for a verdict
+abbrev pub WatchedFor : {P : Type 0} → (P → ℕ → Type 0) → (Search → P → ℕ → Type 0) → P → P → ℕ → Type 0
+WatchedFor states looked old new budget = (n : ℕ) → looked for_verdict old n → (m : ℕ) × (n + budget ≤ m) × states new m

@@ -3,6 +3,7 @@
 ghost use Rattle.std.specs.Prelude.{◌≡◌, map, string_bytes, IfOk, IfSome};
 ghost use Rattle.chi_check.specs.Check.{KeepsUnanswered};
 ghost use Rattle.chi_check.specs.CheckStatus.{IsAnswerStatus, IsStatus, status_of};
+ghost use Rattle.chi_search.specs.Looks.{IsCutShort};
 ghost use Rattle.chi_check.specs.ProgramOutcome.{Ends, ProgramOutcome, TaskOutcome, given_to};
 
 use crate::command::{PROGRAM, Task, task_of};
@@ -26,7 +27,7 @@ fn do_task<R: Read, W: Write, P: WatchProgress, G: Pages + Sources + Meter>(
     progress: &mut P,
     machine: &mut G,
 ) -> Result<u8, CheckFault>
-    ensures outcome { IfSome (given_to (G.given machine.old) task.now (R.remaining from.old)) (λ input. TaskOutcome (G.holds machine.old) task.now input (W.contents to.old) (W.contents to.new) result) }
+    ensures outcome { IfSome (given_to (G.given machine.old) task.now (R.remaining from.old)) (λ input. TaskOutcome (IsCutShort P.states P.looked progress.new) (G.holds machine.old) task.now input (W.contents to.old) (W.contents to.new) result) }
     ensures unanswered { KeepsUnanswered (W.contents to.old) (W.contents to.new) result }
     ensures status { IfOk result IsAnswerStatus }
 {
@@ -75,7 +76,7 @@ fn end_task<R: Read, W: Write, E: Write, P: WatchProgress, G: Pages + Sources + 
     progress: &mut P,
     machine: &mut G,
 ) -> u8
-    ensures ends { Ends (G.holds machine.old) task.now (given_to (G.given machine.old) task.now (R.remaining from.old)) (W.contents to.old) (W.contents to.new) result }
+    ensures ends { Ends (IsCutShort P.states P.looked progress.new) (G.holds machine.old) task.now (given_to (G.given machine.old) task.now (R.remaining from.old)) (W.contents to.old) (W.contents to.new) result }
     ensures status { IsStatus result }
 {
     match do_task(alloc, task, from, to, progress, machine) {
@@ -100,7 +101,7 @@ pub fn run_arguments<R: Read, W: Write, E: Write, P: WatchProgress, G: Pages + S
     progress: &mut P,
     machine: &mut G,
 ) -> u8
-    ensures outcome { ProgramOutcome (G.holds machine.old) (G.given machine.old) (map string_bytes arguments.now) (R.remaining from.old) (W.contents to.old) (W.contents to.new) result }
+    ensures outcome { ProgramOutcome (IsCutShort P.states P.looked progress.new) (G.holds machine.old) (G.given machine.old) (map string_bytes arguments.now) (R.remaining from.old) (W.contents to.old) (W.contents to.new) result }
     ensures status { IsStatus result }
 {
     match task_of(alloc, arguments) {

@@ -5,7 +5,7 @@ ghost use Rattle.chi_verdict.specs.Blames.{IsBlame};
 ghost use Rattle.chi_answer.specs.Answers.{IfUndecided, IsAnswer, IsUnexplained};
 ghost use Rattle.chi_check.specs.Check.{IsReadFault, IsUsualText, KeepsUnanswered, LookedForStatus, Outcome, asked, happened, judged, most_bytes};
 ghost use Rattle.chi_check.specs.Limits.{IsWithin};
-ghost use Rattle.chi_search.specs.Looks.{LookedSome};
+ghost use Rattle.chi_search.specs.Looks.{IsCutShort};
 ghost use Rattle.chi_check.specs.CheckStatus.{IsAnswerStatus, answer_status};
 ghost use Rattle.chi_check.specs.Pages.{IsPage, IsPut, IsReported};
 
@@ -110,7 +110,7 @@ fn blamed_report(
 ) -> Result<Report, AllocError>
     requires unexplained { IsUnexplained recorded.now }
     requires blame { IsBlame recorded.now.trace options.now.around blame.now }
-    ensures reported { IfOk result (λ report. IsReported options.now recorded.now report.status report.text.items report.page.items) }
+    ensures reported { IfOk result (λ report. IsReported (λ cut. cut ≡ cut_short) options.now recorded.now report.status report.text.items report.page.items) }
     ensures status { IfOk result (λ report. report.status ≡ 1) }
 {
     let mut text = failure_text(alloc, recorded, blame, options.around as usize)?;
@@ -132,7 +132,7 @@ fn usual_text(
     cut_short: Option<u64>,
 ) -> Result<Vec<u8>, AllocError>
     requires { IsAnswer recorded.now options.now.around answer.now }
-    ensures { IfOk result (λ text. IsUsualText options.now recorded.now answer.now text.items) }
+    ensures { IfOk result (λ text. IsUsualText (λ cut. cut ≡ cut_short) options.now recorded.now answer.now text.items) }
 {
     let mut text = answer_text(alloc, recorded, answer, options.witness)?;
     match answer {
@@ -152,7 +152,7 @@ fn usual_report(
     cut_short: Option<u64>,
 ) -> Result<Report, AllocError>
     requires { IsAnswer recorded.now options.now.around answer.now }
-    ensures text { IfOk result (λ report. IsUsualText options.now recorded.now answer.now report.text.items) }
+    ensures text { IfOk result (λ report. IsUsualText (λ cut. cut ≡ cut_short) options.now recorded.now answer.now report.text.items) }
     ensures status { IfOk result (λ report. report.status ≡ answer_status answer.now) }
     ensures page { IfOk result (λ report. IfSome options.now.html (λ _. IsPage recorded.now None report.page.items)) }
 {
@@ -171,14 +171,14 @@ fn report_of(
     recorded: &Recorded,
     searched: Searched,
     options: &CheckOptions<'_>,
-    cut_short: Option<u64>,
 ) -> Result<Report, AllocError>
     requires right { IsAnswer recorded.now options.now.around searched.answer }
     requires undecided { IfUndecided searched.answer (λ doubt. IsWithin options.now doubt.states) }
-    ensures reported { IfOk result (λ report. IsReported options.now recorded.now report.status report.text.items report.page.items) }
+    ensures reported { IfOk result (λ report. IsReported (λ cut. cut ≡ searched.cut_short) options.now recorded.now report.status report.text.items report.page.items) }
     ensures status { IfOk result (λ report. report.status ≡ answer_status searched.answer) }
 {
     let budget = searched.budget;
+    let cut_short = searched.cut_short;
     match searched.answer {
         Answer::Blamed(blame) => {
             blamed_report(alloc, recorded, &blame, options, budget, cut_short)
@@ -195,11 +195,11 @@ fn answered<P: WatchProgress, M: Meter>(
     progress: &mut P,
     meter: &M,
 ) -> Result<Report, AllocError>
-    ensures reported { IfOk result (λ report. IsReported options.now recorded.now report.status report.text.items report.page.items) }
-    ensures spent { IfOk result (λ report. LookedForStatus P.looked progress.old progress.new options.now report.status) }
+    ensures reported { IfOk result (λ report. IsReported (IsCutShort P.states P.looked progress.new) options.now recorded.now report.status report.text.items report.page.items) }
+    ensures spent { IfOk result (λ report. LookedForStatus P.states P.looked progress.old progress.new options.now report.status) }
 {
     let searched = search(alloc, recorded, options, progress, meter)?;
-    report_of(alloc, recorded, searched, options, progress.cut_short())
+    report_of(alloc, recorded, searched, options)
 }
 
 /// What is reported of what is judged of a trace, once what is shown of the progress is taken back.
@@ -210,8 +210,8 @@ pub(crate) fn reported<P: WatchProgress, M: Meter>(
     progress: &mut P,
     meter: &M,
 ) -> Result<Report, AllocError>
-    ensures reported { IfOk result (λ report. IsReported options.now (judged options.now recorded) report.status report.text.items report.page.items) }
-    ensures spent { IfOk result (λ report. LookedForStatus P.looked progress.old progress.new options.now report.status) }
+    ensures reported { IfOk result (λ report. IsReported (IsCutShort P.states P.looked progress.new) options.now (judged options.now recorded) report.status report.text.items report.page.items) }
+    ensures spent { IfOk result (λ report. LookedForStatus P.states P.looked progress.old progress.new options.now report.status) }
 {
     let part = judged(alloc, recorded, options)?;
     let report = answered(alloc, &part, options, progress, meter);
@@ -248,11 +248,11 @@ pub fn check<R: Read, W: Write, P: WatchProgress, G: Pages + Meter>(
     progress: &mut P,
     machine: &mut G,
 ) -> Result<u8, CheckFault>
-    ensures outcome { IfSome (R.remaining from.old) (λ input. Outcome options.now input (W.contents to.old) (W.contents to.new) result) }
+    ensures outcome { IfSome (R.remaining from.old) (λ input. Outcome (IsCutShort P.states P.looked progress.new) options.now input (W.contents to.old) (W.contents to.new) result) }
     ensures unanswered { KeepsUnanswered (W.contents to.old) (W.contents to.new) result }
     ensures status { IfOk result (λ status. IsAnswerStatus status) }
-    ensures spent { IfOk result (λ status. LookedForStatus P.looked progress.old progress.new options.now status) }
-    ensures page { IfOk result (λ status. IfSome (R.remaining from.old) (λ input. IsPut G.has_put options.now input (W.contents to.old) (W.contents to.new) status machine.new)) }
+    ensures spent { IfOk result (λ status. LookedForStatus P.states P.looked progress.old progress.new options.now status) }
+    ensures page { IfOk result (λ status. IfSome (R.remaining from.old) (λ input. IsPut G.has_put (IsCutShort P.states P.looked progress.new) options.now input (W.contents to.old) (W.contents to.new) status machine.new)) }
 {
     let input = read_bytes(alloc, from)?;
     let recorded = match trace_told(alloc, &input, options.lines) {

@@ -5,6 +5,7 @@ ghost use Rattle.chi_check.specs.Check.{KeepsUnanswered, Outcome};
 ghost use Rattle.chi_check.specs.CheckStatus.{IsAnswerStatus};
 ghost use Rattle.chi_check.specs.ProgramOutcome.{by_file};
 ghost use Rattle.chi_check.specs.Watch.{WatchOutcome, watching};
+ghost use Rattle.chi_search.specs.Looks.{IsCutShort};
 
 use crate::check::check;
 use crate::fault::{CheckFault, SourceFault};
@@ -27,7 +28,7 @@ pub(crate) fn explain_input<R: Read, W: Write, P: WatchProgress, G: Pages + Sour
     progress: &mut P,
     machine: &mut G,
 ) -> Result<u8, CheckFault>
-    ensures outcome { IfSome (by_file (G.given machine.old) file.entry (R.remaining from.old)) (λ input. Outcome options.now input (W.contents to.old) (W.contents to.new) result) }
+    ensures outcome { IfSome (by_file (G.given machine.old) file.entry (R.remaining from.old)) (λ input. Outcome (IsCutShort P.states P.looked progress.new) options.now input (W.contents to.old) (W.contents to.new) result) }
     ensures unanswered { KeepsUnanswered (W.contents to.old) (W.contents to.new) result }
     ensures status { IfOk result IsAnswerStatus }
 {

@@ -2,6 +2,8 @@
 
 ghost use Rattle.std.specs.Prelude.{◌≡◌, ℕ, ◌+◌, ◌-◌, ◌*◌, ◌^◌, ◌<◌, ◌≤◌, None, min};
 ghost use Rattle.std.specs.Io.KnownBytes.{Keeps};
+ghost use Rattle.chi_search.specs.Looks.{IsCutShort, LookedMore, Search, after_verdict, for_verdict};
+ghost use Rattle.chi_check.specs.Counted.{IsCounted, IsCutAt, IsKnown};
 
 use chi_search::Progress;
 use chi_watch::Counts;
@@ -114,7 +116,10 @@ impl<'a, C: Clock, W: Write> ProgressLine<'a, C, W> {
         ensures some { 0 < result }
         ensures within { result ≤ left }
         ensures one { self.old.may_follow ≡ None → result ≡ 1 }
+        ensures cut { IsCutAt self.old.begun self.old.states self.old.cut_short self.new.cut_short result }
         ensures states { self.new.states ≡ self.old.states }
+        ensures begun { self.new.begun ≡ self.old.begun }
+        ensures may_follow { self.new.may_follow ≡ self.old.may_follow }
         ensures began { self.new.began ≡ self.old.began }
         ensures unwritten { Keeps (W.contents self.old.to) (W.contents self.new.to) }
     {
@@ -129,7 +134,10 @@ impl<'a, C: Clock, W: Write> ProgressLine<'a, C, W> {
 
     // Writes the line over the one that stands there.
     fn show(&mut self)
-        ensures { self.new.states ≡ self.old.states }
+        ensures states { self.new.states ≡ self.old.states }
+        ensures begun { self.new.begun ≡ self.old.begun }
+        ensures may_follow { self.new.may_follow ≡ self.old.may_follow }
+        ensures cut { self.new.cut_short ≡ self.old.cut_short }
     {
         let _written = match self.reached {
             Some((counts, time)) => {
@@ -150,7 +158,10 @@ impl<'a, C: Clock, W: Write> ProgressLine<'a, C, W> {
 
     // Writes the line where it is time to.
     fn show_if_due(&mut self)
-        ensures { self.new.states ≡ self.old.states }
+        ensures states { self.new.states ≡ self.old.states }
+        ensures begun { self.new.begun ≡ self.old.begun }
+        ensures may_follow { self.new.may_follow ≡ self.old.may_follow }
+        ensures cut { self.new.cut_short ≡ self.old.cut_short }
     {
         if let Some(now) = self.due() {
             self.show();
@@ -160,18 +171,24 @@ impl<'a, C: Clock, W: Write> ProgressLine<'a, C, W> {
 }
 
 impl<'a, C: Clock, W: Write> Progress for ProgressLine<'a, C, W> {
-    ghost looked = { λ p n. p.states ≡ min n (2 ^ 64 - 1) };
+    ghost states = { λ p n. IsCounted p.states n };
+
+    ghost looked = { λ s p n. IsKnown s p.may_follow p.begun p.states p.cut_short n };
+
+    ghost are_states = { λ p n is. is.1 };
 
     fn look(&mut self, left: u64) -> u64
         requires { 0 < left }
         ensures some { 0 < result }
         ensures within { result ≤ left }
-        ensures looked { (n : ℕ) → self.old.states ≡ min n (2 ^ 64 - 1) → self.new.states ≡ min (n + result) (2 ^ 64 - 1) }
-        ensures one { self.old.may_follow ≡ None → result ≡ 1 }
+        ensures one { (n : ℕ) → IsKnown for_verdict self.old.may_follow self.old.begun self.old.states self.old.cut_short n → result ≡ 1 }
+        ensures looked { (s : Search) (n : ℕ) → IsKnown s self.old.may_follow self.old.begun self.old.states self.old.cut_short n → IsKnown s self.new.may_follow self.new.begun self.new.states self.new.cut_short (n + result) }
+        ensures states { (n : ℕ) → IsCounted self.old.states n → IsCounted self.new.states (n + 1) }
+        ensures unlimited { self.old.may_follow ≡ None → result ≡ 1 }
         ensures quiet { self.old.began ≡ None → Keeps (W.contents self.old.to) (W.contents self.new.to) }
     {
         let count = self.count_next(left);
-        self.states = self.states.saturating_add(count);
+        self.states = self.states.saturating_add(1);
         self.looks = self.looks.wrapping_add(1);
         if self.began.is_some() && self.looks % STATES == 0 {
             self.show_if_due();
@@ -180,7 +197,7 @@ impl<'a, C: Clock, W: Write> Progress for ProgressLine<'a, C, W> {
     }
 
     fn before_verdict(&mut self)
-        ensures counted { (n : ℕ) → self.old.states ≡ min n (2 ^ 64 - 1) → self.new.states ≡ min n (2 ^ 64 - 1) }
+        ensures begins { (n : ℕ) → IsCounted self.old.states n → IsKnown for_verdict self.new.may_follow self.new.begun self.new.states self.new.cut_short n }
         ensures quiet { Keeps (W.contents self.old.to) (W.contents self.new.to) }
         ensures unlimited { self.new.may_follow ≡ None }
     {
@@ -189,7 +206,7 @@ impl<'a, C: Clock, W: Write> Progress for ProgressLine<'a, C, W> {
     }
 
     fn after_verdict(&mut self, operations: usize)
-        ensures counted { (n : ℕ) → self.old.states ≡ min n (2 ^ 64 - 1) → self.new.states ≡ min n (2 ^ 64 - 1) }
+        ensures ends { (n : ℕ) → IsKnown for_verdict self.old.may_follow self.old.begun self.old.states self.old.cut_short n → IsKnown (after_verdict n) self.new.may_follow self.new.begun self.new.states self.new.cut_short n }
         ensures quiet { Keeps (W.contents self.old.to) (W.contents self.new.to) }
         ensures limited { self.new.may_follow ≡ Some (min (min ((self.old.states - self.old.begun) * 16) 2000000 + operations * 64 + 100000) (2 ^ 64 - 1)) }
     {
@@ -206,7 +223,8 @@ impl<'a, C: Clock, W: Write> Progress for ProgressLine<'a, C, W> {
 
 impl<'a, C: Clock, W: Write> WatchProgress for ProgressLine<'a, C, W> {
     fn reached(&mut self, counts: Counts, time: u64)
-        ensures counted { (n : ℕ) → self.old.states ≡ min n (2 ^ 64 - 1) → self.new.states ≡ min n (2 ^ 64 - 1) }
+        ensures looked { (s : Search) (n : ℕ) → IsKnown s self.old.may_follow self.old.begun self.old.states self.old.cut_short n → IsKnown s self.new.may_follow self.new.begun self.new.states self.new.cut_short n }
+        ensures states { (n : ℕ) → IsCounted self.old.states n → IsCounted self.new.states n }
         ensures quiet { self.old.began ≡ None → Keeps (W.contents self.old.to) (W.contents self.new.to) }
     {
         self.events = self.events.wrapping_add(1);
@@ -217,7 +235,9 @@ impl<'a, C: Clock, W: Write> WatchProgress for ProgressLine<'a, C, W> {
     }
 
     fn clear(&mut self)
-        ensures counted { (n : ℕ) → self.old.states ≡ min n (2 ^ 64 - 1) → self.new.states ≡ min n (2 ^ 64 - 1) }
+        ensures looked { (s : Search) (n : ℕ) → IsKnown s self.old.may_follow self.old.begun self.old.states self.old.cut_short n → IsKnown s self.new.may_follow self.new.begun self.new.states self.new.cut_short n }
+        ensures no_more { (s : Search) (n : ℕ) → IsKnown s self.new.may_follow self.new.begun self.new.states self.new.cut_short n → IsKnown s self.old.may_follow self.old.begun self.old.states self.old.cut_short n }
+        ensures states { (n : ℕ) → IsCounted self.old.states n → IsCounted self.new.states n }
         ensures quiet { self.old.shown ≡ None → Keeps (W.contents self.old.to) (W.contents self.new.to) }
         ensures cleared { self.new.shown ≡ None }
     {

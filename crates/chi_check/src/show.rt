@@ -1,7 +1,7 @@
 //! The page of the granule that is listed first, put in a file of its own.
 
 ghost use Rattle.std.specs.Prelude.{◌≡◌, List, ℕ, IfErr, IfOk, IfSome, OnOk, Some};
-ghost use Rattle.chi_search.specs.Looks.{LookedSome};
+ghost use Rattle.chi_search.specs.Looks.{Grew};
 ghost use Rattle.chi_check.specs.Saving.{PutsMore, first_listed};
 ghost use Rattle.chi_check.specs.Showing.{IsFirstShown, IsPageOf, IsUnshown, page_options};
 
@@ -44,7 +44,7 @@ fn page_of<P: WatchProgress, M: Meter>(
     meter: &M,
 ) -> Result<Vec<u8>, CheckFault>
     ensures page { IfOk result (λ page. IfSome options.now.html (λ _. IsPageOf (page_options options.now granule) lines.now page.items)) }
-    ensures looked { IfOk result (λ _. LookedSome P.looked progress.old progress.new) }
+    ensures looked { IfOk result (λ _. Grew P.states progress.old progress.new) }
     ensures fault { IfErr result (IsUnshown watched.now) }
 {
     let mut reader = lines;
@@ -72,7 +72,7 @@ fn put_shown<P: WatchProgress, G: Pages + Meter>(
 ) -> Result<(), CheckFault>
     ensures put { OnOk result (IfSome options.now.html (λ _. (page : List ℕ) × IsPageOf (page_options options.now granule) lines.now page × G.has_put machine.new path.now page)) }
     ensures before { OnOk result (PutsMore G.has_put (Some granule) machine.old machine.new) }
-    ensures looked { OnOk result (LookedSome P.looked progress.old progress.new) }
+    ensures looked { OnOk result (Grew P.states progress.old progress.new) }
     ensures fault { IfErr result (IsUnshown watched.now) }
 {
     let page = page_of(alloc, watched, lines, granule, options, progress, machine)?;
@@ -93,7 +93,7 @@ pub(crate) fn show_first<P: WatchProgress, G: Pages + Meter>(
 ) -> Result<(), CheckFault>
     ensures put { OnOk result (IfSome options.now.html (λ p. IsFirstShown G.has_put options.now watched.now p.now machine.old machine.new)) }
     ensures before { OnOk result (PutsMore G.has_put (first_listed watched.now) machine.old machine.new) }
-    ensures looked { OnOk result (LookedSome P.looked progress.old progress.new) }
+    ensures looked { OnOk result (Grew P.states progress.old progress.new) }
     ensures fault { IfErr result (IsUnshown watched.now) }
 {
     let (Some(path), Some(kept), Some(granule)) = (

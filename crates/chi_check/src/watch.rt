@@ -3,7 +3,7 @@
 ghost use Rattle.std.specs.Prelude.{◌≡◌, ◌≢◌, IfErr, IfOk, IfSome, flat_map, is_some};
 ghost use Rattle.std.specs.Io.KnownBytes.{Appends};
 ghost use Rattle.chi_script.specs.WriterBytes.{AppendsFront};
-ghost use Rattle.chi_search.specs.Looks.{LookedAtLeast};
+ghost use Rattle.chi_search.specs.Looks.{for_verdict};
 ghost use Rattle.chi_watch_text.specs.Outcomes.{IsOutcome, WentBy};
 ghost use Rattle.chi_watch_text.specs.Required.{is_nothing, missing_of};
 ghost use Rattle.chi_watch_text.specs.Texts.{found_text};
@@ -11,7 +11,7 @@ ghost use Rattle.chi_check.specs.Check.{KeepsUnanswered};
 ghost use Rattle.chi_check.specs.CheckStatus.{IsAnswerStatus};
 ghost use Rattle.chi_check.specs.Saving.{SavesFirst};
 ghost use Rattle.chi_check.specs.Showing.{ShowsFirst};
-ghost use Rattle.chi_check.specs.Watch.{WatchOutcome, WritesClosing, found_before, stopped_by, verdict_status, watch_status, watching};
+ghost use Rattle.chi_check.specs.Watch.{WatchOutcome, WatchedFor, WritesClosing, found_before, stopped_by, verdict_status, watch_status, watching};
 
 use crate::fault::{CheckFault, SourceFault};
 use crate::meter::Meter;
@@ -93,7 +93,7 @@ fn watched<R: Read, W: Write, P: WatchProgress>(
     ensures told { IfOk result (λ watched. Appends (W.contents to.old) (W.contents to.new) (flat_map found_text watched.found.items)) }
     ensures kept { IfErr result (λ unfinished. unfinished.fault ≢ LinesFault.Write → Appends (W.contents to.old) (W.contents to.new) (flat_map found_text unfinished.found.items)) }
     ensures begun { IfErr result (λ unfinished. AppendsFront (W.contents to.old) (W.contents to.new) (flat_map found_text unfinished.found.items)) }
-    ensures undecided { IfOk result (WentBy P.looked progress.old progress.new options.now.budget) }
+    ensures undecided { IfOk result (WentBy (P.looked for_verdict) progress.old progress.new options.now.budget) }
     ensures keeps { IfOk result (λ watched. is_some watched.kept ≡ options.now.keep_lines) }
 {
     let mut lines = match BufReader::new(alloc, from) {
@@ -150,7 +150,7 @@ pub fn watch<R: Read, W: Write, P: WatchProgress, G: Pages + Meter>(
     ensures outcome { IfSome (R.remaining from.old) (λ input. WatchOutcome (watching options.now) input (W.contents to.old) (W.contents to.new) result) }
     ensures unanswered { KeepsUnanswered (W.contents to.old) (W.contents to.new) result }
     ensures status { IfOk result (λ status. IsAnswerStatus status) }
-    ensures spent { IfOk result (λ status. status ≡ 6 → LookedAtLeast P.looked progress.old progress.new options.now.budget) }
+    ensures spent { IfOk result (λ status. status ≡ 6 → WatchedFor P.states P.looked progress.old progress.new options.now.budget) }
     ensures saved { IfOk result (λ status. IfSome (R.remaining from.old) (λ input. SavesFirst G.has_put options.now input (W.contents to.old) (W.contents to.new) status machine.old machine.new)) }
     ensures shown { IfOk result (λ status. IfSome (R.remaining from.old) (λ input. ShowsFirst G.has_put options.now input (W.contents to.old) (W.contents to.new) status machine.old machine.new)) }
 {

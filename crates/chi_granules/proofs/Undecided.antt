@@ -1,7 +1,7 @@
 -- how many states were looked at of granules that are not decided
 use Rattle.std.proofs.Common.{◌≡◌, ℕ, ◌-◌, ◌≤◌, List, [], ◌∷◌, ◌++◌, All, sym, subst, arith}
 use Rattle.std.proofs.lemmas.List.Elements.{All-push, All-weaker}
-use Rattle.chi_search.specs.Looks.{LookedAtLeast, LookedMore, LookedSome}
+use Rattle.chi_search.specs.Looks.{LookedAtLeast, LookedMore, LookedSome, Search}
 use Rattle.chi_search.proofs.Looking.{at_least_after, at_least_before}
 use Rattle.chi_page.specs.declared.drawn.Drawn.{Drawn}
 use Rattle.chi_judge.specs.declared.standing.Standing.{Standing}
@@ -20,7 +20,7 @@ pub undecided_imply : (A B : Type 0) → (A → B) → (drawn : List Drawn) → 
 undecided_imply A B implies = All-weaker (λ d. IfUndecided d A) (λ d. IfUndecided d B) (λ d. neither_implies d.finding A B implies)
 
 -- one more is judged, and its budget is left with the rest
-module _ {P : Type 0} (looked : P → ℕ → Type 0) (old middle new : P) where
+module _ {P : Type 0} (looked : Search → P → ℕ → Type 0) (old middle new : P) where
   pub one_more : (budget left : ℕ) (before after : List Drawn) (drawn : Drawn) → after ≡ before ++ drawn ∷ [] → LookedSome looked old middle
       → All (λ d. IfUndecided d (LookedAtLeast looked old middle budget)) before → (left ≤ budget) × LookedMore looked middle new (budget - left)
       → IfUndecided drawn (left ≡ 0) → All (λ d. IfUndecided d (LookedAtLeast looked old new budget)) after

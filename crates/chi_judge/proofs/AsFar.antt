@@ -8,10 +8,10 @@ use Rattle.std.proofs.lemmas.List.Sorted.{All-permutation, IsPermutation-sym}
 use Rattle.chi_trace.specs.declared.operation.Operation.{Operation}
 use Rattle.chi_trace.specs.AtPlaces.{is_in}
 use Rattle.chi_trace.specs.Explains.{at, is_answered, nothing}
-use Rattle.chi_judge.specs.Explained.{AreAnsweredBeside, AreAnsweredBy, EndsBy, IsAsFar}
+use Rattle.chi_judge.specs.Explained.{AreAnsweredBeside, AreAnsweredBy, EndsBy, IsAsFar, IsAsFarUnless}
 use Rattle.chi_judge.specs.Judges.{EndedBefore, JudgeValue, Keeps}
 use Rattle.chi_judge.specs.Reaches.{IsExplained, IsJudgeOf}
-use Rattle.chi_search.specs.Looks.{LookedAtLeast}
+use Rattle.chi_search.specs.Looks.{LookedAtLeast, Search}
 
 module _ (trace : List Operation) (g w : ℕ) (r : JudgeValue) (is : IsJudgeOf trace g w r) (goes : r.is_stopped ≡ false) (found : Option ℕ) (count place : ℕ)
     (others : (i : ℕ) → count ≤ i → i < length r.kept → is_answered (at r.kept i) ≡ false)
@@ -36,7 +36,7 @@ module _ (trace : List Operation) (g w : ℕ) (r : JudgeValue) (is : IsJudgeOf t
       (λ i below answered. ⊎_elim (λ less. inl (by i less below)) (λ more. inr (k.next.sorted.0 place i more below)) (cases_lt i place))
 
   -- so they are explained as far as was found
-  pub as_far : {P B : Type 0} (looked : P → ℕ → Type 0) (old new : P) (budget : ℕ) → place ≤ count → count ≤ length r.kept
+  pub as_far : {P B : Type 0} (looked : Search → P → ℕ → Type 0) (old new : P) (budget : ℕ) → place ≤ count → count ≤ length r.kept
       → (place < count → (IsExplained (at r.kept place).end trace g w → ⊥) ⊎ (B × LookedAtLeast looked old new budget)) → IsAsFar looked old new budget trace g w found
   as_far looked old new budget within bound unexplained = ⊎_elim
       (λ less. inr ((at r.kept place).end, answered_beside (omega (arith, less, bound)), ⊎_elim inl (λ spent. inr spent.1) (unexplained less)))
@@ -52,9 +52,8 @@ pub so_before_since : (found : Option ℕ) (since : ℕ) (Q : ℕ → Type 0) �
 so_before_since None since Q is each = tt
 so_before_since (Some time) since Q is each = each time (omega (arith, is.0, is.1))
 
--- where so many states are known to be looked at from others, it is as far by these
-pub as_far_by : {P : Type 0} (looked : P → ℕ → Type 0) (old new before after : P) (budget more : ℕ) → (LookedAtLeast looked old new budget → LookedAtLeast looked before after more)
-    → (trace : List Operation) (g w : ℕ) (found : Option ℕ) → IsAsFar looked old new budget trace g w found → IsAsFar looked before after more trace g w found
-as_far_by looked old new before after budget more spent trace g w found (inl all) = inl all
-as_far_by looked old new before after budget more spent trace g w found (inr (next, beside, inl none)) = inr (next, beside, inl none)
-as_far_by looked old new before after budget more spent trace g w found (inr (next, beside, inr whole)) = inr (next, beside, inr (spent whole))
+-- where what was spent says that something else was, it is as far by that
+pub as_far_by : (Spent More : Type 0) → (Spent → More) → (trace : List Operation) (g w : ℕ) (found : Option ℕ) → IsAsFarUnless Spent trace g w found → IsAsFarUnless More trace g w found
+as_far_by Spent More spent trace g w found (inl all) = inl all
+as_far_by Spent More spent trace g w found (inr (next, beside, inl none)) = inr (next, beside, inl none)
+as_far_by Spent More spent trace g w found (inr (next, beside, inr whole)) = inr (next, beside, inr (spent whole))

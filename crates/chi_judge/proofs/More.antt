@@ -14,7 +14,7 @@ use Rattle.chi_judge.specs.declared.reach.Reach.TheVariants.{Whole, Stops, Undec
 use Rattle.chi_judge.specs.declared.reach.Stop.{Stop}
 use Rattle.chi_judge.specs.Judges.{JudgeValue, LiesWithin}
 use Rattle.chi_judge.specs.Reaches.{IfStops, IfUndecided, IsJudgeOf, MissesNone}
-use Rattle.chi_search.specs.Looks.{LookedAtLeast, LookedSome}
+use Rattle.chi_search.specs.Looks.{LookedAtLeast, LookedSome, Search}
 use Rattle.chi_search.proofs.Looking.{at_least_after, at_least_before}
 use Rattle.chi_judge.proofs.Cutting.{ends_after, sorted_tail}
 
@@ -104,7 +104,7 @@ ok_stops_imply (Ok Undecided) P Q implies is looked = tt
 ok_stops_imply (Err e) P Q implies is looked = tt
 
 -- after some states nothing is missed that was not missed without them
-pub misses_none_after : {P : Type 0} (looked : P → ℕ → Type 0) (old middle new : P) (budget : ℕ) (trace : List Operation) (g w : ℕ) (s : Stop) → LookedSome looked old middle
+pub misses_none_after : {P : Type 0} (looked : Search → P → ℕ → Type 0) (old middle new : P) (budget : ℕ) (trace : List Operation) (g w : ℕ) (s : Stop) → LookedSome looked old middle
     → MissesNone looked middle new budget trace g w s → MissesNone looked old new budget trace g w s
 misses_none_after looked old middle new budget trace g w s some misses = record {
   suspects = λ op is. elim (misses.suspects op is) [ inl there ↦ inl there | inr spent ↦ inr (at_least_after looked old middle new budget some spent) ];
@@ -113,7 +113,7 @@ misses_none_after looked old middle new budget trace g w s some misses = record 
 }
 
 -- nor before some others
-pub misses_none_before : {P : Type 0} (looked : P → ℕ → Type 0) (old middle new : P) (budget : ℕ) (trace : List Operation) (g w : ℕ) (s : Stop) → LookedSome looked middle new
+pub misses_none_before : {P : Type 0} (looked : Search → P → ℕ → Type 0) (old middle new : P) (budget : ℕ) (trace : List Operation) (g w : ℕ) (s : Stop) → LookedSome looked middle new
     → MissesNone looked old middle budget trace g w s → MissesNone looked old new budget trace g w s
 misses_none_before looked old middle new budget trace g w s some misses = record {
   suspects = λ op is. elim (misses.suspects op is) [ inl there ↦ inl there | inr spent ↦ inr (at_least_before looked old middle new budget spent some) ];

@@ -4,7 +4,7 @@ use Rattle.std.specs.List.{filter}
 use Rattle.chi_trace.specs.declared.operation.Operation.{Operation}
 use Rattle.chi_trace.specs.AtPlaces.{is_in}
 use Rattle.chi_trace.specs.Explains.{is_answered}
-use Rattle.chi_search.specs.Looks.{LookedAtLeast}
+use Rattle.chi_search.specs.Looks.{LookedAtLeast, Search}
 use Rattle.chi_judge.specs.Reaches.{IsExplained}
 
 -- it ended by a time, where there is one
@@ -20,8 +20,12 @@ abbrev pub AreAnsweredBeside : List Operation → Option ℕ → ℕ → Type 0
 AreAnsweredBeside own found next = All (λ op. is_answered op ≡ true → EndsBy found op ⊎ (next ≤ op.end)) own
 
 -- It is explained as far as was found: each reply that was seen had come by the time; or between it and a next time none came, and
--- up to that one no order explains the granule, or as many states were looked at as the budget has.
-abbrev pub IsAsFar : {P : Type 0} → (P → ℕ → Type 0) → P → P → ℕ → List Operation → ℕ → ℕ → Option ℕ → Type 0
-IsAsFar looked old new budget trace g w found =
+-- up to that one no order explains the granule, or this was spent.
+abbrev pub IsAsFarUnless : Type 0 → List Operation → ℕ → ℕ → Option ℕ → Type 0
+IsAsFarUnless Spent trace g w found =
     AreAnsweredBy (filter (is_in g) trace) found
-    ⊎ ((next : ℕ) × AreAnsweredBeside (filter (is_in g) trace) found next × ((IsExplained next trace g w → ⊥) ⊎ LookedAtLeast looked old new budget))
+    ⊎ ((next : ℕ) × AreAnsweredBeside (filter (is_in g) trace) found next × ((IsExplained next trace g w → ⊥) ⊎ Spent))
+
+-- or as many states were counted as the budget has
+abbrev pub IsAsFar : {P : Type 0} → (Search → P → ℕ → Type 0) → P → P → ℕ → List Operation → ℕ → ℕ → Option ℕ → Type 0
+IsAsFar looked old new budget trace g w found = IsAsFarUnless (LookedAtLeast looked old new budget) trace g w found

@@ -11,7 +11,7 @@ use Rattle.chi_judge.specs.declared.reach.Reach.TheVariants.{Whole, Stops, Undec
 use Rattle.chi_judge.specs.declared.reach.Stop.{Stop}
 use Rattle.chi_search.specs.declared.words.Words.{Words}
 use Rattle.chi_search.specs.Found.{IfUnknown, IfWords}
-use Rattle.chi_search.specs.Looks.{LookedAtLeast}
+use Rattle.chi_search.specs.Looks.{LookedAtLeast, Search}
 use Rattle.chi_judge.specs.Legal.{IsLegal, IsSuspect}
 use Rattle.chi_judge.specs.Judges.{Keeps, JudgeValue}
 use Rattle.chi_judge.specs.Shown.{AreBefore, IsOfFirstRequest}
@@ -68,7 +68,7 @@ pub record IsStop (trace : List Operation) (g w most : ℕ) (s : Stop) : Type 0 
 
 -- What is not said was not found within the budget: each whose answer may be wrong is among the suspects, or as many states were
 -- looked at; and so it is where the words are not known and the time is not 0.
-pub record MissesNone {P : Type 0} (looked : P → ℕ → Type 0) (old new : P) (budget : ℕ) (trace : List Operation) (g w : ℕ) (s : Stop) : Type 0 where
+pub record MissesNone {P : Type 0} (looked : Search → P → ℕ → Type 0) (old new : P) (budget : ℕ) (trace : List Operation) (g w : ℕ) (s : Stop) : Type 0 where
   pub suspects : (op : Operation) → IsSuspect trace g w s.time op → Contains s.suspects.items op ⊎ LookedAtLeast looked old new budget
   pub words : IfUnknown s.words ((s.time ≡ 0) ⊎ LookedAtLeast looked old new budget)
 

@@ -1,5 +1,4 @@
 pub mod Apart
-pub mod Around
 pub mod Bits
 pub mod Bitwise
 pub mod ByEqual
@@ -14,6 +13,7 @@ pub mod Elements
 pub mod Exchange
 pub mod FirstAndLast
 pub mod Following
+pub mod Growing
 pub mod Idle
 pub mod InTurn
 pub mod Judging

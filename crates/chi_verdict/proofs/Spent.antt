@@ -1,6 +1,6 @@
 -- the states that were looked at in one search after another
 use Rattle.std.proofs.Common.{◌≡◌, ℕ, ◌+◌, ◌-◌, ◌≤◌, ◌⊎◌, inl, inr, Option, Some, refl, sym, ◌∙◌, arith}
-use Rattle.chi_search.specs.Looks.{LookedMore, LookedSome}
+use Rattle.chi_search.specs.Looks.{LookedMore, LookedSome, Search}
 use Rattle.chi_search.proofs.Looking.{more_after}
 use Rattle.chi_judge.proofs.More.{misses_none_after}
 use Rattle.chi_trace.specs.Traces.{TraceValue}
@@ -10,11 +10,11 @@ use Rattle.chi_verdict.specs.declared.first.First.TheVariants.{Never, At, Undeci
 use Rattle.chi_verdict.specs.Blames.{LookedForFirst}
 
 -- no fewer than the budget where a granule was not decided
-abbrev pub LookedFor : {P : Type 0} → (P → ℕ → Type 0) → P → P → ℕ → Option ℕ → Type 0
+abbrev pub LookedFor : {P : Type 0} → (Search → P → ℕ → Type 0) → P → P → ℕ → Option ℕ → Type 0
 LookedFor looked old new budget undecided = (k : ℕ) × LookedMore looked old new k × ((n : ℕ) → undecided ≡ Some n → budget ≤ k)
 
 -- and those of one granule more, which was decided or took the whole budget
-pub looked_on : {P : Type 0} (looked : P → ℕ → Type 0) (old middle new : P) (budget left : ℕ) (undecided after : Option ℕ)
+pub looked_on : {P : Type 0} (looked : Search → P → ℕ → Type 0) (old middle new : P) (budget left : ℕ) (undecided after : Option ℕ)
     → LookedFor looked old middle budget undecided → LookedMore looked middle new (budget - left) → (after ≡ undecided) ⊎ (left ≡ 0)
     → LookedFor looked old new budget after
 looked_on looked old middle new budget left undecided after before then how = (
@@ -27,7 +27,7 @@ looked_on looked old middle new budget left undecided after before then how = (
 )
 
 -- the first time is found after some states were looked at
-pub first_after : {P : Type 0} (looked : P → ℕ → Type 0) (old middle new : P) (budget : ℕ) (t : TraceValue) (first : First)
+pub first_after : {P : Type 0} (looked : Search → P → ℕ → Type 0) (old middle new : P) (budget : ℕ) (t : TraceValue) (first : First)
     → LookedSome looked old middle → LookedForFirst looked middle new budget t first → LookedForFirst looked old new budget t first
 first_after looked old middle new budget t Never before is = record {
   count = before.0 + is.count;

@@ -2,7 +2,7 @@
 use Rattle.std.specs.Prelude.{◌≡◌, ℕ, ◌+◌, ◌≤◌, List, [], ◌↔◌}
 use Rattle.std.specs.List.{Contains}
 use Rattle.chi_search.specs.Found.{IfWords}
-use Rattle.chi_search.specs.Looks.{LookedMore}
+use Rattle.chi_search.specs.Looks.{LookedMore, Search}
 use Rattle.chi_judge.specs.Reaches.{IsStop, MissesNone}
 use Rattle.chi_verdict.specs.declared.first.Blame.{Blame}
 use Rattle.chi_verdict.specs.declared.first.First.{First}
@@ -41,7 +41,7 @@ IfNotFound (Undecided granule states) P = P states
 
 -- So many states were looked at, no fewer than are told where nothing was decided. Of a granule that is blamed nothing is missed
 -- unless so many were.
-pub record LookedForFirst {P : Type 0} (looked : P → ℕ → Type 0) (old new : P) (budget : ℕ) (t : TraceValue) (first : First) : Type 0 where
+pub record LookedForFirst {P : Type 0} (looked : Search → P → ℕ → Type 0) (old new : P) (budget : ℕ) (t : TraceValue) (first : First) : Type 0 where
   pub count : ℕ
   pub more : LookedMore looked old new count
   pub undecided : IfNotFound first (λ states. states ≤ count)

@@ -1,6 +1,6 @@
 -- what a verdict says
 use Rattle.std.specs.Prelude.{ℕ, ◌≤◌, List}
-use Rattle.chi_search.specs.Looks.{LookedMore}
+use Rattle.chi_search.specs.Looks.{LookedMore, Search}
 use Rattle.chi_verdict.specs.declared.verdict.Verdict.{Verdict}
 use Rattle.chi_verdict.specs.declared.verdict.Verdict.TheVariants.{Explained, Unexplained, Undecided}
 
@@ -23,7 +23,7 @@ IfUndecided (Unexplained granule) P = Unit {0}
 IfUndecided (Undecided granule states) P = P states
 
 -- so many states were looked at, and no fewer than the verdict tells where it decides nothing
-pub record LookedForVerdict {P : Type 0} (looked : P → ℕ → Type 0) (old new : P) (verdict : Verdict) : Type 0 where
+pub record LookedForVerdict {P : Type 0} (looked : Search → P → ℕ → Type 0) (old new : P) (verdict : Verdict) : Type 0 where
   pub count : ℕ
   pub more : LookedMore looked old new count
   pub undecided : IfUndecided verdict (λ states. states ≤ count)

@@ -6,7 +6,7 @@ use Rattle.std.proofs.lemmas.List.Elements.{All-cons, All-head, All-nil, All-tai
 use Rattle.chi_events.specs.EventLaws.{OperationsAreTold}
 use Rattle.chi_events.specs.Outstanding.{IsOpen, open_operation}
 use Rattle.chi_events.specs.declared.event.Event.{Event}
-use Rattle.chi_judge.specs.Reaches.{IfUndecided, IsExplained as IsExplainedUpTo, IsJudgeOf}
+use Rattle.chi_judge.specs.Reaches.{IsExplained as IsExplainedUpTo, IsJudgeOf}
 use Rattle.chi_judge.specs.Judges.{Keeps}
 use Rattle.chi_judge.specs.Standings.{IsInexplicable as CanNotExplain}
 use Rattle.chi_judge.proofs.Keeping.{keeps_later}
@@ -28,7 +28,6 @@ use Rattle.chi_watch.proofs.MoreParts.{own_of, same_parts}
 use Rattle.chi_watch.proofs.MoreTold.{none_more, parts_moved}
 use Rattle.chi_watch.proofs.Opened.{all_can_close}
 use Rattle.chi_watch.proofs.ToldAtTheEnd.{own_open}
-use Rattle.chi_watch.proofs.Reached.{undecided_weaker}
 use Rattle.chi_watch.proofs.Verdicts.{can_without, explained, is_judge, not_explained, told_by, whole_not_explained, word_is}
 
 -- the operations of each granule that are open were told of it
@@ -92,16 +91,13 @@ module _ (events : List Event) (ended : List Operation) (w : WatchValue) (new : 
             reach = reach own.shown (judged events) found.granule (word_or_zero (openings events) found.granule) (closed_judge operations_law found.granule f own);
           }
 
-  unreached_here : OperationsAreTold → (A : Type 0) (found : FoundAtEnd) → IsInexplicableAt (new found.granule)
-      → IfSome (new found.granule) (λ f. IfUndecided found.reach (IsOfSomeTrace f.judge → A)) → IfUndecided found.reach A
-  unreached_here operations_law A found none spent = by_case (new found.granule) (closed found.granule) none spent
+  reached_here : OperationsAreTold → (A : Type 0) (found : FoundAtEnd) → IsInexplicableAt (new found.granule) → IfSome (new found.granule) (λ f. IsOfSomeTrace f.judge → A) → A
+  reached_here operations_law A found none spent = by_case (new found.granule) (closed found.granule) none spent
     where
-      by_case : (b : Option Followed) → AreToldTo (own_open found.granule w.outstanding.requests) (granule w found.granule) b → IsInexplicableAt b
-          → IfSome b (λ f. IfUndecided found.reach (IsOfSomeTrace f.judge → A)) → IfUndecided found.reach A
+      by_case : (b : Option Followed) → AreToldTo (own_open found.granule w.outstanding.requests) (granule w found.granule) b → IsInexplicableAt b → IfSome b (λ f. IsOfSomeTrace f.judge → A) → A
       by_case None more none spent = absurd none
       by_case (Some f) more none spent =
-          undecided_weaker found.reach
-          (λ so. so (judged events, found.granule, word_or_zero (openings events) found.granule, closed_judge operations_law found.granule f (followed_here found.granule f more))) spent
+          spent (judged events, found.granule, word_or_zero (openings events) found.granule, closed_judge operations_law found.granule f (followed_here found.granule f more))
 
   -- up to the time that is told some order explains what is judged of the granule
   explained_to_here : OperationsAreTold → (u : UndecidedAtEnd) → GoesOnAt (new u.granule) → IsExplainedIn new u → IsExplainedTo events u
@@ -151,11 +147,11 @@ pub ended_found : OperationsAreTold → PartsExplain → (w : WatchValue) (new :
 ended_found operations_law parts_law w new are_open closes found none said events (ended, is) =
     found_here events ended w new is (closes (all_can_close events ended w is are_open)) operations_law parts_law found none said
 
-pub ended_unreached : OperationsAreTold → (A : Type 0) (w : WatchValue) (new : ℕ → Option Followed) → All (IsOpen w.outstanding.time) w.outstanding.requests
+pub ended_reached : OperationsAreTold → (A : Type 0) (w : WatchValue) (new : ℕ → Option Followed) → All (IsOpen w.outstanding.time) w.outstanding.requests
     → (All (CanClose (granule w)) w.outstanding.requests → AreClosed w new) → (found : FoundAtEnd) → IsInexplicableAt (new found.granule)
-    → IfSome (new found.granule) (λ f. IfUndecided found.reach (IsOfSomeTrace f.judge → A)) → (events : List Event) → HasTaken events w → IfUndecided found.reach A
-ended_unreached operations_law A w new are_open closes found none spent events (ended, is) =
-    unreached_here events ended w new is (closes (all_can_close events ended w is are_open)) operations_law A found none spent
+    → IfSome (new found.granule) (λ f. IsOfSomeTrace f.judge → A) → (events : List Event) → HasTaken events w → A
+ended_reached operations_law A w new are_open closes found none spent events (ended, is) =
+    reached_here events ended w new is (closes (all_can_close events ended w is are_open)) operations_law A found none spent
 
 pub ended_explained_to : OperationsAreTold → (w : WatchValue) (new : ℕ → Option Followed) → All (IsOpen w.outstanding.time) w.outstanding.requests
     → (All (CanClose (granule w)) w.outstanding.requests → AreClosed w new) → (u : UndecidedAtEnd) → GoesOnAt (new u.granule) → IsExplainedIn new u

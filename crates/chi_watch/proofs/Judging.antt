@@ -1,5 +1,5 @@
 -- granules that are judged one after the other
-use Rattle.std.proofs.Common.{◌≡◌, ℕ, true, false, IfSome, List, [], ◌∷◌, ◌++◌, ◌⊎◌, inl, inr, All, Option, None, Some, refl, sym, ap, subst, ◌∙◌, append_assoc, append-nil, true≢false}
+use Rattle.std.proofs.Common.{◌≡◌, ℕ, true, false, IfSome, List, [], ◌∷◌, ◌++◌, ◌⊎◌, inl, inr, All, Option, None, Some, refl, sym, ap, subst, ◌∙◌, append_assoc, append-nil, true≢false, arith}
 use Rattle.std.specs.BTreeMap.{is_at}
 use Rattle.std.specs.List.{Contains}
 use Rattle.std.specs.Map.{lookup}
@@ -9,7 +9,8 @@ use Rattle.std.specs.declared.cmp.Ordering.TheVariants.{Less, Equal, Greater}
 use Rattle.std.proofs.lemmas.Map.Lookups.{exact_unsigned}
 use Rattle.std.proofs.lemmas.Map.Views.{Contains-from_lookup}
 use Rattle.std.proofs.lemmas.List.Elements.{All-contains, All-head, All-nil, All-push, All-tail, All-weaker, Contains-append_left, Contains-push}
-use Rattle.chi_search.specs.Looks.{LookedMore, LookedSome}
+use Rattle.chi_search.specs.Looks.{LookedMore, LookedSome, Search, for_verdict}
+use Rattle.chi_search.proofs.Growing.{grew_by, grew_some}
 use Rattle.chi_watch.specs.Endings.{IsExplainable, IsInexplicableAt, IsListed, judged_word}
 use Rattle.chi_judge.specs.Standings.{IfExplained, IfUndecided, IfUnexplained, IsExplainable as CanExplain, IsInexplicable as CanNotExplain}
 use Rattle.chi_watch.specs.ListedAs.{IsListedAs}
@@ -57,7 +58,7 @@ said_here entries un dec all g = by_case (lookup (is_at (nat_cmp g)) entries) re
             by_order Equal is_o so = exact_unsigned x y is_o
             by_order Greater is_o so = absurd (true≢false (sym so))
 
-module _ {P : Type 0} (looked : P → ℕ → Type 0) (budget : ℕ) (get : ℕ → Option Followed) (entries : List (ℕ × Followed)) (start : P) where
+module _ {P : Type 0} (looked : Search → P → ℕ → Type 0) (budget : ℕ) (get : ℕ → Option Followed) (entries : List (ℕ × Followed)) (start : P) where
   -- The entries before those that are left are explained or listed, as it is said. The map has each that is left.
   pub record AreJudged (now : P) (ending : Listed) (left : List (ℕ × Followed)) : Type 0 where
     pub seen : List (ℕ × Followed)
@@ -66,7 +67,7 @@ module _ {P : Type 0} (looked : P → ℕ → Type 0) (budget : ℕ) (get : ℕ 
     pub has : All (λ e. get e.0 ≡ Some e.1) left
     pub none : All (λ g. IsInexplicableAt (get g)) ending.unexplained.items
     pub go_on : All (λ g. GoesOnAt (get g)) ending.undecided.items
-    pub spent : LookedFor looked start now budget ending.undecided.items
+    pub spent : LookedFor (looked for_verdict) start now budget ending.undecided.items
 
   pub judged_none : (ending : Listed) (left : List (ℕ × Followed)) → ending.unexplained.items ≡ [] → ending.undecided.items ≡ [] → left ≡ entries
       → All (λ e. get e.0 ≡ Some e.1) entries → AreJudged start ending left
@@ -77,7 +78,7 @@ module _ {P : Type 0} (looked : P → ℕ → Type 0) (budget : ℕ) (get : ℕ 
     has = subst (All (λ e. get e.0 ≡ Some e.1)) (sym is) has;
     none = subst (All (λ g. IsInexplicableAt (get g))) (sym no_un) (All-nil (λ g. IsInexplicableAt (get g)));
     go_on = subst (All (λ g. GoesOnAt (get g))) (sym no_dec) (All-nil (λ g. GoesOnAt (get g)));
-    spent = subst (LookedFor looked start start budget) (sym no_dec) (looked_first looked start budget);
+    spent = subst (LookedFor (looked for_verdict) start start budget) (sym no_dec) (looked_first (looked for_verdict) start budget);
   }
 
   -- once none is left each is explained or listed
@@ -115,7 +116,7 @@ module _ {P : Type 0} (looked : P → ℕ → Type 0) (budget : ℕ) (get : ℕ 
         has = rest_has;
         none = subst (All (λ h. IsInexplicableAt (get h))) (sym un) are.none;
         go_on = subst (All (λ h. GoesOnAt (get h))) (sym dec) are.go_on;
-        spent = subst (LookedFor looked start later budget) (sym dec) (looked_decided looked start now later budget ending.undecided.items are.spent some);
+        spent = subst (LookedFor (looked for_verdict) start later budget) (sym dec) (looked_decided (looked for_verdict) start now later budget ending.undecided.items are.spent (grew_some looked now later some));
       }
       listed Unexplained can none whole goes some (un, dec) = record {
         seen = are.seen ++ (g, f) ∷ [];
@@ -127,7 +128,7 @@ module _ {P : Type 0} (looked : P → ℕ → Type 0) (budget : ℕ) (get : ℕ 
         none = subst (All (λ h. IsInexplicableAt (get h))) (sym un)
             (All-push (λ h. IsInexplicableAt (get h)) ending.unexplained.items g are.none (subst IsInexplicableAt (sym here) none));
         go_on = subst (All (λ h. GoesOnAt (get h))) (sym dec) are.go_on;
-        spent = subst (LookedFor looked start later budget) (sym dec) (looked_decided looked start now later budget ending.undecided.items are.spent some);
+        spent = subst (LookedFor (looked for_verdict) start later budget) (sym dec) (looked_decided (looked for_verdict) start now later budget ending.undecided.items are.spent (grew_some looked now later some));
       }
       listed Undecided can none whole goes some (un, dec) = record {
         seen = are.seen ++ (g, f) ∷ [];
@@ -139,5 +140,5 @@ module _ {P : Type 0} (looked : P → ℕ → Type 0) (budget : ℕ) (get : ℕ 
         none = subst (All (λ h. IsInexplicableAt (get h))) (sym un) are.none;
         go_on = subst (All (λ h. GoesOnAt (get h))) (sym dec)
             (All-push (λ h. GoesOnAt (get h)) ending.undecided.items g are.go_on (subst GoesOnAt (sym here) goes));
-        spent = subst (LookedFor looked start later budget) (sym dec) (looked_undecided looked start now later budget ending.undecided.items g are.spent whole);
+        spent = subst (LookedFor (looked for_verdict) start later budget) (sym dec) (looked_undecided (looked for_verdict) start now later budget ending.undecided.items g are.spent (grew_by looked now later budget budget (omega arith) whole));
       }

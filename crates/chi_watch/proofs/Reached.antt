@@ -4,8 +4,8 @@ use Rattle.std.proofs.Common.{◌≡◌, ℕ, ◌-◌, ◌^◌, true, List, All,
 use Rattle.chi_events.specs.EventLaws.{OperationsAreTold}
 use Rattle.chi_events.specs.Outstanding.{IsOpen}
 use Rattle.chi_events.specs.declared.event.Event.{Event}
-use Rattle.chi_search.specs.Looks.{LookedAtLeast, LookedSome}
-use Rattle.chi_search.proofs.Looking.{at_least_after, at_least_before}
+use Rattle.chi_search.specs.Looks.{Grew, GrewBy}
+use Rattle.chi_search.proofs.Growing.{at_least_after, at_least_before}
 use Rattle.chi_judge.specs.Reaches.{AreLast, IfStops, IfUndecided, IfWhole, IsJudgeOf, IsStop}
 use Rattle.chi_judge.specs.Judges.{JudgeValue}
 use Rattle.chi_judge.specs.declared.reach.Reach.{Reach}
@@ -16,7 +16,7 @@ use Rattle.chi_trace.specs.Words.{word_or_zero}
 use Rattle.chi_watch.specs.Endings.{IsExplainable}
 use Rattle.chi_watch.specs.Judged.{judged}
 use Rattle.chi_watch.specs.WordsTold.{openings}
-use Rattle.chi_watch.specs.Reaching.{IsOfSomeTrace, IsUnreachedIn, ReachesBy}
+use Rattle.chi_watch.specs.Reaching.{IsOfSomeTrace, IsReachedBy, IsReachedIn, ReachesBy}
 use Rattle.chi_watch.specs.Watches.{CanBeJudged, HasStopped, HasTaken, IsGranuleOf, IsUnexplained, WatchValue, granule}
 use Rattle.chi_watch.specs.declared.ending.FoundAtEnd.{FoundAtEnd}
 use Rattle.chi_watch.specs.declared.followed.Followed.{Followed}
@@ -30,7 +30,7 @@ reaches_by r (Whole words) whole stops shown trace g w is = whole trace g w is
 reaches_by r (Stops stop) whole stops shown trace g w is = subst (λ (n : ℕ). IsStop trace g w n stop) shown (stops trace g w is)
 reaches_by r Undecided whole stops shown trace g w is = tt
 
--- where it is not known so many states were looked at
+-- where it is not known, what follows of what is said
 pub undecided_weaker : {A B : Type 0} (reach : Reach) → (A → B) → IfUndecided reach A → IfUndecided reach B
 undecided_weaker (Whole words) f is = tt
 undecided_weaker (Stops stop) f is = tt
@@ -53,23 +53,26 @@ shown_here events w (ended, is) g f here = (subst (IsGranuleOf events ended w.ou
 pub unexplained_known : (events : List Event) (w : WatchValue) → HasTaken events w → (g : ℕ) (f : Followed) → granule w g ≡ Some f → IsUnexplained events g → is_none f.unknown_since ≡ true
 unexplained_known events w (ended, is) g f here not = ap is_none (subst (IsGranuleOf events ended w.outstanding g) here (is.each g)).since ∙ not.known
 
--- how far that is, or how many states were looked at
-module _ {P : Type 0} (looked : P → ℕ → Type 0) (old middle new : P) (budget : ℕ) (granules : ℕ → Option Followed) where
-  pub unreached_then : LookedSome looked middle new → (found : FoundAtEnd) → IsUnreachedIn looked old middle budget granules found → IsUnreachedIn looked old new budget granules found
-  unreached_then more found = by_granule (granules found.granule)
-    where
-      by_granule : (o : Option Followed) → IfSome o (λ f. IfUndecided found.reach (IsOfSomeTrace f.judge → LookedAtLeast looked old middle budget))
-          → IfSome o (λ f. IfUndecided found.reach (IsOfSomeTrace f.judge → LookedAtLeast looked old new budget))
-      by_granule None is = tt
-      by_granule (Some f) is = undecided_weaker found.reach (λ spent some. at_least_before looked old middle new budget (spent some) more) is
+-- how far that is, or how many states were looked at, which are no fewer from others
+module _ {P : Type 0} (states : P → ℕ → Type 0) (old new before after : P) (wider : (least : ℕ) → GrewBy states old new least → GrewBy states before after least) (budget : ℕ) where
+  pub reached_wider : (reach : Reach) (cut_short : Option ℕ) → IsReachedBy states old new budget reach cut_short → IsReachedBy states before after budget reach cut_short
+  reached_wider reach None is = undecided_weaker reach (wider budget) is
+  reached_wider reach (Some most) is = wider most is
 
-  pub unreached_after : LookedSome looked old middle → (found : FoundAtEnd) → IsUnreachedIn looked middle new budget granules found → IsUnreachedIn looked old new budget granules found
-  unreached_after before found = by_granule (granules found.granule)
+  reached_in : (granules : ℕ → Option Followed) (found : FoundAtEnd) → IsReachedIn states old new budget granules found → IsReachedIn states before after budget granules found
+  reached_in granules found = by_granule (granules found.granule)
     where
-      by_granule : (o : Option Followed) → IfSome o (λ f. IfUndecided found.reach (IsOfSomeTrace f.judge → LookedAtLeast looked middle new budget))
-          → IfSome o (λ f. IfUndecided found.reach (IsOfSomeTrace f.judge → LookedAtLeast looked old new budget))
+      by_granule : (o : Option Followed) → IfSome o (λ f. IsOfSomeTrace f.judge → IsReachedBy states old new budget found.reach found.cut_short)
+          → IfSome o (λ f. IsOfSomeTrace f.judge → IsReachedBy states before after budget found.reach found.cut_short)
       by_granule None is = tt
-      by_granule (Some f) is = undecided_weaker found.reach (λ spent some. at_least_after looked old middle new budget before (spent some)) is
+      by_granule (Some f) is = λ some. reached_wider found.reach found.cut_short (is some)
+
+module _ {P : Type 0} (states : P → ℕ → Type 0) (old middle new : P) (budget : ℕ) (granules : ℕ → Option Followed) where
+  pub reached_then : Grew states middle new → (found : FoundAtEnd) → IsReachedIn states old middle budget granules found → IsReachedIn states old new budget granules found
+  reached_then more found = reached_in states old middle old new (λ least is. at_least_before states old middle new least is more) budget granules found
+
+  pub reached_after : Grew states old middle → (found : FoundAtEnd) → IsReachedIn states middle new budget granules found → IsReachedIn states old new budget granules found
+  reached_after before found = reached_in states middle new old new (λ least is. at_least_after states old middle new least before is) budget granules found
 
 -- a granule that is not watched is not unexplained
 pub untold_explained : OperationsAreTold → GranulesStandAlone → (events : List Event) (w : WatchValue) → All (IsOpen w.outstanding.time) w.outstanding.requests → HasTaken events w

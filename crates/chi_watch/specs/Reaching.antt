@@ -1,7 +1,7 @@
 -- how far a granule's operations can be explained
-use Rattle.std.specs.Prelude.{◌≡◌, ℕ, ◌-◌, ◌^◌, List, Option, IfSome, map}
+use Rattle.std.specs.Prelude.{◌≡◌, ℕ, ◌-◌, ◌^◌, List, Option, IfSome, MatchOption, map}
 use Rattle.chi_events.specs.declared.event.Event.{Event}
-use Rattle.chi_search.specs.Looks.{LookedAtLeast}
+use Rattle.chi_search.specs.Looks.{GrewBy}
 use Rattle.chi_judge.specs.Reaches.{AreLast, IfUndecided, IsJudgeOf, IsStop}
 use Rattle.chi_judge.specs.Judges.{JudgeValue}
 use Rattle.chi_judge.specs.declared.reach.Reach.{Reach}
@@ -37,9 +37,14 @@ pub record IsFoundIn (granules : ℕ → Option Followed) (found : FoundAtEnd) :
   pub final_word : IfSome (granules found.granule) (λ f. found.final_word ≡ judged_word f)
   pub reach : IfSome (granules found.granule) (λ f. ReachesBy f.judge found.reach)
 
--- where that is not known so many states were looked at
-abbrev pub IsUnreachedIn : {P : Type 0} → (P → ℕ → Type 0) → P → P → ℕ → (ℕ → Option Followed) → FoundAtEnd → Type 0
-IsUnreachedIn looked old new budget granules found = IfSome (granules found.granule) (λ f. IfUndecided found.reach (IsOfSomeTrace f.judge → LookedAtLeast looked old new budget))
+-- At least so many states were looked at where it is not known how far that is. Where that was cut short, at least as many were as is
+-- said, whatever is known.
+abbrev pub IsReachedBy : {P : Type 0} → (P → ℕ → Type 0) → P → P → ℕ → Reach → Option ℕ → Type 0
+IsReachedBy states old new budget reach cut_short = MatchOption cut_short (IfUndecided reach (GrewBy states old new budget)) (GrewBy states old new)
+
+-- so of a granule that is watched
+abbrev pub IsReachedIn : {P : Type 0} → (P → ℕ → Type 0) → P → P → ℕ → (ℕ → Option Followed) → FoundAtEnd → Type 0
+IsReachedIn states old new budget granules found = IfSome (granules found.granule) (λ f. IsOfSomeTrace f.judge → IsReachedBy states old new budget found.reach found.cut_short)
 
 -- the time up to which no order explains them, where it is known, and else the last
 abbrev pub stop_time : Reach → ℕ

@@ -6,7 +6,7 @@ ghost use Rattle.std.specs.Ordering.{nat_cmp};
 ghost use Rattle.chi_trace.specs.Granules.{granule_of};
 ghost use Rattle.chi_watch.specs.Changes.{IsClosedBy};
 ghost use Rattle.chi_watch.specs.Requests.{StartsBy};
-ghost use Rattle.chi_search.specs.Looks.{LookedSome};
+ghost use Rattle.chi_search.specs.Looks.{Grew, for_verdict};
 
 use crate::followed::Followed;
 use crate::granules::close;
@@ -40,7 +40,7 @@ pub(crate) fn close_ended<P: Progress>(
     progress: &mut P,
 ) -> Result<(), AllocError>
     ensures closed { IfOk result (λ _. IsClosedBy ended.now requests.now (get nat_cmp granules.old) (get nat_cmp granules.new)) }
-    ensures looked { IfOk result (λ _. LookedSome P.looked progress.old progress.new) }
+    ensures looked { IfOk result (λ _. Grew (P.looked for_verdict) progress.old progress.new) }
 {
     let Some(op) = ended else {
         return Ok(());

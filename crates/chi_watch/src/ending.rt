@@ -6,12 +6,11 @@ ghost use Rattle.std.specs.BTreeMap.{get};
 ghost use Rattle.std.specs.Ordering.{nat_cmp};
 ghost use Rattle.chi_events.specs.Outstanding.{open_operation};
 ghost use Rattle.chi_events.specs.declared.event.Event.{Event};
-ghost use Rattle.chi_search.specs.Looks.{LookedAtLeast, LookedSome};
-ghost use Rattle.chi_judge.specs.Reaches.{IfUndecided};
+ghost use Rattle.chi_search.specs.Looks.{Grew, GrewBy, for_verdict};
 ghost use Rattle.chi_trace.specs.AtPlaces.{is_in};
 ghost use Rattle.chi_watch.specs.Endings.{AreToldTo, CanClose, IsListed};
 ghost use Rattle.chi_watch.specs.Judged.{CanBeExplained, IsExplained};
-ghost use Rattle.chi_watch.specs.Reaching.{IsFoundAtEnd, IsFoundIn, IsUnreachedIn, granules_of, stop_time};
+ghost use Rattle.chi_watch.specs.Reaching.{IsFoundAtEnd, IsFoundIn, IsReachedBy, IsReachedIn, granules_of, stop_time};
 ghost use Rattle.chi_watch.specs.Undecided.{IsExplainedAsFar, IsExplainedTo, states_for, undecided_of};
 ghost use Rattle.chi_watch.specs.Watches.{HasTaken};
 
@@ -56,7 +55,7 @@ fn close_open<P: Progress>(
     progress: &mut P,
 ) -> Result<(), AllocError>
     ensures told { IfOk result (λ _. All (CanClose (get nat_cmp granules.old)) requests.now → (g : ℕ) → AreToldTo (filter (is_in g) (filter_map open_operation requests.now)) (get nat_cmp granules.old g) (get nat_cmp granules.new g)) }
-    ensures looked { IfOk result (λ _. LookedSome P.looked progress.old progress.new) }
+    ensures looked { IfOk result (λ _. Grew (P.looked for_verdict) progress.old progress.new) }
 {
     for request in requests {
         if let Some(op) = request.operation() {
@@ -76,8 +75,8 @@ fn found_at_end<P: Progress>(
 ) -> Result<FoundAtEnd, AllocError>
     ensures granule { IfOk result (λ found. found.granule ≡ granule) }
     ensures found { IfOk result (IsFoundIn (get nat_cmp granules.now)) }
-    ensures undecided { IfOk result (IsUnreachedIn P.looked progress.old progress.new budget (get nat_cmp granules.now)) }
-    ensures looked { IfOk result (λ _. LookedSome P.looked progress.old progress.new) }
+    ensures undecided { IfOk result (IsReachedIn (P.looked for_verdict) progress.old progress.new budget (get nat_cmp granules.now)) }
+    ensures looked { IfOk result (λ _. Grew (P.looked for_verdict) progress.old progress.new) }
 {
     let Some(followed) = granules.get(&granule) else {
         return Ok(FoundAtEnd {
@@ -87,12 +86,12 @@ fn found_at_end<P: Progress>(
             cut_short: None,
         });
     };
-    let reach = reach_of(alloc, followed, budget, progress)?;
+    let found = reach_of(alloc, followed, budget, progress)?;
     Ok(FoundAtEnd {
         granule,
         final_word: judged_word(followed),
-        reach,
-        cut_short: progress.cut_short(),
+        reach: found.reach,
+        cut_short: found.cut_short,
     })
 }
 
@@ -106,8 +105,8 @@ fn each_found_at_end<P: Progress>(
 ) -> Result<Vec<FoundAtEnd>, AllocError>
     ensures granules { IfOk result (λ found. granules_of found.items ≡ unexplained.now) }
     ensures found { IfOk result (λ found. All (IsFoundIn (get nat_cmp granules.now)) found.items) }
-    ensures undecided { IfOk result (λ found. All (IsUnreachedIn P.looked progress.old progress.new budget (get nat_cmp granules.now)) found.items) }
-    ensures looked { IfOk result (λ _. LookedSome P.looked progress.old progress.new) }
+    ensures undecided { IfOk result (λ found. All (IsReachedIn (P.looked for_verdict) progress.old progress.new budget (get nat_cmp granules.now)) found.items) }
+    ensures looked { IfOk result (λ _. Grew (P.looked for_verdict) progress.old progress.new) }
 {
     let mut found = Vec::new(alloc);
     for granule in unexplained {
@@ -154,11 +153,11 @@ impl Watch {
         ensures each { IfOk result (λ ending. (g : ℕ) (events : List Event) → HasTaken events self → CanBeExplained events g ⊎ IsListed g (granules_of ending.unexplained.items) (undecided_of ending.undecided.items)) }
         ensures unexplained { IfOk result (λ ending. All (λ found. (events : List Event) → HasTaken events self → IsFoundAtEnd events found) ending.unexplained.items) }
         ensures earliest { IfOk result (λ ending. IsNonDecreasingBy (λ f. stop_time f.reach) ending.unexplained.items) }
-        ensures unreached { IfOk result (λ ending. All (λ found. (events : List Event) → HasTaken events self → IfUndecided found.reach (LookedAtLeast P.looked progress.old progress.new budget)) ending.unexplained.items) }
-        ensures undecided { IfOk result (λ ending. All (λ _. LookedAtLeast P.looked progress.old progress.new budget) ending.undecided.items) }
+        ensures reached { IfOk result (λ ending. All (λ found. (events : List Event) → HasTaken events self → IsReachedBy (P.looked for_verdict) progress.old progress.new budget found.reach found.cut_short) ending.unexplained.items) }
+        ensures undecided { IfOk result (λ ending. All (λ _. GrewBy (P.looked for_verdict) progress.old progress.new budget) ending.undecided.items) }
         ensures explained_to { IfOk result (λ ending. All (λ u. (events : List Event) → HasTaken events self → IsExplainedTo events u) ending.undecided.items) }
-        ensures far { IfOk result (λ ending. All (λ u. (events : List Event) → HasTaken events self → IsExplainedAsFar P.looked progress.old progress.new (states_for budget ending.undecided.items) events u) ending.undecided.items) }
-        ensures looked { IfOk result (λ _. LookedSome P.looked progress.old progress.new) }
+        ensures far { IfOk result (λ ending. All (λ u. (events : List Event) → HasTaken events self → IsExplainedAsFar (P.looked for_verdict) progress.old progress.new (states_for budget ending.undecided.items) events u) ending.undecided.items) }
+        ensures looked { IfOk result (λ _. Grew (P.looked for_verdict) progress.old progress.new) }
     {
         operations_are_told();
         granules_stand_alone();

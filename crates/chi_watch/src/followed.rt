@@ -1,7 +1,7 @@
 //! One granule that is watched.
 
 ghost use Rattle.std.specs.Prelude.{◌≡◌, IfOk, find, nat_lt};
-ghost use Rattle.chi_search.specs.Looks.{LookedSome};
+ghost use Rattle.chi_search.specs.Looks.{Grew, for_verdict};
 ghost use Rattle.chi_watch.specs.Changes.{CanEnd, IsHeard, IsKnownFrom, IsTold, IsUnknownSince, IsUntouched, IsWritten};
 ghost use Rattle.chi_watch.specs.Endings.{judged_word};
 ghost use Rattle.chi_watch.specs.Watches.{unknown_by};
@@ -130,7 +130,7 @@ fn add_heard<P: Progress>(
     progress: &mut P,
 ) -> Result<(), AllocError>
     ensures heard { IfOk result (λ _. CanEnd horizon judge.old op.now → IsHeard op.now since horizon judge.old judge.new) }
-    ensures looked { IfOk result (λ _. LookedSome P.looked progress.old progress.new) }
+    ensures looked { IfOk result (λ _. Grew (P.looked for_verdict) progress.old progress.new) }
 {
     if let Some(heard) = happened_until(op, since) {
         judge.settle(alloc, horizon, progress)?;
@@ -150,7 +150,7 @@ pub(crate) fn tell<P: Progress>(
 ) -> Result<(), AllocError>
     ensures told { IfOk result (λ _. CanEnd horizon followed.old.judge op.now → IsTold op.now horizon followed.old followed.new) }
     ensures final_word { IfOk result (λ _. followed.new.final_word ≡ followed.old.final_word) }
-    ensures looked { IfOk result (λ _. LookedSome P.looked progress.old progress.new) }
+    ensures looked { IfOk result (λ _. Grew (P.looked for_verdict) progress.old progress.new) }
 {
     let since = unknown_by(followed, op.start);
     add_heard(alloc, &mut followed.judge, op, since, horizon, progress)?;

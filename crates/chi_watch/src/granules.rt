@@ -5,7 +5,7 @@ ghost use Rattle.std.specs.BTreeMap.{get};
 ghost use Rattle.std.specs.Ordering.{nat_cmp};
 ghost use Rattle.chi_trace.specs.Granules.{granule_of};
 ghost use Rattle.chi_watch.specs.Changes.{HasOneMore, GranuleBecomesKnown, GranuleBecomesUnknown, IsMarked, IsTouched, IsTouchedAndMarked};
-ghost use Rattle.chi_search.specs.Looks.{LookedSome};
+ghost use Rattle.chi_search.specs.Looks.{Grew, for_verdict};
 ghost use Rattle.chi_watch.specs.declared.followed.Followed.{Followed};
 
 use crate::followed::{Followed, tell, tell_unknown, tell_word, untouched};
@@ -41,7 +41,7 @@ pub(crate) fn close<P: Progress>(
     progress: &mut P,
 ) -> Result<(), AllocError>
     ensures told { IfOk result (λ _. HasOneMore op.now horizon (get nat_cmp granules.old) (get nat_cmp granules.new)) }
-    ensures looked { IfOk result (λ _. LookedSome P.looked progress.old progress.new) }
+    ensures looked { IfOk result (λ _. Grew (P.looked for_verdict) progress.old progress.new) }
 {
     let granule = op.granule();
     match granules.get_mut(&granule) {

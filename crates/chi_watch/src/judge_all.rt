@@ -4,7 +4,7 @@ ghost use Rattle.std.specs.Prelude.{◌≡◌, ◌*◌, ◌⊎◌, ℕ, All, IfO
 ghost use Rattle.std.specs.BTreeMap.{get};
 ghost use Rattle.std.specs.Ordering.{nat_cmp};
 ghost use Rattle.chi_judge.specs.Standings.{IfExplained, IfUndecided, IfUnexplained};
-ghost use Rattle.chi_search.specs.Looks.{LookedAtLeast, LookedMore, LookedSome};
+ghost use Rattle.chi_search.specs.Looks.{Grew, GrewBy, LookedMore, for_verdict};
 ghost use Rattle.chi_watch.specs.Endings.{IsExplainable, IsInexplicable, IsInexplicableAt, IsListed};
 ghost use Rattle.chi_watch.specs.ListedAs.{IsListedAs};
 ghost use Rattle.chi_watch.specs.Undecided.{GoesOnAt};
@@ -44,10 +44,10 @@ pub(crate) fn judge_all<P: Progress>(
 ) -> Result<Listed, AllocError>
     ensures each { IfOk result (λ listed. (g : ℕ) → IfSome (get nat_cmp granules.now g) (λ f. IsExplainable f ⊎ IsListed g listed.unexplained.items listed.undecided.items)) }
     ensures unexplained { IfOk result (λ listed. All (λ g. IsInexplicableAt (get nat_cmp granules.now g)) listed.unexplained.items) }
-    ensures undecided { IfOk result (λ listed. All (λ _. LookedAtLeast P.looked progress.old progress.new budget) listed.undecided.items) }
-    ensures together { IfOk result (λ listed. LookedAtLeast P.looked progress.old progress.new (budget * length listed.undecided.items)) }
+    ensures undecided { IfOk result (λ listed. All (λ _. GrewBy (P.looked for_verdict) progress.old progress.new budget) listed.undecided.items) }
+    ensures together { IfOk result (λ listed. GrewBy (P.looked for_verdict) progress.old progress.new (budget * length listed.undecided.items)) }
     ensures go_on { IfOk result (λ listed. All (λ g. GoesOnAt (get nat_cmp granules.now g)) listed.undecided.items) }
-    ensures looked { IfOk result (λ _. LookedSome P.looked progress.old progress.new) }
+    ensures looked { IfOk result (λ _. Grew (P.looked for_verdict) progress.old progress.new) }
 {
     let mut listed = Listed {
         unexplained: Vec::new(alloc),

@@ -20,6 +20,7 @@ mod words_told;
 pub use counts::Counts;
 pub use ending::{Ending, FoundAtEnd};
 pub use fault::WatchFault;
+pub use reaching::FoundReach;
 pub use undecided::UndecidedAtEnd;
 pub use watch::Watch;
 pub use words_told::write_at;

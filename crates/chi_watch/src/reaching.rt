@@ -2,9 +2,9 @@
 
 ghost use Rattle.std.specs.Prelude.{List, IfOk};
 ghost use Rattle.chi_events.specs.declared.event.Event.{Event};
-ghost use Rattle.chi_search.specs.Looks.{LookedAtLeast, LookedSome};
+ghost use Rattle.chi_search.specs.Looks.{Grew, LookedAtLeast, LookedSome, for_verdict};
 ghost use Rattle.chi_judge.specs.Reaches.{IfUndecided};
-ghost use Rattle.chi_watch.specs.Reaching.{IsOfSomeTrace, IsReach, ReachesBy};
+ghost use Rattle.chi_watch.specs.Reaching.{IsOfSomeTrace, IsReach, IsReachedBy, ReachesBy};
 ghost use Rattle.chi_watch.specs.Watches.{CanBeJudged, HasTaken, IsUnexplained};
 
 use crate::followed::Followed;
@@ -14,6 +14,13 @@ use chi_judge::Reach;
 use chi_search::Progress;
 use chi_trace::laws::granules_stand_alone;
 use std::alloc::{AllocError, Global};
+
+/// How far the operations of a granule can be explained, with how many states were looked at for that where it was cut short.
+#[derive(Debug, Drop)]
+pub struct FoundReach {
+    pub reach: Reach,
+    pub cut_short: Option<u64>,
+}
 
 /// How far the operations that were told of a granule can be explained.
 fn told_reach<P: Progress>(
@@ -35,15 +42,19 @@ pub(crate) fn reach_of<P: Progress>(
     followed: &Followed,
     budget: u64,
     progress: &mut P,
-) -> Result<Reach, AllocError>
-    ensures right { IfOk result (ReachesBy followed.now.judge) }
-    ensures undecided { IfOk result (λ reach. IfUndecided reach (IsOfSomeTrace followed.now.judge → LookedAtLeast P.looked progress.old progress.new budget)) }
-    ensures looked { IfOk result (λ _. LookedSome P.looked progress.old progress.new) }
+) -> Result<FoundReach, AllocError>
+    ensures right { IfOk result (λ found. ReachesBy followed.now.judge found.reach) }
+    ensures undecided { IfOk result (λ found. IsOfSomeTrace followed.now.judge → IsReachedBy (P.looked for_verdict) progress.old progress.new budget found.reach found.cut_short) }
+    ensures looked { IfOk result (λ _. Grew (P.looked for_verdict) progress.old progress.new) }
 {
     progress.after_verdict(0);
     let reach = told_reach(alloc, followed, budget, progress);
+    let cut_short = progress.cut_short();
     progress.before_verdict();
-    reach
+    Ok(FoundReach {
+        reach: reach?,
+        cut_short,
+    })
 }
 
 impl Watch {
@@ -51,7 +62,7 @@ impl Watch {
     /// explained is known. `budget` is how many states may be looked at in each search.
     ///
     /// ```
-    /// let reach = watch.reach(alloc, granule, 1_000_000, &mut NoProgress)?;
+    /// let found = watch.reach(alloc, granule, 1_000_000, &mut NoProgress)?;
     /// ```
     pub fn reach<P: Progress>(
         &self,
@@ -59,19 +70,25 @@ impl Watch {
         granule: u64,
         budget: u64,
         progress: &mut P,
-    ) -> Result<Reach, AllocError>
-        ensures right { IfOk result (λ reach. (events : List Event) → HasTaken events self.now → IsReach events granule reach) }
-        ensures undecided { IfOk result (λ reach. IfUndecided reach (CanBeJudged self.now granule → (events : List Event) → HasTaken events self.now → IsUnexplained events granule → LookedAtLeast P.looked progress.old progress.new budget)) }
-        ensures looked { IfOk result (λ _. LookedSome P.looked progress.old progress.new) }
+    ) -> Result<FoundReach, AllocError>
+        ensures right { IfOk result (λ found. (events : List Event) → HasTaken events self.now → IsReach events granule found.reach) }
+        ensures undecided { IfOk result (λ found. CanBeJudged self.now granule → (events : List Event) → HasTaken events self.now → IsUnexplained events granule → IsReachedBy (P.looked for_verdict) progress.old progress.new budget found.reach found.cut_short) }
+        ensures looked { IfOk result (λ _. Grew (P.looked for_verdict) progress.old progress.new) }
     {
         operations_are_told();
         granules_stand_alone();
         let _requests = self.outstanding.requests();
         let Some(followed) = self.granules.get(&granule) else {
-            return Ok(Reach::Undecided);
+            return Ok(FoundReach {
+                reach: Reach::Undecided,
+                cut_short: None,
+            });
         };
         if followed.unknown_since.is_some() || !self.can_be_judged(followed, granule) {
-            return Ok(Reach::Undecided);
+            return Ok(FoundReach {
+                reach: Reach::Undecided,
+                cut_short: None,
+            });
         }
         reach_of(alloc, followed, budget, progress)
     }

@@ -3,7 +3,7 @@
 ghost use Rattle.std.specs.Prelude.{◌≡◌, All, IfOk};
 ghost use Rattle.std.specs.BTreeMap.{get};
 ghost use Rattle.std.specs.Ordering.{nat_cmp};
-ghost use Rattle.chi_search.specs.Looks.{LookedSome};
+ghost use Rattle.chi_search.specs.Looks.{Grew, for_verdict};
 ghost use Rattle.chi_watch.specs.Undecided.{GoesOnAt, IsAsFarIn, IsExplainedIn, undecided_of};
 
 use crate::followed::Followed;
@@ -30,8 +30,8 @@ fn undecided_at_end<P: Progress>(
     requires goes_on { GoesOnAt (get nat_cmp granules.now granule) }
     ensures granule { IfOk result (λ undecided. undecided.granule ≡ granule) }
     ensures explained { IfOk result (IsExplainedIn (get nat_cmp granules.now)) }
-    ensures far { IfOk result (IsAsFarIn P.looked progress.old progress.new budget (get nat_cmp granules.now)) }
-    ensures looked { IfOk result (λ _. LookedSome P.looked progress.old progress.new) }
+    ensures far { IfOk result (IsAsFarIn (P.looked for_verdict) progress.old progress.new budget (get nat_cmp granules.now)) }
+    ensures looked { IfOk result (λ _. Grew (P.looked for_verdict) progress.old progress.new) }
 {
     let Some(followed) = granules.get(&granule) else {
         return Ok(UndecidedAtEnd {
@@ -54,8 +54,8 @@ pub(crate) fn each_undecided<P: Progress>(
     requires go_on { All (λ g. GoesOnAt (get nat_cmp granules.now g)) undecided.now }
     ensures granules { IfOk result (λ found. undecided_of found.items ≡ undecided.now) }
     ensures explained { IfOk result (λ found. All (IsExplainedIn (get nat_cmp granules.now)) found.items) }
-    ensures far { IfOk result (λ found. All (IsAsFarIn P.looked progress.old progress.new budget (get nat_cmp granules.now)) found.items) }
-    ensures looked { IfOk result (λ _. LookedSome P.looked progress.old progress.new) }
+    ensures far { IfOk result (λ found. All (IsAsFarIn (P.looked for_verdict) progress.old progress.new budget (get nat_cmp granules.now)) found.items) }
+    ensures looked { IfOk result (λ _. Grew (P.looked for_verdict) progress.old progress.new) }
 {
     let mut found = Vec::new(alloc);
     for granule in undecided {

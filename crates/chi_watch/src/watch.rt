@@ -5,7 +5,7 @@ ghost use Rattle.std.specs.List.{list_any};
 ghost use Rattle.chi_events.specs.declared.event.Event.{Event};
 ghost use Rattle.chi_watch.specs.Endings.{IsExplainable};
 ghost use Rattle.chi_watch.specs.Judged.{CanBeExplained, is_known};
-ghost use Rattle.chi_search.specs.Looks.{LookedAtLeast, LookedSome};
+ghost use Rattle.chi_search.specs.Looks.{Grew, GrewBy, for_verdict};
 ghost use Rattle.chi_watch.specs.Quiet.{BecomesQuiet, granule_about};
 ghost use Rattle.chi_watch.specs.Requests.{granule_of_request};
 ghost use Rattle.chi_watch.specs.Watches.{CanBeJudged, HasTaken, IsFound, IsUnexplained, Takes, Watches, fault_of, granule as granule_of};
@@ -112,8 +112,8 @@ impl Watch {
         progress: &mut P,
     ) -> Result<bool, AllocError>
         ensures found { IfOk result (λ is. IsTrue is → IsFound self.now granule) }
-        ensures none { IfOk result (λ is. is ≡ false → list_any (λ p. granule_of_request p == granule) self.now.outstanding.requests ≡ false → IfSome (granule_of self.now granule) (λ f. f.unknown_since ≡ None → IsExplainable f ⊎ LookedAtLeast P.looked progress.old progress.new budget)) }
-        ensures looked { IfOk result (λ _. LookedSome P.looked progress.old progress.new) }
+        ensures none { IfOk result (λ is. is ≡ false → list_any (λ p. granule_of_request p == granule) self.now.outstanding.requests ≡ false → IfSome (granule_of self.now granule) (λ f. f.unknown_since ≡ None → IsExplainable f ⊎ GrewBy (P.looked for_verdict) progress.old progress.new budget)) }
+        ensures looked { IfOk result (λ _. Grew (P.looked for_verdict) progress.old progress.new) }
     {
         let Some(followed) = self.granules.get(&granule) else {
             return Ok(false);
@@ -145,8 +145,8 @@ impl Watch {
     ) -> Result<bool, AllocError>
         ensures found { IfOk result (λ is. IsTrue is → (events : List Event) → HasTaken events self.now → IsUnexplained events granule) }
         ensures quiet { IfOk result (λ is. IsTrue is → CanBeJudged self.now granule) }
-        ensures judged { IfOk result (λ is. is ≡ false → list_any (λ p. granule_of_request p == granule) self.now.outstanding.requests ≡ false → (events : List Event) → HasTaken events self.now → is_known events granule ≡ true → CanBeExplained events granule ⊎ LookedAtLeast P.looked progress.old progress.new budget) }
-        ensures looked { IfOk result (λ _. LookedSome P.looked progress.old progress.new) }
+        ensures judged { IfOk result (λ is. is ≡ false → list_any (λ p. granule_of_request p == granule) self.now.outstanding.requests ≡ false → (events : List Event) → HasTaken events self.now → is_known events granule ≡ true → CanBeExplained events granule ⊎ GrewBy (P.looked for_verdict) progress.old progress.new budget) }
+        ensures looked { IfOk result (λ _. Grew (P.looked for_verdict) progress.old progress.new) }
     {
         operations_are_told();
         granules_stand_alone();
@@ -167,7 +167,7 @@ impl Watch {
         ensures taken { IfOk result (λ ended. Takes event.now ended self.old self.new) }
         ensures fits { IfOk result (λ _. fault_of self.old event.now ≡ None) }
         ensures fault { IfErr result (λ fault. fault ≢ WatchFault.Memory → fault_of self.old event.now ≡ Some fault) }
-        ensures looked { IfOk result (λ _. LookedSome P.looked progress.old progress.new) }
+        ensures looked { IfOk result (λ _. Grew (P.looked for_verdict) progress.old progress.new) }
     {
         self.admits(event)?;
         let ended = self.outstanding.take(event)?;
@@ -203,10 +203,10 @@ impl Watch {
         ensures taken { IfOk result (λ found. (events : List Event) → HasTaken events self.old → HasTaken (events ++ event.now ∷ []) self.new) }
         ensures unexplained { IfOk result (λ found. IfSome found (λ g. (events : List Event) → HasTaken events self.old → IsUnexplained (events ++ event.now ∷ []) g)) }
         ensures about { IfOk result (λ found. IfSome found (λ g. granule_about self.old event.now ≡ Some g)) }
-        ensures judged { IfOk result (λ found. found ≡ None → (g : ℕ) → BecomesQuiet self.old event.now self.new g → (events : List Event) → HasTaken events self.old → is_known (events ++ event.now ∷ []) g ≡ true → CanBeExplained (events ++ event.now ∷ []) g ⊎ LookedAtLeast P.looked progress.old progress.new budget) }
+        ensures judged { IfOk result (λ found. found ≡ None → (g : ℕ) → BecomesQuiet self.old event.now self.new g → (events : List Event) → HasTaken events self.old → is_known (events ++ event.now ∷ []) g ≡ true → CanBeExplained (events ++ event.now ∷ []) g ⊎ GrewBy (P.looked for_verdict) progress.old progress.new budget) }
         ensures fits { IfOk result (λ found. fault_of self.old event.now ≡ None) }
         ensures fault { IfErr result (λ fault. fault ≢ WatchFault.Memory → fault_of self.old event.now ≡ Some fault) }
-        ensures looked { IfOk result (λ _. LookedSome P.looked progress.old progress.new) }
+        ensures looked { IfOk result (λ _. Grew (P.looked for_verdict) progress.old progress.new) }
     {
         let about = self.granule_about(event);
         self.step(alloc, event, true, progress)?;

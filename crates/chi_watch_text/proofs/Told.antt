@@ -9,15 +9,14 @@ use Rattle.std.proofs.lemmas.List.Quantifiers.{all_pairs_push}
 use Rattle.chi_events.specs.Ended.{are_ended, is_end}
 use Rattle.chi_events.specs.declared.event.Event.{Event}
 use Rattle.chi_watch.specs.declared.ending.Ending.{Ending}
-use Rattle.chi_search.specs.Looks.{LookedAtLeast, LookedSome}
-use Rattle.chi_search.proofs.Looking.{at_least_after, at_least_before, looked_none, some_after}
-use Rattle.chi_judge.specs.declared.reach.Reach.{Reach}
+use Rattle.chi_search.specs.Looks.{Grew, GrewBy}
+use Rattle.chi_search.proofs.Growing.{at_least_after, at_least_before, looked_none, some_after}
 use Rattle.chi_trace.specs.Words.{word_or_zero}
 use Rattle.chi_judge.proofs.AsFar.{as_far_by}
-use Rattle.chi_watch.proofs.Reached.{undecided_weaker}
+use Rattle.chi_watch.proofs.Reached.{reached_wider}
 use Rattle.chi_watch.specs.Judged.{judged}
 use Rattle.chi_watch.specs.WordsTold.{openings}
-use Rattle.chi_watch.specs.Reaching.{IsFoundAtEnd}
+use Rattle.chi_watch.specs.Reaching.{IsFoundAtEnd, IsReachedBy}
 use Rattle.chi_watch.specs.Undecided.{IsExplainedAsFar, IsExplainedTo, states_for}
 use Rattle.chi_watch.specs.Watches.{HasTaken, IsUnexplained, WatchValue}
 use Rattle.chi_watch_text.specs.FoundGranule.{is_found, with_quiet}
@@ -26,7 +25,7 @@ use Rattle.chi_watch_text.specs.declared.quiet.Quiet.{Quiet}
 use Rattle.chi_watch_text.specs.declared.watched.FoundGranule.{FoundGranule}
 use Rattle.chi_watch_text.specs.declared.watched.Watched.{Watched}
 use Rattle.chi_watch_text.specs.Kept.{AreKept, AreKeptOf}
-use Rattle.chi_watch_text.specs.Outcomes.{AreAsFar, AreListed, AreTaken, AreUnreached, EndsAt, HasTakenLines, IsFoundBy, IsPast, IsQuietBy, IsSeenBy, IsSettled, IsStillFound, IsTold, IsUnreached, IsWatched, ReachedBy, SaysAtEnd, SaysOf, TakesEvent, WentBy}
+use Rattle.chi_watch_text.specs.Outcomes.{AreAsFar, AreListed, AreTaken, AreReachedBy, EndsAt, HasTakenLines, IsFoundBy, IsPast, IsQuietBy, IsSeenBy, IsSettled, IsStillFound, IsTold, IsWatched, ReachedBy, SaysAtEnd, SaysOf, TakesEvent, WentBy}
 use Rattle.chi_watch_text.specs.Reading.{GivesNext, HasGiven, HasGivenAll, HasGivenOf, IsOfLast}
 use Rattle.chi_watch_text.specs.declared.line_format.LineFormat.{LineFormat}
 use Rattle.chi_watch_text.specs.declared.reading.Reading.{Reading}
@@ -93,42 +92,42 @@ once_more w q before after (inr (f, is, other, noted)) once = subst (AllPairs (�
 
 module _ {P : Type 0} (w : WatchValue) (looked : P → ℕ → Type 0) where
   -- what is said of how far those can be explained that are found more
-  pub unreached_same : (old new : P) (budget : ℕ) (before after : List FoundGranule) → after ≡ before → AreUnreached w looked old new budget before after
-  unreached_same old new budget before after same events has =
-      subst (All (λ f. Contains before f ⊎ IsUnreached looked old new budget f.reach)) (sym same)
-      (All-weaker (Contains before) (λ f. Contains before f ⊎ IsUnreached looked old new budget f.reach) (λ f here. inl here) before (All-contains_itself before))
+  pub reached_same : (old new : P) (budget : ℕ) (before after : List FoundGranule) → after ≡ before → AreReachedBy w looked old new budget before after
+  reached_same old new budget before after same events has =
+      subst (All (λ f. Contains before f ⊎ IsReachedBy looked old new budget f.reach f.cut_short)) (sym same)
+      (All-weaker (Contains before) (λ f. Contains before f ⊎ IsReachedBy looked old new budget f.reach f.cut_short) (λ f here. inl here) before (All-contains_itself before))
 
-  unreached_wider : (old middle new last : P) (budget : ℕ) (reach : Reach) → LookedSome looked old middle → LookedSome looked new last → IsUnreached looked middle new budget reach
-      → IsUnreached looked old last budget reach
-  unreached_wider old middle new last budget reach first further is =
-      undecided_weaker reach (λ whole. at_least_before looked old new last budget (at_least_after looked old middle new budget first whole) further) is
+  reached_around : (old middle new last : P) (budget : ℕ) (f : FoundGranule) → Grew looked old middle → Grew looked new last → IsReachedBy looked middle new budget f.reach f.cut_short
+      → IsReachedBy looked old last budget f.reach f.cut_short
+  reached_around old middle new last budget f first further =
+      reached_wider looked middle new old last (λ least whole. at_least_before looked old new last least (at_least_after looked old middle new least first whole) further) budget f.reach f.cut_short
 
   -- some, and then others
-  pub unreached_more : (old middle new : P) (budget : ℕ) (before between after : List FoundGranule) → LookedSome looked old middle → LookedSome looked middle new
-      → AreUnreached w looked old middle budget before between → AreUnreached w looked middle new budget between after → AreUnreached w looked old new budget before after
-  unreached_more old middle new budget before between after some more first further events has =
-      All-weaker (λ f. Contains between f ⊎ IsUnreached looked middle new budget f.reach) (λ f. Contains before f ⊎ IsUnreached looked old new budget f.reach)
+  pub reached_more : (old middle new : P) (budget : ℕ) (before between after : List FoundGranule) → Grew looked old middle → Grew looked middle new
+      → AreReachedBy w looked old middle budget before between → AreReachedBy w looked middle new budget between after → AreReachedBy w looked old new budget before after
+  reached_more old middle new budget before between after some more first further events has =
+      All-weaker (λ f. Contains between f ⊎ IsReachedBy looked middle new budget f.reach f.cut_short) (λ f. Contains before f ⊎ IsReachedBy looked old new budget f.reach f.cut_short)
       (λ f is. by_side f is) after (further events has)
     where
-      passed : (f : FoundGranule) → Contains before f ⊎ IsUnreached looked old middle budget f.reach → Contains before f ⊎ IsUnreached looked old new budget f.reach
+      passed : (f : FoundGranule) → Contains before f ⊎ IsReachedBy looked old middle budget f.reach f.cut_short → Contains before f ⊎ IsReachedBy looked old new budget f.reach f.cut_short
       passed f (inl here) = inl here
-      passed f (inr is) = inr (unreached_wider old old middle new budget f.reach (looked_none looked old) more is)
+      passed f (inr is) = inr (reached_around old old middle new budget f (looked_none looked old) more is)
 
-      by_side : (f : FoundGranule) → Contains between f ⊎ IsUnreached looked middle new budget f.reach → Contains before f ⊎ IsUnreached looked old new budget f.reach
-      by_side f (inl here) = passed f (All-contains (λ x. Contains before x ⊎ IsUnreached looked old middle budget x.reach) between f (first events has) here)
-      by_side f (inr is) = inr (unreached_wider old middle new new budget f.reach some (looked_none looked new) is)
+      by_side : (f : FoundGranule) → Contains between f ⊎ IsReachedBy looked middle new budget f.reach f.cut_short → Contains before f ⊎ IsReachedBy looked old new budget f.reach f.cut_short
+      by_side f (inl here) = passed f (All-contains (λ x. Contains before x ⊎ IsReachedBy looked old middle budget x.reach x.cut_short) between f (first events has) here)
+      by_side f (inr is) = inr (reached_around old middle new new budget f some (looked_none looked new) is)
 
   -- so of each that is found, and of each found before
-  pub unreached_all : (old middle new last : P) (budget : ℕ) (before after : List FoundGranule) → LookedSome looked old middle → LookedSome looked middle new → LookedSome looked new last
-      → (events : List Event) → HasTaken events w → AreUnreached w looked middle new budget before after
-      → All (λ f. IsUnreached looked old middle budget f.reach) before → All (λ f. IsUnreached looked old last budget f.reach) after
-  unreached_all old middle new last budget before after some more rest events has further all =
-      All-weaker (λ f. Contains before f ⊎ IsUnreached looked middle new budget f.reach) (λ f. IsUnreached looked old last budget f.reach) (λ f is. by_side f is) after (further events has)
+  pub reached_all : (old middle new last : P) (budget : ℕ) (before after : List FoundGranule) → Grew looked old middle → Grew looked middle new → Grew looked new last
+      → (events : List Event) → HasTaken events w → AreReachedBy w looked middle new budget before after
+      → All (λ f. IsReachedBy looked old middle budget f.reach f.cut_short) before → All (λ f. IsReachedBy looked old last budget f.reach f.cut_short) after
+  reached_all old middle new last budget before after some more rest events has further all =
+      All-weaker (λ f. Contains before f ⊎ IsReachedBy looked middle new budget f.reach f.cut_short) (λ f. IsReachedBy looked old last budget f.reach f.cut_short) (λ f is. by_side f is) after (further events has)
     where
-      by_side : (f : FoundGranule) → Contains before f ⊎ IsUnreached looked middle new budget f.reach → IsUnreached looked old last budget f.reach
-      by_side f (inl here) = unreached_wider old old middle last budget f.reach (looked_none looked old) (some_after looked middle new last more rest)
-          (All-contains (λ x. IsUnreached looked old middle budget x.reach) before f all here)
-      by_side f (inr is) = unreached_wider old middle new last budget f.reach some rest is
+      by_side : (f : FoundGranule) → Contains before f ⊎ IsReachedBy looked middle new budget f.reach f.cut_short → IsReachedBy looked old last budget f.reach f.cut_short
+      by_side f (inl here) = reached_around old old middle last budget f (looked_none looked old) (some_after looked middle new last more rest)
+          (All-contains (λ x. IsReachedBy looked old middle budget x.reach x.cut_short) before f all here)
+      by_side f (inr is) = reached_around old middle new last budget f some rest is
 
 -- of those that became quiet one is put in its place
 quiet_noted : (P : Quiet → Type 0) (seen : Option ℕ) (line : ℕ) (quiet : List Quiet) → All P quiet → IfSome seen (λ g. P (record { granule = g; line = line })) → All P (with_quiet seen line quiet)
@@ -318,17 +317,17 @@ passed_on (Ok a) f P is h = absurd is
 passed_on (Err y) f P is h = subst (λ z. P (Err z)) (sym is) h
 
 -- for each granule that is not decided at least so many states were looked at
-pub undecided_after : {P : Type 0} (looked : P → ℕ → Type 0) (old middle new : P) (budget : ℕ) (watched : Watched) → LookedSome looked old middle → WentBy looked middle new budget watched
+pub undecided_after : {P : Type 0} (looked : P → ℕ → Type 0) (old middle new : P) (budget : ℕ) (watched : Watched) → Grew looked old middle → WentBy looked middle new budget watched
     → WentBy looked old new budget watched
 undecided_after looked old middle new budget watched some went = by_ending watched.ending went
   where
-    by_ending : (o : Option Ending) → IfSome o (λ ending. All (λ g. LookedAtLeast looked middle new budget) ending.undecided.items) → IfSome o (λ ending. All (λ g. LookedAtLeast looked old new budget) ending.undecided.items)
+    by_ending : (o : Option Ending) → IfSome o (λ ending. All (λ g. GrewBy looked middle new budget) ending.undecided.items) → IfSome o (λ ending. All (λ g. GrewBy looked old new budget) ending.undecided.items)
     by_ending None all = tt
     by_ending (Some ending) all =
-        All-weaker (λ g. LookedAtLeast looked middle new budget) (λ g. LookedAtLeast looked old new budget) (λ g whole. at_least_after looked old middle new budget some whole) ending.undecided.items all
+        All-weaker (λ g. GrewBy looked middle new budget) (λ g. GrewBy looked old new budget) (λ g whole. at_least_after looked old middle new budget some whole) ending.undecided.items all
 
 -- each of these is explained as far as was found, of the events of the lines
-pub far_at_end : {P : Type 0} (looked : P → ℕ → Type 0) (old middle new : P) (budget : ℕ) → LookedSome looked old middle
+pub far_at_end : {P : Type 0} (looked : P → ℕ → Type 0) (old middle new : P) (budget : ℕ) → Grew looked old middle
     → (start now later : Option (List ℕ)) (time : ℕ) (ended : Bool) (found : List FoundGranule) (quiet : List Quiet) (w : WatchValue) (r s : Reading) (o : Option Ending)
     → HasTakenLines start time ended found quiet w r now → GivesNext start r now None s later
     → IfSome o (λ ending. All (λ u. (events : List Event) → HasTaken events w → IsExplainedAsFar looked middle new (states_for budget ending.undecided.items) events u) ending.undecided.items)
@@ -343,27 +342,27 @@ far_at_end looked old middle new budget some (Some text) (Some rest) later time 
       events = has.events;
       told = all_told r.format text has.events s (gives has.events has.given);
       far = All-weaker (λ u. (events : List Event) → HasTaken events w → IsExplainedAsFar looked middle new states events u) (IsExplainedAsFar looked old new states has.events)
-          (λ u is. as_far_by looked middle new old new states states (λ whole. at_least_after looked old middle new states some whole) (judged has.events) u.granule (word_or_zero (openings has.events) u.granule) u.explained
+          (λ u is. as_far_by (GrewBy looked middle new states) (GrewBy looked old new states) (λ whole. at_least_after looked old middle new states some whole) (judged has.events) u.granule (word_or_zero (openings has.events) u.granule) u.explained
           (is has.events has.taken)) undecided far;
     }
 
 -- and for each of which it is not known how far it can be explained
 pub reached_by_found : {P : Type 0} (looked : P → ℕ → Type 0) (old new : P) (budget : ℕ) (found : List FoundGranule) (watched : Watched) → watched.found.items ≡ found
-    → All (λ f. IsUnreached looked old new budget f.reach) found → IfSome watched.ending (λ ending. All (λ f. IsUnreached looked old new budget f.reach) ending.unexplained.items)
+    → All (λ f. IsReachedBy looked old new budget f.reach f.cut_short) found → IfSome watched.ending (λ ending. All (λ f. IsReachedBy looked old new budget f.reach f.cut_short) ending.unexplained.items)
     → ReachedBy looked old new budget watched
 reached_by_found looked old new budget found watched same all at_end = record {
-  found = subst (All (λ f. IsUnreached looked old new budget f.reach)) (sym same) all;
+  found = subst (All (λ f. IsReachedBy looked old new budget f.reach f.cut_short)) (sym same) all;
   at_end = at_end;
 }
 
 -- the granules that are found at the end are so of the events that the watch took
-pub unreached_at_end : {P : Type 0} (looked : P → ℕ → Type 0) (old middle new : P) (budget : ℕ) (w : WatchValue) → LookedSome looked old middle → (events : List Event) → HasTaken events w
-    → (o : Option Ending) → IfSome o (λ ending. All (λ f. (all : List Event) → HasTaken all w → IsUnreached looked middle new budget f.reach) ending.unexplained.items)
-    → IfSome o (λ ending. All (λ f. IsUnreached looked old new budget f.reach) ending.unexplained.items)
-unreached_at_end looked old middle new budget w some events has None all = tt
-unreached_at_end looked old middle new budget w some events has (Some ending) all =
-    All-weaker (λ f. (told : List Event) → HasTaken told w → IsUnreached looked middle new budget f.reach) (λ f. IsUnreached looked old new budget f.reach)
-    (λ f is. undecided_weaker f.reach (λ whole. at_least_after looked old middle new budget some whole) (is events has)) ending.unexplained.items all
+pub reached_at_end : {P : Type 0} (looked : P → ℕ → Type 0) (old middle new : P) (budget : ℕ) (w : WatchValue) → Grew looked old middle → (events : List Event) → HasTaken events w
+    → (o : Option Ending) → IfSome o (λ ending. All (λ f. (all : List Event) → HasTaken all w → IsReachedBy looked middle new budget f.reach f.cut_short) ending.unexplained.items)
+    → IfSome o (λ ending. All (λ f. IsReachedBy looked old new budget f.reach f.cut_short) ending.unexplained.items)
+reached_at_end looked old middle new budget w some events has None all = tt
+reached_at_end looked old middle new budget w some events has (Some ending) all =
+    All-weaker (λ f. (told : List Event) → HasTaken told w → IsReachedBy looked middle new budget f.reach f.cut_short) (λ f. IsReachedBy looked old new budget f.reach f.cut_short)
+    (λ f is. reached_wider looked middle new old new (λ least whole. at_least_after looked old middle new least some whole) budget f.reach f.cut_short (is events has)) ending.unexplained.items all
 
 -- the events of those lines were taken
 pub took : (start now : Option (List ℕ)) (time : ℕ) (ended : Bool) (found : List FoundGranule) (quiet : List Quiet) (w : WatchValue) (r : Reading) → HasTakenLines start time ended found quiet w r now

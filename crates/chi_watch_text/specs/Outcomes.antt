@@ -4,13 +4,13 @@ use Rattle.std.specs.List.{AllPairs, Contains}
 use Rattle.std.specs.declared.alloc.Global.{Global}
 use Rattle.chi_events.specs.Ended.{are_ended}
 use Rattle.chi_events.specs.declared.event.Event.{Event}
-use Rattle.chi_search.specs.Looks.{LookedAtLeast}
+use Rattle.chi_search.specs.Looks.{GrewBy}
 use Rattle.chi_judge.specs.Reaches.{IfUndecided}
 use Rattle.chi_judge.specs.declared.reach.Reach.{Reach}
 use Rattle.chi_watch.specs.Counts.{AreCounted, unjudged}
 use Rattle.chi_watch.specs.Endings.{IsListed}
 use Rattle.chi_watch.specs.Judged.{CanBeExplained, IsExplained}
-use Rattle.chi_watch.specs.Reaching.{IsFoundAtEnd, IsReach, granules_of}
+use Rattle.chi_watch.specs.Reaching.{IsFoundAtEnd, IsReach, IsReachedBy, granules_of}
 use Rattle.chi_watch.specs.Undecided.{IsExplainedAsFar, IsExplainedTo, states_for, undecided_of}
 use Rattle.chi_watch.specs.Watches.{HasTaken, IsUnexplained, WatchValue, fault_of}
 use Rattle.chi_watch.specs.declared.ending.Ending.{Ending}
@@ -93,14 +93,10 @@ IsStillFound w quiet found f = Contains found f ⊎ ((q : Quiet) × Contains qui
 abbrev pub IsSettled : WatchValue → Quiet → List FoundGranule → List FoundGranule → Type 0
 IsSettled w q old new = (new ≡ old) ⊎ ((f : FoundGranule) × (new ≡ old ++ f ∷ []) × (is_found f.granule old ≡ false) × IsNotedAs w q f)
 
--- where it is not known how far a granule can be explained, at least as many states as the budget were looked at
-abbrev pub IsUnreached : {P : Type 0} → (P → ℕ → Type 0) → P → P → ℕ → Reach → Type 0
-IsUnreached looked old new budget reach = IfUndecided reach (LookedAtLeast looked old new budget)
-
--- so of each granule that is found more, where the watch took some events
-abbrev pub AreUnreached : {P : Type 0} → WatchValue → (P → ℕ → Type 0) → P → P → ℕ → List FoundGranule → List FoundGranule → Type 0
-AreUnreached w looked old new budget before after =
-    (events : List Event) → HasTaken events w → All (λ f. Contains before f ⊎ IsUnreached looked old new budget f.reach) after
+-- how far each granule that is found more can be explained is known, or so many states were looked at, where the watch took some events
+abbrev pub AreReachedBy : {P : Type 0} → WatchValue → (P → ℕ → Type 0) → P → P → ℕ → List FoundGranule → List FoundGranule → Type 0
+AreReachedBy w looked old new budget before after =
+    (events : List Event) → HasTaken events w → All (λ f. Contains before f ⊎ IsReachedBy looked old new budget f.reach f.cut_short) after
 
 -- What is said of events at their end. Where no granule is listed all that is judged is explained. What is judged of each granule can
 -- be explained, or it is listed; no order explains one that is listed as such, and one that is not decided is explained up to the time
@@ -200,7 +196,7 @@ HasTakenLines (Some text) time ended found quiet watch r (Some rest) = AreTaken 
 
 -- for each granule that is not decided at least as many states as the budget were looked at
 abbrev pub WentBy : {P : Type 0} → (P → ℕ → Type 0) → P → P → ℕ → Watched → Type 0
-WentBy looked old new budget watched = IfSome watched.ending (λ ending. All (λ _. LookedAtLeast looked old new budget) ending.undecided.items)
+WentBy looked old new budget watched = IfSome watched.ending (λ ending. All (λ _. GrewBy looked old new budget) ending.undecided.items)
 
 -- each of these is explained as far as was found of the events that the text tells
 pub record AreAsFar {P : Type 0} (looked : P → ℕ → Type 0) (old new : P) (budget : ℕ) (format : LineFormat) (text : List ℕ) (undecided : List UndecidedAtEnd) : Type 0 where
@@ -214,5 +210,5 @@ WentAsFar looked old new budget format text watched = IfSome watched.ending (λ 
 
 -- and for each of which it is not known how far it can be explained
 pub record ReachedBy {P : Type 0} (looked : P → ℕ → Type 0) (old new : P) (budget : ℕ) (watched : Watched) : Type 0 where
-  pub found : All (λ f. IsUnreached looked old new budget f.reach) watched.found.items
-  pub at_end : IfSome watched.ending (λ ending. All (λ f. IsUnreached looked old new budget f.reach) ending.unexplained.items)
+  pub found : All (λ f. IsReachedBy looked old new budget f.reach f.cut_short) watched.found.items
+  pub at_end : IfSome watched.ending (λ ending. All (λ f. IsReachedBy looked old new budget f.reach f.cut_short) ending.unexplained.items)

@@ -6,14 +6,18 @@ use chi_watch::Counts;
 /// What is told how far a watch is, to show it until something else is written. What it does with that changes no answer.
 pub trait WatchProgress: Progress {
     ghost use Rattle.std.specs.Prelude.{ℕ};
+    ghost use Rattle.chi_search.specs.Looks.{Search};
 
     /// So much was told by this time.
     fn reached(&mut self, counts: Counts, time: u64)
-        ensures { (n : ℕ) → Self.looked self.old n → Self.looked self.new n };
+        ensures looked { (s : Search) (n : ℕ) → Self.looked s self.old n → Self.looked s self.new n }
+        ensures states { (n : ℕ) → Self.states self.old n → Self.states self.new n };
 
-    /// Takes back what is shown, since something else is to be written.
+    /// Takes back what is shown, since something else is to be written. It knows no more of the states than before.
     fn clear(&mut self)
-        ensures { (n : ℕ) → Self.looked self.old n → Self.looked self.new n };
+        ensures looked { (s : Search) (n : ℕ) → Self.looked s self.old n → Self.looked s self.new n }
+        ensures no_more { (s : Search) (n : ℕ) → Self.looked s self.new n → Self.looked s self.old n }
+        ensures states { (n : ℕ) → Self.states self.old n → Self.states self.new n };
 }
 
 impl WatchProgress for NoProgress {

@@ -2,9 +2,9 @@
 
 ghost use Rattle.std.specs.Prelude.{◌≡◌, ◌==◌, ◌≢◌, ◌⊎◌, ◌++◌, [], ◌∷◌, true, false, All, not, filter, IfErr, IfOk};
 ghost use Rattle.std.specs.List.{AllPairs};
-ghost use Rattle.chi_search.specs.Looks.{LookedSome};
+ghost use Rattle.chi_search.specs.Looks.{Grew, for_verdict};
 ghost use Rattle.chi_watch_text.specs.FoundGranule.{with_quiet};
-ghost use Rattle.chi_watch_text.specs.Outcomes.{AreUnreached, IsSettled, IsStillFound};
+ghost use Rattle.chi_watch_text.specs.Outcomes.{AreReachedBy, IsSettled, IsStillFound};
 ghost use Rattle.chi_watch_text.specs.Telling.{AreAllTold, AreSomeTold};
 
 use crate::fault::LinesFault;
@@ -77,19 +77,19 @@ fn judge_one<W: Write, P: WatchProgress>(
     ensures begun { AreSomeTold found.old.items found.new.items (W.contents to.old) (W.contents to.new) }
     ensures fault { IfErr result (λ fault. (fault ≡ LinesFault.Memory) ⊎ (fault ≡ LinesFault.Write)) }
     ensures noted { IsSettled watch.now it found.old.items found.new.items }
-    ensures unreached { IfOk result (λ _. AreUnreached watch.now P.looked progress.old progress.new budget found.old.items found.new.items) }
-    ensures looked { IfOk result (λ _. LookedSome P.looked progress.old progress.new) }
+    ensures reached { IfOk result (λ _. AreReachedBy watch.now (P.looked for_verdict) progress.old progress.new budget found.old.items found.new.items) }
+    ensures looked { IfOk result (λ _. Grew (P.looked for_verdict) progress.old progress.new) }
 {
     if is_found(found, it.granule) {
         return Ok(());
     }
     if watch.is_unexplained(alloc, it.granule, budget, progress)? {
-        let reach = watch.reach(alloc, it.granule, budget, progress)?;
+        let so_far = watch.reach(alloc, it.granule, budget, progress)?;
         let noted = FoundGranule {
             granule: it.granule,
             line: it.line,
-            reach,
-            cut_short: progress.cut_short(),
+            reach: so_far.reach,
+            cut_short: so_far.cut_short,
         };
         let text = text_of_found(alloc, &noted)?;
         add(found, noted)?;
@@ -113,9 +113,9 @@ fn judge_each<W: Write, P: WatchProgress>(
     ensures begun { AreSomeTold found.old.items found.new.items (W.contents to.old) (W.contents to.new) }
     ensures fault { IfErr result (λ fault. (fault ≡ LinesFault.Memory) ⊎ (fault ≡ LinesFault.Write)) }
     ensures each { All (IsStillFound watch.now quiet.now found.old.items) found.new.items }
-    ensures unreached { IfOk result (λ _. AreUnreached watch.now P.looked progress.old progress.new budget found.old.items found.new.items) }
+    ensures reached { IfOk result (λ _. AreReachedBy watch.now (P.looked for_verdict) progress.old progress.new budget found.old.items found.new.items) }
     ensures once { IfOk result (λ _. AllPairs (λ a b. a.granule ≢ b.granule) found.old.items → AllPairs (λ a b. a.granule ≢ b.granule) found.new.items) }
-    ensures looked { IfOk result (λ _. LookedSome P.looked progress.old progress.new) }
+    ensures looked { IfOk result (λ _. Grew (P.looked for_verdict) progress.old progress.new) }
 {
     for it in quiet {
         judge_one(alloc, watch, *it, found, to, budget, progress)?;
@@ -141,9 +141,9 @@ pub(crate) fn judge_quiet<W: Write, P: WatchProgress>(
     ensures waits { is_past ≡ false → (found.new.items ≡ found.old.items) × (quiet.new.items ≡ quiet.old.items) }
     ensures cleared { IfOk result (λ _. is_past ≡ true → quiet.new.items ≡ []) }
     ensures each { is_past ≡ true → All (IsStillFound watch.now quiet.old.items found.old.items) found.new.items }
-    ensures unreached { IfOk result (λ _. AreUnreached watch.now P.looked progress.old progress.new budget found.old.items found.new.items) }
+    ensures reached { IfOk result (λ _. AreReachedBy watch.now (P.looked for_verdict) progress.old progress.new budget found.old.items found.new.items) }
     ensures once { IfOk result (λ _. AllPairs (λ a b. a.granule ≢ b.granule) found.old.items → AllPairs (λ a b. a.granule ≢ b.granule) found.new.items) }
-    ensures looked { IfOk result (λ _. LookedSome P.looked progress.old progress.new) }
+    ensures looked { IfOk result (λ _. Grew (P.looked for_verdict) progress.old progress.new) }
 {
     if !is_past {
         return Ok(());

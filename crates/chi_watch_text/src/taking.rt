@@ -1,7 +1,7 @@
 //! An event of a line: the watch takes it, and what was found by it is noted.
 
 ghost use Rattle.std.specs.Prelude.{IfErr, IfOk};
-ghost use Rattle.chi_search.specs.Looks.{LookedSome};
+ghost use Rattle.chi_search.specs.Looks.{Grew, for_verdict};
 ghost use Rattle.chi_watch_text.specs.Kept.{KeepsLine};
 ghost use Rattle.chi_watch_text.specs.Outcomes.{IsEventFault, TakesEvent, TakesLine};
 
@@ -24,7 +24,7 @@ fn take_event<P: WatchProgress>(
 ) -> Result<Option<u64>, LinesFault>
     ensures taken { IfOk result (TakesEvent watch.old event.now watch.new) }
     ensures fault { IfErr result (IsEventFault watch.old event.now number) }
-    ensures looked { IfOk result (λ _. LookedSome P.looked progress.old progress.new) }
+    ensures looked { IfOk result (λ _. Grew (P.looked for_verdict) progress.old progress.new) }
 {
     match watch.take(alloc, event, budget, progress) {
         Ok(seen) => {
@@ -52,7 +52,7 @@ pub(crate) fn take_line<P: WatchProgress>(
     ensures taken { IfOk result (λ _. TakesLine watch.old event.now number quiet.old.items watch.new quiet.new.items) }
     ensures kept { IfOk result (λ _. KeepsLine kept.old lines.now kept.new) }
     ensures fault { IfErr result (IsEventFault watch.old event.now number) }
-    ensures looked { IfOk result (λ _. LookedSome P.looked progress.old progress.new) }
+    ensures looked { IfOk result (λ _. Grew (P.looked for_verdict) progress.old progress.new) }
 {
     let seen = take_event(alloc, watch, event, number, budget, progress)?;
     note_quiet(alloc, quiet, seen, number)?;

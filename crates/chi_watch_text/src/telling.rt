@@ -2,6 +2,7 @@
 
 ghost use Rattle.std.specs.Prelude.{◌≡◌, ℕ, OnOk, IfErr};
 ghost use Rattle.chi_script.specs.WriterBytes.{Puts};
+ghost use Rattle.chi_search.specs.Looks.{for_verdict};
 
 use crate::fault::LinesFault;
 use crate::progress::WatchProgress;
@@ -30,7 +31,7 @@ pub(crate) fn tell<W: Write, P: WatchProgress>(
 ) -> Result<(), LinesFault>
     ensures written { Puts (W.contents to.old) (W.contents to.new) result text.now }
     ensures fault { IfErr result (λ fault. fault ≡ LinesFault.Write) }
-    ensures looked { (n : ℕ) → P.looked progress.old n → P.looked progress.new n }
+    ensures looked { (n : ℕ) → P.looked for_verdict progress.old n → P.looked for_verdict progress.new n }
 {
     progress.clear();
     write_at_once(to, text)

@@ -7,10 +7,11 @@ ghost use Rattle.chi_events.specs.Ended.{is_end};
 ghost use Rattle.chi_events.specs.declared.event.Event.{Event};
 ghost use Rattle.chi_flits.specs.Effects.{HasSeen};
 ghost use Rattle.chi_flits.specs.declared.flit.Flit.{Flit};
-ghost use Rattle.chi_search.specs.Looks.{LookedSome};
+ghost use Rattle.chi_search.specs.Looks.{Grew, for_verdict};
 ghost use Rattle.chi_watch.specs.Undecided.{IsExplainedAsFar, states_for};
 ghost use Rattle.chi_watch.specs.Watches.{HasTaken};
-ghost use Rattle.chi_watch_text.specs.Outcomes.{IsFoundBy, IsOutcome, IsStillFound, IsTold, IsUnreached, IsWatched, IsWatchingFault, ReachedBy, SaysAtEnd, WentAsFar, WentBy};
+ghost use Rattle.chi_watch.specs.Reaching.{IsReachedBy};
+ghost use Rattle.chi_watch_text.specs.Outcomes.{IsFoundBy, IsOutcome, IsStillFound, IsTold, IsWatched, IsWatchingFault, ReachedBy, SaysAtEnd, WentAsFar, WentBy};
 ghost use Rattle.chi_watch_text.specs.Reading.{IsRefusedLater};
 ghost use Rattle.chi_watch_text.specs.Telling.{AreAllTold, AreSomeTold};
 ghost use Rattle.chi_watch_text.specs.Texts.{found_text};
@@ -150,10 +151,10 @@ fn ended<P: WatchProgress>(
     ensures ending { IfOk result (λ watched. watched.ending ≢ None) }
     ensures waiting { IfOk result (λ watched. (flits : List Flit) → HasSeen flits port.now → watched.waiting.items ≡ first_waiting flits watch.outstanding.requests) }
     ensures says { IfOk result (λ watched. IfSome watched.ending (SaysAtEnd watch)) }
-    ensures undecided { IfOk result (WentBy P.looked progress.old progress.new budget) }
-    ensures far { IfOk result (λ watched. IfSome watched.ending (λ ending. All (λ u. (events : List Event) → HasTaken events watch → IsExplainedAsFar P.looked progress.old progress.new (states_for budget ending.undecided.items) events u) ending.undecided.items)) }
-    ensures unreached { IfOk result (λ watched. IfSome watched.ending (λ ending. All (λ f. (events : List Event) → HasTaken events watch → IsUnreached P.looked progress.old progress.new budget f.reach) ending.unexplained.items)) }
-    ensures looked { IfOk result (λ _. LookedSome P.looked progress.old progress.new) }
+    ensures undecided { IfOk result (WentBy (P.looked for_verdict) progress.old progress.new budget) }
+    ensures far { IfOk result (λ watched. IfSome watched.ending (λ ending. All (λ u. (events : List Event) → HasTaken events watch → IsExplainedAsFar (P.looked for_verdict) progress.old progress.new (states_for budget ending.undecided.items) events u) ending.undecided.items)) }
+    ensures reached { IfOk result (λ watched. IfSome watched.ending (λ ending. All (λ f. (events : List Event) → HasTaken events watch → IsReachedBy (P.looked for_verdict) progress.old progress.new budget f.reach f.cut_short) ending.unexplained.items)) }
+    ensures looked { IfOk result (λ _. Grew (P.looked for_verdict) progress.old progress.new) }
 {
     let counts = watch.counts();
     let unjudged = watch.unjudged();
@@ -188,9 +189,9 @@ fn watch_each<R: BufRead, W: Write, P: WatchProgress>(
     ensures begun { IfErr result (λ _. AppendsFront (W.contents to.old) (W.contents to.new) (flat_map found_text found.new.items)) }
     ensures found { IfSome (R.remaining from.old) (λ text. IfErr result (λ _. All (IsFoundBy options.now.format text) found.new.items)) }
     ensures keeps { IfOk result (λ watched. is_some watched.kept ≡ options.now.keep_lines) }
-    ensures undecided { IfOk result (WentBy P.looked progress.old progress.new options.now.budget) }
-    ensures far { IfSome (R.remaining from.old) (λ text. IfOk result (WentAsFar P.looked progress.old progress.new options.now.budget options.now.format text)) }
-    ensures unreached { IfOk result (ReachedBy P.looked progress.old progress.new options.now.budget) }
+    ensures undecided { IfOk result (WentBy (P.looked for_verdict) progress.old progress.new options.now.budget) }
+    ensures far { IfSome (R.remaining from.old) (λ text. IfOk result (WentAsFar (P.looked for_verdict) progress.old progress.new options.now.budget options.now.format text)) }
+    ensures reached { IfOk result (ReachedBy (P.looked for_verdict) progress.old progress.new options.now.budget) }
 {
     let mut watch = Watch::new(alloc);
     let mut quiet = Vec::new(alloc);
@@ -287,9 +288,9 @@ pub fn watch_lines<R: BufRead, W: Write, P: WatchProgress>(
     ensures kept { IfErr result (λ unfinished. unfinished.fault ≢ LinesFault.Write → Appends (W.contents to.old) (W.contents to.new) (flat_map found_text unfinished.found.items)) }
     ensures keeps { IfOk result (λ watched. is_some watched.kept ≡ options.now.keep_lines) }
     ensures begun { IfErr result (λ unfinished. AppendsFront (W.contents to.old) (W.contents to.new) (flat_map found_text unfinished.found.items)) }
-    ensures undecided { IfOk result (WentBy P.looked progress.old progress.new options.now.budget) }
-    ensures far { IfSome (R.remaining from.old) (λ text. IfOk result (WentAsFar P.looked progress.old progress.new options.now.budget options.now.format text)) }
-    ensures unreached { IfOk result (ReachedBy P.looked progress.old progress.new options.now.budget) }
+    ensures undecided { IfOk result (WentBy (P.looked for_verdict) progress.old progress.new options.now.budget) }
+    ensures far { IfSome (R.remaining from.old) (λ text. IfOk result (WentAsFar (P.looked for_verdict) progress.old progress.new options.now.budget options.now.format text)) }
+    ensures reached { IfOk result (ReachedBy (P.looked for_verdict) progress.old progress.new options.now.budget) }
 {
     let mut found = Vec::new(alloc);
     match watch_each(alloc, from, to, options, &mut found, progress) {

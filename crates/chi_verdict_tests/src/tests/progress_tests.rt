@@ -16,11 +16,23 @@ use std::test::Fail;
 struct Looks(u64);
 
 impl Progress for Looks {
-    ghost looked = { λ s n. s.0 ≡ min n (2 ^ 64 - 1) };
+    ghost states = { λ s n. s.0 ≡ min n (2 ^ 64 - 1) };
+
+    ghost looked = { λ k s n. s.0 ≡ min n (2 ^ 64 - 1) };
+
+    ghost are_states = { λ s n is. is };
 
     fn look(&mut self, _left: u64) -> u64 {
         self.0 = self.0.saturating_add(1);
         1
+    }
+
+    fn before_verdict(&mut self) {}
+
+    fn after_verdict(&mut self, _operations: usize) {}
+
+    fn cut_short(&self) -> Option<u64> {
+        None
     }
 }
 

@@ -17,7 +17,8 @@ pub(crate) fn reach(
     granule: u64,
     budget: u64,
 ) -> Result<Reach, Fail> {
-    Ok(watch.reach(alloc, granule, budget, &mut NoProgress)?)
+    let found = watch.reach(alloc, granule, budget, &mut NoProgress)?;
+    Ok(found.reach)
 }
 
 // How far the granule can be explained after these events.

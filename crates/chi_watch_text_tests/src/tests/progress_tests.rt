@@ -18,10 +18,22 @@ struct Kept {
 }
 
 impl Progress for Kept {
-    ghost looked = { λ k n. ⊤ };
+    ghost states = { λ k n. ⊤ };
+
+    ghost looked = { λ s k n. ⊤ };
+
+    ghost are_states = { λ k n is. is };
 
     fn look(&mut self, _left: u64) -> u64 {
         1
+    }
+
+    fn before_verdict(&mut self) {}
+
+    fn after_verdict(&mut self, _operations: usize) {}
+
+    fn cut_short(&self) -> Option<u64> {
+        None
     }
 }
 

@@ -1,35 +1,34 @@
--- the states of the verdict, and those looked at after it
-use Rattle.std.proofs.Common.{◌+◌, arith}
+-- the states of the verdict, and those that were counted after it
+use Rattle.std.proofs.Common.{arith}
 use Rattle.chi_answer.proofs.Spent.{decided_after, far_after, far_decided, undecided_after}
 use Rattle.chi_answer.proofs.answer.answer_of.Goals as goal
 
 pub returns-in-Explained-clause-spent : goal.returns-in-Explained-clause-spent
 returns-in-Explained-clause-spent g c =
-    let spent = c.in_ok-order.ensures.spent in record { count = spent.count; more = spent.more; undecided = tt }
+    let spent = c.in_ok-order.ensures.spent in record { count = spent.count; more = 0; found = spent.found; undecided = tt }
 
 pub returns-in-Unexplained-clause-spent : goal.returns-in-Unexplained-clause-spent
 returns-in-Unexplained-clause-spent g c =
     let spent = c.in_ok-order.ensures.spent in
-    decided_after g.P.Progress.looked c.args.progress.now c.verdict_of.new.progress c.unexplained.new.progress c.unexplained.result (spent.count, spent.more)
+    decided_after g.P.Progress.states g.P.Progress.looked c.args.progress.now c.verdict_of.new.progress c.unexplained.new.progress spent.count spent.found c.unexplained.result
     c.unexplained.ensures.decided c.unexplained.ensures.looked
 
 pub returns-in-Unexplained-clause-far : goal.returns-in-Unexplained-clause-far
 returns-in-Unexplained-clause-far g c =
-    far_decided g.P.Progress.looked c.args.progress.now c.unexplained.new.progress (c.args.budget + c.args.budget) c.args.recorded.now.trace c.unexplained.result c.unexplained.ensures.decided
+    far_decided g.P.Progress.states g.P.Progress.looked c.args.progress.now c.unexplained.new.progress c.args.budget c.args.recorded.now.trace c.unexplained.result c.unexplained.ensures.decided
 
 pub returns-in-Undecided-clause-spent : goal.returns-in-Undecided-clause-spent
 returns-in-Undecided-clause-spent g c =
     let spent = c.in_ok-order.ensures.spent in
     let under = rw c.in-Undecided.is at spent.undecided in
     let whole = rw c.in-Undecided.is at c.in_ok-order.ensures.undecided in
-    undecided_after g.P.Progress.looked c.args.progress.now c.verdict_of.new.progress c.undecided.new.progress c.args.budget c.undecided.result spent.count (omega (arith, under, whole)) spent.more
-    c.undecided.ensures.undecided c.undecided.ensures.looked
+    undecided_after g.P.Progress.states g.P.Progress.looked c.args.progress.now c.verdict_of.new.progress c.undecided.new.progress spent.count spent.found c.args.budget c.undecided.result
+    (omega (arith, under, whole)) c.undecided.ensures.undecided c.undecided.ensures.looked
 
 pub returns-in-Undecided-clause-far : goal.returns-in-Undecided-clause-far
 returns-in-Undecided-clause-far g c =
     let spent = c.in_ok-order.ensures.spent in
     let under = rw c.in-Undecided.is at spent.undecided in
     let whole = rw c.in-Undecided.is at c.in_ok-order.ensures.undecided in
-    far_after g.P.Progress.looked c.args.progress.now c.verdict_of.new.progress c.undecided.new.progress c.args.budget c.args.recorded.now.trace c.undecided.result
-    (spent.count, omega (arith, under, whole), spent.more)
-    c.undecided.ensures.far
+    far_after g.P.Progress.states g.P.Progress.looked c.args.progress.now c.verdict_of.new.progress c.undecided.new.progress spent.count spent.found c.args.budget c.args.recorded.now.trace c.undecided.result
+    (omega (arith, under, whole)) c.undecided.ensures.far

@@ -5,6 +5,7 @@ use Rattle.std.proofs.lemmas.Result.{IfOk-weaker}
 use Rattle.chi_watch_text.specs.declared.line_format.LineFormat.{LineFormat}
 use Rattle.chi_watch_text.specs.declared.options.WatchOptions.{WatchOptions}
 use Rattle.chi_watch_text.proofs.Told.{passed_on}
+use Rattle.chi_search.specs.Looks.{GrewBy, for_verdict}
 use Rattle.chi_check.specs.Check.{KeepsUnanswered}
 use Rattle.chi_check.specs.Saving.{IsUnsaved}
 use Rattle.chi_check.specs.Watch.{WatchOutcome, stopped_by, watching}
@@ -29,12 +30,13 @@ returns-in_ok-show_first-in-Ok-clause-status g c = watched_status c.watching-how
 
 pub returns-in_ok-show_first-in-Ok-clause-spent : goal.returns-in_ok-show_first-in-Ok-clause-spent
 returns-in_ok-show_first-in-Ok-clause-spent g c =
+    let looked = g.P.Progress.looked in
     IfOk-weaker c.write_closing.result _ _
-    (λ status spent six. let went = spent six in
-    spent_after g.P.Progress.looked c.args.progress.now _ _ c.args.options.now.budget
-    (went.0, subst (λ (budget : ℕ). budget ≤ went.0) (ap (λ (how : WatchOptions). how.budget) c.watching-how.ensures) went.1, λ n known. c.clear.ensures _ (went.2 n known))
+    (λ status spent six. spent_after g.P.Progress.states looked c.args.progress.now c.clear.new.self c.show_first.new.progress c.args.options.now.budget
+    (λ n known. let went = subst (GrewBy (looked for_verdict) c.args.progress.now c.watched-found.new.progress) (ap (λ (how : WatchOptions). how.budget) c.watching-how.ensures) (spent six) n known in
+    (went.0, went.1, g.met.P.Progress.are_states c.clear.new.self went.0 (c.clear.ensures.looked for_verdict went.0 went.2)))
     c.in_ok-show_first-in-Ok.ensures.looked)
-    (spent_at_six g.P.Progress.looked c.args.progress.now c.watched-found.new.progress c.watching-how.result _ _ c.in-Ok.watched c.write_closing.result
+    (spent_at_six (looked for_verdict) c.args.progress.now c.watched-found.new.progress c.watching-how.result _ _ c.in-Ok.watched c.write_closing.result
     c.write_closing.ensures c.in-Ok.ensures.undecided)
 
 pub returns-in_ok-show_first-in-Ok-clause-saved : goal.returns-in_ok-show_first-in-Ok-clause-saved

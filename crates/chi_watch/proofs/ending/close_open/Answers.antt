@@ -5,8 +5,8 @@ use Rattle.std.specs.Ordering.{nat_cmp}
 use Rattle.std.proofs.lemmas.List.Elements.{All-get_or}
 use Rattle.chi_watch.specs.Changes.{HasOneMore}
 use Rattle.chi_watch.specs.Endings.{AreToldTo, CanClose}
-use Rattle.chi_search.specs.Looks.{LookedSome}
-use Rattle.chi_search.proofs.Looking.{looked_none, some_after}
+use Rattle.chi_search.specs.Looks.{Grew, for_verdict}
+use Rattle.chi_search.proofs.Growing.{looked_none, some_after}
 use Rattle.chi_watch.proofs.Opened.{all_close_on, told_one}
 use Rattle.chi_watch.proofs.ToldAtTheEnd.{told_as, told_next, told_none}
 use Rattle.chi_watch.proofs.ending.close_open.Goals as goal
@@ -16,7 +16,7 @@ pub loop-request-init : goal.loop-request-init
 loop-request-init g c = record {
   can = λ all. all;
   told = λ all h. told_none (get nat_cmp c.args.granules.now h);
-  looked = looked_none g.P.Progress.looked c.args.progress.now;
+  looked = looked_none (g.P.Progress.looked for_verdict) c.args.progress.now;
 }
 
 pub loop-request-preserved : goal.loop-request-preserved
@@ -37,8 +37,8 @@ loop-request-preserved g c =
             told = λ all h.
                 told_next requests c.loop-request.request-index p h (first h) (old h) (new h) c.loop-request-test.true c.request-item.is (c.loop-request.invariant.told all h)
                 (told_as p (Some w.in-Some.op) h (old h) (new h) is (told_one p w.in-Some.op old new (can all) is more h));
-            looked = some_after g.P.Progress.looked c.args.progress.now c.loop-request.progress c.match-operation.progress c.loop-request.invariant.looked
-                (subst (LookedSome g.P.Progress.looked c.loop-request.progress) (sym w.progress-is) w.in_ok-close.ensures.looked);
+            looked = some_after (g.P.Progress.looked for_verdict) c.args.progress.now c.loop-request.progress c.match-operation.progress c.loop-request.invariant.looked
+                (subst (Grew (g.P.Progress.looked for_verdict) c.loop-request.progress) (sym w.progress-is) w.in_ok-close.ensures.looked);
           }
       | in_default w ↦ record {
         can = λ all. subst (λ m. All (CanClose (get nat_cmp m)) requests) (sym w.granules-is) (c.loop-request.invariant.can all);
@@ -46,6 +46,6 @@ loop-request-preserved g c =
             told_next requests c.loop-request.request-index p h (first h) (old h) (new h) c.loop-request-test.true c.request-item.is (c.loop-request.invariant.told all h)
             (told_as p None h (old h) (new h) (sym w.in_default.is ∙ c.operation.ensures)
             (subst (λ m. AreToldTo [] (old h) (get nat_cmp m h)) (sym w.granules-is) (told_none (old h))));
-        looked = subst (LookedSome g.P.Progress.looked c.args.progress.now) (sym w.progress-is) c.loop-request.invariant.looked;
+        looked = subst (Grew (g.P.Progress.looked for_verdict) c.args.progress.now) (sym w.progress-is) c.loop-request.invariant.looked;
       }
     ]

@@ -4,16 +4,17 @@ use Rattle.std.specs.BTreeMap.{get}
 use Rattle.std.specs.Ordering.{nat_cmp}
 use Rattle.std.proofs.lemmas.List.{map-append, take_more}
 use Rattle.std.proofs.lemmas.List.Elements.{All-nil, All-push, All-weaker}
-use Rattle.chi_search.proofs.Looking.{looked_none, some_after}
+use Rattle.chi_search.proofs.Growing.{looked_none, some_after}
 use Rattle.chi_watch.specs.Undecided.{IsAsFarIn, IsExplainedIn, undecided_of}
 use Rattle.chi_watch.specs.declared.undecided.UndecidedAtEnd.{UndecidedAtEnd}
 use Rattle.chi_watch.proofs.ExplainedFar.{far_after, far_then}
 use Rattle.chi_watch.proofs.undecided.each_undecided.Goals as goal
+use Rattle.chi_search.specs.Looks.{for_verdict}
 
 pub loop-granule-init : goal.loop-granule-init
 loop-granule-init g c =
     let granules = get nat_cmp c.args.granules.now in
-    let looked = g.P.Progress.looked in
+    let looked = g.P.Progress.looked for_verdict in
     let old = c.args.progress.now in
     let none = sym c.new-found.ensures.items in
     record {
@@ -27,7 +28,7 @@ loop-granule-init g c =
 pub loop-granule-preserved : goal.loop-granule-preserved
 loop-granule-preserved g c =
     let granules = get nat_cmp c.args.granules.now in
-    let looked = g.P.Progress.looked in
+    let looked = g.P.Progress.looked for_verdict in
     let old = c.args.progress.now in
     let middle = c.loop-granule.progress in
     let new = c.undecided_at_end.new.progress in

@@ -2,7 +2,7 @@
 use Rattle.std.proofs.Common.{◌≡◌, All, take}
 use Rattle.std.specs.BTreeMap.{get}
 use Rattle.std.specs.Ordering.{nat_cmp}
-use Rattle.chi_search.specs.Looks.{LookedSome}
+use Rattle.chi_search.specs.Looks.{Grew, for_verdict}
 use Rattle.chi_watch.specs.Undecided.{GoesOnAt, IsAsFarIn, IsExplainedIn, undecided_of}
 use Rattle.chi_watch.proofs.undecided.each_undecided.Given as goal
 
@@ -11,6 +11,6 @@ invariant-loop-granule g l = record {
   go_on : All (λ n. GoesOnAt (get nat_cmp l.granules n)) l.undecided;
   granules : undecided_of l.found.items ≡ take l.granule-index l.undecided;
   explained : All (IsExplainedIn (get nat_cmp l.granules)) l.found.items;
-  far : All (IsAsFarIn g.P.Progress.looked l.initial.progress l.progress l.budget (get nat_cmp l.granules)) l.found.items;
-  looked : LookedSome g.P.Progress.looked l.initial.progress l.progress;
+  far : All (IsAsFarIn (g.P.Progress.looked for_verdict) l.initial.progress l.progress l.budget (get nat_cmp l.granules)) l.found.items;
+  looked : Grew (g.P.Progress.looked for_verdict) l.initial.progress l.progress;
 }

@@ -4,12 +4,13 @@ use Rattle.std.specs.Io.KnownBytes.{Appends}
 use Rattle.std.proofs.lemmas.List.Elements.{All-nil}
 use Rattle.chi_script.specs.WriterBytes.{AppendsFront}
 use Rattle.chi_script.proofs.WriterBytesLemmas.{none_taken as nothing_written}
-use Rattle.chi_search.proofs.Looking.{looked_none, some_after}
+use Rattle.chi_search.proofs.Growing.{looked_none, some_after}
 use Rattle.chi_events.specs.declared.event.Event.{Event}
 use Rattle.chi_watch.specs.declared.ending.Ending.{Ending}
 use Rattle.chi_watch.specs.declared.ending.FoundAtEnd.{FoundAtEnd}
 use Rattle.chi_watch_text.specs.Kept.{KeepsLine}
-use Rattle.chi_watch_text.specs.Outcomes.{AreAsFar, HasTakenLines, IsFoundBy, IsLinesFault, IsUnreached, IsWatched, IsWatchingFault}
+use Rattle.chi_watch.specs.Reaching.{IsReachedBy}
+use Rattle.chi_watch_text.specs.Outcomes.{AreAsFar, HasTakenLines, IsFoundBy, IsLinesFault, IsWatched, IsWatchingFault}
 use Rattle.chi_watch_text.specs.Reading.{BeginsWith, GivesNext}
 use Rattle.chi_watch_text.specs.Texts.{found_text}
 use Rattle.chi_watch_text.specs.declared.fault.LinesFault.{LinesFault}
@@ -21,9 +22,10 @@ use Rattle.chi_watch_text.proofs.KeptLines.{keeps_still, lines_kept_more, none_k
 use Rattle.chi_watch_text.proofs.Readings.{none_pending}
 use Rattle.chi_watch_text.proofs.RefusedLater.{found_refused, refused_fault}
 use Rattle.chi_watch_text.proofs.ToldTexts.{whole_front, at_fault, begun_more, but_at_fault, told_more}
-use Rattle.chi_watch_text.proofs.Told.{at_end, at_stop, event_taken, far_at_end, found_of, found_so_far, kept_at_fault, none_found, none_taken, passed_on, reached_by_found, settled, took, undecided_after, unreached_all, unreached_at_end}
+use Rattle.chi_watch_text.proofs.Told.{at_end, at_stop, event_taken, far_at_end, found_of, found_so_far, kept_at_fault, none_found, none_taken, passed_on, reached_by_found, settled, took, undecided_after, reached_all, reached_at_end}
 use Rattle.chi_watch_text.proofs.Refused.{but_write, held_up, where_not_taken, where_refused}
 use Rattle.chi_watch_text.proofs.watching.watch_each.Goals as goal
+use Rattle.chi_search.specs.Looks.{for_verdict}
 
 pub loop-init : goal.loop-init
 loop-init g c = record {
@@ -31,11 +33,11 @@ loop-init g c = record {
       c.requires c.new-quiet.ensures.items;
   once = λ i j d before below. absurd (let none = ap length c.requires in omega (arith, before, below, none));
   told = ([], ([], c.new-watch.ensures));
-  unreached = subst (All (λ (f : FoundGranule). IsUnreached g.P.Progress.looked c.args.progress.now c.args.progress.now c.args.options.now.budget f.reach)) (sym c.requires)
-      (All-nil (λ (f : FoundGranule). IsUnreached g.P.Progress.looked c.args.progress.now c.args.progress.now c.args.options.now.budget f.reach));
+  reached = subst (All (λ (f : FoundGranule). IsReachedBy (g.P.Progress.looked for_verdict) c.args.progress.now c.args.progress.now c.args.options.now.budget f.reach f.cut_short)) (sym c.requires)
+      (All-nil (λ (f : FoundGranule). IsReachedBy (g.P.Progress.looked for_verdict) c.args.progress.now c.args.progress.now c.args.options.now.budget f.reach f.cut_short));
   written = subst (λ (l : List FoundGranule). Appends (g.W.Write.contents c.args.to.now) (g.W.Write.contents c.args.to.now) (flat_map found_text l)) (sym c.requires) (nothing_written (g.W.Write.contents c.args.to.now));
   first = λ stop. c.requires;
-  looked = looked_none g.P.Progress.looked c.args.progress.now;
+  looked = looked_none (g.P.Progress.looked for_verdict) c.args.progress.now;
   kept = none_kept (g.R.Read.remaining c.args.from.now) c.nothing_kept-kept.result c.nothing_kept-kept.ensures.empty;
   keeps = c.nothing_kept-kept.ensures.keeps;
   format = c.new-reading.ensures.format;
@@ -63,7 +65,7 @@ loop-preserved g c =
     c.in_ok-judge_quiet.ensures.waits c.in_ok-judge_quiet.ensures.cleared c.in_ok-judge_quiet.ensures.each in
     let first = none_found c.is_past-is_past.result c.stops.result c.args.options.now.keep_going c.loop.found.items c.judge_quiet.new.found.items before.first
     (λ waits. (c.in_ok-judge_quiet.ensures.waits waits).0) c.if-stops.false (rw c.deref.ensures.value at c.stops.ensures.goes_on) in
-    let some = some_after g.P.Progress.looked c.args.progress.now c.loop.progress c.judge_quiet.new.progress before.looked c.in_ok-judge_quiet.ensures.looked in
+    let some = some_after (g.P.Progress.looked for_verdict) c.args.progress.now c.loop.progress c.judge_quiet.new.progress before.looked c.in_ok-judge_quiet.ensures.looked in
     let gives = subst (λ (o : Option Event). GivesNext (g.R.Read.remaining c.args.from.now) c.loop.reading (g.R.Read.remaining c.loop.from) o c.next_event.new.self (g.R.Read.remaining c.next_event.new.from)) c.in-Some.is (c.in-Ok.ensures.gives (g.R.Read.remaining c.args.from.now)) in
     let begins =
     subst (λ (o : Option Event). IfSome o (λ _. BeginsWith (g.R.Read.remaining c.loop.from) c.next_event.new.self.lines.items (g.R.Read.remaining c.next_event.new.from))) c.in-Some.is c.in-Ok.ensures.lines in
@@ -74,11 +76,11 @@ loop-preserved g c =
           c.in_ok-take_line.ensures.taken.takes c.in_ok-take_line.ensures.taken.notes);
       once = c.in_ok-judge_quiet.ensures.once before.once;
       told = (before.told.0 ++ c.in-Some.event ∷ [], c.in_ok-take_line.ensures.taken.takes.taken before.told.0 before.told.1);
-      unreached = unreached_all c.loop.watch g.P.Progress.looked c.args.progress.now c.loop.progress c.judge_quiet.new.progress c.take_line.new.progress c.args.options.now.budget
-          c.loop.found.items c.judge_quiet.new.found.items before.looked c.in_ok-judge_quiet.ensures.looked c.in_ok-take_line.ensures.looked before.told.0 before.told.1 c.in_ok-judge_quiet.ensures.unreached before.unreached;
+      reached = reached_all c.loop.watch (g.P.Progress.looked for_verdict) c.args.progress.now c.loop.progress c.judge_quiet.new.progress c.take_line.new.progress c.args.options.now.budget
+          c.loop.found.items c.judge_quiet.new.found.items before.looked c.in_ok-judge_quiet.ensures.looked c.in_ok-take_line.ensures.looked before.told.0 before.told.1 c.in_ok-judge_quiet.ensures.reached before.reached;
       written = told_more c.loop.found.items c.judge_quiet.new.found.items (g.W.Write.contents c.args.to.now) (g.W.Write.contents c.loop.to) (g.W.Write.contents c.judge_quiet.new.to) before.written c.in_ok-judge_quiet.ensures.told;
       first = first;
-      looked = some_after g.P.Progress.looked c.args.progress.now c.judge_quiet.new.progress c.take_line.new.progress some c.in_ok-take_line.ensures.looked;
+      looked = some_after (g.P.Progress.looked for_verdict) c.args.progress.now c.judge_quiet.new.progress c.take_line.new.progress some c.in_ok-take_line.ensures.looked;
       kept = lines_kept_more (g.R.Read.remaining c.args.from.now) (g.R.Read.remaining c.loop.from) (g.R.Read.remaining c.next_event.new.from) c.loop.kept c.take_line.new.kept c.next_event.new.self.lines.items before.kept
           (subst (λ (l : List ℕ). KeepsLine c.loop.kept l c.take_line.new.kept) c.deref-in-loop.ensures.value c.in_ok-take_line.ensures.kept) begins;
       keeps = keeps_still c.loop.kept c.take_line.new.kept _ c.in_ok-take_line.ensures.kept ∙ before.keeps;
@@ -118,8 +120,8 @@ returns-in_default-clause-watched g c =
 
 pub returns-in_default-clause-undecided : goal.returns-in_default-clause-undecided
 returns-in_default-clause-undecided g c =
-    let some = some_after g.P.Progress.looked c.args.progress.now c.loop.progress c.judge_quiet.new.progress c.loop.invariant.looked c.in_ok-judge_quiet.ensures.looked in
-    undecided_after g.P.Progress.looked c.args.progress.now c.judge_quiet.new.progress c.ended.new.progress c.args.options.now.budget c.in_ok-ended.field-0 some c.in_ok-ended.ensures.undecided
+    let some = some_after (g.P.Progress.looked for_verdict) c.args.progress.now c.loop.progress c.judge_quiet.new.progress c.loop.invariant.looked c.in_ok-judge_quiet.ensures.looked in
+    undecided_after (g.P.Progress.looked for_verdict) c.args.progress.now c.judge_quiet.new.progress c.ended.new.progress c.args.options.now.budget c.in_ok-ended.field-0 some c.in_ok-ended.ensures.undecided
 
 pub returns-in_default-clause-far : goal.returns-in_default-clause-far
 returns-in_default-clause-far g c =
@@ -129,18 +131,18 @@ returns-in_default-clause-far g c =
     c.judge_quiet.new.found.items c.loop.quiet.items c.judge_quiet.new.quiet.items c.loop.watch c.loop.reading c.next_event.new.self c.in-Ok.next c.is_past-is_past.result before.taken (c.in-Ok.ensures.gives (g.R.Read.remaining c.args.from.now)) c.next_event.ensures.format c.is_past-is_past.ensures.past
     c.in_ok-judge_quiet.ensures.waits c.in_ok-judge_quiet.ensures.cleared c.in_ok-judge_quiet.ensures.each in
     let gives = subst (λ (o : Option Event). GivesNext (g.R.Read.remaining c.args.from.now) c.loop.reading (g.R.Read.remaining c.loop.from) o c.next_event.new.self (g.R.Read.remaining c.next_event.new.from)) c.in_default.is (c.in-Ok.ensures.gives (g.R.Read.remaining c.args.from.now)) in
-    let some = some_after g.P.Progress.looked c.args.progress.now c.loop.progress c.judge_quiet.new.progress before.looked c.in_ok-judge_quiet.ensures.looked in
+    let some = some_after (g.P.Progress.looked for_verdict) c.args.progress.now c.loop.progress c.judge_quiet.new.progress before.looked c.in_ok-judge_quiet.ensures.looked in
     let start = g.R.Read.remaining c.args.from.now in
     let budget = c.args.options.now.budget in
     let ending = c.in_ok-ended.field-0.ending in
-    subst (λ (k : LineFormat). IfSome start (λ text. IfSome ending (λ e. AreAsFar g.P.Progress.looked c.args.progress.now c.ended.new.progress budget k text e.undecided.items))) before.format
-    (far_at_end g.P.Progress.looked c.args.progress.now c.judge_quiet.new.progress c.ended.new.progress budget some
+    subst (λ (k : LineFormat). IfSome start (λ text. IfSome ending (λ e. AreAsFar (g.P.Progress.looked for_verdict) c.args.progress.now c.ended.new.progress budget k text e.undecided.items))) before.format
+    (far_at_end (g.P.Progress.looked for_verdict) c.args.progress.now c.judge_quiet.new.progress c.ended.new.progress budget some
     start (g.R.Read.remaining c.loop.from) (g.R.Read.remaining c.next_event.new.from) c.loop.time c.loop.is_ended
     c.judge_quiet.new.found.items c.judge_quiet.new.quiet.items c.loop.watch c.loop.reading c.next_event.new.self ending settled_now gives c.in_ok-ended.ensures.far)
 
-pub returns-in_default-clause-unreached : goal.returns-in_default-clause-unreached
-returns-in_default-clause-unreached g c =
-    let looked = g.P.Progress.looked in
+pub returns-in_default-clause-reached : goal.returns-in_default-clause-reached
+returns-in_default-clause-reached g c =
+    let looked = g.P.Progress.looked for_verdict in
     let old = c.args.progress.now in
     let middle = c.loop.progress in
     let new = c.judge_quiet.new.progress in
@@ -150,22 +152,22 @@ returns-in_default-clause-unreached g c =
     let before = c.loop.invariant in
     let some = some_after looked old middle new before.looked c.in_ok-judge_quiet.ensures.looked in
     reached_by_found looked old last budget c.judge_quiet.new.found.items c.in_ok-ended.field-0 c.in_ok-ended.ensures.told.found_is
-    (unreached_all w looked old middle new last budget c.loop.found.items c.judge_quiet.new.found.items before.looked c.in_ok-judge_quiet.ensures.looked c.in_ok-ended.ensures.looked before.told.0 before.told.1
-    c.in_ok-judge_quiet.ensures.unreached before.unreached)
-    (unreached_at_end looked old new last budget w some before.told.0 before.told.1 c.in_ok-ended.field-0.ending c.in_ok-ended.ensures.unreached)
+    (reached_all w looked old middle new last budget c.loop.found.items c.judge_quiet.new.found.items before.looked c.in_ok-judge_quiet.ensures.looked c.in_ok-ended.ensures.looked before.told.0 before.told.1
+    c.in_ok-judge_quiet.ensures.reached before.reached)
+    (reached_at_end looked old new last budget w some before.told.0 before.told.1 c.in_ok-ended.field-0.ending c.in_ok-ended.ensures.reached)
 
-pub returns-then-stops-clause-unreached : goal.returns-then-stops-clause-unreached
-returns-then-stops-clause-unreached g c =
-    let looked = g.P.Progress.looked in
+pub returns-then-stops-clause-reached : goal.returns-then-stops-clause-reached
+returns-then-stops-clause-reached g c =
+    let looked = g.P.Progress.looked for_verdict in
     let old = c.args.progress.now in
     let middle = c.loop.progress in
     let new = c.judge_quiet.new.progress in
     let budget = c.args.options.now.budget in
     let before = c.loop.invariant in
     reached_by_found looked old new budget c.judge_quiet.new.found.items c.stopped.result c.stopped.ensures.told.found_is
-    (unreached_all c.loop.watch looked old middle new new budget c.loop.found.items c.judge_quiet.new.found.items before.looked c.in_ok-judge_quiet.ensures.looked (looked_none looked new) before.told.0
-    before.told.1 c.in_ok-judge_quiet.ensures.unreached before.unreached)
-    (subst (λ (o : Option Ending). IfSome o (λ ending. All (λ (f : FoundAtEnd). IsUnreached looked old new budget f.reach) ending.unexplained.items)) (sym c.stopped.ensures.ending) tt)
+    (reached_all c.loop.watch looked old middle new new budget c.loop.found.items c.judge_quiet.new.found.items before.looked c.in_ok-judge_quiet.ensures.looked (looked_none looked new) before.told.0
+    before.told.1 c.in_ok-judge_quiet.ensures.reached before.reached)
+    (subst (λ (o : Option Ending). IfSome o (λ ending. All (λ (f : FoundAtEnd). IsReachedBy looked old new budget f.reach f.cut_short) ending.unexplained.items)) (sym c.stopped.ensures.ending) tt)
 
 pub returns-in_err-take_line-clause-fault : goal.returns-in_err-take_line-clause-fault
 returns-in_err-take_line-clause-fault g c =

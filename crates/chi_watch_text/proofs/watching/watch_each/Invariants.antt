@@ -4,10 +4,11 @@ use Rattle.std.proofs.Common.{◌≡◌, ◌≢◌, List, [], All, false, flat_m
 use Rattle.std.specs.List.{AllPairs}
 use Rattle.std.specs.Io.KnownBytes.{Appends}
 use Rattle.chi_events.specs.declared.event.Event.{Event}
-use Rattle.chi_search.specs.Looks.{LookedSome}
+use Rattle.chi_search.specs.Looks.{Grew, for_verdict}
 use Rattle.chi_watch.specs.Watches.{HasTaken}
 use Rattle.chi_watch_text.specs.Kept.{AreKeptOf}
-use Rattle.chi_watch_text.specs.Outcomes.{HasTakenLines, IsUnreached}
+use Rattle.chi_watch.specs.Reaching.{IsReachedBy}
+use Rattle.chi_watch_text.specs.Outcomes.{HasTakenLines}
 use Rattle.chi_watch_text.specs.Texts.{found_text}
 use Rattle.chi_watch_text.specs.declared.watched.FoundGranule.{FoundGranule}
 use Rattle.chi_watch_text.proofs.watching.watch_each.Given as goal
@@ -17,10 +18,10 @@ invariant-loop g l = record {
   taken : HasTakenLines (g.R.Read.remaining l.initial.from) l.time l.is_ended l.found.items l.quiet.items l.watch l.reading (g.R.Read.remaining l.from);
   once : AllPairs (λ a b. a.granule ≢ b.granule) l.found.items;
   told : (events : List Event) × HasTaken events l.watch;
-  unreached : All (λ (f : FoundGranule). IsUnreached g.P.Progress.looked l.initial.progress l.progress l.options.budget f.reach) l.found.items;
+  reached : All (λ (f : FoundGranule). IsReachedBy (g.P.Progress.looked for_verdict) l.initial.progress l.progress l.options.budget f.reach f.cut_short) l.found.items;
   written : Appends (g.W.Write.contents l.initial.to) (g.W.Write.contents l.to) (flat_map found_text l.found.items);
   first : l.options.keep_going ≡ false → l.found.items ≡ [];
-  looked : LookedSome g.P.Progress.looked l.initial.progress l.progress;
+  looked : Grew (g.P.Progress.looked for_verdict) l.initial.progress l.progress;
   kept : AreKeptOf (g.R.Read.remaining l.initial.from) l.kept (g.R.Read.remaining l.from);
   keeps : is_some l.kept ≡ l.options.keep_lines;
   format : l.reading.format ≡ l.options.format;

@@ -4,7 +4,7 @@ use Rattle.std.proofs.lemmas.List.{get_or_default}
 use Rattle.chi_trace.specs.Explains.{at, nothing}
 use Rattle.chi_trace.specs.declared.operation.Operation.{Operation}
 use Rattle.chi_search.proofs.Looking.{at_least_after, at_least_before, some_after}
-use Rattle.chi_search.specs.Looks.{LookedAtLeast, LookedSome}
+use Rattle.chi_search.specs.Looks.{LookedAtLeast, LookedSome, Search}
 use Rattle.chi_judge.specs.Reaches.{IsExplained, IsJudgeOf}
 use Rattle.chi_judge.specs.Judges.{JudgeValue}
 use Rattle.chi_judge.specs.Searches.{AreSeen, IsSeen}
@@ -22,7 +22,7 @@ read_seen r ops count i read kept seen first below trace n w is =
     subst (IsSeen r) (read_end ops i read below) (place_seen r ops count i kept seen first below trace n w is)
 
 -- what was said before more states were looked at, or after them
-module _ {P A B : Type 0} (looked : P → ℕ → Type 0) (old middle new : P) (budget : ℕ) where
+module _ {P A B : Type 0} (looked : Search → P → ℕ → Type 0) (old middle new : P) (budget : ℕ) where
   said_before : A ⊎ (B × LookedAtLeast looked old middle budget) → LookedSome looked middle new → A ⊎ (B × LookedAtLeast looked old new budget)
   said_before (inl is) more = inl is
   said_before (inr (so, least)) more = inr (so, at_least_before looked old middle new budget least more)

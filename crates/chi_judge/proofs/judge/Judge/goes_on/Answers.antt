@@ -6,7 +6,7 @@ use Rattle.chi_search.specs.declared.order.Found.{Found}
 use Rattle.chi_search.specs.Found.{IfOrder}
 use Rattle.chi_search.specs.Frontiers.{FrontierValue, GoesAlong}
 use Rattle.chi_search.specs.Layers.{SomeLeads}
-use Rattle.chi_search.specs.Looks.{LookedMore}
+use Rattle.chi_search.specs.Looks.{LookedMore, Search}
 use Rattle.chi_judge.specs.Judges.{JudgeValue}
 use Rattle.chi_judge.specs.Reaches.{IsJudgeOf}
 use Rattle.chi_judge.proofs.Checked.{led_explains}
@@ -34,7 +34,7 @@ returns-in-Order-clause-explained g c law is_true trace n w of_now =
     led_explains law r c.args.final_word goes trace n w is (led (w ∷ []) (earlier ++ s.kept.items) along)
 
 -- as many as the short budget lost
-spent : {P : Type 0} (looked : P → ℕ → Type 0) (old new : P) (budget short left : ℕ) → short ≤ budget → LookedMore looked old new (short - left)
+spent : {P : Type 0} (looked : Search → P → ℕ → Type 0) (old new : P) (budget short left : ℕ) → short ≤ budget → LookedMore looked old new (short - left)
     → (budget - (short - left) ≤ budget) × LookedMore looked old new (budget - (budget - (short - left)))
 spent looked old new budget short left within more = (omega arith, subst (LookedMore looked old new) (let same : short - left ≡ budget - (budget - (short - left)) = omega (arith, within) in same) more)
 

@@ -8,22 +8,22 @@ use Rattle.std.specs.Ordering.{nat_cmp}
 use Rattle.chi_events.specs.Outstanding.{IsOpen}
 use Rattle.chi_events.specs.declared.event.Event.{Event}
 use Rattle.chi_events.specs.declared.outstanding.Open.{Open}
-use Rattle.chi_search.specs.Looks.{LookedAtLeast, LookedSome}
+use Rattle.chi_search.specs.Looks.{Grew, GrewBy, for_verdict}
 use Rattle.chi_judge.specs.Reaches.{IfUndecided}
-use Rattle.chi_search.proofs.Looking.{at_least_after, at_least_before, some_after}
+use Rattle.chi_search.proofs.Growing.{at_least_after, at_least_before, some_after}
 use Rattle.chi_watch.specs.Endings.{AreToldTo, CanClose, IsInexplicableAt, IsListed}
 use Rattle.chi_watch.specs.Judged.{CanBeExplained}
-use Rattle.chi_watch.specs.Reaching.{IsFoundAtEnd, IsFoundIn, IsUnreachedIn, granules_of}
+use Rattle.chi_watch.specs.Reaching.{IsFoundAtEnd, IsFoundIn, IsReachedBy, IsReachedIn, granules_of}
 use Rattle.chi_watch.specs.Undecided.{GoesOnAt, IsAsFarIn, IsExplainedAsFar, IsExplainedIn, IsExplainedTo, states_for, undecided_of}
 use Rattle.chi_watch.specs.Watches.{HasTaken, WatchValue, granule}
 use Rattle.chi_watch.specs.declared.ending.FoundAtEnd.{FoundAtEnd}
 use Rattle.chi_watch.specs.declared.followed.Followed.{Followed}
 use Rattle.chi_watch.specs.declared.undecided.UndecidedAtEnd.{UndecidedAtEnd}
 use Rattle.chi_watch.proofs.ToldAtTheEnd.{own_open}
-use Rattle.chi_watch.proofs.AtTheEnd.{AreClosed, all_listed, ended_each, ended_explained, ended_explained_to, ended_far, ended_found, ended_unreached, none_listed}
-use Rattle.chi_search.proofs.Looking.{at_least_both}
+use Rattle.chi_watch.proofs.AtTheEnd.{AreClosed, all_listed, ended_each, ended_explained, ended_explained_to, ended_far, ended_found, ended_reached, none_listed}
+use Rattle.chi_search.proofs.Growing.{at_least_both}
 use Rattle.chi_watch.proofs.ExplainedFar.{as_far_in}
-use Rattle.chi_watch.proofs.Reached.{unreached_after, unreached_then}
+use Rattle.chi_watch.proofs.Reached.{reached_after, reached_then}
 use Rattle.chi_watch.proofs.watch.Watch.ending.Goals as goal
 
 -- the open requests' operations were told, where they could be
@@ -90,38 +90,38 @@ returns-clause-unexplained g c =
     (all_listed (λ (f : FoundAtEnd). f.granule) (λ h. IsInexplicableAt (new h)) (IsFoundIn new) (λ (f : FoundAtEnd). (events : List Event) → HasTaken events c.args.self → IsFoundAtEnd events f) c.in_ok-found.found.items un same c.in_ok-listed.ensures.unexplained
     c.in_ok-found.ensures.found (ended_found c.operations_are_told.ensures c.parts_explain.ensures c.args.self new are_open closes))
 
-pub returns-clause-unreached : goal.returns-clause-unreached
-returns-clause-unreached g c =
+pub returns-clause-reached : goal.returns-clause-reached
+returns-clause-reached g c =
     let new = get nat_cmp c.close_open.new.granules in
     let closes = closes_of _ c.args.self _ new c.self.view_is c.requests-requests.ensures.requests c.in_ok-close_open.ensures.told in
     let are_open = subst (λ (w : WatchValue). All (IsOpen w.outstanding.time) w.outstanding.requests) c.self.view_is c.requests-requests.ensures.are_open in
     let un = c.in_ok-listed.listed.unexplained.items in
     let same : granules_of c.in_ok-found.found.items ≡ un = c.in_ok-found.ensures.granules ∙ c.deref.ensures.value in
-    let looked = g.P.Progress.looked in
+    let looked = g.P.Progress.looked for_verdict in
     let old = c.args.progress.now in
     let closed = c.close_open.new.progress in
     let judged = c.judge_all.new.progress in
     let reached = c.each_found_at_end.new.progress in
     let last = c.each_undecided.new.progress in
-    let whole = LookedAtLeast looked old last c.args.budget in
-    let before : LookedSome looked old judged = some_after looked old closed judged c.in_ok-close_open.ensures.looked c.in_ok-listed.ensures.looked in
-    All-permutation (λ (f : FoundAtEnd). (events : List Event) → HasTaken events c.args.self → IfUndecided f.reach whole) c.in_ok-found.found.items c.in_ok-unexplained.unexplained.items c.in_ok-unexplained.ensures.same
-    (all_listed (λ (f : FoundAtEnd). f.granule) (λ h. IsInexplicableAt (new h)) (IsUnreachedIn looked judged reached c.args.budget new) (λ (f : FoundAtEnd). (events : List Event) → HasTaken events c.args.self → IfUndecided f.reach whole) c.in_ok-found.found.items un same
+    let Reached : FoundAtEnd → Type 0 = λ (f : FoundAtEnd). (events : List Event) → HasTaken events c.args.self → IsReachedBy looked old last c.args.budget f.reach f.cut_short in
+    let before : Grew looked old judged = some_after looked old closed judged c.in_ok-close_open.ensures.looked c.in_ok-listed.ensures.looked in
+    All-permutation Reached c.in_ok-found.found.items c.in_ok-unexplained.unexplained.items c.in_ok-unexplained.ensures.same
+    (all_listed (λ (f : FoundAtEnd). f.granule) (λ h. IsInexplicableAt (new h)) (IsReachedIn looked judged reached c.args.budget new) Reached c.in_ok-found.found.items un same
     c.in_ok-listed.ensures.unexplained c.in_ok-found.ensures.undecided
-    (λ f none spent. ended_unreached c.operations_are_told.ensures whole c.args.self new are_open closes f none
-    (unreached_after looked old judged last c.args.budget new before f (unreached_then looked judged reached last c.args.budget new c.in_ok-undecided.ensures.looked f spent))))
+    (λ f none spent. ended_reached c.operations_are_told.ensures (IsReachedBy looked old last c.args.budget f.reach f.cut_short) c.args.self new are_open closes f none
+    (reached_after looked old judged last c.args.budget new before f (reached_then looked judged reached last c.args.budget new c.in_ok-undecided.ensures.looked f spent))))
 
 pub returns-clause-undecided : goal.returns-clause-undecided
 returns-clause-undecided g c =
     let new = get nat_cmp c.close_open.new.granules in
-    let looked = g.P.Progress.looked in
+    let looked = g.P.Progress.looked for_verdict in
     let old = c.args.progress.now in
     let closed = c.close_open.new.progress in
     let judged = c.judge_all.new.progress in
     let reached = c.each_found_at_end.new.progress in
     let last = c.each_undecided.new.progress in
-    let after : LookedSome looked judged last = some_after looked judged reached last c.in_ok-found.ensures.looked c.in_ok-undecided.ensures.looked in
-    all_listed (λ (u : UndecidedAtEnd). u.granule) (λ h. LookedAtLeast looked closed judged c.args.budget) (IsExplainedIn new) (λ (u : UndecidedAtEnd). LookedAtLeast looked old last c.args.budget)
+    let after : Grew looked judged last = some_after looked judged reached last c.in_ok-found.ensures.looked c.in_ok-undecided.ensures.looked in
+    all_listed (λ (u : UndecidedAtEnd). u.granule) (λ h. GrewBy looked closed judged c.args.budget) (IsExplainedIn new) (λ (u : UndecidedAtEnd). GrewBy looked old last c.args.budget)
     c.in_ok-undecided.undecided.items c.in_ok-listed.listed.undecided.items (c.in_ok-undecided.ensures.granules ∙ c.deref-2.ensures.value) c.in_ok-listed.ensures.undecided c.in_ok-undecided.ensures.explained
     (λ u whole said. at_least_before looked old judged last c.args.budget (at_least_after looked old closed judged c.args.budget c.in_ok-close_open.ensures.looked whole) after)
 
@@ -139,7 +139,7 @@ returns-clause-far g c =
     let new = get nat_cmp c.close_open.new.granules in
     let closes = closes_of _ c.args.self _ new c.self.view_is c.requests-requests.ensures.requests c.in_ok-close_open.ensures.told in
     let are_open = subst (λ (w : WatchValue). All (IsOpen w.outstanding.time) w.outstanding.requests) c.self.view_is c.requests-requests.ensures.are_open in
-    let looked = g.P.Progress.looked in
+    let looked = g.P.Progress.looked for_verdict in
     let old = c.args.progress.now in
     let closed = c.close_open.new.progress in
     let judged = c.judge_all.new.progress in
@@ -150,8 +150,8 @@ returns-clause-far g c =
     let dec = c.in_ok-listed.listed.undecided.items in
     let same_dec : undecided_of items ≡ dec = c.in_ok-undecided.ensures.granules ∙ c.deref-2.ensures.value in
     let count : length dec ≡ length items = ap length (sym same_dec) ∙ length-map items (λ (u : UndecidedAtEnd). u.granule) in
-    let before : LookedAtLeast looked old reached (budget * length items) =
-    subst (λ (n : ℕ). LookedAtLeast looked old reached (budget * n)) count
+    let before : GrewBy looked old reached (budget * length items) =
+    subst (λ (n : ℕ). GrewBy looked old reached (budget * n)) count
     (at_least_before looked old judged reached (budget * length dec)
     (at_least_after looked old closed judged (budget * length dec) c.in_ok-close_open.ensures.looked c.in_ok-listed.ensures.together) c.in_ok-found.ensures.looked) in
     all_listed (λ (u : UndecidedAtEnd). u.granule) (λ h. GoesOnAt (new h)) (IsAsFarIn looked reached last budget new)
@@ -162,7 +162,7 @@ returns-clause-far g c =
 
 pub returns-clause-looked : goal.returns-clause-looked
 returns-clause-looked g c =
-    let looked = g.P.Progress.looked in
+    let looked = g.P.Progress.looked for_verdict in
     let old = c.args.progress.now in
     let judged = c.judge_all.new.progress in
     let reached = c.each_found_at_end.new.progress in

@@ -2,7 +2,8 @@
 use Rattle.std.specs.Prelude.{is_none}
 use Rattle.std.proofs.Common.{◌≡◌, ◌⊎◌, ℕ, IfSome, Option, None, Some, is_some, cond, false, arith, inl, inr, ap, refl, subst, sym, ◌∙◌, true≢false}
 use Rattle.chi_watch.specs.Endings.{IsExplainable, judged_word}
-use Rattle.chi_search.specs.Looks.{LookedAtLeast}
+use Rattle.chi_search.specs.Looks.{GrewBy, for_verdict}
+use Rattle.chi_search.proofs.Growing.{grew_by}
 use Rattle.chi_watch.specs.Watches.{WatchValue, granule}
 use Rattle.chi_watch.specs.declared.followed.Followed.{Followed}
 use Rattle.chi_judge.specs.Standings.{IfUnexplained, IsExplainable as CanExplain, IsInexplicable}
@@ -21,12 +22,12 @@ word_here f since = sym (ap (λ (u : Option ℕ). cond (is_none u) f.final_word 
 
 pub returns-in-Explained-clause-none : goal.returns-in-Explained-clause-none
 returns-in-Explained-clause-none g c so quiet =
-    let said : IsExplainable c.in-Some.followed.now ⊎ LookedAtLeast g.P.Progress.looked c.args.progress.now c.check.new.progress c.args.budget =
+    let said : IsExplainable c.in-Some.followed.now ⊎ GrewBy (g.P.Progress.looked for_verdict) c.args.progress.now c.check.new.progress c.args.budget =
     elim c.in-Explained.is [
       | inl is ↦ inl (subst (CanExplain c.in-Some.followed.now.judge) (word_here c.in-Some.followed.now (no_time c.in-Some.followed.now.unknown_since (sym c.is_some.ensures ∙ c.if-is_some.false))) (said_explained c.in_ok-check.field-0 _ is c.in_ok-check.ensures.explained))
-      | inr is ↦ inr (c.args.budget, omega arith, said_undecided c.in_ok-check.field-0 _ is c.in_ok-check.ensures.undecided)
+      | inr is ↦ inr (grew_by g.P.Progress.looked c.args.progress.now c.check.new.progress c.args.budget c.args.budget (omega arith) (said_undecided c.in_ok-check.field-0 _ is c.in_ok-check.ensures.undecided))
     ] in
-    let judged = λ (f : Followed). f.unknown_since ≡ None → IsExplainable f ⊎ LookedAtLeast g.P.Progress.looked c.args.progress.now c.check.new.progress c.args.budget in
+    let judged = λ (f : Followed). f.unknown_since ≡ None → IsExplainable f ⊎ GrewBy (g.P.Progress.looked for_verdict) c.args.progress.now c.check.new.progress c.args.budget in
     subst (λ (w : WatchValue). IfSome (granule w c.args.granule) judged) c.self.view_is (subst (λ (o : Option Followed). IfSome o judged) c.in-Some.ensures.value (λ since. said))
 
 pub returns-in-Unexplained-clause-found : goal.returns-in-Unexplained-clause-found

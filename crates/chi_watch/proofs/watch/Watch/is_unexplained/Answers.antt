@@ -6,7 +6,7 @@ use Rattle.chi_events.specs.Outstanding.{IsOpen}
 use Rattle.chi_events.specs.declared.event.Event.{Event}
 use Rattle.chi_watch.specs.Endings.{IsExplainable}
 use Rattle.chi_watch.specs.Judged.{CanBeExplained, is_known}
-use Rattle.chi_search.specs.Looks.{LookedAtLeast}
+use Rattle.chi_search.specs.Looks.{GrewBy, for_verdict}
 use Rattle.chi_watch.specs.Requests.{granule_of_request}
 use Rattle.chi_watch.specs.Watches.{CanBeJudged, HasTaken, IsFound, IsUnexplained, WatchValue, granule}
 use Rattle.chi_watch.proofs.Found.{found_is, not_found_is}
@@ -33,7 +33,7 @@ returns-clause-judged g c =
     let are_open = subst (λ (w : WatchValue). All (IsOpen w.outstanding.time) w.outstanding.requests) c.self.view_is c.requests-requests.ensures.are_open in
     let w = c.args.self.now in
     let here = c.args.granule in
-    let whole = LookedAtLeast g.P.Progress.looked c.args.progress.now c.is_found.new.progress c.args.budget in
+    let whole = GrewBy (g.P.Progress.looked for_verdict) c.args.progress.now c.is_found.new.progress c.args.budget in
     IfOk-weaker c.is_found.result (λ (is : Bool). is ≡ false → IsQuietAt w here → IfSome (granule w here) (λ f. f.unknown_since ≡ None → IsExplainable f ⊎ whole))
     (λ (is : Bool). is ≡ false → IsQuietAt w here → (events : List Event) → HasTaken events w → is_known events here ≡ true → CanBeExplained events here ⊎ whole)
     (λ is none so quiet events has known. not_found_is c.operations_are_told.ensures c.granules_stand_alone.ensures whole events w are_open has here quiet (none so quiet) known)

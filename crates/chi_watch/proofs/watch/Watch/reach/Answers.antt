@@ -4,16 +4,15 @@ use Rattle.std.proofs.Common.{◌≡◌, ℕ, List, All, Option, Some, None, is_
 use Rattle.std.proofs.lemmas.Result.{IfOk-weaker}
 use Rattle.chi_events.specs.Outstanding.{IsOpen}
 use Rattle.chi_events.specs.declared.event.Event.{Event}
-use Rattle.chi_search.specs.Looks.{LookedAtLeast}
-use Rattle.chi_judge.specs.Reaches.{IfUndecided}
-use Rattle.chi_judge.specs.declared.reach.Reach.{Reach}
+use Rattle.chi_search.specs.Looks.{for_verdict}
 use Rattle.chi_trace.specs.Words.{word_or_zero}
 use Rattle.chi_watch.specs.Judged.{judged}
 use Rattle.chi_watch.specs.WordsTold.{openings}
-use Rattle.chi_watch.specs.Reaching.{IsOfSomeTrace, IsReach, ReachesBy}
+use Rattle.chi_watch.specs.Reaching.{IsOfSomeTrace, IsReach, IsReachedBy, ReachesBy}
+use Rattle.chi_watch.specs.declared.reaching.FoundReach.{FoundReach}
 use Rattle.chi_watch.specs.Watches.{CanBeJudged, HasTaken, IsUnexplained, WatchValue, granule}
 use Rattle.chi_watch.proofs.Found.{can_be, can_not}
-use Rattle.chi_watch.proofs.Reached.{judged_here, undecided_weaker, unexplained_known, untold_explained, shown_here}
+use Rattle.chi_watch.proofs.Reached.{judged_here, unexplained_known, untold_explained, shown_here}
 use Rattle.chi_watch.proofs.watch.Watch.reach.Goals as goal
 use Rattle.chi_watch.proofs.watch.Watch.reach.Goals.{then-is_some-via-then-is_some, then-is_some-via-else-is_some+then-not-can_be_judged}
 
@@ -47,8 +46,8 @@ returns-clause-right g c =
     let are_open = subst (λ (v : WatchValue). All (IsOpen v.outstanding.time) v.outstanding.requests) c.self.view_is c.requests-requests.ensures.are_open in
     let here : granule w n ≡ Some f = subst (λ (v : WatchValue). granule v n ≡ Some f) c.self.view_is (sym c.in-Some.ensures.value) in
     let can = can_be w n f here (sym c.can_be_judged.ensures ∙ c.if-not-can_be_judged.false) in
-    IfOk-weaker c.reach_of.result (ReachesBy f.judge) (λ (reach : Reach). (events : List Event) → HasTaken events w → IsReach events n reach)
-    (λ reach by events has. by (shown_here events w has n f here) (judged events) n (word_or_zero (openings events) n) (judged_here c.operations_are_told.ensures events w are_open has n f here can))
+    IfOk-weaker c.reach_of.result (λ (found : FoundReach). ReachesBy f.judge found.reach) (λ (found : FoundReach). (events : List Event) → HasTaken events w → IsReach events n found.reach)
+    (λ found by events has. by (shown_here events w has n f here) (judged events) n (word_or_zero (openings events) n) (judged_here c.operations_are_told.ensures events w are_open has n f here can))
     c.reach_of.ensures.right
 
 pub returns-clause-undecided : goal.returns-clause-undecided
@@ -58,14 +57,13 @@ returns-clause-undecided g c =
     let n = c.args.granule in
     let are_open = subst (λ (v : WatchValue). All (IsOpen v.outstanding.time) v.outstanding.requests) c.self.view_is c.requests-requests.ensures.are_open in
     let here : granule w n ≡ Some f = subst (λ (v : WatchValue). granule v n ≡ Some f) c.self.view_is (sym c.in-Some.ensures.value) in
-    let whole = LookedAtLeast g.P.Progress.looked c.args.progress.now c.reach_of.new.progress c.args.budget in
-    IfOk-weaker c.reach_of.result (λ (reach : Reach). IfUndecided reach (IsOfSomeTrace f.judge → whole))
-    (λ (reach : Reach). IfUndecided reach (CanBeJudged w n → (events : List Event) → HasTaken events w → IsUnexplained events n → whole))
-    (λ reach is. undecided_weaker reach
-    (λ spent can events has not. spent (
+    let Reached : FoundReach → Type 0 = λ (found : FoundReach). IsReachedBy (g.P.Progress.looked for_verdict) c.args.progress.now c.reach_of.new.progress c.args.budget found.reach found.cut_short in
+    IfOk-weaker c.reach_of.result (λ (found : FoundReach). IsOfSomeTrace f.judge → Reached found)
+    (λ (found : FoundReach). CanBeJudged w n → (events : List Event) → HasTaken events w → IsUnexplained events n → Reached found)
+    (λ found spent can events has not. spent (
       judged events,
       n,
       word_or_zero (openings events) n,
       judged_here c.operations_are_told.ensures events w are_open has n f here can,
-    )) is)
+    ))
     c.reach_of.ensures.undecided

@@ -2,10 +2,10 @@
 use Rattle.std.proofs.Common.{◌≡◌, ℕ, ◌==◌, ◌⊎◌, ◌++◌, ◌∷◌, [], false, true, inl, inr, Some, sym, subst, ◌∙◌}
 use Rattle.std.specs.List.{list_any}
 use Rattle.chi_watch.specs.Judged.{CanBeExplained, is_known}
-use Rattle.chi_search.specs.Looks.{LookedAtLeast}
+use Rattle.chi_search.specs.Looks.{GrewBy, for_verdict}
 use Rattle.chi_watch.specs.Quiet.{granule_about}
 use Rattle.chi_watch.specs.Requests.{granule_of_request}
-use Rattle.chi_search.proofs.Looking.{at_least_after, some_after}
+use Rattle.chi_search.proofs.Growing.{at_least_after, some_after}
 use Rattle.chi_watch.proofs.Taken.{taken_more}
 use Rattle.chi_watch.proofs.watch.Watch.take.Goals as goal
 
@@ -28,7 +28,7 @@ returns-then-branch-clause-about g c = sym c.granule_about-about.ensures ∙ c.i
 -- the granule that becomes quiet is the one that is judged
 pub returns-else-branch-clause-judged : goal.returns-else-branch-clause-judged
 returns-else-branch-clause-judged g c none here becomes events has known =
-    let looked = g.P.Progress.looked in
+    let looked = g.P.Progress.looked for_verdict in
     let old = c.args.progress.now in
     let middle = c.step.new.progress in
     let new = c.is_unexplained.new.progress in
@@ -39,7 +39,7 @@ returns-else-branch-clause-judged g c none here becomes events has known =
     let quiet : list_any (λ p. granule_of_request p == c.in-Some.granule) c.step.new.self.outstanding.requests ≡ false =
     subst (λ (h : ℕ). list_any (λ p. granule_of_request p == h) c.step.new.self.outstanding.requests ≡ false) same becomes.none in
     let said = c.in_ok-is_unexplained.ensures.judged c.if-branch.false quiet more (taken_more c.args.event.now c.in_ok-step.field-0 c.args.self.now c.step.new.self c.in_ok-step.ensures.taken events has) (subst (λ (h : ℕ). is_known more h ≡ true) same known) in
-    subst (λ (h : ℕ). CanBeExplained more h ⊎ LookedAtLeast looked old new c.args.budget) (sym same)
+    subst (λ (h : ℕ). CanBeExplained more h ⊎ GrewBy looked old new c.args.budget) (sym same)
     (elim said [
       | inl can ↦ inl can
       | inr whole ↦ inr (at_least_after looked old middle new c.args.budget c.in_ok-step.ensures.looked whole)
@@ -47,8 +47,8 @@ returns-else-branch-clause-judged g c none here becomes events has known =
 
 pub returns-then-branch-clause-looked : goal.returns-then-branch-clause-looked
 returns-then-branch-clause-looked g c =
-    some_after g.P.Progress.looked c.args.progress.now c.step.new.progress c.is_unexplained.new.progress c.in_ok-step.ensures.looked c.in_ok-is_unexplained.ensures.looked
+    some_after (g.P.Progress.looked for_verdict) c.args.progress.now c.step.new.progress c.is_unexplained.new.progress c.in_ok-step.ensures.looked c.in_ok-is_unexplained.ensures.looked
 
 pub returns-else-branch-clause-looked : goal.returns-else-branch-clause-looked
 returns-else-branch-clause-looked g c =
-    some_after g.P.Progress.looked c.args.progress.now c.step.new.progress c.is_unexplained.new.progress c.in_ok-step.ensures.looked c.in_ok-is_unexplained.ensures.looked
+    some_after (g.P.Progress.looked for_verdict) c.args.progress.now c.step.new.progress c.is_unexplained.new.progress c.in_ok-step.ensures.looked c.in_ok-is_unexplained.ensures.looked
