@@ -21,32 +21,23 @@ fn lane(digits: &[u8], place: usize) -> Option<u8>
     }
 }
 
-/// The bytes of 16 lanes, and 0 for each that is not known.
-fn lanes(digits: &[u8], first: usize) -> [u8; 16]
+/// The bytes of 16 lanes, with 0 for each that is not known, and a bit for each of those.
+fn lanes(digits: &[u8], first: usize) -> ([u8; 16], u16)
     requires few { first ≤ 48 }
     requires there { 2 * (first + 16) ≤ length digits.now }
-    ensures { result ≡ map (λ i. byte_of digits.now (first + i)) (range_with_len 0 16) }
+    ensures bytes { result.0 ≡ map (λ i. byte_of digits.now (first + i)) (range_with_len 0 16) }
+    ensures unknown { result.1 ≡ from_bits 16 (λ i. unknown_of digits.now (first + i)) }
 {
     let mut lanes = [0; 16];
-    for i in 0..16 {
-        lanes[i] = lane(digits, first + i).unwrap_or(0);
-    }
-    lanes
-}
-
-/// A bit for each of 16 lanes that is not known.
-fn unknown_lanes(digits: &[u8], first: usize) -> u16
-    requires few { first ≤ 48 }
-    requires there { 2 * (first + 16) ≤ length digits.now }
-    ensures { result ≡ from_bits 16 (λ i. unknown_of digits.now (first + i)) }
-{
     let mut unknown = 0;
     for i in 0..16 {
-        if lane(digits, first + i).is_none() {
+        let lane = lane(digits, first + i);
+        lanes[i] = lane.unwrap_or(0);
+        if lane.is_none() {
             unknown |= 1 << i;
         }
     }
-    unknown
+    (lanes, unknown)
 }
 
 /// The enables of 16 lanes, where there are any.
@@ -77,11 +68,12 @@ fn chunk(be: &[u8], digits: &[u8], quarter: usize) -> Option<Chunk>
         return None;
     }
     let enables = enables(be, quarter);
+    let (lanes, unknown) = lanes(digits, 16 * quarter);
     Some(Chunk {
         be: enables.known as u16,
         unknown_be: enables.unknown as u16,
-        lanes: lanes(digits, 16 * quarter),
-        unknown: unknown_lanes(digits, 16 * quarter),
+        lanes,
+        unknown,
     })
 }
 
