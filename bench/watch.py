@@ -5,7 +5,8 @@ Each history is told as events (histories.py). What has to be answered on them, 
 trying every order (telling.py, orders.py): which granules are not explained, by which line, and where each stops being so.
 `chicheck explain` has to give the same verdict on the same operations, told as a trace and as events, and of each such granule by
 itself it has to say the same and to show the same operations; each of these has to have the line that told its request. Which bytes
-are wrong and who wrote them last is compared with the other lines (written.py). A history that the program disagrees on is shown. With `prefixes` each is the beginning of a history in which granules are never
+are wrong and who wrote them last is compared with the other lines (written.py), and whether a legal response explains the granule to
+its end with every order of it (to_the_end.py). A history that the program disagrees on is shown. With `prefixes` each is the beginning of a history in which granules are never
 quiet. CHICHECK names the program."""
 
 import collections
@@ -23,6 +24,7 @@ sys.dont_write_bytecode = True
 from histories import history, prefix
 from orders import MOST, Operation, TooMany, is_end_of_order
 from telling import Told, Watched
+from to_the_end import end_lines, wanted_ends
 from written import UNLIKE, WRITTEN, told_lines, wanted_lines
 
 CHECKER = os.environ.get("CHICHECK", "crates/chi_check/out/chi_check")
@@ -163,6 +165,12 @@ def operations_of(trace):
     return {at: Operation(it, it["start"], it.get("end", MOST), it["reply"], at) for at, it in enumerate(trace["requests"])}
 
 
+def words_of(trace, granule):
+    """The granule's word at the opening of its trace, its operations, and its word at the end, where one was observed."""
+    image, final = ({it["addr"]: bytes.fromhex(it["bytes"]) for it in trace[words]} for words in ("image", "final"))
+    return image.get(granule, bytes(8)), list(operations_of(trace).values()), final.get(granule)
+
+
 def unexplained_as_a_whole(told):
     return [it for it in told.granules if not told.is_explained(it)]
 
@@ -198,6 +206,9 @@ def disagreements(events):
         bytes_wanted = wanted_lines(its, operations_of(watched.traces[granule]))
         if told_lines(its) != bytes_wanted:
             found.append((f"bytes of explain of {granule:016x}", answer, bytes_wanted))
+        ends_wanted = wanted_ends(its, *words_of(watched.traces[granule], granule))
+        if end_lines(its) != ends_wanted:
+            found.append((f"end of explain of {granule:016x}", answer, ends_wanted))
     told = Told()
     for event in events:
         told.take(event)

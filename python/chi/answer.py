@@ -26,6 +26,7 @@ _SAID = re.compile(
             r"  any one of these answers may be the wrong one: .+",
             r"  up to [0-9]+ in .+",
             r"    last written by (?:request|line) [0-9]+: .+",
+            r"  (?:a|no) legal response of request [0-9]+ explains the granule to its end",
             r"  what is not shown was not found within [0-9]+ more states",
             r"  at line (?P<line>[0-9]+)",
             r"  at the end",

@@ -1,13 +1,35 @@
 -- the states that were looked at on the way to an answer
-use Rattle.std.proofs.Common.{◌≡◌, ℕ, ◌+◌, ◌≤◌, Result, Ok, Err, IfOk, refl, subst, arith}
+use Rattle.std.proofs.Common.{◌≡◌, ◌⊎◌, ℕ, ◌+◌, ◌-◌, ◌≤◌, Bool, [], Option, None, Some, Result, Ok, Err, IfOk, inl, inr, refl, subst, arith}
 use Rattle.chi_verdict.specs.Doubts.{IsAsFar as IsFoundAsFar}
 use Rattle.chi_search.specs.Looks.{FoundThenLooked, LookedAtLeast, LookedMore, LookedSome, Search, after_verdict, for_verdict}
 use Rattle.chi_judge.proofs.AsFar.{as_far_by}
 use Rattle.chi_trace.specs.Words.{word_or_zero}
+use Rattle.chi_verdict.specs.declared.first.Blame.{Blame}
 use Rattle.chi_trace.specs.Traces.{TraceValue}
 use Rattle.chi_answer.specs.declared.answer.Answer.{Answer}
 use Rattle.chi_answer.specs.declared.answer.Answer.TheVariants.{Explained, Blamed, Unexplained, Undecided}
-use Rattle.chi_answer.specs.Answers.{IfUndecided, IsAsFar, LookedForAnswer, SpentTwice}
+use Rattle.chi_answer.specs.Answers.{IfUndecided, IsAsFar, LookedForAnswer, SaysUnless, SpentAfter, SpentTwice}
+
+-- what follows of what was spent
+pub said_weaker : {A B : Type 0} {E : Type 0} → (A → B) → (result : Result Answer E) → IfOk result (SaysUnless A) → IfOk result (SaysUnless B)
+said_weaker f (Ok (Explained order)) said = tt
+said_weaker f (Ok (Blamed blame (Some is_explained))) said = tt
+said_weaker f (Ok (Blamed blame None)) said = elim said [
+  | inl none ↦ inl none
+  | inr spent ↦ inr (f spent)
+]
+said_weaker f (Ok (Unexplained granule words)) said = tt
+said_weaker f (Ok (Undecided doubt)) said = tt
+said_weaker f (Err e) said = tt
+
+-- where it is not found of the legal replies, none is listed, or the whole budget was spent
+pub said_by : {P : Type 0} (looked : Search → P → ℕ → Type 0) (old new : P) (budget left : ℕ) (blame : Blame) (said : Option Bool)
+    → (said ≡ None → (left ≡ 0) ⊎ (blame.stop.legal.items ≡ [])) → LookedMore looked old new (budget - left) → SaysUnless (LookedAtLeast looked old new budget) (Blamed blame said)
+said_by looked old new budget left blame (Some is_explained) unknown more = tt
+said_by looked old new budget left blame None unknown more = elim (unknown refl) [
+  | inl spent ↦ inr (budget - left, omega (arith, spent), more)
+  | inr none ↦ inl none
+]
 
 module _ {P : Type 0} (states : P → ℕ → Type 0) (looked : Search → P → ℕ → Type 0) where
   -- a search for a verdict, which is told when it begins and when it ends
@@ -25,7 +47,7 @@ module _ {P : Type 0} (states : P → ℕ → Type 0) (looked : Search → P →
     -- an answer that is not undecided
     decided : (answer : Answer) → LookedSome looked middle new → IfUndecided answer (λ doubt. ⊥) → LookedForAnswer states looked old new answer
     decided (Explained order) some none = record { count = count; more = some.0; found = then_looked some.0 some.1; undecided = tt }
-    decided (Blamed blame) some none = record { count = count; more = some.0; found = then_looked some.0 some.1; undecided = tt }
+    decided (Blamed blame to_the_end) some none = record { count = count; more = some.0; found = then_looked some.0 some.1; undecided = tt }
     decided (Unexplained granule words) some none = record { count = count; more = some.0; found = then_looked some.0 some.1; undecided = tt }
     decided (Undecided doubt) some none = absurd none
 
@@ -33,6 +55,10 @@ module _ {P : Type 0} (states : P → ℕ → Type 0) (looked : Search → P →
         → IfOk result (LookedForAnswer states looked old new)
     decided_after (Ok answer) none some = decided answer some none
     decided_after (Err e) none some = tt
+
+    -- as many as the budget has
+    pub spent_after : (budget : ℕ) → LookedAtLeast looked middle new budget → SpentAfter states looked old new budget
+    spent_after budget whole = (count, (whole.0, whole.1, then_looked whole.0 whole.2))
 
     -- an undecided answer, for which so many states were looked at
     pub undecided_after : {E : Type 0} (budget : ℕ) (result : Result Answer E) → budget ≤ count → IfOk result (λ answer. IfUndecided answer (λ doubt. doubt.states ≡ budget))
@@ -46,7 +72,7 @@ module _ {P : Type 0} (states : P → ℕ → Type 0) (looked : Search → P →
       where
         by_answer : (a : Answer) → IfUndecided a (λ doubt. doubt.states ≡ budget) → IfUndecided a (λ doubt. doubt.states ≤ count)
         by_answer (Explained order) is = tt
-        by_answer (Blamed blame) is = tt
+        by_answer (Blamed blame to_the_end) is = tt
         by_answer (Unexplained granule words) is = tt
         by_answer (Undecided doubt) is = omega (arith, is, under)
     undecided_after budget (Err e) under states_are some = tt
@@ -55,7 +81,7 @@ module _ {P : Type 0} (states : P → ℕ → Type 0) (looked : Search → P →
     pub far_after : {E : Type 0} (budget : ℕ) (t : TraceValue) (result : Result Answer E) → budget ≤ count → IfOk result (λ answer. IfUndecided answer (IsFoundAsFar looked middle new budget t))
         → IfOk result (λ answer. IfUndecided answer (IsAsFar states looked old new budget t))
     far_after budget t (Ok (Explained order)) under far = tt
-    far_after budget t (Ok (Blamed blame)) under far = tt
+    far_after budget t (Ok (Blamed blame to_the_end)) under far = tt
     far_after budget t (Ok (Unexplained granule words)) under far = tt
     far_after budget t (Ok (Undecided doubt)) under far =
         as_far_by (LookedAtLeast looked middle new budget) (SpentTwice states looked old new budget) (λ whole. (count, under, (whole.0, whole.1, then_looked whole.0 whole.2)))
@@ -66,7 +92,7 @@ module _ {P : Type 0} (states : P → ℕ → Type 0) (looked : Search → P →
   pub far_decided : {E : Type 0} (old new : P) (budget : ℕ) (t : TraceValue) (result : Result Answer E)
       → IfOk result (λ answer. IfUndecided answer (λ doubt. ⊥)) → IfOk result (λ answer. IfUndecided answer (IsAsFar states looked old new budget t))
   far_decided old new budget t (Ok (Explained order)) none = tt
-  far_decided old new budget t (Ok (Blamed blame)) none = tt
+  far_decided old new budget t (Ok (Blamed blame to_the_end)) none = tt
   far_decided old new budget t (Ok (Unexplained granule words)) none = tt
   far_decided old new budget t (Ok (Undecided doubt)) none = absurd none
   far_decided old new budget t (Err e) none = tt

@@ -1,5 +1,5 @@
 -- what is answered of a trace that was read
-use Rattle.std.specs.Prelude.{ℕ, ◌≤◌, List, ◌↔◌}
+use Rattle.std.specs.Prelude.{◌≡◌, ◌⊎◌, ℕ, ◌≤◌, Bool, List, [], Option, None, Some, ◌↔◌}
 use Rattle.std.specs.List.{Contains}
 use Rattle.chi_verdict.specs.Doubts.{IsDoubt}
 use Rattle.chi_verdict.specs.declared.doubt.Doubt.{Doubt}
@@ -7,6 +7,8 @@ use Rattle.chi_search.specs.Found.{IfWords}
 use Rattle.chi_search.specs.Looks.{FoundThenLooked, Search}
 use Rattle.chi_judge.specs.Explained.{IsAsFarUnless}
 use Rattle.chi_verdict.specs.Blames.{IsBlame}
+use Rattle.chi_verdict.specs.ToTheEnd.{IsSaid, SomeExplains}
+use Rattle.chi_verdict.specs.declared.first.Blame.{Blame}
 use Rattle.chi_verdict.specs.Verdicts.{IfUndecided as IfUnfound}
 use Rattle.chi_verdict.specs.declared.verdict.Verdict.{Verdict}
 use Rattle.chi_trace.specs.Traces.{CanHold, IsExplained, IsExplainedIn, IsLegal, TraceValue}
@@ -27,19 +29,31 @@ IsUnexplainedIn r granule = (order : List ℕ) → IsExplainedIn r.trace r.final
 abbrev pub AreHeld : RecordedValue → ℕ → List ℕ → Type 0
 AreHeld r granule words = (order : List ℕ) → IsLegal r.trace order → (v : ℕ) → Contains words v ↔ CanHold r.trace granule v
 
+-- where it is said whether one of the responses that are listed as legal explains the granule to its end, it is so
+abbrev pub SaysLegal : RecordedValue → Blame → Option Bool → Type 0
+SaysLegal r blame to_the_end = IsSaid to_the_end (SomeExplains r.trace r.final_words blame.granule blame.stop.op.number blame.stop.legal.items)
+
 -- the answer is right: its order explains the trace; or no order does, and what else it says holds, with so many operations before
 -- the one that is blamed; or what it says of the granule
 -- that was not decided does
 abbrev pub IsAnswer : RecordedValue → ℕ → Answer → Type 0
 IsAnswer r most (Explained order) = IsExplained r.trace r.final_words order.items
-IsAnswer r most (Blamed blame) = IsUnexplained r × IsBlame r.trace most blame
+IsAnswer r most (Blamed blame to_the_end) = IsUnexplained r × IsBlame r.trace most blame × SaysLegal r blame to_the_end
 IsAnswer r most (Unexplained granule words) = IsUnexplained r × IsUnexplainedIn r granule × IfWords words (AreHeld r granule)
 IsAnswer r most (Undecided doubt) = IsDoubt r.trace doubt
+
+-- where it is not said, no response is listed as legal, or this was spent
+abbrev pub SaysUnless : Type 0 → Answer → Type 0
+SaysUnless Spent (Explained order) = Unit {0}
+SaysUnless Spent (Blamed blame (Some is_explained)) = Unit {0}
+SaysUnless Spent (Blamed blame None) = (blame.stop.legal.items ≡ []) ⊎ Spent
+SaysUnless Spent (Unexplained granule words) = Unit {0}
+SaysUnless Spent (Undecided doubt) = Unit {0}
 
 -- P of what is said of a granule that was not decided
 abbrev pub IfUndecided : Answer → (Doubt → Type 0) → Type 0
 IfUndecided (Explained order) P = Unit {0}
-IfUndecided (Blamed blame) P = Unit {0}
+IfUndecided (Blamed blame to_the_end) P = Unit {0}
 IfUndecided (Unexplained granule words) P = Unit {0}
 IfUndecided (Undecided doubt) P = P doubt
 
@@ -59,6 +73,10 @@ pub record LookedForAnswer {P : Type 0} (states : P → ℕ → Type 0) (looked 
 -- a whole budget was looked at for the verdict, and as many states as it has were counted after it
 abbrev pub SpentTwice : {P : Type 0} → (P → ℕ → Type 0) → (Search → P → ℕ → Type 0) → P → P → ℕ → Type 0
 SpentTwice states looked old new budget = (count : ℕ) × (budget ≤ count) × ((more : ℕ) × (budget ≤ more) × FoundThenLooked states looked old new count more)
+
+-- as many states as the budget has were counted after a verdict
+abbrev pub SpentAfter : {P : Type 0} → (P → ℕ → Type 0) → (Search → P → ℕ → Type 0) → P → P → ℕ → Type 0
+SpentAfter states looked old new budget = (count : ℕ) × ((more : ℕ) × (budget ≤ more) × FoundThenLooked states looked old new count more)
 
 -- it is explained as far as was found within that
 abbrev pub IsAsFar : {P : Type 0} → (P → ℕ → Type 0) → (Search → P → ℕ → Type 0) → P → P → ℕ → TraceValue → Doubt → Type 0

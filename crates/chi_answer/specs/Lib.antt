@@ -4,4 +4,5 @@ pub mod DoubtLines
 pub mod Lines
 pub mod Stops
 pub mod Texts
+pub mod ToTheEnd
 pub mod Witnesses

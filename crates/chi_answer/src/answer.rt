@@ -2,28 +2,41 @@
 
 ghost use Rattle.std.specs.Prelude.{◌≡◌, ℕ, IfOk};
 ghost use Rattle.chi_trace.specs.Traces.{IsExplained};
+ghost use Rattle.chi_verdict.specs.Blames.{IsBlame};
 ghost use Rattle.chi_verdict.specs.Doubts.{IsAsFar as IsFoundAsFar};
 ghost use Rattle.chi_verdict.specs.Verdicts.{IfExplained, IfUnexplained, IfUndecided as IfUnfound};
-ghost use Rattle.chi_search.specs.Looks.{LookedSome};
-ghost use Rattle.chi_answer.specs.Answers.{FoundVerdict, IfUndecided, IsAnswer, IsAsFar, IsUnexplained, IsUnexplainedIn, LookedForAnswer};
+ghost use Rattle.chi_search.specs.Looks.{LookedAtLeast, LookedSome};
+ghost use Rattle.chi_answer.specs.Answers.{FoundVerdict, IfUndecided, IsAnswer, IsAsFar, IsUnexplained, IsUnexplainedIn, LookedForAnswer, SaysUnless, SpentAfter};
 
 use chi_reading::Recorded;
 use chi_search::{Progress, Words};
-use chi_verdict::{Blame, Doubt, First, Verdict, doubt_of, explain, first_unexplained, words_held};
+use chi_verdict::{
+    Blame, Doubt, First, Verdict, doubt_of, explain, first_unexplained, legal_to_the_end,
+    words_held,
+};
 use std::alloc::{AllocError, Global};
 
 /// What is answered of a trace.
 ///
 /// - `Explained`: the operations in this order are what a home could have done, and leave the words at the end.
-/// - `Blamed`: they cannot be explained, and where they stop being explainable.
+/// - `Blamed`: they cannot be explained, and where they stop being explainable; and whether one of the responses that are listed as
+///   legal explains the granule to its end, where that was found.
 /// - `Unexplained`: those of a granule cannot be explained. The words are those with which they could be, where only the word
 ///   at the end is wrong and they were found.
 /// - `Undecided`: neither was found of a granule, and what is said of it.
 #[derive(Debug, Drop)]
 pub enum Answer {
-    Explained { order: Vec<usize> },
-    Blamed(Blame),
-    Unexplained { granule: u64, words: Words },
+    Explained {
+        order: Vec<usize>,
+    },
+    Blamed {
+        blame: Blame,
+        to_the_end: Option<bool>,
+    },
+    Unexplained {
+        granule: u64,
+        words: Words,
+    },
     Undecided(Doubt),
 }
 
@@ -47,6 +60,29 @@ fn verdict_of<P: Progress>(
     Ok(verdict)
 }
 
+/// The answer of a trace that no order explains, which stops being explained there.
+fn blamed<P: Progress>(
+    alloc: Global,
+    recorded: &Recorded,
+    blame: Blame,
+    shown: usize,
+    budget: u64,
+    progress: &mut P,
+) -> Result<Answer, AllocError>
+    requires trace { IsUnexplained recorded.now }
+    requires blame { IsBlame recorded.now.trace shown blame }
+    ensures right { IfOk result (IsAnswer recorded.now shown) }
+    ensures decided { IfOk result (λ answer. IfUndecided answer (λ doubt. ⊥)) }
+    ensures said { IfOk result (SaysUnless (LookedAtLeast P.looked progress.old progress.new budget)) }
+    ensures looked { IfOk result (λ _. LookedSome P.looked progress.old progress.new) }
+{
+    let mut left = budget;
+    let trace = recorded.trace();
+    let words = recorded.final_words();
+    let to_the_end = legal_to_the_end(alloc, trace, words, &blame, &mut left, progress)?;
+    Ok(Answer::Blamed { blame, to_the_end })
+}
+
 /// The answer of a trace that no order explains, not even the operations of this granule.
 fn unexplained<P: Progress>(
     alloc: Global,
@@ -60,11 +96,12 @@ fn unexplained<P: Progress>(
     requires granule { IsUnexplainedIn recorded.now granule }
     ensures right { IfOk result (IsAnswer recorded.now shown) }
     ensures decided { IfOk result (λ answer. IfUndecided answer (λ doubt. ⊥)) }
+    ensures said { IfOk result (SaysUnless (LookedAtLeast P.looked progress.old progress.new budget)) }
     ensures looked { IfOk result (λ _. LookedSome P.looked progress.old progress.new) }
 {
     let trace = recorded.trace();
     if let First::At(blame) = first_unexplained(alloc, trace, shown, budget, progress)? {
-        return Ok(Answer::Blamed(blame));
+        return blamed(alloc, recorded, blame, shown, budget, progress);
     }
     let mut left = budget;
     let words = words_held(alloc, trace, granule, &mut left, progress)?;
@@ -81,6 +118,7 @@ fn undecided<P: Progress>(
 ) -> Result<Answer, AllocError>
     ensures right { IfOk result (λ answer. (most : ℕ) → IsAnswer recorded.now most answer) }
     ensures undecided { IfOk result (λ answer. IfUndecided answer (λ doubt. doubt.states ≡ budget)) }
+    ensures said { IfOk result (SaysUnless ⊥) }
     ensures far { IfOk result (λ answer. IfUndecided answer (IsFoundAsFar P.looked progress.old progress.new budget recorded.now.trace)) }
     ensures looked { IfOk result (λ _. LookedSome P.looked progress.old progress.new) }
 {
@@ -104,6 +142,7 @@ pub fn answer_of<P: Progress>(
     ensures right { IfOk result (IsAnswer recorded.now shown) }
     ensures undecided { IfOk result (λ answer. IfUndecided answer (λ doubt. doubt.states ≡ budget)) }
     ensures far { IfOk result (λ answer. IfUndecided answer (IsAsFar P.states P.looked progress.old progress.new budget recorded.now.trace)) }
+    ensures said { IfOk result (SaysUnless (SpentAfter P.states P.looked progress.old progress.new budget)) }
     ensures spent { IfOk result (LookedForAnswer P.states P.looked progress.old progress.new) }
 {
     match verdict_of(alloc, recorded, budget, progress)? {

@@ -7,6 +7,7 @@ mod doubt_lines;
 mod lines;
 mod stop_lines;
 mod text;
+mod to_the_end;
 mod witness;
 
 pub use answer::{Answer, answer_of};
@@ -15,3 +16,4 @@ pub use doubt_lines::add_found_time;
 pub use lines::{add_granule, add_undecided};
 pub use stop_lines::add_stop;
 pub use text::{add_blame, add_words_at_end, answer_text};
+pub use to_the_end::add_to_the_end;

@@ -9,6 +9,7 @@ use crate::answer::Answer;
 use crate::doubt_lines::add_doubt;
 use crate::lines::{add_granule, add_words};
 use crate::stop_lines::add_stop;
+use crate::to_the_end::add_to_the_end;
 use crate::witness::add_witness;
 use chi_reading::Recorded;
 use chi_search::Words;
@@ -87,7 +88,10 @@ pub fn answer_text(
                 add_witness(alloc, &mut text, recorded, order)?;
             }
         }
-        Answer::Blamed(blame) => add_blame(&mut text, blame)?,
+        Answer::Blamed { blame, to_the_end } => {
+            add_blame(&mut text, blame)?;
+            add_to_the_end(&mut text, blame.stop.op.number, *to_the_end)?;
+        }
         Answer::Unexplained { granule, words } => {
             add_granule(&mut text, *granule)?;
             add_words_at_end(&mut text, recorded.final_words().get(*granule), words)?;

@@ -98,3 +98,36 @@ fn explained_in_one_line(rt: HostRuntime) -> Result<(), Fail> {
     assert_same(&rt, found.as_str(), "explained\n");
     Ok(())
 }
+
+// Two adds of 1 that are both told 0, after which the granule has this word.
+static LEFT: [(&str, &str); 2] = [
+    (
+        r#"{"final": [{"addr": 4096, "bytes": "0200000000000000"}], "requests": [
+    {"src": 1, "txn": 1, "op": 48, "size": 3, "addr": 4096, "endian": 0, "be": 255,
+     "lanes": "01000000000000000000000000000000", "start": 10, "end": 20, "reply": "00000000000000000000000000000000"},
+    {"src": 2, "txn": 7, "op": 48, "size": 3, "addr": 4096, "endian": 0, "be": 255,
+     "lanes": "01000000000000000000000000000000", "start": 30, "end": 40, "reply": "00000000000000000000000000000000"}]}"#,
+        "  explained up to 39 (operations: 2)
+  a legal response of request 1 explains the granule to its end
+",
+    ),
+    (
+        r#"{"final": [{"addr": 4096, "bytes": "0100000000000000"}], "requests": [
+    {"src": 1, "txn": 1, "op": 48, "size": 3, "addr": 4096, "endian": 0, "be": 255,
+     "lanes": "01000000000000000000000000000000", "start": 10, "end": 20, "reply": "00000000000000000000000000000000"},
+    {"src": 2, "txn": 7, "op": 48, "size": 3, "addr": 4096, "endian": 0, "be": 255,
+     "lanes": "01000000000000000000000000000000", "start": 30, "end": 40, "reply": "00000000000000000000000000000000"}]}"#,
+        "  explained up to 39 (operations: 2)
+  no legal response of request 1 explains the granule to its end
+",
+    ),
+];
+
+#[test]
+fn legal_responses_to_the_end(rt: HostRuntime) -> Result<(), Fail> {
+    for (trace, wanted) in &LEFT {
+        let found = text(rt.alloc(), trace, 1000, false)?;
+        assert_same(&rt, found.ends_with(wanted), true);
+    }
+    Ok(())
+}

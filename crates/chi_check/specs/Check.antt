@@ -16,8 +16,10 @@ use Rattle.chi_answer.specs.declared.answer.Answer.{Answer}
 use Rattle.chi_answer.specs.declared.answer.Answer.TheVariants.{Explained, Blamed, Unexplained, Undecided}
 use Rattle.chi_answer.specs.Answers.{IfUndecided, IsAnswer}
 use Rattle.chi_answer.specs.CutShort.{cut_short_line}
+use Rattle.chi_answer.specs.ToTheEnd.{to_the_end_line}
 use Rattle.chi_answer.specs.Texts.{IsText}
 use Rattle.chi_excerpt.specs.Failures.{failure_text}
+use Rattle.chi_verdict.specs.declared.first.Blame.{Blame}
 use Rattle.chi_check.specs.CheckStatus.{answer_status}
 use Rattle.chi_check.specs.Limits.{IsWithin}
 use Rattle.chi_check.specs.declared.fault.CheckFault.{CheckFault}
@@ -81,15 +83,20 @@ IsTextCut IsCut options r answer text =
 -- what is written of an answer that blames no operation
 abbrev pub IsUsualText : (Option ℕ → Type 0) → CheckOptions → RecordedValue → Answer → List ℕ → Type 0
 IsUsualText IsCut options r (Explained order) text = IsText options.witness r (Explained order) text
-IsUsualText IsCut options r (Blamed blame) text = IsTextCut IsCut options r (Blamed blame) text
+IsUsualText IsCut options r (Blamed blame to_the_end) text = IsTextCut IsCut options r (Blamed blame to_the_end) text
 IsUsualText IsCut options r (Unexplained granule words) text = IsTextCut IsCut options r (Unexplained granule words) text
 IsUsualText IsCut options r (Undecided doubt) text = IsTextCut IsCut options r (Undecided doubt) text
 
--- What is written of an answer: its text; and where the trace stops being explained, the operations of the granule around the one
--- that is blamed too.
+-- what is written of where the trace stops being explained: the operations of the granule around the one that is blamed, and whether a
+-- legal response of it explains the granule to its end
+abbrev pub blamed_text : CheckOptions → RecordedValue → Blame → Option Bool → List ℕ
+blamed_text options r blame to_the_end = failure_text r options.around blame ++ to_the_end_line blame.stop.op.number to_the_end
+
+-- What is written of an answer: its text, and more of where the trace stops being explained.
 abbrev pub IsWritten : (Option ℕ → Type 0) → CheckOptions → RecordedValue → Answer → List ℕ → Type 0
 IsWritten IsCut options r (Explained order) text = IsUsualText IsCut options r (Explained order) text
-IsWritten IsCut options r (Blamed blame) text = (cut_short : Option ℕ) × IsCut cut_short × (text ≡ failure_text r options.around blame ++ cut_short_line cut_short)
+IsWritten IsCut options r (Blamed blame to_the_end) text =
+    (cut_short : Option ℕ) × IsCut cut_short × (text ≡ blamed_text options r blame to_the_end ++ cut_short_line cut_short)
 IsWritten IsCut options r (Unexplained granule words) text = IsUsualText IsCut options r (Unexplained granule words) text
 IsWritten IsCut options r (Undecided doubt) text = IsUsualText IsCut options r (Undecided doubt) text
 

@@ -2,7 +2,7 @@
 
 ghost use Rattle.std.specs.Prelude.{◌≡◌, ◌≤◌, length, IfErr, IfOk, IfSome, IsTrue, None};
 ghost use Rattle.chi_verdict.specs.Blames.{IsBlame};
-ghost use Rattle.chi_answer.specs.Answers.{IfUndecided, IsAnswer, IsUnexplained};
+ghost use Rattle.chi_answer.specs.Answers.{IfUndecided, IsAnswer, IsUnexplained, SaysLegal};
 ghost use Rattle.chi_check.specs.Check.{IsReadFault, IsUsualText, KeepsUnanswered, LookedForStatus, Outcome, asked, happened, judged, most_bytes};
 ghost use Rattle.chi_check.specs.Limits.{IsWithin};
 ghost use Rattle.chi_search.specs.Looks.{IsCutShort};
@@ -17,7 +17,7 @@ use crate::pages::Pages;
 use crate::recorded::trace_told;
 use crate::search::{Searched, search};
 use crate::untold::untold;
-use chi_answer::{Answer, add_cut_short, answer_text};
+use chi_answer::{Answer, add_cut_short, add_to_the_end, answer_text};
 use chi_excerpt::failure_text;
 use chi_json::{InputFault, read_input};
 use chi_reading::Recorded;
@@ -36,7 +36,10 @@ fn answer_status(answer: &Answer) -> u8
 {
     match answer {
         Answer::Explained { order: _ } => 0,
-        Answer::Blamed(_) => 1,
+        Answer::Blamed {
+            blame: _,
+            to_the_end: _,
+        } => 1,
         Answer::Unexplained {
             granule: _,
             words: _,
@@ -104,16 +107,19 @@ fn blamed_report(
     alloc: Global,
     recorded: &Recorded,
     blame: &Blame,
+    to_the_end: Option<bool>,
     options: &CheckOptions<'_>,
     budget: u64,
     cut_short: Option<u64>,
 ) -> Result<Report, AllocError>
     requires unexplained { IsUnexplained recorded.now }
     requires blame { IsBlame recorded.now.trace options.now.around blame.now }
+    requires legal { SaysLegal recorded.now blame.now to_the_end }
     ensures reported { IfOk result (λ report. IsReported (λ cut. cut ≡ cut_short) options.now recorded.now report.status report.text.items report.page.items) }
     ensures status { IfOk result (λ report. report.status ≡ 1) }
 {
     let mut text = failure_text(alloc, recorded, blame, options.around as usize)?;
+    add_to_the_end(&mut text, blame.stop.op.number, to_the_end)?;
     add_cut_short(&mut text, cut_short)?;
     let page = blamed_page_asked(alloc, recorded, blame, options, budget)?;
     Ok(Report {
@@ -180,9 +186,9 @@ fn report_of(
     let budget = searched.budget;
     let cut_short = searched.cut_short;
     match searched.answer {
-        Answer::Blamed(blame) => {
-            blamed_report(alloc, recorded, &blame, options, budget, cut_short)
-        }
+        Answer::Blamed { blame, to_the_end } => blamed_report(
+            alloc, recorded, &blame, to_the_end, options, budget, cut_short,
+        ),
         other => usual_report(alloc, recorded, &other, options, budget, cut_short),
     }
 }

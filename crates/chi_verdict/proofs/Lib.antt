@@ -9,6 +9,7 @@ mod Gained
 mod HeldAlone
 mod OneGranule
 mod Parts
+mod Replied
 pub mod Spent
 mod Ties
 mod Told

@@ -5,4 +5,5 @@ pub mod Groups
 pub mod Open
 pub mod PastGranules
 pub mod Points
+pub mod ToTheEnd
 pub mod Verdicts

@@ -12,10 +12,12 @@ mod held;
 mod merge_orders;
 mod next_granule;
 mod open;
+mod to_the_end;
 mod verdict;
 
 pub use doubt::{Doubt, doubt_of};
 pub use first::{Blame, First, first_unexplained};
 pub use grouped::Grouped;
 pub use held::words_held;
+pub use to_the_end::legal_to_the_end;
 pub use verdict::{Verdict, explain};

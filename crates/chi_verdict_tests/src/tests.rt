@@ -10,6 +10,7 @@ mod order_tests;
 mod progress_tests;
 mod random_tests;
 mod search_tests;
+mod to_the_end_tests;
 mod trace_tests;
 mod traces;
 mod verdicts;
