@@ -1,5 +1,5 @@
 -- no state more, and states after states
-use Rattle.std.proofs.Common.{◌≡◌, ℕ, ◌+◌, ◌-◌, ◌<◌, ◌≤◌, refl, subst, arith}
+use Rattle.std.proofs.Common.{◌≡◌, ℕ, ◌+◌, ◌-◌, ◌≤◌, refl, subst, arith}
 use Rattle.chi_search.specs.Looks.{LookedAtLeast, LookedMore, LookedSome, Search}
 
 -- none more

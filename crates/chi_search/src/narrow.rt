@@ -6,8 +6,11 @@ ghost use Rattle.std.specs.List.{Contains};
 use crate::chains::{Chained, is_full, link, newest, older, wider};
 use std::alloc::{AllocError, Global};
 
+/// How many states are looked through one by one, with no chains.
+const FEW: usize = 8;
+
 /// A state of the search, with the settled operations in one word.
-#[derive(Clone, Copy)]
+#[derive(Clone, Copy, PartialEq, Eq)]
 pub(crate) struct NarrowState {
     pub first: usize,
     pub settled: u64,
@@ -29,14 +32,16 @@ fn hash(state: NarrowState) -> u64 {
 pub(crate) fn has_narrow(narrow: &Narrow, state: NarrowState) -> bool
     ensures { IsTrue result → Contains narrow.now.states.items state }
 {
+    if narrow.states.len() <= FEW {
+        return narrow.states.contains(&state);
+    }
     let mut place = newest(&narrow.chains, hash(state));
     for _ in 0..narrow.states.len() {
         let found = match place {
             Some(found) if found < narrow.states.len() => found,
             _ => return false,
         };
-        let kept = narrow.states[found];
-        if kept.word == state.word && kept.first == state.first && kept.settled == state.settled {
+        if narrow.states[found] == state {
             return true;
         }
         place = older(&narrow.chains, found);
@@ -52,14 +57,16 @@ pub(crate) fn add_narrow(
 ) -> Result<(), AllocError>
     ensures { OnOk result (narrow.new.states.items ≡ narrow.old.states.items ++ state ∷ []) }
 {
-    if is_full(&narrow.chains) {
-        let mut chains = wider(alloc, &narrow.chains)?;
-        for kept in &narrow.states {
-            link(&mut chains, hash(*kept))?;
+    if narrow.states.len() >= FEW {
+        if is_full(&narrow.chains) {
+            let mut chains = wider(alloc, &narrow.chains)?;
+            for kept in &narrow.states {
+                link(&mut chains, hash(*kept))?;
+            }
+            narrow.chains = chains;
         }
-        narrow.chains = chains;
+        link(&mut narrow.chains, hash(state))?;
     }
-    link(&mut narrow.chains, hash(state))?;
     narrow.states.push(state)?;
     Ok(())
 }
