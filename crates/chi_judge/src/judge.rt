@@ -77,7 +77,7 @@ impl Judge {
             is_stopped: false,
             ahead: Vec::new(alloc),
             seen: 0,
-            next_look: FEW,
+            next_look: FEW / 2,
             is_behind: false,
             waits: false,
             limit: FEW,

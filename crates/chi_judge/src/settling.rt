@@ -51,6 +51,16 @@ fn limit_after(kept: usize, are_fewer: bool) -> usize {
     kept.saturating_mul(2).max(kept.saturating_add(more))
 }
 
+/// At how many that are kept it looks again at the latest: where it tries to keep fewer, and half way to there where that is soon, so
+/// that a verdict goes on from the order that was found.
+fn latest_look(kept: usize, limit: usize) -> usize {
+    if limit <= FEW && kept < limit / 2 {
+        limit / 2
+    } else {
+        limit
+    }
+}
+
 impl Judge {
     // Tells the searches along orders all that is kept.
     fn tell_ahead(&mut self, alloc: Global) -> Result<(), AllocError>
@@ -190,7 +200,7 @@ impl Judge {
             MORE
         };
         self.next_look = if is_seen {
-            kept.saturating_add(more).min(self.limit)
+            kept.saturating_add(more).min(latest_look(kept, self.limit))
         } else {
             kept.saturating_mul(2)
         };

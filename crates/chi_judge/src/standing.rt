@@ -87,13 +87,13 @@ impl Judge {
         if self.is_stopped {
             return Ok(Standing::Unexplained);
         }
-        let Some(after) = told_after(alloc, &self.before, &self.kept)? else {
-            return Ok(Standing::Undecided);
-        };
         let mut left = budget;
         if self.goes_on(alloc, final_word, &mut left, progress)? {
             return Ok(Standing::Explained);
         }
+        let Some(after) = told_after(alloc, &self.before, &self.kept)? else {
+            return Ok(Standing::Undecided);
+        };
         match after.order(alloc, final_word, &mut left, progress)? {
             Found::Order(_) => Ok(Standing::Explained),
             Found::Nothing => Ok(Standing::Unexplained),
