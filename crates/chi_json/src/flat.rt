@@ -9,7 +9,7 @@ ghost use Rattle.serde_json.specs.Find.{get_member};
 ghost use Rattle.serde_json.specs.Read.{converted, number_from, number_of, of_json, of_members};
 ghost use Rattle.chi_json.specs.Datum.{datum_data};
 ghost use Rattle.chi_json.specs.Flat.{flat_data, flat_members, put_all};
-ghost use Rattle.chi_json.specs.Unknown.{unknown_in};
+ghost use Rattle.chi_json.specs.Unknown.{is_known, unknown_in};
 ghost use Rattle.chi_json.specs.Values.{json_value};
 
 use crate::datum::{Datum, JsonObject};
@@ -152,12 +152,29 @@ fn last_named<'a>(members: &[(&'a str, Datum<'a>)], name: &str) -> Option<Datum<
     None
 }
 
-/// Whether each of these members is in one of these lists, or is ignored.
+/// Whether the member at a place of the last of these lists has this name.
+#[tactic(auto, unfolding(crate::specs::Unknown::is_known))]
+fn is_at<M: Named>(name: &str, known: &[&[M]], place: usize) -> bool
+    ensures { IsTrue result → IsTrue (is_known M.name_of (map (λ list. list.now) known.now) name.now) }
+{
+    let Some(members) = known.last() else {
+        return false;
+    };
+    match members.get(place) {
+        Some(member) => member.name() == name,
+        None => false,
+    }
+}
+
+/// Whether each of these members is in one of these lists, or is ignored. Most stand in the order of the last list.
 fn are_known<M: Named>(members: &[(&str, Datum<'_>)], known: &[&[M]]) -> bool
     ensures { IsTrue result → unknown_in M.name_of (map (λ list. list.now) known.now) (put_all members.now no_members) ≡ None }
 {
+    let mut next = 0;
     'members: for member in members {
-        if !is_known(member.0, known) {
+        if is_at(member.0, known, next) {
+            next = next.saturating_add(1);
+        } else if !is_known(member.0, known) {
             return false;
         }
     }
