@@ -2,6 +2,7 @@ pub mod AllRead
 pub mod Blank
 pub mod EachEvent
 pub mod ErrorsTold
+pub mod HeldLines
 pub mod KeptLines
 pub mod KnownWords
 pub mod Readings
