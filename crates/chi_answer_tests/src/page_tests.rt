@@ -19,9 +19,8 @@ const LOST_UPDATE: &str = r#"{"image": [{"addr": 4104, "bytes": "000000000000000
     {"src": 3, "txn": 8, "op": 28, "size": 1, "addr": 4110, "endian": 1, "be": 49152,
      "lanes": "00000000000000000000000000000506", "start": 35}]}"#;
 
-const DATA: &str = r#"{"blame":{"granule":"0000000000001008","time":"40","request":0,"open":[0,
-2],"words":["0100000000000000",
-"0100000000000506"]},
+const DATA: &str =
+    r#"{"blame":{"granule":"0000000000001008","time":"40","request":0,"open":[0,2],"words":["0100000000000000","0100000000000506"]},
 "granules":[{"granule":"0000000000001008","finding":"not explained","opening":"0000000000000000","final":null,"steps":[[0,"0000000000000000","0100000000000000"],
 [2,"0100000000000000","0100000000000506"]]},
 {"granule":"0000000000002000","finding":"undecided","opening":"0000000000000000","final":null,"steps":[]}],

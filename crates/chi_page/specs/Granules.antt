@@ -12,7 +12,7 @@ use Rattle.chi_reading.specs.TraceText.{RecordedValue}
 use Rattle.chi_page.specs.declared.drawn.Drawn.{Drawn}
 use Rattle.chi_judge.specs.declared.standing.Standing.{Standing}
 use Rattle.chi_judge.specs.declared.standing.Standing.TheVariants.{Explained, Unexplained, Undecided}
-use Rattle.chi_page.specs.Listed.{listed}
+use Rattle.chi_page.specs.Listed.{comma, comma_line, listed}
 
 -- what was found of a granule
 unfoldable pub finding_json : Standing → List ℕ
@@ -44,7 +44,7 @@ step_at ops word order n = step_json (slice_index order n) (last_word ops word (
 
 -- all operations of an order, from a word on
 unfoldable pub steps_json : List Operation → ℕ → List ℕ → List ℕ
-steps_json ops word order = listed (step_at ops word order) (length order)
+steps_json ops word order = listed comma_line (step_at ops word order) (length order)
 
 -- a granule, what was found of it, and its words at the opening and at the end
 unfoldable pub head_json : ℕ → Standing → ℕ → Option ℕ → List ℕ
@@ -66,15 +66,15 @@ drawn_at r (Some d) = drawn_json r d
 
 -- all of them
 unfoldable pub granules_json : RecordedValue → List Drawn → List ℕ
-granules_json r granules = listed (λ n. drawn_at r (slice_get granules n)) (length granules)
+granules_json r granules = listed comma_line (λ n. drawn_at r (slice_get granules n)) (length granules)
 
 -- the numbers of operations' requests
 unfoldable pub requests_json : List Operation → List ℕ
-requests_json ops = listed (λ n. decimal (at ops n).number) (length ops)
+requests_json ops = listed comma (λ n. decimal (at ops n).number) (length ops)
 
 -- words of a granule
 unfoldable pub each_word_json : List ℕ → List ℕ
-each_word_json words = listed (λ n. word_json (slice_index words n)) (length words)
+each_word_json words = listed comma (λ n. word_json (slice_index words n)) (length words)
 
 -- the words that the granule can hold, or null where they were not found
 unfoldable pub words_json : Words → List ℕ

@@ -10,7 +10,7 @@ use Rattle.chi_trace.specs.Explains.{at}
 use Rattle.chi_trace.specs.Fields.{request_in}
 use Rattle.chi_trace.specs.declared.operation.Operation.{Operation}
 use Rattle.chi_reading.specs.TraceText.{RecordedValue}
-use Rattle.chi_page.specs.Listed.{listed}
+use Rattle.chi_page.specs.Listed.{comma_line, listed}
 
 -- the order of the bytes, as a trace states it
 unfoldable pub endian_json : Bool → List ℕ
@@ -58,4 +58,4 @@ operation_at r i = operation_json (at r.trace.operations i)
 
 -- all of them, in the order of their starts
 unfoldable pub operations_json : RecordedValue → List ℕ
-operations_json r = listed (operation_at r) (length r.trace.operations)
+operations_json r = listed comma_line (operation_at r) (length r.trace.operations)

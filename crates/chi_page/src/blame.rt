@@ -5,7 +5,7 @@ ghost use Rattle.std.specs.Option.{option_copied};
 ghost use Rattle.chi_page.specs.Granules.{blame_json, blamed_json, each_word_json, requests_json, words_json};
 
 use crate::granule::{add_granule, add_word};
-use crate::listed::add_comma;
+use crate::listed::add_between;
 use chi_search::Words;
 use chi_text::Part::{Number, Text};
 use chi_text::add_parts;
@@ -21,11 +21,11 @@ fn add_request(to: &mut Vec<u8>, op: &Operation) -> Result<(), AllocError>
 }
 
 /// The numbers of operations' requests.
-fn add_requests(to: &mut Vec<u8>, ops: &[Operation]) -> Result<(), AllocError>
+pub(crate) fn add_requests(to: &mut Vec<u8>, ops: &[Operation]) -> Result<(), AllocError>
     ensures { OnOk result (to.new.items ≡ to.old.items ++ requests_json ops.now) }
 {
     for number in 0..ops.len() {
-        add_comma(to, number)?;
+        add_between(to, ",", number)?;
         add_request(to, &ops[number])?;
     }
     Ok(())
@@ -36,7 +36,7 @@ fn add_each_word(to: &mut Vec<u8>, words: &[u64]) -> Result<(), AllocError>
     ensures { OnOk result (to.new.items ≡ to.old.items ++ each_word_json words.now) }
 {
     for number in 0..words.len() {
-        add_comma(to, number)?;
+        add_between(to, ",", number)?;
         add_word(to, words[number])?;
     }
     Ok(())
@@ -44,7 +44,7 @@ fn add_each_word(to: &mut Vec<u8>, words: &[u64]) -> Result<(), AllocError>
 
 /// The words that a granule can hold, or null where they were not found.
 #[tactic(auto, unfolding(crate::specs::Granules::words_json))]
-fn add_words(to: &mut Vec<u8>, words: &Words) -> Result<(), AllocError>
+pub(crate) fn add_words(to: &mut Vec<u8>, words: &Words) -> Result<(), AllocError>
     ensures { OnOk result (to.new.items ≡ to.old.items ++ words_json words.now) }
 {
     match words {

@@ -6,7 +6,7 @@ ghost use Rattle.chi_trace.specs.Granules.{next};
 ghost use Rattle.chi_page.specs.Granules.{AreOfTrace, drawn_at, drawn_json, finding_json, granule_json, granules_json, head_json, step_json, steps_json, told_json, word_json};
 
 use crate::drawn::Drawn;
-use crate::listed::add_comma;
+use crate::listed::add_between;
 use chi_judge::Standing;
 use chi_reading::Recorded;
 use chi_text::Part::{Address, Number, Text, Word};
@@ -47,7 +47,7 @@ pub(crate) fn add_word(to: &mut Vec<u8>, word: u64) -> Result<(), AllocError>
 
 /// A word, or null where none was told.
 #[tactic(auto, unfolding(crate::specs::Granules::told_json))]
-fn add_told(to: &mut Vec<u8>, word: Option<u64>) -> Result<(), AllocError>
+pub(crate) fn add_told(to: &mut Vec<u8>, word: Option<u64>) -> Result<(), AllocError>
     ensures { OnOk result (to.new.items ≡ to.old.items ++ told_json word) }
 {
     match word {
@@ -93,7 +93,7 @@ fn add_steps(
     for number in 0..order.len() {
         let place = order[number];
         let after = word_after(ops, place, before);
-        add_comma(to, number)?;
+        add_between(to, ",\n", number)?;
         add_step(to, place, before, after)?;
         before = after;
     }
@@ -160,7 +160,7 @@ pub(crate) fn add_granules(
     ensures { OnOk result (to.new.items ≡ to.old.items ++ granules_json recorded.now granules.now) }
 {
     for number in 0..granules.len() {
-        add_comma(to, number)?;
+        add_between(to, ",\n", number)?;
         add_drawn_at(to, recorded, granules, number)?;
     }
     Ok(())

@@ -3,7 +3,7 @@
 ghost use Rattle.std.specs.Prelude.{◌≡◌, ◌<◌, ◌++◌, OnOk, length};
 ghost use Rattle.chi_page.specs.Operations.{end_json, endian_json, header_json, observed_json, operation_at, operation_json, operations_json, packet_json, reply_json, request_json};
 
-use crate::listed::add_comma;
+use crate::listed::add_between;
 use chi_fields::{Access, op_name};
 use chi_lanes::Reply;
 use chi_reading::Recorded;
@@ -38,7 +38,7 @@ fn add_header(to: &mut Vec<u8>, op: &Operation) -> Result<(), AllocError>
 
 /// The order of the bytes.
 #[tactic(auto, unfolding(crate::specs::Operations::endian_json))]
-fn add_endian(to: &mut Vec<u8>, endian: bool) -> Result<(), AllocError>
+pub(crate) fn add_endian(to: &mut Vec<u8>, endian: bool) -> Result<(), AllocError>
     ensures { OnOk result (to.new.items ≡ to.old.items ++ endian_json endian) }
 {
     if endian {
@@ -78,7 +78,7 @@ fn add_request(to: &mut Vec<u8>, op: &Operation) -> Result<(), AllocError>
 
 /// An end, or null where there was none.
 #[tactic(auto, unfolding(crate::specs::Operations::end_json))]
-fn add_end(to: &mut Vec<u8>, end: u64) -> Result<(), AllocError>
+pub(crate) fn add_end(to: &mut Vec<u8>, end: u64) -> Result<(), AllocError>
     ensures { OnOk result (to.new.items ≡ to.old.items ++ end_json end) }
 {
     if end == u64::MAX {
@@ -90,7 +90,7 @@ fn add_end(to: &mut Vec<u8>, end: u64) -> Result<(), AllocError>
 
 /// A reply, or null where none was seen.
 #[tactic(auto, unfolding(crate::specs::Operations::reply_json))]
-fn add_reply(to: &mut Vec<u8>, reply: Option<Reply>) -> Result<(), AllocError>
+pub(crate) fn add_reply(to: &mut Vec<u8>, reply: Option<Reply>) -> Result<(), AllocError>
     ensures { OnOk result (to.new.items ≡ to.old.items ++ reply_json reply) }
 {
     match reply {
@@ -145,7 +145,7 @@ pub(crate) fn add_operations(to: &mut Vec<u8>, recorded: &Recorded) -> Result<()
 {
     let count = recorded.trace().operations().len();
     for at in 0..count {
-        add_comma(to, at)?;
+        add_between(to, ",\n", at)?;
         add_operation_at(to, recorded, at)?;
     }
     Ok(())

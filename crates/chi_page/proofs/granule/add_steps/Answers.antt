@@ -3,7 +3,7 @@ use Rattle.std.proofs.Common.{◌≡◌, ◌++◌, ℕ, List, length, get_or, re
 use Rattle.chi_trace.specs.Explains.{at}
 use Rattle.chi_trace.specs.Granules.{last_word, next}
 use Rattle.chi_page.specs.Granules.{step_at}
-use Rattle.chi_page.specs.Listed.{listed}
+use Rattle.chi_page.specs.Listed.{comma_line, listed}
 use Rattle.chi_page.specs.Granules.{steps_json}
 use Rattle.chi_page.proofs.Joined.{listed_more}
 use Rattle.chi_page.proofs.Words.{last_word_more, step_same}
@@ -24,8 +24,8 @@ loop-number-preserved c =
     let word = c.word_after-after.ensures ∙ ap (λ (w : ℕ). next (at ops (get_or order number 0)) w) c.loop-number.invariant.word in
     let more = word ∙ sym (last_word_more ops c.args.word order number c.loop-number-test.true) in
     record {
-      text = listed_more (step_at ops c.args.word order) c.args.to.now.items number c.loop-number.to.items _ _ c.loop-number.invariant.text c.in_ok-add_comma.ensures
-          (c.in_ok-add_step.ensures ∙ ap (λ (l : List ℕ). c.add_comma.new.to.items ++ l) (step_same (get_or order number 0) _ _ _ _ c.loop-number.invariant.word more));
+      text = listed_more comma_line (step_at ops c.args.word order) c.args.to.now.items number c.loop-number.to.items _ _ c.loop-number.invariant.text c.in_ok-add_between.ensures
+          (c.in_ok-add_step.ensures ∙ ap (λ (l : List ℕ). c.add_between.new.to.items ++ l) (step_same (get_or order number 0) _ _ _ _ c.loop-number.invariant.word more));
       word = more;
     }
 
@@ -33,4 +33,4 @@ pub returns : goal.returns
 unfolding steps_json
 returns c =
     let all : c.loop-number.number ≡ length c.args.order.now = omega arith in
-    c.loop-number.invariant.text ∙ ap (λ (n : ℕ). c.args.to.now.items ++ listed (step_at c.args.ops.now c.args.word c.args.order.now) n) all
+    c.loop-number.invariant.text ∙ ap (λ (n : ℕ). c.args.to.now.items ++ listed comma_line (step_at c.args.ops.now c.args.word c.args.order.now) n) all
