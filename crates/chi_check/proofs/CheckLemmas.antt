@@ -1,22 +1,22 @@
 -- what is written of a trace that was read
-use Rattle.std.proofs.Common.{◌≡◌, ℕ, ◌≤◌, Bool, List, ◌++◌, length, Option, None, Some, Ok, Err, IfSome, refl, subst}
+use Rattle.std.proofs.Common.{◌≡◌, ℕ, ◌≤◌, List, length, Option, None, Some, Ok, Err, IfSome, subst}
 use Rattle.std.specs.Io.KnownBytes.{Appends}
 use Rattle.chi_script.specs.WriterBytes.{AppendsFront}
 use Rattle.chi_script.specs.declared.device.WriteFault.{WriteFault}
 use Rattle.chi_answer.specs.declared.answer.Answer.{Answer}
 use Rattle.chi_answer.specs.declared.answer.Answer.TheVariants.{Explained, Blamed, Unexplained, Undecided}
-use Rattle.chi_answer.specs.Answers.{IfUndecided, IsUnexplained, SaysLegal}
-use Rattle.chi_answer.specs.CutShort.{cut_short_line}
-use Rattle.chi_verdict.specs.Blames.{IsBlame}
-use Rattle.chi_verdict.specs.declared.first.Blame.{Blame}
+use Rattle.chi_answer.specs.Answers.{IfUndecided}
 use Rattle.chi_reading.specs.TraceText.{RecordedValue}
-use Rattle.chi_check.specs.Check.{Answers, HasNoTrace, HasTrace, IsRight, IsWritten, Outcome, blamed_text, judged, most_bytes}
+use Rattle.chi_check.specs.Check.{Answers, HasNoTrace, HasTrace, IsRight, Outcome, judged, most_bytes}
 use Rattle.chi_check.specs.CheckStatus.{answer_status}
 use Rattle.chi_check.specs.Limits.{IsWithin}
-use Rattle.chi_check.specs.Pages.{IsPage, IsPageAsked, IsPut, IsReported}
+use Rattle.chi_check.specs.Pages.{IsPage, IsPut, IsReported}
+use Rattle.chi_check.specs.Written.{IsLines, IsWrittenAs}
 use Rattle.chi_check.specs.declared.fault.CheckFault.TheVariants.{Input, Write}
 use Rattle.chi_check.specs.declared.fault.SourceFault.{SourceFault}
 use Rattle.chi_check.specs.declared.fault.SourceFault.TheVariants as source_fault
+use Rattle.chi_check.specs.declared.options.AnswerFormat.{AnswerFormat}
+use Rattle.chi_check.specs.declared.options.AnswerFormat.TheVariants.{Text, Json}
 use Rattle.chi_check.specs.declared.options.CheckOptions.{CheckOptions}
 
 -- the answer that stands behind a report
@@ -78,22 +78,20 @@ spent_where_undecided options (Blamed blame to_the_end) count within spent is = 
 spent_where_undecided options (Unexplained granule words) count within spent is = cc
 spent_where_undecided options (Undecided doubt) count within spent is = (doubt.states, within, spent)
 
--- where a trace stops being explained, the text of the failure is the one of a right answer, and so is its page
-pub blamed_right : (IsCut : Option ℕ → Type 0) (options : CheckOptions) (r : RecordedValue) (blame : Blame) (to_the_end : Option Bool) (cut_short : Option ℕ) (text page : List ℕ) → IsCut cut_short → IsUnexplained r → IsBlame r.trace options.around blame
-    → SaysLegal r blame to_the_end → text ≡ blamed_text options r blame to_the_end ++ cut_short_line cut_short → IsPageAsked options r (Blamed blame to_the_end) page → IsReported IsCut options r 1 text page
-blamed_right IsCut options r blame to_the_end cut_short text page is_cut unexplained is said text_is page_is =
-    (Blamed blame to_the_end, record { right = (unexplained, is, said); undecided = tt; text_is = (cut_short, is_cut, text_is) }, refl, page_is)
-
--- what is known of the line says what else is
+-- what is known of whether the answer was cut short says what else is
 module _ (IsCut May : Option ℕ → Type 0) (may : (cut_short : Option ℕ) → IsCut cut_short → May cut_short) (options : CheckOptions) (r : RecordedValue) where
-  written_by : (answer : Answer) (text : List ℕ) → IsWritten IsCut options r answer text → IsWritten May options r answer text
-  written_by (Explained order) text is = is
-  written_by (Blamed blame to_the_end) text (cut_short, is, same) = (cut_short, may cut_short is, same)
-  written_by (Unexplained granule words) text (whole, text_is, (cut_short, is, same)) = (whole, text_is, (cut_short, may cut_short is, same))
-  written_by (Undecided doubt) text (whole, text_is, (cut_short, is, same)) = (whole, text_is, (cut_short, may cut_short is, same))
+  lines_by : (answer : Answer) (text : List ℕ) → IsLines IsCut options r answer text → IsLines May options r answer text
+  lines_by (Explained order) text is = is
+  lines_by (Blamed blame to_the_end) text (cut_short, is, same) = (cut_short, may cut_short is, same)
+  lines_by (Unexplained granule words) text (whole, text_is, (cut_short, is, same)) = (whole, text_is, (cut_short, may cut_short is, same))
+  lines_by (Undecided doubt) text (whole, text_is, (cut_short, is, same)) = (whole, text_is, (cut_short, may cut_short is, same))
+
+  written_by : (format : AnswerFormat) (answer : Answer) (text : List ℕ) → IsWrittenAs format IsCut options r answer text → IsWrittenAs format May options r answer text
+  written_by Text answer text is = lines_by answer text is
+  written_by Json answer text (cut_short, is, same) = (cut_short, may cut_short is, same)
 
   pub right_by : (answer : Answer) (text : List ℕ) → IsRight IsCut options r answer text → IsRight May options r answer text
-  right_by answer text is = record { right = is.right; undecided = is.undecided; text_is = written_by answer text is.text_is }
+  right_by answer text is = record { right = is.right; undecided = is.undecided; text_is = written_by options.format answer text is.text_is }
 
   pub reported_by : (status : ℕ) (text page : List ℕ) → IsReported IsCut options r status text page → IsReported May options r status text page
   reported_by status text page (answer, right, status_is, page_is) = (answer, right_by answer text right, status_is, page_is)

@@ -1,5 +1,5 @@
 -- the page is made of the lines that were read, and it is that of the granule that is listed first
-use Rattle.std.proofs.Common.{◌≡◌, ◌∙◌, ℕ, ◌+◌, Bool, true, false, List, Option, None, Some, Result, Err, IfOk, IfSome, inl, inr, true≢false, refl, sym, ap, subst, arith}
+use Rattle.std.proofs.Common.{◌≡◌, ◌∙◌, ℕ, Bool, true, false, List, Option, None, Some, Result, Err, IfOk, IfSome, inl, inr, true≢false, refl, sym, ap, subst, arith}
 use Rattle.std.proofs.lemmas.Option.{IfSome_then}
 use Rattle.std.proofs.lemmas.Result.{IfOk-weaker}
 use Rattle.std.specs.Borrow.{Bor}
@@ -14,11 +14,12 @@ use Rattle.chi_watch_text.specs.Texts.{found_text, watched_text}
 use Rattle.chi_watch_text.specs.declared.fault.LinesFault.TheVariants as lines_fault
 use Rattle.chi_watch_text.specs.declared.options.WatchOptions.{WatchOptions}
 use Rattle.chi_watch_text.specs.declared.watched.Watched.{Watched}
-use Rattle.chi_check.specs.Check.{AnyCut, HasTrace, KeepsUnanswered, judged}
+use Rattle.chi_check.specs.Check.{HasTrace, KeepsUnanswered, judged}
 use Rattle.chi_check.specs.Pages.{IsReported}
 use Rattle.chi_check.specs.Saving.{IsPutOf, PutsMore, first_listed}
 use Rattle.chi_check.specs.Showing.{IsFirstShown, IsPageOf, IsPageOfRead, IsUnshown, ShowsFirst, page_options}
 use Rattle.chi_check.specs.Watch.{WatchOutcome, WatchedFor, WritesClosing, watch_status, watching}
+use Rattle.chi_check.specs.Written.{AnyCut}
 use Rattle.chi_check.specs.declared.fault.CheckFault.{CheckFault}
 use Rattle.chi_check.specs.declared.options.CheckOptions.{CheckOptions}
 use Rattle.chi_check.specs.declared.options.WatchingOptions.{WatchingOptions}

@@ -1,5 +1,5 @@
 -- what a check does: the answer of the trace that its input is
-use Rattle.std.specs.Prelude.{◌≡◌, ◌≢◌, ℕ, ◌++◌, ◌/◌, ◌<◌, ◌≤◌, ◌==◌, ◌||◌, Bool, if◌then◌else◌, is_some, List, length, Option, None, Some, IfSome, IsSomeAnd, Result, Ok, Err}
+use Rattle.std.specs.Prelude.{◌≡◌, ◌≢◌, ℕ, ◌/◌, ◌<◌, ◌≤◌, ◌==◌, ◌||◌, Bool, if◌then◌else◌, is_some, List, length, Option, None, Some, IfSome, IsSomeAnd, Result, Ok, Err}
 use Rattle.std.specs.Io.KnownBytes.{Appends, Keeps}
 use Rattle.std.specs.List.{list_any}
 use Rattle.chi_trace.specs.Granules.{granule_of}
@@ -13,13 +13,7 @@ use Rattle.chi_watch_text.specs.Outcomes.{IsLinesFault}
 use Rattle.chi_watch_text.specs.Recorded.{IsRecorded}
 use Rattle.chi_watch_text.specs.declared.line_format.LineFormat.{LineFormat}
 use Rattle.chi_answer.specs.declared.answer.Answer.{Answer}
-use Rattle.chi_answer.specs.declared.answer.Answer.TheVariants.{Explained, Blamed, Unexplained, Undecided}
 use Rattle.chi_answer.specs.Answers.{IfUndecided, IsAnswer}
-use Rattle.chi_answer.specs.CutShort.{cut_short_line}
-use Rattle.chi_answer.specs.ToTheEnd.{to_the_end_line}
-use Rattle.chi_answer.specs.Texts.{IsText}
-use Rattle.chi_excerpt.specs.Failures.{failure_text}
-use Rattle.chi_verdict.specs.declared.first.Blame.{Blame}
 use Rattle.chi_check.specs.CheckStatus.{answer_status}
 use Rattle.chi_check.specs.Limits.{IsWithin}
 use Rattle.chi_check.specs.declared.fault.CheckFault.{CheckFault}
@@ -27,6 +21,7 @@ use Rattle.chi_check.specs.declared.fault.CheckFault.TheVariants.{Input, File, P
 use Rattle.chi_check.specs.declared.fault.SourceFault.{SourceFault}
 use Rattle.chi_check.specs.declared.fault.SourceFault.TheVariants as source_fault
 use Rattle.chi_check.specs.declared.options.CheckOptions.{CheckOptions}
+use Rattle.chi_check.specs.Written.{IsWritten}
 
 -- the greatest number of bytes of a trace
 abbrev pub most_bytes : ℕ
@@ -70,35 +65,6 @@ happened (Some time) r = cut_at time r
 -- what is judged of a trace
 abbrev pub judged : CheckOptions → RecordedValue → RecordedValue
 judged options r = happened options.until (asked options.granule r)
-
--- nothing is said of that line
-abbrev pub AnyCut : Option ℕ → Type 0
-AnyCut cut_short = Unit {0}
-
--- the text of an answer, and a line more where what follows the verdict was not searched for to its end, which is as is said
-abbrev pub IsTextCut : (Option ℕ → Type 0) → CheckOptions → RecordedValue → Answer → List ℕ → Type 0
-IsTextCut IsCut options r answer text =
-    (whole : List ℕ) × IsText options.witness r answer whole × ((cut_short : Option ℕ) × IsCut cut_short × (text ≡ whole ++ cut_short_line cut_short))
-
--- what is written of an answer that blames no operation
-abbrev pub IsUsualText : (Option ℕ → Type 0) → CheckOptions → RecordedValue → Answer → List ℕ → Type 0
-IsUsualText IsCut options r (Explained order) text = IsText options.witness r (Explained order) text
-IsUsualText IsCut options r (Blamed blame to_the_end) text = IsTextCut IsCut options r (Blamed blame to_the_end) text
-IsUsualText IsCut options r (Unexplained granule words) text = IsTextCut IsCut options r (Unexplained granule words) text
-IsUsualText IsCut options r (Undecided doubt) text = IsTextCut IsCut options r (Undecided doubt) text
-
--- what is written of where the trace stops being explained: the operations of the granule around the one that is blamed, and whether a
--- legal response of it explains the granule to its end
-abbrev pub blamed_text : CheckOptions → RecordedValue → Blame → Option Bool → List ℕ
-blamed_text options r blame to_the_end = failure_text r options.around blame ++ to_the_end_line blame.stop.op.number to_the_end
-
--- What is written of an answer: its text, and more of where the trace stops being explained.
-abbrev pub IsWritten : (Option ℕ → Type 0) → CheckOptions → RecordedValue → Answer → List ℕ → Type 0
-IsWritten IsCut options r (Explained order) text = IsUsualText IsCut options r (Explained order) text
-IsWritten IsCut options r (Blamed blame to_the_end) text =
-    (cut_short : Option ℕ) × IsCut cut_short × (text ≡ blamed_text options r blame to_the_end ++ cut_short_line cut_short)
-IsWritten IsCut options r (Unexplained granule words) text = IsUsualText IsCut options r (Unexplained granule words) text
-IsWritten IsCut options r (Undecided doubt) text = IsUsualText IsCut options r (Undecided doubt) text
 
 -- the answer is a right one of the trace, undecided only after as many states as may be looked at, and this is what is written of it
 pub record IsRight (IsCut : Option ℕ → Type 0) (options : CheckOptions) (r : RecordedValue) (answer : Answer) (text : List ℕ) : Type 0 where

@@ -26,11 +26,15 @@ file_rule = record (new_rule (codes "file")) { value_names = 1 }
 abbrev pub errors_rule : Rule
 errors_rule = text_rule (codes "errors") (codes "unknown" ∷ [])
 
--- the task `explain`: its input may tell events, or flits with points or without and what errors say of them, its witness may be asked for, its granule, its limits, its time and how many
+-- the form of an answer is any text, and `text` by default
+abbrev pub format_rule : Rule
+format_rule = text_rule (codes "format") (codes "text" ∷ [])
+
+-- the task `explain`: its input may tell events, or flits with points or without and what errors say of them, its witness may be asked for and a form of its answer, its granule, its limits, its time and how many
 -- operations are shown are whole numbers below 2^64, and it has the file of a page, a budget and a file that is read
 abbrev pub explain_app : App
 explain_app =
-    with_rule (with_rule (with_rule (with_rule (with_rule (with_rule (with_rule (with_rule (with_rule (with_rule (with_rule (with_rule (with_rule (new_app (codes "explain")) (switch_rule (codes "events"))) (switch_rule (codes "flits"))) (switch_rule (codes "points"))) errors_rule) (switch_rule (codes "witness"))) (number_rule (codes "granule")))
+    with_rule (with_rule (with_rule (with_rule (with_rule (with_rule (with_rule (with_rule (with_rule (with_rule (with_rule (with_rule (with_rule (with_rule (new_app (codes "explain")) (switch_rule (codes "events"))) (switch_rule (codes "flits"))) (switch_rule (codes "points"))) errors_rule) (switch_rule (codes "witness"))) format_rule) (number_rule (codes "granule")))
     (number_rule (codes "until"))) around_rule) html_rule) budget_rule) (number_rule (codes "seconds"))) (number_rule (codes "memory"))) file_rule
 
 -- how many operations have to have ended is a whole number below 2^64, and 0 by default

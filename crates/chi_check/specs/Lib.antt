@@ -11,3 +11,4 @@ pub mod Saving
 pub mod Searched
 pub mod Showing
 pub mod Watch
+pub mod Written

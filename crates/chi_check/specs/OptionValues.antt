@@ -1,6 +1,6 @@
 -- which task the arguments name, and with which options
 use Rattle.std.specs.Prelude.{◌≡◌, ◌⊎◌, Bool, true, false, not, ◌&&◌, ◌||◌, if◌then◌else◌, [], List, unwrap_or, Option, None, Some, codes}
-use Rattle.std.specs.Option.{option_map}
+use Rattle.std.specs.Option.{option_map, option_map_or}
 use Rattle.std.specs.Str.{bytes_eq}
 use Rattle.std.specs.Borrow.{Bor}
 use Rattle.clap.specs.Walk.{Row, Text, all_of, first_of, one_of}
@@ -18,6 +18,8 @@ use Rattle.chi_watch_text.specs.declared.line_format.LineFormat.TheVariants.{Eve
 use Rattle.chi_watch_text.specs.declared.required.Required.{Required}
 use Rattle.chi_check.specs.CommandLine.{program_app}
 use Rattle.chi_check.specs.Cover.{paths_of}
+use Rattle.chi_check.specs.declared.options.AnswerFormat.{AnswerFormat}
+use Rattle.chi_check.specs.declared.options.AnswerFormat.TheVariants as answer
 use Rattle.chi_check.specs.declared.options.CheckOptions.{CheckOptions}
 use Rattle.chi_check.specs.declared.options.CoverOptions.{CoverOptions}
 use Rattle.chi_check.specs.declared.options.WatchingOptions.{WatchingOptions}
@@ -36,16 +38,20 @@ lacks_flits found =
 abbrev pub has_other_effect : List Row → Bool
 has_other_effect found = not (has_word found (codes "errors") (codes "none")) && not (has_word found (codes "errors") (codes "unknown"))
 
+-- the form of an answer is neither of the two words
+abbrev pub has_other_format : List Row → Bool
+has_other_format found = option_map_or (λ word. not (bytes_eq word (codes "text")) && not (bytes_eq word (codes "json"))) (first_of (codes "format") found) false
+
 -- in these arguments `clap` finds options for which this holds
 abbrev pub FindsWhere : List Text → (List Row → Bool) → Type 0
 FindsWhere arguments holds = (name : Text) × (found : List Row) × Finds arguments name found × (holds found ≡ true)
 
 -- why the arguments name no task: there is no memory; `clap` finds this fault in them, or is asked for help; they ask for what is of
--- flits alone, and for no flits; or no error says what they have it say
+-- flits alone, and for no flits; no error says what they have it say; or no answer has the form
 abbrev pub IsArgumentsFault : List Text → ErrorKind → Type 0
 IsArgumentsFault arguments kind =
     ((kind ≡ error_kind.OutOfMemory) ⊎ IsAmong kind (fault_of program_app arguments))
-    ⊎ (((kind ≡ error_kind.MissingRequiredArgument) × FindsWhere arguments lacks_flits) ⊎ ((kind ≡ error_kind.InvalidValue) × FindsWhere arguments has_other_effect))
+    ⊎ (((kind ≡ error_kind.MissingRequiredArgument) × FindsWhere arguments lacks_flits) ⊎ (((kind ≡ error_kind.InvalidValue) × FindsWhere arguments has_other_effect) ⊎ ((kind ≡ error_kind.InvalidValue) × FindsWhere arguments has_other_format)))
 
 -- the name `watch` is that of the watch, `cover` that of the count, and any other that of the explaining
 abbrev pub IsNamed : Text → Task → Type 0
@@ -56,6 +62,10 @@ IsNamed name (Cover options) = bytes_eq name (codes "cover") ≡ true
 -- what an error says of its request: that it took no effect, where that was asked for
 abbrev pub errors_asked : List Row → ErrorEffect
 errors_asked found = if has_word found (codes "errors") (codes "none") then effect.None else effect.Unknown
+
+-- the form of an answer: JSON, where that was asked for
+abbrev pub answer_format : List Row → AnswerFormat
+answer_format found = if has_word found (codes "format") (codes "json") then answer.Json else answer.Text
 
 -- what each line among flits tells: points too, where that was asked for
 abbrev pub flits_asked : List Row → LineFormat
@@ -76,6 +86,7 @@ format_asked found = if has_word found (codes "flits") (codes "true") then flits
 pub record HasExplainOptions (found : List Row) (options : CheckOptions) : Type 0 where
   pub lines : options.lines ≡ lines_asked found
   pub witness : options.witness ≡ has_word found (codes "witness") (codes "true")
+  pub format : options.format ≡ answer_format found
   pub budget : IsNumberOr 1000000 (one_of (codes "budget") found) options.budget
   pub seconds : IsNumberOrNone (one_of (codes "seconds") found) options.seconds
   pub memory : IsNumberOrNone (one_of (codes "memory") found) options.memory

@@ -7,12 +7,14 @@ use Rattle.chi_watch_text.specs.Outcomes.{IsWatched}
 use Rattle.chi_watch_text.specs.Texts.{watched_text}
 use Rattle.chi_watch_text.specs.declared.fault.LinesFault.TheVariants as lines_fault
 use Rattle.chi_watch_text.specs.declared.watched.Watched.{Watched}
-use Rattle.chi_check.specs.Check.{AnyCut, HasTrace, IsRight, judged}
+use Rattle.chi_check.specs.Check.{HasTrace, IsRight, judged}
 use Rattle.chi_check.specs.Pages.{IsPage, blame_in}
 use Rattle.chi_check.specs.Saving.{IsPutOf, first_listed}
 use Rattle.chi_check.specs.Watch.{stopped_by, watch_status, watching}
+use Rattle.chi_check.specs.Written.{AnyCut}
 use Rattle.chi_check.specs.declared.fault.CheckFault.{CheckFault}
 use Rattle.chi_check.specs.declared.fault.CheckFault.TheVariants as check_fault
+use Rattle.chi_check.specs.declared.options.AnswerFormat.TheVariants.{Text}
 use Rattle.chi_check.specs.declared.options.CheckOptions.{CheckOptions}
 use Rattle.chi_check.specs.declared.options.WatchingOptions.{WatchingOptions}
 
@@ -21,6 +23,7 @@ abbrev pub page_options : WatchingOptions → ℕ → CheckOptions
 page_options options g = record {
   lines = Some options.format;
   witness = false;
+  format = Text;
   budget = options.budget;
   seconds = None;
   memory = None;

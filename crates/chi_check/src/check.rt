@@ -1,28 +1,26 @@
 //! From a trace's bytes to an answer's bytes.
 
-ghost use Rattle.std.specs.Prelude.{◌≡◌, ◌≤◌, length, IfErr, IfOk, IfSome, IsTrue, None};
-ghost use Rattle.chi_verdict.specs.Blames.{IsBlame};
-ghost use Rattle.chi_answer.specs.Answers.{IfUndecided, IsAnswer, IsUnexplained, SaysLegal};
-ghost use Rattle.chi_check.specs.Check.{IsReadFault, IsUsualText, KeepsUnanswered, LookedForStatus, Outcome, asked, happened, judged, most_bytes};
+ghost use Rattle.std.specs.Prelude.{◌≡◌, ◌≤◌, length, IfErr, IfOk, IfSome, IsTrue};
+ghost use Rattle.chi_answer.specs.Answers.{IfUndecided, IsAnswer};
+ghost use Rattle.chi_check.specs.Check.{IsReadFault, KeepsUnanswered, LookedForStatus, Outcome, asked, happened, judged, most_bytes};
 ghost use Rattle.chi_check.specs.Limits.{IsWithin};
 ghost use Rattle.chi_search.specs.Looks.{IsCutShort};
 ghost use Rattle.chi_check.specs.CheckStatus.{IsAnswerStatus, answer_status};
-ghost use Rattle.chi_check.specs.Pages.{IsPage, IsPut, IsReported};
+ghost use Rattle.chi_check.specs.Pages.{IsPut, IsReported};
 
 use crate::fault::{CheckFault, SourceFault};
 use crate::meter::Meter;
 use crate::options::CheckOptions;
-use crate::page::{blamed_page_asked, page_asked};
+use crate::page::page_asked;
 use crate::pages::Pages;
 use crate::recorded::trace_told;
 use crate::search::{Searched, search};
 use crate::untold::untold;
-use chi_answer::{Answer, add_cut_short, add_to_the_end, answer_text};
-use chi_excerpt::failure_text;
+use crate::written::written;
+use chi_answer::Answer;
 use chi_json::{InputFault, read_input};
 use chi_reading::Recorded;
 use chi_script::write_bytes;
-use chi_verdict::Blame;
 use chi_watch_text::WatchProgress;
 use std::alloc::{AllocError, Global};
 use std::io::{Read, Write};
@@ -102,75 +100,6 @@ pub(crate) struct Report {
     pub page: Vec<u8>,
 }
 
-// What is reported of where a trace that no order explains stops being explained.
-fn blamed_report(
-    alloc: Global,
-    recorded: &Recorded,
-    blame: &Blame,
-    to_the_end: Option<bool>,
-    options: &CheckOptions<'_>,
-    budget: u64,
-    cut_short: Option<u64>,
-) -> Result<Report, AllocError>
-    requires unexplained { IsUnexplained recorded.now }
-    requires blame { IsBlame recorded.now.trace options.now.around blame.now }
-    requires legal { SaysLegal recorded.now blame.now to_the_end }
-    ensures reported { IfOk result (λ report. IsReported (λ cut. cut ≡ cut_short) options.now recorded.now report.status report.text.items report.page.items) }
-    ensures status { IfOk result (λ report. report.status ≡ 1) }
-{
-    let mut text = failure_text(alloc, recorded, blame, options.around as usize)?;
-    add_to_the_end(&mut text, blame.stop.op.number, to_the_end)?;
-    add_cut_short(&mut text, cut_short)?;
-    let page = blamed_page_asked(alloc, recorded, blame, options, budget)?;
-    Ok(Report {
-        status: 1,
-        text,
-        page,
-    })
-}
-
-// What is written of an answer that blames no operation.
-fn usual_text(
-    alloc: Global,
-    recorded: &Recorded,
-    answer: &Answer,
-    options: &CheckOptions<'_>,
-    cut_short: Option<u64>,
-) -> Result<Vec<u8>, AllocError>
-    requires { IsAnswer recorded.now options.now.around answer.now }
-    ensures { IfOk result (λ text. IsUsualText (λ cut. cut ≡ cut_short) options.now recorded.now answer.now text.items) }
-{
-    let mut text = answer_text(alloc, recorded, answer, options.witness)?;
-    match answer {
-        Answer::Explained { order: _ } => {}
-        _ => add_cut_short(&mut text, cut_short)?,
-    }
-    Ok(text)
-}
-
-// What is reported of an answer that blames no operation.
-fn usual_report(
-    alloc: Global,
-    recorded: &Recorded,
-    answer: &Answer,
-    options: &CheckOptions<'_>,
-    budget: u64,
-    cut_short: Option<u64>,
-) -> Result<Report, AllocError>
-    requires { IsAnswer recorded.now options.now.around answer.now }
-    ensures text { IfOk result (λ report. IsUsualText (λ cut. cut ≡ cut_short) options.now recorded.now answer.now report.text.items) }
-    ensures status { IfOk result (λ report. report.status ≡ answer_status answer.now) }
-    ensures page { IfOk result (λ report. IfSome options.now.html (λ _. IsPage recorded.now None report.page.items)) }
-{
-    let text = usual_text(alloc, recorded, answer, options, cut_short)?;
-    let page = page_asked(alloc, recorded, options, budget)?;
-    Ok(Report {
-        status: answer_status(answer),
-        text,
-        page,
-    })
-}
-
 // What is reported of an answer.
 fn report_of(
     alloc: Global,
@@ -183,14 +112,14 @@ fn report_of(
     ensures reported { IfOk result (λ report. IsReported (λ cut. cut ≡ searched.cut_short) options.now recorded.now report.status report.text.items report.page.items) }
     ensures status { IfOk result (λ report. report.status ≡ answer_status searched.answer) }
 {
-    let budget = searched.budget;
-    let cut_short = searched.cut_short;
-    match searched.answer {
-        Answer::Blamed { blame, to_the_end } => blamed_report(
-            alloc, recorded, &blame, to_the_end, options, budget, cut_short,
-        ),
-        other => usual_report(alloc, recorded, &other, options, budget, cut_short),
-    }
+    let answer = &searched.answer;
+    let text = written(alloc, recorded, answer, options, searched.cut_short)?;
+    let page = page_asked(alloc, recorded, answer, options, searched.budget)?;
+    Ok(Report {
+        status: answer_status(answer),
+        text,
+        page,
+    })
 }
 
 // What is reported of a trace.

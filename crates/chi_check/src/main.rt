@@ -24,6 +24,7 @@ mod sources;
 mod tasks;
 mod untold;
 mod watch;
+mod written;
 
 use crate::arguments::run_arguments;
 use crate::command::PROGRAM;

@@ -4,10 +4,10 @@ ghost use Rattle.std.specs.Prelude.{◌≡◌, [], codes, map, unwrap_or, IfOk};
 ghost use Rattle.std.specs.Option.{option_map};
 ghost use Rattle.clap.specs.Matches.{found_of};
 ghost use Rattle.clap.specs.Walk.{all_of, first_of, one_of, rows_of};
-ghost use Rattle.chi_check.specs.OptionValues.{HasCoverOptions, HasRequired, HasWatchOptions, errors_asked, flits_asked, format_asked, has_other_effect, lacks_flits, lines_asked};
+ghost use Rattle.chi_check.specs.OptionValues.{HasCoverOptions, HasRequired, HasWatchOptions, answer_format, errors_asked, flits_asked, format_asked, has_other_effect, has_other_format, lacks_flits, lines_asked};
 ghost use Rattle.chi_program.specs.OptionValues.{IsNumberOr, IsNumberOrNone, has_word};
 
-use crate::options::{CheckOptions, CoverOptions, WatchingOptions};
+use crate::options::{AnswerFormat, CheckOptions, CoverOptions, WatchingOptions};
 use chi_program::{has_word, is_switched, number_given, number_or, text_given};
 use chi_watch_text::{ErrorEffect, LineFormat, Required};
 use clap::ArgMatches;
@@ -101,10 +101,32 @@ pub(crate) fn has_other_effect(matches: &ArgMatches<'_>) -> bool
     !has_word(matches, "errors", "none") && !has_word(matches, "errors", "unknown")
 }
 
+/// Whether the form of an answer is neither of the two words.
+pub(crate) fn has_other_format(matches: &ArgMatches<'_>) -> bool
+    ensures { result ≡ has_other_format (rows_of (found_of matches.now)) }
+{
+    match text_given(matches, "format") {
+        Some(word) => word != "text" && word != "json",
+        None => false,
+    }
+}
+
+// The form of an answer.
+fn answer_format(matches: &ArgMatches<'_>) -> AnswerFormat
+    ensures { result ≡ answer_format (rows_of (found_of matches.now)) }
+{
+    if has_word(matches, "format", "json") {
+        AnswerFormat::Json
+    } else {
+        AnswerFormat::Text
+    }
+}
+
 /// The options that `explain` was given, or that stand in for them.
 pub(crate) fn explain_options<'a>(matches: &ArgMatches<'a>) -> CheckOptions<'a>
     ensures lines { result.lines ≡ lines_asked (rows_of (found_of matches.now)) }
     ensures witness { result.witness ≡ has_word (rows_of (found_of matches.now)) (codes "witness") (codes "true") }
+    ensures format { result.format ≡ answer_format (rows_of (found_of matches.now)) }
     ensures budget { IsNumberOr 1000000 (one_of (codes "budget") (rows_of (found_of matches.now))) result.budget }
     ensures seconds { IsNumberOrNone (one_of (codes "seconds") (rows_of (found_of matches.now))) result.seconds }
     ensures memory { IsNumberOrNone (one_of (codes "memory") (rows_of (found_of matches.now))) result.memory }
@@ -116,6 +138,7 @@ pub(crate) fn explain_options<'a>(matches: &ArgMatches<'a>) -> CheckOptions<'a>
     CheckOptions {
         lines: lines_asked(matches),
         witness: is_switched(matches, "witness"),
+        format: answer_format(matches),
         budget: number_or(matches, "budget", BUDGET),
         seconds: number_given(matches, "seconds"),
         memory: number_given(matches, "memory"),

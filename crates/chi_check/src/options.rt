@@ -2,8 +2,15 @@
 
 use chi_watch_text::{LineFormat, Required};
 
+/// In which form an answer is written: as lines of text, or as an object of JSON.
+#[derive(Clone, Copy, Debug)]
+pub enum AnswerFormat {
+    Text,
+    Json,
+}
+
 /// How a trace is checked. With `lines` the input is lines that tell this, and no trace. With `witness` the operations of a
-/// trace that is explained are written in the order found. `budget` is how many states of each granule are looked at for an
+/// trace that is explained are written in the order found. `format` is the form in which the answer is written. `budget` is how many states of each granule are looked at for an
 /// answer. With `seconds` or `memory` fewer are: no larger search begins that may take the time or the bytes beyond these. With
 /// `granule` the granule at this address alone is judged, and with `until` what had happened by that time. `around` is how many
 /// operations of a granule are shown before the one that is blamed. `html` is the path of a file that is to be the page of the
@@ -12,6 +19,7 @@ use chi_watch_text::{LineFormat, Required};
 pub struct CheckOptions<'a> {
     pub lines: Option<LineFormat>,
     pub witness: bool,
+    pub format: AnswerFormat,
     pub budget: u64,
     pub seconds: Option<u64>,
     pub memory: Option<u64>,

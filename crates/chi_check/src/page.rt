@@ -1,9 +1,10 @@
 //! The page of a trace.
 
-ghost use Rattle.std.specs.Prelude.{IfOk, IfSome, None, Some};
-ghost use Rattle.chi_check.specs.Pages.{IsPage};
+ghost use Rattle.std.specs.Prelude.{IfOk, None, Some};
+ghost use Rattle.chi_check.specs.Pages.{IsPage, IsPageAsked, blame_in};
 
 use crate::options::CheckOptions;
+use chi_answer::Answer;
 use chi_granules::{all_granules, granules_around};
 use chi_page::add_page;
 use chi_reading::Recorded;
@@ -35,33 +36,36 @@ fn usual_page(alloc: Global, recorded: &Recorded, budget: u64) -> Result<Vec<u8>
     Ok(page)
 }
 
-/// The page of a trace, where one is asked for, and nothing where none is.
-pub(crate) fn page_asked(
+// The page of an answer.
+fn page_of_answer(
     alloc: Global,
     recorded: &Recorded,
-    options: &CheckOptions<'_>,
+    answer: &Answer,
     budget: u64,
 ) -> Result<Vec<u8>, AllocError>
-    ensures { IfOk result (λ page. IfSome options.now.html (λ _. IsPage recorded.now None page.items)) }
+    ensures { IfOk result (λ page. IsPage recorded.now (blame_in answer.now) page.items) }
 {
-    match options.html {
-        Some(_) => usual_page(alloc, recorded, budget),
-        None => Ok(Vec::new(alloc)),
+    match answer {
+        Answer::Blamed {
+            blame,
+            to_the_end: _,
+        } => blamed_page(alloc, recorded, blame, budget),
+        _ => usual_page(alloc, recorded, budget),
     }
 }
 
-/// The same of a trace that stops being explained.
-pub(crate) fn blamed_page_asked(
+/// The page of an answer, where one is asked for, and nothing where none is.
+pub(crate) fn page_asked(
     alloc: Global,
     recorded: &Recorded,
-    blame: &Blame,
+    answer: &Answer,
     options: &CheckOptions<'_>,
     budget: u64,
 ) -> Result<Vec<u8>, AllocError>
-    ensures { IfOk result (λ page. IfSome options.now.html (λ _. IsPage recorded.now (Some blame.now) page.items)) }
+    ensures { IfOk result (λ page. IsPageAsked options.now recorded.now answer.now page.items) }
 {
     match options.html {
-        Some(_) => blamed_page(alloc, recorded, blame, budget),
+        Some(_) => page_of_answer(alloc, recorded, answer, budget),
         None => Ok(Vec::new(alloc)),
     }
 }

@@ -9,7 +9,7 @@ use crate::check::reported;
 use crate::fault::CheckFault;
 use crate::meter::Meter;
 use crate::option_values::AROUND;
-use crate::options::{CheckOptions, WatchingOptions};
+use crate::options::{AnswerFormat, CheckOptions, WatchingOptions};
 use crate::pages::Pages;
 use crate::save::first_listed;
 use crate::watch::stopped_by;
@@ -23,6 +23,7 @@ fn page_options<'a>(options: &WatchingOptions<'a>, granule: u64) -> CheckOptions
     CheckOptions {
         lines: Some(options.format),
         witness: false,
+        format: AnswerFormat::Text,
         budget: options.budget,
         seconds: None,
         memory: None,

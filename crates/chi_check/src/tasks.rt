@@ -38,7 +38,7 @@ const FILE: NamedOption<'static> = NamedOption {
 };
 
 // The options of `explain`, and its file.
-const EXPLAIN: [NamedOption<'static>; 13] = [
+const EXPLAIN: [NamedOption<'static>; 14] = [
     NamedOption {
         name: "events",
         takes: Takes::Nothing,
@@ -51,6 +51,11 @@ const EXPLAIN: [NamedOption<'static>; 13] = [
         name: "witness",
         takes: Takes::Nothing,
         help: "Writes the operations in the order found, and the memory after them",
+    },
+    NamedOption {
+        name: "format",
+        takes: Takes::TextOr("FORMAT", "text"),
+        help: "json: writes the answer as a JSON object on one line",
     },
     NamedOption {
         name: "granule",

@@ -56,4 +56,13 @@ returns-then-has_other_effect-clause-refused c =
     let name = c.in-Some.name.now in
     let found = rows_of (found_of c.in-Some.matches.now) in
     let found_so = finds app (map string_bytes c.args.arguments.now) c.in_ok-matches.matches name found is c.in_ok-matches.ensures.matches c.in-Some.ensures.name c.in-Some.ensures.rows in
-    inr (inr (c.in_ok-refused-2.ensures.kind, (name, found, found_so, sym c.has_other_effect.ensures ∙ c.if-has_other_effect.true)))
+    inr (inr (inl (c.in_ok-refused-2.ensures.kind, (name, found, found_so, sym c.has_other_effect.ensures ∙ c.if-has_other_effect.true))))
+
+pub returns-then-has_other_format-clause-refused : goal.returns-then-has_other_format-clause-refused
+returns-then-has_other_format-clause-refused c =
+    let app = app_of c.in_ok-whole_command.field-0 in
+    let is = c.in_ok-whole_command.ensures.app in
+    let name = c.in-Some.name.now in
+    let found = rows_of (found_of c.in-Some.matches.now) in
+    let found_so = finds app (map string_bytes c.args.arguments.now) c.in_ok-matches.matches name found is c.in_ok-matches.ensures.matches c.in-Some.ensures.name c.in-Some.ensures.rows in
+    inr (inr (inr (c.in_ok-refused-3.ensures.kind, (name, found, found_so, sym c.has_other_format.ensures ∙ c.if-has_other_format.true))))
