@@ -10,11 +10,11 @@ pub enum AnswerFormat {
 }
 
 /// How a trace is checked. With `lines` the input is lines that tell this, and no trace. With `witness` the operations of a
-/// trace that is explained are written in the order found. `format` is the form in which the answer is written. `budget` is how many states of each granule are looked at for an
-/// answer. With `seconds` or `memory` fewer are: no larger search begins that may take the time or the bytes beyond these. With
-/// `granule` the granule at this address alone is judged, and with `until` what had happened by that time. `around` is how many
-/// operations of a granule are shown before the one that is blamed. `html` is the path of a file that is to be the page of the
-/// trace.
+/// trace that is explained are written in the order found. `format` is the form in which the answer is written. `budget` is how
+/// many states of each granule are looked at for an answer. With `seconds` or `memory` fewer are: no larger search begins that may
+/// take the time or the bytes beyond these. With `granule` the granule at this address alone is judged, and with `until` what had
+/// happened by that time. `around` is how many operations of a granule are shown before the one that is blamed. `html` is the path
+/// of a file that is to be the page of the trace.
 #[derive(Clone, Copy)]
 pub struct CheckOptions<'a> {
     pub lines: Option<LineFormat>,
