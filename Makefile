@@ -9,7 +9,7 @@ DIST := out/dist/chi-$(VERSION)
 SCRIPT ?= examples/fetch_add.json
 SECONDS ?= 10
 
-.PHONY: help try build checker example run soak test page-test edits clauses lib dv install dist bench bench-c bench-explain corpus
+.PHONY: help try build checker example run soak test page-test edits clauses lib dv install dist bench bench-c bench-explain bench-growth corpus
 
 help:
 	@echo "Times are of a fresh clone on 4 cores; what was proved before is not proved again."
@@ -36,6 +36,7 @@ help:
 	@echo "  make bench                 the speed of chihome and of the lock-free store"
 	@echo "  make bench-c               the speed of the calls for C, also by DPI"
 	@echo "  make bench-explain         the checker of traces beside every order of 100,000 small ones, and its speed"
+	@echo "  make bench-growth          how the time and the memory of chicheck grow with its input"
 	@echo "  make corpus [SEED=N]       chihome on 10,000 scripts by chance, half of them broken, and on 100 of chihome generate"
 
 # Where a command fails, what it said is shown; it leaves no file behind.
@@ -135,9 +136,11 @@ bench-c: lib
 bench-explain: checker
 	bench/verdict.sh $(SEED)
 	bench/chicheck.py $(SEED)
-	bench/growth.py
 	bench/watch.py 20000 $(or $(SEED),1)
 	bench/watch.py 20000 $(or $(SEED),1) prefixes
+
+bench-growth: checker
+	bench/growth.py
 
 corpus: build
 	bench/build.sh && cd bench && out/release/corpus ../$(PROGRAM) 10000 $(SEED)

@@ -1,19 +1,26 @@
 #!/usr/bin/env python3
-"""How the time of chicheck grows with its input: growth.py [CHECKER [OPERATIONS]]
+"""How what chicheck needs grows with its input: growth.py [--instructions] [CHECKER [OPERATIONS]]
 
-Each row is timed from file to answer at so many operations, twice and four times as many, the best of three runs of each. The last
-number is the exponent between the first and the last: 1 is in proportion, 2 is with the square."""
+Each row is timed from file to answer at so many operations, twice and four times as many, the best of three runs of each, with the start
+of a Python that tells the most memory. An exponent is that between the first and the last: 1 is in proportion, 2 is with the square. With
+--instructions valgrind counts those of a row at the first and the last number, and a row that grows faster than it may fails."""
+
 import json
 import math
 import os
+import re
+import shutil
 import subprocess
 import sys
 import tempfile
 import time
 
 TOP = f"{os.path.dirname(os.path.abspath(__file__))}/.."
-CHECKER = os.path.abspath(sys.argv[1]) if len(sys.argv) > 1 else f"{TOP}/crates/chi_check/out/chi_check"
-COUNT = int(sys.argv[2]) if len(sys.argv) > 2 else 10_000
+COUNTS = "--instructions" in sys.argv[1:]
+WORDS = [it for it in sys.argv[1:] if it != "--instructions"]
+CHECKER = os.path.abspath(WORDS[0]) if WORDS else f"{TOP}/crates/chi_check/out/chi_check"
+FIRST = int(WORDS[1]) if len(WORDS) > 1 else 250 if COUNTS else 10_000
+ADD, READ = 48, 4
 
 
 def packet(granule, word):
@@ -21,59 +28,147 @@ def packet(granule, word):
     return "0" * 16 + data if granule % 2 else data + "0" * 16
 
 
+def operation(op, granule, src, **more):
+    """A request of the eight bytes of a granule: a read, or an AtomicLoad ADD of 1."""
+    data = {} if op == READ else {"be": 0xFF00 if granule % 2 else 0xFF, "lanes": packet(granule, 1)}
+    return {"src": src, "txn": 0, "op": op, "size": 3, "addr": 8 * granule, "endian": 0} | data | more
+
+
 def addition(granule, found, start, **more):
-    """An AtomicLoad ADD of 1 to the word of a granule, with the word that its reply says it found there."""
-    request = {"src": start % 8, "txn": 0, "op": 48, "size": 3, "addr": 8 * granule, "endian": 0, "start": start}
-    request |= {"be": 0xFF00 if granule % 2 else 0xFF, "lanes": packet(granule, 1)}
-    return request | ({} if found is None else {"reply": packet(granule, found)}) | more
+    """An AtomicLoad ADD as a trace has it, with the word that its reply says it found."""
+    reply = {} if found is None else {"reply": packet(granule, found)}
+    return operation(ADD, granule, start % 8, start=start) | reply | more
+
+
+def trace(requests):
+    return json.dumps({"requests": requests})
+
+
+def watched(number, time, granule, found):
+    """The events of an AtomicLoad ADD."""
+    request = {"time": time, "event": "request", "id": number} | operation(ADD, granule, number % 8)
+    return [request, {"time": time + 1, "event": "reply", "id": number, "reply": packet(granule, found)}]
+
+
+def hung(number, granule):
+    """The event of a read that never ends."""
+    return {"time": 0, "event": "request", "id": number} | operation(READ, granule, 9)
+
+
+def lines(events):
+    return "".join(json.dumps(it) + "\n" for it in events)
 
 
 def around(count):
     """One granule, whose last answer is wrong: two in five of its operations are shown."""
-    times = ((place, place if place + 1 < count else count) for place in range(count))
-    requests = [addition(0, found, 10 * place, end=10 * place + 5) for place, found in times]
-    return requests, ["explain", "--around", str(2 * count // 5)]
+    found = [*range(count - 1), count]
+    return trace([addition(0, it, 10 * place, end=10 * place + 5) for place, it in enumerate(found)]), ["explain", "--around", str(2 * count // 5)]
 
 
 def page(count):
     """As many granules as operations."""
-    requests = [addition(granule, 0, 10 * granule, end=10 * granule + 5) for granule in range(count)]
-    return requests, ["explain", "--html", os.devnull]
+    return trace([addition(it, 0, 10 * it, end=10 * it + 5) for it in range(count)]), ["explain", "--html", os.devnull]
 
 
 def first(count):
     """Half as many granules, each with a wrong answer: the higher ones stop being explained first."""
     granules = count // 2
-    places = [(granule, 20 * (granules - granule)) for granule in range(granules)]
-    requests = [addition(granule, 0, start, end=start + 3) for granule, start in places]
-    return requests + [addition(granule, 7, start + 5, end=start + 8) for granule, start in places], ["explain"]
+    starts = [20 * (granules - it) for it in range(granules)]
+    right = [addition(it, 0, start, end=start + 3) for it, start in enumerate(starts)]
+    return trace(right + [addition(it, 7, start + 5, end=start + 8) for it, start in enumerate(starts)]), ["explain"]
 
 
 def hanging(count):
     """One granule, where a read that comes before all others never ends."""
-    read = {"src": 7, "txn": 9, "op": 4, "size": 3, "addr": 0, "endian": 0, "be": 0, "lanes": "0" * 32, "start": 0}
-    return [read] + [addition(0, place, 10 * place + 1, end=10 * place + 6) for place in range(count)], ["explain"]
+    read = operation(READ, 0, 9, be=0, lanes="0" * 32, start=0)
+    return trace([read] + [addition(0, it, 10 * it + 1, end=10 * it + 6) for it in range(count)]), ["explain"]
+
+
+def hanging_watched(count):
+    """The same as events."""
+    return lines([hung(count, 0)] + [event for it in range(count) for event in watched(it, 2 * it + 1, 0, it)]), ["watch"]
+
+
+def outstanding(count):
+    """Operations on one granule while a quarter as many reads of others never end."""
+    reads = [hung(count + it, it + 1) for it in range(count // 4)]
+    return lines(reads + [event for it in range(count) for event in watched(it, 2 * it + 1, 0, it)]), ["watch"]
+
+
+def granules(count):
+    """As many granules as operations, of events."""
+    return lines([event for it in range(count) for event in watched(it, 2 * it, it, 0)]), ["watch"]
+
+
+def usual(count):
+    """Operations on 64 granules, one after the other."""
+    return trace([addition(it % 64, it // 64, 10 * it, end=10 * it + 5) for it in range(count)]), ["explain"]
 
 
 def still_open(count):
     """Operations of one granule that never end."""
-    return [addition(0, None, 10 * place) for place in range(count)], ["cover"]
+    return trace([addition(0, None, 10 * it) for it in range(count)]), ["cover"]
 
 
-def seconds(row, count):
-    requests, words = row(count)
+# The exponent of instructions that a row may have at most. Two do not grow straight.
+ROWS = {around: 1.1, page: 1.1, first: 1.1, hanging: 1.1, hanging_watched: 1.1, outstanding: 2, granules: 1.1, usual: 1.1, still_open: 2}
+
+
+def exponent(least, most):
+    return math.log(most / least, 4)
+
+
+# Starts a program, and says how many kilobytes it had at most: the memory of what starts it counts too.
+STARTED = "import os, sys; print(os.wait4(os.spawnvp(os.P_NOWAIT, sys.argv[1], sys.argv[1:]), 0)[2].ru_maxrss, file=sys.stderr)"
+
+
+def needs(file, words):
+    """The seconds of the best of three runs, and the most kilobytes."""
+    times, most = [], 0
+    for _ in range(3):
+        file.seek(0)
+        began = time.perf_counter()
+        started = [sys.executable, "-ISc", STARTED, CHECKER, *words]
+        said = subprocess.run(started, stdin=file, stdout=subprocess.DEVNULL, stderr=subprocess.PIPE, text=True).stderr
+        times.append(time.perf_counter() - began)
+        most = max(most, int(said.split()[-1]))
+    return min(times), most
+
+
+def instructions(file, words):
+    counted = ["valgrind", "--tool=callgrind", "--callgrind-out-file=/dev/null", CHECKER, *words]
+    said = subprocess.run(counted, stdin=file, stdout=subprocess.DEVNULL, stderr=subprocess.PIPE, text=True).stderr
+    return int(re.search(r"Collected : (\d+)", said)[1])
+
+
+def measured(row, count, measure):
+    text, words = row(count)
     with tempfile.TemporaryFile() as file:
-        file.write(json.dumps({"requests": requests}).encode())
-        times = []
-        for _ in range(3):
-            file.seek(0)
-            began = time.perf_counter()
-            subprocess.run([CHECKER, *words], stdin=file, stdout=subprocess.DEVNULL, timeout=600)
-            times.append(time.perf_counter() - began)
-    return min(times)
+        file.write(text.encode())
+        file.seek(0)
+        return measure(file, words)
 
 
-for row in around, page, first, hanging, still_open:
-    times = [seconds(row, COUNT * more) for more in (1, 2, 4)]
-    shown = "  ".join(f"{it:7.3f} s" for it in times)
-    print(f"{row.__name__:12} {shown}  exponent {math.log(times[2] / times[0], 4):.2f}", flush=True)
+def count_instructions():
+    """Whether no row grows faster than it may."""
+    if not shutil.which("valgrind"):
+        print("growth: skipped, since valgrind is not on the path")
+        return True
+    fast = []
+    for row, most in ROWS.items():
+        found = exponent(*(measured(row, FIRST * more, instructions) for more in (1, 4)))
+        if found > most:
+            fast.append(f"growth: {row.__name__} grows with exponent {found:.2f}, and may with {most}")
+    print("\n".join(fast) or f"growth: {len(ROWS)} rows grow no faster than they may")
+    return not fast
+
+
+def show():
+    for row in ROWS:
+        seconds, memory = zip(*(measured(row, FIRST * more, needs) for more in (1, 2, 4)))
+        shown = "  ".join(f"{it:7.3f} s" for it in seconds) + "  " + "  ".join(f"{it / 1024:6.1f} MB" for it in memory)
+        print(f"{row.__name__:15} {shown}  exponents {exponent(seconds[0], seconds[2]):.2f} and {exponent(memory[0], memory[2]):.2f}", flush=True)
+    return True
+
+
+sys.exit(0 if (count_instructions if COUNTS else show)() else 1)
