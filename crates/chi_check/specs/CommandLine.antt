@@ -30,8 +30,9 @@ errors_rule = text_rule (codes "errors") (codes "unknown" ∷ [])
 abbrev pub format_rule : Rule
 format_rule = text_rule (codes "format") (codes "text" ∷ [])
 
--- the task `explain`: its input may tell events, or flits with points or without and what errors say of them, its witness may be asked for and a form of its answer, its granule, its limits, its time and how many
--- operations are shown are whole numbers below 2^64, and it has the file of a page, a budget and a file that is read
+-- The task `explain`: its input may tell events, or flits with points or without and what errors say of them. A witness may be asked
+-- for, and a form of the answer. Its granule, its limits, its time and how many operations are shown are whole numbers below 2^64. It has
+-- the file of a page, a budget and a file that is read.
 abbrev pub explain_app : App
 explain_app =
     with_rule (with_rule (with_rule (with_rule (with_rule (with_rule (with_rule (with_rule (with_rule (with_rule (with_rule (with_rule (with_rule (with_rule (new_app (codes "explain")) (switch_rule (codes "events"))) (switch_rule (codes "flits"))) (switch_rule (codes "points"))) errors_rule) (switch_rule (codes "witness"))) format_rule) (number_rule (codes "granule")))

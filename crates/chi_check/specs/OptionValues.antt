@@ -47,7 +47,7 @@ abbrev pub FindsWhere : List Text → (List Row → Bool) → Type 0
 FindsWhere arguments holds = (name : Text) × (found : List Row) × Finds arguments name found × (holds found ≡ true)
 
 -- why the arguments name no task: there is no memory; `clap` finds this fault in them, or is asked for help; they ask for what is of
--- flits alone, and for no flits; no error says what they have it say; or no answer has the form
+-- flits alone, and for no flits; or what errors say, or the form of an answer, is another word
 abbrev pub IsArgumentsFault : List Text → ErrorKind → Type 0
 IsArgumentsFault arguments kind =
     ((kind ≡ error_kind.OutOfMemory) ⊎ IsAmong kind (fault_of program_app arguments))

@@ -39,8 +39,8 @@ pub(crate) fn each_told(
     Ok(each)
 }
 
-// An order up to the last operations that had ended by a time. Where they are few and each of them had, the last of which ended last,
-// it is all of it.
+// An order up to the last operations that had ended by a time; the whole order where they are few and all had ended. They stand in the
+// order of their ends.
 fn settled_part<'a>(ops: &[Operation], order: &'a [usize], time: u64) -> &'a [usize] {
     if order.len() <= LAST && ops.last().is_some_and(|op| op.end <= time) {
         return order;

@@ -53,6 +53,9 @@ impl Model for Judge {
 /// How many operations it keeps at least before it looks whether it may keep fewer.
 pub(crate) const FEW: usize = 16;
 
+/// At how many it looks before that, so that a verdict goes on from the order that was found.
+pub(crate) const FIRST_LOOK: usize = 8;
+
 impl Judge {
     /// Nothing is told of the granule, which holds this word. Where its operations stop being explained so many of those before
     /// are shown.
@@ -77,7 +80,7 @@ impl Judge {
             is_stopped: false,
             ahead: Vec::new(alloc),
             seen: 0,
-            next_look: FEW / 2,
+            next_look: FIRST_LOOK,
             is_behind: false,
             waits: false,
             limit: FEW,

@@ -6,7 +6,7 @@ ghost use Rattle.chi_search.specs.Looks.{LookedSome};
 ghost use Rattle.chi_judge.specs.Judges.{IsNextHorizon, Keeps};
 
 use crate::ahead::{each_told, found_along, keep_along};
-use crate::judge::{FEW, Judge};
+use crate::judge::{FEW, FIRST_LOOK, Judge};
 use chi_search::{Found, Progress};
 use std::alloc::{AllocError, Global};
 
@@ -51,11 +51,10 @@ fn limit_after(kept: usize, are_fewer: bool) -> usize {
     kept.saturating_mul(2).max(kept.saturating_add(more))
 }
 
-/// At how many that are kept it looks again at the latest: where it tries to keep fewer, and half way to there where that is soon, so
-/// that a verdict goes on from the order that was found.
+/// At how many that are kept it looks again at the latest: at this limit, where it tries to keep fewer, and once before where few are.
 fn latest_look(kept: usize, limit: usize) -> usize {
-    if limit <= FEW && kept < limit / 2 {
-        limit / 2
+    if limit <= FEW && kept < FIRST_LOOK {
+        FIRST_LOOK
     } else {
         limit
     }

@@ -1,4 +1,5 @@
-//! The page that shows a trace: its granules, their operations over time, and the order found of each; and an answer as JSON. Source: profile.
+//! The page that shows a trace: its granules, their operations over time, and the order found of each; and an answer as
+//! JSON. Source: profile.
 #![tactic(auto)]
 
 mod answer;
