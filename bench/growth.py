@@ -110,8 +110,8 @@ def still_open(count):
     return trace([addition(0, None, 10 * it) for it in range(count)]), ["cover"]
 
 
-# The exponent of instructions that a row may have at most. Two do not grow straight.
-ROWS = {around: 1.1, page: 1.1, first: 1.1, hanging: 1.1, hanging_watched: 1.1, outstanding: 2, granules: 1.1, usual: 1.1, still_open: 2}
+# The exponent of instructions that a row may have at most. One does not grow straight.
+ROWS = {around: 1.1, page: 1.1, first: 1.1, hanging: 1.1, hanging_watched: 1.1, outstanding: 2, granules: 1.1, usual: 1.1, still_open: 1.1}
 
 
 def exponent(least, most):

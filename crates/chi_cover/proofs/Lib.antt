@@ -1,7 +1,11 @@
-pub mod Kept
+pub mod Ends
+pub mod Latest
 pub mod Left
+pub mod Likeness
 pub mod Lists
 pub mod Numbered
 pub mod Reasons
+pub mod SameBins
+pub mod StillKept
 pub mod Sums
 pub mod Traced

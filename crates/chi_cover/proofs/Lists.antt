@@ -1,7 +1,7 @@
 -- lists that grow by one item
-use Rattle.std.proofs.Common.{◌≡◌, ℕ, zero, suc, ◌+◌, ◌<◌, ◌≤◌, Bool, true, false, cond, List, [], ◌∷◌, ◌++◌, All, Err, Ok, OnOk, Result, append_assoc, append-nil, count_by, drop, filter, get_or, length, map, refl, true≢false, replicate, slice_index, sym, take, ap, ◌∙◌, arith, zero-add}
+use Rattle.std.proofs.Common.{◌≡◌, ℕ, zero, suc, ◌+◌, ◌<◌, ◌≤◌, Bool, true, false, cond, List, [], ◌∷◌, ◌++◌, Err, Ok, OnOk, Result, append_assoc, append-nil, count_by, drop, filter, get_or, length, map, refl, true≢false, replicate, slice_index, sym, take, ap, ◌∙◌, arith, zero-add}
 use Rattle.std.proofs.lemmas.List.{map-append, take-append-le, take_all, take_more}
-use Rattle.std.proofs.lemmas.List.Elements.{All-cons, All-nil, filter-append}
+use Rattle.std.proofs.lemmas.List.Elements.{filter-append}
 use Rattle.std.proofs.lemmas.List.Sums.{sum_by-append, sum_by-cons}
 use Rattle.std.specs.List.{range_with_len}
 
@@ -13,11 +13,6 @@ range_more a n = let next : n + 1 ≡ suc n = omega arith in ap (range_with_len 
     one_more a (suc n) =
         let next : a + 1 + n ≡ a + suc n = omega arith in
         ap (λ xs. a ∷ xs) (one_more (a + 1) n ∙ ap (λ x. range_with_len (a + 1) n ++ x ∷ []) next)
-
--- the numbers of a range are below its end
-pub below_end : (a n end : ℕ) → a + n ≡ end → All (λ i. i < end) (range_with_len a n)
-below_end a zero end is = All-nil (λ (i : ℕ). i < end)
-below_end a (suc n) end is = All-cons (λ (i : ℕ). i < end) a (range_with_len (a + 1) n) (omega arith) (below_end (a + 1) n end (omega arith))
 
 pub count_more : (p : ℕ → Bool) (a n before after : ℕ) (test : Bool) → test ≡ p (a + n) → before ≡ count_by p (range_with_len a n) → after ≡ before + cond test 1 0
     → after ≡ count_by p (range_with_len a (n + 1))

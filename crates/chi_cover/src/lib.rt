@@ -2,9 +2,11 @@
 #![tactic(auto)]
 
 mod adding;
+mod alike;
 mod bin;
 mod covered;
 mod group;
+mod kept;
 mod lines;
 mod measured;
 mod names;

@@ -7,7 +7,7 @@ ghost use Rattle.chi_cover.specs.Added.{AreAdded};
 ghost use Rattle.chi_cover.specs.Counts.{bins_at};
 ghost use Rattle.chi_cover.specs.Open.{AreKept};
 
-use crate::open::{OpenPlaces, take};
+use crate::open::{OpenOperations, take};
 use crate::operation::add_own;
 use crate::traffic::add_traffic;
 use chi_trace::Operation;
@@ -19,7 +19,7 @@ fn add_operation(
     alloc: Global,
     counts: &mut [u64],
     ops: &[Operation],
-    kept: &mut OpenPlaces,
+    kept: &mut OpenOperations,
     place: usize,
 ) -> Result<(), AllocError>
     requires traced { IsTrace ops.now }

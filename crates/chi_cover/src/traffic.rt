@@ -4,29 +4,18 @@ ghost use Rattle.std.specs.Prelude.{◌≡◌, ◌+◌, ◌^◌, ◌<◌, ◌≤
 ghost use Rattle.std.specs.List.{filter};
 ghost use Rattle.chi_trace.specs.Explains.{IsTrace, at};
 ghost use Rattle.chi_cover.specs.Added.{AreAdded};
-ghost use Rattle.chi_cover.specs.Traffic.{depth_of, has_requester, has_transaction, have_common_byte, open_before, overlap_bins_at, requester_bins_at, traffic_bins, transaction_of};
+ghost use Rattle.chi_cover.specs.Open.{AreOpen};
+ghost use Rattle.chi_cover.specs.Traffic.{depth_of, has_requester, has_transaction, have_common_byte, overlap_bins_at, requester_bins_at, traffic_bins, transaction_of};
 
 use crate::adding::add_bin;
+use crate::alike::transaction_of;
 use crate::bin::{Bin, Depth, Transaction};
+use crate::kept::Kept;
 use crate::number::transaction_number;
 use crate::traffic_group::TRANSACTIONS;
-use chi_fields::{Access, Kind};
+use chi_fields::Access;
 use chi_trace::Operation;
 use std::alloc::{AllocError, Global};
-
-/// The transaction of a kind.
-fn transaction_of(kind: Kind) -> Transaction
-    ensures { result ≡ transaction_of kind }
-{
-    match kind {
-        Kind::Read => Transaction::ReadNoSnp,
-        Kind::Write => Transaction::WriteNoSnpPtl,
-        Kind::Store(_) => Transaction::AtomicStore,
-        Kind::Load(_) => Transaction::AtomicLoad,
-        Kind::Swap => Transaction::AtomicSwap,
-        Kind::Compare => Transaction::AtomicCompare,
-    }
-}
 
 /// How many operations are open, from one on.
 fn depth_of(count: usize) -> Depth
@@ -126,22 +115,22 @@ fn add_requesters(counts: &mut [u64], ops: &[Operation], places: &[usize], place
     }
 }
 
-/// One more for each bin of the operation at a place, by the places of those of its granule that were open when it started.
+/// One more for each bin of the operation at a place, by what was kept of those of its granule that were open when it started.
 #[tactic(auto, unfolding(crate::specs::Traffic::traffic_bins))]
 pub(crate) fn add_traffic(
     alloc: Global,
     counts: &mut [u64],
     ops: &[Operation],
-    before: &[usize],
+    before: &Kept,
     place: usize,
 ) -> Result<(), AllocError>
     requires traced { IsTrace ops.now }
     requires place { place < length ops.now }
-    requires before { before.now ≡ open_before ops.now place }
+    requires before { AreOpen ops.now place before.now }
     ensures { OnOk result (AreAdded (traffic_bins ops.now place) counts.old counts.new) }
 {
-    let overlapping = with_common_byte(alloc, ops, before, &ops[place])?;
-    add_bin(counts, Bin::Open(depth_of(before.len() + 1)));
+    let overlapping = with_common_byte(alloc, ops, &before.places, &ops[place])?;
+    add_bin(counts, Bin::Open(depth_of(before.ends.len() + 1)));
     add_overlaps(counts, ops, &overlapping, place);
     add_requesters(counts, ops, &overlapping, place);
     Ok(())

@@ -1,7 +1,7 @@
 -- one operation more
 use Rattle.std.proofs.Common.{subst, sym}
 use Rattle.chi_cover.specs.Added.{AreAdded}
-use Rattle.chi_cover.proofs.Kept.{none_kept}
+use Rattle.chi_cover.proofs.StillKept.{none_kept}
 use Rattle.chi_cover.proofs.Sums.{added_none, added_then, place_more}
 use Rattle.chi_cover.proofs.measured.add_operations.Goals as goal
 

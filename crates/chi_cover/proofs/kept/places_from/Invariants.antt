@@ -1,7 +1,7 @@
 -- those so far
 use Rattle.std.proofs.Common.{◌≡◌, take}
 use Rattle.chi_cover.specs.Open.{ended_after}
-use Rattle.chi_cover.proofs.open.still_open.Given as goal
+use Rattle.chi_cover.proofs.kept.places_from.Given as goal
 
 abbrev pub invariant-loop-place : goal.invariant-loop-place
-invariant-loop-place l = l.open.items ≡ ended_after l.ops l.time (take l.place-index l.places)
+invariant-loop-place l = l.left.items ≡ ended_after l.ops l.time (take l.place-index l.places)
