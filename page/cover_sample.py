@@ -9,6 +9,7 @@ OPS = ["ADD", "CLR", "EOR", "SET", "SMAX", "SMIN", "UMAX", "UMIN"]
 KINDS = ["ReadNoSnp", "WriteNoSnpPtl", *(f"AtomicStore.{op}" for op in OPS), *(f"AtomicLoad.{op}" for op in OPS), "AtomicSwap", "AtomicCompare"]
 TRANSACTIONS = ["ReadNoSnp", "WriteNoSnpPtl", "AtomicStore", "AtomicLoad", "AtomicSwap", "AtomicCompare"]
 DEPTHS = ["1", "2", "3 to 4", "5 to 8", "more than 8"]
+REASONS = ["UnknownOpcode", "ReservedSize", "SizeOutOfProfile", "Misaligned", "OutOfRegion", "BadByteEnable"]
 
 
 def size(length):
@@ -31,11 +32,12 @@ def names():
     }
 
 
-def coverage(count_of):
-    """What is covered where each bin, by its name, has this count."""
+def coverage(count_of, refused=()):
+    """What is covered where each bin, by its name, has this count, and requests were refused for these reasons."""
     groups = [{"name": group, "bins": [[name, str(count_of(name))] for name in bins]} for group, bins in names().items()]
     covered = sum(1 for group in groups for bin in group["bins"] if bin[1] != "0")
-    return {"covered": str(covered), "bins": "1338", "percent": str(covered * 100 // 1338), "groups": groups}
+    return {"covered": str(covered), "bins": "1338", "percent": str(covered * 100 // 1338), "groups": groups,
+            "refused": [[reason, str(refused.count(reason))] for reason in REASONS]}
 
 
 def small():

@@ -1,26 +1,21 @@
--- counts of inputs, one after the other, and what is written of them
-use Rattle.std.proofs.Common.{◌≡◌, ℕ, ◌+◌, ◌<◌, ◌≤◌, List, [], ◌∷◌, ◌++◌, get_or, length, map, min, take, Option, None, Some, Ok, Err, IfSome, ap, refl, sym, subst, ◌∙◌, arith}
+-- counts of inputs, one after the other
+use Rattle.std.proofs.Common.{◌≡◌, ℕ, ◌+◌, ◌<◌, ◌≤◌, List, [], ◌∷◌, ◌++◌, get_or, length, map, min, take, Option, None, Some, IfSome, ap, refl, sym, subst, ◌∙◌, arith}
 use Rattle.std.specs.Borrow.{Bor}
 use Rattle.std.specs.Option.{option_map}
 use Rattle.std.specs.Prelude.{sum_by}
-use Rattle.std.specs.Io.KnownBytes.{Appends}
 use Rattle.std.proofs.lemmas.List.{map_push, take_more}
 use Rattle.std.proofs.lemmas.List.Sums.{sum_by_push}
 use Rattle.std.proofs.lemmas.Option.{slice_get-get_or, slice_get-map}
-use Rattle.chi_script.specs.WriterBytes.{AppendsFront}
-use Rattle.chi_script.specs.declared.device.WriteFault.{WriteFault}
 use Rattle.chi_fields.specs.declared.refusal.Refusal.{Refusal}
 use Rattle.chi_cover.specs.declared.bin.Bin.{Bin}
-use Rattle.chi_cover.specs.Counts.{count_in, count_of, most, percent_of}
+use Rattle.chi_cover.specs.Counts.{count_in, count_of, most}
 use Rattle.chi_cover.specs.Refusals.{refused_in, refused_times}
 use Rattle.chi_watch_text.specs.declared.line_format.LineFormat.{LineFormat}
 use Rattle.chi_check.specs.Check.{most_bytes}
-use Rattle.chi_check.specs.Cover.{Adds, AddsFile, AreCounted, AreFilesFault, AreHeld, AreInputs, AreInputsFault, AreOf, AreOfEach, AreOfFiles, CoverOutcome, HasCounts, Told, cover_text, IsFileFault, IsInputFault, paths_of}
+use Rattle.chi_check.specs.Cover.{Adds, AddsFile, AreCounted, AreFilesFault, AreHeld, AreOf, AreOfEach, AreOfFiles, Told, IsFileFault}
 use Rattle.chi_check.specs.declared.inputs.Counted.{Counted}
-use Rattle.chi_check.specs.declared.fault.CheckFault.{CheckFault}
-use Rattle.chi_check.specs.declared.fault.CheckFault.TheVariants.{File, Page, Write}
+use Rattle.chi_check.specs.declared.fault.CheckFault.TheVariants.{File}
 use Rattle.chi_check.specs.declared.fault.SourceFault.{SourceFault}
-use Rattle.chi_check.specs.declared.options.CoverOptions.{CoverOptions}
 
 -- nothing was counted
 pub record AreNone (counted : Counted) : Type 0 where
@@ -101,63 +96,8 @@ module _ (holds : List ℕ → List ℕ → Type 0) (lines : Option LineFormat) 
       let text = λ (path : Bor (List ℕ)). path.now in
       ((get_or files n d).now, slice_get-map text files n ∙ ap (option_map text) (slice_get-get_or files n d below), is)
 
-  -- where no file is named it is the standard input that is counted
-  pub of_input : (paths : List (List ℕ)) (remaining : Option (List ℕ)) (counts : Counted) → paths ≡ [] → IfSome remaining (λ input. AreCounted lines (input ∷ []) counts)
-      → IfSome remaining (λ input. (inputs : List (List ℕ)) × AreInputs holds paths input inputs × AreCounted lines inputs counts)
-  of_input paths None counts none counted = tt
-  of_input paths (Some input) counts none counted =
-      subst (λ (l : List (List ℕ)). (inputs : List (List ℕ)) × AreInputs holds l input inputs × AreCounted lines inputs counts) (sym none) (input ∷ [], refl, counted)
-
-  pub input_refused : (paths : List (List ℕ)) (remaining : Option (List ℕ)) (fault : CheckFault) → paths ≡ [] → IfSome remaining (λ input. IsInputFault lines input fault)
-      → IfSome remaining (λ input. AreInputsFault holds lines paths input fault)
-  input_refused paths None fault none is = tt
-  input_refused paths (Some input) fault none is = subst (λ (l : List (List ℕ)). AreInputsFault holds lines l input fault) (sym none) is
-
-  -- and where some are named it is they
-  pub of_files : (paths : List (List ℕ)) (remaining : Option (List ℕ)) (counts : Counted) → (paths ≡ [] → ⊥) → AreOfFiles holds lines paths counts
-      → IfSome remaining (λ input. (inputs : List (List ℕ)) × AreInputs holds paths input inputs × AreCounted lines inputs counts)
-  of_files paths None counts some are = tt
-  of_files [] (Some input) counts some are = absurd (some refl)
-  of_files (p ∷ paths) (Some input) counts some (inputs, held, counted) = (inputs, held, counted)
-
-  pub files_refused : (paths : List (List ℕ)) (remaining : Option (List ℕ)) (fault : CheckFault) → (paths ≡ [] → ⊥) → AreFilesFault holds lines paths fault
-      → IfSome remaining (λ input. AreInputsFault holds lines paths input fault)
-  files_refused paths None fault some is = tt
-  files_refused [] (Some input) fault some is = absurd (some refl)
-  files_refused (p ∷ paths) (Some input) fault some is = is
-
 -- the counts are those of the input
 pub input_counted : (lines : Option LineFormat) (remaining : Option (List ℕ)) (input : List ℕ) (counts : Counted) → IfSome remaining (λ bytes. input ≡ bytes) → AreCounted lines (input ∷ []) counts
     → IfSome remaining (λ bytes. AreCounted lines (bytes ∷ []) counts)
 input_counted lines None input counts same is = tt
 input_counted lines (Some bytes) input counts same is = subst (λ (l : List ℕ). AreCounted lines (l ∷ []) counts) same is
-
-module _ (holds : List ℕ → List ℕ → Type 0) (options : CoverOptions) where
-  -- the whole table was written
-  pub tabled : (remaining old new : Option (List ℕ)) (counts : Counted) (text : List ℕ) (status : ℕ) → IfSome remaining (λ input. HasCounts holds options input counts)
-      → (percent_of (count_in counts.covered) < options.require → status ≡ 1) → (options.require ≤ percent_of (count_in counts.covered) → status ≡ 0)
-      → text ≡ cover_text counts → Appends old new text → IfSome remaining (λ input. CoverOutcome holds options input old new (Ok status))
-  tabled None old new counts text status has below reached is appends = tt
-  tabled (Some input) old new counts text status has below reached is appends =
-      (counts, has, record { below = below; reached = reached }, subst (Appends old new) is appends)
-
-  -- the writer failed
-  pub cut : (remaining old new : Option (List ℕ)) (counts : Counted) (text : List ℕ) (fault : WriteFault) → IfSome remaining (λ input. HasCounts holds options input counts)
-      → text ≡ cover_text counts → AppendsFront old new text → IfSome remaining (λ input. CoverOutcome holds options input old new (Err (Write fault)))
-  cut None old new counts text fault has is front = tt
-  cut (Some input) old new counts text fault has is front = (counts, has, subst (AppendsFront old new) is front)
-
-  -- an input was not counted
-  uncounted_by : (paths : List (List ℕ)) → paths_of options ≡ paths → (input : List ℕ) (old new : Option (List ℕ)) (fault : CheckFault)
-      → AreInputsFault holds options.lines paths input fault → CoverOutcome holds options input old new (Err fault)
-  uncounted_by [] is input old new Page refused = tt
-  uncounted_by [] is input old new (Write fault) refused = absurd refused
-  uncounted_by [] is input old new fault refused = subst (λ (l : List (List ℕ)). AreInputsFault holds options.lines l input fault) (sym is) refused
-  uncounted_by (p ∷ paths) is input old new Page refused = tt
-  uncounted_by (p ∷ paths) is input old new (Write fault) refused = absurd refused
-  uncounted_by (p ∷ paths) is input old new fault refused = subst (λ (l : List (List ℕ)). AreInputsFault holds options.lines l input fault) (sym is) refused
-
-  pub uncounted : (remaining old new : Option (List ℕ)) (fault : CheckFault) → IfSome remaining (λ input. AreInputsFault holds options.lines (paths_of options) input fault)
-      → IfSome remaining (λ input. CoverOutcome holds options input old new (Err fault))
-  uncounted None old new fault refused = tt
-  uncounted (Some input) old new fault refused = uncounted_by (paths_of options) refl input old new fault refused

@@ -61,10 +61,11 @@ require_rule = number_rule_or (codes "require") (codes "0")
 abbrev pub files_rule : Rule
 files_rule = record (new_rule (codes "file")) { value_names = 1; action = Some Append }
 
--- the task `cover`: it has that number, its inputs may tell events, or flits with points or without and what errors say of them, and it has a file of a page and files that are counted
+-- The task `cover`: it has that number. Its inputs may tell events, or flits with points or without and what errors say of them. A form
+-- of the answer may be asked for. It has the file of a page, and files that are counted.
 abbrev pub cover_app : App
 cover_app =
-    with_rule (with_rule (with_rule (with_rule (with_rule (with_rule (with_rule (new_app (codes "cover")) require_rule) (switch_rule (codes "events"))) (switch_rule (codes "flits"))) (switch_rule (codes "points"))) errors_rule) html_rule) files_rule
+    with_rule (with_rule (with_rule (with_rule (with_rule (with_rule (with_rule (with_rule (new_app (codes "cover")) require_rule) (switch_rule (codes "events"))) (switch_rule (codes "flits"))) (switch_rule (codes "points"))) errors_rule) format_rule) html_rule) files_rule
 
 -- the program, with its tasks `explain`, `watch` and `cover`
 abbrev pub program_app : App

@@ -1,4 +1,4 @@
--- what a count does: the table of what the operations covered that its inputs tell, and how many requests were refused
+-- what a count does: it writes what the operations covered that its inputs tell, and how many requests were refused
 use Rattle.std.specs.Prelude.{◌≡◌, ◌≢◌, ℕ, ◌<◌, ◌≤◌, List, [], ◌∷◌, ◌++◌, Contains, length, map, min, slice_get, sum_by, Option, None, Some, IfSome, IsSomeAnd, Result, Ok, Err}
 use Rattle.std.specs.Io.KnownBytes.{Appends}
 use Rattle.chi_script.specs.WriterBytes.{AppendsFront}
@@ -12,7 +12,8 @@ use Rattle.chi_watch_text.specs.declared.line_format.LineFormat.{LineFormat}
 use Rattle.chi_cover.specs.declared.bin.Bin.{Bin}
 use Rattle.chi_cover.specs.Bins.{all_bins}
 use Rattle.chi_cover.specs.Counts.{IsAdded, count_in, count_of, most, percent_of}
-use Rattle.chi_cover.specs.Page.{cover_json, page_text}
+use Rattle.chi_cover.specs.Json.{cover_json}
+use Rattle.chi_cover.specs.Page.{page_text}
 use Rattle.chi_cover.specs.Refusals.{AreRefused, refusals_text, refused_in, refused_times}
 use Rattle.chi_cover.specs.Texts.{table_text}
 use Rattle.chi_check.specs.Check.{most_bytes}
@@ -21,6 +22,8 @@ use Rattle.chi_check.specs.declared.fault.CheckFault.{CheckFault}
 use Rattle.chi_check.specs.declared.fault.CheckFault.TheVariants.{Input, File, Page, Unfinished, Untold, Unsaved, Unshown, Write}
 use Rattle.chi_check.specs.declared.fault.SourceFault.{SourceFault}
 use Rattle.chi_check.specs.declared.fault.SourceFault.TheVariants as source_fault
+use Rattle.chi_check.specs.declared.options.AnswerFormat.{AnswerFormat}
+use Rattle.chi_check.specs.declared.options.AnswerFormat.TheVariants.{Text, Json}
 use Rattle.chi_check.specs.declared.options.CoverOptions.{CoverOptions}
 
 -- the paths that were named
@@ -79,9 +82,18 @@ pub record AreCounted (lines : Option LineFormat) (inputs : List (List ℕ)) (co
   pub are : AreCounts told counted.covered
   pub refused : AreRefusalCounts told counted.refusals
 
--- what is written of counts: the table of what was covered, and how many requests were refused
+-- the text of counts: the table of what was covered, and how many requests were refused
 abbrev pub cover_text : Counted → List ℕ
 cover_text counted = table_text (count_in counted.covered) ++ refusals_text (refused_in counted.refusals)
+
+-- the JSON of counts
+abbrev pub json_of : Counted → List ℕ
+json_of counted = cover_json (count_in counted.covered) (refused_in counted.refusals)
+
+-- what is written of counts, in the form that is asked for
+abbrev pub written_of : AnswerFormat → Counted → List ℕ
+written_of Text counted = cover_text counted
+written_of Json counted = json_of counted
 
 -- 1 where fewer of a hundred bins have counted an operation than have to, and else 0
 pub record IsCoverStatus (require percent status : ℕ) : Type 0 where
@@ -147,21 +159,21 @@ abbrev pub AreInputsFault : (List ℕ → List ℕ → Type 0) → Option LineFo
 AreInputsFault holds lines [] input fault = IsInputFault lines input fault
 AreInputsFault holds lines (path ∷ paths) input fault = AreFilesFault holds lines (path ∷ paths) fault
 
--- After Ok the text of the counts was written, and the status is 1 where fewer of a hundred bins have counted an operation than have
--- to. What each fault means, and what was written then: nothing but where the writer failed.
+-- After Ok the counts were written in the form that is asked for, and the status is 1 where fewer of a hundred bins have counted an
+-- operation than have to. What each fault means, and what was written then: nothing but where the writer failed.
 abbrev pub CoverOutcome : (List ℕ → List ℕ → Type 0) → CoverOptions → List ℕ → Option (List ℕ) → Option (List ℕ) → Result ℕ CheckFault → Type 0
 CoverOutcome holds options input old new (Ok status) =
-    (counted : Counted) × HasCounts holds options input counted × IsCoverStatus options.require (percent_of (count_in counted.covered)) status × Appends old new (cover_text counted)
+    (counted : Counted) × HasCounts holds options input counted × IsCoverStatus options.require (percent_of (count_in counted.covered)) status × Appends old new (written_of options.format counted)
 CoverOutcome holds options input old new (Err Page) = Unit {0}
-CoverOutcome holds options input old new (Err (Write fault)) = (counted : Counted) × HasCounts holds options input counted × AppendsFront old new (cover_text counted)
+CoverOutcome holds options input old new (Err (Write fault)) = (counted : Counted) × HasCounts holds options input counted × AppendsFront old new (written_of options.format counted)
 CoverOutcome holds options input old new (Err fault) = AreInputsFault holds options.lines (paths_of options) input fault
 
 -- the page of counts
-abbrev pub IsCoverPage : List ℕ → List ℕ → Type 0
-IsCoverPage counts page = (front : List ℕ) × (back : List ℕ) × (page ≡ page_text front (cover_json (count_in counts)) back)
+abbrev pub IsCoverPage : Counted → List ℕ → Type 0
+IsCoverPage counted page = (front : List ℕ) × (back : List ℕ) × (page ≡ page_text front (json_of counted) back)
 
--- where one was asked for, the page of the counts whose text was written was put at the path
+-- where one was asked for, the page of the counts that were written was put at the path
 abbrev pub IsCoverPut : {P : Type 0} → (List ℕ → List ℕ → Type 0) → (P → List ℕ → List ℕ → Type 0) → CoverOptions → List ℕ → Option (List ℕ) → Option (List ℕ) → P → Type 0
 IsCoverPut holds has_put options input old new pages =
-    IfSome options.html (λ path. (counted : Counted) × (page : List ℕ) × HasCounts holds options input counted × IsCoverPage counted.covered page
-    × Appends old new (cover_text counted) × has_put pages path.now page)
+    IfSome options.html (λ path. (counted : Counted) × (page : List ℕ) × HasCounts holds options input counted × IsCoverPage counted page
+    × Appends old new (written_of options.format counted) × has_put pages path.now page)

@@ -115,6 +115,7 @@ pub record HasWatchOptions (found : List Row) (options : WatchingOptions) : Type
 pub record HasCoverOptions (found : List Row) (options : CoverOptions) : Type 0 where
   pub require : IsNumberOr 0 (one_of (codes "require") found) options.require
   pub lines : options.lines ≡ lines_asked found
+  pub format : options.format ≡ answer_format found
   pub html : option_map (λ s. s.now) options.html ≡ first_of (codes "html") found
   pub files : paths_of options ≡ unwrap_or (all_of (codes "file") found) []
 

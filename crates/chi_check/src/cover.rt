@@ -4,15 +4,15 @@ ghost use Rattle.std.specs.Prelude.{◌≡◌, ◌<◌, ◌≤◌, IfOk, IfSome}
 ghost use Rattle.chi_cover.specs.Counts.{count_in, percent_of};
 ghost use Rattle.chi_check.specs.Check.{KeepsUnanswered};
 ghost use Rattle.chi_check.specs.CheckStatus.{IsAnswerStatus};
-ghost use Rattle.chi_check.specs.Cover.{CoverOutcome, IsCoverPage, IsCoverPut, cover_text};
+ghost use Rattle.chi_check.specs.Cover.{CoverOutcome, IsCoverPage, IsCoverPut, cover_text, json_of, written_of};
 
 use crate::check::put_page;
 use crate::fault::{CheckFault, SourceFault};
 use crate::inputs::{Counted, inputs_counted};
-use crate::options::CoverOptions;
+use crate::options::{AnswerFormat, CoverOptions};
 use crate::pages::Pages;
 use crate::sources::Sources;
-use chi_cover::{Covered, add_page, add_refusals, add_table};
+use chi_cover::{Covered, add_json, add_page, add_refusals, add_table};
 use chi_script::write_bytes;
 use std::alloc::{AllocError, Global};
 use std::io::{Read, Write};
@@ -37,44 +37,63 @@ fn counted_text(alloc: Global, counted: &Counted) -> Result<Vec<u8>, AllocError>
     Ok(text)
 }
 
-// The page of what is covered, where one is asked for, and nothing where none is.
-fn page_asked(alloc: Global, covered: &Covered, html: Option<&str>) -> Result<Vec<u8>, AllocError>
-    ensures { IfOk result (λ page. IfSome html.entry (λ _. IsCoverPage covered.now page.items)) }
+// The same as JSON.
+fn counted_json(alloc: Global, counted: &Counted) -> Result<Vec<u8>, AllocError>
+    ensures { IfOk result (λ text. text.items ≡ json_of counted.now) }
+{
+    let mut text = Vec::new(alloc);
+    add_json(alloc, &mut text, &counted.covered, &counted.refusals)?;
+    Ok(text)
+}
+
+// What is written of what was counted, in the form that is asked for.
+fn counted_as(alloc: Global, counted: &Counted, format: AnswerFormat) -> Result<Vec<u8>, AllocError>
+    ensures { IfOk result (λ text. text.items ≡ written_of format counted.now) }
+{
+    match format {
+        AnswerFormat::Text => counted_text(alloc, counted),
+        AnswerFormat::Json => counted_json(alloc, counted),
+    }
+}
+
+// The page of what was counted, where one is asked for, and nothing where none is.
+fn page_asked(alloc: Global, counted: &Counted, html: Option<&str>) -> Result<Vec<u8>, AllocError>
+    ensures { IfOk result (λ page. IfSome html.entry (λ _. IsCoverPage counted.now page.items)) }
 {
     let mut page = Vec::new(alloc);
     if html.is_some() {
-        add_page(alloc, &mut page, covered)?;
+        add_page(alloc, &mut page, &counted.covered, &counted.refusals)?;
     }
     Ok(page)
 }
 
-/// What is written of what was counted: the text, and the page where one is asked for.
+/// What is written of what was counted: the text or the JSON, and the page where one is asked for.
 #[derive(Drop)]
 struct CoverReport {
     text: Vec<u8>,
     page: Vec<u8>,
 }
 
-// What is written of what was counted.
+// What is written of what was counted, as the options ask for it.
 fn report_of(
     alloc: Global,
     counted: &Counted,
-    html: Option<&str>,
+    options: &CoverOptions<'_>,
 ) -> Result<CoverReport, AllocError>
-    ensures text { IfOk result (λ report. report.text.items ≡ cover_text counted.now) }
-    ensures page { IfOk result (λ report. IfSome html.entry (λ _. IsCoverPage counted.now.covered report.page.items)) }
+    ensures text { IfOk result (λ report. report.text.items ≡ written_of options.now.format counted.now) }
+    ensures page { IfOk result (λ report. IfSome options.now.html (λ _. IsCoverPage counted.now report.page.items)) }
 {
-    let text = counted_text(alloc, counted)?;
-    let page = page_asked(alloc, &counted.covered, html)?;
+    let text = counted_as(alloc, counted, options.format)?;
+    let page = page_asked(alloc, counted, options.html)?;
     Ok(CoverReport { text, page })
 }
 
 /// Reads traces or events, counts what their operations covered and how many requests were refused, and writes the table and then
-/// the refusals: of the files that the options name, added up, or of the standard input where they name none. The answer is a
-/// status: 1 where fewer of a hundred bins have counted an operation than the options want, and else 0.
+/// the refusals, or both as JSON: of the files that the options name, added up, or of the standard input where they name none. The
+/// answer is a status: 1 where fewer of a hundred bins have counted an operation than the options want, and else 0.
 ///
-/// Nothing is written unless all inputs were read and counted. Where a page is asked for, it is made whole and put before the table
-/// is written. After a fault of the writer a prefix of the text has been written. Whether the operations can be explained is not
+/// Nothing is written unless all inputs were read and counted. Where a page is asked for, it is made whole and put before the counts
+/// are written. After a fault of the writer a prefix of them has been written. Whether the operations can be explained is not
 /// looked at. `machine` reads the files and puts the page.
 ///
 /// ```
@@ -93,7 +112,7 @@ pub fn cover<R: Read, W: Write, G: Pages + Sources>(
     ensures page { IfOk result (λ status. IfSome (R.remaining from.old) (λ input. IsCoverPut (G.holds machine.old) G.has_put options.now input (W.contents to.old) (W.contents to.new) machine.new)) }
 {
     let counted = inputs_counted(alloc, from, options, machine)?;
-    let Ok(report) = report_of(alloc, &counted, options.html) else {
+    let Ok(report) = report_of(alloc, &counted, options) else {
         return Err(CheckFault::Input(SourceFault::Memory));
     };
     if !put_page(machine, options.html, &report.page) {

@@ -195,6 +195,7 @@ pub(crate) fn cover_options<'a>(
     Ok(CoverOptions {
         require: number_or(matches, "require", REQUIRE),
         lines: lines_asked(matches),
+        format: answer_format(matches),
         html: html_file(matches),
         files: files_given(alloc, matches)?,
     })

@@ -2,7 +2,7 @@
 
 use chi_watch_text::{LineFormat, Required};
 
-/// In which form an answer is written: as lines of text, or as an object of JSON.
+/// In which form an answer or counts are written: as lines of text, or as an object of JSON.
 #[derive(Clone, Copy, Debug)]
 pub enum AnswerFormat {
     Text,
@@ -44,12 +44,13 @@ pub struct WatchingOptions<'a> {
 }
 
 /// What is counted, and how. `require` is how many of a hundred bins have to have counted an operation. With `lines` the inputs
-/// are lines that tell this, and no traces. `files` are the paths of the inputs; where there is none it is the standard input.
-/// `html` is the path of a file that is to be the page of the counts.
+/// are lines that tell this, and no traces. `format` is the form in which the counts are written. `files` are the paths of the
+/// inputs; where there is none it is the standard input. `html` is the path of a file that is to be the page of the counts.
 #[derive(Drop)]
 pub struct CoverOptions<'a> {
     pub require: u64,
     pub lines: Option<LineFormat>,
+    pub format: AnswerFormat,
     pub html: Option<&'a str>,
     pub files: Vec<&'a str>,
 }

@@ -136,7 +136,7 @@ const WATCH: [NamedOption<'static>; 12] = [
 ];
 
 // The options of `cover`, and the files that are counted.
-const COVER: [NamedOption<'static>; 7] = [
+const COVER: [NamedOption<'static>; 8] = [
     NamedOption {
         name: "require",
         takes: Takes::NumberOr("PERCENT", "0"),
@@ -150,6 +150,11 @@ const COVER: [NamedOption<'static>; 7] = [
     FLITS,
     POINTS,
     ERRORS,
+    NamedOption {
+        name: "format",
+        takes: Takes::TextOr("FORMAT", "text"),
+        help: "json: writes the counts as a JSON object on one line",
+    },
     NamedOption {
         name: "html",
         takes: Takes::Text("FILE"),

@@ -1,6 +1,7 @@
 pub mod Added
 pub mod Bins
 pub mod Counts
+pub mod Json
 pub mod Numbers
 pub mod Open
 pub mod Operations

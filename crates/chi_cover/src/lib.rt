@@ -6,6 +6,7 @@ mod alike;
 mod bin;
 mod covered;
 mod group;
+mod json;
 mod kept;
 mod lines;
 mod measured;
@@ -26,6 +27,7 @@ mod traffic_group;
 
 pub use bin::{Bin, Depth, Enabled, Transaction};
 pub use covered::Covered;
+pub use json::add_json;
 pub use page::add_page;
 pub use refusal_rows::add_refusals;
 pub use refusals::Refusals;

@@ -1,6 +1,7 @@
 //! The tests, and what they share.
 
 mod comparison;
+mod json_tests;
 mod many_tests;
 mod operation_tests;
 mod operations;

@@ -1,6 +1,6 @@
 -- the counts as they are promised
-use Rattle.chi_cover.specs.Page.{covered_json}
-use Rattle.chi_cover.proofs.page.add_covered.Goals as goal
+use Rattle.chi_cover.specs.Json.{covered_json}
+use Rattle.chi_cover.proofs.json.add_covered.Goals as goal
 
 pub returns : goal.returns
 unfolding covered_json

@@ -2,10 +2,10 @@
 use Rattle.std.proofs.Common.{◌++◌, List, ℕ, append-nil, codes, sym, ap, ◌∙◌}
 use Rattle.chi_cover.specs.Bins.{comparison_bins, enables_bins, open_bins, operation_bins, overlap_bins, requester_bins, result_bins}
 use Rattle.chi_cover.specs.Counts.{count_in}
-use Rattle.chi_cover.specs.Page.{further, group_json, groups_json}
+use Rattle.chi_cover.specs.Json.{further, group_json, groups_json}
 use Rattle.chi_text.proofs.Growing.{joined}
 use Rattle.chi_cover.proofs.Lists.{on_ok}
-use Rattle.chi_cover.proofs.page.add_groups.Goals as goal
+use Rattle.chi_cover.proofs.json.add_groups.Goals as goal
 
 pub returns : goal.returns
 unfolding groups_json

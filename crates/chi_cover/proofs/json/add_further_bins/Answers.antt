@@ -1,8 +1,8 @@
 -- one bin more
 use Rattle.chi_cover.specs.Counts.{count_in}
-use Rattle.chi_cover.specs.Page.{bin_json, further}
+use Rattle.chi_cover.specs.Json.{bin_json, further}
 use Rattle.chi_text.proofs.Growing.{all_parts, part_more}
-use Rattle.chi_cover.proofs.page.add_further_bins.Goals as goal
+use Rattle.chi_cover.proofs.json.add_further_bins.Goals as goal
 
 pub loop-bin-preserved : goal.loop-bin-preserved
 loop-bin-preserved c =
